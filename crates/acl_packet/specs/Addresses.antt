@@ -1,0 +1,26 @@
+-- Addresses and prefixes, as numbers.
+use Rattle.std.specs.Prelude.{◌≡◌, ℕ, ◌+◌, ◌-◌, ◌*◌, ◌^◌, ◌<◌, ◌≤◌, Bool, ◌&&◌, nat_le, nat_lt}
+use Rattle.acl_packet.specs.declared.addresses.Family.{Family}
+use Rattle.acl_packet.specs.declared.addresses.Family.TheVariants.{V4, V6}
+use Rattle.acl_packet.specs.declared.addresses.Prefix.{Prefix}
+
+-- The bits of an address: RFC 791 section 2.3, RFC 4291 section 2.
+abbrev pub width_of : Family → ℕ
+width_of V4 = 32
+width_of V6 = 128
+
+-- How many addresses a prefix has: one for each value of the bits behind its length.
+abbrev pub size_of : Prefix → ℕ
+size_of p = 2 ^ (width_of p.family - p.len)
+
+-- A prefix is of its family (RFC 4632 section 3.1, RFC 4291 section 2.3): the length is within the
+-- address, the first address is an address, and its bits behind the length are 0, so that it is a
+-- multiple of the size.
+pub record IsPrefix (p : Prefix) : Type 0 where
+  pub len_fits : p.len ≤ width_of p.family
+  pub first_fits : p.first < 2 ^ width_of p.family
+  pub aligned : (n : ℕ) × (p.first ≡ n * size_of p)
+
+-- The addresses of a prefix are its first one and those that follow, as many as its size.
+abbrev pub has_address : Prefix → ℕ → Bool
+has_address p a = nat_le p.first a && nat_lt a (p.first + size_of p)

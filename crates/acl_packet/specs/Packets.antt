@@ -1,0 +1,34 @@
+-- What a packet is: one that is no fragment, with each field that its protocol has not at 0.
+use Rattle.std.specs.Prelude.{◌≡◌, ◌≢◌, ℕ, ◌<◌, ◌^◌, Bool, false, ◌||◌, ◌==◌}
+use Rattle.acl_packet.specs.declared.addresses.Family.{Family}
+use Rattle.acl_packet.specs.declared.addresses.Family.TheVariants.{V4, V6}
+use Rattle.acl_packet.specs.declared.packets.Packet.{Packet}
+use Rattle.acl_packet.specs.Addresses.{width_of}
+
+-- TCP, UDP and SCTP have ports (RFC 9293, RFC 768, RFC 9260).
+abbrev pub has_ports : ℕ → Bool
+has_ports proto = proto == 6 || proto == 17 || proto == 132
+
+-- ICMP for IPv4 (RFC 792) and for IPv6 (RFC 4443): each only in its own family.
+abbrev pub is_icmp : Family → ℕ → Bool
+is_icmp V4 proto = proto == 1
+is_icmp V6 proto = proto == 58
+
+-- The numbers that stand for no protocol of an IPv6 packet here: extension headers and "no next header"
+-- (RFC 8200, IANA's list of extension headers). ESP, 50, counts as a protocol: this project's own choice.
+abbrev pub is_extension_header : ℕ → Bool
+is_extension_header proto = proto == 0 || proto == 43 || proto == 44 || proto == 51 || proto == 59
+    || proto == 60 || proto == 135 || proto == 139 || proto == 140
+
+pub record IsPacket (p : Packet) : Type 0 where
+  pub source : p.src < 2 ^ width_of p.family
+  pub destination : p.dst < 2 ^ width_of p.family
+  pub protocol : p.proto < 256
+  pub no_header : p.family ≡ V6 → is_extension_header p.proto ≡ false
+  pub source_port : p.sport < 65536
+  pub destination_port : p.dport < 65536
+  pub ports : has_ports p.proto ≡ false → (p.sport ≡ 0) × (p.dport ≡ 0)
+  pub flags_fit : p.flags < 64
+  pub flags_of_tcp : p.proto ≢ 6 → p.flags ≡ 0
+  pub type_fits : p.itype < 256
+  pub type_of_icmp : is_icmp p.family p.proto ≡ false → p.itype ≡ 0

@@ -1,0 +1,95 @@
+ghost use Rattle.std.specs.Prelude.{◌≡◌, ◌<◌, ◌↔◌, ◌^◌, IsTrue};
+ghost use Rattle.acl_packet.specs.Addresses.{width_of};
+ghost use Rattle.acl_packet.specs.Packets.{IsPacket, has_ports, is_icmp, is_extension_header};
+
+use crate::addresses::Family;
+
+/// What connection tracking says of a packet's connection.
+#[derive(Clone, Copy, Debug, PartialEq, Eq)]
+pub enum Conn {
+    New,
+    Established,
+    Related,
+    Invalid,
+}
+
+/// What a filter sees of a packet that is no fragment.
+///
+/// Addresses are numbers. `proto` is the number in the IPv4 header, or the IPv6 header's next header.
+/// `flags` has FIN 1, SYN 2, RST 4, PSH 8, ACK 16 and URG 32. A field that the packet has not is 0.
+#[derive(Clone, Copy, Debug, PartialEq, Eq)]
+pub struct Packet {
+    pub family: Family,
+    pub src: u128,
+    pub dst: u128,
+    pub proto: u8,
+    pub sport: u16,
+    pub dport: u16,
+    pub flags: u8,
+    pub itype: u8,
+    pub conn: Conn,
+}
+
+/// Whether the fields are those of a packet: the addresses are of its family, no extension header stands
+/// for its protocol, and each field that its protocol has not is 0.
+pub fn is_packet(p: &Packet) -> bool
+    ensures { IsTrue result ↔ IsPacket p.now }
+{
+    let Packet {
+        family,
+        src,
+        dst,
+        proto,
+        sport,
+        dport,
+        flags,
+        itype,
+        conn: _,
+    } = *p;
+    if !is_address(family, src) || !is_address(family, dst) {
+        return false;
+    }
+    if family == Family::V6 && is_extension_header(proto) {
+        return false;
+    }
+    if !has_ports(proto) && (sport != 0 || dport != 0) {
+        return false;
+    }
+    if flags >= 64 || (proto != 6 && flags != 0) {
+        return false;
+    }
+    if !is_icmp(family, proto) && itype != 0 {
+        return false;
+    }
+    true
+}
+
+fn is_address(family: Family, address: u128) -> bool
+    ensures { IsTrue result ↔ (address < 2 ^ width_of family) }
+{
+    match family {
+        Family::V4 => address <= 0xffff_ffff,
+        Family::V6 => true,
+    }
+}
+
+fn has_ports(proto: u8) -> bool
+    ensures { result ≡ has_ports proto }
+{
+    proto == 6 || proto == 17 || proto == 132
+}
+
+fn is_icmp(family: Family, proto: u8) -> bool
+    ensures { result ≡ is_icmp family proto }
+{
+    match family {
+        Family::V4 => proto == 1,
+        Family::V6 => proto == 58,
+    }
+}
+
+fn is_extension_header(proto: u8) -> bool
+    ensures { result ≡ is_extension_header proto }
+{
+    matches!(proto, 0 | 43 | 44 | 51 | 59 | 60 | 135 | 139 | 140)
+}
