@@ -1,0 +1,13 @@
+pub mod Addresses
+pub mod Bounds
+pub mod CursorLaws
+pub mod Dotted
+pub mod Gaps
+pub mod GroupSteps
+pub mod Groups
+pub mod LineLaws
+pub mod Numbers
+pub mod Printed
+pub mod Putting
+pub mod Reading
+pub mod Runs

@@ -1,0 +1,5 @@
+use Rattle.acl_text.proofs.Addresses.{address-again}
+use Rattle.acl_text.proofs.laws.addresses_are_read_again.Goals as goal
+
+pub returns : goal.returns
+returns c = address-again

@@ -1,0 +1,5 @@
+use Rattle.acl_text.proofs.Addresses.{prefix-one}
+use Rattle.acl_text.proofs.laws.texts_have_one_prefix.Goals as goal
+
+pub returns : goal.returns
+returns c = prefix-one

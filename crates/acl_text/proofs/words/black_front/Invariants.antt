@@ -1,0 +1,7 @@
+use Rattle.std.proofs.Common.{◌≡◌, ◌+◌, drop}
+use Rattle.std.specs.List.{prefix_len}
+use Rattle.acl_text.specs.Cursors.{is_black}
+use Rattle.acl_text.proofs.words.black_front.Given as goal
+
+abbrev pub invariant-loop-i : goal.invariant-loop-i
+invariant-loop-i l = l.i + prefix_len is_black (drop l.i l.bytes) ≡ prefix_len is_black l.bytes

@@ -1,0 +1,9 @@
+pub mod Addresses
+pub mod Cursors
+pub mod Cuts
+pub mod Ipv4
+pub mod Ipv6
+pub mod Lines
+pub mod Names
+pub mod Numbers
+pub mod Output

@@ -1,0 +1,114 @@
+ghost use Rattle.std.specs.Prelude.{◌≡◌};
+ghost use Rattle.acl_text.specs.declared.faults.Refusal.TheVariants as refusals;
+
+use crate::texts::{Bytes, Memory};
+use std::alloc::{AllocError, AllocFailed};
+
+/// A line of a file of the run: the file by its number, the line from 1. Line 0 is no line.
+#[derive(Clone, Copy, Debug, PartialEq, Eq)]
+pub struct Place {
+    pub file: u32,
+    pub line: u32,
+}
+
+/// What is wrong with the input. docs/LANGUAGE.md has each with an example.
+#[derive(Clone, Copy, Debug, PartialEq, Eq)]
+pub enum Code {
+    /// A file, or the policy with its includes, is too long.
+    TooLong,
+    /// A byte that no word may have.
+    BadByte,
+    /// No name stands where a naming file defines one.
+    BadName,
+    /// An item stands before the first definition of its file.
+    NoDefinition,
+    /// An item is neither a value nor a name.
+    BadValue,
+    /// A name is defined twice.
+    Twice,
+    /// More names, items, targets or terms than the limit.
+    TooMany,
+    /// A definition refers to a name that is defined nowhere.
+    Undefined,
+    /// A name reaches itself.
+    Cycle,
+    /// More naming files than the limit.
+    TooManyFiles,
+    /// A file or folder is not there.
+    NoFile,
+    /// Includes stand too deep in one another.
+    IncludeDepth,
+    /// An include line has no path of the form that is taken.
+    IncludePath,
+    /// A word stands where the structure does not take it.
+    Syntax,
+    /// A keyword that does not belong there.
+    Keyword,
+    /// A value that its keyword does not take.
+    Value,
+    /// A keyword that may stand once stands again.
+    Repeated,
+    /// Something that has to stand there is missing.
+    Missing,
+    /// A term's name is taken in its block.
+    TermTwice,
+    /// A word that a target line does not take, or a target line that lacks words.
+    TargetLine,
+    /// A target clashes with an earlier one.
+    FilterTwice,
+    /// A name is used that the naming files do not define.
+    UnknownName,
+    /// The input is beyond what this version takes.
+    NotYet,
+    /// More include lines than the limit.
+    IncludeCount,
+}
+
+/// A fault of the input by the number of its file: what is wrong, where, and the word in error.
+#[derive(Debug, Drop)]
+pub struct Slip {
+    pub code: Code,
+    pub place: Place,
+    pub word: Bytes,
+}
+
+/// Why a reader gave no value: the input has a slip, or memory was wanted.
+#[derive(Debug, Drop)]
+pub enum Refusal {
+    Slip(Slip),
+    Memory,
+}
+
+impl From<Memory> for Refusal {
+    ghost from_gives = { λ _ refusal. refusal ≡ refusals.Memory };
+
+    fn from(_memory: Memory) -> Refusal {
+        Refusal::Memory
+    }
+}
+
+impl From<AllocError> for Refusal {
+    ghost from_gives = { λ _ refusal. refusal ≡ refusals.Memory };
+
+    fn from(_error: AllocError) -> Refusal {
+        Refusal::Memory
+    }
+}
+
+impl<T: Drop> From<AllocFailed<T>> for Refusal {
+    ghost from_gives = { λ _ refusal. refusal ≡ refusals.Memory };
+
+    fn from(_error: AllocFailed<T>) -> Refusal {
+        Refusal::Memory
+    }
+}
+
+/// A fault of the input: what is wrong, the label of the file, its line (0 where there is none), and the
+/// word in error (empty where there is none).
+#[derive(Debug, Drop)]
+pub struct Fault {
+    pub code: Code,
+    pub label: Bytes,
+    pub line: u32,
+    pub word: Bytes,
+}

@@ -1,0 +1,50 @@
+ghost use Rattle.std.specs.Prelude.{◌≡◌, ◌+◌, ◌^◌, ◌<◌, ◌≤◌, ◌++◌, length, IfSome, decimal};
+ghost use Rattle.acl_text.specs.Ipv4.{ipv4_in, ipv4_text};
+
+use crate::cuts::cut;
+use crate::decimals::read_number;
+use crate::short::ShortText;
+use itoa::Buffer;
+
+/// The address of the text, as a number.
+#[tactic(auto, unfolding(crate::specs::Ipv4::ipv4_in))]
+pub(crate) fn read_ipv4(text: &[u8]) -> Option<u128>
+    ensures exact { result ≡ ipv4_in text.now }
+    ensures small { IfSome result (λ n. n < 2 ^ 32) }
+{
+    let (first, rest) = cut(text, b'.')?;
+    let (second, rest) = cut(rest, b'.')?;
+    let (third, fourth) = cut(rest, b'.')?;
+    let a = read_number(first, 255)?;
+    let b = read_number(second, 255)?;
+    let c = read_number(third, 255)?;
+    let d = read_number(fourth, 255)?;
+    Some(((a * 256 + b) * 256 + c) * 256 + d)
+}
+
+pub(crate) fn push_byte(text: &mut ShortText, n: u128)
+    requires room { length text.old + 3 ≤ 64 }
+    requires small { n < 256 }
+    ensures items { text.new ≡ text.old ++ decimal n }
+    ensures len { length text.new ≤ length text.old + 3 }
+{
+    let mut buffer = Buffer::new();
+    text.push_all(buffer.format(n).as_bytes());
+}
+
+/// Adds the text of the address.
+#[tactic(auto, unfolding(crate::specs::Ipv4::ipv4_text))]
+pub(crate) fn push_ipv4(text: &mut ShortText, address: u128)
+    requires room { length text.old + 15 ≤ 64 }
+    requires small { address < 2 ^ 32 }
+    ensures items { text.new ≡ text.old ++ ipv4_text address }
+    ensures len { length text.new ≤ length text.old + 15 }
+{
+    push_byte(text, address >> 24);
+    text.push(b'.');
+    push_byte(text, (address >> 16) % 256);
+    text.push(b'.');
+    push_byte(text, (address >> 8) % 256);
+    text.push(b'.');
+    push_byte(text, address % 256);
+}

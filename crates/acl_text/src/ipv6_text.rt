@@ -1,0 +1,127 @@
+ghost use Rattle.std.specs.Prelude.{◌≡◌, ℕ, ◌+◌, ◌*◌, ◌^◌, ◌<◌, ◌≤◌, ◌++◌, length};
+ghost use Rattle.acl_text.specs.Ipv6.{hex_digit, group_text, groups_text, groups_of, zeros, longest_run, shortened, ipv6_text};
+
+use crate::short::ShortText;
+
+/// Adds the text of the address.
+#[tactic(auto, unfolding(crate::specs::Ipv6::ipv6_text))]
+pub(crate) fn push_ipv6(text: &mut ShortText, address: u128)
+    requires { length text.old + 40 ≤ 64 }
+    ensures items { text.new ≡ text.old ++ ipv6_text address }
+    ensures len { length text.new ≤ length text.old + 40 }
+{
+    let groups = groups_of(address);
+    let (before, run) = longest_run(&groups);
+    push_shortened(text, &groups, before, run);
+}
+
+/// Adds the texts of the groups, with `::` for a run of two or more of them.
+fn push_shortened(text: &mut ShortText, groups: &[u16], before: usize, run: usize)
+    requires within { before + run ≤ length groups.now }
+    requires room { length text.old + 5 * length groups.now ≤ 64 }
+    ensures items { text.new ≡ text.old ++ shortened groups.now (before, run) }
+    ensures len { length text.new ≤ length text.old + 5 * length groups.now }
+{
+    if run >= 2 {
+        push_groups(text, &groups[..before]);
+        text.push(b':');
+        text.push(b':');
+        push_groups(text, &groups[before + run..]);
+    } else {
+        push_groups(text, groups);
+    }
+}
+
+fn groups_of(address: u128) -> [u16; 8]
+    ensures { result ≡ groups_of address }
+{
+    [
+        (address >> 112) as u16,
+        ((address >> 96) % 65536) as u16,
+        ((address >> 80) % 65536) as u16,
+        ((address >> 64) % 65536) as u16,
+        ((address >> 48) % 65536) as u16,
+        ((address >> 32) % 65536) as u16,
+        ((address >> 16) % 65536) as u16,
+        (address % 65536) as u16,
+    ]
+}
+
+/// How many zeros stand at the front.
+fn zeros(groups: &[u16]) -> usize
+    ensures exact { result ≡ zeros groups.now }
+    ensures within { result ≤ length groups.now }
+{
+    for (i, group) in groups.iter().enumerate() {
+        if *group != 0 {
+            return i;
+        }
+    }
+    groups.len()
+}
+
+/// The longest run of zeros, the first among equals: how many groups stand before it, and how many it has.
+fn longest_run(groups: &[u16]) -> (usize, usize)
+    ensures exact { result ≡ longest_run groups.now }
+    ensures within { result.0 + result.1 ≤ length groups.now }
+{
+    match groups {
+        [] => (0, 0),
+        [_, rest @ ..] => {
+            let (before, run) = longest_run(rest);
+            let here = zeros(groups);
+            if run <= here {
+                (0, here)
+            } else {
+                (before + 1, run)
+            }
+        }
+    }
+}
+
+/// Adds the texts of the groups, with `:` between.
+fn push_groups(text: &mut ShortText, groups: &[u16])
+    requires { length text.old + 5 * length groups.now ≤ 64 }
+    ensures items { text.new ≡ text.old ++ groups_text groups.now }
+    ensures len { length text.new ≤ length text.old + 5 * length groups.now }
+{
+    match groups {
+        [] => {}
+        [group] => push_group(text, *group),
+        [group, rest @ ..] => {
+            push_group(text, *group);
+            text.push(b':');
+            push_groups(text, rest);
+        }
+    }
+}
+
+#[tactic(auto, unfolding(crate::specs::Ipv6::group_text))]
+fn push_group(text: &mut ShortText, group: u16)
+    requires { length text.old + 4 ≤ 64 }
+    ensures items { text.new ≡ text.old ++ group_text group }
+    ensures len { length text.new ≤ length text.old + 4 }
+{
+    if group < 16 {
+        text.push(hex_digit(group));
+    } else if group < 256 {
+        text.push(hex_digit(group / 16));
+        text.push(hex_digit(group % 16));
+    } else if group < 4096 {
+        text.push(hex_digit(group / 256));
+        text.push(hex_digit(group / 16 % 16));
+        text.push(hex_digit(group % 16));
+    } else {
+        text.push(hex_digit(group / 4096));
+        text.push(hex_digit(group / 256 % 16));
+        text.push(hex_digit(group / 16 % 16));
+        text.push(hex_digit(group % 16));
+    }
+}
+
+fn hex_digit(d: u16) -> u8
+    requires { d < 16 }
+    ensures { result ≡ hex_digit d }
+{
+    if d < 10 { 48 + d as u8 } else { 87 + d as u8 }
+}

@@ -1,0 +1,52 @@
+ghost use Rattle.std.specs.Prelude.{◌≡◌, List, ℕ, Option, Bool, IsTrue, map, flat_map};
+ghost use Rattle.acl_text.specs.Output.{Puts, joined};
+
+use thiserror::Error;
+
+/// Why a text was not put.
+#[derive(Clone, Copy, Debug, PartialEq, Eq, Error)]
+pub enum PutFault {
+    #[error("the output failed")]
+    Failed,
+    #[error("out of memory")]
+    Memory,
+}
+
+/// What takes text, piece by piece.
+///
+/// An `Out` tells the bytes that it was given, or does not. It counts the faults and the refusals for
+/// memory that it met; a count never falls, and one that is at its end stays there. It is open or not:
+/// `put` needs an open one, and one that refused is not open. It may hold more than its bytes: `keeps_rest`
+/// relates an earlier and a later value whose rest is the same.
+pub trait Out {
+    ghost told: { Self → Option (List ℕ) };
+
+    ghost faults: { Self → ℕ };
+
+    ghost refusals: { Self → ℕ };
+
+    ghost is_open: { Self → Bool };
+
+    ghost keeps_rest: { Self → Self → Type 0 };
+
+    /// Appends the bytes, or a front of them where it refuses.
+    fn put(&mut self, bytes: &[u8]) -> Result<(), PutFault>
+        requires { IsTrue (is_open self.old) }
+        ensures { Puts told faults refusals is_open keeps_rest self.old self.new bytes.now result };
+
+    ghost rest_same: { (x : Self) → keeps_rest x x };
+
+    ghost rest_goes_on: { (x y z : Self) → keeps_rest x y → keeps_rest y z → keeps_rest x z };
+}
+
+/// Puts the pieces, one behind the other.
+pub fn put_pieces<O: Out>(out: &mut O, pieces: &[&[u8]]) -> Result<(), PutFault>
+    requires { IsTrue (O.is_open out.old) }
+    ensures { Puts O.told O.faults O.refusals O.is_open O.keeps_rest out.old out.new
+        (joined (map (λ p. p.now) pieces.now)) result }
+{
+    for piece in pieces {
+        out.put(piece)?;
+    }
+    Ok(())
+}

@@ -1,0 +1,230 @@
+ghost use Rattle.std.specs.Prelude.{◌≡◌, ℕ, ◌+◌, ◌-◌, ◌^◌, ◌<◌, ◌≤◌, ◌++◌, length, IsTrue, IfSome, IfNone, bytes_eq};
+ghost use Rattle.acl_packet.specs.declared.addresses.Prefix.{Prefix as PrefixData};
+ghost use Rattle.acl_packet.specs.Addresses.{width_of, IsPrefix};
+ghost use Rattle.acl_text.specs.Output.{Puts};
+ghost use Rattle.acl_text.specs.Addresses.{spelling_in, address_text, address_in, block_of, IsPrefixText, family_in, full_in, block_in, prefix_in, prefix_text, same_family, spelled_prefix_in, wildcard_text};
+
+use crate::cuts::{cut, has_byte};
+use crate::decimals::read_number;
+use crate::ipv4::{push_byte, push_ipv4, read_ipv4};
+use crate::ipv6::read_ipv6;
+use crate::ipv6_text::push_ipv6;
+use crate::output::{Out, PutFault};
+use crate::short::ShortText;
+use acl_packet::{Family, Prefix};
+
+/// The prefix that the word spells: an address, or an address, `/` and a length.
+///
+/// An IPv4 address is four numbers of 0 to 255 with `.` between. An IPv6 address is in one of the forms of
+/// RFC 4291 section 2.2. Without a length the prefix is the address alone. The address's bits behind the
+/// length are cleared. What `put_prefix` puts of a prefix is read as that prefix.
+pub fn read_prefix(word: &[u8]) -> Option<Prefix>
+    ensures some { IfSome result (λ p. IsPrefixText word.now p × IsPrefix p) }
+    ensures none { IfNone result ((p : PrefixData) → IsPrefixText word.now p → ⊥) }
+    ensures exact { result ≡ prefix_in word.now }
+{
+    prefix_of(word)
+}
+
+#[tactic(auto, unfolding(crate::specs::Addresses::prefix_in))]
+fn prefix_of(word: &[u8]) -> Option<Prefix>
+    ensures { result ≡ prefix_in word.now }
+{
+    match cut(word, b'/') {
+        Some((address, len)) => read_block(family_of(address), address, len),
+        None => read_full(family_of(word), word),
+    }
+}
+
+fn family_of(word: &[u8]) -> Family
+    ensures { result ≡ family_in word.now }
+{
+    if has_byte(word, b':') {
+        Family::V6
+    } else {
+        Family::V4
+    }
+}
+
+#[tactic(auto, unfolding(crate::specs::Addresses::full_in))]
+fn read_full(family: Family, address: &[u8]) -> Option<Prefix>
+    ensures { result ≡ full_in family address.now }
+{
+    let value = read_spelling(family, address)?;
+    Some(block_of(family, value, family.width()))
+}
+
+#[tactic(auto, unfolding(crate::specs::Addresses::block_in))]
+fn read_block(family: Family, address: &[u8], len: &[u8]) -> Option<Prefix>
+    ensures { result ≡ block_in family address.now len.now }
+{
+    let value = read_spelling(family, address)?;
+    let len = read_number(len, u128::from(family.width()))?;
+    Some(block_of(family, value, len as u8))
+}
+
+fn block_of(family: Family, value: u128, len: u8) -> Prefix
+    requires { len ≤ width_of family }
+    ensures { result ≡ block_of family value len }
+{
+    let free = family.width() - len;
+    let first = if free == 128 {
+        0
+    } else {
+        let size = 2u128.pow(u32::from(free));
+        value / size * size
+    };
+    Prefix { family, first, len }
+}
+
+fn read_spelling(family: Family, text: &[u8]) -> Option<u128>
+    ensures exact { result ≡ spelling_in family text.now }
+    ensures small { IfSome result (λ n. n < 2 ^ width_of family) }
+{
+    match family {
+        Family::V4 => read_ipv4(text),
+        Family::V6 => read_ipv6(text),
+    }
+}
+
+/// The address of the family of which the word is the text that `put_address` puts, as a number.
+pub fn read_address(family: Family, word: &[u8]) -> Option<u128>
+    ensures some { IfSome result (λ n. (word.now ≡ address_text family n)
+        × (n < 2 ^ width_of family)) }
+    ensures none { IfNone result ((n : ℕ) → n < 2 ^ width_of family
+        → word.now ≡ address_text family n → ⊥) }
+    ensures exact { result ≡ address_in family word.now }
+{
+    address_of(family, word)
+}
+
+#[tactic(auto, unfolding(crate::specs::Addresses::address_in))]
+fn address_of(family: Family, word: &[u8]) -> Option<u128>
+    ensures { result ≡ address_in family word.now }
+{
+    let value = read_spelling(family, word)?;
+    if is_address_text(family, value, word) {
+        Some(value)
+    } else {
+        None
+    }
+}
+
+fn is_address_text(family: Family, address: u128, word: &[u8]) -> bool
+    requires { address < 2 ^ width_of family }
+    ensures { result ≡ bytes_eq word.now (address_text family address) }
+{
+    let mut text = ShortText::new();
+    push_address(&mut text, family, address);
+    word == text.as_slice()
+}
+
+fn push_address(text: &mut ShortText, family: Family, address: u128)
+    requires room { length text.old + 40 ≤ 64 }
+    requires small { address < 2 ^ width_of family }
+    ensures items { text.new ≡ text.old ++ address_text family address }
+    ensures len { length text.new ≤ length text.old + 40 }
+{
+    match family {
+        Family::V4 => push_ipv4(text, address),
+        Family::V6 => push_ipv6(text, address),
+    }
+}
+
+/// The prefix of the family of which the word is the text that `put_prefix` puts.
+pub fn read_spelled_prefix(family: Family, word: &[u8]) -> Option<Prefix>
+    ensures some { IfSome result (λ p. (word.now ≡ prefix_text p)
+        × IsPrefix p × (p.family ≡ family)) }
+    ensures none { IfNone result ((p : PrefixData) → IsPrefix p → p.family ≡ family
+        → word.now ≡ prefix_text p → ⊥) }
+    ensures exact { result ≡ spelled_prefix_in family word.now }
+{
+    spelled_of(family, word)
+}
+
+#[tactic(auto, unfolding(crate::specs::Addresses::spelled_prefix_in))]
+fn spelled_of(family: Family, word: &[u8]) -> Option<Prefix>
+    ensures { result ≡ spelled_prefix_in family word.now }
+{
+    let prefix = read_prefix(word)?;
+    if same_family(family, prefix.family) && is_prefix_text(&prefix, word) {
+        Some(prefix)
+    } else {
+        None
+    }
+}
+
+fn same_family(a: Family, b: Family) -> bool
+    ensures { result ≡ same_family a b }
+{
+    match a {
+        Family::V4 => matches!(b, Family::V4),
+        Family::V6 => matches!(b, Family::V6),
+    }
+}
+
+fn is_prefix_text(prefix: &Prefix, word: &[u8]) -> bool
+    requires { IsPrefix prefix.now }
+    ensures { result ≡ bytes_eq word.now (prefix_text prefix.now) }
+{
+    let mut text = ShortText::new();
+    push_prefix(&mut text, prefix);
+    word == text.as_slice()
+}
+
+#[tactic(auto, unfolding(crate::specs::Addresses::prefix_text))]
+fn push_prefix(text: &mut ShortText, prefix: &Prefix)
+    requires room { length text.old ≡ 0 }
+    requires form { IsPrefix prefix.now }
+    ensures { text.new ≡ text.old ++ prefix_text prefix.now }
+{
+    push_address(text, prefix.family, prefix.first);
+    text.push(b'/');
+    push_byte(text, u128::from(prefix.len));
+}
+
+/// Puts the text of the address: of an IPv4 address four decimal numbers with `.` between, of an IPv6 address
+/// the form of RFC 5952 sections 4.1 to 4.3, never with an IPv4 address in it.
+pub fn put_address<O: Out>(out: &mut O, family: Family, address: u128) -> Result<(), PutFault>
+    requires open { IsTrue (O.is_open out.old) }
+    requires small { address < 2 ^ width_of family }
+    ensures { Puts O.told O.faults O.refusals O.is_open O.keeps_rest out.old out.new
+        (address_text family address) result }
+{
+    let mut text = ShortText::new();
+    push_address(&mut text, family, address);
+    out.put(text.as_slice())
+}
+
+/// Puts the text of the prefix: its first address, `/` and its length.
+pub fn put_prefix<O: Out>(out: &mut O, prefix: &Prefix) -> Result<(), PutFault>
+    requires open { IsTrue (O.is_open out.old) }
+    requires form { IsPrefix prefix.now }
+    ensures { Puts O.told O.faults O.refusals O.is_open O.keeps_rest out.old out.new
+        (prefix_text prefix.now) result }
+{
+    let mut text = ShortText::new();
+    push_prefix(&mut text, prefix);
+    out.put(text.as_slice())
+}
+
+/// Puts the bits behind the length of an IPv4 prefix as an address: 255.255.255.255 for length 0.
+#[tactic(auto, unfolding(crate::specs::Addresses::wildcard_text))]
+pub fn put_wildcard<O: Out>(out: &mut O, len: u8) -> Result<(), PutFault>
+    requires open { IsTrue (O.is_open out.old) }
+    requires small { len ≤ 32 }
+    ensures { Puts O.told O.faults O.refusals O.is_open O.keeps_rest out.old out.new
+        (wildcard_text len) result }
+{
+    let mut text = ShortText::new();
+    push_ipv4(&mut text, bits_behind(len));
+    out.put(text.as_slice())
+}
+
+fn bits_behind(len: u8) -> u128
+    requires { len ≤ 32 }
+    ensures exact { result ≡ 2 ^ (32 - len) - 1 }
+    ensures small { result < 2 ^ 32 }
+{
+    2u128.pow(u32::from(32 - len)) - 1
+}

@@ -1,0 +1,54 @@
+ghost use Rattle.std.specs.Prelude.{◌≡◌, List, ℕ, [], ◌∷◌, ◌++◌, ◌+◌, ◌<◌, ◌≤◌, take, length};
+
+use std::marker::Model;
+
+/// A text of at most 64 bytes that takes no memory. A contract sees the list of its bytes.
+#[derive(Drop)]
+pub(crate) struct ShortText {
+    bytes: [u8; 64],
+    end: usize,
+}
+
+impl Model for ShortText {
+    ghost Value = { List ℕ };
+
+    ghost view = { λ t. take t.end t.bytes };
+
+    ghost invariant = { λ t. t.end ≤ 64 };
+}
+
+impl ShortText {
+    pub(crate) fn new() -> ShortText
+        ensures { result ≡ [] }
+    {
+        ShortText {
+            bytes: [0; 64],
+            end: 0,
+        }
+    }
+
+    pub(crate) fn as_slice(&self) -> &[u8]
+        ensures { result.now ≡ self.now }
+    {
+        &self.bytes[..self.end]
+    }
+
+    pub(crate) fn push(&mut self, byte: u8)
+        requires { length self.old < 64 }
+        ensures items { self.new ≡ self.old ++ byte ∷ [] }
+        ensures len { length self.new ≡ length self.old + 1 }
+    {
+        self.bytes[self.end] = byte;
+        self.end += 1;
+    }
+
+    pub(crate) fn push_all(&mut self, bytes: &[u8])
+        requires { length self.old + length bytes.now ≤ 64 }
+        ensures items { self.new ≡ self.old ++ bytes.now }
+        ensures len { length self.new ≡ length self.old + length bytes.now }
+    {
+        for byte in bytes {
+            self.push(*byte);
+        }
+    }
+}
