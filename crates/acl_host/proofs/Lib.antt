@@ -1,0 +1,5 @@
+pub mod Replacing
+pub mod ByteOrder
+pub mod Prefixes
+pub mod Appending
+pub mod Calendar

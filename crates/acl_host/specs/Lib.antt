@@ -1,0 +1,10 @@
+pub mod Files
+pub mod Outside
+pub mod Writing
+pub mod Memory
+pub mod MemorySinks
+pub mod MemoryFiles
+pub mod MemoryTrees
+pub mod Resting
+pub mod Holding
+pub mod Days

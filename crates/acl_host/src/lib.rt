@@ -1,0 +1,36 @@
+//! What lies outside the program: files, streams and the clock, as traits with their meanings, and objects
+//! that have them in memory and for real.
+#![tactic(auto)]
+
+mod clocks;
+mod days;
+mod disk;
+mod disk_trees;
+mod failing;
+mod fixed_clocks;
+mod listing;
+mod looking;
+mod mem_files;
+mod mem_sinks;
+mod mem_trees;
+mod paths;
+mod sinks;
+mod std_sinks;
+#[cfg(test)]
+mod tests;
+mod trees;
+mod wholes;
+mod writing;
+
+pub use clocks::{Clock, ClockFault, Day};
+pub use days::{put_day, read_day};
+pub use disk_trees::DiskTree;
+pub use failing::Op;
+pub use fixed_clocks::FixedClock;
+pub use mem_sinks::MemSink;
+pub use mem_trees::MemTree;
+pub use sinks::{Sink, WriteFault};
+pub use std_sinks::StdSink;
+pub use trees::{FileNames, Tree, TreeFault};
+pub use wholes::Whole;
+pub use writing::write_file;

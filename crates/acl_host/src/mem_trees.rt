@@ -1,0 +1,236 @@
+use crate::failing::{Calls, Op};
+use crate::looking::{front_at, names_under};
+use crate::mem_files::MemFiles;
+use crate::sinks::WriteFault;
+use crate::trees::{FileNames, Tree, TreeFault};
+use acl_text::{Bytes, Memory, Out, PutFault};
+use std::alloc::Global;
+
+/// A tree in memory, whose files can be read, and of which chosen calls fail.
+///
+/// It tells all its files. A call that is to fail changes no file.
+#[derive(Drop)]
+pub struct MemTree {
+    alloc: Global,
+    files: MemFiles,
+    // where the file that is begun stands
+    begun: Option<usize>,
+    lists: Calls,
+    reads: Calls,
+    begins: Calls,
+    appends: Calls,
+    finishes: Calls,
+    faults: u64,
+    refusals: u64,
+    list_faults: u64,
+    read_faults: u64,
+}
+
+impl MemTree {
+    ghost use Rattle.std.specs.Prelude.{◌≡◌, None, IsSome, OnOk, OnErr};
+    ghost use Rattle.std.specs.Option.{option_copied};
+    ghost use Rattle.acl_host.specs.Files.{file_at};
+    ghost use Rattle.acl_host.specs.MemoryFiles.{put_at, append_begun};
+    ghost use Rattle.acl_host.specs.MemoryTrees.{held, nothing_held, failing_too};
+
+    /// No files, nothing begun, and no call that fails.
+    pub fn new(alloc: Global) -> MemTree
+        ensures { held result ≡ nothing_held }
+    {
+        MemTree {
+            alloc,
+            files: MemFiles::new(alloc),
+            begun: None,
+            lists: Calls::new(alloc),
+            reads: Calls::new(alloc),
+            begins: Calls::new(alloc),
+            appends: Calls::new(alloc),
+            finishes: Calls::new(alloc),
+            faults: 0,
+            refusals: 0,
+            list_faults: 0,
+            read_faults: 0,
+        }
+    }
+
+    /// Puts a file there, in the place of one that lies at the path.
+    pub fn put_file(&mut self, path: &str, bytes: &[u8]) -> Result<(), Memory>
+        requires { (held self.old).begun ≡ None }
+        ensures ok { OnOk result (held self.new
+            ≡ record (held self.old) { files = put_at path.now bytes.now (held self.old).files }) }
+        ensures err { OnErr result (held self.new ≡ held self.old) }
+    {
+        let copy = Bytes::from_slice(self.alloc, bytes)?;
+        self.files.put(self.alloc, path, copy)?;
+        self.begun = None;
+        Ok(())
+    }
+
+    /// The bytes of the file at the path.
+    pub fn file(&self, path: &str) -> Option<&[u8]>
+        ensures { option_copied result ≡ file_at (held self.now).files path.now }
+    {
+        self.files.file(path)
+    }
+
+    /// The call of this kind and number, counted from 1, is to fail.
+    pub fn fail(&mut self, op: Op, nth: u32) -> Result<(), Memory>
+        ensures ok { OnOk result (held self.new ≡ failing_too op nth (held self.old)) }
+        ensures err { OnErr result (held self.new ≡ held self.old) }
+    {
+        match op {
+            Op::List => self.lists.fail(nth),
+            Op::Read => self.reads.fail(nth),
+            Op::Begin => self.begins.fail(nth),
+            Op::Append => self.appends.fail(nth),
+            Op::Finish => self.finishes.fail(nth),
+        }
+    }
+
+    // Appends the bytes to the file that is begun.
+    fn append(&mut self, bytes: &[u8]) -> Result<(), Memory>
+        requires { IsSome (held self.old).begun }
+        ensures ok { OnOk result (held self.new ≡ record (held self.old)
+            { files = append_begun (held self.old).begun bytes.now (held self.old).files }) }
+        ensures err { OnErr result (held self.new ≡ held self.old) }
+    {
+        match self.begun {
+            Some(i) => self.files.append(i, bytes),
+            None => unreachable!(),
+        }
+    }
+}
+
+impl Out for MemTree {
+    ghost use Rattle.std.specs.Prelude.{◌≡◌, ◌↔◌, true, is_some, IsTrue, IsErrOf};
+    ghost use Rattle.acl_host.specs.Memory.{next_fails};
+    ghost use Rattle.acl_host.specs.MemoryTrees.{held, begun_of, told_by, KeepsRest, PutsHeld, after_put};
+    ghost use Rattle.acl_host.specs.Resting.{rest_same, rest_joined};
+
+    ghost told = { told_by };
+
+    ghost faults = { λ t. t.faults };
+
+    ghost refusals = { λ t. t.refusals };
+
+    ghost is_open = { λ t. is_some (begun_of t) };
+
+    ghost keeps_rest = { KeepsRest };
+
+    /// Appends the bytes to the file that is begun. A call that is to fail appends nothing, and neither
+    /// does one that wants memory.
+    fn put(&mut self, bytes: &[u8]) -> Result<(), PutFault>
+        requires { IsTrue (is_some (begun_of self.old)) }
+        ensures puts { PutsHeld self.old self.new bytes.now result }
+        ensures fails { IsErrOf result PutFault.Failed ↔ (next_fails (held self.old).appends ≡ true) }
+        ensures left { held self.new ≡ after_put result bytes.now (held self.old) }
+    {
+        if self.appends.count() {
+            self.begun = None;
+            self.faults = self.faults.saturating_add(1);
+            return Err(PutFault::Failed);
+        }
+        match self.append(bytes) {
+            Ok(()) => Ok(()),
+            Err(Memory) => {
+                self.begun = None;
+                self.refusals = self.refusals.saturating_add(1);
+                Err(PutFault::Memory)
+            }
+        }
+    }
+
+    ghost rest_same = { λ t. rest_same _ _ _ _ };
+
+    ghost rest_goes_on = { λ x y z p q. rest_joined p q };
+}
+
+impl Tree for MemTree {
+    ghost use Rattle.std.specs.Prelude.{◌≡◌, ◌↔◌, true, None, Some, IsSome, IsErrOf, refl};
+    ghost use Rattle.acl_host.specs.Memory.{next_fails};
+    ghost use Rattle.acl_host.specs.MemoryTrees.{held, files_of, begun_of, ListsHeld, ReadsHeld, BeginsHeld, FinishesHeld, after_list, after_read, after_begin, after_finish};
+    ghost use Rattle.acl_host.specs.Holding.{begun_is_held};
+
+    ghost files = { files_of };
+
+    ghost begun = { begun_of };
+
+    ghost list_faults = { λ t. t.list_faults };
+
+    ghost read_faults = { λ t. t.read_faults };
+
+    /// The names of the files directly under the folder, in byte order.
+    fn list(&mut self, alloc: Global, dir: &str) -> Result<FileNames, TreeFault>
+        ensures lists { ListsHeld self.old self.new dir.now result }
+        ensures fails { IsErrOf result TreeFault.Failed ↔ (next_fails (held self.old).lists ≡ true) }
+        ensures left { held self.new ≡ after_list result (held self.old) }
+    {
+        if self.lists.count() {
+            self.list_faults = self.list_faults.saturating_add(1);
+            return Err(TreeFault::Failed);
+        }
+        names_under(alloc, dir, &self.files)
+    }
+
+    /// The bytes of the file, or its first `most` bytes where it is longer.
+    fn read(&mut self, alloc: Global, path: &str, most: usize) -> Result<Bytes, TreeFault>
+        ensures reads { ReadsHeld self.old self.new path.now most result }
+        ensures fails { IsErrOf result TreeFault.Failed ↔ (next_fails (held self.old).reads ≡ true) }
+        ensures left { held self.new ≡ after_read result (held self.old) }
+    {
+        if self.reads.count() {
+            self.read_faults = self.read_faults.saturating_add(1);
+            return Err(TreeFault::Failed);
+        }
+        front_at(alloc, path, most, &self.files)
+    }
+
+    /// Makes the file empty, and begins it. A call that is to fail changes no file.
+    fn begin(&mut self, path: &str) -> Result<(), WriteFault>
+        requires { begun_of self.old ≡ None }
+        ensures begins { BeginsHeld self.old self.new path.now result }
+        ensures fails { IsErrOf result WriteFault.Failed ↔ (next_fails (held self.old).begins ≡ true) }
+        ensures left { held self.new ≡ after_begin result path.now (held self.old) }
+    {
+        if self.begins.count() {
+            self.faults = self.faults.saturating_add(1);
+            return Err(WriteFault::Failed);
+        }
+        match self.files.put(self.alloc, path, Bytes::new(self.alloc)) {
+            Ok(i) => {
+                self.begun = Some(i);
+                Ok(())
+            }
+            Err(Memory) => {
+                self.refusals = self.refusals.saturating_add(1);
+                Err(WriteFault::Memory)
+            }
+        }
+    }
+
+    /// Ends the file that is begun, and changes no file. It needs no memory.
+    fn finish(&mut self) -> Result<(), WriteFault>
+        requires { IsSome (begun_of self.old) }
+        ensures finishes { FinishesHeld self.old self.new result }
+        ensures fails { IsErrOf result WriteFault.Failed ↔ (next_fails (held self.old).finishes ≡ true) }
+        ensures sure { IsErrOf result WriteFault.Memory → ⊥ }
+        ensures left { held self.new ≡ after_finish result (held self.old) }
+    {
+        self.begun = None;
+        if self.finishes.count() {
+            self.faults = self.faults.saturating_add(1);
+            return Err(WriteFault::Failed);
+        }
+        Ok(())
+    }
+
+    ghost open_is = { λ t. refl };
+
+    ghost told_is = { λ t. refl };
+
+    ghost rest_is = { λ s t h. h };
+
+    ghost distinct = { λ t. t.files.distinct };
+
+    ghost begun_is_held = { λ t. begun_is_held t.begun t.files.items.items };
+}

@@ -1,0 +1,281 @@
+ghost use Rattle.std.specs.Prelude.{◌≡◌};
+
+use crate::{
+    Clock, ClockFault, Day, DiskTree, FixedClock, MemSink, MemTree, Op, Sink, StdSink, Tree,
+    TreeFault, Whole, WriteFault, put_day, read_day, write_file,
+};
+use acl_text::{Memory, Out};
+use std::alloc::Global;
+use std::test::Fail;
+use std::{fs, process};
+
+// What the tree says of the folder: each name with a space behind it, or why there are none.
+fn listed<T: Tree>(alloc: Global, tree: &mut T, dir: &str) -> Result<String, Memory>
+    ensures { T.begun tree.new ≡ T.begun tree.old }
+{
+    match tree.list(alloc, dir) {
+        Ok(names) => spaced(alloc, names.as_slice()),
+        Err(fault) => told(alloc, fault),
+    }
+}
+
+fn spaced(alloc: Global, names: &[String]) -> Result<String, Memory> {
+    let mut text = String::new(alloc);
+    for name in names {
+        text.push_str(name.as_str())?;
+        text.push_str(" ")?;
+    }
+    Ok(text)
+}
+
+fn told(alloc: Global, fault: TreeFault) -> Result<String, Memory> {
+    let text = match fault {
+        TreeFault::Absent => "absent",
+        TreeFault::Failed => "failed",
+        TreeFault::Memory => "memory",
+    };
+    Ok(String::from_str(alloc, text)?)
+}
+
+// Whether the tree gives these bytes as the first of the file.
+fn reads<T: Tree>(alloc: Global, tree: &mut T, path: &str, most: usize, bytes: &[u8]) -> bool
+    ensures { T.begun tree.new ≡ T.begun tree.old }
+{
+    match tree.read(alloc, path, most) {
+        Ok(front) => front.as_slice() == bytes,
+        Err(_) => false,
+    }
+}
+
+// Whether the tree says that the file is not there.
+fn lacks<T: Tree>(alloc: Global, tree: &mut T, path: &str) -> bool
+    ensures { T.begun tree.new ≡ T.begun tree.old }
+{
+    tree.read(alloc, path, 9).err() == Some(TreeFault::Absent)
+}
+
+#[test]
+fn names_are_listed_in_byte_order(rt: HostRuntime) -> Result<(), Fail> {
+    let mut tree = MemTree::new(rt.alloc());
+    tree.put_file("def/n.net", b"")?;
+    tree.put_file("def/B.net", b"")?;
+    tree.put_file("def/sub/z.net", b"")?;
+    tree.put_file("define/y.net", b"")?;
+    tree.put_file("def/a.svc", b"")?;
+    assert_eq!(rt;
+        listed(rt.alloc(), &mut tree, "def")?.as_str(),
+        "B.net a.svc n.net "
+    );
+    assert_eq!(rt; listed(rt.alloc(), &mut tree, "de")?.as_str(), "absent");
+    Ok(())
+}
+
+#[test]
+fn a_file_in_memory_is_read(rt: HostRuntime) -> Result<(), Fail> {
+    let mut tree = MemTree::new(rt.alloc());
+    tree.put_file("def/n.net", b"A = ")?;
+    assert!(rt; reads(rt.alloc(), &mut tree, "def/n.net", 2, b"A "));
+    assert!(rt; reads(rt.alloc(), &mut tree, "def/n.net", 9, b"A = "));
+    assert!(rt; lacks(rt.alloc(), &mut tree, "def"));
+    Ok(())
+}
+
+#[test]
+fn a_file_in_memory_is_written(rt: HostRuntime) -> Result<(), Fail> {
+    let mut tree = MemTree::new(rt.alloc());
+    tree.begin("x")?;
+    tree.put(b"hi")?;
+    tree.finish()?;
+    assert_eq!(rt; tree.file("x"), Some(b"hi".as_slice()));
+    Ok(())
+}
+
+#[test]
+fn a_listed_begin_fails(rt: HostRuntime) -> Result<(), Fail> {
+    let mut tree = MemTree::new(rt.alloc());
+    tree.fail(Op::Begin, 2)?;
+    assert_eq!(rt; write_file(&mut tree, "one", &[]), Ok(()));
+    assert_eq!(rt; write_file(&mut tree, "two", &[]), Err(WriteFault::Failed));
+    assert_eq!(rt; tree.file("two"), None);
+    Ok(())
+}
+
+#[test]
+fn a_listed_list_and_read_fail(rt: HostRuntime) -> Result<(), Fail> {
+    let mut tree = MemTree::new(rt.alloc());
+    tree.fail(Op::List, 2)?;
+    tree.fail(Op::Read, 1)?;
+    assert_eq!(rt; listed(rt.alloc(), &mut tree, "a")?.as_str(), "absent");
+    assert_eq!(rt; listed(rt.alloc(), &mut tree, "a")?.as_str(), "failed");
+    assert!(rt; !lacks(rt.alloc(), &mut tree, "a"));
+    assert!(rt; lacks(rt.alloc(), &mut tree, "a"));
+    Ok(())
+}
+
+#[test]
+fn a_sink_in_memory_is_written(rt: HostRuntime) -> Result<(), Fail> {
+    let mut sink = MemSink::new(rt.alloc());
+    sink.fail(2)?;
+    sink.write(b"hi")?;
+    assert_eq!(rt; sink.write(b"lost"), Err(WriteFault::Failed));
+    sink.write(b"!")?;
+    assert_eq!(rt; sink.as_slice(), b"hi!".as_slice());
+    Ok(())
+}
+
+#[test]
+fn a_fixed_clock_tells_its_day(rt: HostRuntime) {
+    let day = Day { number: 20468 };
+    assert_eq!(rt; FixedClock::new(day, false).today(), Ok(day));
+    assert_eq!(rt; FixedClock::new(day, true).today(), Err(ClockFault::Failed));
+}
+
+#[test]
+fn a_whole_output_holds_what_was_put(rt: HostRuntime) -> Result<(), Fail> {
+    let mut whole = Whole::new(rt.alloc());
+    whole.put(b"a ")?;
+    whole.put(b"b")?;
+    assert_eq!(rt; whole.as_slice(), b"a b".as_slice());
+    Ok(())
+}
+
+// A path below the folder.
+fn below(folder: &String, name: &str) -> Result<String, Memory> {
+    let mut path = String::from_str(*folder.allocator(), folder.as_str())?;
+    path.push_str("/")?;
+    path.push_str(name)?;
+    Ok(path)
+}
+
+// A folder of this process's own, for the test of the name.
+fn own_folder(rt: &HostRuntime, test: &str) -> Result<String, Fail> {
+    let mut path = format!(in rt.alloc(); "/tmp/acl_host_{}_", process::id(rt.process()))?;
+    path.push_str(test)?;
+    fs::create_dir(rt, path.as_str())?;
+    Ok(path)
+}
+
+// Folders and files in the folder, which is empty.
+fn fill(rt: &HostRuntime, folder: &String) -> Result<(), Fail> {
+    fs::create_dir(rt, below(folder, "x.net")?.as_str())?;
+    fs::write(rt, below(folder, "x.net/z.net")?.as_str(), "z")?;
+    fs::write(rt, below(folder, "b.net")?.as_str(), "b")?;
+    fs::write(rt, below(folder, "C")?.as_str(), "cc")?;
+    Ok(())
+}
+
+#[test]
+fn the_machines_folders_are_listed(rt: HostRuntime) -> Result<(), Fail> {
+    let folder = own_folder(&rt, "list")?;
+    let file = below(&folder, "C")?;
+    let mut tree = DiskTree::new(&rt);
+    assert_eq!(rt;
+        listed(rt.alloc(), &mut tree, folder.as_str())?.as_str(),
+        "absent"
+    );
+    fill(&rt, &folder)?;
+    assert_eq!(rt;
+        listed(rt.alloc(), &mut tree, folder.as_str())?.as_str(),
+        "C b.net "
+    );
+    assert_eq!(rt;
+        listed(rt.alloc(), &mut tree, file.as_str())?.as_str(),
+        "absent"
+    );
+    fs::remove_dir_all(&rt, folder.as_str())?;
+    assert_eq!(rt;
+        listed(rt.alloc(), &mut tree, folder.as_str())?.as_str(),
+        "absent"
+    );
+    Ok(())
+}
+
+#[test]
+fn the_machines_files_are_read(rt: HostRuntime) -> Result<(), Fail> {
+    let folder = own_folder(&rt, "read")?;
+    fill(&rt, &folder)?;
+    let file = below(&folder, "C")?;
+    let mut tree = DiskTree::new(&rt);
+    assert!(rt; reads(rt.alloc(), &mut tree, file.as_str(), 1, b"c"));
+    assert!(rt; reads(rt.alloc(), &mut tree, file.as_str(), usize::MAX, b"cc"));
+    // a folder is no file, and nothing lies under a file
+    assert!(rt; lacks(rt.alloc(), &mut tree, folder.as_str()));
+    assert!(rt; lacks(rt.alloc(), &mut tree, below(&file, "b")?.as_str()));
+    fs::remove_dir_all(&rt, folder.as_str())?;
+    Ok(())
+}
+
+#[test]
+fn the_machines_files_are_written(rt: HostRuntime) -> Result<(), Fail> {
+    let folder = own_folder(&rt, "write")?;
+    fill(&rt, &folder)?;
+    let file = below(&folder, "C")?;
+    let deep = below(&folder, "no/C")?;
+    let mut tree = DiskTree::new(&rt);
+    write_file(&mut tree, file.as_str(), &[b"1".as_slice(), b"".as_slice()])?;
+    assert!(rt; reads(rt.alloc(), &mut tree, file.as_str(), 9, b"1"));
+    // no folder is made
+    assert_eq!(rt;
+        write_file(&mut tree, deep.as_str(), &[]),
+        Err(WriteFault::Failed)
+    );
+    assert_eq!(rt;
+        write_file(&mut tree, "/dev/full", &[b"x".as_slice()]),
+        Err(WriteFault::Failed)
+    );
+    fs::remove_dir_all(&rt, folder.as_str())?;
+    Ok(())
+}
+
+#[test]
+fn a_stream_of_the_machine_is_written(rt: HostRuntime) -> Result<(), Fail> {
+    let folder = own_folder(&rt, "sink")?;
+    let path = below(&folder, "out")?;
+    let mut sink = StdSink::new(fs::create(&rt, path.as_str())?);
+    sink.write(b"hi")?;
+    sink.write(b"!")?;
+    assert_eq!(rt; fs::read(&rt, path.as_str())?.as_slice(), b"hi!".as_slice());
+    let mut full = StdSink::new(fs::create(&rt, "/dev/full")?);
+    assert_eq!(rt; full.write(b"hi"), Err(WriteFault::Failed));
+    fs::remove_dir_all(&rt, folder.as_str())?;
+    Ok(())
+}
+
+// Days since 1970-01-01, as GNU date counts them.
+static DAYS: [(&[u8], i32); 6] = [
+    (b"0001-01-01", -719162),
+    (b"1969-12-31", -1),
+    (b"1970-01-01", 0),
+    (b"2000-02-29", 11016),
+    (b"2026-01-15", 20468),
+    (b"9999-12-31", 2932896),
+];
+
+static NO_DAYS: [&[u8]; 8] = [
+    b"0000-01-01",
+    b"1900-02-29",
+    b"2026-02-30",
+    b"2026-13-01",
+    b"2026-1-15",
+    b"2026-01-15 ",
+    b"2026/01/15",
+    b"",
+];
+
+#[test]
+fn dates_are_read(rt: HostRuntime) {
+    for (word, number) in &DAYS {
+        assert!(rt; read_day(word).map(|day| day.number) == Some(*number));
+    }
+    for word in &NO_DAYS {
+        assert!(rt; read_day(word).is_none());
+    }
+}
+
+#[test]
+fn a_date_is_put(rt: HostRuntime) -> Result<(), Fail> {
+    let mut out = Whole::new(rt.alloc());
+    put_day(&mut out, Day { number: 20468 })?;
+    assert!(rt; out.as_slice() == b"2026-01-15".as_slice());
+    Ok(())
+}
