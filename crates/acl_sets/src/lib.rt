@@ -1,0 +1,11 @@
+//! Sets of whole numbers, and the least lists of prefixes of sets of addresses.
+#![tactic(auto)]
+
+mod least;
+mod pieces;
+mod sets;
+#[cfg(test)]
+mod tests;
+
+pub use least::{Prefixes, least_prefixes, one_least_list};
+pub use sets::{Range, RangeSet, one_normal_list};

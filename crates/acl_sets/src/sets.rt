@@ -1,0 +1,174 @@
+ghost use Rattle.std.specs.Prelude.{◌≡◌, ℕ, ◌≤◌, ◌||◌, ◌&&◌, not, nat_le, false, IsTrue, ◌↔◌, IfOk, []};
+ghost use Rattle.std.specs.List.{All};
+ghost use Rattle.acl_sets.specs.Ranges.{holds, IsRange, IsNormal, OneNormalList};
+
+use crate::pieces;
+use acl_text::Memory;
+use std::alloc::Global;
+use std::marker::Model;
+
+/// The numbers from `low` to `high`, both ends included.
+#[derive(Clone, Copy, Debug, PartialEq, Eq)]
+pub struct Range {
+    pub low: u128,
+    pub high: u128,
+}
+
+/// A set of numbers from 0 to a top.
+///
+/// A contract sees the top and the list of ranges, which is in normal form: rising, disjoint and not
+/// touching.
+#[derive(Debug, Drop)]
+pub struct RangeSet {
+    limit: u128,
+    list: Vec<Range>,
+}
+
+impl Model for RangeSet {
+    ghost use Rattle.acl_sets.specs.Ranges.{Numbers, IsNormal};
+
+    ghost Value = { Numbers };
+
+    ghost view = { λ s. record { top = s.limit; ranges = s.list.items } };
+
+    ghost invariant = { λ s. IsNormal 0 s.limit s.list.items };
+}
+
+impl RangeSet {
+    /// No number.
+    pub fn empty(alloc: Global, top: u128) -> RangeSet
+        ensures top { result.top ≡ top }
+        ensures normal { IsNormal 0 result.top result.ranges }
+        ensures exact { (x : ℕ) → holds result.ranges x ≡ false }
+    {
+        RangeSet {
+            limit: top,
+            list: Vec::new(alloc),
+        }
+    }
+
+    /// All numbers up to the top.
+    pub fn all(alloc: Global, top: u128) -> Result<RangeSet, Memory>
+        ensures top { IfOk result (λ s. s.top ≡ top) }
+        ensures normal { IfOk result (λ s. IsNormal 0 s.top s.ranges) }
+        ensures exact { IfOk result (λ s. (x : ℕ) → holds s.ranges x ≡ nat_le x top) }
+    {
+        let whole = Range { low: 0, high: top };
+        Ok(RangeSet {
+            limit: top,
+            list: Vec::from_slice(alloc, &[whole])?,
+        })
+    }
+
+    /// The numbers inside the ranges, which may come in any order, overlap and touch.
+    pub fn from_ranges(alloc: Global, top: u128, ranges: &[Range]) -> Result<RangeSet, Memory>
+        requires { All (λ r. IsRange top r) ranges.now }
+        ensures top { IfOk result (λ s. s.top ≡ top) }
+        ensures normal { IfOk result (λ s. IsNormal 0 s.top s.ranges) }
+        ensures exact { IfOk result (λ s. (x : ℕ) → holds s.ranges x ≡ holds ranges.now x) }
+    {
+        Ok(RangeSet {
+            limit: top,
+            list: pieces::put_all(alloc, &[], ranges)?,
+        })
+    }
+
+    /// The numbers of either set.
+    pub fn union(&self, alloc: Global, other: &RangeSet) -> Result<RangeSet, Memory>
+        requires { self.now.top ≡ other.now.top }
+        ensures top { IfOk result (λ s. s.top ≡ self.now.top) }
+        ensures normal { IfOk result (λ s. IsNormal 0 s.top s.ranges) }
+        ensures exact { IfOk result (λ s. (x : ℕ) → holds s.ranges x ≡ holds self.now.ranges x || holds other.now.ranges x) }
+    {
+        Ok(RangeSet {
+            limit: self.limit,
+            list: pieces::put_all(alloc, &self.list, &other.list)?,
+        })
+    }
+
+    /// The numbers of this set that are not in the other.
+    pub fn subtract(&self, alloc: Global, other: &RangeSet) -> Result<RangeSet, Memory>
+        requires { self.now.top ≡ other.now.top }
+        ensures top { IfOk result (λ s. s.top ≡ self.now.top) }
+        ensures normal { IfOk result (λ s. IsNormal 0 s.top s.ranges) }
+        ensures exact { IfOk result (λ s. (x : ℕ) → holds s.ranges x ≡ holds self.now.ranges x && not (holds other.now.ranges x)) }
+    {
+        Ok(RangeSet {
+            limit: self.limit,
+            list: pieces::cut_all(alloc, &self.list, &other.list)?,
+        })
+    }
+
+    /// The numbers of both sets.
+    pub fn intersect(&self, alloc: Global, other: &RangeSet) -> Result<RangeSet, Memory>
+        requires { self.now.top ≡ other.now.top }
+        ensures top { IfOk result (λ s. s.top ≡ self.now.top) }
+        ensures normal { IfOk result (λ s. IsNormal 0 s.top s.ranges) }
+        ensures exact { IfOk result (λ s. (x : ℕ) → holds s.ranges x ≡ holds self.now.ranges x && holds other.now.ranges x) }
+    {
+        Ok(RangeSet {
+            limit: self.limit,
+            list: pieces::shared_all(alloc, &self.list, &other.list)?,
+        })
+    }
+
+    /// The same set again.
+    pub fn copy(&self, alloc: Global) -> Result<RangeSet, Memory>
+        ensures same { IfOk result (λ s. s ≡ self.now) }
+        ensures normal { IfOk result (λ s. IsNormal 0 s.top s.ranges) }
+    {
+        Ok(RangeSet {
+            limit: self.limit,
+            list: Vec::from_slice(alloc, &self.list)?,
+        })
+    }
+
+    /// Whether the number is in the set.
+    pub fn contains(&self, x: u128) -> bool
+        ensures { result ≡ holds self.now.ranges x }
+    {
+        pieces::covers(&self.list, x, x)
+    }
+
+    /// Whether each number of this set is in the other.
+    pub fn subset_of(&self, other: &RangeSet) -> bool
+        requires { self.now.top ≡ other.now.top }
+        ensures { IsTrue result ↔ ((x : ℕ) → x ≤ self.now.top → IsTrue (holds self.now.ranges x) → IsTrue (holds other.now.ranges x)) }
+    {
+        pieces::all_covered(&self.list, &other.list)
+    }
+
+    /// Whether no number is in the set.
+    pub fn is_empty(&self) -> bool
+        ensures { IsTrue result ↔ ((x : ℕ) → x ≤ self.now.top → holds self.now.ranges x ≡ false) }
+    {
+        self.ranges().is_empty()
+    }
+
+    /// Whether all numbers up to the top are in the set.
+    pub fn is_all(&self) -> bool
+        ensures { IsTrue result ↔ ((x : ℕ) → x ≤ self.now.top → IsTrue (holds self.now.ranges x)) }
+    {
+        pieces::covers(&self.list, 0, self.limit)
+    }
+
+    /// The ranges of the set, in rising order, disjoint and not touching.
+    pub fn ranges(&self) -> &[Range]
+        ensures list { result.now ≡ self.now.ranges }
+        ensures normal { IsNormal 0 self.now.top self.now.ranges }
+    {
+        &self.list
+    }
+
+    /// The greatest number that the set may hold.
+    pub fn top(&self) -> u128
+        ensures { result ≡ self.now.top }
+    {
+        self.limit
+    }
+}
+
+/// A law: two lists in normal form that hold the same numbers are one list.
+pub fn one_normal_list()
+    ensures { OneNormalList }
+{}
