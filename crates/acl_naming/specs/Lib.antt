@@ -1,0 +1,11 @@
+pub mod Checking
+pub mod Definitions
+pub mod Graph
+pub mod ItemWords
+pub mod Marks
+pub mod Ports
+pub mod Reach
+pub mod Reading
+pub mod Tables
+pub mod Views
+pub mod Wanted

@@ -1,0 +1,137 @@
+-- A naming file, line by line: the definitions so far with those of the file, or its first slip.
+use Rattle.std.specs.Prelude.{◌≡◌, ℕ, ◌+◌, Bool, false, not, ◌&&◌, ◌||◌, nat_le, is_some, if◌then◌else◌, List, [], ◌∷◌, ◌++◌, length, Option, None, Some, Result, Ok, Err}
+use Rattle.std.specs.Option.{option_map_or}
+use Rattle.acl_text.specs.declared.faults.Code.TheVariants as codes
+use Rattle.acl_text.specs.declared.faults.Place.{Place}
+use Rattle.acl_text.specs.declared.faults.Slip.{Slip}
+use Rattle.acl_text.specs.declared.faults.Refusal.{Refusal}
+use Rattle.acl_text.specs.declared.faults.Refusal.TheVariants as refusals
+use Rattle.acl_text.specs.Cursors.{is_white, lines_of, words_of}
+use Rattle.acl_text.specs.Cuts.{cut_at, has_byte}
+use Rattle.acl_text.specs.Names.{is_name}
+use Rattle.acl_naming.specs.declared.item_words.Kind.{Kind}
+use Rattle.acl_naming.specs.declared.item_words.Kind.TheVariants as kinds
+use Rattle.acl_naming.specs.declared.items.Item.{Item}
+use Rattle.acl_naming.specs.Checking.{slip}
+use Rattle.acl_naming.specs.Definitions.{Definition, Naming, index_of, items_count}
+use Rattle.acl_naming.specs.ItemWords.{item_in}
+use Rattle.acl_naming.specs.Tables.{with_item}
+
+-- The definitions, or the first slip.
+abbrev pub Outcome : Type 0
+Outcome = Result (List Definition) Slip
+
+-- A step, then the next one: the first slip stands.
+abbrev pub and_then : Outcome → (List Definition → Outcome) → Outcome
+and_then (Ok ds) next = next ds
+and_then (Err s) next = Err s
+
+-- The greatest number of definitions of a kind, and of their items.
+abbrev pub most : ℕ
+most = 16384
+
+-- ---- the items of a definition, left to right
+
+abbrev pub item_put : Place → List Definition → List ℕ → Option Item → Outcome
+item_put place ds word None = Err (slip codes.BadValue place word)
+item_put place ds word (Some item) = if nat_le most (items_count ds) then Err (slip codes.TooMany place word) else Ok (with_item ds item)
+
+unfoldable pub item_added : Kind → Place → List Definition → List ℕ → Outcome
+item_added kind place ds word = item_put place ds word (item_in kind place word)
+
+abbrev pub items_added : Kind → Place → List Definition → List (List ℕ) → Outcome
+items_added kind place ds [] = Ok ds
+items_added kind place ds (word ∷ words) = and_then (item_added kind place ds word) (λ more. items_added kind place more words)
+
+-- ---- a line
+
+-- Without white space at the ends.
+abbrev pub without_front : List ℕ → List ℕ
+without_front [] = []
+without_front (b ∷ bs) = if is_white b then without_front bs else b ∷ bs
+
+abbrev pub kept_before : ℕ → List ℕ → List ℕ
+kept_before b [] = if is_white b then [] else b ∷ []
+kept_before b (c ∷ rest) = b ∷ c ∷ rest
+
+abbrev pub without_end : List ℕ → List ℕ
+without_end [] = []
+without_end (b ∷ bs) = kept_before b (without_end bs)
+
+abbrev pub trimmed : List ℕ → List ℕ
+trimmed bs = without_end (without_front bs)
+
+-- `#` (35) begins a comment.
+abbrev pub without_comment : List ℕ → List ℕ
+without_comment line = option_map_or {U = List ℕ} (λ p. p.0) (cut_at 35 line) line
+
+-- Bytes that neither are white space nor print (RFC 20).
+abbrev pub is_bad : ℕ → Bool
+is_bad b = not (is_white b) && not (nat_le 33 b && nat_le b 126)
+
+abbrev pub bad_byte : List ℕ → Option ℕ
+bad_byte [] = None
+bad_byte (b ∷ bs) = if is_bad b then Some b else bad_byte bs
+
+-- A definition begins: its name, and the items behind `=`.
+unfoldable pub defined : Kind → Place → List Definition → List ℕ → List ℕ → Outcome
+defined kind place ds name rest =
+    if not (is_name name) then Err (slip codes.BadName place name)
+    else if is_some (index_of ds name) then Err (slip codes.Twice place name)
+    else if nat_le most (length ds) then Err (slip codes.TooMany place name)
+    else items_added kind place (ds ++ record { name = name; place = place; items = [] } ∷ []) (words_of rest)
+
+-- Further items of the definition above in the file.
+abbrev pub continued : Kind → Place → Bool → List Definition → List (List ℕ) → Outcome
+continued kind place is_open ds [] = Ok ds
+continued kind place is_open ds (word ∷ words) =
+    if is_open then items_added kind place ds (word ∷ words) else Err (slip codes.NoDefinition place word)
+
+-- A line of good bytes; `=` is 61.
+abbrev pub split_added : Kind → Place → Bool → List Definition → List ℕ → Outcome
+split_added kind place is_open ds text =
+    option_map_or {U = Outcome} (λ p. defined kind place ds (trimmed p.0) p.1) (cut_at 61 text)
+    (continued kind place is_open ds (words_of text))
+
+-- A line without its comment.
+abbrev pub line_added : Kind → Place → Bool → List Definition → List ℕ → Outcome
+line_added kind place is_open ds text =
+    option_map_or {U = Outcome} (λ b. Err (slip codes.BadByte place (b ∷ []))) (bad_byte text) (split_added kind place is_open ds text)
+
+-- ---- a file
+
+-- Behind a line some definition of the file stands above, where one did or the line begins one.
+abbrev pub opens : Bool → List ℕ → Bool
+opens is_open text = is_open || has_byte 61 text
+
+-- The lines from the n-th on.
+abbrev pub lines_added : Kind → ℕ → ℕ → Bool → List Definition → List (List ℕ) → Outcome
+lines_added kind file n is_open ds [] = Ok ds
+lines_added kind file n is_open ds (line ∷ lines) =
+    and_then (line_added kind (record { file = file; line = n }) is_open ds (without_comment line))
+    (λ more. lines_added kind file (n + 1) (opens is_open (without_comment line)) more lines)
+
+unfoldable pub file_added : Kind → ℕ → List Definition → List ℕ → Outcome
+file_added kind file ds bytes = lines_added kind file 1 false ds (lines_of bytes)
+
+-- ---- what calls promise
+
+-- The refusal has the slip that is expected, or wants memory.
+abbrev pub Refuses : Refusal → Outcome → Type 0
+Refuses (refusals.Slip s) expected = expected ≡ Err s
+Refuses refusals.Memory expected = Unit {0}
+
+-- The call leaves the definitions that are expected, or it refuses so.
+abbrev pub Gives : {T : Type 0} → List Definition → Result T Refusal → Outcome → Type 0
+Gives new (Ok x) expected = expected ≡ Ok new
+Gives new (Err r) expected = Refuses r expected
+
+-- The file's definitions of networks are added, or its first slip is told; services stay as they are.
+abbrev pub AddsNetworks : ℕ → Naming → List ℕ → Result Naming Refusal → Type 0
+AddsNetworks file old bytes (Ok new) = (file_added kinds.Networks file old.networks bytes ≡ Ok new.networks) × (new.services ≡ old.services)
+AddsNetworks file old bytes (Err r) = Refuses r (file_added kinds.Networks file old.networks bytes)
+
+-- The same of services.
+abbrev pub AddsServices : ℕ → Naming → List ℕ → Result Naming Refusal → Type 0
+AddsServices file old bytes (Ok new) = (file_added kinds.Services file old.services bytes ≡ Ok new.services) × (new.networks ≡ old.networks)
+AddsServices file old bytes (Err r) = Refuses r (file_added kinds.Services file old.services bytes)

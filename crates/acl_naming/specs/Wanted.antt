@@ -1,0 +1,55 @@
+-- What is looked up of a name: addresses of a family, or ports of a protocol.
+use Rattle.std.specs.Prelude.{◌≡◌, ◌↔◌, ℕ, ◌+◌, Bool, true, false, ◌&&◌, ◌||◌, nat_lt, List, [], ◌∷◌, length, Option, None, Some}
+use Rattle.std.specs.List.{list_any, All}
+use Rattle.acl_sets.specs.declared.sets.Range.{Range}
+use Rattle.acl_sets.specs.Ranges.{IsRange, inside, holds}
+use Rattle.acl_naming.specs.declared.items.Item.{Item}
+use Rattle.acl_naming.specs.declared.items.Item.TheVariants.{Name, Network, Service}
+use Rattle.acl_naming.specs.declared.reaching.Wanted.{Wanted}
+use Rattle.acl_naming.specs.declared.reaching.Wanted.TheVariants.{Addresses, Ports}
+use Rattle.acl_naming.specs.Definitions.{Definition}
+use Rattle.acl_naming.specs.Marks.{marked}
+use Rattle.acl_naming.specs.Ports.{top_address, top_port}
+use Rattle.acl_naming.specs.Reach.{same_family, holds_address, holds_port, is_service_of, Reaches}
+
+-- the greatest number of the kind
+abbrev pub top_of : Wanted → ℕ
+top_of (Addresses f) = top_address f
+top_of (Ports q) = top_port
+
+-- The item holds the number.
+abbrev pub has_number : Wanted → ℕ → Item → Bool
+has_number (Addresses f) x item = holds_address f x item
+has_number (Ports q) x item = holds_port q x item
+
+-- The item is of the kind: a prefix of the family, or ports of the protocol.
+abbrev pub is_wanted : Wanted → Item → Bool
+is_wanted (Addresses f) (Name r) = false
+is_wanted (Addresses f) (Network p) = same_family f p.family
+is_wanted (Addresses f) (Service p) = false
+is_wanted (Ports q) item = is_service_of q item
+
+-- The numbers of one item as a range, where it is of the kind.
+abbrev pub IsRangeOf : Wanted → Item → Option Range → Type 0
+IsRangeOf w item None = (is_wanted w item ≡ false) × ((x : ℕ) → has_number w x item ≡ false)
+IsRangeOf w item (Some r) = (is_wanted w item ≡ true) × IsRange (top_of w) r × ((x : ℕ) → inside r x ≡ has_number w x item)
+
+-- The numbers of the items were put behind the ranges.
+pub record Collects (w : Wanted) (test : (Item → Bool) → Bool) (old new : List Range) : Type 0 where
+  pub fits : All (λ r. IsRange (top_of w) r) old → All (λ r. IsRange (top_of w) r) new
+  pub exact : (x : ℕ) → holds new x ≡ holds old x || test (has_number w x)
+  pub some : nat_lt 0 (length new) ≡ nat_lt 0 (length old) || test (is_wanted w)
+
+-- Some item of the list passes the test; some item of a marked definition from the i-th on does.
+abbrev pub any_item : List Item → (Item → Bool) → Bool
+any_item items test = list_any test items
+
+abbrev pub any_marked : List Definition → ℕ → List Bool → (Item → Bool) → Bool
+any_marked [] i m test = false
+any_marked (d ∷ ds) i m test = (marked m i && list_any test d.items) || any_marked ds (i + 1) m test
+
+-- The ranges are what the name reaches.
+pub record IsReach (base : List Definition) (name : List ℕ) (w : Wanted) (ranges : List Range) : Type 0 where
+  pub fits : All (λ r. IsRange (top_of w) r) ranges
+  pub exact : (x : ℕ) → (holds ranges x ≡ true) ↔ Reaches base name (has_number w x)
+  pub some : (nat_lt 0 (length ranges) ≡ true) ↔ Reaches base name (is_wanted w)

@@ -1,0 +1,159 @@
+ghost use Rattle.std.specs.Prelude.{◌≡◌, ◌↔◌, ◌≤◌, ℕ, [], true, None, Err, IfOk, length};
+ghost use Rattle.acl_sets.specs.Ranges.{IsNormal, holds};
+ghost use Rattle.acl_naming.specs.Checking.{IsChecked};
+ghost use Rattle.acl_naming.specs.Definitions.{index_of};
+ghost use Rattle.acl_naming.specs.Ports.{top_address, top_port};
+ghost use Rattle.acl_naming.specs.Reading.{AddsNetworks, AddsServices};
+ghost use Rattle.acl_naming.specs.Reach.{ReachesAddress, ReachesPort, ReachesProtocol};
+
+use crate::checking::check_tables;
+use crate::item_words::Kind;
+use crate::lookups::Lookup;
+use crate::reaching::{Wanted, ranges_of, top_of};
+use crate::reading::add_file;
+use crate::tables::Table;
+use acl_packet::Family;
+use acl_sets::RangeSet;
+use acl_text::Refusal;
+use std::alloc::Global;
+use std::marker::Model;
+
+/// The definitions of naming files as they are read. A contract sees the networks and the services, each a list
+/// of name, place and items.
+#[derive(Drop)]
+pub struct Base {
+    alloc: Global,
+    networks: Table,
+    services: Table,
+}
+
+impl Model for Base {
+    ghost use Rattle.acl_naming.specs.Definitions.{Naming};
+
+    ghost Value = { Naming };
+
+    ghost view = { λ b. record { networks = b.networks; services = b.services } };
+}
+
+/// Definitions of which each name is defined and none reaches itself. A contract sees what it sees of a `Base`.
+#[derive(Drop)]
+pub struct Checked {
+    networks: Table,
+    services: Table,
+}
+
+impl Model for Checked {
+    ghost use Rattle.acl_naming.specs.Definitions.{Naming};
+
+    ghost Value = { Naming };
+
+    ghost view = { λ c. record { networks = c.networks; services = c.services } };
+}
+
+impl Base {
+    /// No definitions.
+    pub fn new(alloc: Global) -> Base
+        ensures { result ≡ record { networks = []; services = [] } }
+    {
+        Base {
+            alloc,
+            networks: Table::new(alloc),
+            services: Table::new(alloc),
+        }
+    }
+}
+
+/// The base with the network definitions of a naming file, in order.
+///
+/// The first slip of the file is told: `BadByte`, `BadName`, `NoDefinition`, `BadValue`, `Twice` or `TooMany`.
+pub fn read_networks(base: Base, file: u32, bytes: &[u8]) -> Result<Base, Refusal>
+    requires { length bytes.now ≤ 4194304 }
+    ensures { AddsNetworks file base bytes.now result }
+{
+    let Base {
+        alloc,
+        mut networks,
+        services,
+    } = base;
+    add_file(alloc, &mut networks, Kind::Networks, file, bytes)?;
+    Ok(Base {
+        alloc,
+        networks,
+        services,
+    })
+}
+
+/// The base with the service definitions of a naming file, in order. Slips are those of `read_networks`.
+pub fn read_services(base: Base, file: u32, bytes: &[u8]) -> Result<Base, Refusal>
+    requires { length bytes.now ≤ 4194304 }
+    ensures { AddsServices file base bytes.now result }
+{
+    let Base {
+        alloc,
+        networks,
+        mut services,
+    } = base;
+    add_file(alloc, &mut services, Kind::Services, file, bytes)?;
+    Ok(Base {
+        alloc,
+        networks,
+        services,
+    })
+}
+
+/// The same definitions, where each name that stands in them is defined in its kind and none reaches itself.
+///
+/// Slips: `Undefined` at the first item that is a name defined nowhere, networks before services. Where there is
+/// none, `Cycle` at the first definition that reaches itself, in the same order.
+pub fn check(base: Base) -> Result<Checked, Refusal>
+    ensures same { IfOk result (λ c. c ≡ base) }
+    ensures exact { IsChecked base result }
+{
+    let Base {
+        alloc,
+        networks,
+        services,
+    } = base;
+    check_tables(alloc, &networks, &services)?;
+    Ok(Checked { networks, services })
+}
+
+/// The addresses of the family that the name reaches, as numbers.
+///
+/// `Unknown` exactly where no network has the name; never `NoPort`.
+pub fn networks_of(
+    alloc: Global,
+    base: &Checked,
+    family: Family,
+    name: &[u8],
+) -> Result<RangeSet, Lookup>
+    ensures top { IfOk result (λ s. s.top ≡ top_address family) }
+    ensures normal { IfOk result (λ s. IsNormal 0 s.top s.ranges) }
+    ensures exact { IfOk result (λ s. (x : ℕ) → (holds s.ranges x ≡ true) ↔ ReachesAddress base.now.networks name.now family x) }
+    ensures unknown { (result ≡ Err Lookup.Unknown) ↔ (index_of base.now.networks name.now ≡ None) }
+    ensures no_port { result ≡ Err Lookup.NoPort → ⊥ }
+{
+    let wanted = Wanted::Addresses(family);
+    let ranges = ranges_of(alloc, &base.networks, wanted, name)?;
+    Ok(RangeSet::from_ranges(alloc, top_of(wanted), &ranges)?)
+}
+
+/// The ports that the name reaches with the protocol.
+///
+/// `Unknown` exactly where no service has the name; `NoPort` only where the name reaches no ports of the
+/// protocol, and a set only where it reaches some.
+pub fn ports_of(alloc: Global, base: &Checked, proto: u8, name: &[u8]) -> Result<RangeSet, Lookup>
+    ensures top { IfOk result (λ s. s.top ≡ top_port) }
+    ensures normal { IfOk result (λ s. IsNormal 0 s.top s.ranges) }
+    ensures exact { IfOk result (λ s. (n : ℕ) → (holds s.ranges n ≡ true) ↔ ReachesPort base.now.services name.now proto n) }
+    ensures unknown { (result ≡ Err Lookup.Unknown) ↔ (index_of base.now.services name.now ≡ None) }
+    ensures no_port { result ≡ Err Lookup.NoPort → ReachesProtocol base.now.services name.now proto → ⊥ }
+    ensures some { IfOk result (λ s. ReachesProtocol base.now.services name.now proto) }
+{
+    let wanted = Wanted::Ports(proto);
+    let ranges = ranges_of(alloc, &base.services, wanted, name)?;
+    if ranges.is_empty() {
+        return Err(Lookup::NoPort);
+    }
+    Ok(RangeSet::from_ranges(alloc, top_of(wanted), &ranges)?)
+}

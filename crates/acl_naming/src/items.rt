@@ -1,0 +1,152 @@
+ghost use Rattle.std.specs.Prelude.{◌≡◌, ℕ, ◌≤◌, List, [], ◌∷◌, ◌++◌, OnOk, OnErr};
+ghost use Rattle.acl_packet.specs.Addresses.{IsPrefix, has_address};
+ghost use Rattle.acl_sets.specs.Ranges.{IsRange, inside};
+ghost use Rattle.acl_naming.specs.Ports.{has_port, top_address, top_port};
+
+use acl_packet::{Family, Prefix};
+use acl_sets::Range;
+use acl_text::{Bytes, Memory, Place};
+use std::alloc::Global;
+use std::marker::Model;
+
+/// A name that a definition refers to, and the place where it stands.
+#[derive(Drop)]
+pub struct Reference {
+    pub place: Place,
+    pub name: Bytes,
+}
+
+/// A prefix as an item. A contract sees the prefix.
+#[derive(Drop)]
+pub struct Block {
+    prefix: Prefix,
+}
+
+impl Model for Block {
+    ghost use Rattle.acl_packet.specs.declared.addresses.Prefix.{Prefix};
+    ghost use Rattle.acl_packet.specs.Addresses.{IsPrefix};
+
+    ghost Value = { Prefix };
+
+    ghost view = { λ b. b.prefix };
+
+    ghost invariant = { λ b. IsPrefix b.prefix };
+}
+
+impl Block {
+    pub(crate) fn new(prefix: Prefix) -> Block
+        requires { IsPrefix prefix }
+        ensures { result ≡ prefix }
+    {
+        Block { prefix }
+    }
+
+    pub(crate) fn family(&self) -> Family
+        ensures { result ≡ self.now.family }
+    {
+        self.prefix.family
+    }
+
+    /// The addresses of the prefix, as numbers.
+    pub(crate) fn range(&self) -> Range
+        ensures exact { (x : ℕ) → inside result x ≡ has_address self.now x }
+        ensures within { IsRange (top_address self.now.family) result }
+    {
+        Range {
+            low: self.prefix.first,
+            high: self.prefix.last(),
+        }
+    }
+}
+
+/// Ports of a protocol as an item. A contract sees the protocol and both ends.
+#[derive(Drop)]
+pub struct PortRange {
+    proto: u8,
+    low: u16,
+    high: u16,
+}
+
+impl Model for PortRange {
+    ghost use Rattle.std.specs.Prelude.{◌≤◌};
+    ghost use Rattle.acl_naming.specs.Ports.{Ports};
+
+    ghost Value = { Ports };
+
+    ghost view = { λ p. record { proto = p.proto; low = p.low; high = p.high } };
+
+    ghost invariant = { λ p. p.low ≤ p.high };
+}
+
+impl PortRange {
+    pub(crate) fn new(proto: u8, low: u16, high: u16) -> PortRange
+        requires { low ≤ high }
+        ensures { result ≡ record { proto = proto; low = low; high = high } }
+    {
+        PortRange { proto, low, high }
+    }
+
+    pub(crate) fn proto(&self) -> u8
+        ensures { result ≡ self.now.proto }
+    {
+        self.proto
+    }
+
+    /// The ports, as numbers.
+    pub(crate) fn range(&self) -> Range
+        ensures exact { (x : ℕ) → inside result x ≡ has_port self.now x }
+        ensures within { IsRange top_port result }
+    {
+        Range {
+            low: u128::from(self.low),
+            high: u128::from(self.high),
+        }
+    }
+}
+
+/// What stands in a definition: a name, a prefix of addresses, or ports of a protocol.
+#[derive(Drop)]
+pub enum Item {
+    Name(Reference),
+    Network(Block),
+    Service(PortRange),
+}
+
+/// The items of a definition. A contract sees the list.
+#[derive(Drop)]
+pub struct Items {
+    list: Vec<Item>,
+}
+
+impl Model for Items {
+    ghost use Rattle.std.specs.Prelude.{List};
+    ghost use Rattle.acl_naming.specs.declared.items.Item.{Item};
+
+    ghost Value = { List Item };
+
+    ghost view = { λ i. i.list.items };
+}
+
+impl Items {
+    pub(crate) fn new(alloc: Global) -> Items
+        ensures { result ≡ [] }
+    {
+        Items {
+            list: Vec::new(alloc),
+        }
+    }
+
+    pub(crate) fn push(&mut self, item: Item) -> Result<(), Memory>
+        ensures ok { OnOk result (self.new ≡ self.old ++ item ∷ []) }
+        ensures err { OnErr result (self.new ≡ self.old) }
+    {
+        self.list.push(item)?;
+        Ok(())
+    }
+
+    pub(crate) fn as_slice(&self) -> &[Item]
+        ensures { result.now ≡ self.now }
+    {
+        self.list.as_slice()
+    }
+}

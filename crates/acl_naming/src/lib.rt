@@ -1,0 +1,19 @@
+//! Naming files: definitions of networks and services, and what each name reaches.
+#![tactic(auto)]
+
+mod bases;
+mod checking;
+mod item_words;
+mod items;
+mod lines;
+mod lookups;
+mod marking;
+mod reaching;
+mod reading;
+mod refusals;
+mod tables;
+#[cfg(test)]
+mod tests;
+
+pub use bases::{Base, Checked, check, networks_of, ports_of, read_networks, read_services};
+pub use lookups::Lookup;

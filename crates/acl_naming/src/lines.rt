@@ -1,0 +1,62 @@
+ghost use Rattle.std.specs.Prelude.{◌≡◌, ◌≤◌};
+ghost use Rattle.acl_naming.specs.Reading.{bad_byte, is_bad, trimmed, without_comment, without_end, without_front};
+
+use acl_text::{is_white, split_at_byte};
+
+/// The line before its comment.
+pub fn without_comment(line: &[u8]) -> &[u8]
+    ensures { result.now ≡ without_comment line.now }
+{
+    match split_at_byte(line, b'#') {
+        Some((front, _)) => front,
+        None => line,
+    }
+}
+
+fn is_bad(byte: u8) -> bool
+    ensures { result ≡ is_bad byte }
+{
+    !is_white(byte) && !(33 <= byte && byte <= 126)
+}
+
+/// The first byte that neither is white space nor prints.
+pub fn bad_byte(text: &[u8]) -> Option<u8>
+    ensures { result ≡ bad_byte text.now }
+{
+    for byte in text {
+        if is_bad(*byte) {
+            return Some(*byte);
+        }
+    }
+    None
+}
+
+fn without_front(text: &[u8]) -> &[u8]
+    ensures { result.now ≡ without_front text.now }
+{
+    for (i, byte) in text.iter().enumerate() {
+        if !is_white(*byte) {
+            return &text[i..];
+        }
+    }
+    &[]
+}
+
+fn without_end(text: &[u8]) -> &[u8]
+    ensures { result.now ≡ without_end text.now }
+{
+    let mut end = 0;
+    for (i, byte) in text.iter().enumerate() {
+        if !is_white(*byte) {
+            end = i + 1;
+        }
+    }
+    &text[..end]
+}
+
+/// The text without white space at its ends.
+pub fn trimmed(text: &[u8]) -> &[u8]
+    ensures { result.now ≡ trimmed text.now }
+{
+    without_end(without_front(text))
+}
