@@ -1,0 +1,4 @@
+pub mod Folders
+pub mod FirstLines
+pub mod Includes
+pub mod Paths

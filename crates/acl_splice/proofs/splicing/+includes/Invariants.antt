@@ -1,0 +1,27 @@
+use Rattle.std.proofs.Common.{◌≡◌, ◌≤◌, ◌+◌, ◌*◌, length, IfSome}
+use Rattle.acl_splice.specs.Texts.{lines_of}
+use Rattle.acl_splice.specs.Splicing.{lines_met, include_with}
+use Rattle.acl_splice.specs.Gathering.{OnlyReads}
+use Rattle.acl_splice.proofs.splicing.+includes.Given as goal
+
+-- an include line goes one level down; a line and a file stand on the same level
+abbrev pub decreases-include_file : goal.decreases-include_file
+decreases-include_file g l = 3 * l.levels
+
+abbrev pub decreases-meet_line : goal.decreases-meet_line
+decreases-meet_line g l = 3 * l.levels + 1
+
+abbrev pub decreases-add_file : goal.decreases-add_file
+decreases-add_file g l = 3 * l.levels + 2
+
+abbrev pub invariant-add_file-loop-text : goal.invariant-add_file-loop-text
+invariant-add_file-loop-text g l = record {
+  reads : OnlyReads g.T.Tree.files g.T.Tree.begun g.T.Out.faults g.T.Out.refusals g.T.Tree.list_faults g.T.Tree.read_faults l.fn.tree l.tree;
+  few : l.line + length l.rest ≤ length l.bytes;
+  goes_on : IfSome (g.T.Tree.files l.fn.tree) (λ fs.
+      lines_met (include_with l.levels fs l.folder) l.label l.file (l.line + 1) (lines_of l.rest) l.sources
+      ≡ lines_met (include_with l.levels fs l.folder) l.label l.file 1 (lines_of l.bytes) l.initial.sources);
+}
+
+abbrev pub decreases-add_file-loop-text : goal.decreases-add_file-loop-text
+decreases-add_file-loop-text g l = length l.rest
