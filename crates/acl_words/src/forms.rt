@@ -1,0 +1,28 @@
+use acl_text::{Bytes, Place};
+
+/// How a word is meant.
+#[derive(Clone, Copy, Debug, PartialEq, Eq)]
+pub enum Form {
+    /// A run of bytes without `::`.
+    Plain,
+    /// A run of bytes up to and with its first `::`.
+    Keyword,
+    /// `{`.
+    Begin,
+    /// `}`.
+    End,
+    /// The bytes between two `"`, over line ends too.
+    Quoted,
+    /// A `"` that no second one follows. The text is `"`.
+    Unclosed,
+    /// A run with a byte that no word may have. The text is the first such byte.
+    Bad,
+}
+
+/// A word of a policy: where it stands, how it is meant, and its bytes.
+#[derive(Debug, Drop)]
+pub struct Token {
+    pub place: Place,
+    pub form: Form,
+    pub text: Bytes,
+}
