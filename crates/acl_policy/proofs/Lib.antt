@@ -1,0 +1,6 @@
+pub mod DayLaws
+pub mod Lists
+pub mod Outcomes
+pub mod PolicyFit
+pub mod TargetFit
+pub mod TermFit

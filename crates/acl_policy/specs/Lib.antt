@@ -1,0 +1,11 @@
+pub mod Clashes
+pub mod Conditions
+pub mod Days
+pub mod Endings
+pub mod Policies
+pub mod Slips
+pub mod Steps
+pub mod Targets
+pub mod Terms
+pub mod Texts
+pub mod Values

@@ -1,0 +1,96 @@
+-- The values of keywords.
+use Rattle.std.specs.Prelude.{ℕ, Bool, true, false, ◌&&◌, ◌||◌, ◌==◌, nat_le, nat_lt, if◌then◌else◌, List, [], ◌∷◌, ◌++◌, length, map, is_some, Result, Ok, Err, codes}
+use Rattle.std.specs.List.{list_all}
+use Rattle.std.specs.Str.{bytes_eq}
+use Rattle.acl_packet.specs.declared.addresses.Family.TheVariants.{V4, V6}
+use Rattle.acl_packet.specs.Numbers.{protocol_in, icmp_in}
+use Rattle.acl_text.specs.declared.faults.Code.TheVariants.{Missing, Value}
+use Rattle.acl_text.specs.declared.faults.Slip.{Slip}
+use Rattle.acl_words.specs.declared.forms.Form.{Form}
+use Rattle.acl_words.specs.declared.forms.Form.TheVariants.{Plain, Quoted}
+use Rattle.acl_words.specs.declared.forms.Token.{Token}
+use Rattle.acl_policy.specs.declared.entries.Word.{Word}
+use Rattle.acl_policy.specs.declared.values.Takes.{Takes}
+use Rattle.acl_policy.specs.declared.values.Takes.TheVariants as takes
+use Rattle.acl_policy.specs.Days.{day_named}
+use Rattle.acl_policy.specs.Slips.{slip_of, refused}
+use Rattle.acl_policy.specs.Steps.{◌>>=◌}
+
+abbrev pub is_letter : ℕ → Bool
+is_letter b = nat_le 65 b && nat_le b 90 || nat_le 97 b && nat_le b 122
+
+-- Letters, digits, `-` and `_`.
+abbrev pub is_name_byte : ℕ → Bool
+is_name_byte b = is_letter b || nat_le 48 b && nat_le b 57 || b == 45 || b == 95
+
+-- A name is 1 to 128 such bytes.
+abbrev pub is_name : List ℕ → Bool
+is_name bs = nat_lt 0 (length bs) && nat_le (length bs) 128 && list_all is_name_byte bs
+
+abbrev pub is_action : List ℕ → Bool
+is_action bs = bytes_eq bs (codes "accept") || bytes_eq bs (codes "deny")
+    || bytes_eq bs (codes "reject") || bytes_eq bs (codes "reject-with-tcp-rst")
+
+abbrev pub is_option : List ℕ → Bool
+is_option bs = bytes_eq bs (codes "established") || bytes_eq bs (codes "tcp-established")
+    || bytes_eq bs (codes "tcp-initial") || bytes_eq bs (codes "rst")
+
+-- All three mean that the term is logged.
+abbrev pub is_logging : List ℕ → Bool
+is_logging bs = bytes_eq bs (codes "true") || bytes_eq bs (codes "True") || bytes_eq bs (codes "syslog")
+
+-- A type of ICMP in either family.
+abbrev pub is_icmp_type : List ℕ → Bool
+is_icmp_type bs = is_some (icmp_in V4 bs) || is_some (icmp_in V6 bs)
+
+abbrev pub is_plain : Form → Bool
+is_plain Plain = true
+is_plain _ = false
+
+abbrev pub is_quoted : Form → Bool
+is_quoted Quoted = true
+is_quoted _ = false
+
+-- Whether a text is one that a keyword of these values takes.
+abbrev pub text_fits : Takes → List ℕ → Bool
+text_fits takes.String bs = true
+text_fits takes.Any bs = true
+text_fits takes.Name bs = is_name bs
+text_fits takes.Action bs = is_action bs
+text_fits takes.Protocol bs = is_some (protocol_in bs)
+text_fits takes.IcmpType bs = is_icmp_type bs
+text_fits takes.Opt bs = is_option bs
+text_fits takes.Logging bs = is_logging bs
+text_fits takes.Day bs = is_some (day_named bs)
+
+-- A string is no word, and a word is no string; `owner::` alone takes either.
+abbrev pub form_fits : Takes → Form → Bool
+form_fits takes.String form = is_quoted form
+form_fits takes.Any form = is_plain form || is_quoted form
+form_fits _ form = is_plain form
+
+abbrev pub is_value : Takes → Token → Bool
+is_value kind w = form_fits kind w.form && text_fits kind w.text
+
+abbrev pub kept : Token → Word
+kept w = record { place = w.place; text = w.text }
+
+-- Each word is a value, or the first one that is none is the slip.
+abbrev pub all_values : Takes → List Token → Result (Unit {0}) Slip
+all_values kind [] = Ok tt
+all_values kind (w ∷ ws) = if is_value kind w then all_values kind ws else Err (refused Value w)
+
+-- A keyword has a value.
+abbrev pub valued : Takes → Token → List Token → Result (Unit {0}) Slip
+valued kind keyword [] = Err (slip_of Missing keyword)
+valued kind keyword (w ∷ ws) = all_values kind (w ∷ ws)
+
+-- The values stand behind those of the same keyword before.
+abbrev pub listed : Takes → Token → List Token → List Word → Result (List Word) Slip
+listed kind keyword ws before = valued kind keyword ws >>= λ _. Ok (before ++ map kept ws)
+
+-- A keyword has one value.
+abbrev pub single : Takes → Token → List Token → Result Word Slip
+single kind keyword [] = Err (slip_of Missing keyword)
+single kind keyword (w ∷ []) = if is_value kind w then Ok (kept w) else Err (refused Value w)
+single kind keyword (w ∷ v ∷ ws) = if is_value kind w then Err (refused Value v) else Err (refused Value w)

@@ -1,0 +1,246 @@
+ghost use Rattle.std.specs.Prelude.{◌≡◌, IfSome, map, option_map, ℤ, pos, negsuc, ◌≤ℤ◌};
+ghost use Rattle.acl_policy.specs.Steps.{Gives};
+ghost use Rattle.acl_policy.specs.Targets.{
+  is_word,
+  nothing_chosen,
+  with_policy,
+  with_mark,
+  with_families,
+  with_priority,
+  below_zero_in,
+  from_zero_in,
+  priority_in,
+  priority_word,
+  later_family,
+  single_family,
+  family_word,
+  iptables_choice,
+  nftables_choice,
+  choice,
+  chosen_from,
+};
+
+use crate::filters::Kind;
+use crate::slips::refused_at;
+use crate::values::{is_plain, is_text};
+use acl_packet::Families;
+use acl_text::{Code, Refusal, read_number};
+use acl_words::Token;
+use std::alloc::Global;
+
+/// What the words of a target line in any order have chosen so far.
+#[derive(Clone, Copy, Debug, PartialEq, Eq)]
+pub(crate) struct Choices {
+    /// Whether the policy word is `ACCEPT`, where there is one.
+    pub(crate) accept: Option<bool>,
+    /// Whether `nostate` or `noverbose` stands there.
+    pub(crate) marked: bool,
+    pub(crate) families: Option<Families>,
+    pub(crate) priority: Option<i32>,
+}
+
+/// Whether the word is no string and has that text.
+pub(crate) fn is_word(word: &Token, text: &[u8]) -> bool
+    ensures { result ≡ is_word word.now text.now }
+{
+    is_plain(word.form) && is_text(word, text)
+}
+
+fn choose_policy(choices: Choices, accept: bool) -> Option<Choices>
+    ensures { result ≡ with_policy choices accept }
+{
+    match choices.accept {
+        Some(_) => None,
+        None => Some(Choices {
+            accept: Some(accept),
+            ..choices
+        }),
+    }
+}
+
+fn mark(choices: Choices) -> Option<Choices>
+    ensures { result ≡ with_mark choices }
+{
+    if choices.marked {
+        None
+    } else {
+        Some(Choices {
+            marked: true,
+            ..choices
+        })
+    }
+}
+
+fn choose_families(choices: Choices, families: Families) -> Option<Choices>
+    ensures { result ≡ with_families choices families }
+{
+    match choices.families {
+        Some(_) => None,
+        None => Some(Choices {
+            families: Some(families),
+            ..choices
+        }),
+    }
+}
+
+fn choose_priority(choices: Choices, priority: i32) -> Option<Choices>
+    ensures { result ≡ with_priority choices priority }
+{
+    match choices.priority {
+        Some(_) => None,
+        None => Some(Choices {
+            priority: Some(priority),
+            ..choices
+        }),
+    }
+}
+
+fn read_below_zero(digits: &[u8]) -> Option<i32>
+    ensures { result ≡ below_zero_in digits.now }
+{
+    let number = read_number(digits, 32_768)?;
+    if number == 0 {
+        return None;
+    }
+    Some(-(number as i32))
+}
+
+fn read_from_zero(digits: &[u8]) -> Option<i32>
+    ensures { result ≡ from_zero_in digits.now }
+{
+    let number = read_number(digits, 32_767)?;
+    Some(number as i32)
+}
+
+/// The priority of the word: 0 to 32767, or `-` and 1 to 32768.
+fn read_priority(word: &[u8]) -> Option<i32>
+    ensures { result ≡ priority_in word.now }
+{
+    match word {
+        [b'-', digits @ ..] => read_below_zero(digits),
+        _ => read_from_zero(word),
+    }
+}
+
+/// The families of a word of a target line of the platform.
+pub(crate) fn family_word(kind: Kind, word: &Token) -> Option<Families>
+    ensures { result ≡ family_word kind word.now }
+{
+    match kind {
+        Kind::Cisco => {
+            if is_word(word, b"extended") {
+                Some(Families::Inet)
+            } else {
+                later_family(word)
+            }
+        }
+        Kind::Nftables => {
+            if is_word(word, b"inet") {
+                Some(Families::Inet)
+            } else {
+                later_family(word)
+            }
+        }
+        _ => single_family(word),
+    }
+}
+
+fn later_family(word: &Token) -> Option<Families>
+    ensures { result ≡ later_family word.now }
+{
+    if is_word(word, b"inet6") {
+        Some(Families::Inet6)
+    } else if is_word(word, b"mixed") {
+        Some(Families::Mixed)
+    } else {
+        None
+    }
+}
+
+fn single_family(word: &Token) -> Option<Families>
+    ensures { result ≡ single_family word.now }
+{
+    if is_word(word, b"inet") {
+        Some(Families::Inet)
+    } else if is_word(word, b"inet6") {
+        Some(Families::Inet6)
+    } else {
+        None
+    }
+}
+
+#[tactic(auto, unfolding(crate::specs::Targets::iptables_choice))]
+fn choose_iptables(choices: Choices, word: &Token) -> Option<Choices>
+    ensures { result ≡ iptables_choice choices word.now }
+{
+    if is_word(word, b"ACCEPT") {
+        choose_policy(choices, true)
+    } else if is_word(word, b"DROP") {
+        choose_policy(choices, false)
+    } else if is_word(word, b"nostate") {
+        mark(choices)
+    } else {
+        let families = single_family(word)?;
+        choose_families(choices, families)
+    }
+}
+
+fn priority_word(word: &Token) -> Option<i32>
+    ensures { result ≡ priority_word word.now }
+{
+    if is_plain(word.form) {
+        read_priority(word.text.as_slice())
+    } else {
+        None
+    }
+}
+
+#[tactic(auto, unfolding(crate::specs::Targets::nftables_choice))]
+fn choose_nftables(choices: Choices, word: &Token) -> Option<Choices>
+    ensures { result ≡ nftables_choice choices word.now }
+{
+    if is_word(word, b"ACCEPT") {
+        choose_policy(choices, true)
+    } else if is_word(word, b"DROP") {
+        choose_policy(choices, false)
+    } else if is_word(word, b"noverbose") {
+        mark(choices)
+    } else {
+        let priority = priority_word(word)?;
+        choose_priority(choices, priority)
+    }
+}
+
+fn choose(kind: Kind, choices: Choices, word: &Token) -> Option<Choices>
+    ensures { result ≡ choice kind choices word.now }
+{
+    match kind {
+        Kind::Iptables => choose_iptables(choices, word),
+        _ => choose_nftables(choices, word),
+    }
+}
+
+fn no_choices() -> Choices
+    ensures { result ≡ nothing_chosen }
+{
+    Choices {
+        accept: None,
+        marked: false,
+        families: None,
+        priority: None,
+    }
+}
+
+/// What the words of a target line choose that stand in any order, each at most once.
+pub(crate) fn read_choices(alloc: Global, kind: Kind, words: &[Token]) -> Result<Choices, Refusal>
+    ensures { Gives result (chosen_from kind nothing_chosen words.now) }
+{
+    let mut choices = no_choices();
+    for word in words {
+        match choose(kind, choices, word) {
+            None => return Err(Refusal::Slip(refused_at(alloc, Code::TargetLine, word)?)),
+            Some(more) => choices = more,
+        }
+    }
+    Ok(choices)
+}

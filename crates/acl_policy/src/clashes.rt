@@ -1,0 +1,126 @@
+ghost use Rattle.std.specs.Prelude.{◌≡◌, ◌≤◌, length};
+ghost use Rattle.std.specs.List.{list_any, count_by};
+ghost use Rattle.std.specs.Str.{bytes_eq};
+ghost use Rattle.acl_policy.specs.Clashes.{
+  is_mixed,
+  ipv6_list,
+  names_shared,
+  share_lists,
+  same_families,
+  common_family,
+  same_hook,
+  same_kind,
+  clash_on,
+  clash,
+};
+
+use crate::filters::{Kind, Target};
+use acl_packet::{Families, Hook};
+
+fn is_mixed(families: Families) -> bool
+    ensures { result ≡ is_mixed families }
+{
+    matches!(families, Families::Mixed)
+}
+
+/// Whether the text is the name of the IPv6 list of that target of both families.
+fn is_ipv6_list(text: &[u8], name: &[u8]) -> bool
+    ensures { result ≡ bytes_eq text.now (ipv6_list name.now) }
+{
+    text.starts_with(b"ipv6-") && &text[5..] == name
+}
+
+fn share_names(a: &[u8], a_mixed: bool, b: &[u8], b_mixed: bool) -> bool
+    ensures { result ≡ names_shared a_mixed b_mixed a.now b.now }
+{
+    a == b || (b_mixed && is_ipv6_list(a, b)) || (a_mixed && is_ipv6_list(b, a))
+}
+
+#[tactic(auto, using(crate::proofs::Lists::shared_is), unfolding(crate::specs::Clashes::share_lists))]
+fn share_lists(a: &Target, b: &Target) -> bool
+    ensures { result ≡ share_lists a.now b.now }
+{
+    let a_mixed = is_mixed(a.families);
+    let b_mixed = is_mixed(b.families);
+    share_names(a.name.as_slice(), a_mixed, b.name.as_slice(), b_mixed)
+}
+
+fn same_families(a: Families, b: Families) -> bool
+    ensures { result ≡ same_families a b }
+{
+    match a {
+        Families::Inet => matches!(b, Families::Inet),
+        Families::Inet6 => matches!(b, Families::Inet6),
+        Families::Mixed => matches!(b, Families::Mixed),
+    }
+}
+
+fn common_family(a: Families, b: Families) -> bool
+    ensures { result ≡ common_family a b }
+{
+    match a {
+        Families::Inet => !matches!(b, Families::Inet6),
+        Families::Inet6 => !matches!(b, Families::Inet),
+        Families::Mixed => true,
+    }
+}
+
+fn same_hook(a: Hook, b: Hook) -> bool
+    ensures { result ≡ same_hook a b }
+{
+    match a {
+        Hook::Input => matches!(b, Hook::Input),
+        Hook::Output => matches!(b, Hook::Output),
+        Hook::Forward => matches!(b, Hook::Forward),
+    }
+}
+
+fn same_kind(a: Kind, b: Kind) -> bool
+    ensures { result ≡ same_kind a b }
+{
+    match a {
+        Kind::Cisco => matches!(b, Kind::Cisco),
+        Kind::Juniper => matches!(b, Kind::Juniper),
+        Kind::Iptables => matches!(b, Kind::Iptables),
+        Kind::Nftables => matches!(b, Kind::Nftables),
+    }
+}
+
+fn same_name(a: &Target, b: &Target) -> bool
+    ensures { result ≡ bytes_eq a.now.name b.now.name }
+{
+    a.name.as_slice() == b.name.as_slice()
+}
+
+fn clash_on(kind: Kind, a: &Target, b: &Target) -> bool
+    ensures { result ≡ clash_on kind a.now b.now }
+{
+    match kind {
+        Kind::Cisco => share_lists(a, b),
+        Kind::Juniper => same_families(a.families, b.families) && same_name(a, b),
+        Kind::Iptables => same_hook(a.hook, b.hook) && same_families(a.families, b.families),
+        Kind::Nftables => same_hook(a.hook, b.hook) && common_family(a.families, b.families),
+    }
+}
+
+#[tactic(auto, unfolding(crate::specs::Clashes::clash))]
+fn clash(a: &Target, b: &Target) -> bool
+    ensures { result ≡ clash a.now b.now }
+{
+    same_kind(a.kind, b.kind) && clash_on(a.kind, a, b)
+}
+
+/// Whether the target clashes with one of the earlier ones.
+pub(crate) fn clashes(earlier: &[Target], target: &Target) -> bool
+    ensures { result ≡ list_any (λ e. clash e target.now) earlier.now }
+{
+    earlier.iter().any(|e| clash(e, target))
+}
+
+/// How many of the targets are of the platform.
+pub(crate) fn count_of(earlier: &[Target], kind: Kind) -> usize
+    ensures count { result ≡ count_by (λ e. same_kind e.kind kind) earlier.now }
+    ensures bound { result ≤ length earlier.now }
+{
+    earlier.iter().filter(|e| same_kind(e.kind, kind)).count()
+}

@@ -1,0 +1,290 @@
+ghost use Rattle.std.specs.Prelude.{◌≡◌, OnOk};
+ghost use Rattle.std.specs.List.{list_any};
+ghost use Rattle.std.specs.Str.{bytes_eq};
+ghost use Rattle.acl_policy.specs.Steps.{Leaves};
+ghost use Rattle.acl_policy.specs.Policies.{
+  placed,
+  header_met,
+  name_met,
+  with_block,
+  with_term,
+  word_met,
+  words_met,
+  keyword_met,
+  begin_met,
+  end_met,
+  mark_met,
+};
+
+use crate::choices::is_word;
+use crate::clashes::{clashes, count_of};
+use crate::copies::copy_target;
+use crate::drafts::{begin_draft, no_draft};
+use crate::entries::RawTerm;
+use crate::policies::Block;
+use crate::slips::{refused_at, slip_at, slip_with};
+use crate::states::{Part, State};
+use crate::target_lines::{Named, read_target_line};
+use crate::terms::meet_term_keyword;
+use crate::values::{Takes, check_values, is_text, is_value, keep};
+use acl_text::{Code, Memory, Refusal};
+use acl_words::{Form, Items, Token};
+use std::alloc::Global;
+use std::mem;
+
+const MOST_TARGETS: usize = 64;
+
+const MOST_TERMS: usize = 1024;
+
+#[tactic(auto, unfolding(crate::specs::Policies::placed))]
+fn place_target(
+    alloc: Global,
+    state: &mut State,
+    keyword: &Token,
+    named: Named,
+) -> Result<(), Refusal>
+    ensures { Leaves state.new result (placed state.old keyword.now named) }
+{
+    let Named { mut target, place } = named;
+    let earlier = state.earlier.as_slice();
+    if clashes(earlier, &target) {
+        let word = target.name.as_slice();
+        return Err(Refusal::Slip(slip_with(alloc, Code::FilterTwice, place, word)?));
+    }
+    if earlier.len() >= MOST_TARGETS {
+        return Err(Refusal::Slip(slip_at(alloc, Code::TooMany, keyword)?));
+    }
+    target.number = count_of(earlier, target.kind) as u32 + 1;
+    state.earlier.push(copy_target(alloc, &target)?)?;
+    state.targets.push(target)?;
+    Ok(())
+}
+
+#[tactic(auto, unfolding(crate::specs::Policies::header_met))]
+fn meet_header_keyword(
+    alloc: Global,
+    state: &mut State,
+    keyword: &Token,
+    values: &[Token],
+) -> Result<(), Refusal>
+    ensures { Leaves state.new result (header_met state.old keyword.now values.now) }
+{
+    if is_text(keyword, b"comment::") {
+        check_values(alloc, Takes::String, keyword, values)?;
+        Ok(())
+    } else if is_text(keyword, b"target::") {
+        let named = read_target_line(alloc, keyword, values)?;
+        place_target(alloc, state, keyword, named)
+    } else {
+        Err(Refusal::Slip(slip_at(alloc, Code::Keyword, keyword)?))
+    }
+}
+
+fn is_term_name(terms: &[RawTerm], name: &Token) -> bool
+    ensures { result ≡ list_any (λ t. bytes_eq t.name.text name.now.text) terms.now }
+{
+    terms.iter().any(|t| is_name_of(t, name))
+}
+
+fn is_name_of(term: &RawTerm, name: &Token) -> bool
+    ensures { result ≡ bytes_eq term.now.name.text name.now.text }
+{
+    term.name.text.as_slice() == name.text.as_slice()
+}
+
+#[tactic(auto, unfolding(crate::specs::Policies::name_met))]
+fn meet_name(alloc: Global, state: &mut State, word: &Token) -> Result<(), Refusal>
+    ensures { Leaves state.new result (name_met state.old word.now) }
+{
+    if !is_value(Takes::Name, word) {
+        return Err(Refusal::Slip(refused_at(alloc, Code::Syntax, word)?));
+    }
+    if is_term_name(state.terms.as_slice(), word) {
+        return Err(Refusal::Slip(slip_at(alloc, Code::TermTwice, word)?));
+    }
+    if state.term_count >= MOST_TERMS {
+        return Err(Refusal::Slip(slip_at(alloc, Code::TooMany, word)?));
+    }
+    state.draft = begin_draft(alloc, keep(alloc, word)?);
+    state.term_count += 1;
+    state.part = Part::Named;
+    Ok(())
+}
+
+/// Makes a block of the targets and terms since its header.
+pub(crate) fn end_block(alloc: Global, state: &mut State) -> Result<(), Memory>
+    ensures { OnOk result (state.new ≡ with_block state.old) }
+{
+    let targets = mem::replace(&mut state.targets, Items::new(alloc));
+    let terms = mem::replace(&mut state.terms, Items::new(alloc));
+    state.blocks.push(Block { targets, terms })
+}
+
+fn end_term(alloc: Global, state: &mut State) -> Result<(), Memory>
+    ensures { OnOk result (state.new ≡ with_term state.old) }
+{
+    let draft = mem::replace(&mut state.draft, no_draft(alloc));
+    state.terms.push(draft.term)?;
+    state.part = Part::TermEnd;
+    Ok(())
+}
+
+#[tactic(auto, unfolding(crate::specs::Policies::word_met))]
+fn meet_start(alloc: Global, state: &mut State, word: &Token) -> Result<(), Refusal>
+    ensures { Leaves state.new result (word_met Part.Start state.old word.now) }
+{
+    if is_word(word, b"header") {
+        state.part = Part::Header;
+        Ok(())
+    } else {
+        Err(Refusal::Slip(refused_at(alloc, Code::Syntax, word)?))
+    }
+}
+
+#[tactic(auto, unfolding(crate::specs::Policies::word_met))]
+fn meet_behind_header(alloc: Global, state: &mut State, word: &Token) -> Result<(), Refusal>
+    ensures { Leaves state.new result (word_met Part.HeaderEnd state.old word.now) }
+{
+    if is_word(word, b"term") {
+        state.part = Part::Term;
+        Ok(())
+    } else if is_word(word, b"header") {
+        Err(Refusal::Slip(slip_with(alloc, Code::Missing, word.place, b"term")?))
+    } else {
+        Err(Refusal::Slip(refused_at(alloc, Code::Syntax, word)?))
+    }
+}
+
+#[tactic(auto, unfolding(crate::specs::Policies::word_met))]
+fn meet_behind_term(alloc: Global, state: &mut State, word: &Token) -> Result<(), Refusal>
+    ensures { Leaves state.new result (word_met Part.TermEnd state.old word.now) }
+{
+    if is_word(word, b"term") {
+        state.part = Part::Term;
+        Ok(())
+    } else if is_word(word, b"header") {
+        end_block(alloc, state)?;
+        state.part = Part::Header;
+        Ok(())
+    } else {
+        Err(Refusal::Slip(refused_at(alloc, Code::Syntax, word)?))
+    }
+}
+
+#[tactic(auto, unfolding(crate::specs::Policies::word_met))]
+fn meet_word(alloc: Global, part: Part, state: &mut State, word: &Token) -> Result<(), Refusal>
+    ensures { Leaves state.new result (word_met part state.old word.now) }
+{
+    match part {
+        Part::Start => meet_start(alloc, state, word),
+        Part::HeaderEnd => meet_behind_header(alloc, state, word),
+        Part::Term => meet_name(alloc, state, word),
+        Part::TermEnd => meet_behind_term(alloc, state, word),
+        _ => Err(Refusal::Slip(refused_at(alloc, Code::Syntax, word)?)),
+    }
+}
+
+/// Judges words that are no values of a keyword.
+pub(crate) fn meet_words(alloc: Global, state: &mut State, words: &[Token]) -> Result<(), Refusal>
+    ensures { Leaves state.new result (words_met state.old words.now) }
+{
+    for word in words {
+        meet_word(alloc, state.part, state, word)?;
+    }
+    Ok(())
+}
+
+#[tactic(auto, unfolding(crate::specs::Policies::keyword_met))]
+fn meet_keyword(
+    alloc: Global,
+    part: Part,
+    state: &mut State,
+    keyword: &Token,
+    values: &[Token],
+) -> Result<(), Refusal>
+    ensures { Leaves state.new result (keyword_met part state.old keyword.now values.now) }
+{
+    match part {
+        Part::InHeader => meet_header_keyword(alloc, state, keyword, values),
+        Part::InTerm => {
+            meet_term_keyword(alloc, &mut state.draft, keyword, values)?;
+            Ok(())
+        }
+        _ => Err(Refusal::Slip(slip_at(alloc, Code::Syntax, keyword)?)),
+    }
+}
+
+#[tactic(auto, unfolding(crate::specs::Policies::begin_met))]
+fn meet_begin(alloc: Global, part: Part, state: &mut State, brace: &Token) -> Result<(), Refusal>
+    ensures { Leaves state.new result (begin_met part state.old brace.now) }
+{
+    match part {
+        Part::Header => {
+            state.part = Part::InHeader;
+            Ok(())
+        }
+        Part::Named => {
+            state.part = Part::InTerm;
+            Ok(())
+        }
+        _ => Err(Refusal::Slip(slip_at(alloc, Code::Syntax, brace)?)),
+    }
+}
+
+#[tactic(auto, unfolding(crate::specs::Policies::end_met))]
+fn meet_header_end(alloc: Global, state: &mut State, brace: &Token) -> Result<(), Refusal>
+    ensures { Leaves state.new result (end_met Part.InHeader state.old brace.now) }
+{
+    if state.targets.as_slice().is_empty() {
+        let slip = slip_with(alloc, Code::Missing, brace.place, b"target::")?;
+        return Err(Refusal::Slip(slip));
+    }
+    state.part = Part::HeaderEnd;
+    Ok(())
+}
+
+#[tactic(auto, unfolding(crate::specs::Policies::end_met))]
+fn meet_term_end(alloc: Global, state: &mut State, brace: &Token) -> Result<(), Refusal>
+    ensures { Leaves state.new result (end_met Part.InTerm state.old brace.now) }
+{
+    if !state.draft.acted {
+        let slip = slip_with(alloc, Code::Missing, brace.place, b"action::")?;
+        return Err(Refusal::Slip(slip));
+    }
+    end_term(alloc, state)?;
+    Ok(())
+}
+
+#[tactic(auto, unfolding(crate::specs::Policies::end_met))]
+fn meet_end(alloc: Global, part: Part, state: &mut State, brace: &Token) -> Result<(), Refusal>
+    ensures { Leaves state.new result (end_met part state.old brace.now) }
+{
+    match part {
+        Part::InHeader => meet_header_end(alloc, state, brace),
+        Part::InTerm => meet_term_end(alloc, state, brace),
+        _ => Err(Refusal::Slip(slip_at(alloc, Code::Syntax, brace)?)),
+    }
+}
+
+/// Judges a keyword or a brace with the words behind it up to the next one.
+#[tactic(auto, unfolding(crate::specs::Policies::mark_met))]
+pub(crate) fn meet_mark(
+    alloc: Global,
+    state: &mut State,
+    mark: &Token,
+    values: &[Token],
+) -> Result<(), Refusal>
+    ensures { Leaves state.new result (mark_met mark.now.form state.old mark.now values.now) }
+{
+    match mark.form {
+        Form::Keyword => meet_keyword(alloc, state.part, state, mark, values),
+        Form::Begin => {
+            meet_begin(alloc, state.part, state, mark)?;
+            meet_words(alloc, state, values)
+        }
+        _ => {
+            meet_end(alloc, state.part, state, mark)?;
+            meet_words(alloc, state, values)
+        }
+    }
+}

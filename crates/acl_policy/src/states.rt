@@ -1,0 +1,39 @@
+use crate::drafts::Draft;
+use crate::entries::RawTerms;
+use crate::filters::Targets;
+use crate::policies::Blocks;
+
+/// Where in the structure of a policy the reading stands.
+#[derive(Clone, Copy, Debug, PartialEq, Eq)]
+pub(crate) enum Part {
+    /// Before the first header.
+    Start,
+    /// Behind `header`.
+    Header,
+    InHeader,
+    /// Behind the `}` of a header.
+    HeaderEnd,
+    /// Behind `term`.
+    Term,
+    /// Behind a term's name.
+    Named,
+    InTerm,
+    /// Behind the `}` of a term.
+    TermEnd,
+}
+
+/// What was read of a policy so far.
+#[derive(Drop)]
+pub(crate) struct State {
+    /// The blocks that have ended.
+    pub(crate) blocks: Blocks,
+    /// All targets of the policy.
+    pub(crate) earlier: Targets,
+    /// The targets and the terms of the block.
+    pub(crate) targets: Targets,
+    pub(crate) terms: RawTerms,
+    /// How many terms of the policy have begun.
+    pub(crate) term_count: usize,
+    pub(crate) part: Part,
+    pub(crate) draft: Draft,
+}

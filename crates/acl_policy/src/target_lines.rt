@@ -1,0 +1,265 @@
+ghost use Rattle.std.specs.Prelude.{◌≡◌, IfOk, codes};
+ghost use Rattle.acl_policy.specs.Steps.{Gives};
+ghost use Rattle.acl_policy.specs.Targets.{
+  chain_word,
+  hook_word,
+  is_filter_name,
+  begins_with_letter,
+  name_word,
+  target_of,
+  last_family,
+  device_ending,
+  device_line,
+  policy_ending,
+  iptables_line,
+  hooked_line,
+  nftables_line,
+  line_met,
+};
+
+use crate::choices::{family_word, is_word, read_choices};
+use crate::filters::{Ending, Kind, Target};
+use crate::slips::{refused_at, slip_at};
+use crate::values::{all_name_bytes, is_letter, is_plain};
+use acl_packet::{Families, Hook};
+use acl_text::{Bytes, Code, Memory, Place, Refusal};
+use acl_words::Token;
+use std::alloc::Global;
+
+/// A target, and the place of the word that names it.
+#[derive(Drop)]
+pub(crate) struct Named {
+    pub(crate) target: Target,
+    pub(crate) place: Place,
+}
+
+fn chain_word(word: &Token) -> Option<Hook>
+    ensures { result ≡ chain_word word.now }
+{
+    if is_word(word, b"INPUT") {
+        Some(Hook::Input)
+    } else if is_word(word, b"OUTPUT") {
+        Some(Hook::Output)
+    } else if is_word(word, b"FORWARD") {
+        Some(Hook::Forward)
+    } else {
+        None
+    }
+}
+
+fn hook_word(word: &Token) -> Option<Hook>
+    ensures { result ≡ hook_word word.now }
+{
+    if is_word(word, b"input") {
+        Some(Hook::Input)
+    } else if is_word(word, b"output") {
+        Some(Hook::Output)
+    } else if is_word(word, b"forward") {
+        Some(Hook::Forward)
+    } else {
+        None
+    }
+}
+
+fn begins_with_letter(text: &[u8]) -> bool
+    ensures { result ≡ begins_with_letter text.now }
+{
+    match text {
+        [] => false,
+        [first, ..] => is_letter(*first),
+    }
+}
+
+fn is_filter_name(text: &[u8]) -> bool
+    ensures { result ≡ is_filter_name text.now }
+{
+    begins_with_letter(text) && text.len() <= 64 && all_name_bytes(text)
+}
+
+fn name_word(word: &Token) -> bool
+    ensures { result ≡ name_word word.now }
+{
+    is_plain(word.form) && is_filter_name(word.text.as_slice())
+}
+
+fn make_target(
+    alloc: Global,
+    keyword: &Token,
+    name: &Token,
+    kind: Kind,
+    families: Families,
+    hook: Hook,
+) -> Result<Target, Memory>
+    ensures { IfOk result (λ t. t ≡ target_of keyword.now name.now kind families hook) }
+{
+    Ok(Target {
+        place: keyword.place,
+        kind,
+        name: Bytes::from_slice(alloc, name.text.as_slice())?,
+        families,
+        hook,
+        stateful: false,
+        ending: Ending::Deny,
+        priority: 0,
+        verbose: true,
+        number: 0,
+    })
+}
+
+fn read_last_family(alloc: Global, kind: Kind, words: &[Token]) -> Result<Families, Refusal>
+    ensures { Gives result (last_family kind words.now) }
+{
+    match words {
+        [] => Ok(Families::Inet),
+        [word, behind @ ..] => match family_word(kind, word) {
+            None => Err(Refusal::Slip(refused_at(alloc, Code::TargetLine, word)?)),
+            Some(families) => match behind {
+                [] => Ok(families),
+                [next, ..] => Err(Refusal::Slip(refused_at(alloc, Code::TargetLine, next)?)),
+            },
+        },
+    }
+}
+
+fn device_ending(kind: Kind) -> Ending
+    ensures { result ≡ device_ending kind }
+{
+    match kind {
+        Kind::Cisco => Ending::Neighbours,
+        _ => Ending::Deny,
+    }
+}
+
+fn read_device(
+    alloc: Global,
+    kind: Kind,
+    keyword: &Token,
+    platform: &Token,
+    words: &[Token],
+) -> Result<Named, Refusal>
+    ensures { Gives result (device_line kind keyword.now platform.now words.now) }
+{
+    match words {
+        [] => Err(Refusal::Slip(slip_at(alloc, Code::TargetLine, platform)?)),
+        [name, ..] if !name_word(name) => {
+            Err(Refusal::Slip(refused_at(alloc, Code::TargetLine, name)?))
+        }
+        [name, behind @ ..] => {
+            let families = read_last_family(alloc, kind, behind)?;
+            let mut target = make_target(alloc, keyword, name, kind, families, Hook::Input)?;
+            target.ending = device_ending(kind);
+            Ok(Named {
+                target,
+                place: name.place,
+            })
+        }
+    }
+}
+
+fn policy_ending(without: Ending, accept: Option<bool>) -> Ending
+    ensures { result ≡ policy_ending without accept }
+{
+    match accept {
+        None => without,
+        Some(true) => Ending::Accept,
+        Some(false) => Ending::Deny,
+    }
+}
+
+fn read_iptables(
+    alloc: Global,
+    keyword: &Token,
+    platform: &Token,
+    words: &[Token],
+) -> Result<Named, Refusal>
+    ensures { Gives result (iptables_line keyword.now platform.now words.now) }
+{
+    let (name, behind) = match words {
+        [] => return Err(Refusal::Slip(slip_at(alloc, Code::TargetLine, platform)?)),
+        [name, behind @ ..] => (name, behind),
+    };
+    let Some(hook) = chain_word(name) else {
+        return Err(Refusal::Slip(refused_at(alloc, Code::TargetLine, name)?));
+    };
+    let choices = read_choices(alloc, Kind::Iptables, behind)?;
+    let families = choices.families.unwrap_or(Families::Inet);
+    let mut target = make_target(alloc, keyword, name, Kind::Iptables, families, hook)?;
+    target.stateful = !choices.marked;
+    target.ending = policy_ending(Ending::Left, choices.accept);
+    Ok(Named {
+        target,
+        place: name.place,
+    })
+}
+
+fn read_hooked(
+    alloc: Global,
+    keyword: &Token,
+    platform: &Token,
+    families: Families,
+    words: &[Token],
+) -> Result<Named, Refusal>
+    ensures { Gives result (hooked_line keyword.now platform.now families words.now) }
+{
+    let (name, behind) = match words {
+        [] => return Err(Refusal::Slip(slip_at(alloc, Code::TargetLine, platform)?)),
+        [name, behind @ ..] => (name, behind),
+    };
+    let Some(hook) = hook_word(name) else {
+        return Err(Refusal::Slip(refused_at(alloc, Code::TargetLine, name)?));
+    };
+    let choices = read_choices(alloc, Kind::Nftables, behind)?;
+    let mut target = make_target(alloc, keyword, name, Kind::Nftables, families, hook)?;
+    target.stateful = true;
+    target.ending = policy_ending(Ending::Deny, choices.accept);
+    target.priority = choices.priority.unwrap_or(0);
+    target.verbose = !choices.marked;
+    Ok(Named {
+        target,
+        place: name.place,
+    })
+}
+
+fn read_nftables(
+    alloc: Global,
+    keyword: &Token,
+    platform: &Token,
+    words: &[Token],
+) -> Result<Named, Refusal>
+    ensures { Gives result (nftables_line keyword.now platform.now words.now) }
+{
+    match words {
+        [] => Err(Refusal::Slip(slip_at(alloc, Code::TargetLine, platform)?)),
+        [word, behind @ ..] => match family_word(Kind::Nftables, word) {
+            None => Err(Refusal::Slip(refused_at(alloc, Code::TargetLine, word)?)),
+            Some(families) => read_hooked(alloc, keyword, platform, families, behind),
+        },
+    }
+}
+
+/// The target of the words behind `target::`, without its number.
+#[tactic(auto, unfolding(crate::specs::Targets::line_met))]
+pub(crate) fn read_target_line(
+    alloc: Global,
+    keyword: &Token,
+    values: &[Token],
+) -> Result<Named, Refusal>
+    ensures { Gives result (line_met keyword.now values.now) }
+{
+    match values {
+        [] => Err(Refusal::Slip(slip_at(alloc, Code::Missing, keyword)?)),
+        [platform, words @ ..] => {
+            if is_word(platform, b"cisco") {
+                read_device(alloc, Kind::Cisco, keyword, platform, words)
+            } else if is_word(platform, b"juniper") {
+                read_device(alloc, Kind::Juniper, keyword, platform, words)
+            } else if is_word(platform, b"iptables") {
+                read_iptables(alloc, keyword, platform, words)
+            } else if is_word(platform, b"nftables") {
+                read_nftables(alloc, keyword, platform, words)
+            } else {
+                Err(Refusal::Slip(refused_at(alloc, Code::TargetLine, platform)?))
+            }
+        }
+    }
+}

@@ -1,0 +1,269 @@
+use crate::{Policy, RawTerm, Target, Words, parse, put_target};
+use acl_host::{Day, MemTree, Whole};
+use acl_splice::{Sources, gather};
+use acl_text::{Memory, Refusal, Slip};
+use std::alloc::Global;
+use std::str;
+use std::test::Fail;
+
+fn text(bytes: &[u8]) -> &str {
+    match str::from_utf8(bytes) {
+        Ok(text) => text,
+        Err(_) => "?",
+    }
+}
+
+// The lines of the policy, which includes the other text by `#include 'v.inc'`.
+fn spliced(alloc: Global, policy: &[u8], included: &[u8]) -> Result<Sources, Memory> {
+    let mut tree = MemTree::new(alloc);
+    tree.put_file("pol/a.pol", policy)?;
+    tree.put_file("pol/v.inc", included)?;
+    match gather(alloc, &mut tree, "pol/a.pol") {
+        Ok(sources) => Ok(sources),
+        Err(_) => Err(Memory),
+    }
+}
+
+fn shown_slip(alloc: Global, slip: &Slip) -> Result<String, Memory> {
+    let word = text(slip.word.as_slice());
+    let place = slip.place;
+    Ok(format!(in alloc; "{}:{} {:?} {word}", place.file, place.line, slip.code)?)
+}
+
+// The first slip, by its file, line, code and word.
+fn slip_of(alloc: Global, sources: &Sources) -> Result<String, Memory> {
+    match parse(alloc, sources) {
+        Ok(_) => Ok(String::from_str(alloc, "none")?),
+        Err(Refusal::Slip(slip)) => shown_slip(alloc, &slip),
+        Err(Refusal::Memory) => Err(Memory),
+    }
+}
+
+fn first_slip(alloc: Global, policy: &[u8]) -> Result<String, Memory> {
+    let sources = spliced(alloc, policy, b"")?;
+    slip_of(alloc, &sources)
+}
+
+#[test]
+fn single_faults(rt: HostRuntime) -> Result<(), Fail> {
+    let table: [(&[u8], &str); 9] = [
+        (b"", "0:0 Missing header"),
+        (
+            b"header {\n target:: cisco edge extended\n}\nterm t {\n",
+            "0:4 Syntax end",
+        ),
+        (
+            b"header {\n target:: arista edge\n}\n",
+            "0:2 TargetLine arista",
+        ),
+        (
+            b"header {\n target:: cisco edge\n target:: cisco edge\n}\n",
+            "0:3 FilterTwice edge",
+        ),
+        (
+            b"header { target:: cisco e }\r\nterm t {\r\n action:: deny\r\n}\r\n",
+            "none",
+        ),
+        (b"\xef\xbb\xbfheader { }", "0:1 BadByte ?"),
+        (b"header {\n}\n", "0:2 Missing target::"),
+        (
+            b"header { target:: cisco e }\nterm t {\n}\n",
+            "0:3 Missing action::",
+        ),
+        (b"header { target:: cisco e }\nheader {", "0:2 Missing term"),
+    ];
+    for (policy, slip) in table {
+        assert_eq!(rt; first_slip(rt.alloc(), policy)?.as_str(), slip);
+    }
+    Ok(())
+}
+
+// Two faults in each policy: the one that is shown comes first.
+#[test]
+fn the_first_fault_is_shown(rt: HostRuntime) -> Result<(), Fail> {
+    let table: [(&[u8], &str); 14] = [
+        (b"header {\n target::\n \x01", "0:3 BadByte \x01"),
+        (b"header {\n target:: cisco\n \"e", "0:3 Syntax \""),
+        (b"header {\n target::\n action::", "0:2 Missing target::"),
+        (b"header {\n target:: cisco\n }", "0:2 TargetLine cisco"),
+        (
+            b"header {\n target:: cisco e\n target:: cisco e x",
+            "0:3 TargetLine x",
+        ),
+        (
+            b"header {\n target:: cisco ipv6-e\n target:: cisco e mixed\n action::",
+            "0:3 FilterTwice e",
+        ),
+        (b"header {\n action:: \x01", "0:2 Keyword action::"),
+        (b"header {\n comment:: x \x01", "0:2 Value x"),
+        (b"header { target:: cisco e } {", "0:1 Syntax {"),
+        (
+            b"header { target:: cisco e }\nterm t {\n action:: deny deny \x01",
+            "0:3 Value deny",
+        ),
+        (
+            b"header { target:: cisco e }\nterm t {\n action:: deny\n action:: x",
+            "0:4 Repeated action::",
+        ),
+        (
+            b"header { target:: cisco e }\nterm t {\n owner::",
+            "0:3 Missing owner::",
+        ),
+        (
+            b"header { target:: cisco e }\nterm t { action:: deny }\nterm \"t\" {",
+            "0:3 Syntax t",
+        ),
+        (
+            b"header { target:: cisco e }\nterm t { action:: deny }\nterm t }",
+            "0:3 TermTwice t",
+        ),
+    ];
+    for (policy, slip) in table {
+        assert_eq!(rt; first_slip(rt.alloc(), policy)?.as_str(), slip);
+    }
+    Ok(())
+}
+
+#[test]
+fn target_lines(rt: HostRuntime) -> Result<(), Fail> {
+    let table: [(&[u8], &str); 9] = [
+        (b"header { target:: cisco 1e", "0:1 TargetLine 1e"),
+        (b"header { target:: juniper e mixed", "0:1 TargetLine mixed"),
+        (
+            b"header { target:: iptables INPUT DROP DROP",
+            "0:1 TargetLine DROP",
+        ),
+        (b"header { target:: iptables input", "0:1 TargetLine input"),
+        (
+            b"header { target:: nftables mixed",
+            "0:1 TargetLine nftables",
+        ),
+        (
+            b"header { target:: nftables mixed input -0",
+            "0:1 TargetLine -0",
+        ),
+        (
+            b"header { target:: nftables mixed input 32768",
+            "0:1 TargetLine 32768",
+        ),
+        (
+            b"header { target:: nftables inet input target:: nftables mixed input",
+            "0:1 FilterTwice input",
+        ),
+        (
+            b"header { target:: iptables INPUT target:: iptables INPUT inet6 }",
+            "0:1 Missing term",
+        ),
+    ];
+    for (policy, slip) in table {
+        assert_eq!(rt; first_slip(rt.alloc(), policy)?.as_str(), slip);
+    }
+    Ok(())
+}
+
+#[test]
+fn the_place_of_a_slip_is_in_the_included_file(rt: HostRuntime) -> Result<(), Fail> {
+    let alloc = rt.alloc();
+    let policy = b"header {\n target:: cisco edge\n}\n#include 'v.inc'\n";
+    let included = b"term raw {\n verbatim:: cisco \"permit ip any any\"\n}\n";
+    let sources = spliced(alloc, policy, included)?;
+    assert_eq!(rt;
+        slip_of(alloc, &sources)?.as_str(),
+        "1:2 Keyword verbatim::"
+    );
+    Ok(())
+}
+
+fn add_words(all: &mut String, words: &Words) -> Result<(), Memory> {
+    for word in words.as_slice() {
+        all.push_str(text(word.text.as_slice()))?;
+        all.push_str(" ")?;
+    }
+    all.push_str("|")?;
+    Ok(())
+}
+
+fn shown_day(alloc: Global, day: Option<Day>) -> Result<String, Memory> {
+    match day {
+        Some(day) => Ok(format!(in alloc; "{}", day.number)?),
+        None => Ok(String::from_str(alloc, "none")?),
+    }
+}
+
+fn add_term(alloc: Global, all: &mut String, term: &RawTerm) -> Result<(), Memory> {
+    all.push_str(text(term.name.text.as_slice()))?;
+    all.push_str("|")?;
+    all.push_str(text(term.comments.as_slice()))?;
+    all.push_str("|")?;
+    add_words(all, &term.sources)?;
+    add_words(all, &term.protocols)?;
+    add_words(all, &term.destination_ports)?;
+    add_words(all, &term.icmp_types)?;
+    add_words(all, &term.options)?;
+    add_words(all, &term.platforms)?;
+    all.push_str(text(term.action.text.as_slice()))?;
+    let day = shown_day(alloc, term.expires)?;
+    let rest = format!(in alloc; " {} {day}", term.logging)?;
+    all.push_str(rest.as_str())?;
+    Ok(())
+}
+
+fn add_target(alloc: Global, all: &mut String, target: &Target) -> Result<(), Memory> {
+    let mut whole = Whole::new(alloc);
+    if put_target(&mut whole, target).is_err() {
+        return Err(Memory);
+    }
+    all.push_str(text(whole.as_slice()))?;
+    let rest = format!(in alloc;
+        " {} {} {:?} {};",
+        target.number, target.priority, target.ending, target.stateful
+    )?;
+    all.push_str(rest.as_str())?;
+    Ok(())
+}
+
+fn shown_policy(alloc: Global, policy: &Policy) -> Result<String, Memory> {
+    let mut all = String::new(alloc);
+    for block in policy.blocks.as_slice() {
+        for target in block.targets.as_slice() {
+            add_target(alloc, &mut all, target)?;
+        }
+        for term in block.terms.as_slice() {
+            add_term(alloc, &mut all, term)?;
+        }
+    }
+    Ok(all)
+}
+
+fn policy_of(alloc: Global, bytes: &[u8]) -> Result<String, Memory> {
+    let sources = spliced(alloc, bytes, b"")?;
+    match parse(alloc, &sources) {
+        Ok(policy) => shown_policy(alloc, &policy),
+        Err(Refusal::Slip(slip)) => shown_slip(alloc, &slip),
+        Err(Refusal::Memory) => Err(Memory),
+    }
+}
+
+#[test]
+fn targets_have_their_defaults(rt: HostRuntime) -> Result<(), Fail> {
+    let policy =
+        b"header { comment:: \"x\" target:: cisco e target:: juniper e target:: iptables INPUT target:: nftables inet6 output -5
+        target:: cisco f mixed target:: iptables OUTPUT nostate inet6 DROP } term t { action:: deny }";
+    assert_eq!(rt;
+        policy_of(rt.alloc(), policy)?.as_str(),
+        "cisco e extended 1 0 Neighbours false;juniper e inet 1 0 Deny false;iptables INPUT inet 1 0 Left true;nftables output inet6 1 -5 Deny true;cisco f mixed 2 0 Neighbours false;iptables OUTPUT inet6 2 0 Deny false;t||||||||deny false none"
+    );
+    Ok(())
+}
+
+#[test]
+fn the_words_of_a_term(rt: HostRuntime) -> Result<(), Fail> {
+    let policy = b"header { target:: cisco e } term t { source-address:: A B# c
+        comment:: \"\" \"a # b\" source-address::C protocol:: 6 tcp destination-port:: term icmp-type:: echo-reply packet-too-big
+        option:: rst owner:: \"me\" logging:: True expiration:: 2026-01-15 platform:: arista comment:: \"c\" action:: reject }";
+    assert_eq!(rt;
+        policy_of(rt.alloc(), policy)?.as_str(),
+        "cisco e extended 1 0 Neighbours false;t| a # b c|A B C |6 tcp |term |echo-reply packet-too-big |rst |arista |reject true 20468"
+    );
+    Ok(())
+}

@@ -1,0 +1,232 @@
+ghost use Rattle.std.specs.Prelude.{◌≡◌, ◌++◌, IfOk, OnOk, map};
+ghost use Rattle.std.specs.List.{list_all};
+ghost use Rattle.std.specs.Str.{bytes_eq};
+ghost use Rattle.acl_policy.specs.Steps.{Gives, Leaves};
+ghost use Rattle.acl_policy.specs.Values.{
+  is_letter,
+  is_name_byte,
+  is_name,
+  is_action,
+  is_option,
+  is_logging,
+  is_icmp_type,
+  is_plain,
+  is_quoted,
+  text_fits,
+  form_fits,
+  is_value,
+  kept,
+  all_values,
+  valued,
+  listed,
+  single,
+};
+
+use crate::days::day_of;
+use crate::entries::{Word, Words};
+use crate::slips::{refused_at, slip_at};
+use acl_packet::{Family, icmp_number, protocol_number};
+use acl_text::{Bytes, Code, Memory, Refusal};
+use acl_words::{Form, Token};
+use std::alloc::Global;
+
+/// What the values of a keyword are.
+#[derive(Clone, Copy, Debug, PartialEq, Eq)]
+pub(crate) enum Takes {
+    /// A string.
+    String,
+    /// A word or a string.
+    Any,
+    Name,
+    Action,
+    Protocol,
+    IcmpType,
+    Opt,
+    Logging,
+    Day,
+}
+
+/// Whether the word has that text.
+pub(crate) fn is_text(word: &Token, text: &[u8]) -> bool
+    ensures { result ≡ bytes_eq word.now.text text.now }
+{
+    word.text.as_slice() == text
+}
+
+pub(crate) fn is_letter(byte: u8) -> bool
+    ensures { result ≡ is_letter byte }
+{
+    (b'A' <= byte && byte <= b'Z') || (b'a' <= byte && byte <= b'z')
+}
+
+pub(crate) fn is_name_byte(byte: u8) -> bool
+    ensures { result ≡ is_name_byte byte }
+{
+    is_letter(byte) || (b'0' <= byte && byte <= b'9') || byte == b'-' || byte == b'_'
+}
+
+pub(crate) fn all_name_bytes(text: &[u8]) -> bool
+    ensures { result ≡ list_all is_name_byte text.now }
+{
+    text.iter().all(|byte| is_name_byte(*byte))
+}
+
+fn is_name(text: &[u8]) -> bool
+    ensures { result ≡ is_name text.now }
+{
+    0 < text.len() && text.len() <= 128 && all_name_bytes(text)
+}
+
+fn is_action(text: &[u8]) -> bool
+    ensures { result ≡ is_action text.now }
+{
+    if text == b"accept".as_slice() || text == b"deny".as_slice() {
+        return true;
+    }
+    text == b"reject".as_slice() || text == b"reject-with-tcp-rst".as_slice()
+}
+
+fn is_option(text: &[u8]) -> bool
+    ensures { result ≡ is_option text.now }
+{
+    if text == b"established".as_slice() || text == b"tcp-established".as_slice() {
+        return true;
+    }
+    text == b"tcp-initial".as_slice() || text == b"rst".as_slice()
+}
+
+fn is_logging(text: &[u8]) -> bool
+    ensures { result ≡ is_logging text.now }
+{
+    text == b"true".as_slice() || text == b"True".as_slice() || text == b"syslog".as_slice()
+}
+
+fn is_icmp_type(text: &[u8]) -> bool
+    ensures { result ≡ is_icmp_type text.now }
+{
+    icmp_number(Family::V4, text).is_some() || icmp_number(Family::V6, text).is_some()
+}
+
+fn text_fits(kind: Takes, text: &[u8]) -> bool
+    ensures { result ≡ text_fits kind text.now }
+{
+    match kind {
+        Takes::String => true,
+        Takes::Any => true,
+        Takes::Name => is_name(text),
+        Takes::Action => is_action(text),
+        Takes::Protocol => protocol_number(text).is_some(),
+        Takes::IcmpType => is_icmp_type(text),
+        Takes::Opt => is_option(text),
+        Takes::Logging => is_logging(text),
+        Takes::Day => day_of(text).is_some(),
+    }
+}
+
+pub(crate) fn is_plain(form: Form) -> bool
+    ensures { result ≡ is_plain form }
+{
+    matches!(form, Form::Plain)
+}
+
+fn is_quoted(form: Form) -> bool
+    ensures { result ≡ is_quoted form }
+{
+    matches!(form, Form::Quoted)
+}
+
+fn form_fits(kind: Takes, form: Form) -> bool
+    ensures { result ≡ form_fits kind form }
+{
+    match kind {
+        Takes::String => is_quoted(form),
+        Takes::Any => is_plain(form) || is_quoted(form),
+        _ => is_plain(form),
+    }
+}
+
+/// Whether a keyword of these values takes the word.
+pub(crate) fn is_value(kind: Takes, word: &Token) -> bool
+    ensures { result ≡ is_value kind word.now }
+{
+    form_fits(kind, word.form) && text_fits(kind, word.text.as_slice())
+}
+
+/// A copy of the word.
+pub(crate) fn keep(alloc: Global, word: &Token) -> Result<Word, Memory>
+    ensures { IfOk result (λ w. w ≡ kept word.now) }
+{
+    Ok(Word {
+        place: word.place,
+        text: Bytes::from_slice(alloc, word.text.as_slice())?,
+    })
+}
+
+fn check_all(alloc: Global, kind: Takes, values: &[Token]) -> Result<(), Refusal>
+    ensures { Gives result (all_values kind values.now) }
+{
+    for value in values {
+        if !is_value(kind, value) {
+            return Err(Refusal::Slip(refused_at(alloc, Code::Value, value)?));
+        }
+    }
+    Ok(())
+}
+
+/// Checks that the keyword has values, and that each of them is one that it takes.
+pub(crate) fn check_values(
+    alloc: Global,
+    kind: Takes,
+    keyword: &Token,
+    values: &[Token],
+) -> Result<(), Refusal>
+    ensures { Gives result (valued kind keyword.now values.now) }
+{
+    match values {
+        [] => Err(Refusal::Slip(slip_at(alloc, Code::Missing, keyword)?)),
+        [_, ..] => check_all(alloc, kind, values),
+    }
+}
+
+fn keep_all(alloc: Global, words: &mut Words, values: &[Token]) -> Result<(), Memory>
+    ensures { OnOk result (words.new ≡ words.old ++ map kept values.now) }
+{
+    for value in values {
+        words.push(keep(alloc, value)?)?;
+    }
+    Ok(())
+}
+
+/// Adds the values of a keyword that takes any number of them.
+pub(crate) fn push_values(
+    alloc: Global,
+    kind: Takes,
+    words: &mut Words,
+    keyword: &Token,
+    values: &[Token],
+) -> Result<(), Refusal>
+    ensures { Leaves words.new result (listed kind keyword.now values.now words.old) }
+{
+    check_values(alloc, kind, keyword, values)?;
+    keep_all(alloc, words, values)?;
+    Ok(())
+}
+
+/// The value of a keyword that takes one.
+pub(crate) fn one_value(
+    alloc: Global,
+    kind: Takes,
+    keyword: &Token,
+    values: &[Token],
+) -> Result<Word, Refusal>
+    ensures { Gives result (single kind keyword.now values.now) }
+{
+    match values {
+        [] => Err(Refusal::Slip(slip_at(alloc, Code::Missing, keyword)?)),
+        [value, ..] if !is_value(kind, value) => {
+            Err(Refusal::Slip(refused_at(alloc, Code::Value, value)?))
+        }
+        [value] => Ok(keep(alloc, value)?),
+        [_, second, ..] => Err(Refusal::Slip(refused_at(alloc, Code::Value, second)?)),
+    }
+}
