@@ -1,0 +1,99 @@
+-- Documents of Cisco IOS access lists, and which of them are valid.
+-- Sources: Cisco IOS Security Command Reference, "access-list (IP extended)" and "ip access-list";
+-- Cisco IOS IPv6 Command Reference, "ipv6 access-list", "permit (IPv6)" and "deny (IPv6)".
+use Rattle.std.specs.Prelude.{◌≡◌, ℕ, ◌<◌, ◌≤◌, Bool, true, false, not, ◌&&◌, ◌||◌, ◌==◌, List, [], ◌∷◌, ◌++◌, map, codes, Option, None, Some, IfSome, is_none}
+use Rattle.std.specs.List.{list_any, AllByRecursion}
+use Rattle.std.specs.Str.{bytes_eq}
+use Rattle.acl_packet.specs.declared.addresses.Family.{Family}
+use Rattle.acl_packet.specs.declared.addresses.Family.TheVariants.{V4, V6}
+use Rattle.acl_packet.specs.declared.addresses.Families.{Families}
+use Rattle.acl_packet.specs.declared.addresses.Families.TheVariants.{Inet, Inet6, Mixed}
+use Rattle.acl_packet.specs.declared.addresses.Prefix.{Prefix}
+use Rattle.acl_packet.specs.Addresses.{IsPrefix}
+use Rattle.acl_text.specs.Names.{is_filter_name, is_safe_text}
+use Rattle.cisco_lang.specs.declared.documents.Section.{Section}
+use Rattle.cisco_lang.specs.declared.documents.AccessList.{AccessList}
+use Rattle.cisco_lang.specs.declared.documents.Item.{Item}
+use Rattle.cisco_lang.specs.declared.documents.Item.TheVariants.{Remark, Entry as AnEntry}
+use Rattle.cisco_lang.specs.declared.documents.Entry.{Entry}
+use Rattle.cisco_lang.specs.declared.documents.Flags.{Flags}
+use Rattle.cisco_lang.specs.declared.documents.Flags.TheVariants.{SynNotAck}
+
+-- The protocol that the word `icmp` means: ICMP in an IPv4 list, ICMPv6 in an IPv6 list.
+abbrev pub icmp_of : Family → ℕ
+icmp_of V4 = 1
+icmp_of V6 = 58
+
+abbrev pub is_proto : Option ℕ → ℕ → Bool
+is_proto None number = false
+is_proto (Some proto) number = proto == number
+
+abbrev pub IsPrefixOf : Family → Prefix → Type 0
+IsPrefixOf family prefix = (prefix.family ≡ family) × IsPrefix prefix
+
+-- A range of ports, from the low one to the high one.
+abbrev pub IsPortRange : ℕ × ℕ → Type 0
+IsPortRange ports = (ports.0 ≤ ports.1) × (ports.1 < 65536)
+
+-- Ports belong to TCP or UDP, a type to the family's ICMP, flags to TCP, and `match-all` to IPv4 lists.
+abbrev pub match_all_fits : Family → Option Flags → Bool
+match_all_fits V6 (Some SynNotAck) = false
+match_all_fits family flags = true
+
+abbrev pub ports_fit : Entry → Bool
+ports_fit e = is_none e.sport && is_none e.dport || (is_proto e.proto 6 || is_proto e.proto 17)
+
+abbrev pub type_fits : Family → Entry → Bool
+type_fits family e = is_none e.itype || is_proto e.proto (icmp_of family)
+
+abbrev pub flags_fit : Family → Entry → Bool
+flags_fit family e = (is_none e.flags || is_proto e.proto 6) && match_all_fits family e.flags
+
+abbrev pub parts_fit : Family → Entry → Bool
+parts_fit family e = ports_fit e && (type_fits family e && flags_fit family e)
+
+-- An entry of a list of the family. Protocol 0 and type 255 have no number here.
+pub record IsEntry (family : Family) (e : Entry) : Type 0 where
+  pub protocol : IfSome e.proto (λ n. (1 ≤ n) × (n ≤ 255))
+  pub source : IsPrefixOf family e.src
+  pub source_ports : IfSome e.sport IsPortRange
+  pub destination : IsPrefixOf family e.dst
+  pub destination_ports : IfSome e.dport IsPortRange
+  pub icmp_type : IfSome e.itype (λ n. n ≤ 254)
+  pub fit : parts_fit family e ≡ true
+
+abbrev pub IsItem : Family → Item → Type 0
+IsItem family (Remark text) = is_safe_text text ≡ true
+IsItem family (AnEntry e) = IsEntry family e
+
+abbrev pub IsList : AccessList → Type 0
+IsList l = AllByRecursion (IsItem l.family) l.items
+
+-- The lists of a section, by family and name. A list of each family stands in a mixed one.
+abbrev pub heads_of : Families → List ℕ → List (Family × List ℕ)
+heads_of Inet name = (V4, name) ∷ []
+heads_of Inet6 name = (V6, name) ∷ []
+heads_of Mixed name = (V4, name) ∷ (V6, codes "ipv6-" ++ name) ∷ []
+
+pub record IsSection (s : Section) : Type 0 where
+  pub named : is_filter_name s.name ≡ true
+  pub heads : map (λ l. (l.family, l.name)) s.lists ≡ heads_of s.families s.name
+  pub lists : AllByRecursion IsList s.lists
+
+-- Two sections clash where a list of the one has the name of a list of the other.
+abbrev pub clash : Section → Section → Bool
+clash s t = list_any (λ a. list_any (λ b. bytes_eq a.name b.name) t.lists) s.lists
+
+-- No two sections clash.
+abbrev pub names_differ : List Section → Bool
+names_differ [] = true
+names_differ (s ∷ sections) = not (list_any (λ t. clash s t) sections) && names_differ sections
+
+-- A section of the one document clashes with one of the other.
+abbrev pub share_name : List Section → List Section → Bool
+share_name doc other = list_any (λ s. list_any (λ t. clash s t) other) doc
+
+-- A document is its sections, none of which clash.
+pub record IsDocument (doc : List Section) : Type 0 where
+  pub sections : AllByRecursion IsSection doc
+  pub differ : names_differ doc ≡ true

@@ -1,0 +1,111 @@
+-- The text of a document of Cisco IOS access lists.
+-- Sources: Cisco IOS Security Command Reference, "access-list (IP extended)", "ip access-list" and "remark";
+-- Cisco IOS IPv6 Command Reference, "ipv6 access-list", "permit (IPv6)" and "deny (IPv6)".
+use Rattle.std.specs.Prelude.{◌≡◌, ℕ, Bool, true, false, ◌==◌, if◌then◌else◌, List, [], ◌∷◌, ◌++◌, map, flat_map, codes, Option, None, Some}
+use Rattle.std.specs.Fmt.{decimal}
+use Rattle.acl_packet.specs.declared.addresses.Family.{Family}
+use Rattle.acl_packet.specs.declared.addresses.Family.TheVariants.{V4, V6}
+use Rattle.acl_packet.specs.declared.addresses.Families.{Families}
+use Rattle.acl_packet.specs.declared.addresses.Families.TheVariants.{Inet, Inet6, Mixed}
+use Rattle.acl_packet.specs.declared.addresses.Prefix.{Prefix}
+use Rattle.acl_packet.specs.Addresses.{width_of}
+use Rattle.acl_text.specs.Lines.{line_of, text_of_lines}
+use Rattle.acl_text.specs.Addresses.{address_text, prefix_text, wildcard_text}
+use Rattle.cisco_lang.specs.declared.documents.Section.{Section}
+use Rattle.cisco_lang.specs.declared.documents.AccessList.{AccessList}
+use Rattle.cisco_lang.specs.declared.documents.Item.{Item}
+use Rattle.cisco_lang.specs.declared.documents.Item.TheVariants.{Remark, Entry as AnEntry}
+use Rattle.cisco_lang.specs.declared.documents.Entry.{Entry}
+use Rattle.cisco_lang.specs.declared.documents.Flags.{Flags}
+use Rattle.cisco_lang.specs.declared.documents.Flags.TheVariants.{Established, Rst, SynNotAck}
+use Rattle.cisco_lang.specs.Documents.{icmp_of, IsDocument}
+
+abbrev pub action_word : Bool → List ℕ
+action_word true = codes "permit"
+action_word false = codes "deny"
+
+-- The word for all protocols, and that for one.
+abbrev pub any_word : Family → List ℕ
+any_word V4 = codes "ip"
+any_word V6 = codes "ipv6"
+
+unfoldable pub proto_word : Family → Option ℕ → List ℕ
+proto_word family None = any_word family
+proto_word family (Some n) = if n == 6 then codes "tcp" else if n == 17 then codes "udp" else if n == icmp_of family then codes "icmp" else decimal n
+
+-- An address and its wildcard, whose set bits are ignored; in IPv6 an address and its length.
+abbrev pub masked_words : Family → Prefix → List (List ℕ)
+masked_words V4 p = address_text V4 p.first ∷ wildcard_text p.len ∷ []
+masked_words V6 p = prefix_text p ∷ []
+
+unfoldable pub address_words : Family → Prefix → List (List ℕ)
+address_words family p = if p.len == 0 then codes "any" ∷ [] else if p.len == width_of family then codes "host" ∷ address_text family p.first ∷ [] else masked_words family p
+
+unfoldable pub ports_words : Option (ℕ × ℕ) → List (List ℕ)
+ports_words None = []
+ports_words (Some p) = if p.0 == p.1 then codes "eq" ∷ decimal p.0 ∷ [] else codes "range" ∷ decimal p.0 ∷ decimal p.1 ∷ []
+
+unfoldable pub type_words : Option ℕ → List (List ℕ)
+type_words None = []
+type_words (Some n) = decimal n ∷ []
+
+unfoldable pub flags_words : Option Flags → List (List ℕ)
+flags_words None = []
+flags_words (Some Established) = codes "established" ∷ []
+flags_words (Some Rst) = codes "rst" ∷ []
+flags_words (Some SynNotAck) = codes "match-all" ∷ codes "+syn" ∷ codes "-ack" ∷ []
+
+unfoldable pub log_words : Bool → List (List ℕ)
+log_words true = codes "log" ∷ []
+log_words false = []
+
+-- An end of the packets, where they come from or go to, is an address and its ports.
+unfoldable pub end_words : Family → Prefix → Option (ℕ × ℕ) → List (List ℕ)
+end_words family p ports = address_words family p ++ ports_words ports
+
+-- The words of an entry of a list of the family.
+unfoldable pub entry_words : Family → Entry → List (List ℕ)
+entry_words family e = action_word e.permit ∷ proto_word family e.proto ∷ (end_words family e.src e.sport
+    ++ (end_words family e.dst e.dport ++ (type_words e.itype ++ (flags_words e.flags ++ log_words e.log))))
+
+unfoldable pub item_line : Family → Item → List ℕ
+item_line family (Remark text) = codes " remark " ++ text
+item_line family (AnEntry e) = line_of 1 (entry_words family e)
+
+-- The line that begins a list, the line before it that takes an older list of that name away, and the line behind it.
+abbrev pub head_line : Family → List ℕ → List ℕ
+head_line V4 name = codes "ip access-list extended " ++ name
+head_line V6 name = codes "ipv6 access-list " ++ name
+
+abbrev pub removal_line : Family → List ℕ → List ℕ
+removal_line family name = codes "no " ++ head_line family name
+
+abbrev pub exit_line : List ℕ
+exit_line = codes "exit"
+
+unfoldable pub list_lines : AccessList → List (List ℕ)
+list_lines l = removal_line l.family l.name ∷ head_line l.family l.name ∷ (map (item_line l.family) l.items ++ exit_line ∷ [])
+
+abbrev pub families_word : Families → List ℕ
+families_word Inet = codes "extended"
+families_word Inet6 = codes "inet6"
+families_word Mixed = codes "mixed"
+
+-- A section begins with a comment that names its target.
+abbrev pub section_words : List ℕ → Families → List (List ℕ)
+section_words name families = codes "!" ∷ codes "cisco" ∷ name ∷ families_word families ∷ []
+
+unfoldable pub section_lines : Section → List (List ℕ)
+section_lines s = line_of 0 (section_words s.name s.families) ∷ flat_map list_lines s.lists
+
+abbrev pub document_lines : List Section → List (List ℕ)
+document_lines doc = flat_map section_lines doc
+
+-- The text of a document is its sections, one behind another.
+abbrev pub text_of : List Section → List ℕ
+text_of doc = text_of_lines (document_lines doc)
+
+-- The bytes spell the document: it is valid, and they are its text.
+pub record Spells (bytes : List ℕ) (doc : List Section) : Type 0 where
+  pub valid : IsDocument doc
+  pub written : bytes ≡ text_of doc

@@ -1,0 +1,220 @@
+ghost use Rattle.std.specs.Prelude.{◌≡◌, ◌<◌, ◌^◌, ◌≤◌, nat_lt, length, Option};
+ghost use Rattle.acl_packet.specs.Packets.{IsPacket};
+ghost use Rattle.acl_packet.specs.Addresses.{has_address, width_of};
+ghost use Rattle.acl_text.specs.Addresses.{same_family};
+ghost use Rattle.cisco_lang.specs.Walks.{proto_holds, port_holds, flags_hold, has_flag, entry_holds, ends_hold, ports_hold, tests_hold, is_entry, silent, decided_by, is_neighbour, ending, first_holding, has_entries, walk, covers, items_of, section_outcome, outcome_of};
+
+use acl_packet::{Families, Family, Outcome, Packet, Prefix, Verdict};
+
+const SYN: u8 = 2;
+
+const RST: u8 = 4;
+
+const ACK: u8 = 16;
+
+use crate::documents::{AccessList, Doc, Entry, Flags, Item, Section};
+
+/// The number of sections of a document.
+pub fn sections(doc: &Doc) -> usize
+    ensures { result ≡ length doc.now }
+{
+    doc.as_slice().len()
+}
+
+/// What the section at that place, counted from 0, does to the packet. `None` exactly where there is no such
+/// section, or the packet's family is none of the section's.
+pub fn outcome(doc: &Doc, which: usize, packet: &Packet) -> Option<Outcome>
+    requires { IsPacket packet.now }
+    ensures { result ≡ outcome_of doc.now which packet.now }
+{
+    section_outcome(doc.as_slice().get(which)?, packet)
+}
+
+#[tactic(auto, unfolding(crate::specs::Walks::section_outcome))]
+fn section_outcome(section: &Section, packet: &Packet) -> Option<Outcome>
+    ensures { result ≡ section_outcome section.now packet.now }
+{
+    if covers(section.families, packet.family) {
+        let items = items_of(packet.family, section.lists.as_slice());
+        Some(walk(packet.family, items, packet))
+    } else {
+        None
+    }
+}
+
+fn covers(families: Families, family: Family) -> bool
+    ensures { result ≡ covers families family }
+{
+    match families {
+        Families::Inet => family == Family::V4,
+        Families::Inet6 => family == Family::V6,
+        Families::Mixed => true,
+    }
+}
+
+#[tactic(auto, unfolding(crate::specs::Walks::items_of))]
+fn items_of(family: Family, lists: &[AccessList]) -> &[Item]
+    ensures { result.now ≡ items_of family lists.now }
+{
+    for list in lists {
+        if list.family == family {
+            return list.items.as_slice();
+        }
+    }
+    &[]
+}
+
+#[tactic(auto, unfolding(crate::specs::Walks::walk))]
+fn walk(family: Family, items: &[Item], packet: &Packet) -> Outcome
+    ensures { result ≡ walk family items.now packet.now }
+{
+    if !has_entries(items) {
+        return silent(true);
+    }
+    match first_holding(items, packet) {
+        Some(outcome) => outcome,
+        None => ending(family, packet),
+    }
+}
+
+fn has_entries(items: &[Item]) -> bool
+    ensures { result ≡ has_entries items.now }
+{
+    items.iter().any(|item| is_entry(item))
+}
+
+fn is_entry(item: &Item) -> bool
+    ensures { result ≡ is_entry item.now }
+{
+    match item {
+        Item::Entry(_) => true,
+        Item::Remark(_) => false,
+    }
+}
+
+#[tactic(auto, unfolding(crate::specs::Walks::first_holding))]
+fn first_holding(items: &[Item], packet: &Packet) -> Option<Outcome>
+    ensures { result ≡ first_holding items.now packet.now }
+{
+    for item in items {
+        if let Item::Entry(entry) = item {
+            if entry_holds(entry, packet) {
+                return Some(decided_by(entry));
+            }
+        }
+    }
+    None
+}
+
+fn silent(accepted: bool) -> Outcome
+    ensures { result ≡ silent accepted }
+{
+    Outcome {
+        verdict: if accepted {
+            Verdict::Accept
+        } else {
+            Verdict::Deny
+        },
+        logged: false,
+    }
+}
+
+fn decided_by(entry: &Entry) -> Outcome
+    ensures { result ≡ decided_by entry.now }
+{
+    Outcome {
+        verdict: silent(entry.permit).verdict,
+        logged: entry.log,
+    }
+}
+
+fn ending(family: Family, packet: &Packet) -> Outcome
+    ensures { result ≡ ending family packet.now }
+{
+    match family {
+        Family::V4 => silent(false),
+        Family::V6 => silent(is_neighbour(packet)),
+    }
+}
+
+fn is_neighbour(packet: &Packet) -> bool
+    ensures { result ≡ is_neighbour packet.now }
+{
+    packet.proto == 58 && (packet.itype == 136 || packet.itype == 135)
+}
+
+fn entry_holds(entry: &Entry, packet: &Packet) -> bool
+    ensures { result ≡ entry_holds entry.now packet.now }
+{
+    ends_hold(entry, packet) && ports_hold(entry, packet) && tests_hold(entry, packet)
+}
+
+fn ends_hold(entry: &Entry, packet: &Packet) -> bool
+    ensures { result ≡ ends_hold entry.now packet.now }
+{
+    proto_holds(entry.proto, packet.proto)
+        && has_address(&entry.src, packet.src)
+        && has_address(&entry.dst, packet.dst)
+}
+
+fn ports_hold(entry: &Entry, packet: &Packet) -> bool
+    ensures { result ≡ ports_hold entry.now packet.now }
+{
+    port_holds(entry.sport, packet.sport) && port_holds(entry.dport, packet.dport)
+}
+
+fn tests_hold(entry: &Entry, packet: &Packet) -> bool
+    ensures { result ≡ tests_hold entry.now packet.now }
+{
+    proto_holds(entry.itype, packet.itype) && flags_hold(entry.flags, packet.flags)
+}
+
+// Also whether a type is the wanted one.
+fn proto_holds(wanted: Option<u8>, number: u8) -> bool
+    ensures { result ≡ proto_holds wanted number }
+{
+    match wanted {
+        Some(wanted) => number == wanted,
+        None => true,
+    }
+}
+
+fn port_holds(range: Option<(u16, u16)>, port: u16) -> bool
+    ensures { result ≡ port_holds range port }
+{
+    match range {
+        Some((low, high)) => low <= port && port <= high,
+        None => true,
+    }
+}
+
+fn flags_hold(test: Option<Flags>, flags: u8) -> bool
+    ensures { result ≡ flags_hold test flags }
+{
+    match test {
+        None => true,
+        Some(Flags::Established) => has_flag(flags, ACK) || has_flag(flags, RST),
+        Some(Flags::Rst) => has_flag(flags, RST),
+        Some(Flags::SynNotAck) => has_flag(flags, SYN) && !has_flag(flags, ACK),
+    }
+}
+
+fn has_flag(flags: u8, flag: u8) -> bool
+    ensures { result ≡ has_flag flags flag }
+{
+    flags & flag != 0
+}
+
+fn has_address(prefix: &Prefix, address: u128) -> bool
+    ensures { result ≡ has_address prefix.now address }
+{
+    let free = prefix.family.width().saturating_sub(prefix.len);
+    prefix.first <= address && is_below_power(address - prefix.first, free)
+}
+
+fn is_below_power(offset: u128, free: u8) -> bool
+    requires { free ≤ 128 }
+    ensures { result ≡ nat_lt offset (2 ^ free) }
+{
+    free == 128 || offset < 2u128.pow(u32::from(free))
+}
