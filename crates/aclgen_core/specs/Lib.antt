@@ -1,0 +1,15 @@
+pub mod Words
+pub mod Names
+pub mod Views
+pub mod Statuses
+pub mod Policies
+pub mod Paths
+pub mod FaultLines
+pub mod Naming
+pub mod Networks
+pub mod Meaning
+pub mod Job
+pub mod Reports
+pub mod Steps
+pub mod Endings
+pub mod Pieces

@@ -1,0 +1,6 @@
+-- What the definitions see of the code's values that hold references.
+use Rattle.aclgen_core.specs.Words.{Options}
+use Rattle.aclgen_core.specs.declared.command_line.Options.{Options as CodeOptions}
+
+abbrev pub options_view : CodeOptions → Options
+options_view o = record { policy = o.policy.now; definitions = o.definitions.now; output = o.output.now }
