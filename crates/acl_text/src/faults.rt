@@ -62,6 +62,8 @@ pub enum Code {
     NotYet,
     /// More include lines than the limit.
     IncludeCount,
+    /// A filter would have more entries than the limit.
+    TooManyEntries,
 }
 
 /// A fault of the input by the number of its file: what is wrong, where, and the word in error.
