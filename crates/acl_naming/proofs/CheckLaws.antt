@@ -1,5 +1,5 @@
 -- Names that are defined nowhere, and definitions that reach no cycle.
-use Rattle.std.proofs.Common.{◌≡◌, ℕ, ◌+◌, ◌<◌, Bool, true, false, drop, slice_set, replicate, ◌==◌, List, [], ◌∷◌, length, Option, None, Some, inl, inr, ap, sym, ◌∙◌}
+use Rattle.std.proofs.Common.{◌≡◌, ℕ, zero, suc, ◌+◌, ◌<◌, Bool, true, false, drop, slice_set, replicate, ◌==◌, List, [], ◌∷◌, length, Option, None, Some, inl, inr, refl, ap, sym, ◌∙◌, arith}
 use Rattle.std.proofs.lemmas.Bool.{and_parts, or_cases, eqb-true}
 use Rattle.std.proofs.lemmas.List.{drop_more}
 use Rattle.acl_naming.specs.declared.items.Item.{Item}
@@ -9,6 +9,7 @@ use Rattle.acl_naming.specs.Definitions.{Definition, index_of, items_at}
 use Rattle.acl_naming.specs.Graph.{targets, graph_of}
 use Rattle.acl_naming.specs.Marks.{marked, all_marked, among, leads, IsClosed}
 use Rattle.acl_naming.specs.Reach.{ReachesItself}
+use Rattle.acl_naming.specs.Settling.{steps_left}
 use Rattle.acl_naming.proofs.MarkLaws.{mark_only, mark_kept}
 use Rattle.acl_naming.proofs.GraphLaws.{option_cases, nowhere, items_get, leads_at, leads_all}
 use Rattle.acl_naming.proofs.WalkLaws.{blank_unmarked, closed_walk, undefined_walk}
@@ -75,3 +76,15 @@ settled_none base m e = record {
   closed = λ i j h l. absurd (blank_unmarked (length base) i (ap (λ n. marked n i) (sym e) ∙ h));
   no_cycle = λ name i f h r. blank_unmarked (length base) i (ap (λ n. marked n i) (sym e) ∙ h);
 }
+
+-- ---- the steps by which definitions are settled
+
+-- a definition that is entered takes its own steps away
+pub left_entered : (base : List Definition) (m : List Bool) (i : ℕ) → i < length base → length m ≡ length base → marked m i ≡ false
+    → steps_left base m ≡ suc (length (items_at base i) + steps_left base (slice_set m i true))
+left_entered [] m i h f e = absurd (omega arith)
+left_entered (d ∷ ds) [] i h f e = absurd (omega arith)
+left_entered (d ∷ ds) (true ∷ m) zero h f e = absurd (cc)
+left_entered (d ∷ ds) (false ∷ m) zero h f e = refl
+left_entered (d ∷ ds) (true ∷ m) (suc i) h f e = left_entered ds m i (omega arith) (omega arith) e
+left_entered (d ∷ ds) (false ∷ m) (suc i) h f e = omega (arith, left_entered ds m i (omega arith) (omega arith) e)

@@ -1,11 +1,10 @@
 -- Names and the places of their definitions.
-use Rattle.std.proofs.Common.{◌≡◌, ℕ, zero, suc, ◌+◌, ◌<◌, Bool, true, ◌==◌, ◌⊎◌, if◌then◌else◌, drop, get_or, List, [], ◌∷◌, length, Option, None, Some, inl, inr, refl, ap, sym, ◌∙◌, arith}
+use Rattle.std.proofs.Common.{◌≡◌, ℕ, zero, suc, ◌<◌, true, ◌==◌, ◌⊎◌, get_or, List, [], ◌∷◌, length, Option, None, Some, inl, inr, refl, ap, sym, ◌∙◌, arith}
 use Rattle.std.specs.List.{list_any}
 use Rattle.std.specs.Str.{bytes_eq}
 use Rattle.std.proofs.lemmas.Bool.{eqb-true, eq-eqb, or_left, or_right, or_cases}
 use Rattle.std.proofs.lemmas.Option.{none-some, same_Some}
 use Rattle.std.proofs.lemmas.Slice.Eq.{bytes_eq-Decides}
-use Rattle.std.proofs.lemmas.List.{drop_more}
 use Rattle.std.proofs.lemmas.List.Quantifiers.{position-Some}
 use Rattle.acl_naming.specs.declared.items.Item.{Item}
 use Rattle.acl_naming.specs.declared.items.Item.TheVariants.{Name, Network, Service}
@@ -13,8 +12,7 @@ use Rattle.acl_naming.specs.Definitions.{Definition, index_of, items_at, items_i
 use Rattle.acl_naming.specs.Tables.{name_at}
 use Rattle.acl_naming.specs.Reach.{is_reference, refers}
 use Rattle.acl_naming.specs.Graph.{with_index, targets, graph_in, graph_of}
-use Rattle.acl_naming.specs.Marks.{marked, mark_all, pass_on, among, leads}
-use Rattle.acl_naming.proofs.PassLaws.{IsWithin}
+use Rattle.acl_naming.specs.Marks.{among, leads}
 
 pub option_cases : {X : Type 0} (o : Option X) → (o ≡ None) ⊎ ((x : X) × (o ≡ Some x))
 option_cases None = inl refl
@@ -89,9 +87,9 @@ leads_at base [] i j = refl
 leads_at base (d ∷ ds) zero j = refl
 leads_at base (d ∷ ds) (suc i) j = leads_at base ds i j
 
-pub graph_within : (base : List Definition) → IsWithin (length base) (graph_of base)
-graph_within base = λ i j h.
-    let p = target_found base (items_at base i) j (sym (leads_at base base i j) ∙ h) in
+pub targets_within : (base : List Definition) (items : List Item) (j : ℕ) → among j (targets base items) ≡ true → j < length base
+targets_within base items j h =
+    let p = target_found base items j h in
     (index_name base p.0 j p.2).0
 
 -- a name refers to another that is defined exactly where one definition leads to the other
@@ -106,16 +104,7 @@ pub leads_all : (base : List Definition) (a b : List ℕ) (i j : ℕ) → index_
 leads_all base a b i j e h f =
     leads_at base base i j ∙ target_all base (items_at base i) b j (ap (list_any (is_reference b)) (sym (items_found base a i e)) ∙ h) f
 
--- ---- one place of a pass
-
 pub items_get : (ds : List Definition) (i : ℕ) → i < length ds → (get_or ds i nowhere).items ≡ items_at ds i
 items_get [] i h = absurd (omega arith)
 items_get (d ∷ ds) zero h = refl
 items_get (d ∷ ds) (suc i) h = items_get ds i (omega arith)
-
-pub pass_step : (base : List Definition) (i : ℕ) (m : List Bool) → i < length base
-    → pass_on (graph_in base (drop i base)) i m
-    ≡ pass_on (graph_in base (drop (i + 1) base)) (i + 1) (if marked m i then mark_all (targets base (items_at base i)) m else m)
-pass_step base i m h =
-    ap (λ ds. pass_on (graph_in base ds) i m) (drop_more base i nowhere h)
-    ∙ ap (λ items. pass_on (graph_in base (drop (i + 1) base)) (i + 1) (if marked m i then mark_all (targets base items) m else m)) (items_get base i h)

@@ -1,7 +1,6 @@
 pub mod CheckLaws
 pub mod GraphLaws
 pub mod MarkLaws
-pub mod PassLaws
 pub mod ReachLaws
 pub mod ReadLaws
 pub mod TableLaws

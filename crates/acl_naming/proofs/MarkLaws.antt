@@ -1,7 +1,8 @@
 -- Marks: what one mark changes, and how many there are.
-use Rattle.std.proofs.Common.{◌≡◌, ℕ, zero, suc, ◌<◌, ◌≤◌, Bool, true, false, ◌==◌, ◌⊎◌, List, [], ◌∷◌, length, slice_set, inl, inr, refl, ap, sym, ◌∙◌, arith}
+use Rattle.std.proofs.Common.{◌≡◌, ℕ, zero, suc, ◌+◌, ◌<◌, ◌≤◌, Bool, true, false, ◌==◌, ◌⊎◌, if◌then◌else◌, List, [], ◌∷◌, ◌++◌, length, slice_set, inl, inr, refl, ap, sym, subst, ◌∙◌, arith, length-append}
 use Rattle.std.proofs.lemmas.Bool.{eq-eqb, eqb-true, or_left, or_right, or_cases}
-use Rattle.acl_naming.specs.Marks.{marked, mark_all, among}
+use Rattle.std.proofs.lemmas.List.Folds.{list_any-append}
+use Rattle.acl_naming.specs.Marks.{marked, mark_all, unmarked, among}
 
 abbrev pub count : List Bool → ℕ
 count [] = 0
@@ -57,11 +58,21 @@ count_fits [] = omega arith
 count_fits (true ∷ m) = omega (arith, count_fits m)
 count_fits (false ∷ m) = omega (arith, count_fits m)
 
-pub count_some : (m : List Bool) (i : ℕ) → marked m i ≡ true → 0 < count m
-count_some [] i h = absurd (cc)
-count_some (true ∷ m) i h = omega arith
-count_some (false ∷ m) zero h = absurd (cc)
-count_some (false ∷ m) (suc i) h = count_some m i h
+count_one : (b : Bool) (m n : List Bool) (k : ℕ) → count n ≡ count m + k → count (b ∷ n) ≡ count (b ∷ m) + k
+count_one true m n k e = omega arith
+count_one false m n k e = e
+
+-- a mark at a place that has none is one more
+count_new : (m : List Bool) (j : ℕ) → j < length m → marked m j ≡ false → count (slice_set m j true) ≡ count m + 1
+count_new [] j h e = absurd (omega arith)
+count_new (true ∷ m) zero h e = absurd (cc)
+count_new (false ∷ m) zero h e = omega arith
+count_new (b ∷ m) (suc j) h e = count_one b m (slice_set m j true) 1 (count_new m j (omega arith) e)
+
+pub marked_within : (m : List Bool) (i : ℕ) → marked m i ≡ true → i < length m
+marked_within [] i h = absurd (cc)
+marked_within (b ∷ m) zero h = omega arith
+marked_within (b ∷ m) (suc i) h = omega (arith, marked_within m i h)
 
 -- ---- marks at a list of places
 
@@ -87,3 +98,88 @@ marks_all (k ∷ js) m j h l = elim (or_cases (k == j) (among j js) h) [
   where
     here : (m : List Bool) (k j : ℕ) → k ≡ j → j < length m → marked (slice_set m k true) j ≡ true
     here m k j e l = ap (λ i. marked (slice_set m i true) j) e ∙ mark_is m j l
+
+-- ---- those of the places that have no mark
+
+pub among_left : (j : ℕ) (xs ys : List ℕ) → among j xs ≡ true → among j (xs ++ ys) ≡ true
+among_left j xs ys h = list_any-append (λ k. k == j) xs ys ∙ or_left (among j xs) (among j ys) h
+
+pub among_right : (j : ℕ) (xs ys : List ℕ) → among j ys ≡ true → among j (xs ++ ys) ≡ true
+among_right j xs ys h = list_any-append (λ k. k == j) xs ys ∙ or_right (among j xs) (among j ys) h
+
+pub among_cases : (j : ℕ) (xs ys : List ℕ) → among j (xs ++ ys) ≡ true → (among j xs ≡ true) ⊎ (among j ys ≡ true)
+among_cases j xs ys h = or_cases (among j xs) (among j ys) (sym (list_any-append (λ k. k == j) xs ys) ∙ h)
+
+pub among_one : (j : ℕ) → among j (j ∷ []) ≡ true
+among_one j = or_left (j == j) false (eq-eqb j j refl)
+
+pub is_one : (j k : ℕ) → among j (k ∷ []) ≡ true → k ≡ j
+is_one j k h = elim (or_cases (k == j) false h) [
+  | inl e ↦ eqb-true k j e
+  | inr e ↦ absurd (cc)
+]
+
+abbrev one_unmarked : Bool → ℕ → List ℕ
+one_unmarked b j = if b then [] else j ∷ []
+
+one_among : (b : Bool) (i j : ℕ) → among j (one_unmarked b i) ≡ true → i ≡ j
+one_among true i j h = absurd (cc)
+one_among false i j h = is_one j i h
+
+pub unmarked_among : (js : List ℕ) (m : List Bool) (j : ℕ) → among j (unmarked js m) ≡ true → among j js ≡ true
+unmarked_among [] m j h = h
+unmarked_among (k ∷ js) m j h = elim (among_cases j (one_unmarked (marked m k) k) (unmarked js (slice_set m k true)) h) [
+  | inl a ↦ or_left (k == j) (among j js) (eq-eqb k j (one_among (marked m k) k j a))
+  | inr b ↦ or_right (k == j) (among j js) (unmarked_among js (slice_set m k true) j b)
+]
+
+marked_or_one : (b : Bool) (m : List Bool) (i : ℕ) → marked m i ≡ b → (marked m i ≡ true) ⊎ (among i (one_unmarked b i) ≡ true)
+marked_or_one true m i e = inl e
+marked_or_one false m i e = inr (among_one i)
+
+-- what is marked was marked before, or is one of those
+pub marked_before : (js : List ℕ) (m : List Bool) (i : ℕ) → marked (mark_all js m) i ≡ true → (marked m i ≡ true) ⊎ (among i (unmarked js m) ≡ true)
+marked_before [] m i h = inl h
+marked_before (j ∷ js) m i h = elim (marked_before js (slice_set m j true) i h) [
+  | inl a ↦ elim (mark_only m i j a) [
+    | inl old ↦ inl old
+    | inr e ↦ elim (marked_or_one (marked m j) m j refl) [
+      | inl old ↦ inl (ap (marked m) e ∙ old)
+      | inr new ↦ inr (among_left i (one_unmarked (marked m j) j) (unmarked js (slice_set m j true))
+          (ap (λ k. among k (one_unmarked (marked m j) j)) e ∙ new))
+    ]
+  ]
+  | inr b ↦ inr (among_right i (one_unmarked (marked m j) j) (unmarked js (slice_set m j true)) b)
+]
+
+one_counts : (b : Bool) (m : List Bool) (j : ℕ) → j < length m → marked m j ≡ b → count (slice_set m j true) ≡ count m + length (one_unmarked b j)
+one_counts true m j h e = omega (arith, ap count (mark_again m j e))
+one_counts false m j h e = count_new m j h e
+
+-- each of them is one mark more
+pub unmarked_counts : (js : List ℕ) (m : List Bool) → ((j : ℕ) → among j js ≡ true → j < length m)
+    → count (mark_all js m) ≡ count m + length (unmarked js m)
+unmarked_counts [] m within = omega arith
+unmarked_counts (j ∷ js) m within =
+    let n = slice_set m j true in
+    let rest : count (mark_all js n) ≡ count n + length (unmarked js n) =
+    unmarked_counts js n (λ k h. omega (arith, within k (or_right (j == k) (among k js) h), length_mark m j)) in
+    let here : count n ≡ count m + length (one_unmarked (marked m j) j) =
+    one_counts (marked m j) m j (within j (or_left (j == j) (among j js) (eq-eqb j j refl))) refl in
+    omega (arith, rest, here, length-append (one_unmarked (marked m j) j) (unmarked js n))
+
+-- ---- what marks stand for
+
+-- Each mark stands for something that is reached in at most as many steps as there are marks.
+abbrev pub IsSound : (ℕ → ℕ → Type 0) → List Bool → Type 0
+IsSound T m = (j : ℕ) → marked m j ≡ true → T (count m) j
+
+pub sound_mark : (T : ℕ → ℕ → Type 0) → ((n j : ℕ) → T n j → T (suc n) j) → (m : List Bool) (j : ℕ) → T (suc (count m)) j
+    → IsSound T m → IsSound T (slice_set m j true)
+sound_mark T more m j t sound = λ x h. elim (mark_counts m j) [
+  | inl same ↦ subst (λ (n : List Bool). T (count n) x) (sym same) (sound x (ap (λ n. marked n x) (sym same) ∙ h))
+  | inr one ↦ subst (λ (c : ℕ). T c x) (sym one) (elim (mark_only m x j h) [
+    | inl k ↦ more (count m) x (sound x k)
+    | inr e ↦ subst (λ (y : ℕ). T (suc (count m)) y) (sym e) t
+  ])
+]

@@ -9,7 +9,7 @@ use Rattle.acl_sets.specs.Ranges.{IsRange, holds}
 use Rattle.acl_naming.specs.declared.items.Item.{Item}
 use Rattle.acl_naming.specs.declared.reaching.Wanted.{Wanted}
 use Rattle.acl_naming.specs.Definitions.{Definition, index_of, items_at}
-use Rattle.acl_naming.specs.Graph.{marks_from}
+use Rattle.acl_naming.specs.Graph.{IsReached}
 use Rattle.acl_naming.specs.Marks.{marked}
 use Rattle.acl_naming.specs.Reach.{Reaches}
 use Rattle.acl_naming.specs.Wanted.{top_of, has_number, is_wanted, Collects, IsReach, any_marked}
@@ -87,20 +87,19 @@ any_back (d ∷ ds) k (suc j) m test h t =
     or_right (marked m k && list_any test d.items) (any_marked ds (k + 1) m test)
     (any_back ds (k + 1) j m test (ap (marked m) there ∙ h) t)
 
--- what the marks from a name's definition have is what the name reaches
-reaches_any : (base : List Definition) (name : List ℕ) (i : ℕ) (test : Item → Bool) → index_of base name ≡ Some i
-    → (any_marked base 0 (marks_from base (i ∷ [])) test ≡ true) ↔ Reaches base name test
-reaches_any base name i test e =
-    let law = marked_reaches base name test i e in
-    let m = marks_from base (i ∷ []) in (
+-- what the marked definitions have is what the name reaches
+reaches_any : (base : List Definition) (name : List ℕ) (i : ℕ) (m : List Bool) (test : Item → Bool) → index_of base name ≡ Some i → IsReached base i m
+    → (any_marked base 0 m test ≡ true) ↔ Reaches base name test
+reaches_any base name i m test e reached =
+    let law = marked_reaches base name i m e test reached in (
       λ h. let p = any_there base 0 m test h in let there : p.0 ≡ 0 + p.0 = omega arith in law.0 (p.0, ap (marked m) there ∙ p.1, p.2),
       λ r. let p = law.1 r in let there : 0 + p.0 ≡ p.0 = omega arith in any_back base 0 p.0 m test (ap (marked m) there ∙ p.1) p.2,
     )
 
-pub collects_reach : (base : List Definition) (name : List ℕ) (i : ℕ) (w : Wanted) (ranges : List Range) → index_of base name ≡ Some i
-    → Collects w (any_marked base 0 (marks_from base (i ∷ []))) [] ranges → IsReach base name w ranges
-collects_reach base name i w ranges e h = record {
+pub collects_reach : (base : List Definition) (name : List ℕ) (i : ℕ) (m : List Bool) (w : Wanted) (ranges : List Range) → index_of base name ≡ Some i
+    → IsReached base i m → Collects w (any_marked base 0 m) [] ranges → IsReach base name w ranges
+collects_reach base name i m w ranges e reached h = record {
   fits = h.fits (All-nil (λ r. IsRange (top_of w) r));
-  exact = λ x. let law = reaches_any base name i (has_number w x) e in (λ t. law.0 (sym (h.exact x) ∙ t), λ r. h.exact x ∙ law.1 r);
-  some = let law = reaches_any base name i (is_wanted w) e in (λ t. law.0 (sym h.some ∙ t), λ r. h.some ∙ law.1 r);
+  exact = λ x. let law = reaches_any base name i m (has_number w x) e reached in (λ t. law.0 (sym (h.exact x) ∙ t), λ r. h.exact x ∙ law.1 r);
+  some = let law = reaches_any base name i m (is_wanted w) e reached in (λ t. law.0 (sym h.some ∙ t), λ r. h.some ∙ law.1 r);
 }

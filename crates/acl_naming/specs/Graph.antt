@@ -1,9 +1,11 @@
 -- Names by the places of their definitions.
-use Rattle.std.specs.Prelude.{ℕ, Bool, false, replicate, map, List, [], ◌∷◌, length, Option, None, Some}
+use Rattle.std.specs.Prelude.{◌≡◌, ℕ, ◌+◌, ◌≤◌, ◌⊎◌, Bool, true, false, replicate, map, List, [], ◌∷◌, length, Option, None, Some}
+use Rattle.std.specs.List.{list_any}
 use Rattle.acl_naming.specs.declared.items.Item.{Item}
 use Rattle.acl_naming.specs.declared.items.Item.TheVariants.{Name, Network, Service}
-use Rattle.acl_naming.specs.Definitions.{Definition, index_of}
-use Rattle.acl_naming.specs.Marks.{mark_all, spread}
+use Rattle.acl_naming.specs.Definitions.{Definition, index_of, items_at}
+use Rattle.acl_naming.specs.Marks.{marked, leads, IsClosed}
+use Rattle.acl_naming.specs.Reach.{is_reference, Walks}
 
 abbrev pub with_index : Option ℕ → List ℕ → List ℕ
 with_index None js = js
@@ -27,6 +29,21 @@ graph_of base = graph_in base base
 abbrev pub blank : List Definition → List Bool
 blank base = replicate (length base) false
 
--- The marks of what the places reach.
-abbrev pub marks_from : List Definition → List ℕ → List Bool
-marks_from base js = spread (length base) (graph_of base) (mark_all js (blank base))
+-- A walk that begins at a name among the items at i ends at a name that is defined at j. It has at most n names.
+abbrev pub Follows : List Definition → ℕ → ℕ → ℕ → Type 0
+Follows base i n j = (next : List ℕ) × (names : List (List ℕ)) × (end : List ℕ) × (length names + 1 ≤ n)
+    × (list_any (is_reference next) (items_at base i) ≡ true) × Walks base next names end × (index_of base end ≡ Some j)
+
+-- The marks are at the definitions that the names of the i-th one reach.
+pub record IsBehind (base : List Definition) (i : ℕ) (m : List Bool) : Type 0 where
+  pub fits : length m ≡ length base
+  pub begun : (j : ℕ) → leads (graph_of base) i j ≡ true → marked m j ≡ true
+  pub closed : IsClosed (graph_of base) m
+  pub sound : (j : ℕ) → marked m j ≡ true → Follows base i (length base) j
+
+-- The same with a mark at the i-th one itself.
+pub record IsReached (base : List Definition) (i : ℕ) (m : List Bool) : Type 0 where
+  pub fits : length m ≡ length base
+  pub begun : marked m i ≡ true
+  pub closed : IsClosed (graph_of base) m
+  pub sound : (j : ℕ) → marked m j ≡ true → (j ≡ i) ⊎ Follows base i (length base) j

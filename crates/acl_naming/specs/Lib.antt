@@ -6,6 +6,7 @@ pub mod Marks
 pub mod Ports
 pub mod Reach
 pub mod Reading
+pub mod Settling
 pub mod Tables
 pub mod Views
 pub mod Wanted

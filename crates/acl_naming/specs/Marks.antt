@@ -1,6 +1,6 @@
--- Marking what is reached, pass by pass, over lists of places: what the private functions of src/marking.rt
--- give. That the marks are what walks reach is proved in proofs/.
-use Rattle.std.specs.Prelude.{◌≡◌, ℕ, zero, suc, ◌+◌, Bool, true, false, ◌==◌, if◌then◌else◌, List, [], ◌∷◌, slice_set, slice_index_or}
+-- Marks at places, each of which leads to others: what the private functions of src/marking.rt give. That the
+-- marks are what walks reach is proved in proofs/.
+use Rattle.std.specs.Prelude.{◌≡◌, ℕ, zero, suc, Bool, true, false, ◌==◌, if◌then◌else◌, List, [], ◌∷◌, ◌++◌, slice_set, slice_index_or}
 use Rattle.std.specs.List.{list_any, list_all}
 
 -- Whether the place has a mark.
@@ -12,16 +12,10 @@ abbrev pub mark_all : List ℕ → List Bool → List Bool
 mark_all [] m = m
 mark_all (j ∷ js) m = mark_all js (slice_set m j true)
 
--- One pass over the places i, i + 1, .., for each of which there is the list of the places that it leads to:
--- what a marked one leads to is marked.
-abbrev pub pass_on : List (List ℕ) → ℕ → List Bool → List Bool
-pass_on [] i m = m
-pass_on (js ∷ g) i m = pass_on g (i + 1) (if marked m i then mark_all js m else m)
-
--- So many passes.
-abbrev pub spread : ℕ → List (List ℕ) → List Bool → List Bool
-spread zero g m = m
-spread (suc k) g m = pass_on g 0 (spread k g m)
+-- Those of the places that have no mark, each once.
+abbrev pub unmarked : List ℕ → List Bool → List ℕ
+unmarked [] m = []
+unmarked (j ∷ js) m = (if marked m j then [] else j ∷ []) ++ unmarked js (slice_set m j true)
 
 -- Whether all of the places have marks.
 abbrev pub all_marked : List Bool → List ℕ → Bool

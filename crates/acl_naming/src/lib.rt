@@ -11,6 +11,7 @@ mod marking;
 mod reaching;
 mod reading;
 mod refusals;
+mod settling;
 mod tables;
 #[cfg(test)]
 mod tests;

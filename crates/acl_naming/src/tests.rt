@@ -142,7 +142,7 @@ static SERVICES: [Case; 8] = [
     },
 ];
 
-static NAMES: [Case; 4] = [
+static NAMES: [Case; 5] = [
     Case {
         text: b"A = B\nB = C\nC = A\nD = NOWHERE\n",
         code: Code::Undefined,
@@ -166,6 +166,12 @@ static NAMES: [Case; 4] = [
         code: Code::Cycle,
         line: 2,
         word: b"A",
+    },
+    Case {
+        text: b"A = B F\nB = C\nC = D\nD = E\nE = C\nF = 1.2.3.4\n",
+        code: Code::Cycle,
+        line: 3,
+        word: b"C",
     },
 ];
 
@@ -327,6 +333,29 @@ fn many(alloc: Global, count: usize, front: &[u8], each: &[u8]) -> Result<Vec<u8
         text.extend_from_slice(each)?;
     }
     Ok(text)
+}
+
+// Each name stands for the next one, and the last one for an address.
+fn chain(alloc: Global, count: u32) -> Result<Vec<u8>, Fail> {
+    let mut text = Vec::new(alloc);
+    for i in 0..count {
+        let next = i + 1;
+        text.extend_from_slice(format!(in alloc; "N{i} = N{next}\n")?.as_bytes())?;
+    }
+    text.extend_from_slice(format!(in alloc; "N{count} = 192.0.2.1\n")?.as_bytes())?;
+    Ok(text)
+}
+
+#[test]
+fn a_long_chain_is_followed_to_its_end(rt: HostRuntime) -> Result<(), Fail> {
+    let alloc = rt.alloc();
+    let base = example(&rt, alloc, &chain(alloc, 300)?, b"")?;
+    let last = [Range {
+        low: 0xc000_0201,
+        high: 0xc000_0201,
+    }];
+    expect_ranges(&rt, networks_of(alloc, &base, Family::V4, b"N0"), &last);
+    Ok(())
 }
 
 #[test]
