@@ -1,0 +1,81 @@
+ghost use Rattle.std.specs.Prelude.{◌≡◌, ◌≤◌, ◌<◌, ◌+◌, length, map, IfSome, IsErrOf};
+ghost use Rattle.std.specs.String.{string_bytes};
+ghost use Rattle.acl_text.specs.Output.{Rose};
+ghost use Rattle.acl_host.specs.Outside.{OnlyLooks};
+ghost use Rattle.acl_load.specs.Answers.{Answers};
+ghost use Rattle.acl_load.specs.Loading.{with_file, all_of};
+
+use crate::load_faults::LoadFault;
+use crate::reading::read_whole;
+use crate::slips::fault_of;
+use acl_host::Tree;
+use acl_naming::{Base, read_networks, read_services};
+use acl_text::{Code, Refusal};
+use std::alloc::Global;
+
+// The most bytes of a naming file.
+const MOST_BYTES: usize = 4_194_304;
+
+/// What a naming file defines.
+#[derive(Clone, Copy)]
+pub(crate) enum Kind {
+    Networks,
+    Services,
+}
+
+// The base with the definitions of the file of this number, which lies at the path.
+#[tactic(auto, unfolding(crate::specs::Loading::with_file))]
+fn add_file<T: Tree>(
+    alloc: Global,
+    tree: &mut T,
+    paths: &[String],
+    kind: Kind,
+    number: u32,
+    path: &str,
+    base: Base,
+) -> Result<Base, LoadFault>
+    ensures gives { IfSome (T.files tree.old) (λ files. Answers (λ base. base) result (λ answer. with_file (map string_bytes paths.now) kind number path.now files base ≡ answer)) }
+    ensures looks { OnlyLooks T.files T.begun T.faults T.refusals tree.old tree.new }
+    ensures reads { T.read_faults tree.old ≤ T.read_faults tree.new }
+    ensures lists { T.list_faults tree.new ≡ T.list_faults tree.old }
+    ensures list_failed { IsErrOf result LoadFault.List → ⊥ }
+    ensures read_failed { IsErrOf result LoadFault.Read → Rose (T.read_faults tree.old) (T.read_faults tree.new) }
+{
+    let bytes = read_whole(alloc, tree, path, MOST_BYTES, Code::TooLong)?;
+    let read = match kind {
+        Kind::Networks => read_networks(base, number, bytes.as_slice()),
+        Kind::Services => read_services(base, number, bytes.as_slice()),
+    };
+    match read {
+        Ok(base) => Ok(base),
+        Err(Refusal::Slip(slip)) => Err(LoadFault::Fault(fault_of(alloc, paths, slip)?)),
+        Err(Refusal::Memory) => Err(LoadFault::Memory),
+    }
+}
+
+/// The base with the definitions of the files, all of one kind, of which the first has this number.
+pub(crate) fn add_all<T: Tree>(
+    alloc: Global,
+    tree: &mut T,
+    paths: &[String],
+    kind: Kind,
+    first: u32,
+    files: &[String],
+    base: Base,
+) -> Result<Base, LoadFault>
+    requires { first + length files.now ≤ 4096 }
+    ensures gives { IfSome (T.files tree.old) (λ held. Answers (λ base. base) result (λ answer. all_of (map string_bytes paths.now) kind first (map string_bytes files.now) held base ≡ answer)) }
+    ensures looks { OnlyLooks T.files T.begun T.faults T.refusals tree.old tree.new }
+    ensures reads { T.read_faults tree.old ≤ T.read_faults tree.new }
+    ensures lists { T.list_faults tree.new ≡ T.list_faults tree.old }
+    ensures list_failed { IsErrOf result LoadFault.List → ⊥ }
+    ensures read_failed { IsErrOf result LoadFault.Read → Rose (T.read_faults tree.old) (T.read_faults tree.new) }
+{
+    let mut so_far = base;
+    let mut number = first;
+    for path in files {
+        so_far = add_file(alloc, tree, paths, kind, number, path.as_str(), so_far)?;
+        number += 1;
+    }
+    Ok(so_far)
+}

@@ -1,0 +1,29 @@
+ghost use Rattle.std.specs.Prelude.{◌≡◌, [], map, slice_index_or, IfOk};
+ghost use Rattle.std.specs.String.{string_bytes};
+ghost use Rattle.acl_load.specs.Loading.{fault_of};
+
+use acl_text::{Bytes, Fault, Memory, Slip};
+use std::alloc::Global;
+
+/// The fault of a slip: its label is the path of the file in which it stands.
+pub(crate) fn fault_of(alloc: Global, paths: &[String], slip: Slip) -> Result<Fault, Memory>
+    ensures { IfOk result (λ fault. fault ≡ fault_of (map string_bytes paths.now) slip) }
+{
+    let Slip { code, place, word } = slip;
+    Ok(Fault {
+        code,
+        label: Bytes::from_slice(alloc, path_at(paths, place.file))?,
+        line: place.line,
+        word,
+    })
+}
+
+// The path of the file of this number.
+fn path_at(paths: &[String], file: u32) -> &[u8]
+    ensures { result.now ≡ slice_index_or (map string_bytes paths.now) file [] }
+{
+    match paths.get(file as usize) {
+        Some(path) => path.as_bytes(),
+        None => b"",
+    }
+}
