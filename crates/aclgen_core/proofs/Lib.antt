@@ -1,6 +1,7 @@
-pub mod Fronts
-pub mod ListTexts
-pub mod Chosen
-pub mod PlanFacts
-pub mod Decides
 pub mod Telling
+pub mod RuleLaws
+pub mod PolicyFacts
+pub mod PlanLaws
+pub mod Decides
+pub mod OneAnswer
+pub mod Jobs

@@ -1,5 +1,5 @@
 -- What each ending of a run means.
-use Rattle.std.specs.Prelude.{◌≡◌, ℕ, ◌≤◌, ◌++◌, ◌⊎◌, List, [], Option, None, Some, Result, Ok, Err, option_map}
+use Rattle.std.specs.Prelude.{◌≡◌, ℕ, ◌≤◌, ◌++◌, ◌⊎◌, List, Option, None, Some, Result, Ok, Err, option_map}
 use Rattle.acl_packet.specs.declared.addresses.Family.TheVariants.{V4}
 use Rattle.acl_packet.specs.declared.packets.Packet.{Packet}
 use Rattle.acl_packet.specs.Packets.{IsPacket}
@@ -9,8 +9,9 @@ use Rattle.acl_host.specs.Files.{File, file_at, SameBut, BothTell}
 use Rattle.acl_host.specs.Outside.{AddsFront}
 use Rattle.cisco_lang.specs.Texts.{Spells, text_of}
 use Rattle.cisco_lang.specs.Walks.{outcome_of}
-use Rattle.aclgen_core.specs.Meaning.{shown, policy_outcome}
-use Rattle.aclgen_core.specs.Job.{Plan, document_of}
+use Rattle.acl_packet.specs.declared.filtering.Outcome.{Outcome}
+use Rattle.aclgen_core.specs.Meaning.{shown, PolicyOutcome}
+use Rattle.aclgen_core.specs.Job.{Plan, IsJob, document_of}
 use Rattle.aclgen_core.specs.FaultLines.{usage_line, fault_line}
 use Rattle.aclgen_core.specs.declared.endings.Ended.{Ended}
 use Rattle.aclgen_core.specs.declared.endings.Ended.TheVariants as ended
@@ -49,22 +50,17 @@ IfRejected (ended.Outside which) P = Unit {0}
 IfRejected ended.Memory P = Unit {0}
 
 -- The job has a plan, and so no fault.
-abbrev pub IsPlanned : Option (Result Plan Fault) → Type 0
-IsPlanned None = ⊥
-IsPlanned (Some (Ok plan)) = Unit {0}
-IsPlanned (Some (Err fault)) = ⊥
+abbrev pub IsPlanned : List (List ℕ) → List File → Type 0
+IsPlanned words files = (plan : Plan) × IsJob words files (Some (Ok plan))
 
 -- The words are no command line, or the files have a fault.
-abbrev pub IsRefused : Option (Result Plan Fault) → Type 0
-IsRefused None = Unit {0}
-IsRefused (Some (Ok plan)) = ⊥
-IsRefused (Some (Err fault)) = Unit {0}
+abbrev pub IsRefused : List (List ℕ) → List File → Type 0
+IsRefused words files = IsJob words files None ⊎ ((fault : Fault) × IsJob words files (Some (Err fault)))
 
--- The line on standard error of a refused job.
-abbrev pub refusal_line : Option (Result Plan Fault) → List ℕ
-refusal_line None = usage_line
-refusal_line (Some (Ok plan)) = []
-refusal_line (Some (Err fault)) = fault_line fault
+-- The line on standard error of a job that is refused.
+abbrev pub IsRefusalLine : List (List ℕ) → List File → List ℕ → Type 0
+IsRefusalLine words files line = (IsJob words files None × (line ≡ usage_line))
+    ⊎ ((fault : Fault) × IsJob words files (Some (Err fault)) × (line ≡ fault_line fault))
 
 -- The headline: the filter's file is a text that the language of Cisco access lists accepts as the one section
 -- of the target, every other file is as it was, and that section decides every IPv4 packet as the policy does,
@@ -73,7 +69,8 @@ pub record IsWritten (plan : Plan) (old new : List File) : Type 0 where
   pub spelled : Spells (text_of (document_of plan)) (document_of plan)
   pub held : file_at new plan.path ≡ Some (text_of (document_of plan))
   pub others : SameBut plan.path old new
-  pub decides : (p : Packet) → IsPacket p → p.family ≡ V4 → outcome_of (document_of plan) 0 p ≡ Some (shown (policy_outcome plan.definitions plan.policy p))
+  pub decides : (p : Packet) → IsPacket p → p.family ≡ V4 → (outcome : Outcome)
+      × PolicyOutcome plan.naming.networks plan.policy.terms p outcome × (outcome_of (document_of plan) 0 p ≡ Some (shown outcome))
 
 -- A line was tried on a stream: a front of it stands there, and the whole where no count of the stream rose.
 pub record Tried {S : Type 0} (told : S → Option (List ℕ)) (faults refusals : S → ℕ) (old new : S) (line : List ℕ) : Type 0 where
@@ -82,11 +79,15 @@ pub record Tried {S : Type 0} (told : S → Option (List ℕ)) (faults refusals 
   pub faults_grow : faults old ≤ faults new
   pub refusals_grow : refusals old ≤ refusals new
 
--- The ending that the job asks for, unless memory was wanted.
-abbrev pub IsAnswer : Option (Result Plan Fault) → Ended → Type 0
-IsAnswer None result = (result ≡ ended.Usage) ⊎ (result ≡ ended.Memory)
-IsAnswer (Some (Ok plan)) result = (result ≡ ended.Done) ⊎ (result ≡ ended.Memory)
-IsAnswer (Some (Err fault)) result = (result ≡ ended.Rejected fault) ⊎ (result ≡ ended.Memory)
+-- The ending that a job asks for, unless memory was wanted.
+abbrev pub IsEnding : Option (Result Plan Fault) → Ended → Type 0
+IsEnding None result = (result ≡ ended.Usage) ⊎ (result ≡ ended.Memory)
+IsEnding (Some (Ok plan)) result = (result ≡ ended.Done) ⊎ (result ≡ ended.Memory)
+IsEnding (Some (Err fault)) result = (result ≡ ended.Rejected fault) ⊎ (result ≡ ended.Memory)
+
+-- The run ended as its job asks.
+abbrev pub EndsAsAsked : List (List ℕ) → List File → Ended → Type 0
+EndsAsAsked words files result = (job : Option (Result Plan Fault)) → IsJob words files job → IsEnding job result
 
 -- No count of faults rose in the call.
 pub record NoneRose (lists lists' reads reads' writes writes' outs outs' errs errs' : ℕ) : Type 0 where

@@ -1,7 +1,7 @@
 -- The lines that are printed.
 use Rattle.std.specs.Prelude.{ℕ, ◌&&◌, ◌==◌, nat_le, if◌then◌else◌, List, [], ◌∷◌, ◌++◌, take, map, codes, decimal}
 use Rattle.acl_text.specs.declared.faults.Code.{Code}
-use Rattle.acl_text.specs.declared.faults.Code.TheVariants.{TooLong, BadByte, BadName, NoDefinition, BadValue, Twice, TooMany, Undefined, Cycle, TooManyFiles, NoFile, IncludeDepth, IncludePath, Syntax, Keyword, Value, Repeated, Missing, TermTwice, TargetLine, FilterTwice, UnknownName, NotYet, IncludeCount}
+use Rattle.acl_text.specs.declared.faults.Code.TheVariants.{TooLong, BadByte, BadName, NoDefinition, BadValue, Twice, TooMany, Undefined, Cycle, TooManyFiles, NoFile, IncludeDepth, IncludePath, Syntax, Keyword, Value, Repeated, Missing, TermTwice, TargetLine, FilterTwice, UnknownName, NotYet, IncludeCount, TooManyEntries}
 use Rattle.acl_text.specs.declared.faults.Fault.{Fault}
 use Rattle.aclgen_core.specs.declared.endings.Which.{Which}
 use Rattle.aclgen_core.specs.declared.endings.Which.TheVariants as which
@@ -32,6 +32,7 @@ code_text FilterTwice = codes "F30 FilterTwice"
 code_text UnknownName = codes "F31 UnknownName"
 code_text NotYet = codes "F38 NotYet"
 code_text IncludeCount = codes "F39 IncludeCount"
+code_text TooManyEntries = codes "F44 TooManyEntries"
 
 -- the line's number, where there is a line
 abbrev pub line_text : ℕ → List ℕ

@@ -5,11 +5,10 @@ pub mod Statuses
 pub mod Policies
 pub mod Paths
 pub mod FaultLines
-pub mod Naming
-pub mod Networks
 pub mod Meaning
+pub mod Rendering
 pub mod Job
-pub mod Reports
 pub mod Steps
+pub mod Sound
+pub mod Reports
 pub mod Endings
-pub mod Pieces

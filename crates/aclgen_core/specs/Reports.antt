@@ -1,9 +1,9 @@
 -- The report on standard output.
-use Rattle.std.specs.Prelude.{ℕ, List, ◌++◌, codes, decimal, count_by}
-use Rattle.cisco_lang.specs.Walks.{is_entry}
-use Rattle.aclgen_core.specs.Job.{Plan, plan_items}
+use Rattle.std.specs.Prelude.{ℕ, List, ◌++◌, codes, decimal}
+use Rattle.gen_cisco.specs.Sections.{entry_count}
+use Rattle.aclgen_core.specs.Job.{Plan}
 
 -- PATH: TARGET: entries COUNT
 unfoldable pub report_of : Plan → List ℕ
-report_of plan = plan.path ++ codes ": cisco " ++ plan.policy.filter ++ codes " extended: entries "
-    ++ decimal (count_by is_entry (plan_items plan)) ++ codes "\n"
+report_of plan = plan.path ++ codes ": cisco " ++ plan.policy.target.name ++ codes " extended: entries "
+    ++ decimal (entry_count plan.rules) ++ codes "\n"

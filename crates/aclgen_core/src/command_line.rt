@@ -4,9 +4,8 @@ ghost use Rattle.std.specs.Str.{bytes_eq};
 ghost use Rattle.std.specs.Option.{option_map};
 ghost use Rattle.std.specs.String.{string_bytes};
 ghost use Rattle.aclgen_core.specs.Words.{word_at, paths_stand, folders_stand, output_stands, date_stands, is_date, date_byte, options_of};
+ghost use Rattle.acl_text.specs.Names.{is_digit};
 ghost use Rattle.aclgen_core.specs.Views.{options_view};
-
-use crate::texts::is_digit;
 
 /// What the words ask for: the policy's path, the folder of the naming files, the folder for the filters.
 #[derive(Clone, Copy, Debug)]
@@ -96,4 +95,10 @@ fn is_date_byte(byte: u8, form: u8) -> bool
     } else {
         is_digit(byte)
     }
+}
+
+fn is_digit(byte: u8) -> bool
+    ensures { result ≡ is_digit byte }
+{
+    b'0' <= byte && byte <= b'9'
 }

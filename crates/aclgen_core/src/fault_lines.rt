@@ -34,6 +34,7 @@ fn code_text(code: Code) -> &'static str
         Code::UnknownName => "F31 UnknownName",
         Code::NotYet => "F38 NotYet",
         Code::IncludeCount => "F39 IncludeCount",
+        Code::TooManyEntries => "F44 TooManyEntries",
     }
 }
 

@@ -4,16 +4,15 @@
 mod command_line;
 mod endings;
 mod fault_lines;
-mod ipv4_prefixes;
-mod lists;
-mod namings;
+mod fronts;
 mod paths;
 mod planning;
 mod policies;
+mod reading;
+mod rendering;
 mod reports;
 mod running;
-mod stops;
-mod texts;
+mod writing;
 
 pub use endings::{Ended, Which, status_of};
 pub use running::aclgen;

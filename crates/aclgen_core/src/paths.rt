@@ -1,32 +1,13 @@
 ghost use Rattle.std.specs.Prelude.{◌≡◌, ◌++◌, map, codes, IfOk, slice_index_or, length, ◌-◌, [], nat_eq};
 ghost use Rattle.std.specs.List.{slice_split, ends_with};
 ghost use Rattle.std.specs.String.{string_bytes};
-ghost use Rattle.acl_host.specs.Files.{join_path, with_slash};
+ghost use Rattle.acl_host.specs.Files.{join_path};
 ghost use Rattle.aclgen_core.specs.Paths.{parts_of, last_part, without_pol, acl_path};
 ghost use Rattle.aclgen_core.specs.Views.{options_view};
 
 use crate::command_line::Options;
+use acl_load::join_path;
 use std::alloc::{AllocError, Global};
-
-/// The folder's path, one slash, and the rest.
-pub fn join_path(alloc: Global, folder: &str, rest: &str) -> Result<String, AllocError>
-    ensures { IfOk result (λ path. string_bytes path ≡ join_path folder.now rest.now) }
-{
-    let mut path = with_slash(alloc, folder)?;
-    path.push_str(rest)?;
-    Ok(path)
-}
-
-fn with_slash(alloc: Global, folder: &str) -> Result<String, AllocError>
-    ensures { IfOk result (λ path. string_bytes path ≡ with_slash folder.now) }
-{
-    let mut path = String::from_str(alloc, folder)?;
-    if folder.as_bytes().ends_with(b"/") {
-        return Ok(path);
-    }
-    path.push_str("/")?;
-    Ok(path)
-}
 
 fn parts_of(alloc: Global, path: &str) -> Result<Vec<&str>, AllocError>
     ensures { IfOk result (λ parts. map (λ p. p.now) parts.items ≡ parts_of path.now) }

@@ -1,9 +1,9 @@
-ghost use Rattle.std.specs.Prelude.{◌≡◌, ◌+◌, ◌^◌, ◌<◌, ◌++◌, ◌∷◌, [], ℕ, List, map, length, IfOk, OnOk, OnErr, Some, None};
-ghost use Rattle.aclgen_core.specs.declared.policies.Word.{Word};
-ghost use Rattle.aclgen_core.specs.Policies.{numbered_words, is_in_place, are_in_place, has_form, policy_of, word_of, numbered};
+ghost use Rattle.std.specs.Prelude.{◌≡◌, [], ◌∷◌, ◌++◌, List, map, length, IfOk, OnOk};
+ghost use Rattle.std.specs.Str.{bytes_eq};
+ghost use Rattle.acl_text.specs.Cursors.{words_of};
+ghost use Rattle.aclgen_core.specs.Policies.{numbered};
 
-use crate::texts::{is_nonempty, is_short_name, words_of};
-use acl_text::{Bytes, Memory, is_filter_name};
+use acl_text::{Bytes, Memory, next_word};
 use std::alloc::Global;
 use std::marker::Model;
 
@@ -14,12 +14,37 @@ pub struct Word {
     pub text: Bytes,
 }
 
-/// What a policy says: the filter's name, the term's name, and the name of its destination.
+impl Word {
+    /// Whether the word is this one.
+    pub fn is(&self, text: &[u8]) -> bool
+        ensures { result ≡ bytes_eq self.now.text text.now }
+    {
+        self.text.as_slice() == text
+    }
+}
+
+/// The target of a policy: the line of its keyword, and its filter's name.
+#[derive(Debug, Drop)]
+pub struct Target {
+    pub line: u32,
+    pub name: Bytes,
+}
+
+/// A term: which packets it matches, and whether it lets them through. What is not named is any.
+#[derive(Debug, Drop)]
+pub struct Term {
+    pub name: Bytes,
+    pub source: Option<Word>,
+    pub destination: Option<Word>,
+    pub proto: Option<u8>,
+    pub permit: bool,
+}
+
+/// What a policy says.
 #[derive(Debug, Drop)]
 pub struct Policy {
-    pub filter: Bytes,
-    pub term: Bytes,
-    pub destination: Word,
+    pub target: Target,
+    pub terms: Terms,
 }
 
 /// Words in order. A contract sees the list.
@@ -29,24 +54,27 @@ pub struct Words {
 }
 
 impl Model for Words {
+    ghost use Rattle.std.specs.Prelude.{List};
+    ghost use Rattle.aclgen_core.specs.declared.policies.Word.{Word};
+
     ghost Value = { List Word };
 
     ghost view = { λ w. w.items.items };
 }
 
 impl Words {
-    pub fn as_slice(&self) -> &[Word]
-        ensures { result.now ≡ self.now }
-    {
-        self.items.as_slice()
-    }
-
-    fn new(alloc: Global) -> Words
+    pub fn new(alloc: Global) -> Words
         ensures { result ≡ [] }
     {
         Words {
             items: Vec::new(alloc),
         }
+    }
+
+    pub fn as_slice(&self) -> &[Word]
+        ensures { result.now ≡ self.now }
+    {
+        self.items.as_slice()
     }
 
     fn push(&mut self, alloc: Global, line: u32, text: &[u8]) -> Result<(), Memory>
@@ -57,118 +85,53 @@ impl Words {
         Ok(())
     }
 
-    fn push_all(&mut self, alloc: Global, line: u32, texts: &[&[u8]]) -> Result<(), Memory>
-        ensures { OnOk result (self.new ≡ self.old ++ map (numbered line) (map (λ t. t.now) texts.now)) }
+    /// Adds the words of a line of that number.
+    pub fn push_line(&mut self, alloc: Global, line: u32, text: &[u8]) -> Result<(), Memory>
+        ensures { OnOk result (self.new ≡ self.old ++ map (numbered line) (words_of text.now)) }
     {
-        for text in texts {
-            self.push(alloc, line, text)?;
+        let mut from = 0;
+        while let Some((start, end)) = next_word(text, from) {
+            self.push(alloc, line, &text[start..end])?;
+            from = end;
         }
         Ok(())
     }
 }
 
-/// The words of the lines, with the lines' numbers from 1.
-pub fn numbered_words(alloc: Global, lines: &[&[u8]]) -> Result<Words, Memory>
-    requires { length lines.now + 1 < 2 ^ 32 }
-    ensures { IfOk result (λ words. words ≡ numbered_words 1 (map (λ l. l.now) lines.now)) }
-{
-    let mut words = Words::new(alloc);
-    let mut number: u32 = 1;
-    for line in lines {
-        let texts = words_of(alloc, line)?;
-        words.push_all(alloc, number, texts.as_slice())?;
-        number += 1;
-    }
-    Ok(words)
+/// Terms in order. A contract sees the list.
+#[derive(Debug, Drop)]
+pub struct Terms {
+    items: Vec<Term>,
 }
 
-// The form of a policy, word by word; an empty place takes a name.
-const FORM: [&[u8]; 17] = [
-    b"header",
-    b"{",
-    b"target::",
-    b"cisco",
-    b"",
-    b"extended",
-    b"}",
-    b"term",
-    b"",
-    b"{",
-    b"destination-address::",
-    b"",
-    b"protocol::",
-    b"tcp",
-    b"action::",
-    b"accept",
-    b"}",
-];
+impl Model for Terms {
+    ghost use Rattle.std.specs.Prelude.{List};
+    ghost use Rattle.aclgen_core.specs.declared.policies.Term.{Term};
 
-fn is_in_place(word: &[u8], place: &[u8]) -> bool
-    ensures { result ≡ is_in_place word.now place.now }
-{
-    if is_nonempty(place) {
-        word == place
-    } else {
-        is_short_name(word)
-    }
+    ghost Value = { List Term };
+
+    ghost view = { λ t. t.items.items };
 }
 
-fn are_in_place(words: &[Word], places: &[&[u8]]) -> bool
-    ensures { result ≡ are_in_place (map (λ w. w.text) words.now) (map (λ p. p.now) places.now) }
-{
-    match words {
-        [] => places.is_empty(),
-        [word, words @ ..] => match places {
-            [] => false,
-            [place, places @ ..] => {
-                is_in_place(word.text.as_slice(), place) && are_in_place(words, places)
-            }
-        },
+impl Terms {
+    pub fn new(alloc: Global) -> Terms
+        ensures { result ≡ [] }
+    {
+        Terms {
+            items: Vec::new(alloc),
+        }
     }
-}
 
-fn has_form(words: &[Word]) -> bool
-    ensures { result ≡ has_form (map (λ w. w.text) words.now) }
-{
-    are_in_place(words, &FORM)
-}
-
-fn text_at(words: &[Word], i: usize) -> &[u8]
-    ensures { result.now ≡ (word_of words.now i).text }
-{
-    match words.get(i) {
-        Some(word) => word.text.as_slice(),
-        None => &[],
+    pub fn as_slice(&self) -> &[Term]
+        ensures { result.now ≡ self.now }
+    {
+        self.items.as_slice()
     }
-}
 
-fn line_at(words: &[Word], i: usize) -> u32
-    ensures { result ≡ (word_of words.now i).line }
-{
-    match words.get(i) {
-        Some(word) => word.line,
-        None => 0,
+    pub fn push(&mut self, term: Term) -> Result<(), Memory>
+        ensures { OnOk result (self.new ≡ self.old ++ term ∷ []) }
+    {
+        self.items.push(term)?;
+        Ok(())
     }
-}
-
-/// What the words of a policy say. None where they have not the form.
-#[tactic(auto, unfolding(crate::specs::Policies::policy_of))]
-pub fn policy_of(alloc: Global, words: &[Word]) -> Result<Option<Policy>, Memory>
-    ensures { IfOk result (λ o. o ≡ policy_of words.now) }
-{
-    if !has_form(words) || !is_filter_name(text_at(words, 4)) {
-        return Ok(None);
-    }
-    let filter = Bytes::from_slice(alloc, text_at(words, 4))?;
-    let term = Bytes::from_slice(alloc, text_at(words, 8))?;
-    let text = Bytes::from_slice(alloc, text_at(words, 11))?;
-    let destination = Word {
-        line: line_at(words, 11),
-        text,
-    };
-    Ok(Some(Policy {
-        filter,
-        term,
-        destination,
-    }))
 }

@@ -1,0 +1,117 @@
+ghost use Rattle.std.specs.Prelude.{◌≡◌, Some, IfOk, IsErrOf};
+ghost use Rattle.std.specs.Option.{option_copied};
+ghost use Rattle.acl_load.specs.Answers.{Answers};
+ghost use Rattle.aclgen_core.specs.Job.{unknown_name};
+ghost use Rattle.aclgen_core.specs.Steps.{SideGiven, SetGiven, RuleGiven, RulesGiven};
+
+use crate::policies::{Term, Word};
+use acl_load::LoadFault;
+use acl_naming::{Checked, Lookup, networks_of};
+use acl_packet::Family;
+use acl_sets::{Prefixes, RangeSet, least_prefixes};
+use acl_text::{Bytes, Code, Fault, Memory};
+use gen_cisco::{Rule, Rules};
+use std::alloc::Global;
+
+// The highest IPv4 address, as a number.
+const TOP: u128 = 0xffff_ffff;
+
+fn unknown_name(alloc: Global, path: &str, word: &Word) -> Result<Fault, Memory>
+    ensures { IfOk result (λ fault. fault ≡ unknown_name path.now word.now) }
+{
+    let label = Bytes::from_slice(alloc, path.as_bytes())?;
+    let text = Bytes::from_slice(alloc, word.text.as_slice())?;
+    Ok(Fault {
+        code: Code::UnknownName,
+        label,
+        line: word.line,
+        word: text,
+    })
+}
+
+// The IPv4 addresses that the name reaches.
+fn addresses_named(
+    alloc: Global,
+    definitions: &Checked,
+    path: &str,
+    word: &Word,
+) -> Result<RangeSet, LoadFault>
+    ensures gives { Answers (λ set. set) result (SetGiven path.now definitions.now.networks (Some word.now)) }
+    ensures list_failed { IsErrOf result LoadFault.List → ⊥ }
+    ensures read_failed { IsErrOf result LoadFault.Read → ⊥ }
+{
+    match networks_of(alloc, definitions, Family::V4, word.text.as_slice()) {
+        Ok(set) => Ok(set),
+        Err(Lookup::Unknown) => Err(LoadFault::Fault(unknown_name(alloc, path, word)?)),
+        Err(Lookup::NoPort) => unreachable!(),
+        Err(Lookup::Memory) => Err(LoadFault::Memory),
+    }
+}
+
+// The IPv4 addresses that one side of a term takes.
+fn addresses_of(
+    alloc: Global,
+    definitions: &Checked,
+    path: &str,
+    side: Option<&Word>,
+) -> Result<RangeSet, LoadFault>
+    ensures gives { Answers (λ set. set) result (SetGiven path.now definitions.now.networks (option_copied side.entry)) }
+    ensures list_failed { IsErrOf result LoadFault.List → ⊥ }
+    ensures read_failed { IsErrOf result LoadFault.Read → ⊥ }
+{
+    match side {
+        None => Ok(RangeSet::all(alloc, TOP)?),
+        Some(word) => addresses_named(alloc, definitions, path, word),
+    }
+}
+
+// The prefixes of one side of a term.
+fn prefixes_of(
+    alloc: Global,
+    definitions: &Checked,
+    path: &str,
+    side: Option<&Word>,
+) -> Result<Prefixes, LoadFault>
+    ensures gives { Answers (λ prefixes. prefixes) result (SideGiven path.now definitions.now.networks (option_copied side.entry)) }
+    ensures list_failed { IsErrOf result LoadFault.List → ⊥ }
+    ensures read_failed { IsErrOf result LoadFault.Read → ⊥ }
+{
+    let set = addresses_of(alloc, definitions, path, side)?;
+    Ok(least_prefixes(alloc, &set, Family::V4)?)
+}
+
+fn rule_of(alloc: Global, definitions: &Checked, path: &str, term: &Term) -> Result<Rule, LoadFault>
+    ensures gives { Answers (λ rule. rule) result (RuleGiven path.now definitions.now.networks term.now) }
+    ensures list_failed { IsErrOf result LoadFault.List → ⊥ }
+    ensures read_failed { IsErrOf result LoadFault.Read → ⊥ }
+{
+    let src = prefixes_of(alloc, definitions, path, term.source.as_ref())?;
+    let dst = prefixes_of(alloc, definitions, path, term.destination.as_ref())?;
+    Ok(Rule {
+        name: Bytes::from_slice(alloc, term.name.as_slice())?,
+        permit: term.permit,
+        proto: term.proto,
+        src,
+        dst,
+    })
+}
+
+/// The rules that the terms of the policy at the path become, one for each.
+///
+/// The first name of a source or a destination that no network has is a fault.
+pub fn rules_of(
+    alloc: Global,
+    definitions: &Checked,
+    path: &str,
+    terms: &[Term],
+) -> Result<Rules, LoadFault>
+    ensures gives { Answers (λ rules. rules) result (RulesGiven path.now definitions.now.networks terms.now) }
+    ensures list_failed { IsErrOf result LoadFault.List → ⊥ }
+    ensures read_failed { IsErrOf result LoadFault.Read → ⊥ }
+{
+    let mut rules = Rules::new(alloc);
+    for term in terms {
+        rules.push(rule_of(alloc, definitions, path, term)?)?;
+    }
+    Ok(rules)
+}
