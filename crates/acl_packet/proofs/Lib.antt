@@ -1,2 +1,4 @@
-pub mod Blocks
-pub mod WordLaws
+pub mod ChoiceLaws
+pub mod DecimalLaws
+pub mod NumberWordLaws
+pub mod PrefixLaws

@@ -1,5 +1,7 @@
 -- Addresses and prefixes, as numbers.
-use Rattle.std.specs.Prelude.{◌≡◌, ℕ, ◌+◌, ◌-◌, ◌*◌, ◌^◌, ◌<◌, ◌≤◌, Bool, ◌&&◌, nat_le, nat_lt}
+use Rattle.std.specs.Prelude.{◌≡◌, ℕ, ◌+◌, ◌-◌, ◌*◌, ◌^◌, ◌<◌, ◌≤◌, Bool, true, false, ◌&&◌, nat_le, nat_lt}
+use Rattle.acl_packet.specs.declared.addresses.Families.{Families}
+use Rattle.acl_packet.specs.declared.addresses.Families.TheVariants.{Inet, Inet6, Mixed}
 use Rattle.acl_packet.specs.declared.addresses.Family.{Family}
 use Rattle.acl_packet.specs.declared.addresses.Family.TheVariants.{V4, V6}
 use Rattle.acl_packet.specs.declared.addresses.Prefix.{Prefix}
@@ -8,6 +10,23 @@ use Rattle.acl_packet.specs.declared.addresses.Prefix.{Prefix}
 abbrev pub width_of : Family → ℕ
 width_of V4 = 32
 width_of V6 = 128
+
+-- The highest address of a family, as a number.
+abbrev pub top_address : Family → ℕ
+top_address f = 2 ^ width_of f - 1
+
+-- Two families are the same one.
+abbrev pub same_family : Family → Family → Bool
+same_family V4 V4 = true
+same_family V4 V6 = false
+same_family V6 V4 = false
+same_family V6 V6 = true
+
+-- The family is one of those that a filter is for.
+abbrev pub covers : Families → Family → Bool
+covers Inet family = same_family V4 family
+covers Inet6 family = same_family V6 family
+covers Mixed family = true
 
 -- How many addresses a prefix has: one for each value of the bits behind its length.
 abbrev pub size_of : Prefix → ℕ
@@ -20,6 +39,10 @@ pub record IsPrefix (p : Prefix) : Type 0 where
   pub len_fits : p.len ≤ width_of p.family
   pub first_fits : p.first < 2 ^ width_of p.family
   pub aligned : (n : ℕ) × (p.first ≡ n * size_of p)
+
+-- A prefix of that family.
+abbrev pub IsPrefixOf : Family → Prefix → Type 0
+IsPrefixOf family prefix = (prefix.family ≡ family) × IsPrefix prefix
 
 -- The addresses of a prefix are its first one and those that follow, as many as its size.
 abbrev pub has_address : Prefix → ℕ → Bool

@@ -1,3 +1,5 @@
 pub mod Addresses
-pub mod Numbers
+pub mod Decimals
+pub mod NumberWords
+pub mod Outcomes
 pub mod Packets

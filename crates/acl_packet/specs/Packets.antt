@@ -1,5 +1,5 @@
 -- What a packet is: one that is no fragment, with each field that its protocol has not at 0.
-use Rattle.std.specs.Prelude.{◌≡◌, ◌≢◌, ℕ, ◌<◌, ◌^◌, Bool, false, ◌||◌, ◌==◌}
+use Rattle.std.specs.Prelude.{◌≡◌, ◌≢◌, ℕ, ◌<◌, ◌^◌, Bool, false, not, ◌||◌, ◌==◌, bit_and}
 use Rattle.acl_packet.specs.declared.addresses.Family.{Family}
 use Rattle.acl_packet.specs.declared.addresses.Family.TheVariants.{V4, V6}
 use Rattle.acl_packet.specs.declared.packets.Packet.{Packet}
@@ -10,9 +10,16 @@ abbrev pub has_ports : ℕ → Bool
 has_ports proto = proto == 6 || proto == 17 || proto == 132
 
 -- ICMP for IPv4 (RFC 792) and for IPv6 (RFC 4443): each only in its own family.
+abbrev pub icmp_of : Family → ℕ
+icmp_of V4 = 1
+icmp_of V6 = 58
+
 abbrev pub is_icmp : Family → ℕ → Bool
-is_icmp V4 proto = proto == 1
-is_icmp V6 proto = proto == 58
+is_icmp family proto = proto == icmp_of family
+
+-- A flag of TCP is set: FIN 1, SYN 2, RST 4, PSH 8, ACK 16, URG 32 (RFC 9293 section 3.1).
+abbrev pub has_flag : ℕ → ℕ → Bool
+has_flag flags flag = not (bit_and flags flag == 0)
 
 -- The numbers that stand for no protocol of an IPv6 packet here: extension headers and "no next header"
 -- (RFC 8200, IANA's list of extension headers). ESP, 50, counts as a protocol: this project's own choice.

@@ -1,4 +1,4 @@
-ghost use Rattle.std.specs.Prelude.{◌≡◌, ◌+◌, ◌↔◌, IsTrue};
+ghost use Rattle.std.specs.Prelude.{◌≡◌, ◌+◌, ◌^◌, ◌≤◌, nat_lt};
 
 /// The family of an address: IPv4 of 32 bits (RFC 791), or IPv6 of 128 bits (RFC 4291).
 #[derive(Clone, Copy, Debug, PartialEq, Eq)]
@@ -8,7 +8,8 @@ pub enum Family {
 }
 
 impl Family {
-    ghost use Rattle.acl_packet.specs.Addresses.{width_of};
+    ghost use Rattle.acl_packet.specs.Addresses.{top_address, width_of};
+    ghost use Rattle.acl_packet.specs.Packets.{icmp_of};
 
     /// The number of bits of an address.
     pub fn width(self) -> u8
@@ -19,6 +20,26 @@ impl Family {
             Family::V6 => 128,
         }
     }
+
+    /// The highest address, as a number.
+    pub fn top_address(self) -> u128
+        ensures { result ≡ top_address self }
+    {
+        match self {
+            Family::V4 => 0xffff_ffff,
+            Family::V6 => u128::MAX,
+        }
+    }
+
+    /// The number of the family's ICMP among protocols: 1 (RFC 792), or 58 (RFC 4443).
+    pub fn icmp_number(self) -> u8
+        ensures { result ≡ icmp_of self }
+    {
+        match self {
+            Family::V4 => 1,
+            Family::V6 => 58,
+        }
+    }
 }
 
 /// The families that a filter is for.
@@ -27,6 +48,21 @@ pub enum Families {
     Inet,
     Inet6,
     Mixed,
+}
+
+impl Families {
+    ghost use Rattle.acl_packet.specs.Addresses.{covers};
+
+    /// Whether the family is one of them.
+    pub fn covers(self, family: Family) -> bool
+        ensures { result ≡ covers self family }
+    {
+        match self {
+            Families::Inet => family == Family::V4,
+            Families::Inet6 => family == Family::V6,
+            Families::Mixed => true,
+        }
+    }
 }
 
 /// A block of addresses that begin with the same bits (RFC 4632 section 3.1, RFC 4291 section 2.3).
@@ -44,12 +80,13 @@ pub struct Prefix {
 impl Prefix {
     ghost use Rattle.acl_packet.specs.Addresses.{IsPrefix, has_address, size_of};
 
-    /// Whether the address, as a number, lies in the prefix.
+    /// Whether the address, as a number, lies in the prefix: it is one of the addresses from the first
+    /// on, as many as the bits behind the length give.
     pub fn contains(&self, address: u128) -> bool
-        requires { IsPrefix self.now }
-        ensures { IsTrue result ↔ IsTrue (has_address self.now address) }
+        ensures { result ≡ has_address self.now address }
     {
-        self.first <= address && address <= self.last()
+        let free = self.family.width().saturating_sub(self.len);
+        self.first <= address && is_below_power(address - self.first, free)
     }
 
     /// The highest address of the prefix, as a number.
@@ -64,4 +101,12 @@ impl Prefix {
             self.first + (2u128.pow(u32::from(free)) - 1)
         }
     }
+}
+
+// Whether the number has at most so many bits.
+fn is_below_power(number: u128, bits: u8) -> bool
+    requires { bits ≤ 128 }
+    ensures { result ≡ nat_lt number (2 ^ bits) }
+{
+    bits == 128 || number < 2u128.pow(u32::from(bits))
 }

@@ -22,3 +22,18 @@ pub struct Outcome {
     pub verdict: Verdict,
     pub logged: bool,
 }
+
+impl Outcome {
+    ghost use Rattle.std.specs.Prelude.{◌≡◌};
+    ghost use Rattle.acl_packet.specs.Outcomes.{unlogged};
+
+    /// The verdict on a packet that is not logged.
+    pub fn unlogged(verdict: Verdict) -> Outcome
+        ensures { result ≡ unlogged verdict }
+    {
+        Outcome {
+            verdict,
+            logged: false,
+        }
+    }
+}

@@ -2,13 +2,15 @@
 #![tactic(auto)]
 
 mod addresses;
+mod decimals;
 mod filtering;
-mod numbers;
+mod number_words;
 mod packets;
 #[cfg(test)]
 mod tests;
 
 pub use addresses::{Families, Family, Prefix};
+pub use decimals::{read_number, read_u8, read_u16};
 pub use filtering::{Hook, Outcome, Verdict};
-pub use numbers::{icmp_number, protocol_number};
-pub use packets::{Conn, Packet, is_packet};
+pub use number_words::{icmp_number, protocol_number};
+pub use packets::{Conn, Packet, has_flag, is_packet};

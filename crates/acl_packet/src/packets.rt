@@ -1,6 +1,12 @@
 ghost use Rattle.std.specs.Prelude.{◌≡◌, ◌<◌, ◌↔◌, ◌^◌, IsTrue};
 ghost use Rattle.acl_packet.specs.Addresses.{width_of};
-ghost use Rattle.acl_packet.specs.Packets.{IsPacket, has_ports, is_icmp, is_extension_header};
+ghost use Rattle.acl_packet.specs.Packets.{
+  IsPacket,
+  has_flag,
+  has_ports,
+  is_extension_header,
+  is_icmp,
+};
 
 use crate::addresses::Family;
 
@@ -64,6 +70,13 @@ pub fn is_packet(p: &Packet) -> bool
     true
 }
 
+/// Whether the flag, one of the bits of `Packet::flags`, is set among the flags.
+pub fn has_flag(flags: u8, flag: u8) -> bool
+    ensures { result ≡ has_flag flags flag }
+{
+    flags & flag != 0
+}
+
 fn is_address(family: Family, address: u128) -> bool
     ensures { IsTrue result ↔ (address < 2 ^ width_of family) }
 {
@@ -82,10 +95,7 @@ fn has_ports(proto: u8) -> bool
 fn is_icmp(family: Family, proto: u8) -> bool
     ensures { result ≡ is_icmp family proto }
 {
-    match family {
-        Family::V4 => proto == 1,
-        Family::V6 => proto == 58,
-    }
+    proto == family.icmp_number()
 }
 
 fn is_extension_header(proto: u8) -> bool

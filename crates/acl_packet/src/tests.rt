@@ -1,5 +1,5 @@
 use crate::addresses::Family;
-use crate::numbers::{icmp_number, protocol_number};
+use crate::number_words::{icmp_number, protocol_number};
 use std::process::Abort;
 use std::rt::HostRuntime;
 

@@ -7,7 +7,8 @@ use Rattle.std.proofs.lemmas.List.{get_or-drop, drop-drop, length-drop, length-a
 use Rattle.std.proofs.lemmas.List.Sums.{prefix_len-le-length, prefix_len_passes, prefix_len_stops}
 use Rattle.acl_text.specs.Cuts.{cut_at, has_byte}
 use Rattle.acl_text.specs.Cursors.{onto_first, lines_of, all_or_none, or_all, first_line, is_white, is_black, begins_black, words_of, IsNextWord, HasNoWord, run_end, word_to, word_at}
-use Rattle.acl_text.proofs.Reading.{refused, cut-found, none-cut}
+use Rattle.acl_packet.proofs.ChoiceLaws.{refused}
+use Rattle.acl_text.proofs.CutLaws.{cut-found, none-cut}
 
 -- ---- lines
 

@@ -5,10 +5,12 @@ use Rattle.std.proofs.lemmas.Bool.{or_from}
 use Rattle.std.proofs.lemmas.List.{length-append}
 use Rattle.std.proofs.lemmas.Option.{same_Some}
 use Rattle.acl_text.specs.Cuts.{cut_at, has_byte}
-use Rattle.acl_text.specs.Numbers.{number_in}
+use Rattle.acl_packet.specs.Decimals.{number_in}
 use Rattle.acl_text.specs.Ipv4.{IsByte, IsIpv4, ipv4_in, ipv4_text}
-use Rattle.acl_text.proofs.Reading.{bound, bound_on, cut-found, cut-again, has-append}
-use Rattle.acl_text.proofs.Numbers.{number-is, number-in, number-text, number-lacks, decimal-number, decimal-short}
+use Rattle.acl_text.proofs.OptionStepLaws.{bound, bound_on}
+use Rattle.acl_text.proofs.CutLaws.{cut-found, cut-again, has-append}
+use Rattle.acl_packet.proofs.DecimalLaws.{number-is, number-in, number-text, decimal-number, decimal-short}
+use Rattle.acl_text.proofs.DigitLaws.{number-lacks}
 
 -- four texts with `.` between
 dotted : List ℕ → List ℕ → List ℕ → List ℕ → List ℕ

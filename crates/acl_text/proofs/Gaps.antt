@@ -6,7 +6,8 @@ use Rattle.std.proofs.lemmas.Option.{none-some, same_Some, some_pair_parts}
 use Rattle.std.proofs.lemmas.List.{length-append, get_or_append_left}
 use Rattle.acl_text.specs.Cuts.{has_byte}
 use Rattle.acl_text.specs.Ipv6.{IsGroups, IsSide, grouped, IsWhole, IsShort, IsIpv6, groups_in, side_in, gap_at, whole_in, short_in, ipv6_in}
-use Rattle.acl_text.proofs.Reading.{chosen, guarded, bound, bound_on, mapped}
+use Rattle.acl_packet.proofs.ChoiceLaws.{chosen, guarded}
+use Rattle.acl_text.proofs.OptionStepLaws.{bound, bound_on, mapped}
 use Rattle.acl_text.proofs.Dotted.{ipv4-lacks, ipv4-nonempty}
 use Rattle.acl_text.proofs.Groups.{group-lacks, groups-again, groups-read, side-found, side-again}
 

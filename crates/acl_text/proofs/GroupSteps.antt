@@ -1,7 +1,8 @@
 -- One step in reading the groups of an IPv6 address.
 use Rattle.std.proofs.Common.{◌≡◌, ℕ, zero, suc, ◌+◌, ◌-◌, ◌*◌, ◌<◌, Bool, List, Option, None, Some, refl, ap, sym, ◌∙◌, arith}
 use Rattle.std.specs.Option.{option_map_or}
-use Rattle.acl_text.specs.Cuts.{◌>>=◌, cut_at}
+use Rattle.acl_text.specs.OptionSteps.{◌>>=◌}
+use Rattle.acl_text.specs.Cuts.{cut_at}
 use Rattle.acl_text.specs.Ipv6.{group_in, last_in, groups_in}
 
 pub step_none : (left : ℕ) (dotted : Bool) (v : ℕ) (bs : List ℕ) → left ≡ 0 → groups_in left dotted v bs ≡ None

@@ -7,10 +7,13 @@ use Rattle.std.proofs.lemmas.Bool.Decides.{nat_tests}
 use Rattle.std.proofs.lemmas.Option.{none-some, same_Some}
 use Rattle.std.proofs.lemmas.List.{length-append, nil_from_length}
 use Rattle.std.proofs.lemmas.Nat.{pow-add}
-use Rattle.acl_text.specs.Cuts.{◌>>=◌, cut_at, has_byte}
+use Rattle.acl_text.specs.OptionSteps.{◌>>=◌}
+use Rattle.acl_text.specs.Cuts.{cut_at, has_byte}
 use Rattle.acl_text.specs.Ipv4.{IsIpv4, ipv4_in}
 use Rattle.acl_text.specs.Ipv6.{hex_value, hex_worth, IsGroup, IsGroups, IsSide, grouped, group_in, last_in, groups_in, side_in}
-use Rattle.acl_text.proofs.Reading.{chosen, guarded, bound, mapped, cut-found, cut-again, cut-none}
+use Rattle.acl_packet.proofs.ChoiceLaws.{chosen, guarded}
+use Rattle.acl_text.proofs.OptionStepLaws.{bound, mapped}
+use Rattle.acl_text.proofs.CutLaws.{cut-found, cut-again, cut-none}
 use Rattle.acl_text.proofs.Dotted.{ipv4-is, ipv4-in, ipv4-lacks, ipv4-nonempty}
 use Rattle.acl_text.proofs.GroupSteps.{step_more, step_last}
 

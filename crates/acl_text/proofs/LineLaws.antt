@@ -3,17 +3,16 @@ use Rattle.std.proofs.Common.{◌≡◌, ℕ, ◌||◌, ◌+◌, ◌<◌, ◌≤
 use Rattle.std.specs.Borrow.{Bor}
 use Rattle.std.specs.List.{list_all, slice_split, join_with_byte, onto_first, AllByRecursion}
 use Rattle.std.specs.Str.{bytes_eq}
-use Rattle.std.proofs.lemmas.Bool.{false≢true}
+use Rattle.std.proofs.lemmas.Bool.{false≢true, or_from}
 use Rattle.std.proofs.lemmas.List.{length-append, length-replicate, map-append, take_at, drop_at, take-append-drop, nil_from_length}
 use Rattle.std.proofs.lemmas.List.Splits.{join_with_byte-slice_split}
 use Rattle.std.proofs.lemmas.Option.{none-some, same_Some}
 use Rattle.std.proofs.lemmas.Grind.{flat_map-append}
 use Rattle.std.proofs.lemmas.Bool.Decides.{Decides-eqb}
 use Rattle.std.proofs.lemmas.Slice.Eq.{bytes_eq-Decides}
-use Rattle.std.proofs.lemmas.Bool.{or_from}
-use Rattle.acl_text.specs.Cuts.{has_byte}
-use Rattle.acl_text.proofs.Reading.{has-append}
-use Rattle.acl_text.specs.Lines.{views, is_feed, is_space, ended, text_of_lines, line_of, IsLine, IsWord, behind, before_empty_last, lines_in, words_in, indented_words_in}
+use Rattle.acl_text.specs.Cuts.{behind, has_byte}
+use Rattle.acl_text.proofs.CutLaws.{behind-again, behind-found, has-append}
+use Rattle.acl_text.specs.Lines.{views, is_feed, is_space, ended, text_of_lines, line_of, IsLine, IsWord, before_empty_last, lines_in, words_in, indented_words_in}
 
 -- the parts, the last of them empty
 ends_empty : (parts : List (List ℕ)) → before_empty_last (parts ++ [] ∷ []) ≡ Some parts
@@ -47,20 +46,6 @@ no_lines_from_parts text all rest last e f h = sym (ap before_empty_last (parts_
 pub no_lines_from_no_parts : (text : List ℕ) (all : List (Bor (List ℕ))) → views all ≡ slice_split is_feed text → all ≡ [] → None ≡ lines_in text
 unfolding lines_in before_empty_last
 no_lines_from_no_parts text all e f = sym (ap before_empty_last (sym e ∙ ap views f))
-
--- what stands behind a front
-pub behind-found : (front text rest : List ℕ) → behind front text ≡ Some rest → text ≡ front ++ rest
-unfolding behind
-behind-found front text rest h = behind_cases (bytes_eq (take (length front) text) front) refl h where
-  behind_cases : (b : Bool) → bytes_eq (take (length front) text) front ≡ b → cond b (Some (drop (length front) text)) None ≡ Some rest → text ≡ front ++ rest
-  behind_cases true e s = sym (take-append-drop (length front) text) ∙ ap (λ t. t ++ drop (length front) text) ((bytes_eq-Decides (take (length front) text) front).0 e) ∙ ap (λ t. front ++ t) (same_Some (drop (length front) text) rest s)
-  behind_cases false e s = absurd (none-some rest s)
-
-pub behind-again : (front rest : List ℕ) → behind front (front ++ rest) ≡ Some rest
-unfolding behind
-behind-again front rest =
-    let e : bytes_eq (take (length front) (front ++ rest)) front ≡ true = (bytes_eq-Decides (take (length front) (front ++ rest)) front).1 (take_at front rest (length front) refl) in
-    ap (λ b. cond b (Some (drop (length front) (front ++ rest))) None) e ∙ ap Some (drop_at front rest (length front) refl)
 
 -- the words of a line, joined again
 pub words-found : (line : List ℕ) (words : List (List ℕ)) → words_in line ≡ words → line ≡ join_with_byte 32 words

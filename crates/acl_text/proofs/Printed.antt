@@ -9,7 +9,8 @@ use Rattle.std.proofs.lemmas.List.{length-append, length-take-le, length-drop, t
 use Rattle.std.proofs.lemmas.Nat.{pow-add}
 use Rattle.acl_text.specs.Cuts.{has_byte}
 use Rattle.acl_text.specs.Ipv6.{hex_value, hex_worth, IsGroup, IsGroups, IsSide, grouped, IsIpv6, hex_digit, group_text, groups_text, groups_of, zeros, longest_run, shortened, ipv6_text}
-use Rattle.acl_text.proofs.Reading.{bound_on, has-append}
+use Rattle.acl_text.proofs.OptionStepLaws.{bound_on}
+use Rattle.acl_text.proofs.CutLaws.{has-append}
 use Rattle.acl_text.proofs.Dotted.{ipv4-small, ipv4-lacks}
 use Rattle.acl_text.proofs.Groups.{group-small, group-lacks, has-there, groups-nonempty}
 

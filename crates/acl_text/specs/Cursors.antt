@@ -45,6 +45,11 @@ is_white b = b == 9 || b == 13 || b == 32
 abbrev pub is_black : ℕ → Bool
 is_black b = not (is_white b)
 
+-- The text behind the white space at its front.
+abbrev pub without_white : List ℕ → List ℕ
+without_white [] = []
+without_white (b ∷ bs) = if is_white b then without_white bs else b ∷ bs
+
 abbrev pub begins_black : List ℕ → Bool
 begins_black [] = false
 begins_black (b ∷ bs) = is_black b

@@ -1,11 +1,7 @@
--- Cutting a text at a byte, and reading one part after the other.
-use Rattle.std.specs.Prelude.{ℕ, Bool, ◌==◌, if◌then◌else◌, List, [], ◌∷◌, Option, Some, None, option_map, option_and_then}
-use Rattle.std.specs.List.{list_any}
-
--- A part that is read, then the next one: nothing is read where one of them is not.
-infixl 10 ◌>>=◌
-abbrev pub ◌>>=◌ : {A B : Type 0} → Option A → (A → Option B) → Option B
-o >>= f = option_and_then f o
+-- Cutting a text at a byte, and at a front or an end.
+use Rattle.std.specs.Prelude.{ℕ, ◌-◌, Bool, ◌==◌, nat_eq, if◌then◌else◌, List, [], ◌∷◌, length, take, drop, Option, Some, None, option_map}
+use Rattle.std.specs.List.{list_any, ends_with}
+use Rattle.std.specs.Str.{bytes_eq}
 
 -- The text before the first such byte, and the text behind it.
 abbrev pub cut_at : ℕ → List ℕ → Option (List ℕ × List ℕ)
@@ -15,3 +11,11 @@ cut_at c (b ∷ bs) = if b == c then Some ([], bs) else option_map (λ p. (b ∷
 -- Whether the byte stands in the text.
 abbrev pub has_byte : ℕ → List ℕ → Bool
 has_byte c bs = list_any (λ b. b == c) bs
+
+-- What stands behind a front, where the text begins with it.
+unfoldable pub behind : List ℕ → List ℕ → Option (List ℕ)
+behind front text = if bytes_eq (take (length front) text) front then Some (drop (length front) text) else None
+
+-- What stands ahead of an end, where the text ends in it.
+unfoldable pub ahead : List ℕ → List ℕ → Option (List ℕ)
+ahead end text = if ends_with nat_eq text end then Some (take (length text - length end) text) else None

@@ -1,8 +1,9 @@
 -- IPv4 addresses as text: four numbers of 0 to 255 with `.` between (RFC 1123 section 2.1, RFC 6943 section 3.1.1).
 use Rattle.std.specs.Prelude.{◌≡◌, ℕ, ◌+◌, ◌*◌, ◌/◌, ◌%◌, ◌^◌, ◌≤◌, List, [], ◌∷◌, Option, Some, decimal}
 use Rattle.std.specs.List.{join_with_byte}
-use Rattle.acl_text.specs.Cuts.{◌>>=◌, cut_at}
-use Rattle.acl_text.specs.Numbers.{IsNumber, number_in}
+use Rattle.acl_text.specs.Cuts.{cut_at}
+use Rattle.acl_text.specs.OptionSteps.{◌>>=◌}
+use Rattle.acl_packet.specs.Decimals.{IsNumber, number_in}
 
 -- The number of an address by its four bytes.
 abbrev pub address_of : ℕ → ℕ → ℕ → ℕ → ℕ

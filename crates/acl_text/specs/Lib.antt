@@ -1,9 +1,13 @@
-pub mod Addresses
+pub mod AddressTexts
+pub mod Answers
 pub mod Cursors
 pub mod Cuts
 pub mod Ipv4
 pub mod Ipv6
 pub mod Lines
 pub mod Names
-pub mod Numbers
+pub mod OptionSteps
 pub mod Output
+pub mod PortRanges
+pub mod SignedNumbers
+pub mod Steps

@@ -2,8 +2,7 @@
 use Rattle.std.specs.Prelude.{◌≡◌, ℕ, false, Bool, ◌==◌, if◌then◌else◌, List, [], ◌∷◌, ◌++◌, length, take, drop, replicate, flat_map, Option, None, Some, option_map, map}
 use Rattle.std.specs.Borrow.{Bor}
 use Rattle.std.specs.List.{slice_split, join_with_byte}
-use Rattle.std.specs.Str.{bytes_eq}
-use Rattle.acl_text.specs.Cuts.{has_byte}
+use Rattle.acl_text.specs.Cuts.{behind, has_byte}
 
 -- Borrowed texts, as the texts.
 abbrev pub views : List (Bor (List ℕ)) → List (List ℕ)
@@ -34,10 +33,6 @@ IsLine line = has_byte 10 line ≡ false
 pub record IsWord (word : List ℕ) : Type 0 where
   pub no_space : has_byte 32 word ≡ false
   pub no_feed : has_byte 10 word ≡ false
-
--- Reading. What stands behind a front, where the text begins with it.
-unfoldable pub behind : List ℕ → List ℕ → Option (List ℕ)
-behind front text = if bytes_eq (take (length front) text) front then Some (drop (length front) text) else None
 
 -- The parts before the last, where the last is empty.
 unfoldable pub before_empty_last : List (List ℕ) → Option (List (List ℕ))

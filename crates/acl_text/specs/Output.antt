@@ -1,5 +1,5 @@
 -- What putting a text into an output means.
-use Rattle.std.specs.Prelude.{◌≡◌, ℕ, ◌+◌, ◌-◌, ◌^◌, ◌≤◌, min, Bool, true, false, List, ◌++◌, take, flat_map, Option, None, Some, Result, option_map, OnOk, OnErr, IfSome, IsErrOf}
+use Rattle.std.specs.Prelude.{◌≡◌, ℕ, ◌-◌, ◌^◌, ◌<◌, ◌≤◌, Bool, true, false, List, ◌++◌, take, flat_map, Option, None, Some, Result, option_map, OnOk, OnErr, IfSome, IsErrOf}
 use Rattle.acl_text.specs.declared.output.PutFault.{PutFault}
 use Rattle.acl_text.specs.declared.output.PutFault.TheVariants.{Failed, Memory}
 
@@ -7,9 +7,9 @@ use Rattle.acl_text.specs.declared.output.PutFault.TheVariants.{Failed, Memory}
 abbrev pub COUNT_END : ℕ
 COUNT_END = 2 ^ 64 - 1
 
--- A count rose in a call: it is greater after the call than before, or stands at its end.
+-- A count rose in a call: unless it stands at its end, it is greater after the call than before.
 abbrev pub Rose : ℕ → ℕ → Type 0
-Rose old new = min (old + 1) COUNT_END ≤ new
+Rose old new = new < COUNT_END → old < new
 
 -- The pieces, one behind the other.
 abbrev pub joined : List (List ℕ) → List ℕ

@@ -1,7 +1,7 @@
 ghost use Rattle.std.specs.Prelude.{◌≡◌, ◌+◌, ◌^◌, ◌<◌, length, option_map, IfSome};
 ghost use Rattle.acl_text.specs.Cursors.{GivesLine, all_or_none, first_line, lines_of};
 
-use crate::cuts::cut;
+use crate::cuts::split_at_byte;
 use crate::faults::Place;
 use std::marker::Model;
 
@@ -64,7 +64,7 @@ fn first_line(bytes: &[u8]) -> Option<(&[u8], &[u8])>
     ensures exact { option_map (λ p. (p.0.now, p.1.now)) result ≡ first_line bytes.now }
     ensures shorter { IfSome result (λ p. length p.1.now < length bytes.now) }
 {
-    match cut(bytes, b'\n') {
+    match split_at_byte(bytes, b'\n') {
         Some((line, rest)) => Some((line, rest)),
         None => all_or_none(bytes),
     }

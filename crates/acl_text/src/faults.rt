@@ -1,5 +1,6 @@
 ghost use Rattle.std.specs.Prelude.{◌≡◌};
 ghost use Rattle.acl_text.specs.declared.faults.Refusal.TheVariants as refusals;
+ghost use Rattle.acl_text.specs.declared.faults.Rejection.TheVariants as rejections;
 
 use crate::texts::{Bytes, Memory};
 use std::alloc::{AllocError, AllocFailed};
@@ -113,4 +114,35 @@ pub struct Fault {
     pub label: Bytes,
     pub line: u32,
     pub word: Bytes,
+}
+
+/// Why a step that touches nothing outside gave no value: the input has a fault, or memory was wanted.
+#[derive(Debug, Drop)]
+pub enum Rejection {
+    Fault(Fault),
+    Memory,
+}
+
+impl From<Memory> for Rejection {
+    ghost from_gives = { λ _ rejection. rejection ≡ rejections.Memory };
+
+    fn from(_memory: Memory) -> Rejection {
+        Rejection::Memory
+    }
+}
+
+impl From<AllocError> for Rejection {
+    ghost from_gives = { λ _ rejection. rejection ≡ rejections.Memory };
+
+    fn from(_error: AllocError) -> Rejection {
+        Rejection::Memory
+    }
+}
+
+impl<T: Drop> From<AllocFailed<T>> for Rejection {
+    ghost from_gives = { λ _ rejection. rejection ≡ rejections.Memory };
+
+    fn from(_error: AllocFailed<T>) -> Rejection {
+        Rejection::Memory
+    }
 }

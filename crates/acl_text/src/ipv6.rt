@@ -1,7 +1,7 @@
 ghost use Rattle.std.specs.Prelude.{◌≡◌, ℕ, ◌+◌, ◌-◌, ◌*◌, ◌^◌, ◌<◌, ◌≤◌, length, option_map, IfSome};
 ghost use Rattle.acl_text.specs.Ipv6.{hex_value, hex_worth, group_in, last_in, groups_in, side_in, gap_at, whole_in, short_in, ipv6_in};
 
-use crate::cuts::cut;
+use crate::cuts::split_at_byte;
 use crate::ipv4::read_ipv4;
 
 /// The address of the text, as a number.
@@ -83,7 +83,7 @@ fn read_groups(left: u8, dotted: bool, value: u128, text: &[u8]) -> Option<(u8, 
     if left == 0 {
         return None;
     }
-    match cut(text, b':') {
+    match split_at_byte(text, b':') {
         Some((front, rest)) => {
             let group = read_group(front)?;
             read_groups(left - 1, dotted, behind(left, value, group), rest)

@@ -2,9 +2,9 @@ ghost use Rattle.std.specs.Prelude.{◌≡◌, ℕ, ◌^◌, ◌<◌, ◌≤◌,
 ghost use Rattle.acl_packet.specs.declared.addresses.Family.{Family};
 ghost use Rattle.acl_packet.specs.declared.addresses.Prefix.{Prefix};
 ghost use Rattle.acl_packet.specs.Addresses.{width_of, IsPrefix};
-ghost use Rattle.acl_text.specs.Numbers.{IsNumber, number_in};
+ghost use Rattle.acl_packet.specs.Decimals.{IsNumber, number_in};
 ghost use Rattle.acl_text.specs.Ipv6.{IsLongest, longest_run};
-ghost use Rattle.acl_text.specs.Addresses.{address_text, address_in, IsPrefixText, prefix_in, prefix_text, spelled_prefix_in};
+ghost use Rattle.acl_text.specs.AddressTexts.{address_text, address_in, IsPrefixText, prefix_in, prefix_text, spelled_prefix_in};
 
 /// What `put_number` puts of a number is read as that number.
 pub fn numbers_are_read_again()

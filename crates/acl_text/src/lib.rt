@@ -5,33 +5,43 @@ mod cursors;
 mod cuts;
 mod decimals;
 mod faults;
+mod file_lines;
 mod ipv4;
 mod ipv6;
 mod ipv6_text;
+mod items;
 mod laws;
 mod lines;
 mod names;
 mod output;
+mod port_ranges;
 mod prefixes;
 mod short;
+mod signed_numbers;
 mod texts;
 mod words;
 
+pub use acl_packet::{read_number, read_u8, read_u16};
 pub use cursors::Cursor;
-pub use decimals::{put_number, read_number};
-pub use faults::{Code, Fault, Place, Refusal, Slip};
+pub use cuts::{ahead, behind, contains_byte, split_at_byte, split_text};
+pub use decimals::put_number;
+pub use faults::{Code, Fault, Place, Refusal, Rejection, Slip};
+pub use file_lines::Line;
+pub use items::Items;
 pub use laws::{
     addresses_are_read_again, longest_runs_are_found, numbers_are_read_again,
     prefixes_are_read_again, texts_have_one_number, texts_have_one_prefix,
 };
-pub use lines::{behind, indented_words, line_words, text_lines};
-pub use names::{is_filter_name, is_name, is_safe_text};
+pub use lines::{indented_words, line_words, text_lines};
+pub use names::{is_digit, is_filter_name, is_letter, is_name, is_safe_text};
 pub use output::{Out, PutFault, put_pieces};
+pub use port_ranges::read_ports;
 pub use prefixes::{
     put_address, put_prefix, put_wildcard, read_address, read_prefix, read_spelled_prefix,
 };
+pub use signed_numbers::read_signed;
 pub use texts::{Bytes, Memory};
-pub use words::{contains_byte, is_white, next_word, split_at_byte};
+pub use words::{is_white, next_word, skip_white};
 
 #[cfg(test)]
 mod tests;

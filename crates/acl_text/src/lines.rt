@@ -1,17 +1,19 @@
-ghost use Rattle.std.specs.Prelude.{◌≡◌, ◌==◌, List, ℕ, Bool, IfOk, Option, option_map, map, replicate};
+ghost use Rattle.std.specs.Prelude.{◌≡◌, List, ℕ, Bool, IfOk, Option, option_map, map, replicate};
 ghost use Rattle.std.specs.Borrow.{Bor};
-ghost use Rattle.std.specs.List.{slice_split, list_all};
-ghost use Rattle.acl_text.specs.Lines.{views, behind, is_space, lines_in, words_in, indented_words_in};
+ghost use Rattle.std.specs.List.{list_all};
+ghost use Rattle.acl_text.specs.Cuts.{behind};
+ghost use Rattle.acl_text.specs.Lines.{views, is_space, lines_in, words_in, indented_words_in};
 
+use crate::cuts::split_text;
 use crate::texts::Memory;
-use std::alloc::{AllocError, Global};
+use std::alloc::Global;
 
 /// The lines of a text, each without its line feed. `None` exactly where bytes stand behind the last line feed.
 #[tactic(auto, using(crate::proofs::LineLaws::lines_from_parts, crate::proofs::LineLaws::no_lines_from_parts, crate::proofs::LineLaws::no_lines_from_no_parts))]
 pub fn text_lines<'a>(alloc: Global, text: &'a [u8]) -> Result<Option<Vec<&'a [u8]>>, Memory>
     ensures { IfOk result (λ o. option_map (λ v. views v.items) o ≡ lines_in text.now) }
 {
-    let mut parts = parts_at(alloc, text, b'\n')?;
+    let mut parts = split_text(alloc, text, b'\n')?;
     let Some(last) = parts.pop() else {
         return Ok(None);
     };
@@ -26,15 +28,7 @@ pub fn text_lines<'a>(alloc: Global, text: &'a [u8]) -> Result<Option<Vec<&'a [u
 pub fn line_words<'a>(alloc: Global, line: &'a [u8]) -> Result<Vec<&'a [u8]>, Memory>
     ensures { IfOk result (λ v. views v.items ≡ words_in line.now) }
 {
-    Ok(parts_at(alloc, line, b' ')?)
-}
-
-/// What stands behind the front, where the text begins with it.
-#[tactic(auto, unfolding(crate::specs::Lines::behind))]
-pub fn behind<'a>(text: &'a [u8], front: &[u8]) -> Option<&'a [u8]>
-    ensures { option_map (λ x. x.now) result ≡ behind front.now text.now }
-{
-    text.strip_prefix(front)
+    split_text(alloc, line, b' ')
 }
 
 /// The words of a line behind an indent of so many spaces. `None` exactly where the line begins with fewer.
@@ -69,12 +63,6 @@ fn are_spaces(bytes: &[u8]) -> bool
     bytes.iter().all(|b| *b == b' ')
 }
 
-fn parts_at<'a>(alloc: Global, bytes: &'a [u8], cut: u8) -> Result<Vec<&'a [u8]>, AllocError>
-    ensures { IfOk result (λ v. views v.items ≡ slice_split (λ b. b == cut) bytes.now) }
-{
-    bytes.split(|b| *b == cut).collect(alloc)
-}
-
 #[cfg(test)]
 mod tests {
     use super::*;
@@ -90,10 +78,6 @@ mod tests {
         let words = indented_words(rt.alloc(), b"  then {", 2)?.expect(&rt, "words");
         assert_eq!(rt; words.len(), 2);
         assert_eq!(rt; indented_words(rt.alloc(), b" then {", 2)?.is_some(), false);
-        assert_eq!(rt;
-            behind(b"no list", b"no ").expect(&rt, "a list"),
-            b"list".as_slice()
-        );
         Ok(())
     }
 }

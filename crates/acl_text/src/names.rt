@@ -30,13 +30,15 @@ pub fn is_safe_text(text: &[u8]) -> bool
     text.len() <= 128 && are_safe_bytes(text) && is_single_spaced(text)
 }
 
-fn is_letter(byte: u8) -> bool
+/// Whether the byte is a letter of ASCII.
+pub fn is_letter(byte: u8) -> bool
     ensures { result ≡ is_letter byte }
 {
     65 <= byte && byte <= 90 || 97 <= byte && byte <= 122
 }
 
-fn is_digit(byte: u8) -> bool
+/// Whether the byte is a digit of ASCII.
+pub fn is_digit(byte: u8) -> bool
     ensures { result ≡ is_digit byte }
 {
     48 <= byte && byte <= 57

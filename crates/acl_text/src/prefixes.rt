@@ -2,16 +2,15 @@ ghost use Rattle.std.specs.Prelude.{◌≡◌, ℕ, ◌+◌, ◌-◌, ◌^◌, �
 ghost use Rattle.acl_packet.specs.declared.addresses.Prefix.{Prefix as PrefixData};
 ghost use Rattle.acl_packet.specs.Addresses.{width_of, IsPrefix};
 ghost use Rattle.acl_text.specs.Output.{Puts};
-ghost use Rattle.acl_text.specs.Addresses.{spelling_in, address_text, address_in, block_of, IsPrefixText, family_in, full_in, block_in, prefix_in, prefix_text, same_family, spelled_prefix_in, wildcard_text};
+ghost use Rattle.acl_text.specs.AddressTexts.{spelling_in, address_text, address_in, block_of, IsPrefixText, family_in, full_in, block_in, prefix_in, prefix_text, spelled_prefix_in, wildcard_text};
 
-use crate::cuts::{cut, has_byte};
-use crate::decimals::read_number;
+use crate::cuts::{contains_byte, split_at_byte};
 use crate::ipv4::{push_byte, push_ipv4, read_ipv4};
 use crate::ipv6::read_ipv6;
 use crate::ipv6_text::push_ipv6;
 use crate::output::{Out, PutFault};
 use crate::short::ShortText;
-use acl_packet::{Family, Prefix};
+use acl_packet::{Family, Prefix, read_number};
 
 /// The prefix that the word spells: an address, or an address, `/` and a length.
 ///
@@ -26,11 +25,11 @@ pub fn read_prefix(word: &[u8]) -> Option<Prefix>
     prefix_of(word)
 }
 
-#[tactic(auto, unfolding(crate::specs::Addresses::prefix_in))]
+#[tactic(auto, unfolding(crate::specs::AddressTexts::prefix_in))]
 fn prefix_of(word: &[u8]) -> Option<Prefix>
     ensures { result ≡ prefix_in word.now }
 {
-    match cut(word, b'/') {
+    match split_at_byte(word, b'/') {
         Some((address, len)) => read_block(family_of(address), address, len),
         None => read_full(family_of(word), word),
     }
@@ -39,14 +38,14 @@ fn prefix_of(word: &[u8]) -> Option<Prefix>
 fn family_of(word: &[u8]) -> Family
     ensures { result ≡ family_in word.now }
 {
-    if has_byte(word, b':') {
+    if contains_byte(word, b':') {
         Family::V6
     } else {
         Family::V4
     }
 }
 
-#[tactic(auto, unfolding(crate::specs::Addresses::full_in))]
+#[tactic(auto, unfolding(crate::specs::AddressTexts::full_in))]
 fn read_full(family: Family, address: &[u8]) -> Option<Prefix>
     ensures { result ≡ full_in family address.now }
 {
@@ -54,7 +53,7 @@ fn read_full(family: Family, address: &[u8]) -> Option<Prefix>
     Some(block_of(family, value, family.width()))
 }
 
-#[tactic(auto, unfolding(crate::specs::Addresses::block_in))]
+#[tactic(auto, unfolding(crate::specs::AddressTexts::block_in))]
 fn read_block(family: Family, address: &[u8], len: &[u8]) -> Option<Prefix>
     ensures { result ≡ block_in family address.now len.now }
 {
@@ -98,7 +97,7 @@ pub fn read_address(family: Family, word: &[u8]) -> Option<u128>
     address_of(family, word)
 }
 
-#[tactic(auto, unfolding(crate::specs::Addresses::address_in))]
+#[tactic(auto, unfolding(crate::specs::AddressTexts::address_in))]
 fn address_of(family: Family, word: &[u8]) -> Option<u128>
     ensures { result ≡ address_in family word.now }
 {
@@ -111,7 +110,6 @@ fn address_of(family: Family, word: &[u8]) -> Option<u128>
 }
 
 fn is_address_text(family: Family, address: u128, word: &[u8]) -> bool
-    requires { address < 2 ^ width_of family }
     ensures { result ≡ bytes_eq word.now (address_text family address) }
 {
     let mut text = ShortText::new();
@@ -120,10 +118,9 @@ fn is_address_text(family: Family, address: u128, word: &[u8]) -> bool
 }
 
 fn push_address(text: &mut ShortText, family: Family, address: u128)
-    requires room { length text.old + 40 ≤ 64 }
-    requires small { address < 2 ^ width_of family }
+    requires { length text.old + 44 ≤ 64 }
     ensures items { text.new ≡ text.old ++ address_text family address }
-    ensures len { length text.new ≤ length text.old + 40 }
+    ensures len { length text.new ≤ length text.old + 44 }
 {
     match family {
         Family::V4 => push_ipv4(text, address),
@@ -142,29 +139,19 @@ pub fn read_spelled_prefix(family: Family, word: &[u8]) -> Option<Prefix>
     spelled_of(family, word)
 }
 
-#[tactic(auto, unfolding(crate::specs::Addresses::spelled_prefix_in))]
+#[tactic(auto, unfolding(crate::specs::AddressTexts::spelled_prefix_in))]
 fn spelled_of(family: Family, word: &[u8]) -> Option<Prefix>
     ensures { result ≡ spelled_prefix_in family word.now }
 {
     let prefix = read_prefix(word)?;
-    if same_family(family, prefix.family) && is_prefix_text(&prefix, word) {
+    if prefix.family == family && is_prefix_text(&prefix, word) {
         Some(prefix)
     } else {
         None
     }
 }
 
-fn same_family(a: Family, b: Family) -> bool
-    ensures { result ≡ same_family a b }
-{
-    match a {
-        Family::V4 => matches!(b, Family::V4),
-        Family::V6 => matches!(b, Family::V6),
-    }
-}
-
 fn is_prefix_text(prefix: &Prefix, word: &[u8]) -> bool
-    requires { IsPrefix prefix.now }
     ensures { result ≡ bytes_eq word.now (prefix_text prefix.now) }
 {
     let mut text = ShortText::new();
@@ -172,10 +159,9 @@ fn is_prefix_text(prefix: &Prefix, word: &[u8]) -> bool
     word == text.as_slice()
 }
 
-#[tactic(auto, unfolding(crate::specs::Addresses::prefix_text))]
+#[tactic(auto, unfolding(crate::specs::AddressTexts::prefix_text))]
 fn push_prefix(text: &mut ShortText, prefix: &Prefix)
-    requires room { length text.old ≡ 0 }
-    requires form { IsPrefix prefix.now }
+    requires { length text.old ≡ 0 }
     ensures { text.new ≡ text.old ++ prefix_text prefix.now }
 {
     push_address(text, prefix.family, prefix.first);
@@ -186,8 +172,7 @@ fn push_prefix(text: &mut ShortText, prefix: &Prefix)
 /// Puts the text of the address: of an IPv4 address four decimal numbers with `.` between, of an IPv6 address
 /// the form of RFC 5952 sections 4.1 to 4.3, never with an IPv4 address in it.
 pub fn put_address<O: Out>(out: &mut O, family: Family, address: u128) -> Result<(), PutFault>
-    requires open { IsTrue (O.is_open out.old) }
-    requires small { address < 2 ^ width_of family }
+    requires { IsTrue (O.is_open out.old) }
     ensures { Puts O.told O.faults O.refusals O.is_open O.keeps_rest out.old out.new
         (address_text family address) result }
 {
@@ -198,8 +183,7 @@ pub fn put_address<O: Out>(out: &mut O, family: Family, address: u128) -> Result
 
 /// Puts the text of the prefix: its first address, `/` and its length.
 pub fn put_prefix<O: Out>(out: &mut O, prefix: &Prefix) -> Result<(), PutFault>
-    requires open { IsTrue (O.is_open out.old) }
-    requires form { IsPrefix prefix.now }
+    requires { IsTrue (O.is_open out.old) }
     ensures { Puts O.told O.faults O.refusals O.is_open O.keeps_rest out.old out.new
         (prefix_text prefix.now) result }
 {
@@ -208,11 +192,11 @@ pub fn put_prefix<O: Out>(out: &mut O, prefix: &Prefix) -> Result<(), PutFault>
     out.put(text.as_slice())
 }
 
-/// Puts the bits behind the length of an IPv4 prefix as an address: 255.255.255.255 for length 0.
-#[tactic(auto, unfolding(crate::specs::Addresses::wildcard_text))]
+/// Puts the bits behind the length of an IPv4 prefix as an address: 255.255.255.255 for length 0, and 0.0.0.0
+/// from length 32 on.
+#[tactic(auto, unfolding(crate::specs::AddressTexts::wildcard_text))]
 pub fn put_wildcard<O: Out>(out: &mut O, len: u8) -> Result<(), PutFault>
-    requires open { IsTrue (O.is_open out.old) }
-    requires small { len ≤ 32 }
+    requires { IsTrue (O.is_open out.old) }
     ensures { Puts O.told O.faults O.refusals O.is_open O.keeps_rest out.old out.new
         (wildcard_text len) result }
 {
@@ -222,9 +206,7 @@ pub fn put_wildcard<O: Out>(out: &mut O, len: u8) -> Result<(), PutFault>
 }
 
 fn bits_behind(len: u8) -> u128
-    requires { len ≤ 32 }
-    ensures exact { result ≡ 2 ^ (32 - len) - 1 }
-    ensures small { result < 2 ^ 32 }
+    ensures { result ≡ 2 ^ (32 - len) - 1 }
 {
-    2u128.pow(u32::from(32 - len)) - 1
+    2u128.pow(u32::from(32u8.saturating_sub(len))) - 1
 }

@@ -1,8 +1,9 @@
 use crate::output::{Out, PutFault};
 use crate::texts::{Bytes, Memory};
 use crate::{
-    Cursor, Place, contains_byte, next_word, put_address, put_number, put_pieces, put_prefix,
-    put_wildcard, read_address, read_number, read_prefix, read_spelled_prefix, split_at_byte,
+    Cursor, Items, Place, ahead, behind, contains_byte, next_word, put_address, put_number,
+    put_pieces, put_prefix, put_wildcard, read_address, read_number, read_ports, read_prefix,
+    read_signed, read_spelled_prefix, skip_white, split_at_byte, split_text,
 };
 use acl_packet::{Family, Prefix};
 use std::alloc::Global;
@@ -275,4 +276,30 @@ fn cuts_at_the_first_of_a_byte(rt: HostRuntime) {
     let parts = split_at_byte(b"A = B = C", b'=');
     assert_eq!(rt; parts, Some((b"A ".as_slice(), b" B = C".as_slice())));
     assert_eq!(rt; split_at_byte(b"A B", b'=').is_some(), false);
+}
+
+#[test]
+fn reads_signed_numbers_and_ports(rt: HostRuntime) {
+    assert_eq!(rt; read_signed(b"-32768", 32_768, 32_767), Some(-32_768));
+    assert_eq!(rt; read_signed(b"32768", 32_768, 32_767), None);
+    assert_eq!(rt; read_signed(b"-0", 32_768, 32_767), None);
+    assert_eq!(rt; read_ports(b"80-443", b'-'), Some((80, 443)));
+    assert_eq!(rt; read_ports(b"65535", b':'), Some((65_535, 65_535)));
+    assert_eq!(rt; read_ports(b"443-80", b'-'), None);
+}
+
+#[test]
+fn cuts_texts_at_their_ends(rt: HostRuntime) -> Result<(), Fail> {
+    assert_eq!(rt;
+        behind(b"no list", b"no ").expect(&rt, "a list"),
+        b"list".as_slice()
+    );
+    assert_eq!(rt; ahead(b"80;", b";").expect(&rt, "a port"), b"80".as_slice());
+    assert_eq!(rt; ahead(b"80", b";").is_some(), false);
+    assert_eq!(rt; skip_white(b" \t\rx "), b"x ".as_slice());
+    assert_eq!(rt; split_text(rt.alloc(), b"80,,443", b',')?.len(), 3);
+    let mut numbers = Items::new(rt.alloc());
+    numbers.push(6)?;
+    assert_eq!(rt; numbers.as_slice(), [6].as_slice());
+    Ok(())
 }

@@ -1,9 +1,6 @@
-ghost use Rattle.std.specs.Prelude.{◌≡◌, ◌≤◌, ◌<◌, length, option_map, IfSome, IfNone};
+ghost use Rattle.std.specs.Prelude.{◌≡◌, ◌≤◌, ◌<◌, length, IfSome, IfNone};
 ghost use Rattle.std.specs.List.{prefix_len};
-ghost use Rattle.acl_text.specs.Cursors.{HasNoWord, IsNextWord, is_black, is_white, run_end, word_at};
-ghost use Rattle.acl_text.specs.Cuts.{cut_at, has_byte};
-
-use crate::cuts::{cut, has_byte};
+ghost use Rattle.acl_text.specs.Cursors.{HasNoWord, IsNextWord, is_black, is_white, run_end, without_white, word_at};
 
 /// The bounds of the next word of the line from a place on: of the next run of bytes that are not white space.
 /// `None` exactly where none is left.
@@ -67,16 +64,14 @@ fn black_front(bytes: &[u8]) -> usize
     bytes.len()
 }
 
-/// The bytes before the first such byte, and those behind it.
-pub fn split_at_byte(bytes: &[u8], byte: u8) -> Option<(&[u8], &[u8])>
-    ensures { option_map (λ p. (p.0.now, p.1.now)) result ≡ cut_at byte bytes.now }
+/// The text behind the white space at its front.
+pub fn skip_white(text: &[u8]) -> &[u8]
+    ensures { result.now ≡ without_white text.now }
 {
-    cut(bytes, byte)
-}
-
-/// Whether the byte stands in the text.
-pub fn contains_byte(bytes: &[u8], byte: u8) -> bool
-    ensures { result ≡ has_byte byte bytes.now }
-{
-    has_byte(bytes, byte)
+    for (i, byte) in text.iter().enumerate() {
+        if !is_white(*byte) {
+            return &text[i..];
+        }
+    }
+    &[]
 }

@@ -1,5 +1,5 @@
 use Rattle.std.proofs.Common.{length, ap, arith}
-use Rattle.acl_text.proofs.Numbers.{decimal-short}
+use Rattle.acl_packet.proofs.DecimalLaws.{decimal-short}
 use Rattle.acl_text.proofs.ipv4.push_byte.Goals as goal
 
 pub push_all-requires : goal.push_all-requires

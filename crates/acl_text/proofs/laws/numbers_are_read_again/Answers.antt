@@ -1,4 +1,4 @@
-use Rattle.acl_text.proofs.Numbers.{number-again}
+use Rattle.acl_packet.proofs.DecimalLaws.{number-again}
 use Rattle.acl_text.proofs.laws.numbers_are_read_again.Goals as goal
 
 pub returns : goal.returns

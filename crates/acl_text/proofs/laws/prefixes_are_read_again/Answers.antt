@@ -1,5 +1,5 @@
 use Rattle.std.proofs.Common.{refl}
-use Rattle.acl_text.proofs.Addresses.{prefix-again, spelled-again}
+use Rattle.acl_text.proofs.AddressLaws.{prefix-again, spelled-again}
 use Rattle.acl_text.proofs.laws.prefixes_are_read_again.Goals as goal
 
 pub returns-clause-any : goal.returns-clause-any

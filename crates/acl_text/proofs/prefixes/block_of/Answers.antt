@@ -1,5 +1,5 @@
 use Rattle.std.proofs.Common.{arith}
-use Rattle.acl_packet.proofs.Blocks.{width-le, small_power}
+use Rattle.acl_packet.proofs.PrefixLaws.{width-le, small_power}
 use Rattle.acl_text.proofs.prefixes.block_of.Goals as goal
 
 pub pow-size-requires : goal.pow-size-requires

@@ -1,4 +1,4 @@
-use Rattle.acl_text.proofs.Addresses.{address-some, address-none}
+use Rattle.acl_text.proofs.AddressLaws.{address-some, address-none}
 use Rattle.acl_text.proofs.prefixes.read_address.Goals as goal
 
 pub returns-clause-some : goal.returns-clause-some

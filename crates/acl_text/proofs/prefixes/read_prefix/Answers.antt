@@ -1,4 +1,4 @@
-use Rattle.acl_text.proofs.Addresses.{prefix-some, prefix-none}
+use Rattle.acl_text.proofs.AddressLaws.{prefix-some, prefix-none}
 use Rattle.acl_text.proofs.prefixes.read_prefix.Goals as goal
 
 pub returns-clause-some : goal.returns-clause-some

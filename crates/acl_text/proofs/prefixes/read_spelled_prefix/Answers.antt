@@ -1,4 +1,4 @@
-use Rattle.acl_text.proofs.Addresses.{spelled-some, spelled-none}
+use Rattle.acl_text.proofs.AddressLaws.{spelled-some, spelled-none}
 use Rattle.acl_text.proofs.prefixes.read_spelled_prefix.Goals as goal
 
 pub returns-clause-some : goal.returns-clause-some

@@ -1,5 +1,5 @@
 use Rattle.std.proofs.Common.{◌-◌, ◌^◌, arith, ap}
-use Rattle.acl_packet.proofs.Blocks.{width-le, small_power, end_fits, widest}
+use Rattle.acl_packet.proofs.PrefixLaws.{width-le, small_power, end_fits, widest}
 use Rattle.acl_packet.proofs.addresses.Prefix.last.Goals as goal
 
 pub pow-requires : goal.pow-requires

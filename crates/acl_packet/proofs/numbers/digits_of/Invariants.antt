@@ -1,6 +1,0 @@
-use Rattle.std.proofs.Common.{◌≡◌, ◌≤◌, drop}
-use Rattle.acl_packet.specs.Numbers.{digits_in}
-use Rattle.acl_packet.proofs.numbers.digits_of.Given as goal
-
-abbrev pub invariant-loop-c : goal.invariant-loop-c
-invariant-loop-c l = (digits_in l.most l.value (drop l.c-index l.word) ≡ digits_in l.most 0 l.word) × (l.value ≤ l.most)

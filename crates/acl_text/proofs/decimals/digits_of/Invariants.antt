@@ -1,6 +1,0 @@
-use Rattle.std.proofs.Common.{◌≡◌, ◌≤◌, drop}
-use Rattle.acl_text.specs.Numbers.{digits_in}
-use Rattle.acl_text.proofs.decimals.digits_of.Given as goal
-
-abbrev pub invariant-loop-c : goal.invariant-loop-c
-invariant-loop-c l = (digits_in l.max l.value (drop l.c-index l.word) ≡ digits_in l.max 0 l.word) × (l.value ≤ l.max)
