@@ -6,41 +6,34 @@ use Rattle.std.proofs.lemmas.Option.{none-some}
 use Rattle.acl_text.specs.declared.faults.Slip.{Slip}
 use Rattle.acl_text.specs.declared.faults.Refusal.{Refusal}
 use Rattle.acl_text.specs.declared.faults.Refusal.TheVariants as refusals
+use Rattle.acl_text.specs.Answers.{Stops, slip_told}
 use Rattle.acl_text.specs.Cursors.{is_white}
 use Rattle.acl_text.specs.Cuts.{cut_at, has_byte}
-use Rattle.acl_text.proofs.Reading.{cut-none, none-cut}
+use Rattle.acl_text.proofs.CutLaws.{cut-none, none-cut}
 use Rattle.acl_naming.specs.Checking.{IsRefusal}
 use Rattle.acl_naming.specs.Definitions.{Definition}
-use Rattle.acl_naming.specs.Reading.{Outcome, and_then, kept_before, without_end, opens, Refuses}
+use Rattle.acl_naming.specs.Reading.{Outcome, in_front_of, without_end, opens}
 
 -- ---- white space at the end
 
 pub end_white : (xs : List ℕ) (b : ℕ) → is_white b ≡ true → without_end (xs ++ b ∷ []) ≡ without_end xs
 end_white [] b h = cond-true (is_white b) _ _ h
-end_white (x ∷ xs) b h = ap (kept_before x) (end_white xs b h)
+end_white (x ∷ xs) b h = ap (in_front_of x) (end_white xs b h)
 
-kept_more : (x : ℕ) (ys : List ℕ) (y : ℕ) → kept_before x (ys ++ y ∷ []) ≡ x ∷ (ys ++ y ∷ [])
+kept_more : (x : ℕ) (ys : List ℕ) (y : ℕ) → in_front_of x (ys ++ y ∷ []) ≡ x ∷ (ys ++ y ∷ [])
 kept_more x [] y = refl
 kept_more x (z ∷ ys) y = refl
 
 pub end_black : (xs : List ℕ) (b : ℕ) → is_white b ≡ false → without_end (xs ++ b ∷ []) ≡ xs ++ b ∷ []
 end_black [] b h = cond-false (is_white b) _ _ h
-end_black (x ∷ xs) b h = ap (kept_before x) (end_black xs b h) ∙ kept_more x xs b
+end_black (x ∷ xs) b h = ap (in_front_of x) (end_black xs b h) ∙ kept_more x xs b
 
 -- ---- refusals
 
 -- the slip is the expected one
-pub refuses_slip : (s : Slip) (r : Refusal) (e : Outcome) → IsRefusal s r → e ≡ Err s → Refuses r e
+pub refuses_slip : (s : Slip) (r : Refusal) (e : Outcome) → IsRefusal s r → e ≡ Err s → Stops slip_told r e
 refuses_slip s (refusals.Slip t) e h f = f ∙ ap Err (sym h)
 refuses_slip s refusals.Memory e h f = tt
-
--- where a part ends in a slip, the whole does
-pub refuses_whole : (r : Refusal) (e f : Outcome) → Refuses r e → ((s : Slip) → e ≡ Err s → f ≡ Err s) → Refuses r f
-refuses_whole (refusals.Slip s) e f h k = k s h
-refuses_whole refusals.Memory e f h k = tt
-
-pub stops : (e : Outcome) (next : List Definition → Outcome) (s : Slip) → e ≡ Err s → and_then e next ≡ Err s
-stops e next s h = ap (λ o. and_then o next) h
 
 -- ---- whether a definition stands above
 

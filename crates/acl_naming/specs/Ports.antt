@@ -1,7 +1,5 @@
 -- The ports of a service item.
-use Rattle.std.specs.Prelude.{ℕ, ◌^◌, ◌-◌, Bool, ◌&&◌, nat_le}
-use Rattle.acl_packet.specs.declared.addresses.Family.{Family}
-use Rattle.acl_packet.specs.Addresses.{width_of}
+use Rattle.std.specs.Prelude.{ℕ, Bool, ◌&&◌, nat_le}
 
 -- The ports of a protocol from one to another, both included.
 pub record Ports : Type 0 where
@@ -15,7 +13,3 @@ has_port p n = nat_le p.low n && nat_le n p.high
 -- The highest port (RFC 9293 section 3.1).
 abbrev pub top_port : ℕ
 top_port = 65535
-
--- The highest address of a family, as a number.
-abbrev pub top_address : Family → ℕ
-top_address f = 2 ^ width_of f - 1

@@ -3,8 +3,7 @@ use Rattle.std.specs.Prelude.{◌≡◌, ℕ, ◌+◌, ◌≤◌, Bool, true, fa
 use Rattle.std.specs.List.{list_any}
 use Rattle.std.specs.Str.{bytes_eq}
 use Rattle.acl_packet.specs.declared.addresses.Family.{Family}
-use Rattle.acl_packet.specs.declared.addresses.Family.TheVariants.{V4, V6}
-use Rattle.acl_packet.specs.Addresses.{has_address}
+use Rattle.acl_packet.specs.Addresses.{has_address, same_family}
 use Rattle.acl_naming.specs.declared.items.Item.{Item}
 use Rattle.acl_naming.specs.declared.items.Item.TheVariants.{Name, Network, Service}
 use Rattle.acl_naming.specs.Definitions.{Definition, items_of}
@@ -15,12 +14,6 @@ abbrev pub is_reference : List ℕ → Item → Bool
 is_reference name (Name r) = bytes_eq name r.name
 is_reference name (Network p) = false
 is_reference name (Service p) = false
-
-abbrev pub same_family : Family → Family → Bool
-same_family V4 V4 = true
-same_family V4 V6 = false
-same_family V6 V4 = false
-same_family V6 V6 = true
 
 -- The item is a prefix of the family that holds the address.
 abbrev pub holds_address : Family → ℕ → Item → Bool

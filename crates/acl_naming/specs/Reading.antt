@@ -5,8 +5,9 @@ use Rattle.acl_text.specs.declared.faults.Code.TheVariants as codes
 use Rattle.acl_text.specs.declared.faults.Place.{Place}
 use Rattle.acl_text.specs.declared.faults.Slip.{Slip}
 use Rattle.acl_text.specs.declared.faults.Refusal.{Refusal}
-use Rattle.acl_text.specs.declared.faults.Refusal.TheVariants as refusals
-use Rattle.acl_text.specs.Cursors.{is_white, lines_of, words_of}
+use Rattle.acl_text.specs.Answers.{Stops, slip_told}
+use Rattle.acl_text.specs.Steps.{◌>>=◌}
+use Rattle.acl_text.specs.Cursors.{is_white, lines_of, without_white, words_of}
 use Rattle.acl_text.specs.Cuts.{cut_at, has_byte}
 use Rattle.acl_text.specs.Names.{is_name}
 use Rattle.acl_naming.specs.declared.item_words.Kind.{Kind}
@@ -20,11 +21,6 @@ use Rattle.acl_naming.specs.Tables.{with_item}
 -- The definitions, or the first slip.
 abbrev pub Outcome : Type 0
 Outcome = Result (List Definition) Slip
-
--- A step, then the next one: the first slip stands.
-abbrev pub and_then : Outcome → (List Definition → Outcome) → Outcome
-and_then (Ok ds) next = next ds
-and_then (Err s) next = Err s
 
 -- The greatest number of definitions of a kind, and of their items.
 abbrev pub most : ℕ
@@ -41,25 +37,21 @@ item_added kind place ds word = item_put place ds word (item_in kind place word)
 
 abbrev pub items_added : Kind → Place → List Definition → List (List ℕ) → Outcome
 items_added kind place ds [] = Ok ds
-items_added kind place ds (word ∷ words) = and_then (item_added kind place ds word) (λ more. items_added kind place more words)
+items_added kind place ds (word ∷ words) = item_added kind place ds word >>= λ more. items_added kind place more words
 
 -- ---- a line
 
 -- Without white space at the ends.
-abbrev pub without_front : List ℕ → List ℕ
-without_front [] = []
-without_front (b ∷ bs) = if is_white b then without_front bs else b ∷ bs
-
-abbrev pub kept_before : ℕ → List ℕ → List ℕ
-kept_before b [] = if is_white b then [] else b ∷ []
-kept_before b (c ∷ rest) = b ∷ c ∷ rest
+abbrev pub in_front_of : ℕ → List ℕ → List ℕ
+in_front_of b [] = if is_white b then [] else b ∷ []
+in_front_of b (c ∷ rest) = b ∷ c ∷ rest
 
 abbrev pub without_end : List ℕ → List ℕ
 without_end [] = []
-without_end (b ∷ bs) = kept_before b (without_end bs)
+without_end (b ∷ bs) = in_front_of b (without_end bs)
 
 abbrev pub trimmed : List ℕ → List ℕ
-trimmed bs = without_end (without_front bs)
+trimmed bs = without_end (without_white bs)
 
 -- `#` (35) begins a comment.
 abbrev pub without_comment : List ℕ → List ℕ
@@ -108,30 +100,20 @@ opens is_open text = is_open || has_byte 61 text
 abbrev pub lines_added : Kind → ℕ → ℕ → Bool → List Definition → List (List ℕ) → Outcome
 lines_added kind file n is_open ds [] = Ok ds
 lines_added kind file n is_open ds (line ∷ lines) =
-    and_then (line_added kind (record { file = file; line = n }) is_open ds (without_comment line))
-    (λ more. lines_added kind file (n + 1) (opens is_open (without_comment line)) more lines)
+    line_added kind (record { file = file; line = n }) is_open ds (without_comment line)
+    >>= λ more. lines_added kind file (n + 1) (opens is_open (without_comment line)) more lines
 
 unfoldable pub file_added : Kind → ℕ → List Definition → List ℕ → Outcome
 file_added kind file ds bytes = lines_added kind file 1 false ds (lines_of bytes)
 
 -- ---- what calls promise
 
--- The refusal has the slip that is expected, or wants memory.
-abbrev pub Refuses : Refusal → Outcome → Type 0
-Refuses (refusals.Slip s) expected = expected ≡ Err s
-Refuses refusals.Memory expected = Unit {0}
-
--- The call leaves the definitions that are expected, or it refuses so.
-abbrev pub Gives : {T : Type 0} → List Definition → Result T Refusal → Outcome → Type 0
-Gives new (Ok x) expected = expected ≡ Ok new
-Gives new (Err r) expected = Refuses r expected
-
 -- The file's definitions of networks are added, or its first slip is told; services stay as they are.
 abbrev pub AddsNetworks : ℕ → Naming → List ℕ → Result Naming Refusal → Type 0
 AddsNetworks file old bytes (Ok new) = (file_added kinds.Networks file old.networks bytes ≡ Ok new.networks) × (new.services ≡ old.services)
-AddsNetworks file old bytes (Err r) = Refuses r (file_added kinds.Networks file old.networks bytes)
+AddsNetworks file old bytes (Err r) = Stops slip_told r (file_added kinds.Networks file old.networks bytes)
 
 -- The same of services.
 abbrev pub AddsServices : ℕ → Naming → List ℕ → Result Naming Refusal → Type 0
 AddsServices file old bytes (Ok new) = (file_added kinds.Services file old.services bytes ≡ Ok new.services) × (new.networks ≡ old.networks)
-AddsServices file old bytes (Err r) = Refuses r (file_added kinds.Services file old.services bytes)
+AddsServices file old bytes (Err r) = Stops slip_told r (file_added kinds.Services file old.services bytes)

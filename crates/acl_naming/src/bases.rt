@@ -2,7 +2,8 @@ ghost use Rattle.std.specs.Prelude.{◌≡◌, ◌↔◌, ◌≤◌, ℕ, [], tr
 ghost use Rattle.acl_sets.specs.Ranges.{IsNormal, holds};
 ghost use Rattle.acl_naming.specs.Checking.{IsChecked};
 ghost use Rattle.acl_naming.specs.Definitions.{index_of};
-ghost use Rattle.acl_naming.specs.Ports.{top_address, top_port};
+ghost use Rattle.acl_packet.specs.Addresses.{top_address};
+ghost use Rattle.acl_naming.specs.Ports.{top_port};
 ghost use Rattle.acl_naming.specs.Reading.{AddsNetworks, AddsServices};
 ghost use Rattle.acl_naming.specs.Reach.{ReachesAddress, ReachesPort, ReachesProtocol};
 

@@ -1,13 +1,18 @@
-ghost use Rattle.std.specs.Prelude.{◌≡◌, ◌≤◌, option_map, IfSome, IfOk};
-ghost use Rattle.acl_text.specs.Addresses.{prefix_in};
-ghost use Rattle.acl_text.specs.Numbers.{number_in};
+ghost use Rattle.std.specs.Prelude.{◌≡◌, option_map, IfOk};
+ghost use Rattle.acl_text.specs.AddressTexts.{prefix_in};
 ghost use Rattle.acl_naming.specs.declared.items.Item.TheVariants.{Network, Service};
-ghost use Rattle.acl_naming.specs.ItemWords.{ends_in, item_in, name_in, network_in, pair_in, port_in, ports_in, service_in};
+ghost use Rattle.acl_naming.specs.ItemWords.{
+  item_in,
+  name_in,
+  network_in,
+  service_in,
+  service_ports_in,
+};
 
 use crate::items::{Block, Item, PortRange, Reference};
 use acl_packet::protocol_number;
 use acl_text::{
-    Bytes, Memory, Place, contains_byte, is_name, read_number, read_prefix, split_at_byte,
+    Bytes, Memory, Place, contains_byte, is_name, read_ports, read_prefix, split_at_byte,
 };
 use std::alloc::Global;
 
@@ -18,49 +23,12 @@ pub enum Kind {
     Services,
 }
 
-fn read_port(word: &[u8]) -> Option<u16>
-    ensures { result ≡ number_in 65535 word.now }
-{
-    let number = read_number(word, 65535)?;
-    Some(number as u16)
-}
-
-#[tactic(auto, unfolding(crate::specs::ItemWords::pair_in))]
-fn read_pair(first: &[u8], second: &[u8]) -> Option<(u16, u16)>
-    ensures exact { result ≡ pair_in first.now second.now }
-    ensures ordered { IfSome result (λ p. p.0 ≤ p.1) }
-{
-    let low = read_port(first)?;
-    let high = read_port(second)?;
-    if low <= high { Some((low, high)) } else { None }
-}
-
-#[tactic(auto, unfolding(crate::specs::ItemWords::port_in))]
-fn read_single(word: &[u8]) -> Option<(u16, u16)>
-    ensures exact { result ≡ port_in word.now }
-    ensures ordered { IfSome result (λ p. p.0 ≤ p.1) }
-{
-    let port = read_port(word)?;
-    Some((port, port))
-}
-
-#[tactic(auto, unfolding(crate::specs::ItemWords::ends_in))]
-fn read_ends(word: &[u8]) -> Option<(u16, u16)>
-    ensures exact { result ≡ ends_in word.now }
-    ensures ordered { IfSome result (λ p. p.0 ≤ p.1) }
-{
-    match split_at_byte(word, b'-') {
-        Some((first, second)) => read_pair(first, second),
-        None => read_single(word),
-    }
-}
-
-#[tactic(auto, unfolding(crate::specs::ItemWords::ports_in))]
-fn read_ports(word: &[u8]) -> Option<PortRange>
-    ensures { result ≡ ports_in word.now }
+#[tactic(auto, unfolding(crate::specs::ItemWords::service_ports_in))]
+fn read_service_ports(word: &[u8]) -> Option<PortRange>
+    ensures { result ≡ service_ports_in word.now }
 {
     let (ports, protocol) = split_at_byte(word, b'/')?;
-    let (low, high) = read_ends(ports)?;
+    let (low, high) = read_ports(ports, b'-')?;
     let proto = protocol_number(protocol)?;
     Some(PortRange::new(proto, low, high))
 }
@@ -90,9 +58,9 @@ fn network(word: &[u8]) -> Option<Item>
 }
 
 fn service(word: &[u8]) -> Option<Item>
-    ensures { result ≡ option_map Service (ports_in word.now) }
+    ensures { result ≡ option_map Service (service_ports_in word.now) }
 {
-    let ports = read_ports(word)?;
+    let ports = read_service_ports(word)?;
     Some(Item::Service(ports))
 }
 

@@ -1,12 +1,11 @@
-ghost use Rattle.std.specs.Prelude.{◌≡◌, ℕ, ◌≤◌, List, [], ◌∷◌, ◌++◌, OnOk, OnErr};
-ghost use Rattle.acl_packet.specs.Addresses.{IsPrefix, has_address};
+ghost use Rattle.std.specs.Prelude.{◌≡◌, ℕ, ◌≤◌};
+ghost use Rattle.acl_packet.specs.Addresses.{IsPrefix, has_address, top_address};
 ghost use Rattle.acl_sets.specs.Ranges.{IsRange, inside};
-ghost use Rattle.acl_naming.specs.Ports.{has_port, top_address, top_port};
+ghost use Rattle.acl_naming.specs.Ports.{has_port, top_port};
 
 use acl_packet::{Family, Prefix};
 use acl_sets::Range;
-use acl_text::{Bytes, Memory, Place};
-use std::alloc::Global;
+use acl_text::{Bytes, Place};
 use std::marker::Model;
 
 /// A name that a definition refers to, and the place where it stands.
@@ -110,43 +109,4 @@ pub enum Item {
     Name(Reference),
     Network(Block),
     Service(PortRange),
-}
-
-/// The items of a definition. A contract sees the list.
-#[derive(Drop)]
-pub struct Items {
-    list: Vec<Item>,
-}
-
-impl Model for Items {
-    ghost use Rattle.std.specs.Prelude.{List};
-    ghost use Rattle.acl_naming.specs.declared.items.Item.{Item};
-
-    ghost Value = { List Item };
-
-    ghost view = { λ i. i.list.items };
-}
-
-impl Items {
-    pub(crate) fn new(alloc: Global) -> Items
-        ensures { result ≡ [] }
-    {
-        Items {
-            list: Vec::new(alloc),
-        }
-    }
-
-    pub(crate) fn push(&mut self, item: Item) -> Result<(), Memory>
-        ensures ok { OnOk result (self.new ≡ self.old ++ item ∷ []) }
-        ensures err { OnErr result (self.new ≡ self.old) }
-    {
-        self.list.push(item)?;
-        Ok(())
-    }
-
-    pub(crate) fn as_slice(&self) -> &[Item]
-        ensures { result.now ≡ self.now }
-    {
-        self.list.as_slice()
-    }
 }

@@ -1,7 +1,7 @@
 ghost use Rattle.std.specs.Prelude.{◌≡◌, ◌≤◌};
-ghost use Rattle.acl_naming.specs.Reading.{bad_byte, is_bad, trimmed, without_comment, without_end, without_front};
+ghost use Rattle.acl_naming.specs.Reading.{bad_byte, is_bad, trimmed, without_comment, without_end};
 
-use acl_text::{is_white, split_at_byte};
+use acl_text::{is_white, skip_white, split_at_byte};
 
 /// The line before its comment.
 pub fn without_comment(line: &[u8]) -> &[u8]
@@ -31,17 +31,6 @@ pub fn bad_byte(text: &[u8]) -> Option<u8>
     None
 }
 
-fn without_front(text: &[u8]) -> &[u8]
-    ensures { result.now ≡ without_front text.now }
-{
-    for (i, byte) in text.iter().enumerate() {
-        if !is_white(*byte) {
-            return &text[i..];
-        }
-    }
-    &[]
-}
-
 fn without_end(text: &[u8]) -> &[u8]
     ensures { result.now ≡ without_end text.now }
 {
@@ -58,5 +47,5 @@ fn without_end(text: &[u8]) -> &[u8]
 pub fn trimmed(text: &[u8]) -> &[u8]
     ensures { result.now ≡ trimmed text.now }
 {
-    without_end(without_front(text))
+    without_end(skip_white(text))
 }

@@ -1,8 +1,8 @@
 ghost use Rattle.std.specs.Prelude.{◌≡◌, ◌<◌, ◌≤◌, ◌||◌, Bool, true, false, nat_le, length, IfOk, OnOk};
+ghost use Rattle.acl_text.specs.Answers.{Leaves, slip_told};
 ghost use Rattle.acl_text.specs.Cursors.{words_of};
 ghost use Rattle.acl_text.specs.Cuts.{has_byte};
 ghost use Rattle.acl_naming.specs.Reading.{
-  Gives,
   continued,
   defined,
   file_added,
@@ -32,7 +32,7 @@ fn add_item(
     word: &[u8],
 ) -> Result<(), Refusal>
     requires { 0 < length table.old }
-    ensures gives { Gives table.new result (item_added kind place table.old word.now) }
+    ensures gives { Leaves slip_told table.new result (item_added kind place table.old word.now) }
     ensures filled { OnOk result (0 < length table.new) }
 {
     let Some(item) = read_item(alloc, kind, place, word)? else {
@@ -60,7 +60,7 @@ fn add_items(
     text: &[u8],
 ) -> Result<(), Refusal>
     requires { 0 < length table.old }
-    ensures gives { Gives table.new result (items_added kind place table.old (words_of text.now)) }
+    ensures gives { Leaves slip_told table.new result (items_added kind place table.old (words_of text.now)) }
     ensures filled { OnOk result (0 < length table.new) }
 {
     let mut from = 0;
@@ -80,7 +80,7 @@ fn define(
     name: &[u8],
     rest: &[u8],
 ) -> Result<(), Refusal>
-    ensures gives { Gives table.new result (defined kind place table.old name.now rest.now) }
+    ensures gives { Leaves slip_told table.new result (defined kind place table.old name.now rest.now) }
     ensures filled { OnOk result (0 < length table.new) }
 {
     if !is_name(name) {
@@ -105,7 +105,7 @@ fn go_on(
     text: &[u8],
 ) -> Result<(), Refusal>
     requires { is_open ≡ true → 0 < length table.old }
-    ensures gives { Gives table.new result (continued kind place is_open table.old (words_of text.now)) }
+    ensures gives { Leaves slip_told table.new result (continued kind place is_open table.old (words_of text.now)) }
     ensures filled { is_open ≡ true → OnOk result (0 < length table.new) }
 {
     let Some((start, end)) = next_word(text, 0) else {
@@ -128,7 +128,7 @@ fn add_split(
     text: &[u8],
 ) -> Result<bool, Refusal>
     requires { is_open ≡ true → 0 < length table.old }
-    ensures gives { Gives table.new result (split_added kind place is_open table.old text.now) }
+    ensures gives { Leaves slip_told table.new result (split_added kind place is_open table.old text.now) }
     ensures opened { IfOk result (λ o. o ≡ opens is_open text.now) }
     ensures filled { IfOk result (λ o. o ≡ true → 0 < length table.new) }
 {
@@ -153,7 +153,7 @@ fn add_line(
     text: &[u8],
 ) -> Result<bool, Refusal>
     requires { is_open ≡ true → 0 < length table.old }
-    ensures gives { Gives table.new result (line_added kind place is_open table.old text.now) }
+    ensures gives { Leaves slip_told table.new result (line_added kind place is_open table.old text.now) }
     ensures opened { IfOk result (λ o. o ≡ opens is_open text.now) }
     ensures filled { IfOk result (λ o. o ≡ true → 0 < length table.new) }
 {
@@ -172,7 +172,7 @@ pub fn add_file(
     bytes: &[u8],
 ) -> Result<(), Refusal>
     requires { length bytes.now ≤ 4194304 }
-    ensures { Gives table.new result (file_added kind file table.old bytes.now) }
+    ensures { Leaves slip_told table.new result (file_added kind file table.old bytes.now) }
 {
     let mut cursor = Cursor::new(file, bytes);
     let mut is_open = false;

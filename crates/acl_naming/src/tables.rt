@@ -2,8 +2,8 @@ ghost use Rattle.std.specs.Prelude.{◌≡◌, ℕ, ◌<◌, List, [], ◌∷◌
 ghost use Rattle.acl_naming.specs.Definitions.{index_of, items_at, items_count};
 ghost use Rattle.acl_naming.specs.Tables.{name_at, place_at, with_item};
 
-use crate::items::{Item, Items};
-use acl_text::{Memory, Place};
+use crate::items::Item;
+use acl_text::{Items, Memory, Place};
 use indexmap::IndexMap;
 use std::alloc::Global;
 use std::marker::Model;
@@ -12,7 +12,7 @@ use std::marker::Model;
 #[derive(Drop)]
 pub struct Entry {
     place: Place,
-    items: Items,
+    items: Items<Item>,
 }
 
 /// The definitions of one kind, in order of appearance. A contract sees their list.

@@ -1,4 +1,5 @@
 pub mod AddressLaws
+pub mod AnswerLaws
 pub mod Bounds
 pub mod CursorLaws
 pub mod CutLaws

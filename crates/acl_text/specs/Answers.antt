@@ -19,17 +19,21 @@ abbrev pub fault_told : Rejection → Option Fault
 fault_told (rejections.Fault fault) = Some fault
 fault_told rejections.Memory = None
 
--- The answer, seen by the definitions, is one that the relation takes.
-abbrev pub Answers : {X Y E F : Type 0} → (E → Option F) → (X → Y) → Result X E → (Result Y F → Type 0) → Type 0
-Answers told view (Ok x) R = R (Ok (view x))
-Answers told view (Err e) R = IfSome (told e) (λ f. R (Err f))
+-- An error is the one that is expected, as far as the definition knows it.
+abbrev pub Stops : {Y E F : Type 0} → (E → Option F) → E → Result Y F → Type 0
+Stops told e expected = IfSome (told e) (λ f. expected ≡ Err f)
 
 -- The call gives the value or the error that is expected.
 abbrev pub Gives : {X E F : Type 0} → (E → Option F) → Result X E → Result X F → Type 0
 Gives told (Ok x) expected = expected ≡ Ok x
-Gives told (Err e) expected = IfSome (told e) (λ f. expected ≡ Err f)
+Gives told (Err e) expected = Stops told e expected
 
 -- The call leaves the value that is expected in its argument, or gives the error.
 abbrev pub Leaves : {X Y E F : Type 0} → (E → Option F) → Y → Result X E → Result Y F → Type 0
 Leaves told now (Ok x) expected = expected ≡ Ok now
-Leaves told now (Err e) expected = IfSome (told e) (λ f. expected ≡ Err f)
+Leaves told now (Err e) expected = Stops told e expected
+
+-- The answer, seen by the definitions, is one that the relation takes.
+abbrev pub Answers : {X Y E F : Type 0} → (E → Option F) → (X → Y) → Result X E → (Result Y F → Type 0) → Type 0
+Answers told view (Ok x) R = R (Ok (view x))
+Answers told view (Err e) R = IfSome (told e) (λ f. R (Err f))

@@ -6,10 +6,9 @@ use Rattle.acl_packet.specs.declared.addresses.Family.TheVariants.{V4, V6}
 use Rattle.acl_packet.specs.declared.addresses.Prefix.{Prefix}
 use Rattle.acl_packet.specs.declared.packets.Packet.{Packet}
 use Rattle.acl_packet.specs.declared.filtering.Outcome.{Outcome}
-use Rattle.acl_packet.specs.Addresses.{width_of}
+use Rattle.acl_packet.specs.Addresses.{width_of, top_address}
 use Rattle.acl_packet.specs.Packets.{IsPacket}
 use Rattle.acl_naming.specs.Definitions.{Definition}
-use Rattle.acl_naming.specs.Ports.{top_address}
 use Rattle.acl_sets.specs.declared.sets.Range.{Range}
 use Rattle.acl_sets.specs.Ranges.{IsNormal, holds}
 use Rattle.acl_sets.specs.LeastLists.{IsLeastList, any_has}

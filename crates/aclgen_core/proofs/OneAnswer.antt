@@ -11,7 +11,7 @@ use Rattle.acl_host.specs.Files.{File, names_under}
 use Rattle.acl_naming.specs.declared.items.Reference.{Reference}
 use Rattle.acl_naming.specs.Definitions.{Definition, Naming}
 use Rattle.acl_naming.specs.Tables.{name_at, place_at}
-use Rattle.acl_naming.specs.Ports.{top_address}
+use Rattle.acl_packet.specs.Addresses.{top_address}
 use Rattle.acl_naming.specs.Checking.{undefined_of, HasNoCycle, IsFirstCycle, IsCycleSlip, IsSlipBy, slip}
 use Rattle.acl_load.specs.Loading.{AnswersWith, definitions_of, naming_paths, fault_of}
 use Rattle.acl_sets.specs.declared.sets.Range.{Range}

@@ -9,7 +9,8 @@ use Rattle.acl_text.specs.Names.{is_name}
 use Rattle.acl_text.specs.Output.{COUNT_END}
 use Rattle.acl_naming.specs.Definitions.{Definition, Naming}
 use Rattle.acl_sets.specs.declared.sets.Range.{Range}
-use Rattle.acl_sets.specs.LeastLists.{IsPrefixOf, IsMaximal}
+use Rattle.acl_packet.specs.Addresses.{IsPrefixOf}
+use Rattle.acl_sets.specs.LeastLists.{IsMaximal}
 use Rattle.gen_cisco.specs.declared.rules.Rule.{Rule}
 use Rattle.gen_cisco.specs.Rules.{IsRule}
 use Rattle.aclgen_core.specs.Words.{Options}

@@ -3,7 +3,7 @@ use Rattle.std.proofs.Common.{◌≡◌, ℕ, Bool, true, false, ◌&&◌, ◌�
 use Rattle.std.specs.List.{AllByRecursion, slice_split}
 use Rattle.std.specs.Str.{bytes_eq}
 use Rattle.acl_text.specs.Cursors.{lines_of}
-use Rattle.acl_text.specs.Cuts.{◌>>=◌}
+use Rattle.acl_text.specs.OptionSteps.{◌>>=◌}
 use Rattle.acl_text.specs.Names.{is_filter_name}
 use Rattle.std.proofs.lemmas.Bool.{false≢true}
 use Rattle.aclgen_core.specs.Names.{is_short_name}

@@ -8,7 +8,7 @@ use Rattle.std.specs.Prelude.{ℕ, ◌+◌, ◌-◌, Bool, true, false, not, ◌
 use Rattle.std.specs.List.{list_any, slice_split}
 use Rattle.std.specs.Str.{bytes_eq}
 use Rattle.acl_text.specs.Cursors.{lines_of, words_of}
-use Rattle.acl_text.specs.Cuts.{◌>>=◌}
+use Rattle.acl_text.specs.OptionSteps.{◌>>=◌}
 use Rattle.acl_text.specs.Names.{is_filter_name}
 use Rattle.aclgen_core.specs.Names.{is_short_name}
 use Rattle.aclgen_core.specs.declared.policies.Word.{Word}

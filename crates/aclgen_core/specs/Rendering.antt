@@ -3,7 +3,7 @@ use Rattle.std.specs.Prelude.{◌≡◌, ℕ, ◌≤◌, ◌↔◌, true, is_non
 use Rattle.acl_packet.specs.declared.addresses.Family.TheVariants.{V4}
 use Rattle.acl_packet.specs.declared.addresses.Prefix.{Prefix}
 use Rattle.acl_naming.specs.Definitions.{Definition, index_of}
-use Rattle.acl_naming.specs.Ports.{top_address}
+use Rattle.acl_packet.specs.Addresses.{top_address}
 use Rattle.acl_sets.specs.declared.sets.Range.{Range}
 use Rattle.acl_sets.specs.Ranges.{IsNormal, holds}
 use Rattle.acl_sets.specs.LeastLists.{IsLeastList}

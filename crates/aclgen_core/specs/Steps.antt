@@ -4,7 +4,7 @@ use Rattle.acl_packet.specs.declared.addresses.Family.TheVariants.{V4}
 use Rattle.acl_packet.specs.declared.addresses.Prefix.{Prefix}
 use Rattle.acl_text.specs.declared.faults.Fault.{Fault}
 use Rattle.acl_naming.specs.Definitions.{Definition}
-use Rattle.acl_naming.specs.Ports.{top_address}
+use Rattle.acl_packet.specs.Addresses.{top_address}
 use Rattle.acl_sets.specs.Ranges.{Numbers}
 use Rattle.gen_cisco.specs.declared.rules.Rule.{Rule}
 use Rattle.aclgen_core.specs.declared.policies.Word.{Word}

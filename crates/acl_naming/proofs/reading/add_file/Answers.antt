@@ -3,8 +3,10 @@ use Rattle.std.proofs.lemmas.Result.{err_from_is_err_and}
 use Rattle.acl_text.specs.declared.faults.Place.{Place}
 use Rattle.acl_text.specs.declared.faults.Slip.{Slip}
 use Rattle.acl_naming.specs.Definitions.{Definition}
-use Rattle.acl_naming.specs.Reading.{Outcome, and_then, without_comment, opens, line_added, lines_added, file_added}
-use Rattle.acl_naming.proofs.ReadLaws.{refuses_whole, stops}
+use Rattle.acl_naming.specs.Reading.{Outcome, without_comment, opens, line_added, lines_added, file_added}
+use Rattle.acl_text.proofs.AnswerLaws.{step_stops, stops_whole}
+use Rattle.acl_text.specs.Answers.{slip_told}
+use Rattle.acl_text.specs.Steps.{◌>>=◌}
 use Rattle.acl_naming.proofs.reading.add_file.Goals as goal
 
 pub returns-in_err-is_open : goal.returns-in_err-is_open
@@ -21,16 +23,16 @@ returns-in_err-is_open c =
     c.place.ensures ∙ ap (λ (f : ℕ). record { file = f; line = c.line.new.self.line }) (c.in-Some.ensures.2 ∙ c.loop-line.invariant.place)
     ∙ ap (λ (n : ℕ). record { file = file; line = n }) c.in-Some.ensures.1 in
     let rest : List Definition → Outcome = λ more. lines_added kind file ((cursor.line + 1) + 1) (opens is_open text) more c.line.new.self.lines in
-    let whole : file_added kind file c.args.table.now c.args.bytes.now ≡ and_then (line_added kind place is_open table text) rest =
+    let whole : file_added kind file c.args.table.now c.args.bytes.now ≡ (line_added kind place is_open table text >>= rest) =
     sym c.loop-line.invariant.goes ∙ ap (lines_added kind file (cursor.line + 1) is_open table) c.in-Some.ensures.0 in
     let same : line_added kind c.place.result is_open table c.without_comment.result.now ≡ line_added kind place is_open table text =
     ap (λ (p : Place). line_added kind p is_open table c.without_comment.result.now) place_is
     ∙ ap (line_added kind place is_open table) c.without_comment.ensures in
     let p = err_from_is_err_and c.from_residual.result c.from_residual.ensures.1 in
     rw (p.1, p.2)
-    (refuses_whole c.in_err-is_open.field-0.0 (line_added kind c.place.result is_open table c.without_comment.result.now)
+    (stops_whole slip_told c.in_err-is_open.field-0.0 (line_added kind c.place.result is_open table c.without_comment.result.now)
     (file_added kind file c.args.table.now c.args.bytes.now) c.in_err-is_open.ensures.gives
-    (λ (s : Slip) h. whole ∙ stops (line_added kind place is_open table text) rest s (sym same ∙ h)))
+    (λ (s : Slip) h. whole ∙ step_stops (line_added kind place is_open table text) rest s (sym same ∙ h)))
 
 pub returns : goal.returns
 unfolding file_added

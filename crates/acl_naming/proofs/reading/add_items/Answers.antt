@@ -5,8 +5,10 @@ use Rattle.acl_text.specs.declared.faults.Slip.{Slip}
 use Rattle.acl_text.specs.Cursors.{words_of}
 use Rattle.acl_text.proofs.CursorLaws.{words_next, words_none}
 use Rattle.acl_naming.specs.Definitions.{Definition}
-use Rattle.acl_naming.specs.Reading.{Outcome, and_then, item_added, items_added}
-use Rattle.acl_naming.proofs.ReadLaws.{refuses_whole, stops}
+use Rattle.acl_naming.specs.Reading.{Outcome, item_added, items_added}
+use Rattle.acl_text.proofs.AnswerLaws.{step_stops, stops_whole}
+use Rattle.acl_text.specs.Answers.{slip_told}
+use Rattle.acl_text.specs.Steps.{◌>>=◌}
 use Rattle.acl_naming.proofs.reading.add_items.Goals as goal
 
 pub returns-in_err-add_item-clause-gives : goal.returns-in_err-add_item-clause-gives
@@ -18,13 +20,13 @@ returns-in_err-add_item-clause-gives c =
     let n = words_next text c.loop-start.from c.in-Some.start c.in-Some.end c.loop-start.invariant.within c.in-Some.ensures.exact in
     let rest : List Definition → Outcome = λ more. items_added kind place more (words_of (drop c.in-Some.end text)) in
     let whole : items_added kind place c.args.table.now (words_of text)
-    ≡ and_then (item_added kind place table (slice_range text c.in-Some.start c.in-Some.end)) rest =
+    ≡ (item_added kind place table (slice_range text c.in-Some.start c.in-Some.end) >>= rest) =
     sym c.loop-start.invariant.goes ∙ ap (items_added kind place table) n.2 in
     let p = err_from_is_err_and c.from_residual.result c.from_residual.ensures.1 in
     rw (p.1, p.2)
-    (refuses_whole c.in_err-add_item.field-0.0
+    (stops_whole slip_told c.in_err-add_item.field-0.0
     (item_added kind place table (slice_range text c.in-Some.start c.in-Some.end)) (items_added kind place c.args.table.now (words_of text))
-    c.in_err-add_item.ensures.gives (λ (s : Slip) h. whole ∙ stops (item_added kind place table (slice_range text c.in-Some.start c.in-Some.end)) rest s h))
+    c.in_err-add_item.ensures.gives (λ (s : Slip) h. whole ∙ step_stops (item_added kind place table (slice_range text c.in-Some.start c.in-Some.end)) rest s h))
 
 pub loop-start-preserved : goal.loop-start-preserved
 loop-start-preserved c =
@@ -37,7 +39,7 @@ loop-start-preserved c =
     record {
       within = n.1;
       filled = c.in_ok-add_item.ensures.filled;
-      goes = sym (ap (λ (o : Outcome). and_then o rest) c.in_ok-add_item.ensures.gives)
+      goes = sym (ap (λ (o : Outcome). o >>= rest) c.in_ok-add_item.ensures.gives)
           ∙ sym (ap (items_added kind place table) n.2) ∙ c.loop-start.invariant.goes;
     }
 

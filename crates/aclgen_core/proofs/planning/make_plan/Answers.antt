@@ -1,9 +1,8 @@
-use Rattle.std.proofs.Common.{List, Option, IfSome, subst}
+use Rattle.std.proofs.Common.{List, Option, IfSome, subst, ◌≡◌, Ok}
 use Rattle.acl_host.specs.Files.{File}
 use Rattle.aclgen_core.specs.Job.{policy_read}
 use Rattle.aclgen_core.specs.Views.{options_view}
 use Rattle.aclgen_core.proofs.PlanLaws.{plans}
-use Rattle.std.proofs.Common.{◌≡◌, Ok}
 use Rattle.aclgen_core.proofs.planning.make_plan.Goals as goal
 
 pub returns-clause-gives : goal.returns-clause-gives

@@ -1,7 +1,7 @@
 use Rattle.std.proofs.Common.{◌+◌, ◌^◌, ◌-◌, ◌≤◌, ◌<◌, ap, arith}
 use Rattle.acl_packet.specs.declared.addresses.Prefix.{Prefix}
 use Rattle.acl_packet.specs.Addresses.{width_of, size_of}
-use Rattle.acl_packet.proofs.Blocks.{end_fits}
+use Rattle.acl_packet.proofs.PrefixLaws.{end_fits}
 use Rattle.std.proofs.lemmas.Nat.{pow_pos}
 use Rattle.acl_naming.proofs.items.Block.range.Goals as goal
 
