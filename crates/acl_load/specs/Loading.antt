@@ -9,7 +9,7 @@ use Rattle.acl_naming.specs.declared.item_words.Kind.{Kind as NamingKind}
 use Rattle.acl_naming.specs.declared.item_words.Kind.TheVariants as kinds
 use Rattle.acl_naming.specs.Definitions.{Definition, Naming}
 use Rattle.acl_naming.specs.Checking.{undefined_of, HasNoCycle, IsSlipOf}
-use Rattle.acl_naming.specs.Reading.{file_added}
+use Rattle.acl_naming.specs.NamingFiles.{file_added}
 use Rattle.acl_load.specs.declared.adding.Kind.{Kind}
 use Rattle.acl_load.specs.declared.adding.Kind.TheVariants.{Networks, Services}
 use Rattle.acl_load.specs.Reading.{◌>>=◌, fault_at, whole_file, listing}

@@ -6,10 +6,10 @@ use Rattle.acl_naming.specs.declared.items.Item.{Item}
 use Rattle.acl_naming.specs.declared.items.Reference.{Reference}
 use Rattle.acl_naming.specs.Checking.{first_of, undefined_in, first_undefined, IsSettled}
 use Rattle.acl_naming.specs.Definitions.{Definition, index_of, items_at}
-use Rattle.acl_naming.specs.Graph.{targets, graph_of}
-use Rattle.acl_naming.specs.Marks.{marked, all_marked, among, leads, IsClosed}
+use Rattle.acl_naming.specs.GraphSteps.{targets, graph_of}
+use Rattle.acl_naming.specs.MarkSteps.{marked, all_marked, among, leads, IsClosed}
 use Rattle.acl_naming.specs.Reach.{ReachesItself}
-use Rattle.acl_naming.specs.Settling.{steps_left}
+use Rattle.acl_naming.specs.SettlingSteps.{steps_left}
 use Rattle.acl_naming.proofs.MarkLaws.{mark_only, mark_kept}
 use Rattle.acl_naming.proofs.GraphLaws.{option_cases, nowhere, items_get, leads_at, leads_all}
 use Rattle.acl_naming.proofs.WalkLaws.{blank_unmarked, closed_walk, undefined_walk}

@@ -11,8 +11,8 @@ use Rattle.acl_naming.specs.declared.items.Item.TheVariants.{Name, Network, Serv
 use Rattle.acl_naming.specs.Definitions.{Definition, index_of, items_at, items_in, items_of}
 use Rattle.acl_naming.specs.Tables.{name_at}
 use Rattle.acl_naming.specs.Reach.{is_reference, refers}
-use Rattle.acl_naming.specs.Graph.{with_index, targets, graph_in, graph_of}
-use Rattle.acl_naming.specs.Marks.{among, leads}
+use Rattle.acl_naming.specs.GraphSteps.{with_index, targets, graph_in, graph_of}
+use Rattle.acl_naming.specs.MarkSteps.{among, leads}
 
 pub option_cases : {X : Type 0} (o : Option X) → (o ≡ None) ⊎ ((x : X) × (o ≡ Some x))
 option_cases None = inl refl

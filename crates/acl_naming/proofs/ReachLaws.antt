@@ -9,10 +9,10 @@ use Rattle.acl_sets.specs.Ranges.{IsRange, holds}
 use Rattle.acl_naming.specs.declared.items.Item.{Item}
 use Rattle.acl_naming.specs.declared.reaching.Wanted.{Wanted}
 use Rattle.acl_naming.specs.Definitions.{Definition, index_of, items_at}
-use Rattle.acl_naming.specs.Graph.{IsReached}
-use Rattle.acl_naming.specs.Marks.{marked}
+use Rattle.acl_naming.specs.GraphSteps.{IsReached}
+use Rattle.acl_naming.specs.MarkSteps.{marked}
 use Rattle.acl_naming.specs.Reach.{Reaches}
-use Rattle.acl_naming.specs.Wanted.{top_of, has_number, is_wanted, Collects, IsReach, any_marked}
+use Rattle.acl_naming.specs.LookupSteps.{top_of, has_number, is_wanted, Collects, IsReach, any_marked}
 use Rattle.acl_naming.proofs.WalkLaws.{marked_reaches}
 
 -- first one collection, then another

@@ -11,7 +11,7 @@ use Rattle.acl_naming.specs.declared.items.Item.{Item}
 use Rattle.acl_naming.specs.declared.tables.Entry.{Entry}
 use Rattle.acl_naming.specs.Definitions.{Definition, index_of, items_at, items_count}
 use Rattle.acl_naming.specs.Tables.{name_at, place_at, with_item}
-use Rattle.acl_naming.specs.Views.{definition_of}
+use Rattle.acl_naming.specs.TableViewSteps.{definition_of}
 
 abbrev pub Kept : Type 0
 Kept = Vec ℕ Global × Entry

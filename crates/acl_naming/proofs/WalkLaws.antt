@@ -5,9 +5,9 @@ use Rattle.std.proofs.lemmas.Option.{none-some, same_Some}
 use Rattle.std.proofs.lemmas.List.{length-replicate}
 use Rattle.acl_naming.specs.declared.items.Item.{Item}
 use Rattle.acl_naming.specs.Definitions.{Definition, index_of, items_at, items_in, items_of}
-use Rattle.acl_naming.specs.Marks.{marked, mark_all, unmarked, among, leads, IsClosed}
+use Rattle.acl_naming.specs.MarkSteps.{marked, mark_all, unmarked, among, leads, IsClosed}
 use Rattle.acl_naming.specs.Reach.{is_reference, refers, Walks, Reaches, ReachesItself}
-use Rattle.acl_naming.specs.Graph.{targets, graph_of, blank, Follows, IsBehind, IsReached}
+use Rattle.acl_naming.specs.GraphSteps.{targets, graph_of, blank, Follows, IsBehind, IsReached}
 use Rattle.acl_naming.proofs.MarkLaws.{count, count_fits, mark_kept, marked_within, marks_keep, marks_kept, marks_all, marks_length, among_left, among_right, among_cases, among_one, is_one, unmarked_among, marked_before, unmarked_counts, IsSound, sound_mark}
 use Rattle.acl_naming.proofs.GraphLaws.{option_cases, same_index, items_found, leads_at, leads_found, leads_all, target_found, targets_within}
 

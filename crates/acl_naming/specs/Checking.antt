@@ -10,8 +10,8 @@ use Rattle.acl_naming.specs.declared.items.Item.{Item}
 use Rattle.acl_naming.specs.declared.items.Item.TheVariants.{Name, Network, Service}
 use Rattle.acl_naming.specs.declared.items.Reference.{Reference}
 use Rattle.acl_naming.specs.Definitions.{Definition, Naming, index_of}
-use Rattle.acl_naming.specs.Graph.{graph_of}
-use Rattle.acl_naming.specs.Marks.{marked, IsClosed}
+use Rattle.acl_naming.specs.GraphSteps.{graph_of}
+use Rattle.acl_naming.specs.MarkSteps.{marked, IsClosed}
 use Rattle.acl_naming.specs.Reach.{ReachesItself}
 use Rattle.acl_naming.specs.Tables.{name_at, place_at}
 

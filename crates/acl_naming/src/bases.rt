@@ -4,14 +4,14 @@ ghost use Rattle.acl_naming.specs.Checking.{IsChecked};
 ghost use Rattle.acl_naming.specs.Definitions.{index_of};
 ghost use Rattle.acl_packet.specs.Addresses.{top_address};
 ghost use Rattle.acl_naming.specs.Ports.{top_port};
-ghost use Rattle.acl_naming.specs.Reading.{AddsNetworks, AddsServices};
+ghost use Rattle.acl_naming.specs.NamingFiles.{AddsNetworks, AddsServices};
 ghost use Rattle.acl_naming.specs.Reach.{ReachesAddress, ReachesPort, ReachesProtocol};
 
 use crate::checking::check_tables;
 use crate::item_words::Kind;
 use crate::lookups::Lookup;
+use crate::naming_files::add_file;
 use crate::reaching::{Wanted, ranges_of, top_of};
-use crate::reading::add_file;
 use crate::tables::Table;
 use acl_packet::Family;
 use acl_sets::RangeSet;

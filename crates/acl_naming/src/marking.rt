@@ -1,6 +1,6 @@
 ghost use Rattle.std.specs.Prelude.{◌≡◌, ◌<◌, ◌++◌, true, [], ◌∷◌, length, slice_set, IfOk, OnOk};
-ghost use Rattle.acl_naming.specs.Graph.{IsBehind, IsReached, blank, targets};
-ghost use Rattle.acl_naming.specs.Marks.{mark_all, marked, unmarked};
+ghost use Rattle.acl_naming.specs.GraphSteps.{IsBehind, IsReached, blank, targets};
+ghost use Rattle.acl_naming.specs.MarkSteps.{mark_all, marked, unmarked};
 
 use crate::items::Item;
 use crate::tables::Table;

@@ -2,9 +2,9 @@ ghost use Rattle.std.specs.Prelude.{◌≡◌, ℕ, ◌<◌, ◌↔◌, ◌&&◌
 ghost use Rattle.std.specs.List.{All, list_any};
 ghost use Rattle.acl_sets.specs.Ranges.{IsNormal, holds};
 ghost use Rattle.acl_naming.specs.Definitions.{index_of, items_at};
-ghost use Rattle.acl_naming.specs.Marks.{marked};
+ghost use Rattle.acl_naming.specs.MarkSteps.{marked};
 ghost use Rattle.acl_naming.specs.Reach.{Reaches};
-ghost use Rattle.acl_naming.specs.Wanted.{Collects, IsRangeOf, IsReach, any_item, any_marked, has_number, is_wanted, top_of};
+ghost use Rattle.acl_naming.specs.LookupSteps.{Collects, IsRangeOf, IsReach, any_item, any_marked, has_number, is_wanted, top_of};
 
 use crate::items::Item;
 use crate::lookups::Lookup;

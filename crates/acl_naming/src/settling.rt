@@ -2,9 +2,9 @@ ghost use Rattle.std.specs.Prelude.{◌≡◌, ◌+◌, ◌<◌, ◌≤◌, true
 ghost use Rattle.std.specs.List.{All};
 ghost use Rattle.acl_naming.specs.Checking.{IsSettled};
 ghost use Rattle.acl_naming.specs.Definitions.{items_at};
-ghost use Rattle.acl_naming.specs.Graph.{targets};
-ghost use Rattle.acl_naming.specs.Marks.{all_marked};
-ghost use Rattle.acl_naming.specs.Settling.{IsStepOf, steps_left};
+ghost use Rattle.acl_naming.specs.GraphSteps.{targets};
+ghost use Rattle.acl_naming.specs.MarkSteps.{all_marked};
+ghost use Rattle.acl_naming.specs.SettlingSteps.{IsStepOf, steps_left};
 
 use crate::items::Item;
 use crate::marking::no_marks;

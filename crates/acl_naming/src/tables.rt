@@ -31,7 +31,7 @@ impl Model for Table {
 
     ghost use Rattle.std.specs.Prelude.{◌≡◌, map};
     ghost use Rattle.acl_naming.specs.Definitions.{items_count};
-    ghost use Rattle.acl_naming.specs.Views.{definition_of};
+    ghost use Rattle.acl_naming.specs.TableViewSteps.{definition_of};
 
     ghost view = { λ t. map definition_of t.kept.entries };
 

@@ -1,6 +1,6 @@
 use Rattle.std.proofs.Common.{◌≡◌, Bool, List, Some, ap, sym, ◌∙◌}
 use Rattle.acl_naming.specs.Definitions.{index_of}
-use Rattle.acl_naming.specs.Marks.{marked}
+use Rattle.acl_naming.specs.MarkSteps.{marked}
 use Rattle.acl_naming.proofs.WalkLaws.{itself_found, itself_all}
 use Rattle.acl_naming.proofs.checking.reaches_itself.Goals as goal
 

@@ -1,6 +1,6 @@
 use Rattle.std.proofs.Common.{◌≡◌, ◌++◌, drop, length}
-use Rattle.acl_naming.specs.Graph.{targets}
-use Rattle.acl_naming.specs.Marks.{mark_all, unmarked}
+use Rattle.acl_naming.specs.GraphSteps.{targets}
+use Rattle.acl_naming.specs.MarkSteps.{mark_all, unmarked}
 use Rattle.acl_naming.proofs.marking.mark_items.Given as goal
 
 abbrev pub invariant-loop-item : goal.invariant-loop-item

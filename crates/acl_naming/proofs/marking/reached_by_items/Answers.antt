@@ -1,8 +1,8 @@
 use Rattle.std.proofs.Common.{◌≡◌, ◌<◌, ◌+◌, ◌-◌, ◌++◌, Bool, List, [], length, ap, sym, subst, ◌∙◌, arith}
 use Rattle.std.proofs.lemmas.List.{with_items_is}
 use Rattle.std.specs.Vec.{with_items}
-use Rattle.acl_naming.specs.Graph.{targets}
-use Rattle.acl_naming.specs.Marks.{mark_all, unmarked}
+use Rattle.acl_naming.specs.GraphSteps.{targets}
+use Rattle.acl_naming.specs.MarkSteps.{mark_all, unmarked}
 use Rattle.acl_naming.proofs.MarkLaws.{count}
 use Rattle.acl_naming.proofs.WalkLaws.{IsWalk, walk_started, next_defined, walk_stepped, walk_shorter, walk_ends}
 use Rattle.acl_naming.proofs.marking.reached_by_items.Goals as goal

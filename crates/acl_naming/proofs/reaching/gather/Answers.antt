@@ -1,8 +1,8 @@
 use Rattle.std.proofs.Common.{◌+◌, ◌<◌, ◌&&◌, take, [], length, arith}
 use Rattle.std.specs.List.{list_any}
 use Rattle.acl_naming.specs.Definitions.{items_at}
-use Rattle.acl_naming.specs.Marks.{marked}
-use Rattle.acl_naming.specs.Wanted.{any_marked}
+use Rattle.acl_naming.specs.MarkSteps.{marked}
+use Rattle.acl_naming.specs.LookupSteps.{any_marked}
 use Rattle.acl_naming.proofs.ReachLaws.{collects_on, any_marked_more}
 use Rattle.acl_naming.proofs.reaching.gather.Goals as goal
 

@@ -1,5 +1,5 @@
 use Rattle.std.proofs.Common.{take, []}
-use Rattle.acl_naming.specs.Wanted.{Collects, any_marked}
+use Rattle.acl_naming.specs.LookupSteps.{Collects, any_marked}
 use Rattle.acl_naming.proofs.reaching.gather.Given as goal
 
 abbrev pub invariant-loop-i : goal.invariant-loop-i

@@ -1,5 +1,5 @@
 use Rattle.std.proofs.Common.{take}
-use Rattle.acl_naming.specs.Wanted.{Collects, any_item}
+use Rattle.acl_naming.specs.LookupSteps.{Collects, any_item}
 use Rattle.acl_naming.proofs.reaching.push_items.Given as goal
 
 abbrev pub invariant-loop-item : goal.invariant-loop-item

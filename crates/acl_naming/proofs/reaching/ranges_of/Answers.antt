@@ -1,5 +1,5 @@
 use Rattle.std.proofs.Common.{Bool, List, [], sym, subst}
-use Rattle.acl_naming.specs.Wanted.{Collects, any_marked}
+use Rattle.acl_naming.specs.LookupSteps.{Collects, any_marked}
 use Rattle.acl_naming.proofs.ReachLaws.{collects_reach}
 use Rattle.acl_naming.proofs.reaching.ranges_of.Goals as goal
 

@@ -1,6 +1,6 @@
 use Rattle.std.proofs.Common.{◌≡◌, drop}
-use Rattle.acl_naming.specs.Graph.{targets}
-use Rattle.acl_naming.specs.Marks.{all_marked}
+use Rattle.acl_naming.specs.GraphSteps.{targets}
+use Rattle.acl_naming.specs.MarkSteps.{all_marked}
 use Rattle.acl_naming.proofs.settling.are_marked.Given as goal
 
 abbrev pub invariant-loop-item : goal.invariant-loop-item

@@ -3,7 +3,7 @@ use Rattle.std.proofs.lemmas.Result.{on_ok_weaker}
 use Rattle.acl_naming.specs.declared.items.Item.{Item}
 use Rattle.acl_naming.specs.declared.settling.Step.TheVariants.{Leave}
 use Rattle.acl_naming.specs.Definitions.{items_at}
-use Rattle.acl_naming.specs.Settling.{steps_left}
+use Rattle.acl_naming.specs.SettlingSteps.{steps_left}
 use Rattle.acl_naming.proofs.CheckLaws.{left_entered}
 use Rattle.acl_naming.proofs.settling.enter.Goals as goal
 

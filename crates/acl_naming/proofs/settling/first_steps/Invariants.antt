@@ -1,5 +1,5 @@
 use Rattle.std.specs.List.{All}
-use Rattle.acl_naming.specs.Settling.{IsStepOf}
+use Rattle.acl_naming.specs.SettlingSteps.{IsStepOf}
 use Rattle.acl_naming.proofs.settling.first_steps.Given as goal
 
 abbrev pub invariant-loop-i : goal.invariant-loop-i

@@ -1,6 +1,6 @@
 use Rattle.std.proofs.Common.{◌+◌, ◌≤◌, length}
 use Rattle.std.specs.List.{All}
-use Rattle.acl_naming.specs.Settling.{IsStepOf}
+use Rattle.acl_naming.specs.SettlingSteps.{IsStepOf}
 use Rattle.acl_naming.proofs.settling.push_items.Given as goal
 
 abbrev pub invariant-loop-item : goal.invariant-loop-item

@@ -1,8 +1,8 @@
 use Rattle.std.proofs.Common.{List, Bool, ◌≡◌, true, false, if◌then◌else◌, slice_set, ap, sym, ◌∙◌}
 use Rattle.acl_naming.specs.declared.items.Item.{Item}
 use Rattle.acl_naming.specs.Definitions.{items_at}
-use Rattle.acl_naming.specs.Graph.{targets}
-use Rattle.acl_naming.specs.Marks.{all_marked}
+use Rattle.acl_naming.specs.GraphSteps.{targets}
+use Rattle.acl_naming.specs.MarkSteps.{all_marked}
 use Rattle.acl_naming.proofs.CheckLaws.{settled_more}
 use Rattle.acl_naming.proofs.settling.settle.Goals as goal
 

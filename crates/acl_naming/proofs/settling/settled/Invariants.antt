@@ -1,7 +1,7 @@
 use Rattle.std.proofs.Common.{◌≡◌, ◌+◌, length}
 use Rattle.std.specs.List.{All}
 use Rattle.acl_naming.specs.Checking.{IsSettled}
-use Rattle.acl_naming.specs.Settling.{IsStepOf, steps_left}
+use Rattle.acl_naming.specs.SettlingSteps.{IsStepOf, steps_left}
 use Rattle.acl_naming.proofs.settling.settled.Given as goal
 
 abbrev pub invariant-loop-step : goal.invariant-loop-step

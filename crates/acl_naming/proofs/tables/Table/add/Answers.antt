@@ -7,7 +7,7 @@ use Rattle.indexmap.proofs.MapLemmas.{some_index}
 use Rattle.acl_naming.specs.declared.items.Item.{Item}
 use Rattle.acl_naming.specs.declared.tables.Entry.{Entry}
 use Rattle.acl_naming.specs.Definitions.{Definition, index_of, items_count}
-use Rattle.acl_naming.specs.Views.{definition_of}
+use Rattle.acl_naming.specs.TableViewSteps.{definition_of}
 use Rattle.acl_naming.proofs.TableLaws.{index_keys, none_found, more_kept, items_more}
 use Rattle.acl_naming.proofs.tables.Table.add.Goals as goal
 

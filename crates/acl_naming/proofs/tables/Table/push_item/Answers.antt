@@ -3,7 +3,7 @@ use Rattle.std.proofs.lemmas.List.{length-map}
 use Rattle.indexmap.specs.IndexMap.{index_map_len}
 use Rattle.acl_naming.specs.Definitions.{Definition, items_count}
 use Rattle.acl_naming.specs.Tables.{with_item}
-use Rattle.acl_naming.specs.Views.{definition_of}
+use Rattle.acl_naming.specs.TableViewSteps.{definition_of}
 use Rattle.acl_naming.proofs.TableLaws.{last_written, last_kept, items_one}
 use Rattle.acl_naming.proofs.tables.Table.push_item.Goals as goal
 

@@ -8,7 +8,7 @@ use Rattle.acl_naming.specs.declared.items.Item.TheVariants.{Name, Network, Serv
 use Rattle.acl_naming.specs.declared.reaching.Wanted.{Wanted}
 use Rattle.acl_naming.specs.declared.reaching.Wanted.TheVariants.{Addresses, Ports}
 use Rattle.acl_naming.specs.Definitions.{Definition}
-use Rattle.acl_naming.specs.Marks.{marked}
+use Rattle.acl_naming.specs.MarkSteps.{marked}
 use Rattle.acl_packet.specs.Addresses.{top_address, same_family}
 use Rattle.acl_naming.specs.Ports.{top_port}
 use Rattle.acl_naming.specs.Reach.{holds_address, holds_port, is_service_of, Reaches}

@@ -1,6 +1,6 @@
 use Rattle.std.proofs.Common.{◌≡◌, ◌≤◌, take}
-use Rattle.acl_naming.specs.Reading.{without_end}
-use Rattle.acl_naming.proofs.lines.without_end.Given as goal
+use Rattle.acl_naming.specs.NamingFiles.{without_end}
+use Rattle.acl_naming.proofs.line_parts.without_end.Given as goal
 
 abbrev pub invariant-loop-i : goal.invariant-loop-i
 invariant-loop-i l = record {

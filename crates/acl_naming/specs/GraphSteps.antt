@@ -4,7 +4,7 @@ use Rattle.std.specs.List.{list_any}
 use Rattle.acl_naming.specs.declared.items.Item.{Item}
 use Rattle.acl_naming.specs.declared.items.Item.TheVariants.{Name, Network, Service}
 use Rattle.acl_naming.specs.Definitions.{Definition, index_of, items_at}
-use Rattle.acl_naming.specs.Marks.{marked, leads, IsClosed}
+use Rattle.acl_naming.specs.MarkSteps.{marked, leads, IsClosed}
 use Rattle.acl_naming.specs.Reach.{is_reference, Walks}
 
 abbrev pub with_index : Option ℕ → List ℕ → List ℕ

@@ -1,7 +1,7 @@
 use Rattle.std.proofs.Common.{◌≡◌, ◌-◌, ◌<◌, ◌≤◌, drop, length}
 use Rattle.acl_text.specs.Cursors.{words_of}
-use Rattle.acl_naming.specs.Reading.{items_added}
-use Rattle.acl_naming.proofs.reading.add_items.Given as goal
+use Rattle.acl_naming.specs.NamingFiles.{items_added}
+use Rattle.acl_naming.proofs.naming_files.add_items.Given as goal
 
 abbrev pub invariant-loop-start : goal.invariant-loop-start
 invariant-loop-start l = record {

@@ -3,11 +3,11 @@ use Rattle.std.proofs.lemmas.Result.{err_from_is_err_and}
 use Rattle.acl_text.specs.declared.faults.Place.{Place}
 use Rattle.acl_text.specs.declared.faults.Slip.{Slip}
 use Rattle.acl_naming.specs.Definitions.{Definition}
-use Rattle.acl_naming.specs.Reading.{Outcome, without_comment, opens, line_added, lines_added, file_added}
+use Rattle.acl_naming.specs.NamingFiles.{Outcome, without_comment, opens, line_added, lines_added, file_added}
 use Rattle.acl_text.proofs.AnswerLaws.{step_stops, stops_whole}
 use Rattle.acl_text.specs.Answers.{slip_told}
 use Rattle.acl_text.specs.Steps.{◌>>=◌}
-use Rattle.acl_naming.proofs.reading.add_file.Goals as goal
+use Rattle.acl_naming.proofs.naming_files.add_file.Goals as goal
 
 pub returns-in_err-is_open : goal.returns-in_err-is_open
 unfolding file_added

@@ -5,11 +5,11 @@ use Rattle.acl_text.specs.declared.faults.Slip.{Slip}
 use Rattle.acl_text.specs.Cursors.{words_of}
 use Rattle.acl_text.proofs.CursorLaws.{words_next, words_none}
 use Rattle.acl_naming.specs.Definitions.{Definition}
-use Rattle.acl_naming.specs.Reading.{Outcome, item_added, items_added}
+use Rattle.acl_naming.specs.NamingFiles.{Outcome, item_added, items_added}
 use Rattle.acl_text.proofs.AnswerLaws.{step_stops, stops_whole}
 use Rattle.acl_text.specs.Answers.{slip_told}
 use Rattle.acl_text.specs.Steps.{◌>>=◌}
-use Rattle.acl_naming.proofs.reading.add_items.Goals as goal
+use Rattle.acl_naming.proofs.naming_files.add_items.Goals as goal
 
 pub returns-in_err-add_item-clause-gives : goal.returns-in_err-add_item-clause-gives
 returns-in_err-add_item-clause-gives c =

@@ -2,9 +2,9 @@ ghost use Rattle.std.specs.Prelude.{◌≡◌, ◌<◌, ◌≤◌, ◌||◌, Boo
 ghost use Rattle.acl_text.specs.Answers.{Leaves, slip_told};
 ghost use Rattle.acl_text.specs.Cursors.{words_of};
 ghost use Rattle.acl_text.specs.Cuts.{has_byte};
-ghost use Rattle.acl_naming.specs.Reading.{
-  continued,
-  defined,
+ghost use Rattle.acl_naming.specs.NamingFiles.{
+  with_items,
+  with_definition,
   file_added,
   item_added,
   items_added,
@@ -15,7 +15,7 @@ ghost use Rattle.acl_naming.specs.Reading.{
 };
 
 use crate::item_words::{Kind, read_item};
-use crate::lines::{bad_byte, trimmed, without_comment};
+use crate::line_parts::{bad_byte, trimmed, without_comment};
 use crate::refusals::refusal;
 use crate::tables::Table;
 use acl_text::{Code, Cursor, Place, Refusal, is_name, next_word, split_at_byte};
@@ -23,7 +23,7 @@ use std::alloc::Global;
 
 const MOST: usize = 16384;
 
-#[tactic(auto, unfolding(crate::specs::Reading::item_added))]
+#[tactic(auto, unfolding(crate::specs::NamingFiles::item_added))]
 fn add_item(
     alloc: Global,
     table: &mut Table,
@@ -71,7 +71,7 @@ fn add_items(
     Ok(())
 }
 
-#[tactic(auto, unfolding(crate::specs::Reading::defined))]
+#[tactic(auto, unfolding(crate::specs::NamingFiles::with_definition))]
 fn define(
     alloc: Global,
     table: &mut Table,
@@ -80,7 +80,7 @@ fn define(
     name: &[u8],
     rest: &[u8],
 ) -> Result<(), Refusal>
-    ensures gives { Leaves slip_told table.new result (defined kind place table.old name.now rest.now) }
+    ensures gives { Leaves slip_told table.new result (with_definition kind place table.old name.now rest.now) }
     ensures filled { OnOk result (0 < length table.new) }
 {
     if !is_name(name) {
@@ -105,7 +105,7 @@ fn go_on(
     text: &[u8],
 ) -> Result<(), Refusal>
     requires { is_open ≡ true → 0 < length table.old }
-    ensures gives { Leaves slip_told table.new result (continued kind place is_open table.old (words_of text.now)) }
+    ensures gives { Leaves slip_told table.new result (with_items kind place is_open table.old (words_of text.now)) }
     ensures filled { is_open ≡ true → OnOk result (0 < length table.new) }
 {
     let Some((start, end)) = next_word(text, 0) else {

@@ -66,24 +66,24 @@ bad_byte [] = None
 bad_byte (b ∷ bs) = if is_bad b then Some b else bad_byte bs
 
 -- A definition begins: its name, and the items behind `=`.
-unfoldable pub defined : Kind → Place → List Definition → List ℕ → List ℕ → Outcome
-defined kind place ds name rest =
+unfoldable pub with_definition : Kind → Place → List Definition → List ℕ → List ℕ → Outcome
+with_definition kind place ds name rest =
     if not (is_name name) then Err (slip codes.BadName place name)
     else if is_some (index_of ds name) then Err (slip codes.Twice place name)
     else if nat_le most (length ds) then Err (slip codes.TooMany place name)
     else items_added kind place (ds ++ record { name = name; place = place; items = [] } ∷ []) (words_of rest)
 
 -- Further items of the definition above in the file.
-abbrev pub continued : Kind → Place → Bool → List Definition → List (List ℕ) → Outcome
-continued kind place is_open ds [] = Ok ds
-continued kind place is_open ds (word ∷ words) =
+abbrev pub with_items : Kind → Place → Bool → List Definition → List (List ℕ) → Outcome
+with_items kind place is_open ds [] = Ok ds
+with_items kind place is_open ds (word ∷ words) =
     if is_open then items_added kind place ds (word ∷ words) else Err (slip codes.NoDefinition place word)
 
 -- A line of good bytes; `=` is 61.
 abbrev pub split_added : Kind → Place → Bool → List Definition → List ℕ → Outcome
 split_added kind place is_open ds text =
-    option_map_or {U = Outcome} (λ p. defined kind place ds (trimmed p.0) p.1) (cut_at 61 text)
-    (continued kind place is_open ds (words_of text))
+    option_map_or {U = Outcome} (λ p. with_definition kind place ds (trimmed p.0) p.1) (cut_at 61 text)
+    (with_items kind place is_open ds (words_of text))
 
 -- A line without its comment.
 abbrev pub line_added : Kind → Place → Bool → List Definition → List ℕ → Outcome

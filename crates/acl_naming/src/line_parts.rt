@@ -1,5 +1,5 @@
 ghost use Rattle.std.specs.Prelude.{◌≡◌, ◌≤◌};
-ghost use Rattle.acl_naming.specs.Reading.{bad_byte, is_bad, trimmed, without_comment, without_end};
+ghost use Rattle.acl_naming.specs.NamingFiles.{bad_byte, is_bad, trimmed, without_comment, without_end};
 
 use acl_text::{is_white, skip_white, split_at_byte};
 

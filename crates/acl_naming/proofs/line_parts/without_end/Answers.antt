@@ -1,10 +1,10 @@
 use Rattle.std.proofs.Common.{◌≡◌, ◌<◌, true, false, take, get_or, length, ap, sym, ◌∙◌, arith}
 use Rattle.std.proofs.lemmas.List.{take_more}
 use Rattle.acl_text.specs.Cursors.{is_white}
-use Rattle.acl_naming.specs.Reading.{without_end}
+use Rattle.acl_naming.specs.NamingFiles.{without_end}
 use Rattle.acl_naming.proofs.ReadLaws.{end_white, end_black}
-use Rattle.acl_naming.proofs.lines.without_end.Goals as goal
-use Rattle.acl_naming.proofs.lines.without_end.Goals.{then-not-is_white, else-not-is_white}
+use Rattle.acl_naming.proofs.line_parts.without_end.Goals as goal
+use Rattle.acl_naming.proofs.line_parts.without_end.Goals.{then-not-is_white, else-not-is_white}
 
 pub loop-i-preserved : goal.loop-i-preserved
 loop-i-preserved c =
