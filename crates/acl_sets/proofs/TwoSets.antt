@@ -2,8 +2,9 @@
 use Rattle.std.proofs.Common.{◌≡◌, ℕ, ◌≤◌, not, true, ◌&&◌, ◌||◌, List, ap, sym, subst, ◌∙◌}
 use Rattle.acl_sets.specs.declared.sets.Range.{Range}
 use Rattle.acl_sets.specs.Ranges.{holds, IsNormal, Numbers}
-use Rattle.acl_sets.specs.Pieces.{put_all, cut_all, shared_all, all_covered}
-use Rattle.acl_sets.proofs.SetLaws.{are_ranges, put_all-normal, put_all-holds, cut_all-normal, cut_all-holds, shared_all-normal, shared_all-holds, covered-subset, subset-covered}
+use Rattle.acl_sets.specs.ComputableSets.{put_all, cut_all, shared_all, all_covered}
+use Rattle.acl_sets.proofs.RangeLaws.{are_ranges}
+use Rattle.acl_sets.proofs.ComputableSetLaws.{put_all-normal, put_all-holds, cut_all-normal, cut_all-holds, shared_all-normal, shared_all-holds, covered-subset, subset-covered}
 
 -- two sets with one top: as contracts see them, and the fields of their structs
 pub record Two (a b : Numbers) (limit other : ℕ) (xs ys : List Range) : Type 0 where
@@ -28,6 +29,10 @@ normal_as l v w e n = let P : List Range → Type 0 = λ k. IsNormal 0 l k in su
 -- the slices that a call passes on are the lists of the two structs
 pub at_lists : {X : Type 0} (f : List Range → List Range → X) (d e xs ys : List Range) (v : X) → d ≡ xs → e ≡ ys → v ≡ f e d → v ≡ f ys xs
 at_lists f d e xs ys v p q h = h ∙ ap (λ z. f z d) q ∙ ap (λ z. f ys z) p
+
+-- the lists of the two structs are those that contracts see
+pub at_sets : {X : Type 0} (f : List Range → List Range → X) → {a b : Numbers} {l m : ℕ} {xs ys : List Range} → Two a b l m xs ys → f ys xs ≡ f b.ranges a.ranges
+at_sets f {a = a} {b = b} {xs = xs} {ys = ys} t = ap (λ z. f z xs) (list_of t.second) ∙ ap (λ z. f b.ranges z) (list_of t.first)
 
 pub union-normal : {a b : Numbers} {l m : ℕ} {xs ys : List Range} → Two a b l m xs ys → (v : List Range) → v ≡ put_all ys xs → IsNormal 0 l v
 union-normal {l = l} {xs = xs} {ys = ys} t v e = normal_as l v (put_all ys xs) e (put_all-normal l ys xs (are_ranges 0 l ys (under t)) t.normal)

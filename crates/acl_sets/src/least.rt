@@ -2,8 +2,8 @@ ghost use Rattle.std.specs.Prelude.{◌≡◌, ℕ, ◌+◌, ◌-◌, ◌^◌, �
 ghost use Rattle.std.specs.List.{All};
 ghost use Rattle.acl_packet.specs.Addresses.{width_of};
 ghost use Rattle.acl_sets.specs.Ranges.{holds};
-ghost use Rattle.acl_sets.specs.LeastLists.{IsPrefixOf, any_has, IsLeastList, IsFewest, OneLeastList};
-ghost use Rattle.acl_sets.specs.Halves.{halves, last_of};
+ghost use Rattle.acl_sets.specs.LeastLists.{IsPrefixOf, any_has, IsLeastList, IsFewest, LeastListHolds, LeastListIsFewest, OneLeastList};
+ghost use Rattle.acl_sets.specs.ComputableLeastLists.{halves, halved_space, last_of};
 
 use crate::pieces::{covers, meets};
 use crate::sets::{Range, RangeSet};
@@ -60,10 +60,11 @@ impl Prefixes {
 /// shorter has an address outside.
 pub fn least_prefixes(alloc: Global, set: &RangeSet, family: Family) -> Result<Prefixes, Memory>
     requires { set.now.top + 1 ≡ 2 ^ width_of family }
-    ensures least { IfOk result (λ ps. IsLeastList family set.now.ranges ps) }
+    ensures least { IfOk result (λ ps. IsLeastList family (λ a. holds set.now.ranges a) ps) }
     ensures prefixes { IfOk result (λ ps. All (λ p. IsPrefixOf family p) ps) }
     ensures exact { IfOk result (λ ps. (a : ℕ) → any_has ps a ≡ holds set.now.ranges a) }
-    ensures fewest { IfOk result (λ ps. IsFewest family set.now.ranges ps) }
+    ensures fewest { IfOk result (λ ps. IsFewest family (λ a. holds set.now.ranges a) ps) }
+    ensures computed { IfOk result (λ ps. ps ≡ halved_space family set.now.ranges) }
 {
     let mut items = Vec::new(alloc);
     push_halves(&mut items, set.ranges(), family, 0, family.width())?;
@@ -92,7 +93,7 @@ fn last_address(first: u128, free: u8) -> u128
     }
 }
 
-#[tactic(auto, using(crate::proofs::HalfLaws::step_whole))]
+#[tactic(auto, using(crate::proofs::HalvesFacts::step_whole))]
 fn push_halves(
     out: &mut Vec<Prefix>,
     ranges: &[Range],
@@ -117,6 +118,16 @@ fn push_halves(
     }
     Ok(())
 }
+
+/// A law: a least list of a set of addresses has the addresses of the set, and no other.
+pub fn least_list_holds()
+    ensures { LeastListHolds }
+{}
+
+/// A law: no list of prefixes with exactly the addresses of a least list's set is shorter.
+pub fn least_list_is_fewest()
+    ensures { LeastListIsFewest }
+{}
 
 /// A law: two least lists of one set are one list.
 pub fn one_least_list()

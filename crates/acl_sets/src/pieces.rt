@@ -1,5 +1,5 @@
 ghost use Rattle.std.specs.Prelude.{◌≡◌, ◌++◌, IfOk, OnOk, flat_map};
-ghost use Rattle.acl_sets.specs.Pieces.{is_before, joined, put_in, put_all, cut, cut_all, shared, shared_all, covers, meets, all_covered};
+ghost use Rattle.acl_sets.specs.ComputableSets.{is_before, joined, put_in, put_all, cut, cut_all, shared, shared_all, covers, meets, all_covered};
 
 use crate::sets::Range;
 use acl_text::Memory;

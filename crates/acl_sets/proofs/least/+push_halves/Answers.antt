@@ -1,5 +1,5 @@
 use Rattle.std.proofs.Common.{inl, inr, sym, ◌∙◌, arith}
-use Rattle.acl_sets.proofs.HalfLaws.{after_halves, left_out}
+use Rattle.acl_sets.proofs.HalvesFacts.{after_halves, left_out}
 use Rattle.acl_sets.proofs.least.+push_halves.Goals as goal
 use Rattle.acl_sets.proofs.least.+push_halves.Goals.{else-free-gt0-via-then-free-gt0+else-meets, else-free-gt0-via-else-free-gt0}
 

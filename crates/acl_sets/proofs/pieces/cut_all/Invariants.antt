@@ -1,5 +1,5 @@
 use Rattle.std.proofs.Common.{◌≡◌, drop}
-use Rattle.acl_sets.specs.Pieces.{cut_all}
+use Rattle.acl_sets.specs.ComputableSets.{cut_all}
 use Rattle.acl_sets.proofs.pieces.cut_all.Given as goal
 
 abbrev pub invariant-loop-range : goal.invariant-loop-range

@@ -1,5 +1,5 @@
 use Rattle.std.proofs.Common.{◌≡◌, take, flat_map}
-use Rattle.acl_sets.specs.Pieces.{shared}
+use Rattle.acl_sets.specs.ComputableSets.{shared}
 use Rattle.acl_sets.proofs.pieces.shared_all.Given as goal
 
 abbrev pub invariant-loop-range : goal.invariant-loop-range

@@ -2,7 +2,7 @@ use Rattle.std.proofs.Common.{List, [], ap, sym, subst, ◌∙◌}
 use Rattle.std.proofs.lemmas.List.Elements.{recursion_from_All}
 use Rattle.acl_sets.specs.declared.sets.Range.{Range}
 use Rattle.acl_sets.specs.Ranges.{holds, IsRange, IsNormal}
-use Rattle.acl_sets.proofs.SetLaws.{put_all-normal, put_all-holds}
+use Rattle.acl_sets.proofs.ComputableSetLaws.{put_all-normal, put_all-holds}
 use Rattle.acl_sets.proofs.sets.RangeSet.from_ranges.Goals as goal
 
 pub invariant_of-result : goal.invariant_of-result

@@ -1,5 +1,5 @@
 use Rattle.std.proofs.Common.{◌≡◌}
-use Rattle.acl_sets.specs.Pieces.{shared_all}
+use Rattle.acl_sets.specs.ComputableSets.{shared_all}
 use Rattle.acl_sets.proofs.TwoSets.{at_lists, intersect-normal, intersect-holds}
 use Rattle.acl_sets.proofs.sets.RangeSet.intersect.Goals as goal
 

@@ -1,5 +1,5 @@
 use Rattle.std.proofs.Common.{◌≡◌}
-use Rattle.acl_sets.specs.Pieces.{cut_all}
+use Rattle.acl_sets.specs.ComputableSets.{cut_all}
 use Rattle.acl_sets.proofs.TwoSets.{at_lists, subtract-normal, subtract-holds}
 use Rattle.acl_sets.proofs.sets.RangeSet.subtract.Goals as goal
 

@@ -1,5 +1,5 @@
 use Rattle.std.proofs.Common.{◌≡◌}
-use Rattle.acl_sets.specs.Pieces.{put_all}
+use Rattle.acl_sets.specs.ComputableSets.{put_all}
 use Rattle.acl_sets.proofs.TwoSets.{at_lists, union-normal, union-holds}
 use Rattle.acl_sets.proofs.sets.RangeSet.union.Goals as goal
 

@@ -1,5 +1,5 @@
--- The list that halving gives: it is the least list, it holds the set's addresses, and none is shorter.
-use Rattle.std.proofs.Common.{◌≡◌, ℕ, zero, suc, ◌+◌, ◌-◌, ◌^◌, ◌<◌, ◌≤◌, ◌⊎◌, true, false, List, [], ◌∷◌, ◌++◌, inl, inr, refl, ap, sym, ◌∙◌, arith, append_assoc, append-nil}
+-- The list that halving gives of a set as ranges: the steps of the code, and that it is the least list.
+use Rattle.std.proofs.Common.{◌≡◌, ℕ, zero, suc, ◌+◌, ◌-◌, ◌^◌, ◌<◌, ◌≤◌, ◌⊎◌, true, false, List, [], ◌∷◌, ◌++◌, inl, inr, refl, ap, sym, subst, ◌∙◌, arith, append_assoc, append-nil}
 use Rattle.std.proofs.lemmas.Nat.{pow_pos}
 use Rattle.std.proofs.lemmas.Bool.{cases_Bool, both_ways, false_from_ne_true}
 use native.Mathlib.Numerals.{unary_clauses}
@@ -7,10 +7,13 @@ use Rattle.acl_packet.specs.declared.addresses.Family.{Family}
 use Rattle.acl_packet.specs.declared.addresses.Prefix.{Prefix}
 use Rattle.acl_sets.specs.declared.sets.Range.{Range}
 use Rattle.acl_sets.specs.Ranges.{holds, IsNormal}
-use Rattle.acl_sets.specs.Pieces.{covers, meets}
-use Rattle.acl_sets.specs.Halves.{block, last_of, halves}
-use Rattle.acl_sets.proofs.SetLaws.{covers-holds, holds-covers, misses-holds}
-use Rattle.acl_sets.proofs.BlockLaws.{LiesBlock}
+use Rattle.acl_packet.specs.Addresses.{width_of}
+use Rattle.acl_sets.specs.LeastLists.{IsLeastList}
+use Rattle.acl_sets.specs.ComputableSets.{covers, meets}
+use Rattle.acl_sets.specs.ComputableLeastLists.{block, last_of, halves}
+use Rattle.acl_sets.proofs.ComputableSetLaws.{covers-holds, holds-covers, misses-holds}
+use Rattle.acl_sets.proofs.BlockFacts.{LiesBlock}
+use Rattle.acl_sets.proofs.HalvedSets.{halved, halved-whole, halved-split, halved-none, halved-least}
 
 -- The steps of the code
 
@@ -46,10 +49,10 @@ past_last k a x h = omega (arith, h, pow_pos k)
 first_last : (k a : ℕ) → a ≤ last_of k a
 first_last k a = omega arith
 
-covered : (rs : List Range) (k a : ℕ) → covers rs a (last_of k a) ≡ true → LiesBlock rs a (2 ^ k)
+covered : (rs : List Range) (k a : ℕ) → covers rs a (last_of k a) ≡ true → LiesBlock (λ x. holds rs x) a (2 ^ k)
 covered rs k a e = λ x h l. covers-holds rs a (last_of k a) x e h (in_last k a x l)
 
-not_covered : (top : ℕ) (rs : List Range) (k a : ℕ) → IsNormal 0 top rs → covers rs a (last_of k a) ≡ false → LiesBlock rs a (2 ^ k) → ⊥
+not_covered : (top : ℕ) (rs : List Range) (k a : ℕ) → IsNormal 0 top rs → covers rs a (last_of k a) ≡ false → LiesBlock (λ x. holds rs x) a (2 ^ k) → ⊥
 not_covered top rs k a n e h = both_ways (covers rs a (last_of k a)) e (holds-covers 0 top rs a (last_of k a) n (first_last k a) (λ x p q. h x p (past_last k a x q)))
 
 missed : (rs : List Range) (k a : ℕ) → meets rs a (last_of k a) ≡ false → (x : ℕ) → a ≤ x → x < a + 2 ^ k → holds rs x ≡ false
@@ -61,27 +64,31 @@ point_missed top rs a n e = λ x h l.
     false_from_ne_true (holds rs x) (λ i. not_covered top rs zero a n e (λ y p q.
     let s : x ≡ y = omega arith in ap (λ z. holds rs z) (sym s) ∙ i))
 
--- what halving gives for a block
-pub data Found (f : Family) (rs : List Range) (k a : ℕ) (ps left right : List Prefix) : Type 0 where
-  Whole : LiesBlock rs a (2 ^ k) → ps ≡ block f k a ∷ [] → Found f rs k a ps left right
-  Nothing : ((x : ℕ) → a ≤ x → x < a + 2 ^ k → holds rs x ≡ false) → ps ≡ [] → Found f rs k a ps left right
-  Halved : (LiesBlock rs a (2 ^ k) → ⊥) → 0 < k → ps ≡ left ++ right → Found f rs k a ps left right
+-- The value is the list that halving gives of the set
 
-pub found_zero : (f : Family) (top : ℕ) (rs : List Range) (a : ℕ) → IsNormal 0 top rs → Found f rs zero a (halves f rs zero a) [] []
-found_zero f top rs a n = elim (cases_Bool (covers rs a (last_of zero a))) [
-  | inl e ↦ Whole (covered rs zero a e) (step_whole f rs zero a e)
-  | inr e ↦ Nothing (point_missed top rs a n e) (step_point f rs zero a refl e)
-]
-
-pub found_suc : (f : Family) (top : ℕ) (rs : List Range) (k a : ℕ) → IsNormal 0 top rs → Found f rs (suc k) a (halves f rs (suc k) a) (halves f rs k a) (halves f rs k (a + 2 ^ k))
+halves-halved : (f : Family) (top : ℕ) (rs : List Range) (k a : ℕ) → IsNormal 0 top rs → halves f rs k a ≡ halved f (λ x. holds rs x) k a
 unfolding halves
-found_suc f top rs k a n = elim (cases_Bool (covers rs a (last_of (suc k) a))) [
-  | inl e ↦ Whole (covered rs (suc k) a e) (rw e refl)
+halves-halved f top rs zero a n = elim (cases_Bool (covers rs a (last_of zero a))) [
+  | inl e ↦ step_whole f rs zero a e ∙ sym (halved-whole f (λ x. holds rs x) zero a (covered rs zero a e))
+  | inr e ↦ step_point f rs zero a refl e ∙ sym (halved-none f (λ x. holds rs x) zero a (point_missed top rs a n e))
+]
+halves-halved f top rs (suc k) a n = elim (cases_Bool (covers rs a (last_of (suc k) a))) [
+  | inl e ↦ step_whole f rs (suc k) a e ∙ sym (halved-whole f (λ x. holds rs x) (suc k) a (covered rs (suc k) a e))
   | inr e ↦ elim (cases_Bool (meets rs a (last_of (suc k) a))) [
-    | inl m ↦ Halved (not_covered top rs (suc k) a n e) (omega arith) (rw (e, m) refl)
-    | inr m ↦ Nothing (missed rs (suc k) a m) (rw (e, m) refl)
+    | inl m ↦
+        let split : halves f rs (suc k) a ≡ halves f rs k a ++ halves f rs k (a + 2 ^ k) = rw (e, m) refl in
+        split
+        ∙ ap (λ (z : List Prefix). z ++ halves f rs k (a + 2 ^ k)) (halves-halved f top rs k a n)
+        ∙ ap (λ (z : List Prefix). halved f (λ x. holds rs x) k a ++ z) (halves-halved f top rs k (a + 2 ^ k) n)
+        ∙ sym (halved-split f (λ x. holds rs x) k a (not_covered top rs (suc k) a n e))
+    | inr m ↦ step_none f rs (suc k) a e m ∙ sym (halved-none f (λ x. holds rs x) (suc k) a (missed rs (suc k) a m))
   ]
 ]
+
+pub halves-least : (f : Family) (top : ℕ) (rs : List Range) → IsNormal 0 top rs → IsLeastList f (λ x. holds rs x) (halves f rs (width_of f) 0)
+halves-least f top rs n =
+    let P : List Prefix → Type 0 = λ z. IsLeastList f (λ x. holds rs x) z in
+    subst P (sym (halves-halved f top rs (width_of f) 0 n)) (halved-least f (λ x. holds rs x))
 
 -- What the code has after both halves, and where it leaves a block
 
@@ -95,3 +102,7 @@ after_halves f rs k a out mid new last half l c p m h i j =
 pub left_out : (f : Family) (rs : List Range) (k a : ℕ) (out : List Prefix) (last : ℕ) → last ≡ last_of k a → covers rs a last ≡ false → (k ≡ 0) ⊎ (meets rs a last ≡ false) → out ≡ out ++ halves f rs k a
 left_out f rs k a out last l c (inl h) = sym (ap (λ z. out ++ z) (step_point f rs k a h (ap (λ z. covers rs a z) (sym l) ∙ c)) ∙ append-nil out)
 left_out f rs k a out last l c (inr h) = sym (ap (λ z. out ++ z) (step_none f rs k a (ap (λ z. covers rs a z) (sym l) ∙ c) (ap (λ z. meets rs a z) (sym l) ∙ h)) ∙ append-nil out)
+
+-- What the call of the code gives, put together
+pub given : (f : Family) (new out : List Prefix) (rs ranges : List Range) (width : ℕ) → new ≡ out ++ halves f rs width 0 → out ≡ [] → rs ≡ ranges → width ≡ width_of f → new ≡ halves f ranges (width_of f) 0
+given f new out rs ranges width e o r w = e ∙ ap (λ z. z ++ halves f rs width 0) o ∙ ap (λ z. halves f z width 0) r ∙ ap (λ z. halves f ranges z 0) w
