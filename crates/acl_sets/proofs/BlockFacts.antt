@@ -18,10 +18,13 @@ abbrev pub LiesBlock : (ℕ → Bool) → ℕ → ℕ → Type 0
 LiesBlock set a size = (x : ℕ) → a ≤ x → x < a + size → set x ≡ true
 
 pub has : (p : Prefix) (x : ℕ) → p.first ≤ x → x < p.first + size_of p → has_address p x ≡ true
-has p x h l = and_from (nat_le p.first x) (nat_lt x (p.first + size_of p)) (le-leb p.first x h) (lt-ltb x (p.first + size_of p) l)
+has p x h l =
+    and_from (nat_le p.first x) (nat_lt x (p.first + size_of p)) (le-leb p.first x h) (lt-ltb x (p.first + size_of p) l)
 
-pub bounds : (p : Prefix) (x : ℕ) → has_address p x ≡ true → (p.first ≤ x) × (x < p.first + size_of p)
-bounds p x h = let e = and_parts (nat_le p.first x) (nat_lt x (p.first + size_of p)) h in (leb-true p.first x e.0, ltb-true x (p.first + size_of p) e.1)
+pub bounds : (p : Prefix) (x : ℕ) → has_address p x ≡ true
+    → (p.first ≤ x) × (x < p.first + size_of p)
+bounds p x h =
+    let e = and_parts (nat_le p.first x) (nat_lt x (p.first + size_of p)) h in (leb-true p.first x e.0, ltb-true x (p.first + size_of p) e.1)
 
 pub lies_block : (set : ℕ → Bool) (p : Prefix) → LiesIn set p → LiesBlock set p.first (size_of p)
 lies_block set p h = λ x k l. h x (has p x k l)
@@ -45,10 +48,13 @@ within_space f p h =
     (omega arith) (omega (arith, pow_pos (free_of p))) (omega arith) (omega (arith, h.1.first_fits, e)) in
     omega (arith, n.1)
 
-pub upper_prefix : (f : Family) (set : ℕ → Bool) (k a : ℕ) (q : Prefix) → At f set k a → IsPrefixOf f q → k < free_of q → q.first ≤ a → a < q.first + size_of q → LiesIn set q → ⊥
-upper_prefix f set k a q t i l p r h = t.upper (free_of q) q.first l (free-le f q i) i.1.aligned p r (lies_block set q h)
+pub upper_prefix : (f : Family) (set : ℕ → Bool) (k a : ℕ) (q : Prefix) → At f set k a
+    → IsPrefixOf f q → k < free_of q → q.first ≤ a → a < q.first + size_of q → LiesIn set q → ⊥
+upper_prefix f set k a q t i l p r h =
+    t.upper (free_of q) q.first l (free-le f q i) i.1.aligned p r (lies_block set q h)
 
-pub left_at : (f : Family) (set : ℕ → Bool) (k a : ℕ) → At f set (suc k) a → (LiesBlock set a (2 ^ suc k) → ⊥) → At f set k a
+pub left_at : (f : Family) (set : ℕ → Bool) (k a : ℕ) → At f set (suc k) a
+    → (LiesBlock set a (2 ^ suc k) → ⊥) → At f set k a
 left_at f set k a t outside = record {
   fits = omega (arith, t.fits);
   ends = omega (arith, t.ends, two-pow-succ k);
@@ -64,7 +70,8 @@ left_at f set k a t outside = record {
   ];
 }
 
-pub right_at : (f : Family) (set : ℕ → Bool) (k a : ℕ) → At f set (suc k) a → (LiesBlock set a (2 ^ suc k) → ⊥) → At f set k (a + 2 ^ k)
+pub right_at : (f : Family) (set : ℕ → Bool) (k a : ℕ) → At f set (suc k) a
+    → (LiesBlock set a (2 ^ suc k) → ⊥) → At f set k (a + 2 ^ k)
 right_at f set k a t outside = record {
   fits = omega (arith, t.fits);
   ends = omega (arith, t.ends, two-pow-succ k);
@@ -99,7 +106,8 @@ pub block_size : (f : Family) (k a : ℕ) → k ≤ width_of f → size_of (bloc
 block_size f k a h = ap (λ z. 2 ^ z) (block_free f k a h)
 
 -- a multiple of a block's size begins a prefix
-pub form_of : (f : Family) (k a : ℕ) → k ≤ width_of f → a < 2 ^ width_of f → Aligned k a → IsPrefixOf f (block f k a)
+pub form_of : (f : Family) (k a : ℕ) → k ≤ width_of f → a < 2 ^ width_of f → Aligned k a
+    → IsPrefixOf f (block f k a)
 form_of f k a l m i =
     let size : 2 ^ (width_of f - (width_of f - k)) ≡ 2 ^ k = block_size f k a l in (
       refl,
@@ -113,13 +121,15 @@ form_of f k a l m i =
 pub block_form : (f : Family) (set : ℕ → Bool) (k a : ℕ) → At f set k a → IsPrefixOf f (block f k a)
 block_form f set k a t = form_of f k a t.fits (omega (arith, t.ends, pow_pos k)) t.aligned
 
-pub block_lies : (f : Family) (set : ℕ → Bool) (k a : ℕ) → k ≤ width_of f → LiesBlock set a (2 ^ k) → LiesIn set (block f k a)
+pub block_lies : (f : Family) (set : ℕ → Bool) (k a : ℕ) → k ≤ width_of f → LiesBlock set a (2 ^ k)
+    → LiesIn set (block f k a)
 block_lies f set k a l h = λ x i.
     let e = bounds (block f k a) x i in
     let size : 2 ^ (width_of f - (width_of f - k)) ≡ 2 ^ k = block_size f k a l in
     h x e.0 (omega (arith, e.1, size))
 
-pub block_maximal : (f : Family) (set : ℕ → Bool) (k a : ℕ) → At f set k a → LiesBlock set a (2 ^ k) → IsMaximal f set (block f k a)
+pub block_maximal : (f : Family) (set : ℕ → Bool) (k a : ℕ) → At f set k a → LiesBlock set a (2 ^ k)
+    → IsMaximal f set (block f k a)
 block_maximal f set k a t h = record {
   form = block_form f set k a t;
   lies = block_lies f set k a t.fits h;

@@ -13,7 +13,8 @@ pub halved_space-least : (f : Family) (top : ℕ) (rs : List Range) → IsNormal
     → IsLeastList f (λ a. holds rs a) (halved_space f rs)
 halved_space-least f top rs n = halves-least f top rs n
 
-pub least_list-computed : (f : Family) (top : ℕ) (rs : List Range) (ps : List Prefix) → IsNormal 0 top rs
+pub least_list-computed : (f : Family) (top : ℕ) (rs : List Range) (ps : List Prefix)
+    → IsNormal 0 top rs
     → IsLeastList f (λ a. holds rs a) ps → ps ≡ halved_space f rs
 least_list-computed f top rs ps n h =
     one_least_list f (λ a. holds rs a) (λ a. holds rs a) ps (halved_space f rs) (λ a l. refl) h (halves-least f top rs n)

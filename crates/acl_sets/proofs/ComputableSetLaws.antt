@@ -12,11 +12,14 @@ use Rattle.acl_sets.specs.ComputableSets.{put_in, put_all, cut, cut_all, shared,
 
 -- Union
 
-pub put_all-normal : (top : ℕ) (rs qs : List Range) → AllByRecursion (λ r. IsRange top r) rs → IsNormal 0 top qs → IsNormal 0 top (put_all rs qs)
+pub put_all-normal : (top : ℕ) (rs qs : List Range) → AllByRecursion (λ r. IsRange top r) rs
+    → IsNormal 0 top qs → IsNormal 0 top (put_all rs qs)
 put_all-normal top [] qs w n = n
-put_all-normal top (r ∷ rs) qs w n = put_all-normal top rs (put_in r qs) w.1 (put_in-normal 0 top r qs n (omega arith) w.0.0 w.0.1)
+put_all-normal top (r ∷ rs) qs w n =
+    put_all-normal top rs (put_in r qs) w.1 (put_in-normal 0 top r qs n (omega arith) w.0.0 w.0.1)
 
-pub put_all-holds : (top : ℕ) (rs qs : List Range) (x : ℕ) → AllByRecursion (λ r. IsRange top r) rs → IsNormal 0 top qs → holds (put_all rs qs) x ≡ (holds qs x || holds rs x)
+pub put_all-holds : (top : ℕ) (rs qs : List Range) (x : ℕ) → AllByRecursion (λ r. IsRange top r) rs
+    → IsNormal 0 top qs → holds (put_all rs qs) x ≡ (holds qs x || holds rs x)
 put_all-holds top [] qs x w n = sym (either_none (holds qs x))
 put_all-holds top (r ∷ rs) qs x w n =
     put_all-holds top rs (put_in r qs) x w.1 (put_in-normal 0 top r qs n (omega arith) w.0.0 w.0.1)
@@ -26,11 +29,15 @@ put_all-holds top (r ∷ rs) qs x w n =
 
 -- Difference
 
-pub cut_all-normal : (f top most : ℕ) (rs qs : List Range) → AllByRecursion (λ r. IsRange most r) rs → IsNormal f top qs → IsNormal f top (cut_all rs qs)
+pub cut_all-normal : (f top most : ℕ) (rs qs : List Range) → AllByRecursion (λ r. IsRange most r) rs
+    → IsNormal f top qs → IsNormal f top (cut_all rs qs)
 cut_all-normal f top most [] qs w n = n
-cut_all-normal f top most (r ∷ rs) qs w n = cut_all-normal f top most rs (flat_map (cut r) qs) w.1 (without-normal f top r qs n w.0.0)
+cut_all-normal f top most (r ∷ rs) qs w n =
+    cut_all-normal f top most rs (flat_map (cut r) qs) w.1 (without-normal f top r qs n w.0.0)
 
-pub cut_all-holds : (f top most : ℕ) (rs qs : List Range) (x : ℕ) → AllByRecursion (λ r. IsRange most r) rs → IsNormal f top qs → holds (cut_all rs qs) x ≡ (holds qs x && not (holds rs x))
+pub cut_all-holds : (f top most : ℕ) (rs qs : List Range) (x : ℕ)
+    → AllByRecursion (λ r. IsRange most r) rs → IsNormal f top qs
+    → holds (cut_all rs qs) x ≡ (holds qs x && not (holds rs x))
 cut_all-holds f top most [] qs x w n = sym (both_none (holds qs x))
 cut_all-holds f top most (r ∷ rs) qs x w n =
     cut_all-holds f top most rs (flat_map (cut r) qs) x w.1 (without-normal f top r qs n w.0.0)
@@ -39,11 +46,13 @@ cut_all-holds f top most (r ∷ rs) qs x w n =
 
 -- Intersection
 
-pub shared_all-normal : (f top g most : ℕ) (rs qs : List Range) → IsNormal f top rs → IsNormal g most qs → IsNormal f top (shared_all rs qs)
+pub shared_all-normal : (f top g most : ℕ) (rs qs : List Range) → IsNormal f top rs
+    → IsNormal g most qs → IsNormal f top (shared_all rs qs)
 shared_all-normal f top g most rs qs n m =
     flat_normal (λ r. flat_map (λ q. shared r q) qs) (λ r h. lower_floor r.low (max g r.low) r.high (flat_map (λ q. shared r q) qs) (omega arith) (common-normal g most r qs m)) f top rs n
 
-pub shared_all-holds : (g most : ℕ) (rs qs : List Range) (x : ℕ) → IsNormal g most qs → holds (shared_all rs qs) x ≡ (holds qs x && holds rs x)
+pub shared_all-holds : (g most : ℕ) (rs qs : List Range) (x : ℕ) → IsNormal g most qs
+    → holds (shared_all rs qs) x ≡ (holds qs x && holds rs x)
 shared_all-holds g most [] qs x m = sym (never (holds qs x))
 shared_all-holds g most (r ∷ rs) qs x m =
     list_any-append (λ (t : Range). inside t x) (flat_map (λ q. shared r q) qs) (shared_all rs qs)
@@ -53,7 +62,8 @@ shared_all-holds g most (r ∷ rs) qs x m =
 
 -- Blocks of numbers
 
-pub covers-holds : (rs : List Range) (low high x : ℕ) → covers rs low high ≡ true → low ≤ x → x ≤ high → holds rs x ≡ true
+pub covers-holds : (rs : List Range) (low high x : ℕ) → covers rs low high ≡ true → low ≤ x
+    → x ≤ high → holds rs x ≡ true
 covers-holds [] low high x e h k = absurd (both_ways false refl e)
 covers-holds (r ∷ rs) low high x e h k = elim (or_cases (nat_le r.low low && nat_le high r.high) (covers rs low high) e) [
   | inl i ↦ let p = and_parts (nat_le r.low low) (nat_le high r.high) i in
@@ -63,7 +73,8 @@ covers-holds (r ∷ rs) low high x e h k = elim (or_cases (nat_le r.low low && n
 ]
 
 -- a block of numbers that a normal list holds lies in one range
-pub holds-covers : (f top : ℕ) (rs : List Range) (low high : ℕ) → IsNormal f top rs → low ≤ high → ((x : ℕ) → low ≤ x → x ≤ high → holds rs x ≡ true) → covers rs low high ≡ true
+pub holds-covers : (f top : ℕ) (rs : List Range) (low high : ℕ) → IsNormal f top rs → low ≤ high
+    → ((x : ℕ) → low ≤ x → x ≤ high → holds rs x ≡ true) → covers rs low high ≡ true
 holds-covers f top [] low high n l h = absurd (both_ways false refl (h low (omega arith) l))
 holds-covers f top (r ∷ rs) low high n l h =
     let begins : r.low ≤ low = at_floor r.low top (r ∷ rs) low (omega arith, n.1, n.2, n.3) (h low (omega arith) l) in
@@ -82,7 +93,8 @@ holds-covers f top (r ∷ rs) low high n l h =
       ]
     ]
 
-pub misses-holds : (rs : List Range) (low high x : ℕ) → meets rs low high ≡ false → low ≤ x → x ≤ high → holds rs x ≡ false
+pub misses-holds : (rs : List Range) (low high x : ℕ) → meets rs low high ≡ false → low ≤ x
+    → x ≤ high → holds rs x ≡ false
 misses-holds [] low high x e h k = refl
 misses-holds (r ∷ rs) low high x e h k =
     let p = or_parts (nat_le r.low high && nat_le low r.high) (meets rs low high) e in
@@ -92,7 +104,8 @@ misses-holds (r ∷ rs) low high x e h k =
 
 -- Subsets
 
-pub covered-subset : (rs qs : List Range) (x : ℕ) → all_covered rs qs ≡ true → holds rs x ≡ true → holds qs x ≡ true
+pub covered-subset : (rs qs : List Range) (x : ℕ) → all_covered rs qs ≡ true → holds rs x ≡ true
+    → holds qs x ≡ true
 covered-subset [] qs x e h = absurd (both_ways false refl h)
 covered-subset (r ∷ rs) qs x e h =
     let p = and_parts (covers qs r.low r.high) (all_covered rs qs) e in
@@ -101,7 +114,8 @@ covered-subset (r ∷ rs) qs x e h =
       | inr i ↦ covered-subset rs qs x p.1 i
     ]
 
-pub subset-covered : (f g top : ℕ) (rs qs : List Range) → IsNormal f top rs → IsNormal g top qs → ((x : ℕ) → x ≤ top → holds rs x ≡ true → holds qs x ≡ true) → all_covered rs qs ≡ true
+pub subset-covered : (f g top : ℕ) (rs qs : List Range) → IsNormal f top rs → IsNormal g top qs
+    → ((x : ℕ) → x ≤ top → holds rs x ≡ true → holds qs x ≡ true) → all_covered rs qs ≡ true
 subset-covered f g top [] qs n m h = refl
 subset-covered f g top (r ∷ rs) qs n m h =
     and_from (covers qs r.low r.high) (all_covered rs qs)

@@ -27,7 +27,8 @@ all_in set (suc k) a = all_in set k a && all_in set k (a + 2 ^ k)
 
 pub halved : Family → (ℕ → Bool) → ℕ → ℕ → List Prefix
 halved f set zero a = if all_in set zero a then block f zero a ∷ [] else []
-halved f set (suc k) a = if all_in set (suc k) a then block f (suc k) a ∷ [] else halved f set k a ++ halved f set k (a + 2 ^ k)
+halved f set (suc k) a =
+    if all_in set (suc k) a then block f (suc k) a ∷ [] else halved f set k a ++ halved f set k (a + 2 ^ k)
 
 pub all_in-lies : (set : ℕ → Bool) (k a : ℕ) → all_in set k a ≡ true → LiesBlock set a (2 ^ k)
 unfolding all_in
@@ -63,7 +64,8 @@ found_zero f set a = elim (cases_Bool (set a)) [
   | inr e ↦ Nothing (λ x h l. let s : x ≡ a = omega arith in ap set s ∙ e) (rw e refl)
 ]
 
-found_suc : (f : Family) (set : ℕ → Bool) (k a : ℕ) → Found f set (suc k) a (halved f set (suc k) a) (halved f set k a) (halved f set k (a + 2 ^ k))
+found_suc : (f : Family) (set : ℕ → Bool) (k a : ℕ)
+    → Found f set (suc k) a (halved f set (suc k) a) (halved f set k a) (halved f set k (a + 2 ^ k))
 unfolding halved
 found_suc f set k a = elim (cases_Bool (all_in set (suc k) a)) [
   | inl e ↦ Whole (all_in-lies set (suc k) a e) (rw e refl)
@@ -71,16 +73,19 @@ found_suc f set k a = elim (cases_Bool (all_in set (suc k) a)) [
 ]
 
 -- what is given of a block, by the parts of it
-pub halved-whole : (f : Family) (set : ℕ → Bool) (k a : ℕ) → LiesBlock set a (2 ^ k) → halved f set k a ≡ block f k a ∷ []
+pub halved-whole : (f : Family) (set : ℕ → Bool) (k a : ℕ) → LiesBlock set a (2 ^ k)
+    → halved f set k a ≡ block f k a ∷ []
 unfolding halved
 halved-whole f set zero a h = rw (lies-all_in set zero a h) refl
 halved-whole f set (suc k) a h = rw (lies-all_in set (suc k) a h) refl
 
-pub halved-split : (f : Family) (set : ℕ → Bool) (k a : ℕ) → (LiesBlock set a (2 ^ suc k) → ⊥) → halved f set (suc k) a ≡ halved f set k a ++ halved f set k (a + 2 ^ k)
+pub halved-split : (f : Family) (set : ℕ → Bool) (k a : ℕ) → (LiesBlock set a (2 ^ suc k) → ⊥)
+    → halved f set (suc k) a ≡ halved f set k a ++ halved f set k (a + 2 ^ k)
 unfolding halved
 halved-split f set k a h = rw (not_all_in set (suc k) a h) refl
 
-pub halved-none : (f : Family) (set : ℕ → Bool) (k a : ℕ) → ((x : ℕ) → a ≤ x → x < a + 2 ^ k → set x ≡ false) → halved f set k a ≡ []
+pub halved-none : (f : Family) (set : ℕ → Bool) (k a : ℕ)
+    → ((x : ℕ) → a ≤ x → x < a + 2 ^ k → set x ≡ false) → halved f set k a ≡ []
 unfolding halved
 halved-none f set zero a h =
     rw (not_all_in set zero a (λ i. both_ways (set a) (h a (omega arith) (omega arith)) (i a (omega arith) (omega arith)))) refl
@@ -96,7 +101,8 @@ abbrev in_block : ℕ → ℕ → ℕ → Bool
 in_block a size x = nat_le a x && nat_lt x (a + size)
 
 in_bounds : (a s x : ℕ) → in_block a s x ≡ true → (a ≤ x) × (x < a + s)
-in_bounds a s x h = let e = and_parts (nat_le a x) (nat_lt x (a + s)) h in (leb-true a x e.0, ltb-true x (a + s) e.1)
+in_bounds a s x h =
+    let e = and_parts (nat_le a x) (nat_lt x (a + s)) h in (leb-true a x e.0, ltb-true x (a + s) e.1)
 
 whole-any : (i h : Bool) → (i ≡ true → h ≡ true) → (i || false) ≡ (i && h)
 whole-any true h e = sym (e refl)
@@ -106,11 +112,14 @@ none-any : (i h : Bool) → (i ≡ true → h ≡ false) → false ≡ (i && h)
 none-any true h e = sym (e refl)
 none-any false h e = refl
 
-half-tests : (a s t x : ℕ) → t ≡ s + s → ((nat_le a x && nat_lt x (a + s)) || (nat_le (a + s) x && nat_lt x (a + s + s))) ≡ (nat_le a x && nat_lt x (a + t))
+half-tests : (a s t x : ℕ) → t ≡ s + s
+    → ((nat_le a x && nat_lt x (a + s)) || (nat_le (a + s) x && nat_lt x (a + s + s))) ≡ (nat_le a x && nat_lt x (a + t))
 half-tests a s t x e = grind (arith, nat_tests)
 
-any_found : (f : Family) (set : ℕ → Bool) (k a : ℕ) (ps left right : List Prefix) (x : ℕ) → k ≤ width_of f → Found f set k a ps left right
-    → (0 < k → any_has (left ++ right) x ≡ (in_block a (2 ^ k) x && set x)) → any_has ps x ≡ (in_block a (2 ^ k) x && set x)
+any_found : (f : Family) (set : ℕ → Bool) (k a : ℕ) (ps left right : List Prefix) (x : ℕ)
+    → k ≤ width_of f → Found f set k a ps left right
+    → (0 < k → any_has (left ++ right) x ≡ (in_block a (2 ^ k) x && set x))
+    → any_has ps x ≡ (in_block a (2 ^ k) x && set x)
 any_found f set k a ps left right x l (Whole h e) both =
     ap (λ z. any_has z x) e ∙ ap (λ z. in_block a z x || false) (block_size f k a l)
     ∙ whole-any (in_block a (2 ^ k) x) (set x) (λ i. let s = in_bounds a (2 ^ k) x i in h x s.0 s.1)
@@ -118,8 +127,10 @@ any_found f set k a ps left right x l (Nothing h e) both =
     ap (λ z. any_has z x) e ∙ none-any (in_block a (2 ^ k) x) (set x) (λ i. let s = in_bounds a (2 ^ k) x i in h x s.0 s.1)
 any_found f set k a ps left right x l (Halved h p e) both = ap (λ z. any_has z x) e ∙ both p
 
-any_halved : (f : Family) (set : ℕ → Bool) (k a x : ℕ) → k ≤ width_of f → any_has (halved f set k a) x ≡ (in_block a (2 ^ k) x && set x)
-any_halved f set zero a x l = any_found f set zero a (halved f set zero a) [] [] x l (found_zero f set a) (λ p. absurd (omega arith))
+any_halved : (f : Family) (set : ℕ → Bool) (k a x : ℕ) → k ≤ width_of f
+    → any_has (halved f set k a) x ≡ (in_block a (2 ^ k) x && set x)
+any_halved f set zero a x l =
+    any_found f set zero a (halved f set zero a) [] [] x l (found_zero f set a) (λ p. absurd (omega arith))
 any_halved f set (suc k) a x l =
     any_found f set (suc k) a (halved f set (suc k) a) (halved f set k a) (halved f set k (a + 2 ^ k)) x l (found_suc f set k a)
     (λ p. list_any-append (λ (q : Prefix). has_address q x) (halved f set k a) (halved f set k (a + 2 ^ k))
@@ -137,21 +148,29 @@ halved-holds f set x l =
 
 -- Each prefix is maximal
 
-all_append : (P : Prefix → Type 0) (ps qs : List Prefix) → AllByRecursion P ps → AllByRecursion P qs → AllByRecursion P (ps ++ qs)
+all_append : (P : Prefix → Type 0) (ps qs : List Prefix) → AllByRecursion P ps → AllByRecursion P qs
+    → AllByRecursion P (ps ++ qs)
 all_append P [] qs h k = k
 all_append P (p ∷ ps) qs h k = (h.0, all_append P ps qs h.1 k)
 
 abbrev AllMaximal : Family → (ℕ → Bool) → List Prefix → Type 0
 AllMaximal f set ps = AllByRecursion (λ p. IsMaximal f set p) ps
 
-maximal_found : (f : Family) (set : ℕ → Bool) (k a : ℕ) (ps left right : List Prefix) → At f set k a → Found f set k a ps left right
-    → (0 < k → (LiesBlock set a (2 ^ k) → ⊥) → AllMaximal f set (left ++ right)) → AllMaximal f set ps
-maximal_found f set k a ps left right t (Whole h e) both = let P : List Prefix → Type 0 = λ z. AllMaximal f set z in subst P (sym e) (block_maximal f set k a t h, tt)
-maximal_found f set k a ps left right t (Nothing h e) both = let P : List Prefix → Type 0 = λ z. AllMaximal f set z in subst P (sym e) tt
-maximal_found f set k a ps left right t (Halved h p e) both = let P : List Prefix → Type 0 = λ z. AllMaximal f set z in subst P (sym e) (both p h)
+maximal_found : (f : Family) (set : ℕ → Bool) (k a : ℕ) (ps left right : List Prefix) → At f set k a
+    → Found f set k a ps left right
+    → (0 < k → (LiesBlock set a (2 ^ k) → ⊥) → AllMaximal f set (left ++ right))
+    → AllMaximal f set ps
+maximal_found f set k a ps left right t (Whole h e) both =
+    let P : List Prefix → Type 0 = λ z. AllMaximal f set z in subst P (sym e) (block_maximal f set k a t h, tt)
+maximal_found f set k a ps left right t (Nothing h e) both =
+    let P : List Prefix → Type 0 = λ z. AllMaximal f set z in subst P (sym e) tt
+maximal_found f set k a ps left right t (Halved h p e) both =
+    let P : List Prefix → Type 0 = λ z. AllMaximal f set z in subst P (sym e) (both p h)
 
-maximal_halved : (f : Family) (set : ℕ → Bool) (k a : ℕ) → At f set k a → AllMaximal f set (halved f set k a)
-maximal_halved f set zero a t = maximal_found f set zero a (halved f set zero a) [] [] t (found_zero f set a) (λ p h. absurd (omega arith))
+maximal_halved : (f : Family) (set : ℕ → Bool) (k a : ℕ) → At f set k a
+    → AllMaximal f set (halved f set k a)
+maximal_halved f set zero a t =
+    maximal_found f set zero a (halved f set zero a) [] [] t (found_zero f set a) (λ p h. absurd (omega arith))
 maximal_halved f set (suc k) a t =
     maximal_found f set (suc k) a (halved f set (suc k) a) (halved f set k a) (halved f set k (a + 2 ^ k)) t (found_suc f set k a)
     (λ p h. all_append (λ z. IsMaximal f set z) (halved f set k a) (halved f set k (a + 2 ^ k)) (maximal_halved f set k a (left_at f set k a t h)) (maximal_halved f set k (a + 2 ^ k) (right_at f set k a t h)))
@@ -167,7 +186,8 @@ unfolding IsWithin
 within_lower f g e [] l h = omega arith
 within_lower f g e (p ∷ ps) l h = (omega arith, h.1)
 
-within_append : (f e g : ℕ) (ps qs : List Prefix) → IsWithin f e ps → IsWithin e g qs → IsWithin f g (ps ++ qs)
+within_append : (f e g : ℕ) (ps qs : List Prefix) → IsWithin f e ps → IsWithin e g qs
+    → IsWithin f g (ps ++ qs)
 unfolding IsWithin
 within_append f e g [] qs h k = within_lower f e g qs h k
 within_append f e g (p ∷ ps) qs h k = (h.0, within_append (p.first + size_of p) e g ps qs h.1 k)
@@ -177,18 +197,23 @@ unfolding IsWithin
 within_order f e [] h = tt
 within_order f e (p ∷ ps) h = (h.0, within_order (p.first + size_of p) e ps h.1)
 
-within_found : (f : Family) (set : ℕ → Bool) (k a : ℕ) (ps left right : List Prefix) → k ≤ width_of f → Found f set k a ps left right
+within_found : (f : Family) (set : ℕ → Bool) (k a : ℕ) (ps left right : List Prefix)
+    → k ≤ width_of f → Found f set k a ps left right
     → (0 < k → IsWithin a (a + 2 ^ k) (left ++ right)) → IsWithin a (a + 2 ^ k) ps
 unfolding IsWithin
 within_found f set k a ps left right l (Whole h e) both =
     let P : List Prefix → Type 0 = λ z. IsWithin a (a + 2 ^ k) z in
     let size : 2 ^ (width_of f - (width_of f - k)) ≡ 2 ^ k = block_size f k a l in
     subst P (sym e) (omega arith, omega (arith, size))
-within_found f set k a ps left right l (Nothing h e) both = let P : List Prefix → Type 0 = λ z. IsWithin a (a + 2 ^ k) z in subst P (sym e) (omega arith)
-within_found f set k a ps left right l (Halved h p e) both = let P : List Prefix → Type 0 = λ z. IsWithin a (a + 2 ^ k) z in subst P (sym e) (both p)
+within_found f set k a ps left right l (Nothing h e) both =
+    let P : List Prefix → Type 0 = λ z. IsWithin a (a + 2 ^ k) z in subst P (sym e) (omega arith)
+within_found f set k a ps left right l (Halved h p e) both =
+    let P : List Prefix → Type 0 = λ z. IsWithin a (a + 2 ^ k) z in subst P (sym e) (both p)
 
-within_halved : (f : Family) (set : ℕ → Bool) (k a : ℕ) → k ≤ width_of f → IsWithin a (a + 2 ^ k) (halved f set k a)
-within_halved f set zero a l = within_found f set zero a (halved f set zero a) [] [] l (found_zero f set a) (λ p. absurd (omega arith))
+within_halved : (f : Family) (set : ℕ → Bool) (k a : ℕ) → k ≤ width_of f
+    → IsWithin a (a + 2 ^ k) (halved f set k a)
+within_halved f set zero a l =
+    within_found f set zero a (halved f set zero a) [] [] l (found_zero f set a) (λ p. absurd (omega arith))
 within_halved f set (suc k) a l =
     within_found f set (suc k) a (halved f set (suc k) a) (halved f set k a) (halved f set k (a + 2 ^ k)) l (found_suc f set k a)
     (λ p.
@@ -206,7 +231,9 @@ add_times a b s n e = sym (add-mul a b s) ∙ ap (λ z. z * s) e
 bit_times : (b s : ℕ) → b < 2 → 0 < s → b * s < s + s
 bit_times b s h p = let m = mul-le-mul_right {m = b} {n = 1} s (omega arith) in omega (arith, m)
 
-shorter : (f : Family) (set : ℕ → Bool) (k a : ℕ) (p : Prefix) → At f set k a → LiesBlock set a (2 ^ k) → IsMaximal f set p → a ≤ p.first → p.first < a + 2 ^ k → free_of p < k → ⊥
+shorter : (f : Family) (set : ℕ → Bool) (k a : ℕ) (p : Prefix) → At f set k a
+    → LiesBlock set a (2 ^ k) → IsMaximal f set p → a ≤ p.first → p.first < a + 2 ^ k
+    → free_of p < k → ⊥
 shorter f set k a p t h m l r s =
     let j = free_of p in
     let w = ap width_of m.form.0 in
@@ -227,7 +254,9 @@ shorter f set k a p t h m l r s =
     m.widest q (form_of f (suc j) b (omega (arith, t.fits)) (omega (arith, t.ends, begins, r)) (half, refl)) (omega (arith, w, t.fits, m.form.1.len_fits))
     (has q p.first begins (omega (arith, size, holds_it))) (block_lies f set (suc j) b (omega (arith, t.fits)) lies)
 
-maximal_same : (f : Family) (set : ℕ → Bool) (k a : ℕ) (p : Prefix) → At f set k a → LiesBlock set a (2 ^ k) → IsMaximal f set p → a ≤ p.first → p.first < a + 2 ^ k → block f k a ≡ p
+maximal_same : (f : Family) (set : ℕ → Bool) (k a : ℕ) (p : Prefix) → At f set k a
+    → LiesBlock set a (2 ^ k) → IsMaximal f set p → a ≤ p.first → p.first < a + 2 ^ k
+    → block f k a ≡ p
 maximal_same f set k a p t h m l r = elim (cases_order (free_of p) k) [
   | inl e ↦
       let w = ap width_of m.form.0 in
@@ -243,7 +272,9 @@ maximal_same f set k a p t h m l r = elim (cases_order (free_of p) k) [
   ]
 ]
 
-complete_found : (f : Family) (set : ℕ → Bool) (k a : ℕ) (ps left right : List Prefix) (p : Prefix) → At f set k a → Found f set k a ps left right → IsMaximal f set p → a ≤ p.first → p.first < a + 2 ^ k
+complete_found : (f : Family) (set : ℕ → Bool) (k a : ℕ) (ps left right : List Prefix) (p : Prefix)
+    → At f set k a → Found f set k a ps left right → IsMaximal f set p → a ≤ p.first
+    → p.first < a + 2 ^ k
     → (0 < k → (LiesBlock set a (2 ^ k) → ⊥) → Contains (left ++ right) p) → Contains ps p
 complete_found f set k a ps left right p t (Whole h e) m l r both =
     let P : List Prefix → Type 0 = λ z. Contains z p in
@@ -254,8 +285,10 @@ complete_found f set k a ps left right p t (Halved h i e) m l r both =
     let P : List Prefix → Type 0 = λ z. Contains z p in
     subst P (sym e) (both i h)
 
-complete_halved : (f : Family) (set : ℕ → Bool) (k a : ℕ) (p : Prefix) → At f set k a → IsMaximal f set p → a ≤ p.first → p.first < a + 2 ^ k → Contains (halved f set k a) p
-complete_halved f set zero a p t m l r = complete_found f set zero a (halved f set zero a) [] [] p t (found_zero f set a) m l r (λ i h. absurd (omega arith))
+complete_halved : (f : Family) (set : ℕ → Bool) (k a : ℕ) (p : Prefix) → At f set k a
+    → IsMaximal f set p → a ≤ p.first → p.first < a + 2 ^ k → Contains (halved f set k a) p
+complete_halved f set zero a p t m l r =
+    complete_found f set zero a (halved f set zero a) [] [] p t (found_zero f set a) m l r (λ i h. absurd (omega arith))
 complete_halved f set (suc k) a p t m l r =
     complete_found f set (suc k) a (halved f set (suc k) a) (halved f set k a) (halved f set k (a + 2 ^ k)) p t (found_suc f set k a) m l r
     (λ i h. elim (cases_lt p.first (a + 2 ^ k)) [
@@ -276,34 +309,42 @@ halved-least f set = record {
 
 begun : ℕ → ℕ → List Prefix → ℕ
 begun low end [] = 0
-begun low end (q ∷ qs) = (if nat_le low q.first && nat_lt q.first end then 1 else 0) + begun low end qs
+begun low end (q ∷ qs) =
+    (if nat_le low q.first && nat_lt q.first end then 1 else 0) + begun low end qs
 
 one-le : (b : Bool) (m n : ℕ) → m ≤ n → (if b then 1 else 0) + m ≤ suc n
 one-le true m n h = omega arith
 one-le false m n h = omega arith
 
-test-split : (a b c x : ℕ) → a ≤ b → b ≤ c → (if nat_le a x && nat_lt x c then 1 else 0) ≡ (if nat_le a x && nat_lt x b then 1 else 0) + (if nat_le b x && nat_lt x c then 1 else 0)
+test-split : (a b c x : ℕ) → a ≤ b → b ≤ c
+    → (if nat_le a x && nat_lt x c then 1 else 0) ≡ (if nat_le a x && nat_lt x b then 1 else 0) + (if nat_le b x && nat_lt x c then 1 else 0)
 test-split a b c x h l = grind (arith, nat_tests)
 
 begun-le : (low end : ℕ) (qs : List Prefix) → begun low end qs ≤ length qs
 unfolding begun
 begun-le low end [] = omega arith
-begun-le low end (q ∷ qs) = let i = begun-le low end qs in one-le (nat_le low q.first && nat_lt q.first end) (begun low end qs) (length qs) i
+begun-le low end (q ∷ qs) =
+    let i = begun-le low end qs in one-le (nat_le low q.first && nat_lt q.first end) (begun low end qs) (length qs) i
 
-begun-split : (a b c : ℕ) (qs : List Prefix) → a ≤ b → b ≤ c → begun a c qs ≡ begun a b qs + begun b c qs
+begun-split : (a b c : ℕ) (qs : List Prefix) → a ≤ b → b ≤ c
+    → begun a c qs ≡ begun a b qs + begun b c qs
 unfolding begun
 begun-split a b c [] h l = refl
-begun-split a b c (q ∷ qs) h l = let i = begun-split a b c qs h l in omega (arith, test-split a b c q.first h l)
+begun-split a b c (q ∷ qs) h l =
+    let i = begun-split a b c qs h l in omega (arith, test-split a b c q.first h l)
 
 abbrev AllInside : Family → (ℕ → Bool) → List Prefix → Type 0
 AllInside f set qs = AllByRecursion (λ q. IsPrefixOf f q × LiesIn set q) qs
 
-all_inside : (f : Family) (set : ℕ → Bool) (qs : List Prefix) → AllByRecursion (λ q. IsPrefixOf f q) qs → ((x : ℕ) → any_has qs x ≡ true → set x ≡ true) → AllInside f set qs
+all_inside : (f : Family) (set : ℕ → Bool) (qs : List Prefix)
+    → AllByRecursion (λ q. IsPrefixOf f q) qs → ((x : ℕ) → any_has qs x ≡ true → set x ≡ true)
+    → AllInside f set qs
 all_inside f set [] h k = tt
 all_inside f set (q ∷ qs) h k =
     ((h.0, λ x i. k x (or_left (has_address q x) (any_has qs x) i)), all_inside f set qs h.1 (λ x i. k x (or_right (has_address q x) (any_has qs x) i)))
 
-begins_there : (f : Family) (set : ℕ → Bool) (k a : ℕ) (q : Prefix) → At f set k a → IsPrefixOf f q → LiesIn set q → has_address q a ≡ true → q.first ≡ a
+begins_there : (f : Family) (set : ℕ → Bool) (k a : ℕ) (q : Prefix) → At f set k a → IsPrefixOf f q
+    → LiesIn set q → has_address q a ≡ true → q.first ≡ a
 begins_there f set k a q t form lies i =
     let s = bounds q a i in
     elim (cases_lt k (free_of q)) [
@@ -311,7 +352,8 @@ begins_there f set k a q t form lies i =
       | inr l ↦ let e = nested (free_of q) k q.first a a l form.1.aligned t.aligned s.0 s.1 (omega arith) (omega (arith, pow_pos k)) in omega (arith, e.0, s.0)
     ]
 
-first_begun : (f : Family) (set : ℕ → Bool) (k a : ℕ) (qs : List Prefix) → At f set k a → AllInside f set qs → any_has qs a ≡ true → 1 ≤ begun a (a + 2 ^ k) qs
+first_begun : (f : Family) (set : ℕ → Bool) (k a : ℕ) (qs : List Prefix) → At f set k a
+    → AllInside f set qs → any_has qs a ≡ true → 1 ≤ begun a (a + 2 ^ k) qs
 unfolding begun
 first_begun f set k a [] t h i = absurd (both_ways false refl i)
 first_begun f set k a (q ∷ qs) t h i = elim (or_cases (has_address q a) (any_has qs a) i) [
@@ -323,8 +365,11 @@ first_begun f set k a (q ∷ qs) t h i = elim (or_cases (has_address q a) (any_h
   | inr j ↦ let m = first_begun f set k a qs t h.1 j in omega (arith, m)
 ]
 
-fewest_found : (f : Family) (set : ℕ → Bool) (k a : ℕ) (ps left right qs : List Prefix) → At f set k a → Found f set k a ps left right → AllInside f set qs → ((x : ℕ) → any_has qs x ≡ set x)
-    → (0 < k → (LiesBlock set a (2 ^ k) → ⊥) → length (left ++ right) ≤ begun a (a + 2 ^ k) qs) → length ps ≤ begun a (a + 2 ^ k) qs
+fewest_found : (f : Family) (set : ℕ → Bool) (k a : ℕ) (ps left right qs : List Prefix)
+    → At f set k a → Found f set k a ps left right → AllInside f set qs
+    → ((x : ℕ) → any_has qs x ≡ set x)
+    → (0 < k → (LiesBlock set a (2 ^ k) → ⊥) → length (left ++ right) ≤ begun a (a + 2 ^ k) qs)
+    → length ps ≤ begun a (a + 2 ^ k) qs
 fewest_found f set k a ps left right qs t (Whole h e) i same both =
     let m = first_begun f set k a qs t i (same a ∙ h a (omega arith) (omega (arith, pow_pos k))) in
     let one : length ps ≡ 1 = ap (λ (z : List Prefix). length z) e in
@@ -336,8 +381,11 @@ fewest_found f set k a ps left right qs t (Halved h p e) i same both =
     let all : length ps ≡ length (left ++ right) = ap (λ (z : List Prefix). length z) e in
     omega (arith, all, both p h)
 
-fewest_halved : (f : Family) (set : ℕ → Bool) (k a : ℕ) (qs : List Prefix) → At f set k a → AllInside f set qs → ((x : ℕ) → any_has qs x ≡ set x) → length (halved f set k a) ≤ begun a (a + 2 ^ k) qs
-fewest_halved f set zero a qs t i same = fewest_found f set zero a (halved f set zero a) [] [] qs t (found_zero f set a) i same (λ p h. absurd (omega arith))
+fewest_halved : (f : Family) (set : ℕ → Bool) (k a : ℕ) (qs : List Prefix) → At f set k a
+    → AllInside f set qs → ((x : ℕ) → any_has qs x ≡ set x)
+    → length (halved f set k a) ≤ begun a (a + 2 ^ k) qs
+fewest_halved f set zero a qs t i same =
+    fewest_found f set zero a (halved f set zero a) [] [] qs t (found_zero f set a) i same (λ p h. absurd (omega arith))
 fewest_halved f set (suc k) a qs t i same =
     fewest_found f set (suc k) a (halved f set (suc k) a) (halved f set k a) (halved f set k (a + 2 ^ k)) qs t (found_suc f set k a) i same
     (λ p h.

@@ -17,22 +17,26 @@ use Rattle.acl_sets.proofs.HalvedSets.{halved, halved-whole, halved-split, halve
 
 -- The steps of the code
 
-pub step_whole : (f : Family) (rs : List Range) (k a : ℕ) → covers rs a (last_of k a) ≡ true → halves f rs k a ≡ block f k a ∷ []
+pub step_whole : (f : Family) (rs : List Range) (k a : ℕ) → covers rs a (last_of k a) ≡ true
+    → halves f rs k a ≡ block f k a ∷ []
 unfolding halves
 step_whole f rs zero a e = rw e refl
 step_whole f rs (suc k) a e = rw e refl
 
-pub step_point : (f : Family) (rs : List Range) (k a : ℕ) → k ≡ 0 → covers rs a (last_of k a) ≡ false → halves f rs k a ≡ []
+pub step_point : (f : Family) (rs : List Range) (k a : ℕ) → k ≡ 0
+    → covers rs a (last_of k a) ≡ false → halves f rs k a ≡ []
 unfolding halves
 step_point f rs zero a h e = rw e refl
 step_point f rs (suc k) a h e = absurd (omega arith)
 
-pub step_none : (f : Family) (rs : List Range) (k a : ℕ) → covers rs a (last_of k a) ≡ false → meets rs a (last_of k a) ≡ false → halves f rs k a ≡ []
+pub step_none : (f : Family) (rs : List Range) (k a : ℕ) → covers rs a (last_of k a) ≡ false
+    → meets rs a (last_of k a) ≡ false → halves f rs k a ≡ []
 unfolding halves
 step_none f rs zero a e m = rw e refl
 step_none f rs (suc k) a e m = rw (e, m) refl
 
-pub step_split : (f : Family) (rs : List Range) (k a : ℕ) → 0 < k → covers rs a (last_of k a) ≡ false → meets rs a (last_of k a) ≡ true
+pub step_split : (f : Family) (rs : List Range) (k a : ℕ) → 0 < k
+    → covers rs a (last_of k a) ≡ false → meets rs a (last_of k a) ≡ true
     → halves f rs k a ≡ halves f rs (k - 1) a ++ halves f rs (k - 1) (a + 2 ^ (k - 1))
 unfolding halves
 step_split f rs zero a h e m = absurd (omega arith)
@@ -49,24 +53,30 @@ past_last k a x h = omega (arith, h, pow_pos k)
 first_last : (k a : ℕ) → a ≤ last_of k a
 first_last k a = omega arith
 
-covered : (rs : List Range) (k a : ℕ) → covers rs a (last_of k a) ≡ true → LiesBlock (λ x. holds rs x) a (2 ^ k)
+covered : (rs : List Range) (k a : ℕ) → covers rs a (last_of k a) ≡ true
+    → LiesBlock (λ x. holds rs x) a (2 ^ k)
 covered rs k a e = λ x h l. covers-holds rs a (last_of k a) x e h (in_last k a x l)
 
-not_covered : (top : ℕ) (rs : List Range) (k a : ℕ) → IsNormal 0 top rs → covers rs a (last_of k a) ≡ false → LiesBlock (λ x. holds rs x) a (2 ^ k) → ⊥
-not_covered top rs k a n e h = both_ways (covers rs a (last_of k a)) e (holds-covers 0 top rs a (last_of k a) n (first_last k a) (λ x p q. h x p (past_last k a x q)))
+not_covered : (top : ℕ) (rs : List Range) (k a : ℕ) → IsNormal 0 top rs
+    → covers rs a (last_of k a) ≡ false → LiesBlock (λ x. holds rs x) a (2 ^ k) → ⊥
+not_covered top rs k a n e h =
+    both_ways (covers rs a (last_of k a)) e (holds-covers 0 top rs a (last_of k a) n (first_last k a) (λ x p q. h x p (past_last k a x q)))
 
-missed : (rs : List Range) (k a : ℕ) → meets rs a (last_of k a) ≡ false → (x : ℕ) → a ≤ x → x < a + 2 ^ k → holds rs x ≡ false
+missed : (rs : List Range) (k a : ℕ) → meets rs a (last_of k a) ≡ false → (x : ℕ) → a ≤ x
+    → x < a + 2 ^ k → holds rs x ≡ false
 missed rs k a e = λ x h l. misses-holds rs a (last_of k a) x e h (in_last k a x l)
 
 -- one address is in the set or not
-point_missed : (top : ℕ) (rs : List Range) (a : ℕ) → IsNormal 0 top rs → covers rs a (last_of zero a) ≡ false → (x : ℕ) → a ≤ x → x < a + 2 ^ zero → holds rs x ≡ false
+point_missed : (top : ℕ) (rs : List Range) (a : ℕ) → IsNormal 0 top rs
+    → covers rs a (last_of zero a) ≡ false → (x : ℕ) → a ≤ x → x < a + 2 ^ zero → holds rs x ≡ false
 point_missed top rs a n e = λ x h l.
     false_from_ne_true (holds rs x) (λ i. not_covered top rs zero a n e (λ y p q.
     let s : x ≡ y = omega arith in ap (λ z. holds rs z) (sym s) ∙ i))
 
 -- The value is the list that halving gives of the set
 
-halves-halved : (f : Family) (top : ℕ) (rs : List Range) (k a : ℕ) → IsNormal 0 top rs → halves f rs k a ≡ halved f (λ x. holds rs x) k a
+halves-halved : (f : Family) (top : ℕ) (rs : List Range) (k a : ℕ) → IsNormal 0 top rs
+    → halves f rs k a ≡ halved f (λ x. holds rs x) k a
 unfolding halves
 halves-halved f top rs zero a n = elim (cases_Bool (covers rs a (last_of zero a))) [
   | inl e ↦ step_whole f rs zero a e ∙ sym (halved-whole f (λ x. holds rs x) zero a (covered rs zero a e))
@@ -85,7 +95,8 @@ halves-halved f top rs (suc k) a n = elim (cases_Bool (covers rs a (last_of (suc
   ]
 ]
 
-pub halves-least : (f : Family) (top : ℕ) (rs : List Range) → IsNormal 0 top rs → IsLeastList f (λ x. holds rs x) (halves f rs (width_of f) 0)
+pub halves-least : (f : Family) (top : ℕ) (rs : List Range) → IsNormal 0 top rs
+    → IsLeastList f (λ x. holds rs x) (halves f rs (width_of f) 0)
 halves-least f top rs n =
     let P : List Prefix → Type 0 = λ z. IsLeastList f (λ x. holds rs x) z in
     subst P (sym (halves-halved f top rs (width_of f) 0 n)) (halved-least f (λ x. holds rs x))
@@ -93,16 +104,26 @@ halves-least f top rs n =
 -- What the code has after both halves, and where it leaves a block
 
 pub after_halves : (f : Family) (rs : List Range) (k a : ℕ) (out mid new : List Prefix) (last half : ℕ) → last ≡ last_of k a → covers rs a last ≡ false → 0 < k → meets rs a last ≡ true
-    → half ≡ 2 ^ (k - 1) → mid ≡ out ++ halves f rs (k - 1) a → new ≡ mid ++ halves f rs (k - 1) (a + half) → new ≡ out ++ halves f rs k a
+    → half ≡ 2 ^ (k - 1) → mid ≡ out ++ halves f rs (k - 1) a
+    → new ≡ mid ++ halves f rs (k - 1) (a + half) → new ≡ out ++ halves f rs k a
 after_halves f rs k a out mid new last half l c p m h i j =
     let s = step_split f rs k a p (ap (λ z. covers rs a z) (sym l) ∙ c) (ap (λ z. meets rs a z) (sym l) ∙ m) in
     j ∙ ap (λ z. mid ++ halves f rs (k - 1) (a + z)) h ∙ ap (λ z. z ++ halves f rs (k - 1) (a + 2 ^ (k - 1))) i
-    ∙ append_assoc out (halves f rs (k - 1) a) (halves f rs (k - 1) (a + 2 ^ (k - 1))) ∙ ap (λ z. out ++ z) (sym s)
+    ∙ append_assoc out (halves f rs (k - 1) a) (halves f rs (k - 1) (a + 2 ^ (k - 1)))
+    ∙ ap (λ z. out ++ z) (sym s)
 
-pub left_out : (f : Family) (rs : List Range) (k a : ℕ) (out : List Prefix) (last : ℕ) → last ≡ last_of k a → covers rs a last ≡ false → (k ≡ 0) ⊎ (meets rs a last ≡ false) → out ≡ out ++ halves f rs k a
-left_out f rs k a out last l c (inl h) = sym (ap (λ z. out ++ z) (step_point f rs k a h (ap (λ z. covers rs a z) (sym l) ∙ c)) ∙ append-nil out)
-left_out f rs k a out last l c (inr h) = sym (ap (λ z. out ++ z) (step_none f rs k a (ap (λ z. covers rs a z) (sym l) ∙ c) (ap (λ z. meets rs a z) (sym l) ∙ h)) ∙ append-nil out)
+pub left_out : (f : Family) (rs : List Range) (k a : ℕ) (out : List Prefix) (last : ℕ)
+    → last ≡ last_of k a → covers rs a last ≡ false → (k ≡ 0) ⊎ (meets rs a last ≡ false)
+    → out ≡ out ++ halves f rs k a
+left_out f rs k a out last l c (inl h) =
+    sym (ap (λ z. out ++ z) (step_point f rs k a h (ap (λ z. covers rs a z) (sym l) ∙ c)) ∙ append-nil out)
+left_out f rs k a out last l c (inr h) =
+    sym (ap (λ z. out ++ z) (step_none f rs k a (ap (λ z. covers rs a z) (sym l) ∙ c) (ap (λ z. meets rs a z) (sym l) ∙ h)) ∙ append-nil out)
 
 -- What the call of the code gives, put together
-pub given : (f : Family) (new out : List Prefix) (rs ranges : List Range) (width : ℕ) → new ≡ out ++ halves f rs width 0 → out ≡ [] → rs ≡ ranges → width ≡ width_of f → new ≡ halves f ranges (width_of f) 0
-given f new out rs ranges width e o r w = e ∙ ap (λ z. z ++ halves f rs width 0) o ∙ ap (λ z. halves f z width 0) r ∙ ap (λ z. halves f ranges z 0) w
+pub given : (f : Family) (new out : List Prefix) (rs ranges : List Range) (width : ℕ)
+    → new ≡ out ++ halves f rs width 0 → out ≡ [] → rs ≡ ranges → width ≡ width_of f
+    → new ≡ halves f ranges (width_of f) 0
+given f new out rs ranges width e o r w =
+    e ∙ ap (λ z. z ++ halves f rs width 0) o ∙ ap (λ z. halves f z width 0) r
+    ∙ ap (λ z. halves f ranges z 0) w

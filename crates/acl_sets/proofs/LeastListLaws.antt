@@ -16,13 +16,15 @@ use Rattle.acl_sets.proofs.OrderedLists.{same_members}
 
 -- A normal list up to the last address is a set of addresses
 
-pub normal-addresses : (f : Family) (top : ℕ) (rs : List Range) → IsNormal 0 top rs → top + 1 ≡ 2 ^ width_of f
+pub normal-addresses : (f : Family) (top : ℕ) (rs : List Range) → IsNormal 0 top rs
+    → top + 1 ≡ 2 ^ width_of f
     → IsAddressSet f (λ a. holds rs a)
 normal-addresses f top rs n e = λ a h. past_top 0 top rs a n (omega (arith, e, h))
 
 -- The prefixes of a least list
 
-maximal_forms : (f : Family) (set : ℕ → Bool) (ps : List Prefix) → AllByRecursion (λ p. IsMaximal f set p) ps
+maximal_forms : (f : Family) (set : ℕ → Bool) (ps : List Prefix)
+    → AllByRecursion (λ p. IsMaximal f set p) ps
     → AllByRecursion (λ p. IsPrefixOf f p) ps
 maximal_forms f set [] h = tt
 maximal_forms f set (p ∷ ps) h = (h.0.form, maximal_forms f set ps h.1)
@@ -35,10 +37,12 @@ least_list-prefixes f set ps h =
 
 -- Two tests that agree on the addresses of the family tell one set
 
-address_below : (f : Family) (p : Prefix) (a : ℕ) → IsPrefixOf f p → has_address p a ≡ true → a < 2 ^ width_of f
+address_below : (f : Family) (p : Prefix) (a : ℕ) → IsPrefixOf f p → has_address p a ≡ true
+    → a < 2 ^ width_of f
 address_below f p a form i = let s = bounds p a i in omega (arith, s.1, within_space f p form)
 
-maximal_same : (f : Family) (set other : ℕ → Bool) → ((a : ℕ) → a < 2 ^ width_of f → set a ≡ other a)
+maximal_same : (f : Family) (set other : ℕ → Bool)
+    → ((a : ℕ) → a < 2 ^ width_of f → set a ≡ other a)
     → (p : Prefix) → IsMaximal f set p → IsMaximal f other p
 maximal_same f set other same p m = record {
   form = m.form;
@@ -54,8 +58,10 @@ one_least_list f set other ps qs same h k =
     (λ p c. k.complete p (maximal_same f set other same p (All-contains P ps p h.maximal c)))
     (λ p c. h.complete p (maximal_same f other set (λ a l. sym (same a l)) p (All-contains Q qs p k.maximal c)))
 
-least_halved : (f : Family) (set : ℕ → Bool) (ps : List Prefix) → IsLeastList f set ps → ps ≡ halved f set (width_of f) 0
-least_halved f set ps h = one_least_list f set set ps (halved f set (width_of f) 0) (λ a l. refl) h (halved-least f set)
+least_halved : (f : Family) (set : ℕ → Bool) (ps : List Prefix) → IsLeastList f set ps
+    → ps ≡ halved f set (width_of f) 0
+least_halved f set ps h =
+    one_least_list f set set ps (halved f set (width_of f) 0) (λ a l. refl) h (halved-least f set)
 
 -- What a least list holds
 
@@ -64,7 +70,8 @@ pub least_list-holds_below : (f : Family) (set : ℕ → Bool) (ps : List Prefix
 least_list-holds_below f set ps h a l =
     ap (λ (z : List Prefix). any_has z a) (least_halved f set ps h) ∙ halved-holds f set a l
 
-none_above : (f : Family) (ps : List Prefix) (a : ℕ) → AllByRecursion (λ p. IsPrefixOf f p) ps → 2 ^ width_of f ≤ a
+none_above : (f : Family) (ps : List Prefix) (a : ℕ) → AllByRecursion (λ p. IsPrefixOf f p) ps
+    → 2 ^ width_of f ≤ a
     → any_has ps a ≡ false
 none_above f [] a h l = refl
 none_above f (p ∷ ps) a h l =

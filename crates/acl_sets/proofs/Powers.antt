@@ -15,7 +15,8 @@ width-le V6 = lit≤ tt
 abbrev pub Aligned : ℕ → ℕ → Type 0
 Aligned k a = (n : ℕ) × (a ≡ n * 2 ^ k)
 
-nest : (n m d s x : ℕ) → n * s ≤ x → x < n * s + s → m * (d * s) ≤ x → x < m * (d * s) + d * s → (m * (d * s) ≤ n * s) × (n * s + s ≤ m * (d * s) + d * s)
+nest : (n m d s x : ℕ) → n * s ≤ x → x < n * s + s → m * (d * s) ≤ x → x < m * (d * s) + d * s
+    → (m * (d * s) ≤ n * s) × (n * s + s ≤ m * (d * s) + d * s)
 nest n m d s x p q r t =
     let e : m * (d * s) ≡ (m * d) * s = sym (mul_assoc m d s) in
     let first : m * d < n + 1 = lt_of_mul-lt-mul_right s {m = m * d} {n = n + 1} (omega arith) in
@@ -25,7 +26,8 @@ nest n m d s x p q r t =
     (omega arith, omega arith)
 
 -- a block that has a number of a smaller one has all of it
-pub nested : (j k b a x : ℕ) → j ≤ k → Aligned j b → Aligned k a → b ≤ x → x < b + 2 ^ j → a ≤ x → x < a + 2 ^ k → (a ≤ b) × (b + 2 ^ j ≤ a + 2 ^ k)
+pub nested : (j k b a x : ℕ) → j ≤ k → Aligned j b → Aligned k a → b ≤ x → x < b + 2 ^ j → a ≤ x
+    → x < a + 2 ^ k → (a ≤ b) × (b + 2 ^ j ≤ a + 2 ^ k)
 nested j k b a x l small large p q r t =
     let e : k - j + j ≡ k = omega arith in
     let power : 2 ^ k ≡ 2 ^ (k - j) * 2 ^ j = sym (ap (λ z. 2 ^ z) e) ∙ pow-add 2 (k - j) j in
@@ -35,7 +37,8 @@ nested j k b a x l small large p q r t =
     (omega (arith, i.0, small.1, large.1, whole), omega (arith, i.1, small.1, large.1, whole, power))
 
 -- two blocks of one size that have a number in common are one
-pub same_block : (k a b x : ℕ) → Aligned k a → Aligned k b → a ≤ x → x < a + 2 ^ k → b ≤ x → x < b + 2 ^ k → a ≡ b
+pub same_block : (k a b x : ℕ) → Aligned k a → Aligned k b → a ≤ x → x < a + 2 ^ k → b ≤ x
+    → x < b + 2 ^ k → a ≡ b
 same_block k a b x h i p q r t =
     let d = nested k k b a x (omega arith) i h r t p q in
     let e = nested k k a b x (omega arith) h i p q r t in

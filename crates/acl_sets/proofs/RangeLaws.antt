@@ -17,7 +17,8 @@ pub out_high : (a b x : ℕ) → b < x → (nat_le a x && nat_le x b) ≡ false
 out_high a b x h = and_right (nat_le a x) (nat_le x b) (lt-leb x b h)
 
 pub ends_of : (a b x : ℕ) → (nat_le a x && nat_le x b) ≡ true → (a ≤ x) × (x ≤ b)
-ends_of a b x h = let p = and_parts (nat_le a x) (nat_le x b) h in (leb-true a x p.0, leb-true x b p.1)
+ends_of a b x h =
+    let p = and_parts (nat_le a x) (nat_le x b) h in (leb-true a x p.0, leb-true x b p.1)
 
 -- Normal forms
 
@@ -26,44 +27,59 @@ lower_floor f g top [] l h = tt
 lower_floor f g top (r ∷ rs) l h = (omega arith, h.1, h.2, h.3)
 
 -- a normal list holds no number below its floor, and none past its top
-pub below_floor : (f top : ℕ) (rs : List Range) (x : ℕ) → IsNormal f top rs → x < f → holds rs x ≡ false
+pub below_floor : (f top : ℕ) (rs : List Range) (x : ℕ) → IsNormal f top rs → x < f
+    → holds rs x ≡ false
 below_floor f top [] x h l = refl
-below_floor f top (r ∷ rs) x h l = or_from (inside r x) (holds rs x) (out_low r.low r.high x (omega arith)) (below_floor (r.high + 2) top rs x h.3 (omega arith))
+below_floor f top (r ∷ rs) x h l =
+    or_from (inside r x) (holds rs x) (out_low r.low r.high x (omega arith)) (below_floor (r.high + 2) top rs x h.3 (omega arith))
 
-pub past_top : (f top : ℕ) (rs : List Range) (x : ℕ) → IsNormal f top rs → top < x → holds rs x ≡ false
+pub past_top : (f top : ℕ) (rs : List Range) (x : ℕ) → IsNormal f top rs → top < x
+    → holds rs x ≡ false
 past_top f top [] x h l = refl
-past_top f top (r ∷ rs) x h l = or_from (inside r x) (holds rs x) (out_high r.low r.high x (omega arith)) (past_top (r.high + 2) top rs x h.3 l)
+past_top f top (r ∷ rs) x h l =
+    or_from (inside r x) (holds rs x) (out_high r.low r.high x (omega arith)) (past_top (r.high + 2) top rs x h.3 l)
 
 -- what a normal list holds lies between
 pub at_floor : (f top : ℕ) (rs : List Range) (x : ℕ) → IsNormal f top rs → holds rs x ≡ true → f ≤ x
-at_floor f top rs x h e = elim (cases_lt x f) [ inl l ↦ absurd (both_ways (holds rs x) (below_floor f top rs x h l) e) | inr l ↦ l ]
+at_floor f top rs x h e =
+    elim (cases_lt x f) [ inl l ↦ absurd (both_ways (holds rs x) (below_floor f top rs x h l) e) | inr l ↦ l ]
 
 pub at_top : (f top : ℕ) (rs : List Range) (x : ℕ) → IsNormal f top rs → holds rs x ≡ true → x ≤ top
-at_top f top rs x h e = elim (cases_lt top x) [ inl l ↦ absurd (both_ways (holds rs x) (past_top f top rs x h l) e) | inr l ↦ l ]
+at_top f top rs x h e =
+    elim (cases_lt top x) [ inl l ↦ absurd (both_ways (holds rs x) (past_top f top rs x h l) e) | inr l ↦ l ]
 
-pub are_ranges : (f top : ℕ) (rs : List Range) → IsNormal f top rs → AllByRecursion (λ r. IsRange top r) rs
+pub are_ranges : (f top : ℕ) (rs : List Range) → IsNormal f top rs
+    → AllByRecursion (λ r. IsRange top r) rs
 are_ranges f top [] h = tt
 are_ranges f top (r ∷ rs) h = ((h.1, h.2), are_ranges (r.high + 2) top rs h.3)
 
 -- The empty set
 
-pub first-holds : (f top : ℕ) (r : Range) (rs : List Range) → IsNormal f top (r ∷ rs) → holds (r ∷ rs) r.low ≡ true
-first-holds f top r rs n = or_left (inside r r.low) (holds rs r.low) (in_range r.low r.high r.low (omega arith) n.1)
+pub first-holds : (f top : ℕ) (r : Range) (rs : List Range) → IsNormal f top (r ∷ rs)
+    → holds (r ∷ rs) r.low ≡ true
+first-holds f top r rs n =
+    or_left (inside r r.low) (holds rs r.low) (in_range r.low r.high r.low (omega arith) n.1)
 
 pub empty-holds : (rs : List Range) (x : ℕ) → (length rs == 0) ≡ true → holds rs x ≡ false
 empty-holds [] x e = refl
 empty-holds (r ∷ rs) x e = absurd (omega (arith, eqb-true (length (r ∷ rs)) 0 e))
 
-pub none-empty : (f top : ℕ) (rs : List Range) → IsNormal f top rs → ((x : ℕ) → x ≤ top → holds rs x ≡ false) → (length rs == 0) ≡ true
+pub none-empty : (f top : ℕ) (rs : List Range) → IsNormal f top rs
+    → ((x : ℕ) → x ≤ top → holds rs x ≡ false) → (length rs == 0) ≡ true
 none-empty f top [] n h = refl
-none-empty f top (r ∷ rs) n h = absurd (both_ways (holds (r ∷ rs) r.low) (h r.low (omega arith)) (first-holds f top r rs n))
+none-empty f top (r ∷ rs) n h =
+    absurd (both_ways (holds (r ∷ rs) r.low) (h r.low (omega arith)) (first-holds f top r rs n))
 
 -- One normal list
 
-heads-low : (top : ℕ) (f g : ℕ) (r q : Range) (rs qs : List Range) → IsNormal f top (r ∷ rs) → IsNormal g top (q ∷ qs) → ((x : ℕ) → holds (r ∷ rs) x ≡ holds (q ∷ qs) x) → q.low ≤ r.low
-heads-low top f g r q rs qs n m h = at_floor q.low top (q ∷ qs) r.low (omega arith, m.1, m.2, m.3) (sym (h r.low) ∙ first-holds f top r rs n)
+heads-low : (top : ℕ) (f g : ℕ) (r q : Range) (rs qs : List Range) → IsNormal f top (r ∷ rs)
+    → IsNormal g top (q ∷ qs) → ((x : ℕ) → holds (r ∷ rs) x ≡ holds (q ∷ qs) x) → q.low ≤ r.low
+heads-low top f g r q rs qs n m h =
+    at_floor q.low top (q ∷ qs) r.low (omega arith, m.1, m.2, m.3) (sym (h r.low) ∙ first-holds f top r rs n)
 
-heads-high : (top : ℕ) (f g : ℕ) (r q : Range) (rs qs : List Range) → IsNormal f top (r ∷ rs) → IsNormal g top (q ∷ qs) → ((x : ℕ) → holds (r ∷ rs) x ≡ holds (q ∷ qs) x) → r.low ≡ q.low → q.high ≤ r.high
+heads-high : (top : ℕ) (f g : ℕ) (r q : Range) (rs qs : List Range) → IsNormal f top (r ∷ rs)
+    → IsNormal g top (q ∷ qs) → ((x : ℕ) → holds (r ∷ rs) x ≡ holds (q ∷ qs) x) → r.low ≡ q.low
+    → q.high ≤ r.high
 heads-high top f g r q rs qs n m h e = elim (cases_lt r.high q.high) [
   | inl l ↦ elim (or_cases (inside r (r.high + 1)) (holds rs (r.high + 1)) (h (r.high + 1) ∙ or_left (inside q (r.high + 1)) (holds qs (r.high + 1)) (in_range q.low q.high (r.high + 1) (omega arith) (omega arith)))) [
     | inl i ↦ let s = ends_of r.low r.high (r.high + 1) i in absurd (omega arith)
@@ -72,7 +88,10 @@ heads-high top f g r q rs qs n m h e = elim (cases_lt r.high q.high) [
   | inr l ↦ l
 ]
 
-tails-same : (top : ℕ) (a b x : ℕ) (rs qs : List Range) → IsNormal (b + 2) top rs → IsNormal (b + 2) top qs → ((nat_le a x && nat_le x b) || holds rs x) ≡ ((nat_le a x && nat_le x b) || holds qs x) → holds rs x ≡ holds qs x
+tails-same : (top : ℕ) (a b x : ℕ) (rs qs : List Range) → IsNormal (b + 2) top rs
+    → IsNormal (b + 2) top qs
+    → ((nat_le a x && nat_le x b) || holds rs x) ≡ ((nat_le a x && nat_le x b) || holds qs x)
+    → holds rs x ≡ holds qs x
 tails-same top a b x rs qs n m h = elim (cases_lt x (b + 2)) [
   | inl l ↦ below_floor (b + 2) top rs x n l ∙ sym (below_floor (b + 2) top qs x m l)
   | inr l ↦ let e : (nat_le a x && nat_le x b) ≡ false = out_high a b x (omega arith) in
@@ -80,12 +99,16 @@ tails-same top a b x rs qs n m h = elim (cases_lt x (b + 2)) [
 ]
 
 same-range : (r q : Range) → r.low ≡ q.low → r.high ≡ q.high → r ≡ q
-same-range r q e d = ap (λ t. record { low = t; high = r.high }) e ∙ ap (λ t. record { low = q.low; high = t }) d
+same-range r q e d =
+    ap (λ t. record { low = t; high = r.high }) e ∙ ap (λ t. record { low = q.low; high = t }) d
 
-pub one_list : (f g top : ℕ) (rs qs : List Range) → IsNormal f top rs → IsNormal g top qs → ((x : ℕ) → holds rs x ≡ holds qs x) → rs ≡ qs
+pub one_list : (f g top : ℕ) (rs qs : List Range) → IsNormal f top rs → IsNormal g top qs
+    → ((x : ℕ) → holds rs x ≡ holds qs x) → rs ≡ qs
 one_list f g top [] [] n m h = refl
-one_list f g top [] (q ∷ qs) n m h = absurd (both_ways false refl (h q.low ∙ first-holds g top q qs m))
-one_list f g top (r ∷ rs) [] n m h = absurd (both_ways false refl (sym (h r.low) ∙ first-holds f top r rs n))
+one_list f g top [] (q ∷ qs) n m h =
+    absurd (both_ways false refl (h q.low ∙ first-holds g top q qs m))
+one_list f g top (r ∷ rs) [] n m h =
+    absurd (both_ways false refl (sym (h r.low) ∙ first-holds f top r rs n))
 one_list f g top (r ∷ rs) (q ∷ qs) n m h =
     let back : (x : ℕ) → holds (q ∷ qs) x ≡ holds (r ∷ rs) x = λ x. sym (h x) in
     let low : r.low ≡ q.low = omega (arith, heads-low top f g r q rs qs n m h, heads-low top g f q r qs rs m n back) in

@@ -1,7 +1,7 @@
--- Sets as lists of ranges that can be computed with: a list is changed range by range. What is to be
--- believed are the facts on `holds` and `IsNormal`, which each call promises besides. A set has one list
--- in normal form, so a reader needs these values only where he computes with a set, or states a function
--- of it.
+-- Sets as lists of ranges that can be computed with: a list is changed range by range. What is to
+-- be believed are the facts on `holds` and `IsNormal`, which each call promises besides. A set has
+-- one list in normal form, so a reader needs these values only where he computes with a set, or
+-- states a function of it.
 use Rattle.std.specs.Prelude.{ℕ, ◌+◌, ◌-◌, min, max, Bool, ◌&&◌, nat_le, nat_lt, if◌then◌else◌, List, [], ◌∷◌, ◌++◌, flat_map}
 use Rattle.std.specs.List.{list_any, list_all}
 use Rattle.acl_sets.specs.declared.sets.Range.{Range}
@@ -14,7 +14,8 @@ is_before r q = nat_lt (r.high + 1) q.low
 abbrev pub joined : Range → Range → Range
 joined r q = record { low = min r.low q.low; high = max r.high q.high }
 
--- The union of a list in normal form with one range, which is joined with those that it meets or touches.
+-- The union of a list in normal form with one range: it is joined with those that it meets or
+-- touches.
 abbrev pub put_in : Range → List Range → List Range
 put_in r [] = r ∷ []
 put_in r (q ∷ qs) =

@@ -1,6 +1,6 @@
--- The least list of prefixes of a set of addresses: all of its maximal prefixes, in order of address.
--- Prefixes are those of RFC 4632 section 3.1 and RFC 4291 section 2.3. A set is told by its membership,
--- a test on numbers, so that a list of ranges and a list of prefixes each give one.
+-- The least list of prefixes of a set of addresses: all of its maximal prefixes, in order of
+-- address. Prefixes are those of RFC 4632 section 3.1 and RFC 4291 section 2.3. A set is told by
+-- its membership, a test on numbers, so that a list of ranges and a list of prefixes each give one.
 use Rattle.std.specs.Prelude.{ℕ, ◌≡◌, ◌+◌, ◌^◌, ◌<◌, ◌≤◌, Bool, false, IsTrue, List, [], ◌∷◌, length, Contains}
 use Rattle.std.specs.List.{list_any, All}
 use Rattle.acl_packet.specs.declared.addresses.Family.{Family}
@@ -23,8 +23,8 @@ IsAddressSet f set = (a : ℕ) → 2 ^ width_of f ≤ a → set a ≡ false
 abbrev pub LiesIn : (ℕ → Bool) → Prefix → Type 0
 LiesIn set p = (a : ℕ) → IsTrue (has_address p a) → IsTrue (set a)
 
--- A prefix is maximal in a set: its addresses are in the set, and those of the prefix one bit shorter
--- are not all. A prefix of length 0 has no shorter one.
+-- A prefix is maximal in a set: its addresses are in the set, and those of the prefix one bit
+-- shorter are not all. A prefix of length 0 has no shorter one.
 pub record IsMaximal (f : Family) (set : ℕ → Bool) (p : Prefix) : Type 0 where
   pub form : IsPrefixOf f p
   pub lies : LiesIn set p

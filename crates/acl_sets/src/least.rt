@@ -56,14 +56,14 @@ impl Prefixes {
 
 /// All maximal prefixes of a set of addresses, in order of address.
 ///
-/// A prefix is maximal where all its addresses are in the set, and it has length 0 or the prefix one bit
-/// shorter has an address outside.
+/// A prefix is maximal where all its addresses are in the set, and it has length 0 or the prefix one
+/// bit shorter has an address outside.
 pub fn least_prefixes(alloc: Global, set: &RangeSet, family: Family) -> Result<Prefixes, Memory>
     requires { set.now.top + 1 ≡ 2 ^ width_of family }
-    ensures least { IfOk result (λ ps. IsLeastList family (λ a. holds set.now.ranges a) ps) }
+    ensures least { IfOk result (λ ps. IsLeastList family (holds set.now.ranges) ps) }
     ensures prefixes { IfOk result (λ ps. All (λ p. IsPrefixOf family p) ps) }
     ensures exact { IfOk result (λ ps. (a : ℕ) → any_has ps a ≡ holds set.now.ranges a) }
-    ensures fewest { IfOk result (λ ps. IsFewest family (λ a. holds set.now.ranges a) ps) }
+    ensures fewest { IfOk result (λ ps. IsFewest family (holds set.now.ranges) ps) }
     ensures computed { IfOk result (λ ps. ps ≡ halved_space family set.now.ranges) }
 {
     let mut items = Vec::new(alloc);

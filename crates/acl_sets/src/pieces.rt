@@ -91,7 +91,8 @@ pub fn cut_all(alloc: Global, list: &[Range], ranges: &[Range]) -> Result<Vec<Ra
 }
 
 fn push_shared(out: &mut Vec<Range>, range: Range, ranges: &[Range]) -> Result<(), Memory>
-    ensures { OnOk result (out.new.items ≡ out.old.items ++ flat_map (λ q. shared range q) ranges.now) }
+    ensures { OnOk result (out.new.items
+        ≡ out.old.items ++ flat_map (λ q. shared range q) ranges.now) }
 {
     for of in ranges {
         let low = range.low.max(of.low);

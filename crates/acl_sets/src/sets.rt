@@ -17,8 +17,8 @@ pub struct Range {
 
 /// A set of numbers from 0 to a top.
 ///
-/// A contract sees the top and the list of ranges, which is in normal form: rising, disjoint and not
-/// touching. Where a clause is named `computed`, it gives the list or the answer once more, as a
+/// A contract sees the top and the list of ranges, which is in normal form: rising, disjoint and
+/// not touching. A clause that is named `computed` gives the list or the answer once more, as a
 /// function of the lists: it follows from the clauses beside it.
 #[derive(Debug, Drop)]
 pub struct RangeSet {
@@ -115,7 +115,8 @@ impl RangeSet {
         ensures normal { IfOk result (λ s. IsNormal 0 s.top s.ranges) }
         ensures exact { IfOk result (λ s. (x : ℕ) →
             holds s.ranges x ≡ holds self.now.ranges x && holds other.now.ranges x) }
-        ensures computed { IfOk result (λ s. s.ranges ≡ shared_all other.now.ranges self.now.ranges) }
+        ensures computed { IfOk result (λ s.
+            s.ranges ≡ shared_all other.now.ranges self.now.ranges) }
     {
         Ok(RangeSet {
             limit: self.limit,
@@ -144,7 +145,8 @@ impl RangeSet {
     /// Whether each number of this set is in the other.
     pub fn subset_of(&self, other: &RangeSet) -> bool
         requires { self.now.top ≡ other.now.top }
-        ensures exact { IsTrue result ↔ ((x : ℕ) → x ≤ self.now.top
+        ensures exact { IsTrue result
+            ↔ ((x : ℕ) → x ≤ self.now.top
             → IsTrue (holds self.now.ranges x) → IsTrue (holds other.now.ranges x)) }
         ensures computed { result ≡ all_covered self.now.ranges other.now.ranges }
     {
@@ -153,7 +155,8 @@ impl RangeSet {
 
     /// Whether no number is in the set.
     pub fn is_empty(&self) -> bool
-        ensures exact { IsTrue result ↔ ((x : ℕ) → x ≤ self.now.top → holds self.now.ranges x ≡ false) }
+        ensures exact { IsTrue result
+            ↔ ((x : ℕ) → x ≤ self.now.top → holds self.now.ranges x ≡ false) }
         ensures computed { result ≡ (length self.now.ranges == 0) }
     {
         self.ranges().is_empty()
@@ -161,7 +164,8 @@ impl RangeSet {
 
     /// Whether all numbers up to the top are in the set.
     pub fn is_all(&self) -> bool
-        ensures exact { IsTrue result ↔ ((x : ℕ) → x ≤ self.now.top → IsTrue (holds self.now.ranges x)) }
+        ensures exact { IsTrue result
+            ↔ ((x : ℕ) → x ≤ self.now.top → IsTrue (holds self.now.ranges x)) }
         ensures computed { result ≡ covers self.now.ranges 0 self.now.top }
     {
         pieces::covers(&self.list, 0, self.limit)
