@@ -5,9 +5,10 @@ use Rattle.std.proofs.lemmas.Nat.{pow_pos}
 use Rattle.std.proofs.lemmas.Bool.{le-leb, lt-ltb, leb-true, ltb-true, and_from, and_parts, cases_eq}
 use Rattle.acl_packet.specs.declared.addresses.Family.{Family}
 use Rattle.acl_packet.specs.declared.addresses.Prefix.{Prefix}
-use Rattle.acl_packet.specs.Addresses.{width_of, size_of, has_address}
-use Rattle.acl_sets.specs.LeastLists.{IsPrefixOf, LiesIn, IsMaximal}
+use Rattle.acl_packet.specs.Addresses.{width_of, size_of, has_address, IsPrefixOf}
+use Rattle.acl_sets.specs.LeastLists.{LiesIn, IsMaximal}
 use Rattle.acl_sets.specs.ComputableLeastLists.{block}
+use Rattle.acl_packet.proofs.PrefixLaws.{end_fits}
 use Rattle.acl_sets.proofs.Powers.{Aligned, nested, same_block, left_aligned, right_aligned}
 
 -- the bits behind a prefix's length
@@ -42,11 +43,8 @@ pub record At (f : Family) (set : ℕ → Bool) (k a : ℕ) : Type 0 where
 -- the addresses of a prefix of the family are addresses of it
 pub within_space : (f : Family) (p : Prefix) → IsPrefixOf f p → p.first + size_of p ≤ 2 ^ width_of f
 within_space f p h =
-    let whole : Aligned (width_of f) 0 = (0, omega arith) in
-    let e = ap (λ z. 2 ^ width_of z) h.0 in
-    let n = nested (free_of p) (width_of f) p.first 0 p.first (free-le f p h) h.1.aligned whole
-    (omega arith) (omega (arith, pow_pos (free_of p))) (omega arith) (omega (arith, h.1.first_fits, e)) in
-    omega (arith, n.1)
+    let P : Family → Type 0 = λ g. p.first + size_of p ≤ 2 ^ width_of g in
+    subst P h.0 (end_fits p h.1)
 
 pub upper_prefix : (f : Family) (set : ℕ → Bool) (k a : ℕ) (q : Prefix) → At f set k a
     → IsPrefixOf f q → k < free_of q → q.first ≤ a → a < q.first + size_of q → LiesIn set q → ⊥

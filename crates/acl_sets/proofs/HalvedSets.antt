@@ -11,8 +11,8 @@ use Rattle.std.proofs.lemmas.Bool.Decides.{nat_tests}
 use Rattle.std.specs.List.{AllByRecursion}
 use Rattle.acl_packet.specs.declared.addresses.Family.{Family}
 use Rattle.acl_packet.specs.declared.addresses.Prefix.{Prefix}
-use Rattle.acl_packet.specs.Addresses.{width_of, size_of, has_address}
-use Rattle.acl_sets.specs.LeastLists.{IsPrefixOf, any_has, LiesIn, IsMaximal, IsInOrder, IsLeastList, IsFewest}
+use Rattle.acl_packet.specs.Addresses.{width_of, size_of, has_address, IsPrefixOf}
+use Rattle.acl_sets.specs.LeastLists.{any_has, LiesIn, IsMaximal, IsInOrder, IsLeastList, IsFewest}
 use Rattle.acl_sets.specs.ComputableLeastLists.{block}
 use Rattle.acl_sets.proofs.SetFacts.{and_out}
 use Rattle.acl_sets.proofs.Powers.{Aligned, nested, same_block}

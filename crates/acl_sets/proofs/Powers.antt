@@ -1,15 +1,8 @@
 -- Blocks of numbers whose sizes are powers of two: one that begins at a multiple of its size either lies in
 -- a larger such block or has no number of it.
-use Rattle.std.proofs.Common.{◌≡◌, ℕ, suc, ◌+◌, ◌-◌, ◌*◌, ◌^◌, ◌<◌, ◌≤◌, ap, sym, ◌∙◌, arith, mul_assoc, lit≤}
+use Rattle.std.proofs.Common.{◌≡◌, ℕ, suc, ◌+◌, ◌-◌, ◌*◌, ◌^◌, ◌<◌, ◌≤◌, ap, sym, ◌∙◌, arith, mul_assoc}
 use Rattle.std.proofs.Math.Nat.{lt_of_mul-lt-mul_right, mul-le-mul_right, two-pow-succ}
 use Rattle.std.proofs.lemmas.Nat.{pow-add}
-use Rattle.acl_packet.specs.declared.addresses.Family.{Family}
-use Rattle.acl_packet.specs.declared.addresses.Family.TheVariants.{V4, V6}
-use Rattle.acl_packet.specs.Addresses.{width_of}
-
-pub width-le : (f : Family) → width_of f ≤ 128
-width-le V4 = lit≤ tt
-width-le V6 = lit≤ tt
 
 -- a multiple of 2 ^ k
 abbrev pub Aligned : ℕ → ℕ → Type 0

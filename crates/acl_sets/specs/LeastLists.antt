@@ -5,11 +5,7 @@ use Rattle.std.specs.Prelude.{ℕ, ◌≡◌, ◌+◌, ◌^◌, ◌<◌, ◌≤�
 use Rattle.std.specs.List.{list_any, All}
 use Rattle.acl_packet.specs.declared.addresses.Family.{Family}
 use Rattle.acl_packet.specs.declared.addresses.Prefix.{Prefix}
-use Rattle.acl_packet.specs.Addresses.{IsPrefix, has_address, size_of, width_of}
-
--- A prefix of that family.
-abbrev pub IsPrefixOf : Family → Prefix → Type 0
-IsPrefixOf f p = (p.family ≡ f) × IsPrefix p
+use Rattle.acl_packet.specs.Addresses.{IsPrefixOf, has_address, size_of, width_of}
 
 -- Some prefix of a list has the address.
 abbrev pub any_has : List Prefix → ℕ → Bool

@@ -12,9 +12,9 @@ returns c =
     let f = c.args.family in
     let top = c.args.set.now.top in
     let ranges = c.args.set.now.ranges in
-    let ps = c.push_halves.new.out.items in
-    let computed = given f ps c.new-items.result.items c.ranges-2.result.now ranges c.width.result
-    c.in_ok-push_halves.ensures c.new-items.ensures.items c.ranges-2.ensures.list c.width.ensures in
+    let ps = c.push_halves.new.out in
+    let computed = given f ps c.new-prefixes.result c.ranges-2.result.now ranges c.width.result
+    c.in_ok-push_halves.ensures c.new-prefixes.ensures c.ranges-2.ensures.list c.width.ensures in
     let P : List Prefix → Type 0 = λ z. IsLeastList f (λ a. holds ranges a) z in
     let least = subst P (sym computed) (halved_space-least f top ranges c.ranges-2.ensures.normal) in
     let addresses = normal-addresses f top ranges c.ranges-2.ensures.normal c.requires in
