@@ -1,4 +1,5 @@
--- Blocks of addresses as prefixes, and what is known of a block that the search for maximal prefixes comes to.
+-- Blocks of addresses as prefixes, and what is known of a block that the search for maximal prefixes
+-- comes to.
 use Rattle.std.proofs.Common.{◌≡◌, ℕ, suc, ◌+◌, ◌-◌, ◌*◌, ◌^◌, ◌<◌, ◌≤◌, Bool, true, nat_le, nat_lt, inl, inr, refl, ap, sym, subst, ◌∙◌, arith}
 use Rattle.std.proofs.Math.Nat.{two-pow-succ}
 use Rattle.std.proofs.lemmas.Nat.{pow_pos}
@@ -20,12 +21,14 @@ LiesBlock set a size = (x : ℕ) → a ≤ x → x < a + size → set x ≡ true
 
 pub has : (p : Prefix) (x : ℕ) → p.first ≤ x → x < p.first + size_of p → has_address p x ≡ true
 has p x h l =
-    and_from (nat_le p.first x) (nat_lt x (p.first + size_of p)) (le-leb p.first x h) (lt-ltb x (p.first + size_of p) l)
+    and_from (nat_le p.first x) (nat_lt x (p.first + size_of p)) (le-leb p.first x h)
+    (lt-ltb x (p.first + size_of p) l)
 
 pub bounds : (p : Prefix) (x : ℕ) → has_address p x ≡ true
     → (p.first ≤ x) × (x < p.first + size_of p)
 bounds p x h =
-    let e = and_parts (nat_le p.first x) (nat_lt x (p.first + size_of p)) h in (leb-true p.first x e.0, ltb-true x (p.first + size_of p) e.1)
+    let e = and_parts (nat_le p.first x) (nat_lt x (p.first + size_of p)) h in
+    (leb-true p.first x e.0, ltb-true x (p.first + size_of p) e.1)
 
 pub lies_block : (set : ℕ → Bool) (p : Prefix) → LiesIn set p → LiesBlock set p.first (size_of p)
 lies_block set p h = λ x k l. h x (has p x k l)
@@ -38,7 +41,8 @@ pub record At (f : Family) (set : ℕ → Bool) (k a : ℕ) : Type 0 where
   pub fits : k ≤ width_of f
   pub ends : a + 2 ^ k ≤ 2 ^ width_of f
   pub aligned : Aligned k a
-  pub upper : (j b : ℕ) → k < j → j ≤ width_of f → Aligned j b → b ≤ a → a < b + 2 ^ j → LiesBlock set b (2 ^ j) → ⊥
+  pub upper : (j b : ℕ) → k < j → j ≤ width_of f → Aligned j b → b ≤ a → a < b + 2 ^ j
+      → LiesBlock set b (2 ^ j) → ⊥
 
 -- the addresses of a prefix of the family are addresses of it
 pub within_space : (f : Family) (p : Prefix) → IsPrefixOf f p → p.first + size_of p ≤ 2 ^ width_of f
@@ -60,8 +64,10 @@ left_at f set k a t outside = record {
   upper = λ j b l m i p q h. elim (cases_eq j (suc k)) [
     | inl e ↦
         let P : ℕ → Type 0 = λ z. Aligned z b × (a < b + 2 ^ z) × LiesBlock set b (2 ^ z) in
-        let g : Aligned (suc k) b × (a < b + 2 ^ suc k) × LiesBlock set b (2 ^ suc k) = subst P e (i, q, h) in
-        let s : b ≡ a = same_block (suc k) b a a g.0 t.aligned p g.1 (omega arith) (omega (arith, pow_pos (suc k))) in
+        let g : Aligned (suc k) b × (a < b + 2 ^ suc k) × LiesBlock set b (2 ^ suc k) = subst P e
+        (i, q, h) in
+        let s : b ≡ a = same_block (suc k) b a a g.0 t.aligned p g.1 (omega arith)
+        (omega (arith, pow_pos (suc k))) in
         let Q : ℕ → Type 0 = λ z. LiesBlock set z (2 ^ suc k) in
         outside (subst Q s g.2)
     | inr n ↦ t.upper j b (omega arith) m i p q h
@@ -75,15 +81,20 @@ right_at f set k a t outside = record {
   ends = omega (arith, t.ends, two-pow-succ k);
   aligned = right_aligned k a t.aligned;
   upper = λ j b l m i p q h.
-      let up = nested (suc k) j a b (a + 2 ^ k) (omega arith) t.aligned i (omega arith) (omega (arith, two-pow-succ k, pow_pos k)) p q in
+      let up = nested (suc k) j a b (a + 2 ^ k) (omega arith) t.aligned i (omega arith)
+      (omega (arith, two-pow-succ k, pow_pos k)) p q in
       elim (cases_eq j (suc k)) [
         | inl e ↦
-            let P : ℕ → Type 0 = λ z. Aligned z b × (a + 2 ^ k < b + 2 ^ z) × LiesBlock set b (2 ^ z) in
-            let g : Aligned (suc k) b × (a + 2 ^ k < b + 2 ^ suc k) × LiesBlock set b (2 ^ suc k) = subst P e (i, q, h) in
-            let s : b ≡ a = same_block (suc k) b a (a + 2 ^ k) g.0 t.aligned p g.1 (omega arith) (omega (arith, two-pow-succ k, pow_pos k)) in
+            let P : ℕ → Type 0 = λ z. Aligned z b × (a + 2 ^ k < b + 2 ^ z) × LiesBlock set b
+            (2 ^ z) in
+            let g : Aligned (suc k) b × (a + 2 ^ k < b + 2 ^ suc k) × LiesBlock set b (2 ^ suc k) =
+            subst P e (i, q, h) in
+            let s : b ≡ a = same_block (suc k) b a (a + 2 ^ k) g.0 t.aligned p g.1 (omega arith)
+            (omega (arith, two-pow-succ k, pow_pos k)) in
             let Q : ℕ → Type 0 = λ z. LiesBlock set z (2 ^ suc k) in
             outside (subst Q s g.2)
-        | inr n ↦ t.upper j b (omega arith) m i (omega (arith, up.0)) (omega (arith, up.1, pow_pos (suc k))) h
+        | inr n ↦ t.upper j b (omega arith) m i (omega (arith, up.0))
+            (omega (arith, up.1, pow_pos (suc k))) h
       ];
 }
 

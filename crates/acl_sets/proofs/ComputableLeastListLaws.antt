@@ -1,4 +1,5 @@
--- Laws of the least list that is computed with: it is the least list of its set, and so is no other.
+-- Laws of the least list that is computed with: it is the least list of its set, and no other list
+-- is.
 use Rattle.std.proofs.Common.{◌≡◌, ℕ, List, refl}
 use Rattle.acl_packet.specs.declared.addresses.Family.{Family}
 use Rattle.acl_packet.specs.declared.addresses.Prefix.{Prefix}
@@ -17,4 +18,5 @@ pub least_list-computed : (f : Family) (top : ℕ) (rs : List Range) (ps : List 
     → IsNormal 0 top rs
     → IsLeastList f (λ a. holds rs a) ps → ps ≡ halved_space f rs
 least_list-computed f top rs ps n h =
-    one_least_list f (λ a. holds rs a) (λ a. holds rs a) ps (halved_space f rs) (λ a l. refl) h (halves-least f top rs n)
+    one_least_list f (λ a. holds rs a) (λ a. holds rs a) ps (halved_space f rs) (λ a l. refl) h
+    (halves-least f top rs n)

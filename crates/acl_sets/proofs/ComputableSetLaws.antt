@@ -49,7 +49,8 @@ cut_all-holds f top most (r ∷ rs) qs x w n =
 pub shared_all-normal : (f top g most : ℕ) (rs qs : List Range) → IsNormal f top rs
     → IsNormal g most qs → IsNormal f top (shared_all rs qs)
 shared_all-normal f top g most rs qs n m =
-    flat_normal (λ r. flat_map (λ q. shared r q) qs) (λ r h. lower_floor r.low (max g r.low) r.high (flat_map (λ q. shared r q) qs) (omega arith) (common-normal g most r qs m)) f top rs n
+    flat_normal (λ r. flat_map (λ q. shared r q) qs) (λ r h. lower_floor r.low (max g r.low) r.high
+    (flat_map (λ q. shared r q) qs) (omega arith) (common-normal g most r qs m)) f top rs n
 
 pub shared_all-holds : (g most : ℕ) (rs qs : List Range) (x : ℕ) → IsNormal g most qs
     → holds (shared_all rs qs) x ≡ (holds qs x && holds rs x)
@@ -65,31 +66,37 @@ shared_all-holds g most (r ∷ rs) qs x m =
 pub covers-holds : (rs : List Range) (low high x : ℕ) → covers rs low high ≡ true → low ≤ x
     → x ≤ high → holds rs x ≡ true
 covers-holds [] low high x e h k = absurd (both_ways false refl e)
-covers-holds (r ∷ rs) low high x e h k = elim (or_cases (nat_le r.low low && nat_le high r.high) (covers rs low high) e) [
-  | inl i ↦ let p = and_parts (nat_le r.low low) (nat_le high r.high) i in
-      let a = leb-true r.low low p.0 in let b = leb-true high r.high p.1 in
-      or_left (inside r x) (holds rs x) (in_range r.low r.high x (omega arith) (omega arith))
-  | inr i ↦ or_right (inside r x) (holds rs x) (covers-holds rs low high x i h k)
-]
+covers-holds (r ∷ rs) low high x e h k = elim (or_cases (nat_le r.low low && nat_le high r.high)
+    (covers rs low high) e) [
+      | inl i ↦ let p = and_parts (nat_le r.low low) (nat_le high r.high) i in
+          let a = leb-true r.low low p.0 in let b = leb-true high r.high p.1 in
+          or_left (inside r x) (holds rs x) (in_range r.low r.high x (omega arith) (omega arith))
+      | inr i ↦ or_right (inside r x) (holds rs x) (covers-holds rs low high x i h k)
+    ]
 
 -- a block of numbers that a normal list holds lies in one range
 pub holds-covers : (f top : ℕ) (rs : List Range) (low high : ℕ) → IsNormal f top rs → low ≤ high
     → ((x : ℕ) → low ≤ x → x ≤ high → holds rs x ≡ true) → covers rs low high ≡ true
 holds-covers f top [] low high n l h = absurd (both_ways false refl (h low (omega arith) l))
 holds-covers f top (r ∷ rs) low high n l h =
-    let begins : r.low ≤ low = at_floor r.low top (r ∷ rs) low (omega arith, n.1, n.2, n.3) (h low (omega arith) l) in
+    let begins : r.low ≤ low = at_floor r.low top (r ∷ rs) low (omega arith, n.1, n.2, n.3)
+    (h low (omega arith) l) in
     elim (cases_lt r.high low) [
-      | inl past ↦ or_right (nat_le r.low low && nat_le high r.high) (covers rs low high) (holds-covers (r.high + 2) top rs low high n.3 l
+      | inl past ↦ or_right (nat_le r.low low && nat_le high r.high) (covers rs low high)
+          (holds-covers (r.high + 2) top rs low high n.3 l
           (λ x p q. elim (or_cases (inside r x) (holds rs x) (h x p q)) [
             | inl i ↦ let e = ends_of r.low r.high x i in absurd (omega arith)
             | inr i ↦ i
           ]))
       | inr within ↦ elim (cases_lt r.high high) [
-        | inl short ↦ elim (or_cases (inside r (r.high + 1)) (holds rs (r.high + 1)) (h (r.high + 1) (omega arith) (omega arith))) [
-          | inl i ↦ let e = ends_of r.low r.high (r.high + 1) i in absurd (omega arith)
-          | inr i ↦ let e = at_floor (r.high + 2) top rs (r.high + 1) n.3 i in absurd (omega arith)
-        ]
-        | inr whole ↦ or_left (nat_le r.low low && nat_le high r.high) (covers rs low high) (and_from (nat_le r.low low) (nat_le high r.high) (le-leb r.low low begins) (le-leb high r.high whole))
+        | inl short ↦ elim (or_cases (inside r (r.high + 1)) (holds rs (r.high + 1))
+            (h (r.high + 1) (omega arith) (omega arith))) [
+              | inl i ↦ let e = ends_of r.low r.high (r.high + 1) i in absurd (omega arith)
+              | inr i ↦ let e = at_floor (r.high + 2) top rs (r.high + 1) n.3 i in absurd (omega arith)
+            ]
+        | inr whole ↦ or_left (nat_le r.low low && nat_le high r.high) (covers rs low high)
+            (and_from (nat_le r.low low) (nat_le high r.high) (le-leb r.low low begins)
+            (le-leb high r.high whole))
       ]
     ]
 
@@ -99,7 +106,9 @@ misses-holds [] low high x e h k = refl
 misses-holds (r ∷ rs) low high x e h k =
     let p = or_parts (nat_le r.low high && nat_le low r.high) (meets rs low high) e in
     or_from (inside r x) (holds rs x)
-    (false_from_ne_true (inside r x) (λ i. let s = ends_of r.low r.high x i in both_ways (nat_le r.low high && nat_le low r.high) p.0 (and_from (nat_le r.low high) (nat_le low r.high) (le-leb r.low high (omega arith)) (le-leb low r.high (omega arith)))))
+    (false_from_ne_true (inside r x) (λ i. let s = ends_of r.low r.high x i in both_ways
+    (nat_le r.low high && nat_le low r.high) p.0 (and_from (nat_le r.low high) (nat_le low r.high)
+    (le-leb r.low high (omega arith)) (le-leb low r.high (omega arith)))))
     (misses-holds rs low high x p.1 h k)
 
 -- Subsets
@@ -119,5 +128,7 @@ pub subset-covered : (f g top : ℕ) (rs qs : List Range) → IsNormal f top rs 
 subset-covered f g top [] qs n m h = refl
 subset-covered f g top (r ∷ rs) qs n m h =
     and_from (covers qs r.low r.high) (all_covered rs qs)
-    (holds-covers g top qs r.low r.high m n.1 (λ x p q. h x (omega arith) (or_left (inside r x) (holds rs x) (in_range r.low r.high x p q))))
-    (subset-covered (r.high + 2) g top rs qs n.3 m (λ x p q. h x p (or_right (inside r x) (holds rs x) q)))
+    (holds-covers g top qs r.low r.high m n.1 (λ x p q. h x (omega arith)
+    (or_left (inside r x) (holds rs x) (in_range r.low r.high x p q))))
+    (subset-covered (r.high + 2) g top rs qs n.3 m (λ x p q. h x p
+    (or_right (inside r x) (holds rs x) q)))

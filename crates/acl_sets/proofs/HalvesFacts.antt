@@ -1,4 +1,5 @@
--- The list that halving gives of a set as ranges: the steps of the code, and that it is the least list.
+-- The list that halving gives of a set as ranges: the steps of the code, and that it is the least
+-- list.
 use Rattle.std.proofs.Common.{◌≡◌, ℕ, zero, suc, ◌+◌, ◌-◌, ◌^◌, ◌<◌, ◌≤◌, ◌⊎◌, true, false, List, [], ◌∷◌, ◌++◌, inl, inr, refl, ap, sym, subst, ◌∙◌, arith, append_assoc, append-nil}
 use Rattle.std.proofs.lemmas.Nat.{pow_pos}
 use Rattle.std.proofs.lemmas.Bool.{cases_Bool, both_ways, false_from_ne_true}
@@ -60,7 +61,8 @@ covered rs k a e = λ x h l. covers-holds rs a (last_of k a) x e h (in_last k a 
 not_covered : (top : ℕ) (rs : List Range) (k a : ℕ) → IsNormal 0 top rs
     → covers rs a (last_of k a) ≡ false → LiesBlock (λ x. holds rs x) a (2 ^ k) → ⊥
 not_covered top rs k a n e h =
-    both_ways (covers rs a (last_of k a)) e (holds-covers 0 top rs a (last_of k a) n (first_last k a) (λ x p q. h x p (past_last k a x q)))
+    both_ways (covers rs a (last_of k a)) e (holds-covers 0 top rs a (last_of k a) n
+    (first_last k a) (λ x p q. h x p (past_last k a x q)))
 
 missed : (rs : List Range) (k a : ℕ) → meets rs a (last_of k a) ≡ false → (x : ℕ) → a ≤ x
     → x < a + 2 ^ k → holds rs x ≡ false
@@ -79,19 +81,25 @@ halves-halved : (f : Family) (top : ℕ) (rs : List Range) (k a : ℕ) → IsNor
     → halves f rs k a ≡ halved f (λ x. holds rs x) k a
 unfolding halves
 halves-halved f top rs zero a n = elim (cases_Bool (covers rs a (last_of zero a))) [
-  | inl e ↦ step_whole f rs zero a e ∙ sym (halved-whole f (λ x. holds rs x) zero a (covered rs zero a e))
-  | inr e ↦ step_point f rs zero a refl e ∙ sym (halved-none f (λ x. holds rs x) zero a (point_missed top rs a n e))
+  | inl e ↦ step_whole f rs zero a e ∙ sym (halved-whole f (λ x. holds rs x) zero a
+      (covered rs zero a e))
+  | inr e ↦ step_point f rs zero a refl e ∙ sym (halved-none f (λ x. holds rs x) zero a
+      (point_missed top rs a n e))
 ]
 halves-halved f top rs (suc k) a n = elim (cases_Bool (covers rs a (last_of (suc k) a))) [
-  | inl e ↦ step_whole f rs (suc k) a e ∙ sym (halved-whole f (λ x. holds rs x) (suc k) a (covered rs (suc k) a e))
+  | inl e ↦ step_whole f rs (suc k) a e ∙ sym (halved-whole f (λ x. holds rs x) (suc k) a
+      (covered rs (suc k) a e))
   | inr e ↦ elim (cases_Bool (meets rs a (last_of (suc k) a))) [
     | inl m ↦
-        let split : halves f rs (suc k) a ≡ halves f rs k a ++ halves f rs k (a + 2 ^ k) = rw (e, m) refl in
+        let split : halves f rs (suc k) a ≡ halves f rs k a ++ halves f rs k (a + 2 ^ k) = rw
+        (e, m) refl in
         split
         ∙ ap (λ (z : List Prefix). z ++ halves f rs k (a + 2 ^ k)) (halves-halved f top rs k a n)
-        ∙ ap (λ (z : List Prefix). halved f (λ x. holds rs x) k a ++ z) (halves-halved f top rs k (a + 2 ^ k) n)
+        ∙ ap (λ (z : List Prefix). halved f (λ x. holds rs x) k a ++ z)
+        (halves-halved f top rs k (a + 2 ^ k) n)
         ∙ sym (halved-split f (λ x. holds rs x) k a (not_covered top rs (suc k) a n e))
-    | inr m ↦ step_none f rs (suc k) a e m ∙ sym (halved-none f (λ x. holds rs x) (suc k) a (missed rs (suc k) a m))
+    | inr m ↦ step_none f rs (suc k) a e m ∙ sym (halved-none f (λ x. holds rs x) (suc k) a
+        (missed rs (suc k) a m))
   ]
 ]
 
@@ -103,12 +111,15 @@ halves-least f top rs n =
 
 -- What the code has after both halves, and where it leaves a block
 
-pub after_halves : (f : Family) (rs : List Range) (k a : ℕ) (out mid new : List Prefix) (last half : ℕ) → last ≡ last_of k a → covers rs a last ≡ false → 0 < k → meets rs a last ≡ true
+pub after_halves : (f : Family) (rs : List Range) (k a : ℕ) (out mid new : List Prefix)
+    (last half : ℕ) → last ≡ last_of k a → covers rs a last ≡ false → 0 < k → meets rs a last ≡ true
     → half ≡ 2 ^ (k - 1) → mid ≡ out ++ halves f rs (k - 1) a
     → new ≡ mid ++ halves f rs (k - 1) (a + half) → new ≡ out ++ halves f rs k a
 after_halves f rs k a out mid new last half l c p m h i j =
-    let s = step_split f rs k a p (ap (λ z. covers rs a z) (sym l) ∙ c) (ap (λ z. meets rs a z) (sym l) ∙ m) in
-    j ∙ ap (λ z. mid ++ halves f rs (k - 1) (a + z)) h ∙ ap (λ z. z ++ halves f rs (k - 1) (a + 2 ^ (k - 1))) i
+    let s = step_split f rs k a p (ap (λ z. covers rs a z) (sym l) ∙ c)
+    (ap (λ z. meets rs a z) (sym l) ∙ m) in
+    j ∙ ap (λ z. mid ++ halves f rs (k - 1) (a + z)) h ∙ ap
+    (λ z. z ++ halves f rs (k - 1) (a + 2 ^ (k - 1))) i
     ∙ append_assoc out (halves f rs (k - 1) a) (halves f rs (k - 1) (a + 2 ^ (k - 1)))
     ∙ ap (λ z. out ++ z) (sym s)
 
@@ -116,9 +127,11 @@ pub left_out : (f : Family) (rs : List Range) (k a : ℕ) (out : List Prefix) (l
     → last ≡ last_of k a → covers rs a last ≡ false → (k ≡ 0) ⊎ (meets rs a last ≡ false)
     → out ≡ out ++ halves f rs k a
 left_out f rs k a out last l c (inl h) =
-    sym (ap (λ z. out ++ z) (step_point f rs k a h (ap (λ z. covers rs a z) (sym l) ∙ c)) ∙ append-nil out)
+    sym (ap (λ z. out ++ z) (step_point f rs k a h (ap (λ z. covers rs a z) (sym l) ∙ c))
+    ∙ append-nil out)
 left_out f rs k a out last l c (inr h) =
-    sym (ap (λ z. out ++ z) (step_none f rs k a (ap (λ z. covers rs a z) (sym l) ∙ c) (ap (λ z. meets rs a z) (sym l) ∙ h)) ∙ append-nil out)
+    sym (ap (λ z. out ++ z) (step_none f rs k a (ap (λ z. covers rs a z) (sym l) ∙ c)
+    (ap (λ z. meets rs a z) (sym l) ∙ h)) ∙ append-nil out)
 
 -- What the call of the code gives, put together
 pub given : (f : Family) (new out : List Prefix) (rs ranges : List Range) (width : ℕ)

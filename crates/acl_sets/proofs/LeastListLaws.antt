@@ -1,4 +1,5 @@
--- Laws of least lists: a least list holds exactly its set, no list of fewer prefixes does, a set has one.
+-- Laws of least lists: a least list holds exactly its set, no list of fewer prefixes does, a set has
+-- one.
 use Rattle.std.proofs.Common.{◌≡◌, ℕ, ◌+◌, ◌^◌, ◌<◌, ◌≤◌, Bool, true, false, List, [], ◌∷◌, inl, inr, refl, ap, sym, subst, ◌∙◌, arith}
 use Rattle.std.proofs.lemmas.Bool.{cases_lt, or_from, false_from_ne_true}
 use Rattle.std.proofs.lemmas.List.Elements.{All-contains, All-from_recursion, recursion_from_All}
@@ -56,7 +57,8 @@ one_least_list f set other ps qs same h k =
     let Q : Prefix → Type 0 = λ p. IsMaximal f other p in
     same_members 0 0 ps qs h.in_order k.in_order
     (λ p c. k.complete p (maximal_same f set other same p (All-contains P ps p h.maximal c)))
-    (λ p c. h.complete p (maximal_same f other set (λ a l. sym (same a l)) p (All-contains Q qs p k.maximal c)))
+    (λ p c. h.complete p (maximal_same f other set (λ a l. sym (same a l)) p
+    (All-contains Q qs p k.maximal c)))
 
 least_halved : (f : Family) (set : ℕ → Bool) (ps : List Prefix) → IsLeastList f set ps
     → ps ≡ halved f set (width_of f) 0
@@ -76,14 +78,16 @@ none_above : (f : Family) (ps : List Prefix) (a : ℕ) → AllByRecursion (λ p.
 none_above f [] a h l = refl
 none_above f (p ∷ ps) a h l =
     or_from (has_address p a) (any_has ps a)
-    (false_from_ne_true (has_address p a) (λ i. let s = address_below f p a h.0 i in absurd (omega (arith, s, l))))
+    (false_from_ne_true (has_address p a) (λ i. let s = address_below f p a h.0 i in absurd
+    (omega (arith, s, l))))
     (none_above f ps a h.1 l)
 
 pub least_list-holds : LeastListHolds
 least_list-holds f set ps addresses h a = elim (cases_lt a (2 ^ width_of f)) [
   | inl l ↦ least_list-holds_below f set ps h a l
   | inr l ↦
-      let forms = recursion_from_All (λ (p : Prefix). IsPrefixOf f p) ps (least_list-prefixes f set ps h) in
+      let forms = recursion_from_All (λ (p : Prefix). IsPrefixOf f p) ps
+      (least_list-prefixes f set ps h) in
       none_above f ps a forms l ∙ sym (addresses a l)
 ]
 

@@ -1,5 +1,5 @@
--- Blocks of numbers whose sizes are powers of two: one that begins at a multiple of its size either lies in
--- a larger such block or has no number of it.
+-- Blocks of numbers whose sizes are powers of two: one that begins at a multiple of its size either
+-- lies in a larger such block or has no number of it.
 use Rattle.std.proofs.Common.{◌≡◌, ℕ, suc, ◌+◌, ◌-◌, ◌*◌, ◌^◌, ◌<◌, ◌≤◌, ap, sym, ◌∙◌, arith, mul_assoc}
 use Rattle.std.proofs.Math.Nat.{lt_of_mul-lt-mul_right, mul-le-mul_right, two-pow-succ}
 use Rattle.std.proofs.lemmas.Nat.{pow-add}
@@ -15,7 +15,8 @@ nest n m d s x p q r t =
     let first : m * d < n + 1 = lt_of_mul-lt-mul_right s {m = m * d} {n = n + 1} (omega arith) in
     let last : n < m * d + d = lt_of_mul-lt-mul_right s {m = n} {n = m * d + d} (omega arith) in
     let begins : (m * d) * s ≤ n * s = mul-le-mul_right {m = m * d} {n = n} s (omega arith) in
-    let ends : (n + 1) * s ≤ (m * d + d) * s = mul-le-mul_right {m = n + 1} {n = m * d + d} s (omega arith) in
+    let ends : (n + 1) * s ≤ (m * d + d) * s = mul-le-mul_right {m = n + 1} {n = m * d + d} s
+    (omega arith) in
     (omega arith, omega arith)
 
 -- a block that has a number of a smaller one has all of it
@@ -25,9 +26,19 @@ nested j k b a x l small large p q r t =
     let e : k - j + j ≡ k = omega arith in
     let power : 2 ^ k ≡ 2 ^ (k - j) * 2 ^ j = sym (ap (λ z. 2 ^ z) e) ∙ pow-add 2 (k - j) j in
     let whole : large.0 * 2 ^ k ≡ large.0 * (2 ^ (k - j) * 2 ^ j) = ap (λ z. large.0 * z) power in
-    let i = nest small.0 large.0 (2 ^ (k - j)) (2 ^ j) x (omega (arith, p, small.1)) (omega (arith, q, small.1))
-    (omega (arith, r, large.1, whole)) (omega (arith, t, large.1, whole, power)) in
-    (omega (arith, i.0, small.1, large.1, whole), omega (arith, i.1, small.1, large.1, whole, power))
+    let i = nest small.0 large.0 (2 ^ (k - j)) (2 ^ j) x (omega (arith, p, small.1))
+    (omega (arith, q, small.1))
+    (omega (arith, r, large.1, whole)) (omega (arith, t, large.1, whole, power)) in (
+      omega (arith, i.0, small.1, large.1, whole),
+      omega (
+        arith,
+        i.1,
+        small.1,
+        large.1,
+        whole,
+        power,
+      ),
+    )
 
 -- two blocks of one size that have a number in common are one
 pub same_block : (k a b x : ℕ) → Aligned k a → Aligned k b → a ≤ x → x < a + 2 ^ k → b ≤ x

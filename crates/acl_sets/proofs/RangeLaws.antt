@@ -31,22 +31,32 @@ pub below_floor : (f top : ℕ) (rs : List Range) (x : ℕ) → IsNormal f top r
     → holds rs x ≡ false
 below_floor f top [] x h l = refl
 below_floor f top (r ∷ rs) x h l =
-    or_from (inside r x) (holds rs x) (out_low r.low r.high x (omega arith)) (below_floor (r.high + 2) top rs x h.3 (omega arith))
+    or_from (inside r x) (holds rs x) (out_low r.low r.high x (omega arith))
+    (below_floor (r.high + 2) top rs x h.3 (omega arith))
 
 pub past_top : (f top : ℕ) (rs : List Range) (x : ℕ) → IsNormal f top rs → top < x
     → holds rs x ≡ false
 past_top f top [] x h l = refl
 past_top f top (r ∷ rs) x h l =
-    or_from (inside r x) (holds rs x) (out_high r.low r.high x (omega arith)) (past_top (r.high + 2) top rs x h.3 l)
+    or_from (inside r x) (holds rs x) (out_high r.low r.high x (omega arith))
+    (past_top (r.high + 2) top rs x h.3 l)
 
 -- what a normal list holds lies between
 pub at_floor : (f top : ℕ) (rs : List Range) (x : ℕ) → IsNormal f top rs → holds rs x ≡ true → f ≤ x
 at_floor f top rs x h e =
-    elim (cases_lt x f) [ inl l ↦ absurd (both_ways (holds rs x) (below_floor f top rs x h l) e) | inr l ↦ l ]
+    elim (cases_lt x f) [
+      | inl l ↦ absurd (both_ways (holds rs x)
+          (below_floor f top rs x h l) e)
+      | inr l ↦ l
+    ]
 
 pub at_top : (f top : ℕ) (rs : List Range) (x : ℕ) → IsNormal f top rs → holds rs x ≡ true → x ≤ top
 at_top f top rs x h e =
-    elim (cases_lt top x) [ inl l ↦ absurd (both_ways (holds rs x) (past_top f top rs x h l) e) | inr l ↦ l ]
+    elim (cases_lt top x) [
+      | inl l ↦ absurd (both_ways (holds rs x)
+          (past_top f top rs x h l) e)
+      | inr l ↦ l
+    ]
 
 pub are_ranges : (f top : ℕ) (rs : List Range) → IsNormal f top rs
     → AllByRecursion (λ r. IsRange top r) rs
@@ -75,16 +85,19 @@ none-empty f top (r ∷ rs) n h =
 heads-low : (top : ℕ) (f g : ℕ) (r q : Range) (rs qs : List Range) → IsNormal f top (r ∷ rs)
     → IsNormal g top (q ∷ qs) → ((x : ℕ) → holds (r ∷ rs) x ≡ holds (q ∷ qs) x) → q.low ≤ r.low
 heads-low top f g r q rs qs n m h =
-    at_floor q.low top (q ∷ qs) r.low (omega arith, m.1, m.2, m.3) (sym (h r.low) ∙ first-holds f top r rs n)
+    at_floor q.low top (q ∷ qs) r.low (omega arith, m.1, m.2, m.3)
+    (sym (h r.low) ∙ first-holds f top r rs n)
 
 heads-high : (top : ℕ) (f g : ℕ) (r q : Range) (rs qs : List Range) → IsNormal f top (r ∷ rs)
     → IsNormal g top (q ∷ qs) → ((x : ℕ) → holds (r ∷ rs) x ≡ holds (q ∷ qs) x) → r.low ≡ q.low
     → q.high ≤ r.high
 heads-high top f g r q rs qs n m h e = elim (cases_lt r.high q.high) [
-  | inl l ↦ elim (or_cases (inside r (r.high + 1)) (holds rs (r.high + 1)) (h (r.high + 1) ∙ or_left (inside q (r.high + 1)) (holds qs (r.high + 1)) (in_range q.low q.high (r.high + 1) (omega arith) (omega arith)))) [
-    | inl i ↦ let s = ends_of r.low r.high (r.high + 1) i in absurd (omega arith)
-    | inr i ↦ let s = at_floor (r.high + 2) top rs (r.high + 1) n.3 i in absurd (omega arith)
-  ]
+  | inl l ↦ elim (or_cases (inside r (r.high + 1)) (holds rs (r.high + 1))
+      (h (r.high + 1) ∙ or_left (inside q (r.high + 1)) (holds qs (r.high + 1))
+      (in_range q.low q.high (r.high + 1) (omega arith) (omega arith)))) [
+        | inl i ↦ let s = ends_of r.low r.high (r.high + 1) i in absurd (omega arith)
+        | inr i ↦ let s = at_floor (r.high + 2) top rs (r.high + 1) n.3 i in absurd (omega arith)
+      ]
   | inr l ↦ l
 ]
 
@@ -111,9 +124,20 @@ one_list f g top (r ∷ rs) [] n m h =
     absurd (both_ways false refl (sym (h r.low) ∙ first-holds f top r rs n))
 one_list f g top (r ∷ rs) (q ∷ qs) n m h =
     let back : (x : ℕ) → holds (q ∷ qs) x ≡ holds (r ∷ rs) x = λ x. sym (h x) in
-    let low : r.low ≡ q.low = omega (arith, heads-low top f g r q rs qs n m h, heads-low top g f q r qs rs m n back) in
-    let high : r.high ≡ q.high = omega (arith, heads-high top f g r q rs qs n m h low, heads-high top g f q r qs rs m n back (sym low)) in
+    let low : r.low ≡ q.low = omega (
+      arith,
+      heads-low top f g r q rs qs n m h,
+      heads-low top g f q r qs rs m n back,
+    ) in
+    let high : r.high ≡ q.high = omega (
+      arith,
+      heads-high top f g r q rs qs n m h low,
+      heads-high top g f q r qs rs m n back (sym low),
+    ) in
     let whole : r ≡ q = same-range r q low high in
-    let k : IsNormal (r.high + 2) top qs = lower_floor (r.high + 2) (q.high + 2) top qs (omega arith) m.3 in
-    let tails : rs ≡ qs = one_list (r.high + 2) (r.high + 2) top rs qs n.3 k (λ x. tails-same top r.low r.high x rs qs n.3 k (h x ∙ ap (λ (t : Range). inside t x || holds qs x) (sym whole))) in
+    let k : IsNormal (r.high + 2) top qs = lower_floor (r.high + 2) (q.high + 2) top qs
+    (omega arith) m.3 in
+    let tails : rs ≡ qs = one_list (r.high + 2) (r.high + 2) top rs qs n.3 k
+    (λ x. tails-same top r.low r.high x rs qs n.3 k (h x ∙ ap
+    (λ (t : Range). inside t x || holds qs x) (sym whole))) in
     ap (λ (t : Range). t ∷ rs) whole ∙ ap (λ (t : List Range). q ∷ t) tails

@@ -69,7 +69,9 @@ pub flat_normal : (c : Range → List Range)
     → IsNormal f top qs → IsNormal f top (flat_map c qs)
 flat_normal c h f top [] n = tt
 flat_normal c h f top (q ∷ qs) n =
-    normal_append f q.high (q.high + 2) top (c q) (flat_map c qs) (lower_floor f q.low q.high (c q) n.0 (h q n.1)) (omega arith) (omega arith) n.2 (flat_normal c h (q.high + 2) top qs n.3)
+    normal_append f q.high (q.high + 2) top (c q) (flat_map c qs)
+    (lower_floor f q.low q.high (c q) n.0 (h q n.1)) (omega arith) (omega arith) n.2
+    (flat_normal c h (q.high + 2) top qs n.3)
 
 pub flat_holds : (c : Range → List Range) (b : Bool) (x : ℕ)
     → ((q : Range) → q.low ≤ q.high → holds (c q) x ≡ (inside q x && b))
@@ -85,14 +87,16 @@ flat_holds c b x h f top (q ∷ qs) n =
 -- Union
 
 joined-inside : (a b c d x : ℕ) → a ≤ b → c ≤ d → a ≤ d + 1 → c ≤ b + 1
-    → (nat_le (min a c) x && nat_le x (max b d)) ≡ ((nat_le a x && nat_le x b) || (nat_le c x && nat_le x d))
+    → (nat_le (min a c) x && nat_le x (max b d)) ≡ ((nat_le a x && nat_le x b) ||
+    (nat_le c x && nat_le x d))
 joined-inside a b c d x h k l m = grind (arith, nat_tests)
 
 pub put_in-holds : (f top : ℕ) (r : Range) (qs : List Range) (x : ℕ) → IsNormal f top qs
     → r.low ≤ r.high → holds (put_in r qs) x ≡ (inside r x || holds qs x)
 put_in-holds f top r [] x n l = refl
 put_in-holds f top r (q ∷ qs) x n l = elim (cases_lt (q.high + 1) r.low) [
-  | inl h ↦ rw (lt-ltb (q.high + 1) r.low h) (ap (λ t. inside q x || t) (put_in-holds (q.high + 2) top r qs x n.3 l) ∙ or_swap (inside r x) (inside q x) (holds qs x))
+  | inl h ↦ rw (lt-ltb (q.high + 1) r.low h) (ap (λ t. inside q x || t)
+      (put_in-holds (q.high + 2) top r qs x n.3 l) ∙ or_swap (inside r x) (inside q x) (holds qs x))
   | inr h ↦ rw (le-ltb (q.high + 1) r.low h) (elim (cases_lt (r.high + 1) q.low) [
     | inl k ↦ rw lt-ltb refl
     | inr k ↦ rw le-ltb (put_in-holds (q.high + 2) top (joined r q) qs x n.3 (omega arith)
@@ -105,17 +109,25 @@ pub put_in-normal : (f top : ℕ) (r : Range) (qs : List Range) → IsNormal f t
     → r.low ≤ r.high → r.high ≤ top → IsNormal f top (put_in r qs)
 put_in-normal f top r [] n l m t = (l, m, t, tt)
 put_in-normal f top r (q ∷ qs) n l m t = elim (cases_lt (q.high + 1) r.low) [
-  | inl h ↦ rw (lt-ltb (q.high + 1) r.low h) (n.0, n.1, n.2, put_in-normal (q.high + 2) top r qs n.3 (omega arith) m t)
+  | inl h ↦ rw (lt-ltb (q.high + 1) r.low h) (
+    n.0,
+    n.1,
+    n.2,
+    put_in-normal (q.high + 2) top r qs n.3
+        (omega arith) m t,
+  )
   | inr h ↦ rw (le-ltb (q.high + 1) r.low h) (elim (cases_lt (r.high + 1) q.low) [
     | inl k ↦ rw lt-ltb (l, m, t, (omega arith, n.1, n.2, n.3))
-    | inr k ↦ rw le-ltb (put_in-normal f top (joined r q) qs (lower_floor f (q.high + 2) top qs (omega arith) n.3) (omega arith) (omega arith) (omega arith))
+    | inr k ↦ rw le-ltb (put_in-normal f top (joined r q) qs
+        (lower_floor f (q.high + 2) top qs (omega arith) n.3) (omega arith) (omega arith) (omega arith))
   ])
 ]
 
 -- Difference
 
 cut-inside : (a b c d x : ℕ) → a ≤ b → c ≤ d
-    → holds (cut (record { low = a; high = b }) (record { low = c; high = d })) x ≡ ((nat_le c x && nat_le x d) && not (nat_le a x && nat_le x b))
+    → holds (cut (record { low = a; high = b }) (record { low = c; high = d })) x ≡
+    ((nat_le c x && nat_le x d) && not (nat_le a x && nat_le x b))
 cut-inside a b c d x h k = elim (cases_lt c a) [
   | inl l ↦ rw (lt-ltb c a l) (elim (cases_lt b d) [
     | inl m ↦ rw (lt-ltb b d m) (grind (arith, nat_tests))
@@ -131,7 +143,12 @@ cut-normal : (a b c d : ℕ) → a ≤ b → c ≤ d
     → IsNormal c d (cut (record { low = a; high = b }) (record { low = c; high = d }))
 cut-normal a b c d h k = elim (cases_lt c a) [
   | inl l ↦ rw (lt-ltb c a l) (elim (cases_lt b d) [
-    | inl m ↦ rw (lt-ltb b d m) (omega arith, omega arith, omega arith, (omega arith, omega arith, omega arith, tt))
+    | inl m ↦ rw (lt-ltb b d m) (
+      omega arith,
+      omega arith,
+      omega arith,
+      (omega arith, omega arith, omega arith, tt),
+    )
     | inr m ↦ rw (le-ltb b d m) (omega arith, omega arith, omega arith, tt)
   ])
   | inr l ↦ rw (le-ltb c a l) (elim (cases_lt b d) [
@@ -143,7 +160,8 @@ cut-normal a b c d h k = elim (cases_lt c a) [
 pub without-holds : (f top : ℕ) (r : Range) (qs : List Range) (x : ℕ) → IsNormal f top qs
     → r.low ≤ r.high → holds (flat_map (cut r) qs) x ≡ (holds qs x && not (inside r x))
 without-holds f top r qs x n l =
-    flat_holds (cut r) (not (inside r x)) x (λ q h. cut-inside r.low r.high q.low q.high x l h) f top qs n
+    flat_holds (cut r) (not (inside r x)) x
+    (λ q h. cut-inside r.low r.high q.low q.high x l h) f top qs n
 
 pub without-normal : (f top : ℕ) (r : Range) (qs : List Range) → IsNormal f top qs → r.low ≤ r.high
     → IsNormal f top (flat_map (cut r) qs)
@@ -153,7 +171,8 @@ without-normal f top r qs n l =
 -- Intersection
 
 shared-inside : (a b c d x : ℕ)
-    → holds (shared (record { low = a; high = b }) (record { low = c; high = d })) x ≡ ((nat_le c x && nat_le x d) && (nat_le a x && nat_le x b))
+    → holds (shared (record { low = a; high = b }) (record { low = c; high = d })) x ≡
+    ((nat_le c x && nat_le x d) && (nat_le a x && nat_le x b))
 shared-inside a b c d x = elim (cases_lt (min b d) (max a c)) [
   | inl l ↦ rw (lt-leb (max a c) (min b d) l) (grind (arith, nat_tests))
   | inr l ↦ rw (le-leb (max a c) (min b d) l) (grind (arith, nat_tests))
@@ -162,12 +181,22 @@ shared-inside a b c d x = elim (cases_lt (min b d) (max a c)) [
 pub common-holds : (f top : ℕ) (r : Range) (qs : List Range) (x : ℕ) → IsNormal f top qs
     → holds (flat_map (λ q. shared r q) qs) x ≡ (holds qs x && inside r x)
 common-holds f top r qs x n =
-    flat_holds (λ q. shared r q) (inside r x) x (λ q h. shared-inside r.low r.high q.low q.high x) f top qs n
+    flat_holds (λ q. shared r q) (inside r x) x
+    (λ q h. shared-inside r.low r.high q.low q.high x) f top qs n
 
 pub common-normal : (f top : ℕ) (r : Range) (qs : List Range) → IsNormal f top qs
     → IsNormal (max f r.low) r.high (flat_map (λ q. shared r q) qs)
 common-normal f top r [] n = tt
 common-normal f top r (q ∷ qs) n = elim (cases_lt (min r.high q.high) (max r.low q.low)) [
-  | inl l ↦ rw (lt-leb (max r.low q.low) (min r.high q.high) l) (lower_floor (max f r.low) (max (q.high + 2) r.low) r.high (flat_map (λ t. shared r t) qs) (omega arith) (common-normal (q.high + 2) top r qs n.3))
-  | inr l ↦ rw (le-leb (max r.low q.low) (min r.high q.high) l) (omega arith, l, omega arith, lower_floor (min r.high q.high + 2) (max (q.high + 2) r.low) r.high (flat_map (λ t. shared r t) qs) (omega arith) (common-normal (q.high + 2) top r qs n.3))
+  | inl l ↦ rw (lt-leb (max r.low q.low) (min r.high q.high) l)
+      (lower_floor (max f r.low) (max (q.high + 2) r.low) r.high (flat_map (λ t. shared r t) qs)
+      (omega arith) (common-normal (q.high + 2) top r qs n.3))
+  | inr l ↦ rw (le-leb (max r.low q.low) (min r.high q.high) l) (
+    omega arith,
+    l,
+    omega arith,
+    lower_floor (min r.high q.high + 2)
+        (max (q.high + 2) r.low) r.high (flat_map (λ t. shared r t) qs) (omega arith)
+        (common-normal (q.high + 2) top r qs n.3),
+  )
 ]

@@ -56,7 +56,8 @@ union-holds {a = a} {b = b} {l = l} {xs = xs} {ys = ys} t v e x =
 pub subtract-normal : {a b : Numbers} {l m : ℕ} {xs ys : List Range} → Two a b l m xs ys
     → (v : List Range) → v ≡ cut_all ys xs → IsNormal 0 l v
 subtract-normal {l = l} {m = m} {xs = xs} {ys = ys} t v e =
-    normal_as l v (cut_all ys xs) e (cut_all-normal 0 l m ys xs (are_ranges 0 m ys t.other_normal) t.normal)
+    normal_as l v (cut_all ys xs) e (cut_all-normal 0 l m ys xs
+    (are_ranges 0 m ys t.other_normal) t.normal)
 
 pub subtract-holds : {a b : Numbers} {l m : ℕ} {xs ys : List Range} → Two a b l m xs ys
     → (v : List Range) → v ≡ cut_all ys xs → (x : ℕ)
@@ -83,7 +84,8 @@ pub subset-yes : {a b : Numbers} {l m : ℕ} {xs ys : List Range} → Two a b l 
     → all_covered xs ys ≡ true → (x : ℕ) → x ≤ a.top → holds a.ranges x ≡ true
     → holds b.ranges x ≡ true
 subset-yes {a = a} {b = b} {xs = xs} {ys = ys} t e x h k =
-    sym (ap (λ z. holds z x) (list_of t.second)) ∙ covered-subset xs ys x e (ap (λ z. holds z x) (list_of t.first) ∙ k)
+    sym (ap (λ z. holds z x) (list_of t.second)) ∙ covered-subset xs ys x e
+    (ap (λ z. holds z x) (list_of t.first) ∙ k)
 
 pub subset-again : {a b : Numbers} {l m : ℕ} {xs ys : List Range} → Two a b l m xs ys
     → ((x : ℕ) → x ≤ a.top → holds a.ranges x ≡ true → holds b.ranges x ≡ true)
@@ -92,4 +94,5 @@ subset-again {a = a} {b = b} {l = l} {xs = xs} {ys = ys} t h =
     let top : l ≡ a.top = ap (λ (s : Numbers). s.top) t.first in
     subset-covered 0 0 l xs ys t.normal (under t) (λ x p q.
     let P : ℕ → Type 0 = λ k. x ≤ k in
-    ap (λ z. holds z x) (list_of t.second) ∙ h x (subst P top p) (sym (ap (λ z. holds z x) (list_of t.first)) ∙ q))
+    ap (λ z. holds z x) (list_of t.second) ∙ h x (subst P top p)
+    (sym (ap (λ z. holds z x) (list_of t.first)) ∙ q))

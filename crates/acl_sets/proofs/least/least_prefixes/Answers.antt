@@ -16,7 +16,8 @@ returns c =
     let computed = given f ps c.new-prefixes.result c.ranges-2.result.now ranges c.width.result
     c.in_ok-push_halves.ensures c.new-prefixes.ensures c.ranges-2.ensures.list c.width.ensures in
     let P : List Prefix → Type 0 = λ z. IsLeastList f (λ a. holds ranges a) z in
-    let least = subst P (sym computed) (halved_space-least f top ranges c.ranges-2.ensures.normal) in
+    let least = subst P (sym computed)
+    (halved_space-least f top ranges c.ranges-2.ensures.normal) in
     let addresses = normal-addresses f top ranges c.ranges-2.ensures.normal c.requires in
     record {
       least = least;
