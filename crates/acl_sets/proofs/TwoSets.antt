@@ -14,6 +14,11 @@ pub record Two (a b : Numbers) (limit other : ℕ) (xs ys : List Range) : Type 0
   pub normal : IsNormal 0 limit xs
   pub other_normal : IsNormal 0 other ys
 
+pub two_sets : {a b : Numbers} {limit other : ℕ} {xs ys : List Range}
+    → record { top = limit; ranges = xs } ≡ a → record { top = other; ranges = ys } ≡ b → a.top ≡ b.top
+    → IsNormal 0 limit xs → IsNormal 0 other ys → Two a b limit other xs ys
+two_sets p q t n m = record { first = p; second = q; tops = t; normal = n; other_normal = m }
+
 limits : {a b : Numbers} {l m : ℕ} {xs ys : List Range} → Two a b l m xs ys → m ≡ l
 limits t =
     ap (λ (s : Numbers). s.top) t.second ∙ sym t.tops ∙ sym (ap (λ (s : Numbers). s.top) t.first)
@@ -29,9 +34,9 @@ normal_as : (l : ℕ) (v w : List Range) → v ≡ w → IsNormal 0 l w → IsNo
 normal_as l v w e n = let P : List Range → Type 0 = λ k. IsNormal 0 l k in subst P (sym e) n
 
 -- the slices that a call passes on are the lists of the two structs
-pub at_lists : {X : Type 0} (f : List Range → List Range → X) (d e xs ys : List Range) (v : X)
+pub at_lists : {X : Type 0} (f : List Range → List Range → X) → {d e xs ys : List Range} {v : X}
     → d ≡ xs → e ≡ ys → v ≡ f e d → v ≡ f ys xs
-at_lists f d e xs ys v p q h = h ∙ ap (λ z. f z d) q ∙ ap (λ z. f ys z) p
+at_lists f {d = d} {ys = ys} p q h = h ∙ ap (λ z. f z d) q ∙ ap (λ z. f ys z) p
 
 -- the lists of the two structs are those that contracts see
 pub at_sets : {X : Type 0} (f : List Range → List Range → X)
