@@ -1,7 +1,11 @@
-pub mod SetLaws
+pub mod RangeLaws
+pub mod SetFacts
+pub mod ComputableSetLaws
 pub mod TwoSets
 pub mod Powers
-pub mod BlockLaws
-pub mod HalfLaws
-pub mod LeastLaws
-pub mod Unique
+pub mod BlockFacts
+pub mod OrderedLists
+pub mod HalvedSets
+pub mod HalvesFacts
+pub mod LeastListLaws
+pub mod ComputableLeastListLaws

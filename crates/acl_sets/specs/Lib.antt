@@ -1,4 +1,4 @@
 pub mod Ranges
-pub mod Pieces
 pub mod LeastLists
-pub mod Halves
+pub mod ComputableSets
+pub mod ComputableLeastLists

@@ -1,5 +1,5 @@
--- Sets of whole numbers from 0 to a top, as lists of ranges. Union, intersection and difference are those
--- of the algebra of sets: membership is told number by number, by `||`, `&&` and `not`.
+-- Sets of whole numbers from 0 to a top, as lists of ranges. Union, intersection and difference are
+-- those of the algebra of sets: membership is told number by number, by `||`, `&&` and `not`.
 use Rattle.std.specs.Prelude.{ℕ, ◌≡◌, ◌+◌, ◌≤◌, Bool, ◌&&◌, nat_le, List, [], ◌∷◌}
 use Rattle.std.specs.List.{list_any}
 use Rattle.acl_sets.specs.declared.sets.Range.{Range}
@@ -20,7 +20,8 @@ IsRange top r = (r.low ≤ r.high) × (r.high ≤ top)
 -- touching, so that at least one number lies between the end of one and the low end of the next.
 abbrev pub IsNormal : ℕ → ℕ → List Range → Type 0
 IsNormal floor top [] = Unit {0}
-IsNormal floor top (r ∷ rs) = (floor ≤ r.low) × (r.low ≤ r.high) × (r.high ≤ top) × IsNormal (r.high + 2) top rs
+IsNormal floor top (r ∷ rs) =
+    (floor ≤ r.low) × (r.low ≤ r.high) × (r.high ≤ top) × IsNormal (r.high + 2) top rs
 
 -- What a contract sees of a set: the greatest number that it may hold, and its ranges.
 pub record Numbers : Type 0 where

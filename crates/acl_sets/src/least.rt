@@ -1,73 +1,34 @@
 ghost use Rattle.std.specs.Prelude.{◌≡◌, ℕ, ◌+◌, ◌-◌, ◌^◌, ◌<◌, ◌≤◌, [], ◌∷◌, ◌++◌, IfOk, OnOk, OnErr};
 ghost use Rattle.std.specs.List.{All};
-ghost use Rattle.acl_packet.specs.Addresses.{width_of};
+ghost use Rattle.acl_packet.specs.Addresses.{width_of, IsPrefixOf};
 ghost use Rattle.acl_sets.specs.Ranges.{holds};
-ghost use Rattle.acl_sets.specs.LeastLists.{IsPrefixOf, any_has, IsLeastList, IsFewest, OneLeastList};
-ghost use Rattle.acl_sets.specs.Halves.{halves, last_of};
+ghost use Rattle.acl_sets.specs.LeastLists.{any_has, IsLeastList, IsFewest, LeastListHolds, LeastListIsFewest, OneLeastList};
+ghost use Rattle.acl_sets.specs.ComputableLeastLists.{halves, halved_space, last_of};
 
 use crate::pieces::{covers, meets};
 use crate::sets::{Range, RangeSet};
 use acl_packet::{Family, Prefix};
-use acl_text::Memory;
+use acl_text::{Items, Memory};
 use std::alloc::Global;
-use std::marker::Model;
 
 /// A list of prefixes. A contract sees the list.
-#[derive(Debug, Drop)]
-pub struct Prefixes {
-    items: Vec<Prefix>,
-}
-
-impl Model for Prefixes {
-    ghost use Rattle.std.specs.Prelude.{List};
-    ghost use Rattle.acl_packet.specs.declared.addresses.Prefix.{Prefix};
-
-    ghost Value = { List Prefix };
-
-    ghost view = { λ p. p.items.items };
-}
-
-impl Prefixes {
-    /// No prefix.
-    pub fn new(alloc: Global) -> Prefixes
-        ensures { result ≡ [] }
-    {
-        Prefixes {
-            items: Vec::new(alloc),
-        }
-    }
-
-    /// Adds the prefix at the end, or nothing where memory is wanted.
-    pub fn push(&mut self, item: Prefix) -> Result<(), Memory>
-        ensures ok { OnOk result (self.new ≡ self.old ++ item ∷ []) }
-        ensures err { OnErr result (self.new ≡ self.old) }
-    {
-        self.items.push(item)?;
-        Ok(())
-    }
-
-    /// The prefixes, in the order in which they were added.
-    pub fn as_slice(&self) -> &[Prefix]
-        ensures { result.now ≡ self.now }
-    {
-        self.items.as_slice()
-    }
-}
+pub type Prefixes = Items<Prefix>;
 
 /// All maximal prefixes of a set of addresses, in order of address.
 ///
-/// A prefix is maximal where all its addresses are in the set, and it has length 0 or the prefix one bit
-/// shorter has an address outside.
+/// A prefix is maximal where all its addresses are in the set, and it has length 0 or the prefix
+/// one bit shorter has an address outside.
 pub fn least_prefixes(alloc: Global, set: &RangeSet, family: Family) -> Result<Prefixes, Memory>
     requires { set.now.top + 1 ≡ 2 ^ width_of family }
-    ensures least { IfOk result (λ ps. IsLeastList family set.now.ranges ps) }
+    ensures least { IfOk result (λ ps. IsLeastList family (holds set.now.ranges) ps) }
     ensures prefixes { IfOk result (λ ps. All (λ p. IsPrefixOf family p) ps) }
     ensures exact { IfOk result (λ ps. (a : ℕ) → any_has ps a ≡ holds set.now.ranges a) }
-    ensures fewest { IfOk result (λ ps. IsFewest family set.now.ranges ps) }
+    ensures fewest { IfOk result (λ ps. IsFewest family (holds set.now.ranges) ps) }
+    ensures computed { IfOk result (λ ps. ps ≡ halved_space family set.now.ranges) }
 {
-    let mut items = Vec::new(alloc);
-    push_halves(&mut items, set.ranges(), family, 0, family.width())?;
-    Ok(Prefixes { items })
+    let mut prefixes = Items::new(alloc);
+    push_halves(&mut prefixes, set.ranges(), family, 0, family.width())?;
+    Ok(prefixes)
 }
 
 fn half_size(free: u8) -> u128
@@ -92,9 +53,9 @@ fn last_address(first: u128, free: u8) -> u128
     }
 }
 
-#[tactic(auto, using(crate::proofs::HalfLaws::step_whole))]
+#[tactic(auto, using(crate::proofs::HalvesFacts::step_whole))]
 fn push_halves(
-    out: &mut Vec<Prefix>,
+    out: &mut Prefixes,
     ranges: &[Range],
     family: Family,
     first: u128,
@@ -102,7 +63,7 @@ fn push_halves(
 ) -> Result<(), Memory>
     requires fits { free ≤ width_of family }
     requires ends { first + 2 ^ free ≤ 2 ^ width_of family }
-    ensures { OnOk result (out.new.items ≡ out.old.items ++ halves family ranges.now free first) }
+    ensures { OnOk result (out.new ≡ out.old ++ halves family ranges.now free first) }
 {
     let last = last_address(first, free);
     if covers(ranges, first, last) {
@@ -117,6 +78,16 @@ fn push_halves(
     }
     Ok(())
 }
+
+/// A law: a least list of a set of addresses has the addresses of the set, and no other.
+pub fn least_list_holds()
+    ensures { LeastListHolds }
+{}
+
+/// A law: no list of prefixes with exactly the addresses of a least list's set is shorter.
+pub fn least_list_is_fewest()
+    ensures { LeastListIsFewest }
+{}
 
 /// A law: two least lists of one set are one list.
 pub fn one_least_list()

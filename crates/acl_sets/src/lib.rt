@@ -7,5 +7,5 @@ mod sets;
 #[cfg(test)]
 mod tests;
 
-pub use least::{Prefixes, least_prefixes, one_least_list};
+pub use least::{Prefixes, least_list_holds, least_list_is_fewest, least_prefixes, one_least_list};
 pub use sets::{Range, RangeSet, one_normal_list};

@@ -1,5 +1,5 @@
 ghost use Rattle.std.specs.Prelude.{◌≡◌, ◌++◌, IfOk, OnOk, flat_map};
-ghost use Rattle.acl_sets.specs.Pieces.{is_before, joined, put_in, put_all, cut, cut_all, shared, shared_all, covers, meets, all_covered};
+ghost use Rattle.acl_sets.specs.ComputableSets.{is_before, joined, put_in, put_all, cut, cut_all, shared, shared_all, covers, meets, all_covered};
 
 use crate::sets::Range;
 use acl_text::Memory;
@@ -91,7 +91,8 @@ pub fn cut_all(alloc: Global, list: &[Range], ranges: &[Range]) -> Result<Vec<Ra
 }
 
 fn push_shared(out: &mut Vec<Range>, range: Range, ranges: &[Range]) -> Result<(), Memory>
-    ensures { OnOk result (out.new.items ≡ out.old.items ++ flat_map (λ q. shared range q) ranges.now) }
+    ensures { OnOk result (out.new.items
+        ≡ out.old.items ++ flat_map (λ q. shared range q) ranges.now) }
 {
     for of in ranges {
         let low = range.low.max(of.low);

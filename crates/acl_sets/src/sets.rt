@@ -1,6 +1,7 @@
-ghost use Rattle.std.specs.Prelude.{◌≡◌, ℕ, ◌≤◌, ◌||◌, ◌&&◌, not, nat_le, false, IsTrue, ◌↔◌, IfOk, []};
+ghost use Rattle.std.specs.Prelude.{◌≡◌, ℕ, ◌≤◌, ◌==◌, ◌||◌, ◌&&◌, not, nat_le, false, IsTrue, ◌↔◌, IfOk, [], ◌∷◌, length};
 ghost use Rattle.std.specs.List.{All};
 ghost use Rattle.acl_sets.specs.Ranges.{holds, IsRange, IsNormal, OneNormalList};
+ghost use Rattle.acl_sets.specs.ComputableSets.{put_all, cut_all, shared_all, covers, all_covered};
 
 use crate::pieces;
 use acl_text::Memory;
@@ -16,8 +17,9 @@ pub struct Range {
 
 /// A set of numbers from 0 to a top.
 ///
-/// A contract sees the top and the list of ranges, which is in normal form: rising, disjoint and not
-/// touching.
+/// A contract sees the top and the list of ranges, which is in normal form: rising, disjoint and
+/// not touching. A clause that is named `computed` gives the list or the answer once more, as a
+/// function of the lists: it follows from the clauses beside it.
 #[derive(Debug, Drop)]
 pub struct RangeSet {
     limit: u128,
@@ -40,6 +42,7 @@ impl RangeSet {
         ensures top { result.top ≡ top }
         ensures normal { IsNormal 0 result.top result.ranges }
         ensures exact { (x : ℕ) → holds result.ranges x ≡ false }
+        ensures computed { result.ranges ≡ [] }
     {
         RangeSet {
             limit: top,
@@ -52,6 +55,7 @@ impl RangeSet {
         ensures top { IfOk result (λ s. s.top ≡ top) }
         ensures normal { IfOk result (λ s. IsNormal 0 s.top s.ranges) }
         ensures exact { IfOk result (λ s. (x : ℕ) → holds s.ranges x ≡ nat_le x top) }
+        ensures computed { IfOk result (λ s. s.ranges ≡ record { low = 0; high = top } ∷ []) }
     {
         let whole = Range { low: 0, high: top };
         Ok(RangeSet {
@@ -66,6 +70,7 @@ impl RangeSet {
         ensures top { IfOk result (λ s. s.top ≡ top) }
         ensures normal { IfOk result (λ s. IsNormal 0 s.top s.ranges) }
         ensures exact { IfOk result (λ s. (x : ℕ) → holds s.ranges x ≡ holds ranges.now x) }
+        ensures computed { IfOk result (λ s. s.ranges ≡ put_all ranges.now []) }
     {
         Ok(RangeSet {
             limit: top,
@@ -78,7 +83,9 @@ impl RangeSet {
         requires { self.now.top ≡ other.now.top }
         ensures top { IfOk result (λ s. s.top ≡ self.now.top) }
         ensures normal { IfOk result (λ s. IsNormal 0 s.top s.ranges) }
-        ensures exact { IfOk result (λ s. (x : ℕ) → holds s.ranges x ≡ holds self.now.ranges x || holds other.now.ranges x) }
+        ensures exact { IfOk result (λ s. (x : ℕ) →
+            holds s.ranges x ≡ holds self.now.ranges x || holds other.now.ranges x) }
+        ensures computed { IfOk result (λ s. s.ranges ≡ put_all other.now.ranges self.now.ranges) }
     {
         Ok(RangeSet {
             limit: self.limit,
@@ -91,7 +98,9 @@ impl RangeSet {
         requires { self.now.top ≡ other.now.top }
         ensures top { IfOk result (λ s. s.top ≡ self.now.top) }
         ensures normal { IfOk result (λ s. IsNormal 0 s.top s.ranges) }
-        ensures exact { IfOk result (λ s. (x : ℕ) → holds s.ranges x ≡ holds self.now.ranges x && not (holds other.now.ranges x)) }
+        ensures exact { IfOk result (λ s. (x : ℕ) →
+            holds s.ranges x ≡ holds self.now.ranges x && not (holds other.now.ranges x)) }
+        ensures computed { IfOk result (λ s. s.ranges ≡ cut_all other.now.ranges self.now.ranges) }
     {
         Ok(RangeSet {
             limit: self.limit,
@@ -104,7 +113,10 @@ impl RangeSet {
         requires { self.now.top ≡ other.now.top }
         ensures top { IfOk result (λ s. s.top ≡ self.now.top) }
         ensures normal { IfOk result (λ s. IsNormal 0 s.top s.ranges) }
-        ensures exact { IfOk result (λ s. (x : ℕ) → holds s.ranges x ≡ holds self.now.ranges x && holds other.now.ranges x) }
+        ensures exact { IfOk result (λ s. (x : ℕ) →
+            holds s.ranges x ≡ holds self.now.ranges x && holds other.now.ranges x) }
+        ensures computed { IfOk result (λ s.
+            s.ranges ≡ shared_all other.now.ranges self.now.ranges) }
     {
         Ok(RangeSet {
             limit: self.limit,
@@ -133,21 +145,28 @@ impl RangeSet {
     /// Whether each number of this set is in the other.
     pub fn subset_of(&self, other: &RangeSet) -> bool
         requires { self.now.top ≡ other.now.top }
-        ensures { IsTrue result ↔ ((x : ℕ) → x ≤ self.now.top → IsTrue (holds self.now.ranges x) → IsTrue (holds other.now.ranges x)) }
+        ensures exact { IsTrue result
+            ↔ ((x : ℕ) → x ≤ self.now.top
+            → IsTrue (holds self.now.ranges x) → IsTrue (holds other.now.ranges x)) }
+        ensures computed { result ≡ all_covered self.now.ranges other.now.ranges }
     {
         pieces::all_covered(&self.list, &other.list)
     }
 
     /// Whether no number is in the set.
     pub fn is_empty(&self) -> bool
-        ensures { IsTrue result ↔ ((x : ℕ) → x ≤ self.now.top → holds self.now.ranges x ≡ false) }
+        ensures exact { IsTrue result
+            ↔ ((x : ℕ) → x ≤ self.now.top → holds self.now.ranges x ≡ false) }
+        ensures computed { result ≡ (length self.now.ranges == 0) }
     {
         self.ranges().is_empty()
     }
 
     /// Whether all numbers up to the top are in the set.
     pub fn is_all(&self) -> bool
-        ensures { IsTrue result ↔ ((x : ℕ) → x ≤ self.now.top → IsTrue (holds self.now.ranges x)) }
+        ensures exact { IsTrue result
+            ↔ ((x : ℕ) → x ≤ self.now.top → IsTrue (holds self.now.ranges x)) }
+        ensures computed { result ≡ covers self.now.ranges 0 self.now.top }
     {
         pieces::covers(&self.list, 0, self.limit)
     }

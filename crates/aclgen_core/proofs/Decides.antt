@@ -9,12 +9,10 @@ use Rattle.acl_packet.specs.declared.filtering.Outcome.{Outcome}
 use Rattle.acl_packet.specs.Addresses.{width_of, top_address}
 use Rattle.acl_packet.specs.Packets.{IsPacket}
 use Rattle.acl_naming.specs.Definitions.{Definition}
-use Rattle.acl_sets.specs.declared.sets.Range.{Range}
-use Rattle.acl_sets.specs.Ranges.{IsNormal, holds}
-use Rattle.acl_sets.specs.LeastLists.{IsLeastList, any_has}
-use Rattle.acl_sets.specs.Halves.{halves}
-use Rattle.acl_sets.proofs.LeastLaws.{least, exact}
-use Rattle.acl_sets.proofs.Unique.{one_list}
+use Rattle.acl_naming.specs.Ports.{top_address}
+use Rattle.acl_sets.specs.Ranges.{holds}
+use Rattle.acl_sets.specs.LeastLists.{any_has}
+use Rattle.acl_sets.proofs.LeastListLaws.{normal-addresses, least_list-holds}
 use Rattle.gen_cisco.specs.declared.rules.Rule.{Rule}
 use Rattle.gen_cisco.specs.Rules.{is_protocol, rule_holds, silent, filter_outcome}
 use Rattle.aclgen_core.specs.declared.policies.Word.{Word}
@@ -23,15 +21,10 @@ use Rattle.aclgen_core.specs.Meaning.{Takes, Matches, is_neighbour_discovery, ci
 use Rattle.aclgen_core.specs.Rendering.{IsSide, IsRuleOf, AreRulesOf}
 use Rattle.aclgen_core.proofs.PolicyFacts.{both}
 
--- the least list of a set holds what the set holds
-least-holds : (ranges : List Range) (ps : List Prefix) → IsNormal 0 (top_address V4) ranges → IsLeastList V4 ranges ps → (a : ℕ) → any_has ps a ≡ holds ranges a
-least-holds ranges ps normal is a =
-    ap (λ (qs : List Prefix). any_has qs a) (one_list V4 ranges ps (halves V4 ranges (width_of V4) 0) is (least V4 (top_address V4) ranges normal))
-    ∙ exact V4 (top_address V4) ranges normal refl a
-
 side-takes : (networks : List Definition) (side : Option Word) (ps : List Prefix) (a : ℕ) → IsSide networks side ps → a < 2 ^ 32 → (any_has ps a ≡ true) ↔ Takes networks side V4 a
 side-takes networks side ps a is h =
-    let same = least-holds is.0 ps is.1.normal is.2 a in
+    let addresses = normal-addresses V4 (top_address V4) is.0 is.1.normal refl in
+    let same = least_list-holds V4 (λ x. holds is.0 x) ps addresses is.2 a in
     let fits : a ≤ top_address V4 = omega arith in
     let exact = is.1.exact a fits in
     (λ e. exact.0 (sym same ∙ e), λ t. same ∙ exact.1 t)

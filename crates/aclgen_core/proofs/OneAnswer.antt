@@ -1,5 +1,5 @@
 -- A job has one answer.
-use Rattle.std.proofs.Common.{◌≡◌, ℕ, ◌<◌, ◌≤◌, ◌⊎◌, inl, inr, Bool, true, false, List, [], ◌∷◌, Option, None, Some, Result, Ok, Err, refl, ap, sym, subst, ◌∙◌}
+use Rattle.std.proofs.Common.{◌≡◌, ℕ, ◌<◌, ◌≤◌, ◌⊎◌, inl, inr, Bool, true, false, List, [], ◌∷◌, Option, None, Some, Result, Ok, Err, refl, ap, sym, subst, ◌∙◌, arith}
 use Rattle.std.proofs.lemmas.Bool.{cases_lt, false≢true}
 use Rattle.std.proofs.Math.Nat.{eq-or-lt_of_le}
 use Rattle.acl_packet.specs.declared.addresses.Family.TheVariants.{V4}
@@ -16,9 +16,7 @@ use Rattle.acl_naming.specs.Checking.{undefined_of, HasNoCycle, IsFirstCycle, Is
 use Rattle.acl_load.specs.Loading.{AnswersWith, definitions_of, naming_paths, fault_of}
 use Rattle.acl_sets.specs.declared.sets.Range.{Range}
 use Rattle.acl_sets.specs.Ranges.{holds}
-use Rattle.acl_sets.specs.LeastLists.{IsLeastList}
-use Rattle.acl_sets.proofs.SetLaws.{past_top, one_list as one_set}
-use Rattle.acl_sets.proofs.Unique.{one_list}
+use Rattle.acl_sets.proofs.LeastListLaws.{one_least_list}
 use Rattle.gen_cisco.specs.declared.rules.Rule.{Rule}
 use Rattle.aclgen_core.specs.Words.{Options, options_of}
 use Rattle.aclgen_core.specs.declared.policies.Word.{Word}
@@ -79,22 +77,14 @@ same-bool false true f g = absurd (false≢true (g refl))
 same-bool false false f g = refl
 
 same-holds : (networks : List Definition) (side : Option Word) (rs ss : List Range) → IsSideSet networks side rs → IsSideSet networks side ss
-    → (x : ℕ) → (x ≤ top_address V4) ⊎ (top_address V4 < x) → holds rs x ≡ holds ss x
-same-holds networks side rs ss p q x (inl h) = same-bool (holds rs x) (holds ss x) (λ e. (q.exact x h).1 ((p.exact x h).0 e)) (λ e. (p.exact x h).1 ((q.exact x h).0 e))
-same-holds networks side rs ss p q x (inr h) = past_top 0 (top_address V4) rs x p.normal h ∙ sym (past_top 0 (top_address V4) ss x q.normal h)
-
-two-ways : (x n : ℕ) → (x ≤ n) ⊎ (n < x)
-two-ways x n = turned (cases_lt n x)
-  where
-    turned : (n < x) ⊎ (x ≤ n) → (x ≤ n) ⊎ (n < x)
-    turned (inl h) = inr h
-    turned (inr h) = inl h
+    → (x : ℕ) → x ≤ top_address V4 → holds rs x ≡ holds ss x
+same-holds networks side rs ss p q x h =
+    same-bool (holds rs x) (holds ss x) (λ e. (q.exact x h).1 ((p.exact x h).0 e)) (λ e. (p.exact x h).1 ((q.exact x h).0 e))
 
 same-side : (networks : List Definition) (side : Option Word) (ps qs : List Prefix) → IsSide networks side ps → IsSide networks side qs → ps ≡ qs
 same-side networks side ps qs p q =
-    let set = one_set 0 0 (top_address V4) p.0 q.0 p.1.normal q.1.normal (λ x. same-holds networks side p.0 q.0 p.1 q.1 x (two-ways x (top_address V4))) in
-    let L : List Range → Type 0 = λ rs. IsLeastList V4 rs ps in
-    one_list V4 q.0 ps qs (subst L set p.2) q.2
+    one_least_list V4 (λ x. holds p.0 x) (λ x. holds q.0 x) ps qs
+    (λ x h. same-holds networks side p.0 q.0 p.1 q.1 x (omega (arith, h))) p.2 q.2
 
 same-rule : (networks : List Definition) (term : Term) (r s : Rule) → IsRuleOf networks term r → IsRuleOf networks term s → r ≡ s
 same-rule networks term r s p q =

@@ -8,9 +8,9 @@ use Rattle.acl_text.specs.declared.faults.Fault.{Fault}
 use Rattle.acl_text.specs.Names.{is_name}
 use Rattle.acl_text.specs.Output.{COUNT_END}
 use Rattle.acl_naming.specs.Definitions.{Definition, Naming}
-use Rattle.acl_sets.specs.declared.sets.Range.{Range}
-use Rattle.acl_packet.specs.Addresses.{IsPrefixOf}
-use Rattle.acl_sets.specs.LeastLists.{IsMaximal}
+use Rattle.acl_sets.specs.Ranges.{holds}
+use Rattle.acl_sets.specs.LeastLists.{IsPrefixOf}
+use Rattle.acl_sets.proofs.LeastListLaws.{least_list-prefixes}
 use Rattle.gen_cisco.specs.declared.rules.Rule.{Rule}
 use Rattle.gen_cisco.specs.Rules.{IsRule}
 use Rattle.aclgen_core.specs.Words.{Options}
@@ -31,12 +31,9 @@ use Rattle.aclgen_core.proofs.PolicyFacts.{both}
 
 -- ---- the rules of a sound policy are sound
 
-maximal-prefixes : (ranges : List Range) (ps : List Prefix) → AllByRecursion (λ (p : Prefix). IsMaximal V4 ranges p) ps → AllByRecursion (IsPrefixOf V4) ps
-maximal-prefixes ranges [] all = tt
-maximal-prefixes ranges (p ∷ ps) all = (all.0.form, maximal-prefixes ranges ps all.1)
-
 side-prefixes : (networks : List Definition) (side : Option Word) (ps : List Prefix) → IsSide networks side ps → AllByRecursion (IsPrefixOf V4) ps
-side-prefixes networks side ps is = maximal-prefixes is.0 ps (recursion_from_All (λ (p : Prefix). IsMaximal V4 is.0 p) ps is.2.maximal)
+side-prefixes networks side ps is =
+    recursion_from_All (λ (p : Prefix). IsPrefixOf V4 p) ps (least_list-prefixes V4 (λ x. holds is.0 x) ps is.2)
 
 number : (n : ℕ) → (n ≡ 6) ⊎ (n ≡ 17) → (1 ≤ n) × (n ≤ 255)
 number n (inl e) = (omega (arith, e), omega (arith, e))

@@ -19,7 +19,8 @@ pub record IsSideSet (networks : List Definition) (side : Option Word) (ranges :
 
 -- The prefixes of one side are the least list of that set.
 abbrev pub IsSide : List Definition → Option Word → List Prefix → Type 0
-IsSide networks side prefixes = (ranges : List Range) × IsSideSet networks side ranges × IsLeastList V4 ranges prefixes
+IsSide networks side prefixes = (ranges : List Range) × IsSideSet networks side ranges
+    × IsLeastList V4 (holds ranges) prefixes
 
 pub record IsRuleOf (networks : List Definition) (term : Term) (rule : Rule) : Type 0 where
   pub name : rule.name ≡ term.name

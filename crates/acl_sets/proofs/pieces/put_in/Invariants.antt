@@ -1,5 +1,5 @@
 use Rattle.std.proofs.Common.{◌≡◌, ◌++◌, drop}
-use Rattle.acl_sets.specs.Pieces.{put_in}
+use Rattle.acl_sets.specs.ComputableSets.{put_in}
 use Rattle.acl_sets.proofs.pieces.put_in.Given as goal
 
 abbrev pub invariant-loop-i : goal.invariant-loop-i

@@ -1,5 +1,5 @@
 use Rattle.std.proofs.Common.{◌≡◌, take, flat_map}
-use Rattle.acl_sets.specs.Pieces.{cut}
+use Rattle.acl_sets.specs.ComputableSets.{cut}
 use Rattle.acl_sets.proofs.pieces.without.Given as goal
 
 abbrev pub invariant-loop-of : goal.invariant-loop-of

@@ -1,4 +1,4 @@
-use Rattle.acl_sets.proofs.SetLaws.{one_list}
+use Rattle.acl_sets.proofs.RangeLaws.{one_list}
 use Rattle.acl_sets.proofs.sets.one_normal_list.Goals as goal
 
 pub returns : goal.returns

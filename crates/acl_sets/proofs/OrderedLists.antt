@@ -1,14 +1,12 @@
--- Two lists in order of address with the same members are one, so a set has one least list.
+-- Two lists in order of address with the same members are one.
 use Rattle.std.proofs.Common.{◌≡◌, ℕ, zero, suc, ◌+◌, ◌-◌, ◌<◌, ◌≤◌, ◌⊎◌, List, [], ◌∷◌, Contains, inl, inr, refl, ap, sym, ◌∙◌, arith}
 use Rattle.std.proofs.lemmas.Nat.{pow_pos}
-use Rattle.std.proofs.lemmas.List.Elements.{All-contains}
-use Rattle.acl_packet.specs.declared.addresses.Family.{Family}
 use Rattle.acl_packet.specs.declared.addresses.Prefix.{Prefix}
 use Rattle.acl_packet.specs.Addresses.{width_of, size_of}
-use Rattle.acl_sets.specs.declared.sets.Range.{Range}
-use Rattle.acl_sets.specs.LeastLists.{IsMaximal, IsInOrder, IsLeastList}
+use Rattle.acl_sets.specs.LeastLists.{IsInOrder}
 
-member_cases : (q : Prefix) (qs : List Prefix) (p : Prefix) → Contains (q ∷ qs) p → (q ≡ p) ⊎ Contains qs p
+member_cases : (q : Prefix) (qs : List Prefix) (p : Prefix) → Contains (q ∷ qs) p
+    → (q ≡ p) ⊎ Contains qs p
 member_cases q qs p (zero, l, e) = inl e
 member_cases q qs p (suc k, l, e) = inr (k, omega arith, e)
 
@@ -21,7 +19,8 @@ member_tail q qs p h = (suc h.0, omega (arith, h.1), h.2)
 no_member : (p : Prefix) → Contains [] p → ⊥
 no_member p h = omega (arith, h.1)
 
-behind : (floor : ℕ) (ps : List Prefix) (p : Prefix) → IsInOrder floor ps → Contains ps p → floor ≤ p.first
+behind : (floor : ℕ) (ps : List Prefix) (p : Prefix) → IsInOrder floor ps → Contains ps p
+    → floor ≤ p.first
 behind floor [] p h c = absurd (no_member p c)
 behind floor (q ∷ qs) p h c = elim (member_cases q qs p c) [
   | inl e ↦ let f = ap (λ (z : Prefix). z.first) e in omega (arith, f, h.0)
@@ -31,7 +30,8 @@ behind floor (q ∷ qs) p h c = elim (member_cases q qs p c) [
 size_pos : (p : Prefix) → 0 < size_of p
 size_pos p = pow_pos (width_of p.family - p.len)
 
-heads : (f g : ℕ) (p q : Prefix) (ps qs : List Prefix) → IsInOrder f (p ∷ ps) → IsInOrder g (q ∷ qs) → Contains (q ∷ qs) p → Contains (p ∷ ps) q → p ≡ q
+heads : (f g : ℕ) (p q : Prefix) (ps qs : List Prefix) → IsInOrder f (p ∷ ps) → IsInOrder g (q ∷ qs)
+    → Contains (q ∷ qs) p → Contains (p ∷ ps) q → p ≡ q
 heads f g p q ps qs h k c d = elim (member_cases q qs p c) [
   | inl e ↦ sym e
   | inr i ↦ elim (member_cases p ps q d) [
@@ -44,7 +44,8 @@ heads f g p q ps qs h k c d = elim (member_cases q qs p c) [
 ]
 
 -- a member of the rest is a member of the other rest
-rest_member : (f : ℕ) (p q : Prefix) (ps qs : List Prefix) (r : Prefix) → IsInOrder f (p ∷ ps) → p ≡ q → Contains (q ∷ qs) r → Contains ps r → Contains qs r
+rest_member : (f : ℕ) (p q : Prefix) (ps qs : List Prefix) (r : Prefix) → IsInOrder f (p ∷ ps)
+    → p ≡ q → Contains (q ∷ qs) r → Contains ps r → Contains qs r
 rest_member f p q ps qs r h e c d = elim (member_cases q qs r c) [
   | inl i ↦
       let a = behind (p.first + size_of p) ps r h.1 d in
@@ -53,7 +54,9 @@ rest_member f p q ps qs r h e c d = elim (member_cases q qs r c) [
   | inr i ↦ i
 ]
 
-same_members : (f g : ℕ) (ps qs : List Prefix) → IsInOrder f ps → IsInOrder g qs → ((p : Prefix) → Contains ps p → Contains qs p) → ((p : Prefix) → Contains qs p → Contains ps p) → ps ≡ qs
+pub same_members : (f g : ℕ) (ps qs : List Prefix) → IsInOrder f ps → IsInOrder g qs
+    → ((p : Prefix) → Contains ps p → Contains qs p)
+    → ((p : Prefix) → Contains qs p → Contains ps p) → ps ≡ qs
 same_members f g [] [] h k to back = refl
 same_members f g [] (q ∷ qs) h k to back = absurd (no_member q (back q (member_head q qs)))
 same_members f g (p ∷ ps) [] h k to back = absurd (no_member p (to p (member_head p ps)))
@@ -63,10 +66,3 @@ same_members f g (p ∷ ps) (q ∷ qs) h k to back =
     (λ r c. rest_member f p q ps qs r h e (to r (member_tail p ps r c)) c)
     (λ r c. rest_member g q p qs ps r k (sym e) (back r (member_tail q qs r c)) c) in
     ap (λ (z : Prefix). z ∷ ps) e ∙ ap (λ (z : List Prefix). q ∷ z) rest
-
-pub one_list : (f : Family) (rs : List Range) (ps qs : List Prefix) → IsLeastList f rs ps → IsLeastList f rs qs → ps ≡ qs
-one_list f rs ps qs h k =
-    let P : Prefix → Type 0 = λ p. IsMaximal f rs p in
-    same_members 0 0 ps qs h.in_order k.in_order
-    (λ p c. k.complete p (All-contains P ps p h.maximal c))
-    (λ p c. h.complete p (All-contains P qs p k.maximal c))
