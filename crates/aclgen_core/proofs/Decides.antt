@@ -9,7 +9,6 @@ use Rattle.acl_packet.specs.declared.filtering.Outcome.{Outcome}
 use Rattle.acl_packet.specs.Addresses.{width_of, top_address}
 use Rattle.acl_packet.specs.Packets.{IsPacket}
 use Rattle.acl_naming.specs.Definitions.{Definition}
-use Rattle.acl_naming.specs.Ports.{top_address}
 use Rattle.acl_sets.specs.Ranges.{holds}
 use Rattle.acl_sets.specs.LeastLists.{any_has}
 use Rattle.acl_sets.proofs.LeastListLaws.{normal-addresses, least_list-holds}

@@ -9,7 +9,7 @@ use Rattle.acl_text.specs.Names.{is_name}
 use Rattle.acl_text.specs.Output.{COUNT_END}
 use Rattle.acl_naming.specs.Definitions.{Definition, Naming}
 use Rattle.acl_sets.specs.Ranges.{holds}
-use Rattle.acl_sets.specs.LeastLists.{IsPrefixOf}
+use Rattle.acl_packet.specs.Addresses.{IsPrefixOf}
 use Rattle.acl_sets.proofs.LeastListLaws.{least_list-prefixes}
 use Rattle.gen_cisco.specs.declared.rules.Rule.{Rule}
 use Rattle.gen_cisco.specs.Rules.{IsRule}
