@@ -1,5 +1,6 @@
 pub mod Files
 pub mod Outside
+pub mod WholeFiles
 pub mod Writing
 pub mod Memory
 pub mod MemorySinks

@@ -163,8 +163,12 @@ pub trait Tree: Out {
     // What it tells as an output are the bytes of the begun file.
     ghost told_is: { (x : Self) → Self.told x ≡ told_of (files x) (begun x) };
 
-    ghost rest_is: { (x y : Self) → Self.keeps_rest x y → RestStays (files x) (files y) (begun x) (begun y)
-        (list_faults x) (list_faults y) (read_faults x) (read_faults y) };
+    // The rest of an output that stays is, of a tree, what it holds beside the bytes of the begun file.
+    ghost rest_is: { (x y : Self) → Self.keeps_rest x y → RestStays (files x) (files y) (begun x)
+        (begun y) (list_faults x) (list_faults y) (read_faults x) (read_faults y) };
+
+    ghost is_rest: { (x y : Self) → RestStays (files x) (files y) (begun x) (begun y)
+        (list_faults x) (list_faults y) (read_faults x) (read_faults y) → Self.keeps_rest x y };
 
     ghost distinct: { (x : Self) → IfSome (files x) DistinctPaths };
 
