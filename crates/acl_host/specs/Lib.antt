@@ -9,3 +9,4 @@ pub mod MemoryTrees
 pub mod Resting
 pub mod Holding
 pub mod Days
+pub mod DaySteps

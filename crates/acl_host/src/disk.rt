@@ -1,4 +1,5 @@
 ghost use Rattle.std.specs.Prelude.{◌≤◌, IfOk, length};
+ghost use Rattle.acl_host.specs.Files.{AreInByteOrder};
 
 use crate::trees::{FileNames, TreeFault};
 use acl_text::Bytes;
@@ -19,7 +20,9 @@ pub(crate) fn names_in<R: Files + AllocGlobal + Clone + Drop>(
     rt: &R,
     alloc: Global,
     dir: &str,
-) -> Result<FileNames, TreeFault> {
+) -> Result<FileNames, TreeFault>
+    ensures { IfOk result AreInByteOrder }
+{
     let entries = match fs::read_dir(rt, dir) {
         Ok(entries) => entries,
         Err(error) => return Err(fault_of(&error)),
