@@ -1,12 +1,12 @@
 -- What a put, and a begin, leave of a tree in memory.
-use Rattle.std.proofs.Common.{◌≡◌, ℕ, List, [], ◌++◌, Option, None, Some, IsSome, Result, Ok, IsErrOf, option_map, refl, arith}
+use Rattle.std.proofs.Common.{◌≡◌, ℕ, List, [], ◌++◌, Option, None, Some, IsSome, IfSome, Result, Ok, Err, OnOk, OnErr, IsErrOf, option_map, refl, arith}
 use Rattle.acl_text.specs.declared.output.PutFault.{PutFault}
 use Rattle.acl_host.specs.Files.{File, told_of, SameOrNone, OthersStay}
 use Rattle.acl_host.specs.MemoryFiles.{put_at, path_at, append_begun}
-use Rattle.acl_host.specs.MemoryTrees.{held, begun_of, PutsHeld, BeginsHeld}
+use Rattle.acl_host.specs.MemoryTrees.{held, begun_path, begun_of, PutsHeld, BeginsHeld}
 use Rattle.acl_host.specs.declared.mem_trees.MemTree.{MemTree}
 use Rattle.acl_host.specs.declared.sinks.WriteFault.{WriteFault}
-use Rattle.acl_host.proofs.Replacing.{held-put, others-put, held-append, others-append, path-append}
+use Rattle.acl_host.proofs.Replacing.{held-put, others-put, held-append, others-append, path-append, path-stays}
 
 abbrev done : Result (Unit {0}) PutFault
 done = Ok tt
@@ -29,6 +29,26 @@ same-begun (Some p) = refl
 others-begun : (o : Option (List ℕ)) (b : List ℕ) (fs : List File) → OthersStay o fs (append_begun o b fs)
 others-begun None b fs = λ q. refl
 others-begun (Some p) b fs = others-append p b fs
+
+-- the begun file stands where it stood, also where a file is put
+pub begun-stays : (begun : Option ℕ) (p b : List ℕ) (fs : List File)
+    → IfSome begun (λ i. IsSome (path_at i fs))
+    → begun_path begun (put_at p b fs) ≡ begun_path begun fs
+begun-stays None p b fs h = refl
+begun-stays (Some i) p b fs h = path-stays i p b fs h
+
+pub stands-put : {T E : Type 0} (r : Result T E) (begun : Option ℕ) (p b : List ℕ) (fs new : List File)
+    → IfSome begun (λ i. IsSome (path_at i fs)) → OnOk r (new ≡ put_at p b fs)
+    → OnErr r (new ≡ fs) → IfSome begun (λ i. IsSome (path_at i new))
+stands-put (Ok x) None p b fs new h ok err = tt
+stands-put (Ok x) (Some i) p b fs new h ok err = rw (ok, path-stays i p b fs h) h
+stands-put (Err e) begun p b fs new h ok err = rw err h
+
+pub stands-appended : {T E : Type 0} (r : Result T E) (i : ℕ) (b : List ℕ) (fs new : List File)
+    → IsSome (path_at i fs) → OnOk r (new ≡ append_begun (path_at i fs) b fs)
+    → OnErr r (new ≡ fs) → IsSome (path_at i new)
+stands-appended (Ok x) i b fs new h ok err = rw (ok, path-begun i (path_at i fs) b fs) h
+stands-appended (Err e) i b fs new h ok err = rw err h
 
 pub puts-held : (old new : MemTree) (b : List ℕ) → IsSome (begun_of old) → (held new).files ≡ append_begun (begun_of old) b (held old).files → begun_of new ≡ begun_of old
     → new.faults ≡ old.faults → new.refusals ≡ old.refusals → new.list_faults ≡ old.list_faults → new.read_faults ≡ old.read_faults → PutsHeld old new b done

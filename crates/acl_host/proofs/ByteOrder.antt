@@ -1,7 +1,8 @@
 -- A name's place among names in byte order.
-use Rattle.std.proofs.Common.{◌≡◌, ℕ, suc, ◌+◌, ◌<◌, true, false, List, [], ◌∷◌, ◌++◌, insert, length, get_or, take, drop, map, refl, ap, sym, ◌∙◌, append_assoc, add-one}
+use Rattle.std.proofs.Common.{◌≡◌, ℕ, suc, ◌+◌, ◌<◌, true, false, List, [], ◌∷◌, ◌++◌, insert, length, get_or, take, drop, map, refl, ap, sym, ◌∙◌, append_assoc, add-one, arith, IsSorted}
 use Rattle.std.proofs.Math.Seq.{take-suc, drop-cons}
 use Rattle.std.proofs.lemmas.List.{get_or-map, length-map, map-append, take-map, drop-map}
+use Rattle.std.specs.declared.cmp.Ordering.{Ordering}
 use Rattle.std.specs.Ordering.{nat_cmp, is_le}
 use Rattle.std.specs.Cmp.Lexicographic.{slice_cmp}
 use Rattle.acl_host.specs.Files.{put_in_order}
@@ -42,3 +43,12 @@ module _ {X : Type 0} (bytes : X → List ℕ) where
       map-append bytes (take i xs) (x ∷ drop i xs)
       ∙ ap (λ t. t ++ bytes x ∷ map bytes (drop i xs)) (sym (take-map bytes i xs))
       ∙ ap (λ t. take i (map bytes xs) ++ bytes x ∷ t) (sym (drop-map bytes i xs))
+
+-- values in the order of their bytes: their bytes are in order
+pub sorted-bytes : {X : Type 0} (bytes : X → List ℕ) (cmp : List ℕ → List ℕ → Ordering) (xs : List X)
+    → IsSorted (λ x y. cmp (bytes x) (bytes y)) xs → IsSorted cmp (map bytes xs)
+sorted-bytes bytes cmp [] s = λ k d low h. absurd (omega arith)
+sorted-bytes bytes cmp (x ∷ xs) s = λ k d low h.
+    let long : k + 1 < length (x ∷ xs) = rw length-map at h in
+    let short : k < length (x ∷ xs) = omega arith in
+    rw (get_or-map bytes (x ∷ xs) (k + 1) x d long, get_or-map bytes (x ∷ xs) k x d short) (s k x low long)

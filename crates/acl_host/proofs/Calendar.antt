@@ -5,7 +5,8 @@ use Rattle.std.proofs.lemmas.Bool.Decides.{nat_tests}
 use Rattle.std.proofs.lemmas.Int.{ints, by_lt_z, to_z_pos, to_z-of_z}
 use Rattle.jiff_core.specs.Calendar.{IsDate, IsCivilDate, days_in_year, days_in_month, days_from_civil, day_count, day_of_year, days_of_months, days_of_years}
 use Rattle.jiff_core.proofs.CalendarLemmas.{day_count-lt_year, day_count-next_year, days_from_civil-day_count, day_count-later_year, day_count-day_of_year, day_of_year_bound, days_of_months_more, days_of_months_mono, days_of_months-zero, days_in_month_bounds}
-use Rattle.acl_host.specs.Days.{is_real, real_day, two_in, digits_day, day_in, full_date, count_years, count_months, days_since_year_1, date_text}
+use Rattle.acl_host.specs.Days.{IsDayText, full_date}
+use Rattle.acl_host.specs.DaySteps.{is_real, real_day, two_in, digits_day, day_in, count_years, count_months, days_since_year_1, date_text}
 use Rattle.std.specs.Char.{is_ascii_digit}
 
 pub record IsRealDate (year month day : ℕ) : Type 0 where
@@ -54,7 +55,7 @@ year_1_first (suc (suc k)) h =
     let later : pos 1 <ℤ pos (suc (suc k)) = omega (arith, ints) in
     omega (arith, year_1_count, day_count-later_year (pos 1) (pos (suc (suc k))) from later)
 
-civil : (y m d : ℕ) → IsRealDate y m d → IsCivilDate (pos y) m d
+pub civil : (y m d : ℕ) → IsRealDate y m d → IsCivilDate (pos y) m d
 civil y m d r =
     let low : neg_ℤ (pos 9999) ≤ℤ pos y = omega (arith, ints) in
     let high : pos y ≤ℤ pos 9999 = omega (arith, ints, r.year_to) in
@@ -274,9 +275,17 @@ year_cast year y e h = ap (λ (z : ℤ). to_z w16 (of_z w16 z)) e ∙ to_z_pos w
 pub text_of_day : (year : ℤ) (month day : ℕ) (number : ℤ) → (r : IsDayOf year month day number) → full_date r.whole month day ≡ date_text number
 text_of_day year month day number r = sym (text_of_real r.whole month day r.real) ∙ ap date_text r.number_is
 
-pub day_is_read : (year : ℤ) (month day : ℕ) (number : ℤ) → IsDayOf year month day number → day_in (date_text number) ≡ Some number
-day_is_read year month day number r =
-    ap day_in (sym (text_of_day year month day number r)) ∙ real_is_read r.whole month day r.real ∙ ap (λ (z : ℤ). Some z) r.number_is
+pub text_is_days : (year : ℤ) (month day : ℕ) (number : ℤ) → IsDayOf year month day number
+    → IsDayText (date_text number) number
+text_is_days year month day number r = record {
+  year = r.whole;
+  month = month;
+  day = day;
+  from_year_1 = r.real.year_from;
+  real = civil r.whole month day r.real;
+  text_is = sym (text_of_day year month day number r);
+  number_is = sym r.number_is;
+}
 
 -- a day's number is the same in 32 and in 64 bits
 pub same_in_32 : (n : ℤ) → negsuc 719161 ≤ℤ n → n ≤ℤ pos 2932896 → to_z w32 (of_z w32 n) ≡ n

@@ -3,3 +3,4 @@ pub mod ByteOrder
 pub mod Prefixes
 pub mod Appending
 pub mod Calendar
+pub mod DayTextLaws

@@ -83,16 +83,18 @@ path-of i [] d h = absurd (omega arith)
 path-of zero (f ∷ fs) d h = refl
 path-of (suc i) (f ∷ fs) d h = path-of i fs d (omega arith)
 
+-- a file that stands keeps its place where another is put
+pub path-stays : (i : ℕ) (p b : List ℕ) (fs : List File) → IsSome (path_at i fs)
+    → path_at i (put_at p b fs) ≡ path_at i fs
+path-stays i p b [] h = absurd (let no : is_some {T = List ℕ} None ≡ true = h in cc)
+path-stays zero p b (f ∷ fs) h = elim (cases_Bool (bytes_eq f.0 p)) [ inl e ↦ rw e refl | inr e ↦ rw e refl ]
+path-stays (suc i) p b (f ∷ fs) h = elim (cases_Bool (bytes_eq f.0 p)) [
+  | inl e ↦ rw e refl
+  | inr e ↦ rw e (path-stays i p b fs h)
+]
+
 pub path-put : (i : ℕ) (fs : List File) (p b q : List ℕ) → path_at i fs ≡ Some q → path_at i (put_at p b fs) ≡ Some q
-path-put i [] p b q e = cc
-path-put zero (f ∷ fs) p b q e = elim (cases_Bool (bytes_eq f.0 p)) [
-  | inl h ↦ rw h e
-  | inr h ↦ rw h e
-]
-path-put (suc i) (f ∷ fs) p b q e = elim (cases_Bool (bytes_eq f.0 p)) [
-  | inl h ↦ rw h e
-  | inr h ↦ rw h (path-put i fs p b q e)
-]
+path-put i fs p b q e = path-stays i p b fs (rw e refl) ∙ e
 
 pub held-append : (p b : List ℕ) (fs : List File) → file_at (append_to p b fs) p ≡ option_map (λ (old : List ℕ). old ++ b) (file_at fs p)
 held-append p b [] = refl

@@ -1,5 +1,5 @@
 -- Files under their paths, as lists.
-use Rattle.std.specs.Prelude.{◌≡◌, ◌≢◌, ℕ, nat_lt, nat_eq, ◌==◌, Bool, ◌&&◌, if◌then◌else◌, List, [], ◌∷◌, ◌++◌, length, drop, Option, None, Some, IsSome, is_some}
+use Rattle.std.specs.Prelude.{◌≡◌, ◌≢◌, ℕ, nat_lt, nat_eq, ◌==◌, Bool, ◌&&◌, if◌then◌else◌, List, [], ◌∷◌, ◌++◌, length, drop, Option, None, Some, IsSome, is_some, IsSorted}
 use Rattle.std.specs.Ordering.{nat_cmp, is_le}
 use Rattle.std.specs.Cmp.Lexicographic.{slice_cmp}
 use Rattle.std.specs.List.{list_any, filter_map, starts_with, ends_with}
@@ -61,6 +61,10 @@ put_in_order name (other ∷ others) = if is_le (slice_cmp nat_cmp name other) t
 abbrev pub in_byte_order : List (List ℕ) → List (List ℕ)
 in_byte_order [] = []
 in_byte_order (name ∷ names) = put_in_order name (in_byte_order names)
+
+-- names that stand in byte order
+abbrev pub AreInByteOrder : List (List ℕ) → Type 0
+AreInByteOrder names = IsSorted (slice_cmp nat_cmp) names
 
 -- the names of the files directly under the folder, in byte order
 unfoldable pub names_under : List ℕ → List File → List (List ℕ)

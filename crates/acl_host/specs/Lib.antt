@@ -1,5 +1,6 @@
 pub mod Files
 pub mod Outside
+pub mod WholeFiles
 pub mod Writing
 pub mod Memory
 pub mod MemorySinks
@@ -8,3 +9,4 @@ pub mod MemoryTrees
 pub mod Resting
 pub mod Holding
 pub mod Days
+pub mod DaySteps

@@ -1,9 +1,10 @@
 -- Changes of a list of files, one at a time.
 use Prim.Native.Nat.{zero, suc}
-use Rattle.std.specs.Prelude.{ℕ, Bool, List, [], ◌∷◌, ◌++◌, Option, None, Some, is_some, if◌then◌else◌}
+use Rattle.std.specs.Prelude.{ℕ, Bool, List, [], ◌∷◌, ◌++◌, Option, None, Some, is_some, IsSome, IfSome, if◌then◌else◌}
 use Rattle.std.specs.Coded.{Coded-set, coded_option, coded_list, coded_ℕ, ×_prop, Unit-prop}
 use Rattle.std.specs.List.{list_any, filter_map}
 use Rattle.std.specs.Str.{bytes_eq}
+use Rattle.std.proofs.Math.Bool.{Bool-set}
 use Rattle.acl_host.specs.Files.{File, file_at, rest_behind, only_name, put_in_order, in_byte_order, DistinctPaths}
 
 -- The file at the path is these bytes now: in its place where the path is held, else at the end.
@@ -44,3 +45,9 @@ is_prefix prefix files = list_any (λ (f : File). is_some (rest_behind prefix f.
 pub DistinctPaths-prop : (files : List File) → IsProp (DistinctPaths files)
 DistinctPaths-prop [] = Unit-prop
 DistinctPaths-prop (f ∷ files) = ×_prop (Coded-set (coded_option (coded_list coded_ℕ)) (file_at files f.0) None) (DistinctPaths-prop files)
+
+-- that a begun file stands is shown in one way at most
+pub within-prop : (begun : Option ℕ) (files : List File)
+    → IsProp (IfSome begun (λ i. IsSome (path_at i files)))
+within-prop None files = Unit-prop
+within-prop (Some i) files = Bool-set _ _

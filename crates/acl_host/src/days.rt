@@ -1,6 +1,7 @@
-ghost use Rattle.std.specs.Prelude.{◌≡◌, ◌≤◌, Some, IsTrue, option_map, IfSome, length};
+ghost use Rattle.std.specs.Prelude.{◌≡◌, ◌≤◌, ℤ, IsTrue, option_map, IfSome, IfNone, length};
 ghost use Rattle.acl_text.specs.Output.{Puts};
-ghost use Rattle.acl_host.specs.Days.{two_in, real_day, digits_day, day_in, full_date, date_text};
+ghost use Rattle.acl_host.specs.Days.{IsDayText, full_date};
+ghost use Rattle.acl_host.specs.DaySteps.{two_in, real_day, digits_day, day_in, date_text};
 
 use crate::clocks::Day;
 use acl_text::{Out, PutFault};
@@ -35,7 +36,7 @@ fn real_day(year: u16, month: u8, day: u8) -> Option<Day>
     }
 }
 
-#[tactic(auto, unfolding(crate::specs::Days::digits_day))]
+#[tactic(auto, unfolding(crate::specs::DaySteps::digits_day))]
 fn digits_day(word: &[u8]) -> Option<Day>
     requires { length word.now ≡ 10 }
     ensures { option_map (λ d. d.number) result ≡ digits_day word.now }
@@ -48,10 +49,18 @@ fn digits_day(word: &[u8]) -> Option<Day>
 }
 
 /// The day that the word names: four, two and two digits with `-` between, as `2026-01-15`, that are a real
-/// date of the years 0001 to 9999.
-#[tactic(auto, unfolding(crate::specs::Days::day_in))]
+/// date of the years 0001 to 9999. What `put_day` puts of a day is read as that day.
 pub fn read_day(word: &[u8]) -> Option<Day>
-    ensures { option_map (λ d. d.number) result ≡ day_in word.now }
+    ensures some { IfSome result (λ day. IsDayText word.now day.number) }
+    ensures none { IfNone result ((n : ℤ) → IsDayText word.now n → ⊥) }
+    ensures exact { option_map (λ day. day.number) result ≡ day_in word.now }
+{
+    day_of(word)
+}
+
+#[tactic(auto, unfolding(crate::specs::DaySteps::day_in))]
+fn day_of(word: &[u8]) -> Option<Day>
+    ensures { option_map (λ day. day.number) result ≡ day_in word.now }
 {
     if word.len() == 10 && word[4] == b'-' && word[7] == b'-' {
         digits_day(word)
@@ -60,7 +69,7 @@ pub fn read_day(word: &[u8]) -> Option<Day>
     }
 }
 
-/// The digits of a date, with `-` between.
+// The digits of a date, with `-` between.
 fn full_date(year: u16, month: u8, day: u8) -> [u8; 10]
     requires year { year ≤ 9999 }
     requires month { month ≤ 99 }
@@ -83,10 +92,10 @@ fn full_date(year: u16, month: u8, day: u8) -> [u8; 10]
     ]
 }
 
-/// The digits of the day, by the calendar of jiff.
+// The digits of the day, by the calendar of jiff.
 fn date_text(day: Day) -> [u8; 10]
     ensures text { result ≡ date_text day.number }
-    ensures again { day_in (date_text day.number) ≡ Some day.number }
+    ensures real { IsDayText (date_text day.number) day.number }
 {
     match civil::Date::from_unix_epoch_day(i64::from(day.number)) {
         Ok(date) => full_date(date.year as u16, date.month, date.day),
@@ -94,11 +103,12 @@ fn date_text(day: Day) -> [u8; 10]
     }
 }
 
-/// Puts the day as `read_day` reads it: what is put is read again as the same day.
+/// Puts the text of the day, which `read_day` reads as that day.
 pub fn put_day<O: Out>(out: &mut O, day: Day) -> Result<(), PutFault>
     requires { IsTrue (O.is_open out.old) }
-    ensures puts { Puts O.told O.faults O.refusals O.is_open O.keeps_rest out.old out.new (date_text day.number) result }
-    ensures again { day_in (date_text day.number) ≡ Some day.number }
+    ensures puts { Puts O.told O.faults O.refusals O.is_open O.keeps_rest out.old out.new
+        (date_text day.number) result }
+    ensures text { IsDayText (date_text day.number) day.number }
 {
     let text = date_text(day);
     out.put(&text)

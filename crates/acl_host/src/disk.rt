@@ -1,4 +1,5 @@
 ghost use Rattle.std.specs.Prelude.{◌≤◌, IfOk, length};
+ghost use Rattle.acl_host.specs.Files.{AreInByteOrder};
 
 use crate::trees::{FileNames, TreeFault};
 use acl_text::Bytes;
@@ -19,7 +20,9 @@ pub(crate) fn names_in<R: Files + AllocGlobal + Clone + Drop>(
     rt: &R,
     alloc: Global,
     dir: &str,
-) -> Result<FileNames, TreeFault> {
+) -> Result<FileNames, TreeFault>
+    ensures { IfOk result AreInByteOrder }
+{
     let entries = match fs::read_dir(rt, dir) {
         Ok(entries) => entries,
         Err(error) => return Err(fault_of(&error)),
@@ -82,8 +85,8 @@ pub(crate) fn bytes_at<R: Files>(
     }
 }
 
-// The bytes that the file gives, or the first of them.
-fn front_of<F: Read>(file: &mut F, alloc: Global, most: usize) -> Result<Bytes, TreeFault>
+// The bytes that the file gives, or the first of them. A reading that is interrupted goes on.
+pub(crate) fn front_of<F: Read>(file: &mut F, alloc: Global, most: usize) -> Result<Bytes, TreeFault>
     ensures { IfOk result (λ bytes. length bytes ≤ most) }
 {
     let mut bytes = Bytes::new(alloc);

@@ -126,7 +126,7 @@ impl<R: Files + AllocGlobal + Clone + Drop> Tree for DiskTree<'_, R> {
     }
 
     fn begin(&mut self, path: &str) -> Result<(), WriteFault> {
-        match opened_at(self.rt, path) {
+        match open_at(self.rt, path) {
             Ok(opened) => {
                 self.begun = Some(opened);
                 Ok(())
@@ -154,13 +154,15 @@ impl<R: Files + AllocGlobal + Clone + Drop> Tree for DiskTree<'_, R> {
 
     ghost rest_is = { λ s t h. h };
 
+    ghost is_rest = { λ s t h. h };
+
     ghost distinct = { λ t. tt };
 
     ghost begun_is_held = { λ t. tt };
 }
 
 // Makes the file empty, and opens it.
-fn opened_at<R: Files + AllocGlobal + Clone + Drop>(rt: &R, path: &str) -> io::Result<Opened<R>>
+fn open_at<R: Files + AllocGlobal + Clone + Drop>(rt: &R, path: &str) -> io::Result<Opened<R>>
     ensures { IfOk result (λ f. string_bytes f.path ≡ path.now) }
 {
     let copy = String::from_str(rt.alloc(), path)?;

@@ -1,9 +1,9 @@
 ghost use Rattle.std.specs.Prelude.{◌≡◌, ◌≤◌, IfOk, IsErrOf, length, take};
 ghost use Rattle.acl_host.specs.Outside.{IsListing, IsReading};
 
-use crate::listing::{lies_behind, names_of};
+use crate::mem_names::{lies_behind, names_of};
 use crate::mem_files::MemFiles;
-use crate::paths::ended;
+use crate::paths::with_slash;
 use crate::trees::{FileNames, TreeFault};
 use acl_text::{Bytes, Memory};
 use std::alloc::Global;
@@ -18,7 +18,7 @@ pub(crate) fn names_under(
     ensures answer { IsListing dir.now result files.now.items.items }
     ensures sure { IsErrOf result TreeFault.Failed → ⊥ }
 {
-    let prefix = ended(alloc, dir)?;
+    let prefix = with_slash(alloc, dir)?;
     if !lies_behind(prefix.as_str(), files.as_slice()) {
         return Err(TreeFault::Absent);
     }

@@ -1,3 +1,6 @@
+ghost use Rattle.std.specs.Prelude.{IsSome, IfSome};
+ghost use Rattle.acl_host.specs.MemoryFiles.{path_at, within-prop};
+
 use crate::failing::{Calls, Op};
 use crate::looking::{front_at, names_under};
 use crate::mem_files::MemFiles;
@@ -24,6 +27,8 @@ pub struct MemTree {
     refusals: u64,
     list_faults: u64,
     read_faults: u64,
+    ghost begun_stands: { IfSome begun (λ i. IsSome (path_at i files.items.items)) }
+        by { within-prop begun files.items.items },
 }
 
 impl MemTree {
@@ -53,16 +58,14 @@ impl MemTree {
         }
     }
 
-    /// Puts a file there, in the place of one that lies at the path.
+    /// Puts a file there, in the place of one that lies at the path. A file that is begun stays begun.
     pub fn put_file(&mut self, path: &str, bytes: &[u8]) -> Result<(), Memory>
-        requires { (held self.old).begun ≡ None }
         ensures ok { OnOk result (held self.new
             ≡ record (held self.old) { files = put_at path.now bytes.now (held self.old).files }) }
         ensures err { OnErr result (held self.new ≡ held self.old) }
     {
         let copy = Bytes::from_slice(self.alloc, bytes)?;
         self.files.put(self.alloc, path, copy)?;
-        self.begun = None;
         Ok(())
     }
 
@@ -229,6 +232,8 @@ impl Tree for MemTree {
     ghost told_is = { λ t. refl };
 
     ghost rest_is = { λ s t h. h };
+
+    ghost is_rest = { λ s t h. h };
 
     ghost distinct = { λ t. t.files.distinct };
 

@@ -2,14 +2,22 @@ ghost use Rattle.std.specs.Prelude.{◌≡◌, ◌==◌, IfOk};
 ghost use Rattle.std.specs.List.{list_any};
 ghost use Rattle.std.specs.Option.{option_copied};
 ghost use Rattle.std.specs.String.{string_bytes};
-ghost use Rattle.acl_host.specs.Files.{with_slash, rest_behind, only_name};
+ghost use Rattle.acl_host.specs.Files.{join_path, with_slash, rest_behind, only_name};
 
-use acl_text::Memory;
-use std::alloc::Global;
+use std::alloc::{AllocError, Global};
+
+/// The folder's path, one slash, and the rest. A folder that ends in a slash has it already.
+pub fn join_path(alloc: Global, folder: &str, rest: &str) -> Result<String, AllocError>
+    ensures { IfOk result (λ path. string_bytes path ≡ join_path folder.now rest.now) }
+{
+    let mut path = with_slash(alloc, folder)?;
+    path.push_str(rest)?;
+    Ok(path)
+}
 
 // The folder's path with a slash at its end.
-pub(crate) fn ended(alloc: Global, folder: &str) -> Result<String, Memory>
-    ensures { IfOk result (λ p. string_bytes p ≡ with_slash folder.now) }
+pub(crate) fn with_slash(alloc: Global, folder: &str) -> Result<String, AllocError>
+    ensures { IfOk result (λ path. string_bytes path ≡ with_slash folder.now) }
 {
     let mut path = String::from_str(alloc, folder)?;
     if !folder.as_bytes().ends_with(b"/") {

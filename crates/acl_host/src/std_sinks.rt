@@ -36,7 +36,7 @@ impl<W: Write + Drop> Sink for StdSink<W> {
     ghost refusals = { λ s. s.refusals };
 
     fn write(&mut self, bytes: &[u8]) -> Result<(), WriteFault> {
-        match written(&mut self.writer, bytes) {
+        match write_through(&mut self.writer, bytes) {
             Ok(()) => Ok(()),
             Err(error) => {
                 if is_memory(&error) {
@@ -51,7 +51,7 @@ impl<W: Write + Drop> Sink for StdSink<W> {
 }
 
 // Writes all the bytes, and passes them on.
-fn written<W: Write>(writer: &mut W, bytes: &[u8]) -> io::Result<()> {
+fn write_through<W: Write>(writer: &mut W, bytes: &[u8]) -> io::Result<()> {
     writer.write_all(bytes)?;
     writer.flush()
 }

@@ -1,13 +1,16 @@
 ghost use Rattle.std.specs.Prelude.{◌≡◌};
 
 use crate::{
-    Clock, ClockFault, Day, DiskTree, FixedClock, MemSink, MemTree, Op, Sink, StdSink, Tree,
-    TreeFault, Whole, WriteFault, put_day, read_day, write_file,
+    Clock, ClockFault, Day, DiskTree, FixedClock, ListFault, MemSink, MemTree, Op, ReadFault, Sink,
+    StdSink, Tree, TreeFault, Whole, WriteFault, join_path, listing, put_day, read_day, read_whole,
+    write_file,
 };
-use acl_text::{Memory, Out};
+use crate::disk::front_of;
+use acl_text::{Code, Memory, Out};
 use std::alloc::Global;
+use std::io::{ErrorKind, Read};
 use std::test::Fail;
-use std::{fs, process};
+use std::{fs, io, process};
 
 // What the tree says of the folder: each name with a space behind it, or why there are none.
 fn listed<T: Tree>(alloc: Global, tree: &mut T, dir: &str) -> Result<String, Memory>
@@ -87,6 +90,45 @@ fn a_file_in_memory_is_written(rt: HostRuntime) -> Result<(), Fail> {
     tree.put(b"hi")?;
     tree.finish()?;
     assert_eq!(rt; tree.file("x"), Some(b"hi".as_slice()));
+    Ok(())
+}
+
+#[test]
+fn a_begun_file_stays_begun(rt: HostRuntime) -> Result<(), Fail> {
+    let mut tree = MemTree::new(rt.alloc());
+    tree.begin("x")?;
+    tree.put_file("y", b"hi")?;
+    tree.put_file("x", b"a")?;
+    tree.put(b"b")?;
+    assert_eq!(rt; tree.file("x"), Some(b"ab".as_slice()));
+    Ok(())
+}
+
+#[test]
+fn whole_files_are_read(rt: HostRuntime) -> Result<(), Fail> {
+    let alloc = rt.alloc();
+    let mut tree = MemTree::new(alloc);
+    let path = join_path(alloc, "def", "n.net")?;
+    tree.put_file(path.as_str(), b"A = ")?;
+    match read_whole(alloc, &mut tree, "def/n.net", 4, Code::TooLong) {
+        Ok(bytes) => assert_eq!(rt; bytes.as_slice(), b"A = ".as_slice()),
+        Err(_) => panic!(rt; "a fault"),
+    }
+    match read_whole(alloc, &mut tree, "def/n.net", 3, Code::TooLong) {
+        Err(ReadFault::Fault(fault)) => {
+            assert_eq!(rt; fault.code, Code::TooLong);
+            assert_eq!(rt; fault.label.as_slice(), b"def/n.net".as_slice());
+        }
+        _ => panic!(rt; "no fault"),
+    }
+    match listing(alloc, &mut tree, "def/") {
+        Ok(names) => assert_eq!(rt; spaced(alloc, names.as_slice())?.as_str(), "n.net "),
+        Err(_) => panic!(rt; "a fault"),
+    }
+    match listing(alloc, &mut tree, "no") {
+        Err(ListFault::Fault(fault)) => assert_eq!(rt; fault.code, Code::NoFile),
+        _ => panic!(rt; "no fault"),
+    }
     Ok(())
 }
 
@@ -203,6 +245,105 @@ fn the_machines_files_are_read(rt: HostRuntime) -> Result<(), Fail> {
     assert!(rt; lacks(rt.alloc(), &mut tree, below(&file, "b")?.as_str()));
     fs::remove_dir_all(&rt, folder.as_str())?;
     Ok(())
+}
+
+// So many bytes, which count up to 250 again and again.
+fn long(alloc: Global, count: usize) -> Result<Vec<u8>, Memory> {
+    let mut bytes = Vec::new(alloc);
+    let mut byte = 0u8;
+    for _ in 0..count {
+        bytes.push(byte)?;
+        byte = if byte < 250 { byte + 1 } else { 0 };
+    }
+    Ok(bytes)
+}
+
+// Pieces are put one behind the other, and a file is longer than what one call reads.
+#[test]
+fn a_long_file_is_written_and_read(rt: HostRuntime) -> Result<(), Fail> {
+    let folder = own_folder(&rt, "long")?;
+    let path = below(&folder, "x")?;
+    let behind = long(rt.alloc(), 70_000)?;
+    let mut whole = vec![in rt.alloc(); b'a', b'b', b'c']?;
+    whole.extend_from_slice(behind.as_slice())?;
+    let mut tree = DiskTree::new(&rt);
+    write_file(
+        &mut tree,
+        path.as_str(),
+        &[b"ab".as_slice(), b"c".as_slice(), behind.as_slice()],
+    )?;
+    assert!(rt; reads(rt.alloc(), &mut tree, path.as_str(), usize::MAX, whole.as_slice()));
+    match whole.as_slice().get(..9000) {
+        Some(front) => assert!(rt; reads(rt.alloc(), &mut tree, path.as_str(), 9000, front)),
+        None => panic!(rt; "a short file"),
+    }
+    fs::remove_dir_all(&rt, folder.as_str())?;
+    Ok(())
+}
+
+#[test]
+fn many_names_are_in_byte_order(rt: HostRuntime) -> Result<(), Fail> {
+    let folder = own_folder(&rt, "many")?;
+    for i in 0..100u32 {
+        let name = format!(in rt.alloc(); "{i}")?;
+        fs::write(&rt, below(&folder, name.as_str())?.as_str(), "")?;
+    }
+    let mut tree = DiskTree::new(&rt);
+    match tree.list(rt.alloc(), folder.as_str()) {
+        Ok(names) => {
+            assert_eq!(rt; names.as_slice().len(), 100);
+            let mut before = "";
+            for name in names.as_slice() {
+                assert!(rt; before.as_bytes() < name.as_bytes());
+                before = name.as_str();
+            }
+        }
+        Err(_) => panic!(rt; "no names"),
+    }
+    fs::remove_dir_all(&rt, folder.as_str())?;
+    Ok(())
+}
+
+// Gives a byte a call, and fails once, at the call behind so many.
+#[derive(Drop)]
+struct FailsOnce {
+    bytes: &'static [u8],
+    before: Option<usize>,
+    kind: ErrorKind,
+}
+
+impl Read for FailsOnce {
+    fn read(&mut self, buf: &mut [u8]) -> io::Result<usize> {
+        if self.before == Some(0) {
+            self.before = None;
+            return Err(self.kind.into());
+        }
+        self.before = self.before.map(|n| n.saturating_sub(1));
+        if self.bytes.is_empty() || buf.is_empty() {
+            return Ok(0);
+        }
+        buf[0] = self.bytes[0];
+        self.bytes = &self.bytes[1..];
+        Ok(1)
+    }
+}
+
+fn abc(kind: ErrorKind) -> FailsOnce {
+    FailsOnce {
+        bytes: b"abc",
+        before: Some(2),
+        kind,
+    }
+}
+
+#[test]
+fn an_interrupted_read_goes_on(rt: HostRuntime) {
+    match front_of(&mut abc(ErrorKind::Interrupted), rt.alloc(), 9) {
+        Ok(bytes) => assert_eq!(rt; bytes.as_slice(), b"abc".as_slice()),
+        Err(_) => panic!(rt; "a fault"),
+    }
+    let failed = front_of(&mut abc(ErrorKind::Other), rt.alloc(), 9);
+    assert!(rt; failed.err() == Some(TreeFault::Failed));
 }
 
 #[test]

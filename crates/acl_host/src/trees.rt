@@ -1,8 +1,8 @@
 ghost use Rattle.std.specs.Ordering.{nat_cmp, is_le};
 ghost use Rattle.std.specs.Cmp.Lexicographic.{slice_cmp};
-ghost use Rattle.std.specs.Prelude.{◌≡◌, ◌≤◌, ℕ, insert, length, List, [], ◌++◌, ◌∷◌, map, Option, None, Some, Bool, is_some, IsSome, IfSome, IfOk, OnOk, OnErr};
+ghost use Rattle.std.specs.Prelude.{◌≡◌, ◌≤◌, ℕ, insert, length, List, [], ◌++◌, ◌∷◌, map, Option, None, Some, Bool, is_some, IsSome, IfSome, IfOk, OnOk, OnErr, IsPermutation};
 ghost use Rattle.std.specs.String.{string_bytes};
-ghost use Rattle.acl_host.specs.Files.{File, put_in_order, RestStays, told_of, DistinctPaths, IsHeld};
+ghost use Rattle.acl_host.specs.Files.{File, put_in_order, AreInByteOrder, RestStays, told_of, DistinctPaths, IsHeld};
 
 use crate::sinks::WriteFault;
 use acl_text::{Bytes, Memory, Out};
@@ -78,9 +78,11 @@ impl FileNames {
         self.names.as_slice()
     }
 
-    /// Puts the names in byte order.
+    /// Puts the names in byte order, or changes nothing where memory is wanted.
     pub(crate) fn sort(&mut self) -> Result<(), Memory>
-        ensures { OnErr result (self.new ≡ self.old) }
+        ensures same { IsPermutation self.old self.new }
+        ensures ok { OnOk result (AreInByteOrder self.new) }
+        ensures err { OnErr result (self.new ≡ self.old) }
     {
         self.names.sort()?;
         Ok(())
@@ -163,8 +165,12 @@ pub trait Tree: Out {
     // What it tells as an output are the bytes of the begun file.
     ghost told_is: { (x : Self) → Self.told x ≡ told_of (files x) (begun x) };
 
-    ghost rest_is: { (x y : Self) → Self.keeps_rest x y → RestStays (files x) (files y) (begun x) (begun y)
-        (list_faults x) (list_faults y) (read_faults x) (read_faults y) };
+    // The rest of an output that stays is, of a tree, what it holds beside the bytes of the begun file.
+    ghost rest_is: { (x y : Self) → Self.keeps_rest x y → RestStays (files x) (files y) (begun x)
+        (begun y) (list_faults x) (list_faults y) (read_faults x) (read_faults y) };
+
+    ghost is_rest: { (x y : Self) → RestStays (files x) (files y) (begun x) (begun y)
+        (list_faults x) (list_faults y) (read_faults x) (read_faults y) → Self.keeps_rest x y };
 
     ghost distinct: { (x : Self) → IfSome (files x) DistinctPaths };
 

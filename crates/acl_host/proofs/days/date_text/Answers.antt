@@ -1,5 +1,5 @@
 use Rattle.std.proofs.Common.{◌≡◌, ◌∙◌, pos, to_z, of_z, w16, arith}
-use Rattle.acl_host.proofs.Calendar.{day_of_date, year_cast, text_of_day, day_is_read}
+use Rattle.acl_host.proofs.Calendar.{day_of_date, year_cast, text_of_day, text_is_days}
 use Rattle.acl_host.proofs.days.date_text.Goals as goal
 
 pub overflow_cast-date : goal.overflow_cast-date
@@ -19,9 +19,9 @@ returns-clause-text c =
     let text = rw cast at c.full_date.ensures in
     text ∙ text_of_day z.year z.month z.day n.number r
 
-pub returns-clause-again : goal.returns-clause-again
-returns-clause-again c =
+pub returns-clause-real : goal.returns-clause-real
+returns-clause-real c =
     let z = c.in-Ok.date in
     let n = c.args.day in
-    day_is_read z.year z.month z.day n.number
+    text_is_days z.year z.month z.day n.number
     (day_of_date z.year z.month z.day n.number c.from.result (z.year_in, z.month_in, z.day_in) c.in-Ok.ensures.value c.from.ensures n.from_year_1 n.to_year_9999)

@@ -1,0 +1,52 @@
+ghost use Rattle.std.specs.Prelude.{◌≡◌};
+ghost use Rattle.acl_host.specs.declared.look_faults.ListFault.TheVariants as lists;
+ghost use Rattle.acl_host.specs.declared.look_faults.ReadFault.TheVariants as reads;
+
+use acl_text::{Fault, Memory};
+use std::alloc::AllocError;
+
+/// Why the names in a folder were not given.
+#[derive(Debug, Drop)]
+pub enum ListFault {
+    /// The folder has this fault.
+    Fault(Fault),
+    /// The tree's listing failed.
+    Outside,
+    /// Memory was wanted and not found.
+    Memory,
+}
+
+impl From<Memory> for ListFault {
+    ghost from_gives = { λ _ fault. fault ≡ lists.Memory };
+
+    fn from(_memory: Memory) -> ListFault {
+        ListFault::Memory
+    }
+}
+
+/// Why what files hold was not given.
+#[derive(Debug, Drop)]
+pub enum ReadFault {
+    /// The input has this fault.
+    Fault(Fault),
+    /// A reading of the tree failed.
+    Outside,
+    /// Memory was wanted and not found.
+    Memory,
+}
+
+impl From<Memory> for ReadFault {
+    ghost from_gives = { λ _ fault. fault ≡ reads.Memory };
+
+    fn from(_memory: Memory) -> ReadFault {
+        ReadFault::Memory
+    }
+}
+
+impl From<AllocError> for ReadFault {
+    ghost from_gives = { λ _ fault. fault ≡ reads.Memory };
+
+    fn from(_error: AllocError) -> ReadFault {
+        ReadFault::Memory
+    }
+}

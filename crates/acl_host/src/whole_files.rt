@@ -1,0 +1,76 @@
+ghost use Rattle.std.specs.Prelude.{◌≡◌, ◌≤◌, ◌<◌, ◌^◌, ◌+◌, length, IfSome, IfOk, IsErrOf};
+ghost use Rattle.acl_text.specs.Output.{Rose};
+ghost use Rattle.acl_text.specs.Answers.{Gives};
+ghost use Rattle.acl_host.specs.Outside.{OnlyLists, OnlyReads};
+ghost use Rattle.acl_host.specs.WholeFiles.{fault_at, listing, whole_file, list_told, read_told};
+
+use crate::look_faults::{ListFault, ReadFault};
+use crate::trees::{FileNames, Tree, TreeFault};
+use acl_text::{Bytes, Code, Fault, Memory};
+use std::alloc::Global;
+
+/// A fault of a whole file or folder, which has no line and no word.
+pub fn fault_at(alloc: Global, code: Code, label: &str) -> Result<Fault, Memory>
+    ensures { IfOk result (λ fault. fault ≡ fault_at code label.now) }
+{
+    Ok(Fault {
+        code,
+        label: Bytes::from_slice(alloc, label.as_bytes())?,
+        line: 0,
+        word: Bytes::new(alloc),
+    })
+}
+
+/// The names of the files directly under the folder, in byte order.
+///
+/// `NoFile` where nothing lies under it; `Outside` only where the tree's count of failed listings rose.
+#[tactic(auto, unfolding(crate::specs::WholeFiles::listing))]
+pub fn listing<T: Tree>(alloc: Global, tree: &mut T, folder: &str) -> Result<FileNames, ListFault>
+    ensures gives { IfSome (T.files tree.old) (λ files. Gives list_told result
+        (listing folder.now files)) }
+    ensures lists { OnlyLists T.files T.begun T.faults T.refusals T.list_faults T.read_faults
+        tree.old tree.new }
+    ensures outside { IsErrOf result ListFault.Outside
+        → Rose (T.list_faults tree.old) (T.list_faults tree.new) }
+{
+    match tree.list(alloc, folder) {
+        Ok(names) => Ok(names),
+        Err(TreeFault::Absent) => Err(ListFault::Fault(fault_at(alloc, Code::NoFile, folder)?)),
+        Err(TreeFault::Failed) => Err(ListFault::Outside),
+        Err(TreeFault::Memory) => Err(ListFault::Memory),
+    }
+}
+
+/// The bytes of the file at the path, of which there may be so many.
+///
+/// `NoFile` where there is none, and `longer` where there are more; `Outside` only where the tree's count
+/// of failed readings rose.
+#[tactic(auto, unfolding(crate::specs::WholeFiles::whole_file))]
+pub fn read_whole<T: Tree>(
+    alloc: Global,
+    tree: &mut T,
+    path: &str,
+    most: usize,
+    longer: Code,
+) -> Result<Bytes, ReadFault>
+    requires { most + 1 < 2 ^ 64 }
+    ensures gives { IfSome (T.files tree.old) (λ files. Gives read_told result
+        (whole_file most longer path.now files)) }
+    ensures fits { IfOk result (λ bytes. length bytes ≤ most) }
+    ensures reads { OnlyReads T.files T.begun T.faults T.refusals T.list_faults T.read_faults
+        tree.old tree.new }
+    ensures outside { IsErrOf result ReadFault.Outside
+        → Rose (T.read_faults tree.old) (T.read_faults tree.new) }
+{
+    match tree.read(alloc, path, most + 1) {
+        Ok(bytes) => {
+            if bytes.as_slice().len() > most {
+                return Err(ReadFault::Fault(fault_at(alloc, longer, path)?));
+            }
+            Ok(bytes)
+        }
+        Err(TreeFault::Absent) => Err(ReadFault::Fault(fault_at(alloc, Code::NoFile, path)?)),
+        Err(TreeFault::Failed) => Err(ReadFault::Outside),
+        Err(TreeFault::Memory) => Err(ReadFault::Memory),
+    }
+}
