@@ -1,4 +1,4 @@
-use crate::{Prefixes, Range, RangeSet, least_prefixes};
+use crate::{Range, RangeSet, least_prefixes};
 use acl_packet::{Family, Prefix};
 use std::test::Fail;
 
@@ -159,14 +159,5 @@ fn all_but_one_address(rt: HostRuntime) -> Result<(), Fail> {
     let list = least_prefixes(alloc, &set, Family::V4)?;
     assert_eq!(rt; list.as_slice().len(), 24);
     assert_eq!(rt; list.as_slice().first(), Some(&v4(TEN, 9)));
-    Ok(())
-}
-
-#[test]
-fn a_list_grows_at_its_end(rt: HostRuntime) -> Result<(), Fail> {
-    let mut list = Prefixes::new(rt.alloc());
-    list.push(v6(0, 1))?;
-    list.push(v4(TEN, 8))?;
-    assert_eq!(rt; list.as_slice(), [v6(0, 1), v4(TEN, 8)].as_slice());
     Ok(())
 }
