@@ -105,7 +105,7 @@ unfoldable pub definitions_of : List ℕ → List File → Result Naming Fault
 definitions_of folder files = do
   names ← listing folder files
   if nat_lt MOST_FILES (length (naming_paths folder names)) then Err (fault_at TooManyFiles folder)
-  else all_files folder names files
+      else all_files folder names files
 
 -- Each name that stands in a definition is defined in its kind, and none reaches itself.
 pub record IsSound (naming : Naming) : Type 0 where
