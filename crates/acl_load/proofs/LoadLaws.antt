@@ -7,9 +7,9 @@ use Rattle.acl_host.specs.Files.{File, is_folder, names_under}
 use Rattle.acl_text.specs.declared.faults.Code.TheVariants.{TooManyFiles}
 use Rattle.acl_naming.specs.Definitions.{Naming}
 use Rattle.acl_load.specs.declared.adding.Kind.TheVariants.{Networks, Services}
-use Rattle.acl_load.specs.declared.load_faults.LoadFault.{LoadFault}
-use Rattle.acl_load.specs.Answers.{Answers}
-use Rattle.acl_load.specs.Reading.{fault_at, listing}
+use Rattle.acl_host.specs.declared.look_faults.ReadFault.{ReadFault}
+use Rattle.acl_text.specs.Answers.{Gives}
+use Rattle.acl_host.specs.WholeFiles.{fault_at, listing, read_told}
 use Rattle.acl_load.specs.Loading.{MOST_FILES, naming_paths, net_paths, svc_paths, no_definitions, all_of, all_files, both_kinds, definitions_of}
 
 pub front_is : {X : Type 0} (f : X → List ℕ) (all : List X) (n : ℕ) (xs ys : List (List ℕ)) → map f all ≡ xs ++ ys → n ≡ length xs → map f (take n all) ≡ xs
@@ -34,14 +34,14 @@ unfolding both_kinds
 kinds_read files paths networks services n start base none is e =
     rw (sym none, e, sym is) refl
 
-pub kinds_told : (told now : Option (List File)) (paths networks services : List (List ℕ)) (n : ℕ) (start base : Naming) (result : Result Naming LoadFault) → now ≡ told → start ≡ no_definitions → n ≡ length networks
+pub kinds_told : (told now : Option (List File)) (paths networks services : List (List ℕ)) (n : ℕ) (start base : Naming) (result : Result Naming ReadFault) → now ≡ told → start ≡ no_definitions → n ≡ length networks
     → IfSome told (λ files. all_of paths Networks 0 networks files start ≡ Ok base)
-    → IfSome now (λ files. Answers (λ (b : Naming). b) result (λ answer. all_of paths Services n services files base ≡ answer))
-    → IfSome told (λ files. Answers (λ (b : Naming). b) result (λ answer. both_kinds paths networks services files ≡ answer))
+    → IfSome now (λ files. Gives read_told result (all_of paths Services n services files base))
+    → IfSome told (λ files. Gives read_told result (both_kinds paths networks services files))
 kinds_told None now paths networks services n start base result same none is first second = tt
 kinds_told (Some files) now paths networks services n start base result same none is first second =
-    let at_once = subst (λ t. IfSome t (λ files. Answers (λ (b : Naming). b) result (λ answer. all_of paths Services n services files base ≡ answer))) same second in
-    subst (λ told. Answers (λ (b : Naming). b) result (λ answer. told ≡ answer)) (sym (kinds_read files paths networks services n start base none is first)) at_once
+    let at_once = subst (λ t. IfSome t (λ files. Gives read_told result (all_of paths Services n services files base))) same second in
+    subst (λ expected. Gives read_told result expected) (sym (kinds_read files paths networks services n start base none is first)) at_once
 
 -- a folder that has not too many naming files
 few_files : (folder : List ℕ) (names : List (List ℕ)) (files : List File) → length (naming_paths folder names) ≤ 4096 → (if nat_lt MOST_FILES (length (naming_paths folder names)) then Err (fault_at TooManyFiles folder) else all_files folder names files) ≡ all_files folder names files

@@ -1,3 +1,2 @@
-pub mod Answers
+pub mod LoadFaults
 pub mod Loading
-pub mod Reading

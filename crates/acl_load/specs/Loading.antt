@@ -4,7 +4,9 @@ use Rattle.std.specs.List.{ends_with}
 use Rattle.acl_text.specs.declared.faults.Code.TheVariants.{TooLong, TooManyFiles}
 use Rattle.acl_text.specs.declared.faults.Fault.{Fault}
 use Rattle.acl_text.specs.declared.faults.Slip.{Slip}
+use Rattle.acl_text.specs.Steps.{◌>>=◌}
 use Rattle.acl_host.specs.Files.{File, join_path, names_under}
+use Rattle.acl_host.specs.WholeFiles.{fault_at, whole_file, listing}
 use Rattle.acl_naming.specs.declared.item_words.Kind.{Kind as NamingKind}
 use Rattle.acl_naming.specs.declared.item_words.Kind.TheVariants as kinds
 use Rattle.acl_naming.specs.Definitions.{Definition, Naming}
@@ -12,7 +14,6 @@ use Rattle.acl_naming.specs.Checking.{undefined_of, HasNoCycle, IsSlipOf}
 use Rattle.acl_naming.specs.NamingFiles.{file_added}
 use Rattle.acl_load.specs.declared.adding.Kind.{Kind}
 use Rattle.acl_load.specs.declared.adding.Kind.TheVariants.{Networks, Services}
-use Rattle.acl_load.specs.Reading.{◌>>=◌, fault_at, whole_file, listing}
 
 -- A naming file of networks ends in `.net`, one of services in `.svc`.
 abbrev pub is_net : List ℕ → Bool
@@ -41,7 +42,12 @@ MOST_BYTES = 4194304
 
 -- The fault of a slip: its label is the path of the file in which it stands.
 abbrev pub fault_of : List (List ℕ) → Slip → Fault
-fault_of paths slip = record { code = slip.code; label = slice_index_or paths slip.place.file []; line = slip.place.line; word = slip.word }
+fault_of paths slip = record {
+  code = slip.code;
+  label = slice_index_or paths slip.place.file [];
+  line = slip.place.line;
+  word = slip.word;
+}
 
 abbrev pub or_fault : List (List ℕ) → Result (List Definition) Slip → Result (List Definition) Fault
 or_fault paths (Ok definitions) = Ok definitions
@@ -65,16 +71,20 @@ with_list Networks base definitions = record base { networks = definitions }
 with_list Services base definitions = record base { services = definitions }
 
 -- One file of a kind, and its definitions behind those of this kind so far. `paths` are those of all files.
-unfoldable pub with_file : List (List ℕ) → Kind → ℕ → List ℕ → List File → Naming → Result Naming Fault
+unfoldable pub with_file : List (List ℕ) → Kind → ℕ → List ℕ → List File → Naming
+    → Result Naming Fault
 with_file paths kind number path files base = do
   bytes ← naming_file path files
   definitions ← or_fault paths (file_added (naming_kind kind) number (list_of kind base) bytes)
   Ok (with_list kind base definitions)
 
 -- One file after the other, all of a kind, of which the first has this number.
-abbrev pub all_of : List (List ℕ) → Kind → ℕ → List (List ℕ) → List File → Naming → Result Naming Fault
+abbrev pub all_of : List (List ℕ) → Kind → ℕ → List (List ℕ) → List File → Naming
+    → Result Naming Fault
 all_of paths kind number [] files base = Ok base
-all_of paths kind number (path ∷ more) files base = with_file paths kind number path files base >>= (λ next. all_of paths kind (number + 1) more files next)
+all_of paths kind number (path ∷ more) files base =
+    with_file paths kind number path files base
+    >>= (λ next. all_of paths kind (number + 1) more files next)
 
 abbrev pub no_definitions : Naming
 no_definitions = record { networks = []; services = [] }
@@ -87,13 +97,15 @@ both_kinds paths networks services files = do
 
 -- What the naming files among the names define together.
 abbrev pub all_files : List ℕ → List (List ℕ) → List File → Result Naming Fault
-all_files folder names files = both_kinds (naming_paths folder names) (net_paths folder names) (svc_paths folder names) files
+all_files folder names files =
+    both_kinds (naming_paths folder names) (net_paths folder names) (svc_paths folder names) files
 
 -- What the naming files of a folder define together; too many of them are a fault of the folder.
 unfoldable pub definitions_of : List ℕ → List File → Result Naming Fault
 definitions_of folder files = do
   names ← listing folder files
-  if nat_lt MOST_FILES (length (naming_paths folder names)) then Err (fault_at TooManyFiles folder) else all_files folder names files
+  if nat_lt MOST_FILES (length (naming_paths folder names)) then Err (fault_at TooManyFiles folder)
+      else all_files folder names files
 
 -- Each name that stands in a definition is defined in its kind, and none reaches itself.
 pub record IsSound (naming : Naming) : Type 0 where
@@ -105,9 +117,11 @@ pub record IsSound (naming : Naming) : Type 0 where
 abbrev pub AnswersWith : List (List ℕ) → Result Naming Fault → Result Naming Fault → Type 0
 AnswersWith paths (Err fault) answer = answer ≡ Err fault
 AnswersWith paths (Ok naming) (Ok given) = (given ≡ naming) × IsSound naming
-AnswersWith paths (Ok naming) (Err fault) = (slip : Slip) × IsSlipOf naming slip × (fault ≡ fault_of paths slip)
+AnswersWith paths (Ok naming) (Err fault) =
+    (slip : Slip) × IsSlipOf naming slip × (fault ≡ fault_of paths slip)
 
 -- The answer on a folder's naming files: what they define, each name defined and none reaching itself, or the
 -- first fault.
 abbrev pub Loads : List ℕ → List File → Result Naming Fault → Type 0
-Loads folder files answer = AnswersWith (naming_paths folder (names_under folder files)) (definitions_of folder files) answer
+Loads folder files answer =
+    AnswersWith (naming_paths folder (names_under folder files)) (definitions_of folder files) answer

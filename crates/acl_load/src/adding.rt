@@ -1,14 +1,13 @@
-ghost use Rattle.std.specs.Prelude.{◌≡◌, ◌≤◌, ◌<◌, ◌+◌, length, map, IfSome, IsErrOf};
+ghost use Rattle.std.specs.Prelude.{◌≤◌, ◌+◌, length, map, IfSome, IsErrOf};
 ghost use Rattle.std.specs.String.{string_bytes};
 ghost use Rattle.acl_text.specs.Output.{Rose};
-ghost use Rattle.acl_host.specs.Outside.{OnlyLooks};
-ghost use Rattle.acl_load.specs.Answers.{Answers};
+ghost use Rattle.acl_text.specs.Answers.{Gives};
+ghost use Rattle.acl_host.specs.Outside.{OnlyReads};
+ghost use Rattle.acl_host.specs.WholeFiles.{read_told};
 ghost use Rattle.acl_load.specs.Loading.{with_file, all_of};
 
-use crate::load_faults::LoadFault;
-use crate::reading::read_whole;
 use crate::slips::fault_of;
-use acl_host::Tree;
+use acl_host::{ReadFault, Tree, read_whole};
 use acl_naming::{Base, read_networks, read_services};
 use acl_text::{Code, Refusal};
 use std::alloc::Global;
@@ -33,13 +32,13 @@ fn add_file<T: Tree>(
     number: u32,
     path: &str,
     base: Base,
-) -> Result<Base, LoadFault>
-    ensures gives { IfSome (T.files tree.old) (λ files. Answers (λ base. base) result (λ answer. with_file (map string_bytes paths.now) kind number path.now files base ≡ answer)) }
-    ensures looks { OnlyLooks T.files T.begun T.faults T.refusals tree.old tree.new }
-    ensures reads { T.read_faults tree.old ≤ T.read_faults tree.new }
-    ensures lists { T.list_faults tree.new ≡ T.list_faults tree.old }
-    ensures list_failed { IsErrOf result LoadFault.List → ⊥ }
-    ensures read_failed { IsErrOf result LoadFault.Read → Rose (T.read_faults tree.old) (T.read_faults tree.new) }
+) -> Result<Base, ReadFault>
+    ensures gives { IfSome (T.files tree.old) (λ files. Gives read_told result
+        (with_file (map string_bytes paths.now) kind number path.now files base)) }
+    ensures reads { OnlyReads T.files T.begun T.faults T.refusals T.list_faults T.read_faults
+        tree.old tree.new }
+    ensures outside { IsErrOf result ReadFault.Outside
+        → Rose (T.read_faults tree.old) (T.read_faults tree.new) }
 {
     let bytes = read_whole(alloc, tree, path, MOST_BYTES, Code::TooLong)?;
     let read = match kind {
@@ -48,8 +47,8 @@ fn add_file<T: Tree>(
     };
     match read {
         Ok(base) => Ok(base),
-        Err(Refusal::Slip(slip)) => Err(LoadFault::Fault(fault_of(alloc, paths, slip)?)),
-        Err(Refusal::Memory) => Err(LoadFault::Memory),
+        Err(Refusal::Slip(slip)) => Err(ReadFault::Fault(fault_of(alloc, paths, slip)?)),
+        Err(Refusal::Memory) => Err(ReadFault::Memory),
     }
 }
 
@@ -62,14 +61,14 @@ pub(crate) fn add_all<T: Tree>(
     first: u32,
     files: &[String],
     base: Base,
-) -> Result<Base, LoadFault>
+) -> Result<Base, ReadFault>
     requires { first + length files.now ≤ 4096 }
-    ensures gives { IfSome (T.files tree.old) (λ held. Answers (λ base. base) result (λ answer. all_of (map string_bytes paths.now) kind first (map string_bytes files.now) held base ≡ answer)) }
-    ensures looks { OnlyLooks T.files T.begun T.faults T.refusals tree.old tree.new }
-    ensures reads { T.read_faults tree.old ≤ T.read_faults tree.new }
-    ensures lists { T.list_faults tree.new ≡ T.list_faults tree.old }
-    ensures list_failed { IsErrOf result LoadFault.List → ⊥ }
-    ensures read_failed { IsErrOf result LoadFault.Read → Rose (T.read_faults tree.old) (T.read_faults tree.new) }
+    ensures gives { IfSome (T.files tree.old) (λ held. Gives read_told result
+        (all_of (map string_bytes paths.now) kind first (map string_bytes files.now) held base)) }
+    ensures reads { OnlyReads T.files T.begun T.faults T.refusals T.list_faults T.read_faults
+        tree.old tree.new }
+    ensures outside { IsErrOf result ReadFault.Outside
+        → Rose (T.read_faults tree.old) (T.read_faults tree.new) }
 {
     let mut so_far = base;
     let mut number = first;

@@ -1,15 +1,13 @@
-//! Loading what a run reads: whole files, and the naming files of a folder.
+//! Loading the naming files of a folder.
 #![tactic(auto)]
 
 mod adding;
 mod load_faults;
 mod loading;
 mod naming_paths;
-mod reading;
 mod slips;
 #[cfg(test)]
 mod tests;
 
 pub use load_faults::LoadFault;
 pub use loading::load_definitions;
-pub use reading::{fault_at, join_path, listing, read_whole};

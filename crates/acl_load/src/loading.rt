@@ -2,18 +2,19 @@ ghost use Rattle.std.specs.Prelude.{◌≡◌, ◌≤◌, ◌+◌, length, map, 
 ghost use Rattle.std.specs.String.{string_bytes};
 ghost use Rattle.acl_text.specs.Output.{Rose};
 ghost use Rattle.acl_host.specs.Files.{names_under};
-ghost use Rattle.acl_host.specs.Outside.{OnlyLooks};
-ghost use Rattle.acl_load.specs.Answers.{Answers};
+ghost use Rattle.acl_text.specs.Answers.{Answers, Gives, fault_told};
+ghost use Rattle.acl_host.specs.Outside.{OnlyListsAndReads, OnlyReads};
+ghost use Rattle.acl_host.specs.WholeFiles.{read_told};
+ghost use Rattle.acl_load.specs.LoadFaults.{load_told};
 ghost use Rattle.acl_load.specs.Loading.{AnswersWith, Loads, naming_paths, both_kinds, definitions_of};
 
 use crate::adding::{Kind, add_all};
 use crate::load_faults::LoadFault;
 use crate::naming_paths::naming_paths;
-use crate::reading::{fault_at, listing};
 use crate::slips::fault_of;
-use acl_host::Tree;
+use acl_host::{ReadFault, Tree, fault_at, listing};
 use acl_naming::{Base, Checked, check};
-use acl_text::{Code, Refusal};
+use acl_text::{Code, Refusal, Rejection};
 use std::alloc::Global;
 
 // The most naming files of a folder.
@@ -33,15 +34,17 @@ pub fn load_definitions<T: Tree>(
     tree: &mut T,
     folder: &str,
 ) -> Result<Checked, LoadFault>
-    ensures loads { IfSome (T.files tree.old) (λ files. Answers (λ checked. checked) result (Loads folder.now files)) }
-    ensures looks { OnlyLooks T.files T.begun T.faults T.refusals tree.old tree.new }
-    ensures reads { T.read_faults tree.old ≤ T.read_faults tree.new }
-    ensures lists { T.list_faults tree.old ≤ T.list_faults tree.new }
-    ensures list_failed { IsErrOf result LoadFault.List → Rose (T.list_faults tree.old) (T.list_faults tree.new) }
-    ensures read_failed { IsErrOf result LoadFault.Read → Rose (T.read_faults tree.old) (T.read_faults tree.new) }
+    ensures loads { IfSome (T.files tree.old) (λ files. Answers load_told (λ checked. checked) result
+        (Loads folder.now files)) }
+    ensures looks { OnlyListsAndReads T.files T.begun T.faults T.refusals T.list_faults T.read_faults
+        tree.old tree.new }
+    ensures list_failed { IsErrOf result LoadFault.List
+        → Rose (T.list_faults tree.old) (T.list_faults tree.new) }
+    ensures read_failed { IsErrOf result LoadFault.Read
+        → Rose (T.read_faults tree.old) (T.read_faults tree.new) }
 {
     let Definitions { base, paths } = read_definitions(alloc, tree, folder)?;
-    checked(alloc, paths.as_slice(), base)
+    Ok(check_definitions(alloc, paths.as_slice(), base)?)
 }
 
 // What the naming files of a folder define, and the paths of these files.
@@ -57,13 +60,16 @@ fn read_definitions<T: Tree>(
     tree: &mut T,
     folder: &str,
 ) -> Result<Definitions, LoadFault>
-    ensures gives { IfSome (T.files tree.old) (λ files. Answers (λ read. read.base) result (λ answer. definitions_of folder.now files ≡ answer)) }
-    ensures paths { IfSome (T.files tree.old) (λ files. IfOk result (λ read. map string_bytes read.paths.items ≡ naming_paths folder.now (names_under folder.now files))) }
-    ensures looks { OnlyLooks T.files T.begun T.faults T.refusals tree.old tree.new }
-    ensures reads { T.read_faults tree.old ≤ T.read_faults tree.new }
-    ensures lists { T.list_faults tree.old ≤ T.list_faults tree.new }
-    ensures list_failed { IsErrOf result LoadFault.List → Rose (T.list_faults tree.old) (T.list_faults tree.new) }
-    ensures read_failed { IsErrOf result LoadFault.Read → Rose (T.read_faults tree.old) (T.read_faults tree.new) }
+    ensures gives { IfSome (T.files tree.old) (λ files. Answers load_told (λ read. read.base) result
+        (λ answer. definitions_of folder.now files ≡ answer)) }
+    ensures paths { IfSome (T.files tree.old) (λ files. IfOk result (λ read.
+        map string_bytes read.paths.items ≡ naming_paths folder.now (names_under folder.now files))) }
+    ensures looks { OnlyListsAndReads T.files T.begun T.faults T.refusals T.list_faults T.read_faults
+        tree.old tree.new }
+    ensures list_failed { IsErrOf result LoadFault.List
+        → Rose (T.list_faults tree.old) (T.list_faults tree.new) }
+    ensures read_failed { IsErrOf result LoadFault.Read
+        → Rose (T.read_faults tree.old) (T.read_faults tree.new) }
 {
     let names = listing(alloc, tree, folder)?;
     let paths = naming_paths(alloc, folder, names.as_slice())?;
@@ -87,14 +93,15 @@ fn read_all<T: Tree>(
     paths: &[String],
     networks: &[String],
     services: &[String],
-) -> Result<Base, LoadFault>
+) -> Result<Base, ReadFault>
     requires { length networks.now + length services.now ≤ 4096 }
-    ensures gives { IfSome (T.files tree.old) (λ files. Answers (λ base. base) result (λ answer. both_kinds (map string_bytes paths.now) (map string_bytes networks.now) (map string_bytes services.now) files ≡ answer)) }
-    ensures looks { OnlyLooks T.files T.begun T.faults T.refusals tree.old tree.new }
-    ensures reads { T.read_faults tree.old ≤ T.read_faults tree.new }
-    ensures lists { T.list_faults tree.new ≡ T.list_faults tree.old }
-    ensures list_failed { IsErrOf result LoadFault.List → ⊥ }
-    ensures read_failed { IsErrOf result LoadFault.Read → Rose (T.read_faults tree.old) (T.read_faults tree.new) }
+    ensures gives { IfSome (T.files tree.old) (λ files. Gives read_told result
+        (both_kinds (map string_bytes paths.now) (map string_bytes networks.now)
+            (map string_bytes services.now) files)) }
+    ensures reads { OnlyReads T.files T.begun T.faults T.refusals T.list_faults T.read_faults
+        tree.old tree.new }
+    ensures outside { IsErrOf result ReadFault.Outside
+        → Rose (T.read_faults tree.old) (T.read_faults tree.new) }
 {
     let empty = Base::new(alloc);
     let base = add_all(alloc, tree, paths, Kind::Networks, 0, networks, empty)?;
@@ -103,14 +110,13 @@ fn read_all<T: Tree>(
 }
 
 // The base, where each of its names is defined and none reaches itself.
-fn checked(alloc: Global, paths: &[String], base: Base) -> Result<Checked, LoadFault>
-    ensures answer { Answers (λ checked. checked) result (AnswersWith (map string_bytes paths.now) (Ok base)) }
-    ensures list_failed { IsErrOf result LoadFault.List → ⊥ }
-    ensures read_failed { IsErrOf result LoadFault.Read → ⊥ }
+fn check_definitions(alloc: Global, paths: &[String], base: Base) -> Result<Checked, Rejection>
+    ensures { Answers fault_told (λ checked. checked) result
+        (AnswersWith (map string_bytes paths.now) (Ok base)) }
 {
     match check(base) {
         Ok(checked) => Ok(checked),
-        Err(Refusal::Slip(slip)) => Err(LoadFault::Fault(fault_of(alloc, paths, slip)?)),
-        Err(Refusal::Memory) => Err(LoadFault::Memory),
+        Err(Refusal::Slip(slip)) => Err(Rejection::Fault(fault_of(alloc, paths, slip)?)),
+        Err(Refusal::Memory) => Err(Rejection::Memory),
     }
 }

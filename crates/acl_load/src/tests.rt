@@ -1,6 +1,3 @@
-ghost use Rattle.std.specs.Prelude.{◌≡◌, IfOk, None};
-ghost use Rattle.acl_host.specs.MemoryTrees.{held};
-
 use crate::{LoadFault, load_definitions};
 use acl_host::{MemTree, Op};
 use acl_naming::{Checked, Lookup, networks_of, ports_of};
@@ -124,9 +121,7 @@ static FAULTS: [Case; 12] = [
     },
 ];
 
-fn tree_of(alloc: Global, files: &[(&str, &[u8])]) -> Result<MemTree, Memory>
-    ensures { IfOk result (λ tree. (held tree).begun ≡ None) }
-{
+fn tree_of(alloc: Global, files: &[(&str, &[u8])]) -> Result<MemTree, Memory> {
     let mut tree = MemTree::new(alloc);
     for (path, bytes) in files {
         tree.put_file(path, bytes)?;
@@ -258,9 +253,7 @@ fn long_files(rt: HostRuntime) -> Result<(), Fail> {
     Ok(())
 }
 
-fn tree_of_many(alloc: Global, count: u32) -> Result<MemTree, Fail>
-    ensures { IfOk result (λ tree. (held tree).begun ≡ None) }
-{
+fn tree_of_many(alloc: Global, count: u32) -> Result<MemTree, Fail> {
     let mut tree = MemTree::new(alloc);
     for i in 0..count {
         let path = format!(in alloc; "def/{i}.net")?;

@@ -1,6 +1,6 @@
 use Rattle.std.proofs.Common.{◌≡◌, ◌≤◌, ◌+◌, map, drop, IfSome}
 use Rattle.std.specs.String.{string_bytes}
-use Rattle.acl_host.specs.Outside.{OnlyLooks}
+use Rattle.acl_host.specs.Outside.{OnlyReads}
 use Rattle.acl_load.specs.Loading.{all_of}
 use Rattle.acl_load.proofs.adding.add_all.Given as goal
 
@@ -8,7 +8,6 @@ abbrev pub invariant-loop-path : goal.invariant-loop-path
 invariant-loop-path g l = record {
   counts : l.number ≡ l.first + l.path-index;
   gives : IfSome (g.T.Tree.files l.initial.tree) (λ held. all_of (map string_bytes l.paths) l.kind l.number (map string_bytes (drop l.path-index l.files)) held l.so_far ≡ all_of (map string_bytes l.paths) l.kind l.first (map string_bytes l.files) held l.initial.so_far);
-  looks : OnlyLooks g.T.Tree.files g.T.Tree.begun g.T.Out.faults g.T.Out.refusals l.initial.tree l.tree;
-  reads : g.T.Tree.read_faults l.initial.tree ≤ g.T.Tree.read_faults l.tree;
-  lists : g.T.Tree.list_faults l.tree ≡ g.T.Tree.list_faults l.initial.tree;
+  reads : OnlyReads g.T.Tree.files g.T.Tree.begun g.T.Out.faults g.T.Out.refusals g.T.Tree.list_faults g.T.Tree.read_faults
+      l.initial.tree l.tree;
 }
