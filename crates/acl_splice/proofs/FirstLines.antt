@@ -1,6 +1,7 @@
 -- The first line of a file, and the lines behind it.
 use Rattle.std.proofs.Common.{◌≡◌, ℕ, ◌<◌, ◌==◌, true, false, if◌then◌else◌, List, [], ◌∷◌, length, Option, None, Some, option_map, refl, ap, subst, ◌∙◌, sym, arith}
-use Rattle.acl_splice.specs.Texts.{cut_at, onto_first, lines_of}
+use Rattle.acl_text.specs.Cuts.{cut_at}
+use Rattle.acl_splice.specs.LinesAndFolders.{onto_first, lines_of}
 
 abbrev pub Opens : List ℕ → List ℕ → List ℕ → Type 0
 Opens bs line rest = (lines_of bs ≡ line ∷ lines_of rest) × (length rest < length bs)

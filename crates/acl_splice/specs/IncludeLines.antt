@@ -1,7 +1,8 @@
 -- What a line asks to include.
 use Rattle.std.specs.Prelude.{ℕ, Bool, true, false, ◌==◌, ◌&&◌, ◌||◌, not, nat_le, nat_eq, if◌then◌else◌, List, [], ◌∷◌, length, drop, codes, Option, None, Some}
 use Rattle.std.specs.List.{list_all, starts_with, slice_split}
-use Rattle.acl_splice.specs.Texts.{cut_at}
+use Rattle.acl_text.specs.Cursors.{is_white, without_white}
+use Rattle.acl_text.specs.Cuts.{cut_at}
 
 -- Nothing is asked for, or a file is wanted by its path, or the line names no path of the form that is taken:
 -- then the text between the quotes, or no text where no quote closes it.
@@ -9,14 +10,6 @@ pub data Asked : Type 0 where
   Nothing : Asked
   Wrong : List ℕ → Asked
   Wanted : List ℕ → Asked
-
--- white space in a line: tab, carriage return and space
-abbrev pub is_white : ℕ → Bool
-is_white b = b == 9 || b == 13 || b == 32
-
-abbrev pub without_white : List ℕ → List ℕ
-without_white [] = []
-without_white (b ∷ bs) = if is_white b then without_white bs else b ∷ bs
 
 -- `'` or `"`
 abbrev pub is_quote : ℕ → Bool
@@ -35,7 +28,9 @@ is_part (b ∷ c ∷ d ∷ bs) = true
 
 -- A path that may be included: at most 255 printable bytes, in good parts between slashes.
 abbrev pub is_path : List ℕ → Bool
-is_path path = nat_le (length path) 255 && list_all is_printable path && list_all is_part (slice_split (λ b. b == 47) path)
+is_path path =
+    nat_le (length path) 255 && list_all is_printable path
+    && list_all is_part (slice_split (λ b. b == 47) path)
 
 -- nothing, or a comment
 abbrev pub is_comment : List ℕ → Bool
@@ -44,7 +39,9 @@ is_comment (b ∷ bs) = b == 35
 
 abbrev pub asked_path : Option (List ℕ × List ℕ) → Asked
 asked_path None = Wrong []
-asked_path (Some (path, rest)) = if is_path path && is_comment (without_white rest) then Wanted path else Wrong path
+asked_path (Some (path, rest)) =
+    if is_path path && is_comment (without_white rest) then Wanted path
+    else Wrong path
 
 abbrev pub asked_quoted : List ℕ → Asked
 asked_quoted [] = Nothing
@@ -55,7 +52,9 @@ asked_behind [] = Nothing
 asked_behind (b ∷ bs) = if is_white b then asked_quoted (without_white bs) else Nothing
 
 abbrev pub asked_word : List ℕ → Asked
-asked_word line = if starts_with nat_eq line (codes "#include") then asked_behind (drop 8 line) else Nothing
+asked_word line =
+    if starts_with nat_eq line (codes "#include") then asked_behind (drop 8 line)
+    else Nothing
 
 -- A line whose first word is `#include`, then white space, then a quote: its path runs to the next such quote,
 -- and behind that only white space and a comment may stand.

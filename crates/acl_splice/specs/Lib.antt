@@ -1,7 +1,6 @@
-pub mod Steps
-pub mod Texts
 pub mod IncludeLines
-pub mod Asked
+pub mod IncludeLineSteps
+pub mod Labels
+pub mod LinesAndFolders
 pub mod Splices
 pub mod Splicing
-pub mod Gathering

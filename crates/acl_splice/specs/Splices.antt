@@ -1,6 +1,6 @@
 -- What a policy is with its included files spliced in, and what is recorded of it.
 use Rattle.std.specs.Prelude.{ℕ, ◌+◌, Bool, nat_lt, ◌||◌, List, [], ◌∷◌, ◌++◌}
-use Rattle.acl_splice.specs.declared.lines.Line.{Line}
+use Rattle.acl_text.specs.declared.file_lines.Line.{Line}
 
 -- What has been read so far: the labels of the files, in the order in which they were met, the lines that
 -- are no include lines, the bytes of all files, and the number of the include lines.
@@ -15,15 +15,17 @@ nothing_read = record { labels = []; lines = []; size = 0; includes = 0 }
 
 -- one more line, of the file of this number
 abbrev pub with_line : ℕ → ℕ → List ℕ → Splice → Splice
-with_line file n text s = record s { lines = s.lines ++ record { place = record { file = file; line = n }; text = text } ∷ [] }
+with_line file n text s = record s {
+  lines = s.lines ++ record { place = record { file = file; line = n }; text = text } ∷ [];
+}
 
 -- one more file of so many bytes
 abbrev pub with_file : List ℕ → ℕ → Splice → Splice
 with_file label more s = record s { labels = s.labels ++ label ∷ []; size = s.size + more }
 
 -- one more include line
-abbrev pub counted : Splice → Splice
-counted s = record s { includes = s.includes + 1 }
+abbrev pub with_include : Splice → Splice
+with_include s = record s { includes = s.includes + 1 }
 
 -- A file of so many bytes is too long, or the splice is with it: past 4 MiB and 16 MiB.
 abbrev pub is_long : ℕ → ℕ → Bool

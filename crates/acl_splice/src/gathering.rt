@@ -1,32 +1,44 @@
-ghost use Rattle.std.specs.Prelude.{◌≡◌, ◌≤◌, IfSome, IsErrOf};
+ghost use Rattle.std.specs.Prelude.{◌≡◌, IfSome, IfOk, OnOk, IsErrOf};
 ghost use Rattle.std.specs.Str.{IsUtf8};
 ghost use Rattle.acl_text.specs.Output.{Rose};
-ghost use Rattle.acl_splice.specs.Texts.{folder_of};
+ghost use Rattle.acl_splice.specs.LinesAndFolders.{folder_of};
 ghost use Rattle.acl_splice.specs.Splices.{nothing_read};
+ghost use Rattle.acl_splice.specs.Labels.{IsLabelled};
 ghost use Rattle.acl_splice.specs.Splicing.{splice_of};
-ghost use Rattle.acl_splice.specs.Gathering.{OnlyReads, Gives, Leaves};
+ghost use Rattle.acl_text.specs.Answers.{Gives, Leaves};
+ghost use Rattle.acl_host.specs.Outside.{OnlyReads};
+ghost use Rattle.acl_host.specs.WholeFiles.{read_told};
 
-use crate::gather_faults::{GatherFault, make_fault};
-use crate::sources::{MOST_OF_FILE, Sources};
+use crate::line_faults::line_fault;
+use crate::partial_splices::{MOST_OF_FILE, PartialSplice};
+use crate::sources::Sources;
 use crate::splicing::add_file;
 use crate::texts::folder_of;
-use acl_host::{Tree, TreeFault};
+use acl_host::{ReadFault, Tree, TreeFault};
 use acl_text::Code;
 use std::alloc::Global;
 use std::str;
 
+/// Why a policy was not gathered: it is at fault, a file was not read, or memory was wanted.
+pub type GatherFault = ReadFault;
+
 /// The lines of the policy at the path, with the files that it includes spliced in.
 ///
 /// Where the tree tells its files, this is the splice, or the splice's first fault, unless a reading failed or
-/// memory was wanted. The tree is only read.
+/// memory was wanted. The tree is only read. The policy has a label, and so has the file of each line, whatever
+/// the tree tells.
 pub fn gather<T: Tree>(alloc: Global, tree: &mut T, path: &str) -> Result<Sources, GatherFault>
-    ensures gives { IfSome (T.files tree.old) (λ fs. Gives result (splice_of fs path.now)) }
-    ensures reads { OnlyReads T.files T.begun T.faults T.refusals T.list_faults T.read_faults tree.old tree.new }
-    ensures outside { IsErrOf result GatherFault.Outside → Rose (T.read_faults tree.old) (T.read_faults tree.new) }
+    ensures gives { IfSome (T.files tree.old) (λ fs. Gives read_told result
+        (splice_of fs path.now)) }
+    ensures reads { OnlyReads T.files T.begun T.faults T.refusals T.list_faults T.read_faults
+        tree.old tree.new }
+    ensures outside { IsErrOf result ReadFault.Outside
+        → Rose (T.read_faults tree.old) (T.read_faults tree.new) }
+    ensures labelled { IfOk result IsLabelled }
 {
-    let mut sources = Sources::new(alloc);
-    gather_into(alloc, tree, path, &mut sources)?;
-    Ok(sources)
+    let mut splice = PartialSplice::new(alloc);
+    gather_into(alloc, tree, path, &mut splice)?;
+    Ok(Sources::from_splice(splice))
 }
 
 /// The folder of a path, with its slash.
@@ -39,17 +51,21 @@ fn folder(path: &str) -> &str
     }
 }
 
-#[tactic(auto, unfolding(crate::specs::Splicing::splice_of))]
+#[tactic(auto, using(crate::proofs::LabelLaws::is_labelled), unfolding(crate::specs::Splicing::splice_of))]
 fn gather_into<T: Tree>(
     alloc: Global,
     tree: &mut T,
     path: &str,
-    sources: &mut Sources,
-) -> Result<(), GatherFault>
+    sources: &mut PartialSplice,
+) -> Result<(), ReadFault>
     requires { sources.old ≡ nothing_read }
-    ensures gives { IfSome (T.files tree.old) (λ fs. Leaves sources.new result (splice_of fs path.now)) }
-    ensures reads { OnlyReads T.files T.begun T.faults T.refusals T.list_faults T.read_faults tree.old tree.new }
-    ensures outside { IsErrOf result GatherFault.Outside → Rose (T.read_faults tree.old) (T.read_faults tree.new) }
+    ensures gives { IfSome (T.files tree.old) (λ fs. Leaves read_told sources.new result
+        (splice_of fs path.now)) }
+    ensures reads { OnlyReads T.files T.begun T.faults T.refusals T.list_faults T.read_faults
+        tree.old tree.new }
+    ensures outside { IsErrOf result ReadFault.Outside
+        → Rose (T.read_faults tree.old) (T.read_faults tree.new) }
+    ensures labelled { OnOk result (IsLabelled sources.new) }
 {
     match tree.read(alloc, path, MOST_OF_FILE + 1) {
         Ok(bytes) => add_file(
@@ -61,14 +77,14 @@ fn gather_into<T: Tree>(
             path.as_bytes(),
             bytes.as_slice(),
         ),
-        Err(TreeFault::Absent) => Err(GatherFault::Fault(make_fault(
+        Err(TreeFault::Absent) => Err(ReadFault::Fault(line_fault(
             alloc,
             Code::NoFile,
             path.as_bytes(),
             0,
             b"",
         )?)),
-        Err(TreeFault::Failed) => Err(GatherFault::Outside),
-        Err(TreeFault::Memory) => Err(GatherFault::Memory),
+        Err(TreeFault::Failed) => Err(ReadFault::Outside),
+        Err(TreeFault::Memory) => Err(ReadFault::Memory),
     }
 }

@@ -1,9 +1,20 @@
 ghost use Rattle.std.specs.Prelude.{◌≡◌, ◌==◌, option_map};
 ghost use Rattle.std.specs.List.{list_all, slice_split};
-ghost use Rattle.acl_splice.specs.IncludeLines.{is_white, without_white, is_quote, is_printable, is_part, is_path, is_comment, asked_path, asked_quoted, asked_behind, asked_word, asked_in};
-ghost use Rattle.acl_splice.specs.Asked.{asked_view, HasGoodPath};
+ghost use Rattle.acl_splice.specs.IncludeLines.{
+  is_quote,
+  is_printable,
+  is_part,
+  is_path,
+  is_comment,
+  asked_path,
+  asked_quoted,
+  asked_behind,
+  asked_word,
+  asked_in,
+};
+ghost use Rattle.acl_splice.specs.IncludeLineSteps.{asked_view, HasGoodPath};
 
-use crate::texts::cut;
+use acl_text::{is_white, skip_white, split_at_byte};
 
 /// What a line asks to include.
 pub(crate) enum Asked<'a> {
@@ -11,25 +22,6 @@ pub(crate) enum Asked<'a> {
     /// No path of the form that is taken: the text between the quotes, if any.
     Wrong(&'a [u8]),
     Wanted(&'a [u8]),
-}
-
-fn is_white(b: u8) -> bool
-    ensures { result ≡ is_white b }
-{
-    b == b'\t' || b == b'\r' || b == b' '
-}
-
-fn without_white(line: &[u8]) -> &[u8]
-    ensures { result.now ≡ without_white line.now }
-{
-    let mut rest = line;
-    while let [b, behind @ ..] = rest {
-        if !is_white(*b) {
-            return rest;
-        }
-        rest = behind;
-    }
-    rest
 }
 
 fn is_quote(b: u8) -> bool
@@ -83,12 +75,13 @@ fn is_comment(rest: &[u8]) -> bool
 }
 
 fn asked_path<'a>(parts: Option<(&'a [u8], &'a [u8])>) -> Asked<'a>
-    ensures view { asked_view result ≡ asked_path (option_map (λ p. (p.0.now, p.1.now)) parts.entry) }
+    ensures view { asked_view result
+        ≡ asked_path (option_map (λ p. (p.0.now, p.1.now)) parts.entry) }
     ensures path { HasGoodPath (asked_view result) }
 {
     match parts {
         None => Asked::Wrong(b""),
-        Some((path, rest)) if is_path(path) && is_comment(without_white(rest)) => {
+        Some((path, rest)) if is_path(path) && is_comment(skip_white(rest)) => {
             Asked::Wanted(path)
         }
         Some((path, _)) => Asked::Wrong(path),
@@ -100,7 +93,7 @@ fn asked_quoted(line: &[u8]) -> Asked<'_>
     ensures path { HasGoodPath (asked_view result) }
 {
     match line {
-        [quote, behind @ ..] if is_quote(*quote) => asked_path(cut(behind, *quote)),
+        [quote, behind @ ..] if is_quote(*quote) => asked_path(split_at_byte(behind, *quote)),
         _ => Asked::Nothing,
     }
 }
@@ -110,7 +103,7 @@ fn asked_behind(line: &[u8]) -> Asked<'_>
     ensures path { HasGoodPath (asked_view result) }
 {
     match line {
-        [b, behind @ ..] if is_white(*b) => asked_quoted(without_white(behind)),
+        [b, behind @ ..] if is_white(*b) => asked_quoted(skip_white(behind)),
         _ => Asked::Nothing,
     }
 }
@@ -131,5 +124,5 @@ pub(crate) fn asked_in(line: &[u8]) -> Asked<'_>
     ensures view { asked_view result ≡ asked_in line.now }
     ensures path { HasGoodPath (asked_view result) }
 {
-    asked_word(without_white(line))
+    asked_word(skip_white(line))
 }

@@ -1,17 +1,15 @@
 //! A policy's lines, with the files that it includes spliced in.
 #![tactic(auto)]
 
-mod gather_faults;
 mod gathering;
 mod include_lines;
-mod lines;
+mod line_faults;
+mod partial_splices;
 mod sources;
 mod splicing;
 #[cfg(test)]
 mod tests;
 mod texts;
 
-pub use gather_faults::GatherFault;
-pub use gathering::gather;
-pub use lines::Line;
+pub use gathering::{GatherFault, gather};
 pub use sources::{Sources, label};

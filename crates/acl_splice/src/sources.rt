@@ -1,126 +1,54 @@
-ghost use Rattle.std.specs.Prelude.{◌≡◌, ℕ, ◌+◌, ◌<◌, ◌≤◌, false, option_map, slice_get, length, OnOk, IfOk};
-ghost use Rattle.acl_splice.specs.Splices.{nothing_read, with_line, with_file, counted, is_long};
+ghost use Rattle.std.specs.Prelude.{◌≡◌, option_map, slice_get};
+ghost use Rattle.acl_splice.specs.Labels.{IsLabelled};
 
-use crate::lines::Line;
-use acl_text::{Bytes, Memory, Place};
-use std::alloc::Global;
+use crate::partial_splices::PartialSplice;
+use acl_text::Line;
 use std::marker::Model;
-
-/// The most bytes that one file may have: 4 MiB.
-pub(crate) const MOST_OF_FILE: usize = 4_194_304;
-
-/// The most bytes that all files of a splice may have: 16 MiB.
-const MOST_OF_ALL: usize = 16_777_216;
 
 /// A policy with its included files spliced in.
 ///
 /// A contract sees the record of what was spliced: the labels of the files in the order in which they were
 /// met, the lines with their places, and how many bytes and include lines were read. File number n is the
-/// n-th label, counted from 0: the policy itself is file 0.
+/// n-th label, counted from 0: the policy itself is file 0. It has a label, and so has the file of each line.
 #[derive(Drop)]
 pub struct Sources {
-    labels: Vec<Bytes>,
-    lines: Vec<Line>,
-    size: usize,
-    includes: u32,
+    splice: PartialSplice,
 }
 
 impl Model for Sources {
-    ghost use Rattle.std.specs.Prelude.{ℕ, ◌+◌, ◌≤◌, length};
     ghost use Rattle.acl_splice.specs.Splices.{Splice};
 
     ghost Value = { Splice };
 
-    ghost view = { λ s. record {
-      labels = s.labels.items;
-      lines = s.lines.items;
-      size = s.size;
-      includes = s.includes;
-    } };
+    ghost use Rattle.acl_splice.specs.Labels.{IsLabelled};
 
-    ghost invariant = { λ s. length s.labels.items ≤ s.includes + 1 };
+    ghost view = { λ s. s.splice };
+
+    ghost invariant = { λ s. IsLabelled s.splice };
 }
 
 impl Sources {
-    pub(crate) fn new(alloc: Global) -> Sources
-        ensures { result ≡ nothing_read }
+    /// What was read, where it is the whole policy.
+    pub(crate) fn from_splice(splice: PartialSplice) -> Sources
+        requires { IsLabelled splice }
+        ensures { result ≡ splice }
     {
-        Sources {
-            labels: Vec::new(alloc),
-            lines: Vec::new(alloc),
-            size: 0,
-            includes: 0,
-        }
+        Sources { splice }
     }
 
     /// The lines of the splice.
     pub fn lines(&self) -> &[Line]
-        ensures { result.now ≡ self.now.lines }
+        ensures lines { result.now ≡ self.now.lines }
+        ensures labelled { IsLabelled self.now }
     {
-        self.lines.as_slice()
-    }
-
-    /// The number of the include lines that were met.
-    pub(crate) fn includes(&self) -> u32
-        ensures { result ≡ self.now.includes }
-    {
-        self.includes
-    }
-
-    /// Whether a file of so many bytes is too long, or the splice is with it.
-    pub(crate) fn is_too_long(&self, more: usize) -> bool
-        ensures { result ≡ is_long self.now.size more }
-    {
-        more > MOST_OF_FILE || self.size > MOST_OF_ALL - more
-    }
-
-    /// One more include line.
-    pub(crate) fn count_include(&mut self)
-        requires { self.old.includes < 1024 }
-        ensures counted { self.new ≡ counted self.old }
-        ensures room { length self.new.labels ≤ self.new.includes }
-    {
-        self.includes += 1;
-    }
-
-    /// One more file of so many bytes. Its number is given.
-    pub(crate) fn add_file(
-        &mut self,
-        alloc: Global,
-        label: &[u8],
-        more: usize,
-    ) -> Result<u32, Memory>
-        requires room { length self.old.labels ≤ self.old.includes }
-        requires short { is_long self.old.size more ≡ false }
-        ensures number { IfOk result (λ file. file ≡ length self.old.labels) }
-        ensures file { OnOk result (self.new ≡ with_file label.now more self.old) }
-    {
-        let file = self.labels.len() as u32;
-        let label = Bytes::from_slice(alloc, label)?;
-        self.labels.push(label)?;
-        self.size += more;
-        Ok(file)
-    }
-
-    /// One more line.
-    pub(crate) fn add_line(
-        &mut self,
-        alloc: Global,
-        place: Place,
-        text: &[u8],
-    ) -> Result<(), Memory>
-        ensures { OnOk result (self.new ≡ with_line place.file place.line text.now self.old) }
-    {
-        let text = Bytes::from_slice(alloc, text)?;
-        self.lines.push(Line { place, text })?;
-        Ok(())
+        self.splice.lines()
     }
 }
 
-/// The label of the file, where there is a file of the number.
+/// The label of the file, where there is a file of the number: there is for 0, and for that of each line.
 pub fn label(sources: &Sources, file: u32) -> Option<&[u8]>
-    ensures { option_map (λ b. b.now) result ≡ slice_get sources.now.labels file }
+    ensures label { option_map (λ b. b.now) result ≡ slice_get sources.now.labels file }
+    ensures labelled { IsLabelled sources.now }
 {
-    let bytes = sources.labels.get(file as usize)?;
-    Some(bytes.as_slice())
+    sources.splice.label(file)
 }

@@ -1,16 +1,18 @@
-ghost use Rattle.std.specs.Prelude.{◌≡◌, ◌≤◌, ◌<◌, ◌++◌, true, length, IfSome, IfOk, IsErrOf};
+ghost use Rattle.std.specs.Prelude.{◌≡◌, ◌≤◌, ◌<◌, ◌++◌, true, length, IfSome, IfOk, OnOk, IsErrOf};
 ghost use Rattle.std.specs.String.{string_bytes};
 ghost use Rattle.acl_text.specs.Output.{Rose};
-ghost use Rattle.acl_splice.specs.IncludeLines.{is_path};
-ghost use Rattle.acl_splice.specs.Splicing.{met, file_met, include_with};
-ghost use Rattle.acl_splice.specs.IncludeLines.{asked_in};
-ghost use Rattle.acl_splice.specs.Gathering.{OnlyReads, Leaves};
+ghost use Rattle.acl_splice.specs.IncludeLines.{is_path, asked_in};
+ghost use Rattle.acl_splice.specs.Labels.{AreOfFiles};
+ghost use Rattle.acl_splice.specs.Splicing.{behind_line, behind_file, behind_include};
+ghost use Rattle.acl_text.specs.Answers.{Leaves};
+ghost use Rattle.acl_host.specs.Outside.{OnlyReads};
+ghost use Rattle.acl_host.specs.WholeFiles.{read_told};
 
-use crate::gather_faults::{GatherFault, make_fault};
 use crate::include_lines::{Asked, asked_in};
-use crate::sources::{MOST_OF_FILE, Sources};
+use crate::line_faults::line_fault;
+use crate::partial_splices::{MOST_OF_FILE, PartialSplice};
 use crate::texts::first_line;
-use acl_host::{Tree, TreeFault};
+use acl_host::{ReadFault, Tree, TreeFault};
 use acl_text::{Code, Place};
 use std::alloc::{AllocError, Global};
 use std::str;
@@ -41,27 +43,32 @@ fn inner_path(alloc: Global, folder: &str, path: &[u8]) -> Result<String, AllocE
 
 /// The include line is met, where so many levels of files may still stand below.
 #[cycle(includes)]
-#[tactic(auto, unfolding(crate::specs::Splicing::include_with))]
+#[tactic(auto, unfolding(crate::specs::Splicing::behind_include))]
 fn include_file<T: Tree>(
     alloc: Global,
     tree: &mut T,
-    sources: &mut Sources,
+    sources: &mut PartialSplice,
     folder: &str,
     levels: u32,
     label: &[u8],
     line: u32,
     path: &[u8],
-) -> Result<(), GatherFault>
+) -> Result<(), ReadFault>
     requires { is_path path.now ≡ true }
-    ensures gives { IfSome (T.files tree.old) (λ fs. Leaves sources.new result (include_with levels fs folder.now label.now line path.now sources.old)) }
-    ensures reads { OnlyReads T.files T.begun T.faults T.refusals T.list_faults T.read_faults tree.old tree.new }
-    ensures outside { IsErrOf result GatherFault.Outside → Rose (T.read_faults tree.old) (T.read_faults tree.new) }
+    ensures gives { IfSome (T.files tree.old) (λ fs. Leaves read_told sources.new result
+        (behind_include levels fs folder.now label.now line path.now sources.old)) }
+    ensures reads { OnlyReads T.files T.begun T.faults T.refusals T.list_faults T.read_faults
+        tree.old tree.new }
+    ensures outside { IsErrOf result ReadFault.Outside
+        → Rose (T.read_faults tree.old) (T.read_faults tree.new) }
+    ensures labels { OnOk result (length sources.old.labels ≤ length sources.new.labels) }
+    ensures files { OnOk result (AreOfFiles sources.new) }
 {
     if levels == 0 {
-        return Err(GatherFault::Fault(make_fault(alloc, Code::IncludeDepth, label, line, path)?));
+        return Err(ReadFault::Fault(line_fault(alloc, Code::IncludeDepth, label, line, path)?));
     }
     if sources.includes() >= MOST_INCLUDES {
-        return Err(GatherFault::Fault(make_fault(alloc, Code::IncludeCount, label, line, path)?));
+        return Err(ReadFault::Fault(line_fault(alloc, Code::IncludeCount, label, line, path)?));
     }
     sources.count_include();
     let inner = inner_path(alloc, folder, path)?;
@@ -75,15 +82,15 @@ fn include_file<T: Tree>(
             inner.as_bytes(),
             bytes.as_slice(),
         ),
-        Err(TreeFault::Absent) => Err(GatherFault::Fault(make_fault(
+        Err(TreeFault::Absent) => Err(ReadFault::Fault(line_fault(
             alloc,
             Code::NoFile,
             label,
             line,
             path,
         )?)),
-        Err(TreeFault::Failed) => Err(GatherFault::Outside),
-        Err(TreeFault::Memory) => Err(GatherFault::Memory),
+        Err(TreeFault::Failed) => Err(ReadFault::Outside),
+        Err(TreeFault::Memory) => Err(ReadFault::Memory),
     }
 }
 
@@ -92,24 +99,30 @@ fn include_file<T: Tree>(
 fn meet_line<T: Tree>(
     alloc: Global,
     tree: &mut T,
-    sources: &mut Sources,
+    sources: &mut PartialSplice,
     folder: &str,
     levels: u32,
     label: &[u8],
     place: Place,
     text: &[u8],
-) -> Result<(), GatherFault>
-    ensures gives { IfSome (T.files tree.old) (λ fs. Leaves sources.new result
-        (met (include_with levels fs folder.now) label.now place.file place.line text.now (asked_in text.now) sources.old)) }
-    ensures reads { OnlyReads T.files T.begun T.faults T.refusals T.list_faults T.read_faults tree.old tree.new }
-    ensures outside { IsErrOf result GatherFault.Outside → Rose (T.read_faults tree.old) (T.read_faults tree.new) }
+) -> Result<(), ReadFault>
+    requires { place.file < length sources.old.labels }
+    ensures gives { IfSome (T.files tree.old) (λ fs. Leaves read_told sources.new result
+        (behind_line (behind_include levels fs folder.now) label.now place.file place.line text.now
+        (asked_in text.now) sources.old)) }
+    ensures reads { OnlyReads T.files T.begun T.faults T.refusals T.list_faults T.read_faults
+        tree.old tree.new }
+    ensures outside { IsErrOf result ReadFault.Outside
+        → Rose (T.read_faults tree.old) (T.read_faults tree.new) }
+    ensures labels { OnOk result (length sources.old.labels ≤ length sources.new.labels) }
+    ensures files { OnOk result (AreOfFiles sources.new) }
 {
     match asked_in(text) {
         Asked::Nothing => {
             sources.add_line(alloc, place, text)?;
             Ok(())
         }
-        Asked::Wrong(path) => Err(GatherFault::Fault(make_fault(
+        Asked::Wrong(path) => Err(ReadFault::Fault(line_fault(
             alloc,
             Code::IncludePath,
             label,
@@ -127,20 +140,24 @@ fn meet_line<T: Tree>(
 pub(crate) fn add_file<T: Tree>(
     alloc: Global,
     tree: &mut T,
-    sources: &mut Sources,
+    sources: &mut PartialSplice,
     folder: &str,
     levels: u32,
     label: &[u8],
     bytes: &[u8],
-) -> Result<(), GatherFault>
+) -> Result<(), ReadFault>
     requires room { length sources.old.labels ≤ sources.old.includes }
-    ensures gives { IfSome (T.files tree.old) (λ fs. Leaves sources.new result
-        (file_met (include_with levels fs folder.now) label.now bytes.now sources.old)) }
-    ensures reads { OnlyReads T.files T.begun T.faults T.refusals T.list_faults T.read_faults tree.old tree.new }
-    ensures outside { IsErrOf result GatherFault.Outside → Rose (T.read_faults tree.old) (T.read_faults tree.new) }
+    ensures gives { IfSome (T.files tree.old) (λ fs. Leaves read_told sources.new result
+        (behind_file (behind_include levels fs folder.now) label.now bytes.now sources.old)) }
+    ensures reads { OnlyReads T.files T.begun T.faults T.refusals T.list_faults T.read_faults
+        tree.old tree.new }
+    ensures outside { IsErrOf result ReadFault.Outside
+        → Rose (T.read_faults tree.old) (T.read_faults tree.new) }
+    ensures labels { OnOk result (length sources.old.labels < length sources.new.labels) }
+    ensures files { OnOk result (AreOfFiles sources.new) }
 {
     if sources.is_too_long(bytes.len()) {
-        return Err(GatherFault::Fault(make_fault(alloc, Code::TooLong, label, 0, b"")?));
+        return Err(ReadFault::Fault(line_fault(alloc, Code::TooLong, label, 0, b"")?));
     }
     let file = sources.add_file(alloc, label, bytes.len())?;
     let mut rest = bytes;

@@ -1,9 +1,6 @@
-ghost use Rattle.std.specs.Prelude.{◌≡◌, None, OnOk, IfOk};
-ghost use Rattle.acl_host.specs.MemoryTrees.{held};
-
-use crate::{GatherFault, Line, Sources, gather, label};
+use crate::{GatherFault, Sources, gather, label};
 use acl_host::{MemTree, Op};
-use acl_text::{Bytes, Fault, Memory};
+use acl_text::{Bytes, Fault, Line, Memory};
 use std::alloc::Global;
 use std::str;
 use std::test::Fail;
@@ -50,25 +47,16 @@ fn gathered(alloc: Global, tree: &mut MemTree) -> Result<String, Memory> {
     }
 }
 
-fn put_file(tree: &mut MemTree, path: &str, bytes: &[u8]) -> Result<(), Memory>
-    requires { (held tree.old).begun ≡ None }
-    ensures { OnOk result ((held tree.new).begun ≡ None) }
-{
-    tree.put_file(path, bytes)
-}
-
-fn with_policy(alloc: Global, policy: &[u8]) -> Result<MemTree, Memory>
-    ensures { IfOk result (λ tree. (held tree).begun ≡ None) }
-{
+fn with_policy(alloc: Global, policy: &[u8]) -> Result<MemTree, Memory> {
     let mut tree = MemTree::new(alloc);
-    put_file(&mut tree, "pol/a.pol", policy)?;
+    tree.put_file("pol/a.pol", policy)?;
     Ok(tree)
 }
 
 #[test]
 fn an_included_file_stands_in_its_place(rt: HostRuntime) -> Result<(), Fail> {
     let mut tree = with_policy(rt.alloc(), b"one\r\n #include \"inc/b.inc\" # b\ntwo")?;
-    put_file(&mut tree, "pol/inc/b.inc", b"three")?;
+    tree.put_file("pol/inc/b.inc", b"three")?;
     assert_eq!(rt;
         gathered(rt.alloc(), &mut tree)?.as_str(),
         "0:1:one\r;1:1:three;0:3:two;"
@@ -79,8 +67,8 @@ fn an_included_file_stands_in_its_place(rt: HostRuntime) -> Result<(), Fail> {
 #[test]
 fn an_inner_path_hangs_on_the_folder_of_the_policy(rt: HostRuntime) -> Result<(), Fail> {
     let mut tree = with_policy(rt.alloc(), b"#include 'inc/b.inc'\n#include 'c.inc'\n")?;
-    put_file(&mut tree, "pol/inc/b.inc", b"#include 'c.inc'\n")?;
-    put_file(&mut tree, "pol/c.inc", b"x\n\n")?;
+    tree.put_file("pol/inc/b.inc", b"#include 'c.inc'\n")?;
+    tree.put_file("pol/c.inc", b"x\n\n")?;
     assert_eq!(rt;
         gathered(rt.alloc(), &mut tree)?.as_str(),
         "2:1:x;2:2:;3:1:x;3:2:;"
@@ -94,7 +82,7 @@ fn an_include_line_in_a_string_is_spliced(rt: HostRuntime) -> Result<(), Fail> {
         rt.alloc(),
         b"comment:: \"\n#include 'b.inc'\n#include x\n\"\n",
     )?;
-    put_file(&mut tree, "pol/b.inc", b"in\n")?;
+    tree.put_file("pol/b.inc", b"in\n")?;
     assert_eq!(rt;
         gathered(rt.alloc(), &mut tree)?.as_str(),
         "0:1:comment:: \";1:1:in;0:3:#include x;0:4:\";"
@@ -135,7 +123,7 @@ fn paths_that_lead_out_are_refused(rt: HostRuntime) -> Result<(), Fail> {
 #[test]
 fn a_file_that_is_not_there_is_told_by_its_include_line(rt: HostRuntime) -> Result<(), Fail> {
     let mut tree = with_policy(rt.alloc(), b"#include 'b.inc'\n")?;
-    put_file(&mut tree, "pol/b.inc", b"\n\n#include 'gone'\n")?;
+    tree.put_file("pol/b.inc", b"\n\n#include 'gone'\n")?;
     assert_eq!(rt;
         gathered(rt.alloc(), &mut tree)?.as_str(),
         "NoFile pol/b.inc:3 gone"
@@ -160,7 +148,7 @@ fn many_includes(alloc: Global, count: u32) -> Result<Bytes, Memory> {
 fn include_lines_are_counted(rt: HostRuntime) -> Result<(), Fail> {
     let policy = many_includes(rt.alloc(), 1025)?;
     let mut tree = with_policy(rt.alloc(), policy.as_slice())?;
-    put_file(&mut tree, "pol/b.inc", b"")?;
+    tree.put_file("pol/b.inc", b"")?;
     assert_eq!(rt;
         gathered(rt.alloc(), &mut tree)?.as_str(),
         "IncludeCount pol/a.pol:1025 b.inc"
@@ -182,7 +170,7 @@ fn long_files_and_long_splices_are_refused(rt: HostRuntime) -> Result<(), Fail> 
     let mut file = long_text(rt.alloc(), 1024)?;
     let policy = many_includes(rt.alloc(), 4)?;
     let mut tree = with_policy(rt.alloc(), policy.as_slice())?;
-    put_file(&mut tree, "pol/b.inc", file.as_slice())?;
+    tree.put_file("pol/b.inc", file.as_slice())?;
     assert_eq!(rt;
         gathered(rt.alloc(), &mut tree)?.as_str(),
         "TooLong pol/b.inc:0 "
@@ -199,7 +187,7 @@ fn long_files_and_long_splices_are_refused(rt: HostRuntime) -> Result<(), Fail> 
 #[test]
 fn a_reading_that_fails_is_outside(rt: HostRuntime) -> Result<(), Fail> {
     let mut tree = with_policy(rt.alloc(), b"#include 'b.inc'\n")?;
-    put_file(&mut tree, "pol/b.inc", b"x")?;
+    tree.put_file("pol/b.inc", b"x")?;
     tree.fail(Op::Read, 2)?;
     assert_eq!(rt; gathered(rt.alloc(), &mut tree)?.as_str(), "outside");
     Ok(())
@@ -229,7 +217,7 @@ fn gathers_labels(alloc: Global, tree: &mut MemTree) -> bool {
 #[test]
 fn files_have_labels(rt: HostRuntime) -> Result<(), Fail> {
     let mut tree = with_policy(rt.alloc(), b"#include 'inc/b.inc'\n")?;
-    put_file(&mut tree, "pol/inc/b.inc", b"")?;
+    tree.put_file("pol/inc/b.inc", b"")?;
     assert!(rt; gathers_labels(rt.alloc(), &mut tree));
     Ok(())
 }

@@ -1,24 +1,15 @@
-ghost use Rattle.std.specs.Prelude.{◌≡◌, ◌<◌, option_map, length, MatchOption, IfSome, [], ◌∷◌};
-ghost use Rattle.acl_splice.specs.Texts.{cut_at, lines_of, folder_of};
+ghost use Rattle.std.specs.Prelude.{◌≡◌, ◌<◌, length, MatchOption, IfSome, [], ◌∷◌};
+ghost use Rattle.acl_splice.specs.LinesAndFolders.{lines_of, folder_of};
 
-/// The bytes before the first byte `c`, and the bytes behind it.
-pub(crate) fn cut(bytes: &[u8], c: u8) -> Option<(&[u8], &[u8])>
-    ensures { option_map (λ p. (p.0.now, p.1.now)) result ≡ cut_at c bytes.now }
-{
-    for (i, b) in bytes.iter().enumerate() {
-        if *b == c {
-            return Some((&bytes[..i], &bytes[i + 1..]));
-        }
-    }
-    None
-}
+use acl_text::split_at_byte;
 
 /// The first line without its line feed, and the bytes behind it.
 pub(crate) fn first_line(bytes: &[u8]) -> Option<(&[u8], &[u8])>
-    ensures lines { MatchOption result (bytes.now ≡ []) (λ p. lines_of bytes.now ≡ p.0.now ∷ lines_of p.1.now) }
+    ensures lines { MatchOption result (bytes.now ≡ [])
+        (λ p. lines_of bytes.now ≡ p.0.now ∷ lines_of p.1.now) }
     ensures shorter { IfSome result (λ p. length p.1.now < length bytes.now) }
 {
-    match cut(bytes, b'\n') {
+    match split_at_byte(bytes, b'\n') {
         Some((line, behind)) => Some((line, behind)),
         None if bytes.is_empty() => None,
         None => Some((bytes, b"")),

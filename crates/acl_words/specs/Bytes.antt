@@ -1,18 +1,15 @@
 -- The bytes of a policy's text.
 use Rattle.std.specs.Prelude.{ℕ, Bool, not, ◌&&◌, ◌||◌, ◌==◌, nat_eq, nat_le, if◌then◌else◌, List, [], ◌∷◌, Option, None, Some}
 use Rattle.std.specs.List.{ends_with}
-
--- HT, LF, CR and space.
-abbrev pub is_white : ℕ → Bool
-is_white b = b == 32 || b == 9 || b == 13 || b == 10
+use Rattle.acl_text.specs.Cursors.{is_white}
 
 -- `"`, `#`, `{` and `}`: each ends the word before it.
 abbrev pub is_mark : ℕ → Bool
 is_mark b = b == 34 || b == 35 || b == 123 || b == 125
 
--- A byte of a word: neither white space nor one that ends a word.
+-- A byte of a word: neither white space, nor a line feed, nor one of those.
 abbrev pub in_run : ℕ → Bool
-in_run b = not (is_white b) && not (is_mark b)
+in_run b = not (is_white b || b == 10) && not (is_mark b)
 
 -- The printable bytes of ASCII but for the space: the others are an error in a word.
 abbrev pub is_printed : ℕ → Bool

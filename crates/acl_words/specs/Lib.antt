@@ -1,3 +1,4 @@
 pub mod Bytes
-pub mod Scanning
+pub mod Places
+pub mod ScanningSteps
 pub mod Words

@@ -8,26 +8,28 @@ use Rattle.acl_text.specs.declared.faults.Place.{Place}
 use Rattle.acl_words.specs.declared.forms.Form.{Form}
 use Rattle.acl_words.specs.declared.forms.Form.TheVariants.{Plain, Keyword, Begin, End, Quoted, Unclosed, Bad}
 use Rattle.acl_words.specs.declared.forms.Token.{Token}
-use Rattle.acl_splice.specs.declared.lines.Line.{Line}
+use Rattle.acl_text.specs.declared.file_lines.Line.{Line}
 use Rattle.acl_words.specs.Bytes.{in_run, first_bad, ends_in_colon}
 
 abbrev pub word : Place → Form → List ℕ → Token
 word place form text = record { place = place; form = form; text = text }
 
 -- A part of a run: where it has a byte that no word may have, that byte stands for it.
-abbrev pub checked : Place → Form → List ℕ → Token
-checked place form text = option_map_or {U = Token} (λ b. word place Bad (b ∷ [])) (first_bad text) (word place form text)
+abbrev pub part_word : Place → Form → List ℕ → Token
+part_word place form text =
+    option_map_or {U = Token} (λ b. word place Bad (b ∷ [])) (first_bad text) (word place form text)
 
 -- What is left at a run's end, behind its last `::`.
 abbrev pub last_part : Place → List ℕ → List Token
 last_part place [] = []
-last_part place (b ∷ bs) = checked place Plain (b ∷ bs) ∷ []
+last_part place (b ∷ bs) = part_word place Plain (b ∷ bs) ∷ []
 
 -- A run is split behind its first `::`, and what is left again. The part stands before the bytes.
 abbrev pub split_run : Place → List ℕ → List ℕ → List Token
 split_run place part [] = last_part place part
 split_run place part (b ∷ bs) =
-    if ends_in_colon part && b == 58 then checked place Keyword (part ++ b ∷ []) ∷ split_run place [] bs
+    if ends_in_colon part && b == 58
+    then part_word place Keyword (part ++ b ∷ []) ∷ split_run place [] bs
     else split_run place (part ++ b ∷ []) bs
 
 -- What stands open between two bytes. A word has the place where it began.
@@ -38,8 +40,8 @@ pub data Mode : Type 0 where
   String : Place → List ℕ → Mode
 
 -- What a byte opens where no word stands open.
-abbrev pub opened : Place → ℕ → Mode
-opened place b =
+abbrev pub opened_mode : Place → ℕ → Mode
+opened_mode place b =
     if b == 34 then String place []
     else if b == 35 then Comment
     else if in_run b then Run place (b ∷ [])
@@ -54,9 +56,11 @@ brace place b =
 
 -- What stands open behind a byte. A comment runs to the end of its line, a string to the next `"`.
 abbrev pub mode_behind : Mode → Place → ℕ → Mode
-mode_behind Between place b = opened place b
+mode_behind Between place b = opened_mode place b
 mode_behind Comment place b = if b == 10 then Between else Comment
-mode_behind (Run from text) place b = if in_run b then Run from (text ++ b ∷ []) else opened place b
+mode_behind (Run from text) place b =
+    if in_run b then Run from (text ++ b ∷ [])
+    else opened_mode place b
 mode_behind (String from text) place b = if b == 34 then Between else String from (text ++ b ∷ [])
 
 -- The words that end with a byte.

@@ -2,14 +2,11 @@
 #![tactic(auto)]
 
 mod forms;
-mod item_lists;
 mod reading;
 mod runs;
 mod scanning;
 #[cfg(test)]
 mod tests;
 
-pub use acl_splice::Line;
 pub use forms::{Form, Token};
-pub use item_lists::Items;
 pub use reading::read_words;

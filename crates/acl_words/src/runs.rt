@@ -1,17 +1,10 @@
 ghost use Rattle.std.specs.Prelude.{◌≡◌, [], ◌++◌, IfOk, OnOk};
-ghost use Rattle.acl_words.specs.Bytes.{is_white, is_mark, in_run, is_printed, first_bad, ends_in_colon};
-ghost use Rattle.acl_words.specs.Words.{checked, last_part, split_run};
+ghost use Rattle.acl_words.specs.Bytes.{is_mark, in_run, is_printed, first_bad, ends_in_colon};
+ghost use Rattle.acl_words.specs.Words.{part_word, last_part, split_run};
 
 use crate::forms::{Form, Token};
-use crate::item_lists::Items;
-use acl_text::{Bytes, Memory, Place};
+use acl_text::{Bytes, Items, Memory, Place, is_white};
 use std::alloc::Global;
-
-fn is_white(byte: u8) -> bool
-    ensures { result ≡ is_white byte }
-{
-    byte == b' ' || byte == b'\t' || byte == b'\r' || byte == b'\n'
-}
 
 fn is_mark(byte: u8) -> bool
     ensures { result ≡ is_mark byte }
@@ -23,7 +16,7 @@ fn is_mark(byte: u8) -> bool
 pub(crate) fn in_run(byte: u8) -> bool
     ensures { result ≡ in_run byte }
 {
-    !is_white(byte) && !is_mark(byte)
+    !(is_white(byte) || byte == b'\n') && !is_mark(byte)
 }
 
 fn is_printed(byte: u8) -> bool
@@ -49,8 +42,8 @@ fn ends_in_colon(text: &[u8]) -> bool
     text.ends_with(b":")
 }
 
-fn checked(alloc: Global, place: Place, form: Form, text: &[u8]) -> Result<Token, Memory>
-    ensures { IfOk result (λ t. t ≡ checked place form text.now) }
+fn part_word(alloc: Global, place: Place, form: Form, text: &[u8]) -> Result<Token, Memory>
+    ensures { IfOk result (λ t. t ≡ part_word place form text.now) }
 {
     match first_bad(text) {
         Some(bad) => Ok(Token {
@@ -75,7 +68,7 @@ fn push_last(
     ensures { OnOk result (words.new ≡ words.old ++ last_part place part.now) }
 {
     if !part.is_empty() {
-        words.push(checked(alloc, place, Form::Plain, part)?)?;
+        words.push(part_word(alloc, place, Form::Plain, part)?)?;
     }
     Ok(())
 }
@@ -94,7 +87,7 @@ pub(crate) fn push_run(
         let at_end = *byte == b':' && ends_in_colon(part.as_slice());
         part.push_all(&[*byte])?;
         if at_end {
-            words.push(checked(alloc, place, Form::Keyword, part.as_slice())?)?;
+            words.push(part_word(alloc, place, Form::Keyword, part.as_slice())?)?;
             part = Bytes::new(alloc);
         }
     }

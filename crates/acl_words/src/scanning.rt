@@ -1,12 +1,11 @@
 ghost use Rattle.std.specs.Prelude.{◌≡◌, ◌∷◌, ◌++◌, [], OnOk};
 ghost use Rattle.acl_text.specs.declared.faults.Place.{Place};
-ghost use Rattle.acl_words.specs.Words.{word, Between, opened, brace, mode_behind, words_at};
-ghost use Rattle.acl_words.specs.Scanning.{mode_of};
+ghost use Rattle.acl_words.specs.Words.{word, Between, opened_mode, brace, mode_behind, words_at};
+ghost use Rattle.acl_words.specs.ScanningSteps.{mode_of};
 
 use crate::forms::{Form, Token};
-use crate::item_lists::Items;
 use crate::runs::{in_run, push_run};
-use acl_text::{Bytes, Memory, Place};
+use acl_text::{Bytes, Items, Memory, Place};
 use std::alloc::Global;
 use std::mem;
 
@@ -41,7 +40,7 @@ fn push_brace(alloc: Global, words: &mut Items<Token>, place: Place, byte: u8) -
 }
 
 fn begin(alloc: Global, reader: &mut Reader, place: Place, byte: u8) -> Result<(), Memory>
-    ensures mode { OnOk result (mode_of reader.new ≡ opened place byte) }
+    ensures mode { OnOk result (mode_of reader.new ≡ opened_mode place byte) }
     ensures words { OnOk result (reader.new.words ≡ reader.old.words ++ brace place byte) }
 {
     if byte == b'"' {
@@ -63,7 +62,8 @@ fn begin(alloc: Global, reader: &mut Reader, place: Place, byte: u8) -> Result<(
 
 fn take_in_comment(reader: &mut Reader, byte: u8)
     requires { reader.old.phase ≡ Phase.Comment }
-    ensures mode { (place : Place) → mode_of reader.new ≡ mode_behind (mode_of reader.old) place byte }
+    ensures mode { (place : Place)
+        → mode_of reader.new ≡ mode_behind (mode_of reader.old) place byte }
     ensures words { reader.new.words ≡ reader.old.words }
 {
     if byte == b'\n' {
@@ -74,7 +74,8 @@ fn take_in_comment(reader: &mut Reader, byte: u8)
 fn take_in_run(alloc: Global, reader: &mut Reader, place: Place, byte: u8) -> Result<(), Memory>
     requires { reader.old.phase ≡ Phase.Run }
     ensures mode { OnOk result (mode_of reader.new ≡ mode_behind (mode_of reader.old) place byte) }
-    ensures words { OnOk result (reader.new.words ≡ reader.old.words ++ words_at (mode_of reader.old) place byte) }
+    ensures words { OnOk result (reader.new.words ≡ reader.old.words
+        ++ words_at (mode_of reader.old) place byte) }
 {
     if in_run(byte) {
         reader.text.push_all(&[byte])
@@ -91,7 +92,8 @@ fn take_in_run(alloc: Global, reader: &mut Reader, place: Place, byte: u8) -> Re
 
 fn close_string(alloc: Global, reader: &mut Reader) -> Result<(), Memory>
     ensures mode { OnOk result (mode_of reader.new ≡ Between) }
-    ensures words { OnOk result (reader.new.words ≡ reader.old.words ++ word reader.old.place Form.Quoted reader.old.text ∷ []) }
+    ensures words { OnOk result (reader.new.words ≡ reader.old.words
+        ++ word reader.old.place Form.Quoted reader.old.text ∷ []) }
 {
     let text = mem::replace(&mut reader.text, Bytes::new(alloc));
     reader.words.push(Token {
@@ -106,7 +108,8 @@ fn close_string(alloc: Global, reader: &mut Reader) -> Result<(), Memory>
 fn take_in_string(alloc: Global, reader: &mut Reader, place: Place, byte: u8) -> Result<(), Memory>
     requires { reader.old.phase ≡ Phase.String }
     ensures mode { OnOk result (mode_of reader.new ≡ mode_behind (mode_of reader.old) place byte) }
-    ensures words { OnOk result (reader.new.words ≡ reader.old.words ++ words_at (mode_of reader.old) place byte) }
+    ensures words { OnOk result (reader.new.words ≡ reader.old.words
+        ++ words_at (mode_of reader.old) place byte) }
 {
     if byte == b'"' {
         close_string(alloc, reader)
@@ -123,7 +126,8 @@ pub(crate) fn take_byte(
     byte: u8,
 ) -> Result<(), Memory>
     ensures mode { OnOk result (mode_of reader.new ≡ mode_behind (mode_of reader.old) place byte) }
-    ensures words { OnOk result (reader.new.words ≡ reader.old.words ++ words_at (mode_of reader.old) place byte) }
+    ensures words { OnOk result (reader.new.words ≡ reader.old.words
+        ++ words_at (mode_of reader.old) place byte) }
 {
     match reader.phase {
         Phase::Between => begin(alloc, reader, place, byte),

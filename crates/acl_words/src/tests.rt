@@ -1,5 +1,5 @@
-use crate::{Form, Line, Token, read_words};
-use acl_text::{Bytes, Memory, Place};
+use crate::{Form, Token, read_words};
+use acl_text::{Bytes, Line, Memory, Place};
 use std::alloc::Global;
 use std::str;
 use std::test::Fail;

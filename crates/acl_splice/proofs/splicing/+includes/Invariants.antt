@@ -1,7 +1,8 @@
 use Rattle.std.proofs.Common.{◌≡◌, ◌≤◌, ◌+◌, ◌*◌, length, IfSome}
-use Rattle.acl_splice.specs.Texts.{lines_of}
-use Rattle.acl_splice.specs.Splicing.{lines_met, include_with}
-use Rattle.acl_splice.specs.Gathering.{OnlyReads}
+use Rattle.acl_splice.specs.LinesAndFolders.{lines_of}
+use Rattle.acl_splice.specs.Labels.{AreOfFiles}
+use Rattle.acl_splice.specs.Splicing.{behind_lines, behind_include}
+use Rattle.acl_host.specs.Outside.{OnlyReads}
 use Rattle.acl_splice.proofs.splicing.+includes.Given as goal
 
 -- an include line goes one level down; a line and a file stand on the same level
@@ -16,11 +17,16 @@ decreases-add_file g l = 3 * l.levels + 2
 
 abbrev pub invariant-add_file-loop-text : goal.invariant-add_file-loop-text
 invariant-add_file-loop-text g l = record {
-  reads : OnlyReads g.T.Tree.files g.T.Tree.begun g.T.Out.faults g.T.Out.refusals g.T.Tree.list_faults g.T.Tree.read_faults l.fn.tree l.tree;
+  reads : OnlyReads g.T.Tree.files g.T.Tree.begun g.T.Out.faults g.T.Out.refusals
+      g.T.Tree.list_faults g.T.Tree.read_faults l.fn.tree l.tree;
+  labels : length l.initial.sources.labels ≤ length l.sources.labels;
+  files : AreOfFiles l.sources;
   few : l.line + length l.rest ≤ length l.bytes;
   goes_on : IfSome (g.T.Tree.files l.fn.tree) (λ fs.
-      lines_met (include_with l.levels fs l.folder) l.label l.file (l.line + 1) (lines_of l.rest) l.sources
-      ≡ lines_met (include_with l.levels fs l.folder) l.label l.file 1 (lines_of l.bytes) l.initial.sources);
+      behind_lines (behind_include l.levels fs l.folder) l.label l.file (l.line + 1)
+      (lines_of l.rest) l.sources
+      ≡ behind_lines (behind_include l.levels fs l.folder) l.label l.file 1
+      (lines_of l.bytes) l.initial.sources);
 }
 
 abbrev pub decreases-add_file-loop-text : goal.decreases-add_file-loop-text

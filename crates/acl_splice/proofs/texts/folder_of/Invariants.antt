@@ -1,5 +1,5 @@
 use Rattle.std.specs.Prelude.{◌≡◌, length}
-use Rattle.acl_splice.specs.Texts.{folder_of}
+use Rattle.acl_splice.specs.LinesAndFolders.{folder_of}
 use Rattle.acl_splice.proofs.texts.folder_of.Given as goal
 
 abbrev pub invariant-loop-front : goal.invariant-loop-front

@@ -1,6 +1,6 @@
 use Rattle.std.proofs.Common.{◌≡◌, ◌++◌, drop}
 use Rattle.acl_words.specs.Words.{words_from}
-use Rattle.acl_words.specs.Scanning.{mode_of}
+use Rattle.acl_words.specs.ScanningSteps.{mode_of}
 use Rattle.acl_words.proofs.reading.read_lines.Given as goal
 
 abbrev pub invariant-loop-line : goal.invariant-loop-line

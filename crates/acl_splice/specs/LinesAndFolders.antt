@@ -1,11 +1,6 @@
--- Lines, and the parts of a path.
-use Rattle.std.specs.Prelude.{ℕ, ◌==◌, ◌||◌, if◌then◌else◌, List, [], ◌∷◌, Option, None, Some, option_map}
+-- The lines of a file, and the folder of a path.
+use Rattle.std.specs.Prelude.{ℕ, ◌==◌, ◌||◌, if◌then◌else◌, List, [], ◌∷◌}
 use Rattle.std.specs.List.{list_any}
-
--- The text before the first such byte, and the text behind it.
-abbrev pub cut_at : ℕ → List ℕ → Option (List ℕ × List ℕ)
-cut_at c [] = None
-cut_at c (b ∷ bs) = if b == c then Some ([], bs) else option_map (λ p. (b ∷ p.0, p.1)) (cut_at c bs)
 
 -- the byte stands at the front of the first line
 abbrev pub onto_first : ℕ → List (List ℕ) → List (List ℕ)
