@@ -8,7 +8,6 @@ pub mod Dotted
 pub mod Gaps
 pub mod GroupSteps
 pub mod Groups
-pub mod LineLaws
 pub mod OptionStepLaws
 pub mod PortLaws
 pub mod Printed

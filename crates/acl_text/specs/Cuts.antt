@@ -1,7 +1,12 @@
 -- Cutting a text at a byte, and at a front or an end.
-use Rattle.std.specs.Prelude.{ℕ, ◌-◌, Bool, ◌==◌, nat_eq, if◌then◌else◌, List, [], ◌∷◌, length, take, drop, Option, Some, None, option_map}
+use Rattle.std.specs.Prelude.{ℕ, ◌-◌, Bool, ◌==◌, nat_eq, if◌then◌else◌, List, [], ◌∷◌, length, take, drop, Option, Some, None, option_map, map}
+use Rattle.std.specs.Borrow.{Bor}
 use Rattle.std.specs.List.{list_any, ends_with}
 use Rattle.std.specs.Str.{bytes_eq}
+
+-- Borrowed texts, as the texts.
+abbrev pub views : List (Bor (List ℕ)) → List (List ℕ)
+views texts = map (λ x. x.now) texts
 
 -- The text before the first such byte, and the text behind it.
 abbrev pub cut_at : ℕ → List ℕ → Option (List ℕ × List ℕ)

@@ -4,7 +4,6 @@ pub mod Cursors
 pub mod Cuts
 pub mod Ipv4
 pub mod Ipv6
-pub mod Lines
 pub mod Names
 pub mod OptionSteps
 pub mod Output

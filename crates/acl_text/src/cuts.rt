@@ -1,7 +1,6 @@
 ghost use Rattle.std.specs.Prelude.{◌≡◌, ◌==◌, IfOk, option_map};
 ghost use Rattle.std.specs.List.{slice_split};
-ghost use Rattle.acl_text.specs.Cuts.{ahead, behind, cut_at, has_byte};
-ghost use Rattle.acl_text.specs.Lines.{views};
+ghost use Rattle.acl_text.specs.Cuts.{ahead, behind, cut_at, has_byte, views};
 
 use crate::texts::Memory;
 use std::alloc::{AllocError, Global};

@@ -11,7 +11,6 @@ mod ipv6;
 mod ipv6_text;
 mod items;
 mod laws;
-mod lines;
 mod names;
 mod output;
 mod port_ranges;
@@ -32,7 +31,6 @@ pub use laws::{
     addresses_are_read_again, longest_runs_are_found, numbers_are_read_again,
     prefixes_are_read_again, texts_have_one_number, texts_have_one_prefix,
 };
-pub use lines::{indented_words, line_words, text_lines};
 pub use names::{is_digit, is_filter_name, is_letter, is_name, is_safe_text};
 pub use output::{Out, PutFault, put_pieces};
 pub use port_ranges::read_ports;
