@@ -1,0 +1,4 @@
+pub mod NamingLaws
+pub mod PutLaws
+pub mod RowLaws
+pub mod TakenLaws

@@ -1,0 +1,5 @@
+pub mod ComparingSteps
+pub mod Naming
+pub mod NamingSteps
+pub mod RowSteps
+pub mod Rows

@@ -1,0 +1,15 @@
+//! What strict readers and writers of device languages share: pieces with a stated text, rows of words, lenient
+//! reading into a draft, and the comparison of bytes with a text.
+#![tactic(auto)]
+
+mod comparing;
+mod drafts;
+mod naming;
+mod pieces;
+mod rows;
+
+pub use comparing::is_text_of;
+pub use drafts::{Draft, read_rows};
+pub use naming::are_distinct;
+pub use pieces::{Form, FreeText, Number, Piece, Word, Words, put_each};
+pub use rows::{Row, join_words};
