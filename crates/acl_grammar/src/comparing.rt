@@ -1,21 +1,22 @@
 ghost use Rattle.std.specs.Prelude.{◌≡◌, ◌+◌, ◌≤◌, ◌↔◌, refl, IsTrue, length, is_none, Some, ◌==◌};
 ghost use Rattle.std.specs.List.{common_prefix_len};
 ghost use Rattle.std.proofs.Common.{◌∙◌};
+ghost use Rattle.acl_grammar.specs.Rows.{text_of_rows};
 ghost use Rattle.acl_grammar.specs.ComparingSteps.{IsCompared, taken, faults_of};
 
-use crate::pieces::Piece;
+use crate::rows::Rows;
 use acl_text::{Out, PutFault};
 
-/// Whether the bytes are the piece's text.
-pub fn is_text_of<P: Piece>(bytes: &[u8], piece: &P) -> bool
-    ensures { IsTrue result ↔ (bytes.now ≡ P.text piece.now) }
+/// Whether the bytes are the text of the rows.
+pub fn is_text_of<R: Rows>(bytes: &[u8], rows: &R) -> bool
+    ensures { IsTrue result ↔ (bytes.now ≡ text_of_rows (R.rows rows.now)) }
 {
     let mut out = Comparing {
         text: bytes,
         place: 0,
         other: None,
     };
-    match piece.put_into(&mut out) {
+    match rows.put_rows(&mut out) {
         Ok(()) => out.place == bytes.len(),
         Err(_) => false,
     }

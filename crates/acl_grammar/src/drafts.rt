@@ -4,7 +4,7 @@ ghost use Rattle.acl_text.specs.Lines.{views};
 ghost use Rattle.acl_grammar.specs.Rows.{Row, row};
 ghost use Rattle.acl_grammar.specs.RowSteps.{rows_in};
 
-use crate::rows::{parts_at, read_row};
+use crate::splitting::{parts_at, read_row};
 use acl_text::Memory;
 use std::alloc::Global;
 

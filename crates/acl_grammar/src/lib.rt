@@ -7,9 +7,11 @@ mod drafts;
 mod naming;
 mod pieces;
 mod rows;
+mod splitting;
 
 pub use comparing::is_text_of;
 pub use drafts::{Draft, read_rows};
 pub use naming::are_distinct;
-pub use pieces::{Form, FreeText, Number, Piece, Word, Words, put_each};
-pub use rows::{Row, join_words};
+pub use pieces::{Address, FreeText, Number, Piece, Wildcard, Word, Words};
+pub use rows::{Each, Form, Row, Rows};
+pub use splitting::join_words;

@@ -1,8 +1,11 @@
-ghost use Rattle.std.specs.Prelude.{◌≡◌, ◌∷◌, [], ◌++◌, List, ℕ, IsTrue, Some, None, Option, decimal, flat_map};
+ghost use Rattle.std.specs.Prelude.{◌≡◌, ◌∷◌, [], ◌++◌, List, ℕ, IsTrue, Some, None, Option, decimal};
 ghost use Rattle.acl_text.specs.Output.{Puts};
+ghost use Rattle.acl_text.specs.AddressTexts.{address_text, prefix_text, wildcard_text};
+ghost use Rattle.acl_text.specs.Lines.{views};
 ghost use Rattle.acl_grammar.specs.Rows.{spaced, or_nothing, words_in};
 
-use acl_text::{Out, PutFault, put_number};
+use acl_packet::{Family, Prefix};
+use acl_text::{Out, PutFault, put_address, put_number, put_prefix, put_wildcard};
 
 /// A value with a stated text, as `Display` is for `fmt`.
 pub trait Piece {
@@ -48,6 +51,44 @@ impl Piece for Number {
     }
 }
 
+/// The text of an address.
+#[derive(Clone, Copy)]
+pub struct Address {
+    pub family: Family,
+    pub address: u128,
+}
+
+impl Piece for Address {
+    ghost text = { λ a. address_text a.family a.address };
+
+    fn put_into<O: Out>(&self, out: &mut O) -> Result<(), PutFault> {
+        put_address(out, self.family, self.address)
+    }
+}
+
+/// The bits behind a length of an IPv4 prefix, as an address.
+#[derive(Clone, Copy)]
+pub struct Wildcard {
+    pub len: u8,
+}
+
+impl Piece for Wildcard {
+    ghost text = { λ w. wildcard_text w.len };
+
+    fn put_into<O: Out>(&self, out: &mut O) -> Result<(), PutFault> {
+        put_wildcard(out, self.len)
+    }
+}
+
+/// A prefix with its length behind a `/`.
+impl Piece for Prefix {
+    ghost text = { prefix_text };
+
+    fn put_into<O: Out>(&self, out: &mut O) -> Result<(), PutFault> {
+        put_prefix(out, self)
+    }
+}
+
 /// A value that is written as words of a line.
 pub trait Words {
     ghost words: { Self → List (List ℕ) };
@@ -72,6 +113,26 @@ impl<P: Piece> Words for Word<P> {
         out.put(b" ")?;
         self.piece.put_into(out)
     }
+}
+
+/// Words as they are.
+impl<'a> Words for &'a [&'a [u8]] {
+    ghost words = { λ w. views w.now };
+
+    fn put_spaced<O: Out>(&self, out: &mut O) -> Result<(), PutFault> {
+        put_words(self, out)
+    }
+}
+
+fn put_words<O: Out>(words: &[&[u8]], out: &mut O) -> Result<(), PutFault>
+    requires { IsTrue (O.is_open out.old) }
+    ensures { Puts O.told O.faults O.refusals O.is_open O.keeps_rest out.old out.new
+        (spaced (views words.now)) result }
+{
+    for word in words {
+        Word { piece: *word }.put_spaced(out)?;
+    }
+    Ok(())
 }
 
 /// The words of the one, then those of the other.
@@ -109,31 +170,4 @@ impl<'a> Words for FreeText<'a> {
         out.put(b" ")?;
         out.put(self.text)
     }
-}
-
-/// How items are written that stand one behind the other.
-pub trait Form<T> {
-    ghost text: { Self → T → List ℕ };
-
-    /// Puts the item's text.
-    fn put_item<O: Out>(&self, item: &T, out: &mut O) -> Result<(), PutFault>
-        requires { IsTrue (O.is_open out.old) }
-        ensures { Puts O.told O.faults O.refusals O.is_open O.keeps_rest out.old out.new
-            (text self.now item.now) result };
-}
-
-/// Puts items in a form, one behind the other.
-pub fn put_each<T, F: Form<T>, O: Out>(
-    items: &[T],
-    form: &F,
-    out: &mut O,
-) -> Result<(), PutFault>
-    requires { IsTrue (O.is_open out.old) }
-    ensures { Puts O.told O.faults O.refusals O.is_open O.keeps_rest out.old out.new
-        (flat_map (F.text form.now) items.now) result }
-{
-    for item in items {
-        form.put_item(item, out)?;
-    }
-    Ok(())
 }

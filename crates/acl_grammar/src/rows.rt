@@ -1,13 +1,9 @@
-ghost use Rattle.std.specs.Prelude.{◌≡◌, ◌∷◌, ◌≤◌, ◌==◌, IsTrue, IfOk, OnOk, length, replicate};
-ghost use Rattle.std.specs.List.{join_with_byte, prefix_len, slice_split};
-ghost use Rattle.acl_text.specs.Lines.{views};
+ghost use Rattle.std.specs.Prelude.{◌≡◌, [], ◌∷◌, ◌++◌, List, IsTrue, replicate, flat_map};
 ghost use Rattle.acl_text.specs.Output.{Puts};
-ghost use Rattle.acl_grammar.specs.Rows.{row, row_text, is_space};
-ghost use Rattle.acl_grammar.specs.RowSteps.{row_in};
+ghost use Rattle.acl_grammar.specs.Rows.{Row as LineRow, row, row_text, text_of_rows};
 
 use crate::pieces::{Piece, Words};
-use acl_text::{Bytes, Memory, Out, PutFault};
-use std::alloc::{AllocError, Global};
+use acl_text::{Out, PutFault};
 
 /// A line: an indent, a first word and more words.
 #[derive(Clone, Copy)]
@@ -40,47 +36,69 @@ fn put_spaces<O: Out>(count: usize, out: &mut O) -> Result<(), PutFault>
     Ok(())
 }
 
-/// The words with one space between.
-#[tactic(auto, using(crate::proofs::RowLaws::join_spaced))]
-pub fn join_words(alloc: Global, words: &[&[u8]]) -> Result<Bytes, Memory>
-    ensures { IfOk result (λ b. b ≡ join_with_byte 32 (views words.now)) }
-{
-    let [first, rest @ ..] = words else {
-        return Ok(Bytes::new(alloc));
-    };
-    let mut text = Bytes::from_slice(alloc, first)?;
-    for word in rest {
-        text.push_all(b" ")?;
-        text.push_all(word)?;
+/// A value that is written as rows.
+pub trait Rows {
+    ghost rows: { Self → List LineRow };
+
+    /// Puts the lines of the rows. No put has bytes of two lines.
+    fn put_rows<O: Out>(&self, out: &mut O) -> Result<(), PutFault>
+        requires { IsTrue (O.is_open out.old) }
+        ensures { Puts O.told O.faults O.refusals O.is_open O.keeps_rest out.old out.new
+            (text_of_rows (rows self.now)) result };
+}
+
+/// One row.
+impl<P: Piece, W: Words> Rows for Row<P, W> {
+    ghost rows = { λ r. row r.indent (P.text r.first ∷ W.words r.rest) ∷ [] };
+
+    fn put_rows<O: Out>(&self, out: &mut O) -> Result<(), PutFault> {
+        self.put_into(out)
     }
-    Ok(text)
 }
 
-/// How many spaces the line begins with, and the words behind them.
-#[tactic(auto, unfolding(crate::specs::RowSteps::row_in))]
-pub(crate) fn read_row<'a>(alloc: Global, line: &'a [u8]) -> Result<(usize, Vec<&'a [u8]>), Memory>
-    ensures { IfOk result (λ r. row r.0 (views r.1.items) ≡ row_in line.now) }
-{
-    let indent = indent_of(line);
-    let words = parts_at(alloc, &line[indent..], b' ')?;
-    Ok((indent, words))
-}
+/// The rows of the one, then those of the other.
+impl<A: Rows, B: Rows> Rows for (A, B) {
+    ghost rows = { λ p. A.rows p.0 ++ B.rows p.1 };
 
-fn indent_of(line: &[u8]) -> usize
-    ensures exact { result ≡ prefix_len is_space line.now }
-    ensures fits { result ≤ length line.now }
-{
-    for (i, byte) in line.iter().enumerate() {
-        if *byte != b' ' {
-            return i;
-        }
+    fn put_rows<O: Out>(&self, out: &mut O) -> Result<(), PutFault> {
+        self.0.put_rows(out)?;
+        self.1.put_rows(out)
     }
-    line.len()
 }
 
-/// The parts between such bytes.
-pub(crate) fn parts_at<'a>(alloc: Global, bytes: &'a [u8], cut: u8) -> Result<Vec<&'a [u8]>, AllocError>
-    ensures { IfOk result (λ v. views v.items ≡ slice_split (λ b. b == cut) bytes.now) }
+/// How items of a list are written as rows.
+pub trait Form<T> {
+    ghost item_rows: { Self → T → List LineRow };
+
+    /// Puts the lines of the item's rows.
+    fn put_item<O: Out>(&self, item: &T, out: &mut O) -> Result<(), PutFault>
+        requires { IsTrue (O.is_open out.old) }
+        ensures { Puts O.told O.faults O.refusals O.is_open O.keeps_rest out.old out.new
+            (text_of_rows (item_rows self.now item.now)) result };
+}
+
+/// Items in a form, one behind the other.
+#[derive(Clone, Copy)]
+pub struct Each<'a, T, F> {
+    pub items: &'a [T],
+    pub form: F,
+}
+
+impl<'a, T, F: Form<T>> Rows for Each<'a, T, F> {
+    ghost rows = { λ e. flat_map (F.item_rows e.form) e.items.now };
+
+    fn put_rows<O: Out>(&self, out: &mut O) -> Result<(), PutFault> {
+        put_each(self.items, &self.form, out)
+    }
+}
+
+fn put_each<T, F: Form<T>, O: Out>(items: &[T], form: &F, out: &mut O) -> Result<(), PutFault>
+    requires { IsTrue (O.is_open out.old) }
+    ensures { Puts O.told O.faults O.refusals O.is_open O.keeps_rest out.old out.new
+        (text_of_rows (flat_map (F.item_rows form.now) items.now)) result }
 {
-    bytes.split(|b| *b == cut).collect(alloc)
+    for item in items {
+        form.put_item(item, out)?;
+    }
+    Ok(())
 }

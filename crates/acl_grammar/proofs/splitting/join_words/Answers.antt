@@ -1,6 +1,6 @@
 use Rattle.std.proofs.Common.{◌++◌, ap, ◌∙◌}
 use Rattle.acl_grammar.proofs.RowLaws.{words_joined}
-use Rattle.acl_grammar.proofs.rows.join_words.Goals as goal
+use Rattle.acl_grammar.proofs.splitting.join_words.Goals as goal
 
 pub returns : goal.returns
 returns c =
