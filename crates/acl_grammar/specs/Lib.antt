@@ -1,3 +1,4 @@
+pub mod CheckSteps
 pub mod ComparingSteps
 pub mod Naming
 pub mod NamingSteps

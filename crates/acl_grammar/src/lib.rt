@@ -2,6 +2,7 @@
 //! reading into a draft, and the comparison of bytes with a text.
 #![tactic(auto)]
 
+mod checks;
 mod comparing;
 mod drafts;
 mod naming;
@@ -9,6 +10,7 @@ mod pieces;
 mod rows;
 mod splitting;
 
+pub use checks::is_prefix_of;
 pub use comparing::is_text_of;
 pub use drafts::{Draft, read_rows};
 pub use naming::are_distinct;
