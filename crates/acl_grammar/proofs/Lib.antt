@@ -1,0 +1,6 @@
+pub mod CheckLaws
+pub mod NamingLaws
+pub mod PutLaws
+pub mod RowLaws
+pub mod TakenLaws
+pub mod WordLaws

@@ -1,0 +1,134 @@
+-- What is written as rows is read as those rows.
+use Rattle.std.proofs.Common.{◌≡◌, ℕ, zero, suc, ◌+◌, ◌-◌, ◌≤◌, length, take, get_or, Bool, true, false, cond, ◌==◌, ◌||◌, List, [], ◌∷◌, ◌++◌, drop, map, flat_map, replicate, refl, ap, sym, ◌∙◌, append_assoc, append-nil, arith, eqb}
+use Rattle.std.specs.Borrow.{Bor}
+use Rattle.std.specs.List.{AllByRecursion, prefix_len, slice_split, join_with_byte, onto_first, fold}
+use Rattle.std.proofs.lemmas.Bool.{or_from}
+use Rattle.std.proofs.lemmas.Bool.Decides.{Decides-eqb}
+use Rattle.std.proofs.lemmas.List.Splits.{join_with_byte-slice_split}
+use Rattle.std.proofs.lemmas.List.Sums.{fold-append}
+use Rattle.std.proofs.lemmas.List.{take_all}
+use Rattle.std.proofs.Math.Seq.{take-length}
+use Rattle.acl_text.specs.Lines.{views}
+use Rattle.acl_text.specs.Cuts.{has_byte}
+use Rattle.acl_text.proofs.CutLaws.{has-append}
+use Rattle.acl_grammar.specs.Rows.{Row, row, spaced, row_line, row_text, text_of_rows, is_space, words_in}
+use Rattle.acl_grammar.specs.RowSteps.{is_feed, row_in, rows_in, IsWord, begins, IsRow}
+
+-- ---- words with one space between
+
+pub join_spaced : (w : List ℕ) (ws : List (List ℕ)) → w ++ spaced ws ≡ join_with_byte 32 (w ∷ ws)
+join_spaced w [] = append-nil w
+join_spaced w (v ∷ ws) = ap (λ t. w ++ (32 ∷ t)) (join_spaced v ws)
+
+split_some : (text : List ℕ) → (w : List ℕ) × (ws : List (List ℕ)) × (words_in text ≡ w ∷ ws)
+split_some [] = ([], [], refl)
+split_some (b ∷ bs) = some_part (is_space b) (words_in bs) where
+  some_part : (t : Bool) (parts : List (List ℕ)) → (w : List ℕ) × (ws : List (List ℕ)) × (cond t ([] ∷ parts) (onto_first b parts) ≡ w ∷ ws)
+  some_part true parts = ([], parts, refl)
+  some_part false [] = (b ∷ [], [], refl)
+  some_part false (p ∷ parts) = (b ∷ p, parts, refl)
+
+-- the words of a free text, each behind a space
+pub free_spaced : (text : List ℕ) → 32 ∷ text ≡ spaced (words_in text)
+free_spaced text =
+    let s = split_some text in
+    ap (λ t. 32 ∷ t) (sym (join_with_byte-slice_split 32 text) ∙ ap (join_with_byte 32) s.2 ∙ sym (join_spaced s.0 s.1)) ∙ ap spaced (sym s.2)
+
+-- the parts of a row's text
+pub row_parts : (n : ℕ) (w : List ℕ) (ws : List (List ℕ)) → ((replicate n 32 ++ w) ++ spaced ws) ++ 10 ∷ [] ≡ row_text (row n (w ∷ ws))
+unfolding row_text
+row_parts n w ws = ap (λ t. t ++ 10 ∷ []) (append_assoc (replicate n 32) w (spaced ws) ∙ ap (λ t. replicate n 32 ++ t) (join_spaced w ws))
+
+-- ---- cutting
+
+cut_step : (b : Bool) (c x : ℕ) (xs : List ℕ) (parts rest : List (List ℕ)) → (b || has_byte c xs) ≡ false → (has_byte c xs ≡ false → parts ≡ xs ∷ rest)
+    → cond b ([] ∷ parts) (onto_first x parts) ≡ (x ∷ xs) ∷ rest
+cut_step true c x xs parts rest k ih = cc
+cut_step false c x xs parts rest k ih = ap (onto_first x) (ih k)
+
+pub cut_none : (c : ℕ) (xs : List ℕ) → has_byte c xs ≡ false → slice_split (λ b. eqb b c) xs ≡ xs ∷ []
+cut_none c [] h = refl
+cut_none c (x ∷ xs) h = cut_step (eqb x c) c x xs (slice_split (λ b. eqb b c) xs) [] h (cut_none c xs)
+
+pub cut_there : (c : ℕ) (xs ys : List ℕ) → has_byte c xs ≡ false → slice_split (λ b. eqb b c) (xs ++ c ∷ ys) ≡ xs ∷ slice_split (λ b. eqb b c) ys
+cut_there c [] ys h =
+    let parts : List (List ℕ) = slice_split (λ b. eqb b c) ys in
+    ap (λ b. cond b ([] ∷ parts) (onto_first c parts)) ((Decides-eqb c c).1 refl)
+cut_there c (x ∷ xs) ys h = cut_step (eqb x c) c x xs (slice_split (λ b. eqb b c) (xs ++ c ∷ ys)) (slice_split (λ b. eqb b c) ys) h (cut_there c xs ys)
+
+-- ---- one row
+
+words_again : (w : List ℕ) (ws : List (List ℕ)) → AllByRecursion IsWord (w ∷ ws) → words_in (join_with_byte 32 (w ∷ ws)) ≡ w ∷ ws
+words_again w [] h = cut_none 32 w h.0.no_space
+words_again w (v ∷ ws) h = cut_there 32 w (join_with_byte 32 (v ∷ ws)) h.0.no_space ∙ ap (λ vs. w ∷ vs) (words_again v ws h.1)
+
+indent_again : (n b : ℕ) (bs : List ℕ) → is_space b ≡ false → prefix_len is_space (replicate n 32 ++ b ∷ bs) ≡ n
+indent_again zero b bs h = ap (λ t. cond t (1 + prefix_len is_space bs) 0) h
+indent_again (suc n) b bs h = let e = indent_again n b bs h in omega (arith, e)
+
+indent_gone : (n : ℕ) (line : List ℕ) → drop n (replicate n 32 ++ line) ≡ line
+indent_gone zero line = refl
+indent_gone (suc n) line = indent_gone n line
+
+joined_begins : (b : ℕ) (bs : List ℕ) (ws : List (List ℕ)) → (rest : List ℕ) × (join_with_byte 32 ((b ∷ bs) ∷ ws) ≡ b ∷ rest)
+joined_begins b bs [] = (bs, refl)
+joined_begins b bs (w ∷ ws) = (bs ++ 32 ∷ join_with_byte 32 (w ∷ ws), refl)
+
+no_space_first : (b : ℕ) (bs : List ℕ) → has_byte 32 (b ∷ bs) ≡ false → is_space b ≡ false
+no_space_first b bs h = first_of (is_space b) (has_byte 32 bs) h where
+  first_of : (a c : Bool) → (a || c) ≡ false → a ≡ false
+  first_of true c e = e
+  first_of false c e = refl
+
+pub row-again : (r : Row) → IsRow r → row_in (row_line r) ≡ r
+unfolding row_in
+row-again r h = again r.indent r.words h.start h.words where
+  again : (n : ℕ) (ws : List (List ℕ)) → begins ws ≡ true → AllByRecursion IsWord ws → row_in (row_line (row n ws)) ≡ row n ws
+  again n [] s h = absurd cc
+  again n ([] ∷ ws) s h = absurd cc
+  again n ((b ∷ bs) ∷ ws) s h =
+      let j = joined_begins b bs ws in
+      let line : List ℕ = join_with_byte 32 ((b ∷ bs) ∷ ws) in
+      let found : prefix_len is_space (replicate n 32 ++ line) ≡ n =
+      ap (λ t. prefix_len is_space (replicate n 32 ++ t)) j.1 ∙ indent_again n b j.0 (no_space_first b bs h.0.no_space) in
+      ap (λ k. row k (words_in (drop k (replicate n 32 ++ line)))) found
+      ∙ ap (λ t. row n (words_in t)) (indent_gone n line) ∙ ap (row n) (words_again (b ∷ bs) ws h)
+
+-- ---- all rows
+
+spaces_no_feed : (n : ℕ) → has_byte 10 (replicate n 32) ≡ false
+spaces_no_feed zero = refl
+spaces_no_feed (suc n) = spaces_no_feed n
+
+joined_no_feed : (ws : List (List ℕ)) → AllByRecursion IsWord ws → has_byte 10 (join_with_byte 32 ws) ≡ false
+joined_no_feed [] h = refl
+joined_no_feed (w ∷ []) h = h.0.no_feed
+joined_no_feed (w ∷ v ∷ ws) h = has-append 10 w (32 ∷ join_with_byte 32 (v ∷ ws)) h.0.no_feed (joined_no_feed (v ∷ ws) h.1)
+
+-- the rows of a text, and the empty one behind its last line feed
+rows_again : (rows : List Row) → AllByRecursion IsRow rows → rows_in (text_of_rows rows) ≡ rows ++ row_in [] ∷ []
+unfolding row_text
+rows_again [] h = refl
+rows_again (r ∷ rows) h =
+    let no_feed = has-append 10 (replicate r.indent 32) (join_with_byte 32 r.words) (spaces_no_feed r.indent) (joined_no_feed r.words h.0.words) in
+    ap rows_in (append_assoc (row_line r) (10 ∷ []) (text_of_rows rows))
+    ∙ ap (map row_in) (cut_there 10 (row_line r) (text_of_rows rows) no_feed)
+    ∙ ap (λ x. x ∷ rows_in (text_of_rows rows)) (row-again r h.0) ∙ ap (λ xs. r ∷ xs) (rows_again rows h.1)
+
+-- what is written is read: a draft goes over the rows that were written
+pub fold-again : {S : Type 0} (step : S → Row → S) (start end : S) (rows : List Row) → AllByRecursion IsRow rows
+    → fold step start rows ≡ end → step end (row_in []) ≡ end → fold step start (rows_in (text_of_rows rows)) ≡ end
+fold-again step start end rows h e last =
+    ap (fold step start) (rows_again rows h) ∙ fold-append step start rows (row_in [] ∷ []) ∙ ap (λ s. step s (row_in [])) e ∙ last
+
+-- all words behind the first were put behind it
+pub words_joined : (words : List (Bor (List ℕ))) (d : Bor (List ℕ)) (i : ℕ) (first text : List ℕ) → 1 ≤ length words
+    → length (take (length words - 1) (drop 1 words)) ≤ i → first ≡ (get_or words 0 d).now
+    → text ≡ first ++ spaced (views (take i (take (length words - 1) (drop 1 words))))
+    → text ≡ join_with_byte 32 (views words)
+words_joined [] d i first text h l f e = absurd (omega arith)
+words_joined (w ∷ ws) d i first text h l f e =
+    let rest : List (Bor (List ℕ)) = take (length (w ∷ ws) - 1) (drop 1 (w ∷ ws)) in
+    let size : length (w ∷ ws) - 1 ≡ length ws = omega arith in
+    let all : rest ≡ ws = ap (λ n. take n ws) size ∙ take-length ws in
+    e ∙ ap (λ r. first ++ spaced (views r)) (take_all i rest l ∙ all) ∙ ap (λ t. t ++ spaced (views ws)) f ∙ join_spaced w.now (views ws)

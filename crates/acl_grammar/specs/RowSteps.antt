@@ -1,0 +1,32 @@
+-- Reading rows leniently: any bytes are rows.
+use Rattle.std.specs.Prelude.{◌≡◌, ℕ, Bool, true, false, ◌==◌, List, [], ◌∷◌, map, drop}
+use Rattle.std.specs.List.{AllByRecursion, prefix_len, slice_split}
+use Rattle.acl_text.specs.Cuts.{has_byte}
+use Rattle.acl_grammar.specs.Rows.{Row, row, is_space, words_in}
+
+abbrev pub is_feed : ℕ → Bool
+is_feed b = b == 10
+
+-- The row of a line: how many spaces it begins with, and the words behind them.
+unfoldable pub row_in : List ℕ → Row
+row_in line = row (prefix_len is_space line) (words_in (drop (prefix_len is_space line) line))
+
+-- The rows of a text, and one without words for what stands behind the last line feed.
+abbrev pub rows_in : List ℕ → List Row
+rows_in text = map row_in (slice_split is_feed text)
+
+-- A word that can be found again in its row.
+pub record IsWord (word : List ℕ) : Type 0 where
+  pub no_space : has_byte 32 word ≡ false
+  pub no_feed : has_byte 10 word ≡ false
+
+-- The first word has a byte.
+abbrev pub begins : List (List ℕ) → Bool
+begins [] = false
+begins ([] ∷ words) = false
+begins ((b ∷ bs) ∷ words) = true
+
+-- A row that can be found again in its text.
+pub record IsRow (r : Row) : Type 0 where
+  pub start : begins r.words ≡ true
+  pub words : AllByRecursion IsWord r.words

@@ -1,0 +1,30 @@
+ghost use Rattle.std.specs.Prelude.{◌≡◌, OnOk};
+ghost use Rattle.std.specs.List.{fold};
+ghost use Rattle.acl_text.specs.Lines.{views};
+ghost use Rattle.acl_grammar.specs.Rows.{Row, row};
+ghost use Rattle.acl_grammar.specs.RowSteps.{rows_in};
+
+use crate::splitting::{parts_at, read_row};
+use acl_text::Memory;
+use std::alloc::Global;
+
+/// What has been read of a text, row by row. No row is refused: one that means nothing changes nothing.
+pub trait Draft {
+    ghost step: { Self → Row → Self };
+
+    /// Takes the next row.
+    fn take_row(&mut self, alloc: Global, indent: usize, words: &[&[u8]]) -> Result<(), Memory>
+        ensures { OnOk result (self.new ≡ step self.old (row indent (views words.now))) };
+}
+
+/// Takes the rows of a text.
+pub fn read_rows<D: Draft>(alloc: Global, draft: &mut D, text: &[u8]) -> Result<(), Memory>
+    ensures { OnOk result (draft.new ≡ fold D.step draft.old (rows_in text.now)) }
+{
+    let lines = parts_at(alloc, text, b'\n')?;
+    for line in lines.as_slice() {
+        let (indent, words) = read_row(alloc, line)?;
+        draft.take_row(alloc, indent, words.as_slice())?;
+    }
+    Ok(())
+}

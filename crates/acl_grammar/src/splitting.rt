@@ -1,0 +1,53 @@
+ghost use Rattle.std.specs.Prelude.{◌≡◌, ◌≤◌, ◌==◌, IfOk, length};
+ghost use Rattle.std.specs.List.{join_with_byte, prefix_len, slice_split};
+ghost use Rattle.acl_text.specs.Lines.{views};
+ghost use Rattle.acl_grammar.specs.Rows.{row, is_space};
+ghost use Rattle.acl_grammar.specs.RowSteps.{row_in};
+
+use acl_text::{Bytes, Memory};
+use std::alloc::{AllocError, Global};
+
+/// The words with one space between.
+#[tactic(auto, using(crate::proofs::RowLaws::join_spaced))]
+pub fn join_words(alloc: Global, words: &[&[u8]]) -> Result<Bytes, Memory>
+    ensures { IfOk result (λ b. b ≡ join_with_byte 32 (views words.now)) }
+{
+    let [first, rest @ ..] = words else {
+        return Ok(Bytes::new(alloc));
+    };
+    let mut text = Bytes::from_slice(alloc, first)?;
+    for word in rest {
+        text.push_all(b" ")?;
+        text.push_all(word)?;
+    }
+    Ok(text)
+}
+
+/// How many spaces the line begins with, and the words behind them.
+#[tactic(auto, unfolding(crate::specs::RowSteps::row_in))]
+pub(crate) fn read_row<'a>(alloc: Global, line: &'a [u8]) -> Result<(usize, Vec<&'a [u8]>), Memory>
+    ensures { IfOk result (λ r. row r.0 (views r.1.items) ≡ row_in line.now) }
+{
+    let indent = indent_of(line);
+    let words = parts_at(alloc, &line[indent..], b' ')?;
+    Ok((indent, words))
+}
+
+fn indent_of(line: &[u8]) -> usize
+    ensures exact { result ≡ prefix_len is_space line.now }
+    ensures fits { result ≤ length line.now }
+{
+    for (i, byte) in line.iter().enumerate() {
+        if *byte != b' ' {
+            return i;
+        }
+    }
+    line.len()
+}
+
+/// The parts between such bytes.
+pub(crate) fn parts_at<'a>(alloc: Global, bytes: &'a [u8], cut: u8) -> Result<Vec<&'a [u8]>, AllocError>
+    ensures { IfOk result (λ v. views v.items ≡ slice_split (λ b. b == cut) bytes.now) }
+{
+    bytes.split(|b| *b == cut).collect(alloc)
+}
