@@ -3,7 +3,7 @@ use Rattle.std.proofs.Common.{◌≡◌, ℕ, ◌+◌, ◌<◌, Bool, List, [], 
 use Rattle.std.proofs.lemmas.List.{drop_more, take-append-drop}
 use Rattle.std.proofs.lemmas.Grind.{flat_map-append}
 use Rattle.acl_text.specs.declared.output.PutFault.{PutFault}
-use Rattle.acl_text.specs.Lines.{views}
+use Rattle.acl_text.specs.Cuts.{views}
 use Rattle.acl_grammar.specs.Rows.{Row, row_text, text_of_rows, spaced}
 use Rattle.std.specs.Borrow.{Bor}
 use Rattle.acl_text.specs.Output.{Puts}

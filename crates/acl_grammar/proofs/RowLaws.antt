@@ -8,8 +8,7 @@ use Rattle.std.proofs.lemmas.List.Splits.{join_with_byte-slice_split}
 use Rattle.std.proofs.lemmas.List.Sums.{fold-append}
 use Rattle.std.proofs.lemmas.List.{take_all}
 use Rattle.std.proofs.Math.Seq.{take-length}
-use Rattle.acl_text.specs.Lines.{views}
-use Rattle.acl_text.specs.Cuts.{has_byte}
+use Rattle.acl_text.specs.Cuts.{views, has_byte}
 use Rattle.acl_text.proofs.CutLaws.{has-append}
 use Rattle.acl_grammar.specs.Rows.{Row, row, spaced, row_line, row_text, text_of_rows, is_space, words_in}
 use Rattle.acl_grammar.specs.RowSteps.{is_feed, row_in, rows_in, IsWord, begins, IsRow}

@@ -1,7 +1,7 @@
 ghost use Rattle.std.specs.Prelude.{◌≡◌, ◌∷◌, [], ◌++◌, List, ℕ, IsTrue, Some, None, Option, decimal};
 ghost use Rattle.acl_text.specs.Output.{Puts};
 ghost use Rattle.acl_text.specs.AddressTexts.{address_text, prefix_text, wildcard_text};
-ghost use Rattle.acl_text.specs.Lines.{views};
+ghost use Rattle.acl_text.specs.Cuts.{views};
 ghost use Rattle.acl_grammar.specs.Rows.{spaced, or_nothing, words_in};
 
 use acl_packet::{Family, Prefix};

@@ -1,6 +1,6 @@
 ghost use Rattle.std.specs.Prelude.{◌≡◌, ◌≤◌, ◌==◌, IfOk, length};
 ghost use Rattle.std.specs.List.{join_with_byte, prefix_len, slice_split};
-ghost use Rattle.acl_text.specs.Lines.{views};
+ghost use Rattle.acl_text.specs.Cuts.{views};
 ghost use Rattle.acl_grammar.specs.Rows.{row, is_space};
 ghost use Rattle.acl_grammar.specs.RowSteps.{row_in};
 

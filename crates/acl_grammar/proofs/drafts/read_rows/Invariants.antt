@@ -1,6 +1,6 @@
 use Rattle.std.proofs.Common.{◌≡◌, drop, map}
 use Rattle.std.specs.List.{fold}
-use Rattle.acl_text.specs.Lines.{views}
+use Rattle.acl_text.specs.Cuts.{views}
 use Rattle.acl_grammar.specs.RowSteps.{row_in}
 use Rattle.acl_grammar.proofs.drafts.read_rows.Given as goal
 

@@ -1,5 +1,5 @@
 use Rattle.std.proofs.Common.{◌≡◌, drop}
-use Rattle.acl_text.specs.Lines.{views}
+use Rattle.acl_text.specs.Cuts.{views}
 use Rattle.acl_grammar.specs.NamingSteps.{are_distinct}
 use Rattle.acl_grammar.proofs.naming.differ.Given as goal
 

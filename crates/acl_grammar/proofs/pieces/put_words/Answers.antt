@@ -1,7 +1,7 @@
 use Rattle.std.proofs.Common.{◌+◌, [], List, ℕ, drop, refl}
 use Rattle.std.specs.Borrow.{Bor}
 use Rattle.std.proofs.lemmas.Result.{err_from_is_err_and}
-use Rattle.acl_text.specs.Lines.{views}
+use Rattle.acl_text.specs.Cuts.{views}
 use Rattle.acl_text.proofs.Putting.{goes_on, stops}
 use Rattle.acl_grammar.specs.Rows.{spaced}
 use Rattle.acl_grammar.proofs.PutLaws.{retold, words_split}

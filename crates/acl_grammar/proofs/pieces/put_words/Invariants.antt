@@ -1,5 +1,5 @@
 use Rattle.std.proofs.Common.{take}
-use Rattle.acl_text.specs.Lines.{views}
+use Rattle.acl_text.specs.Cuts.{views}
 use Rattle.acl_text.specs.Output.{Puts}
 use Rattle.acl_text.proofs.Putting.{done}
 use Rattle.acl_grammar.specs.Rows.{spaced}

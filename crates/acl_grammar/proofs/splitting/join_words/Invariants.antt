@@ -1,5 +1,5 @@
 use Rattle.std.proofs.Common.{◌≡◌, ◌++◌, take}
-use Rattle.acl_text.specs.Lines.{views}
+use Rattle.acl_text.specs.Cuts.{views}
 use Rattle.acl_grammar.specs.Rows.{spaced}
 use Rattle.acl_grammar.proofs.splitting.join_words.Given as goal
 
