@@ -2,8 +2,8 @@
 use Rattle.std.proofs.Common.{◌≡◌, ℕ, zero, suc, ◌+◌, ◌<◌, Bool, true, false, drop, slice_set, replicate, ◌==◌, List, [], ◌∷◌, length, Option, None, Some, inl, inr, refl, ap, sym, ◌∙◌, arith}
 use Rattle.std.proofs.lemmas.Bool.{and_parts, or_cases, eqb-true}
 use Rattle.std.proofs.lemmas.List.{drop_more}
-use Rattle.acl_naming.specs.declared.items.Item.{Item}
-use Rattle.acl_naming.specs.declared.items.Reference.{Reference}
+use Rattle.acl_naming.specs.declared.naming_items.Item.{Item}
+use Rattle.acl_naming.specs.declared.naming_items.Reference.{Reference}
 use Rattle.acl_naming.specs.Checking.{first_of, undefined_in, first_undefined, IsSettled}
 use Rattle.acl_naming.specs.Definitions.{Definition, index_of, items_at}
 use Rattle.acl_naming.specs.GraphSteps.{targets, graph_of}

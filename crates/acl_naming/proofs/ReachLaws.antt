@@ -6,7 +6,7 @@ use Rattle.std.proofs.lemmas.Bool.{and_parts, and_from, or_cases, or_left, or_ri
 use Rattle.std.proofs.lemmas.List.Elements.{All-nil}
 use Rattle.acl_sets.specs.declared.sets.Range.{Range}
 use Rattle.acl_sets.specs.Ranges.{IsRange, holds}
-use Rattle.acl_naming.specs.declared.items.Item.{Item}
+use Rattle.acl_naming.specs.declared.naming_items.Item.{Item}
 use Rattle.acl_naming.specs.declared.reaching.Wanted.{Wanted}
 use Rattle.acl_naming.specs.Definitions.{Definition, index_of, items_at}
 use Rattle.acl_naming.specs.GraphSteps.{IsReached}

@@ -7,7 +7,7 @@ use Rattle.std.specs.declared.alloc.Global.{Global}
 use Rattle.std.proofs.lemmas.Option.{none-some, same_Some}
 use Rattle.std.proofs.lemmas.List.{length-map, map-append, length-append}
 use Rattle.indexmap.specs.IndexMap.{set_value_at}
-use Rattle.acl_naming.specs.declared.items.Item.{Item}
+use Rattle.acl_naming.specs.declared.naming_items.Item.{Item}
 use Rattle.acl_naming.specs.declared.tables.Entry.{Entry}
 use Rattle.acl_naming.specs.Definitions.{Definition, index_of, items_at, items_count}
 use Rattle.acl_naming.specs.Tables.{name_at, place_at, with_item}

@@ -3,7 +3,7 @@ use Rattle.std.proofs.Common.{◌≡◌, ℕ, zero, suc, ◌+◌, ◌-◌, ◌<�
 use Rattle.std.specs.List.{list_any}
 use Rattle.std.proofs.lemmas.Option.{none-some, same_Some}
 use Rattle.std.proofs.lemmas.List.{length-replicate}
-use Rattle.acl_naming.specs.declared.items.Item.{Item}
+use Rattle.acl_naming.specs.declared.naming_items.Item.{Item}
 use Rattle.acl_naming.specs.Definitions.{Definition, index_of, items_at, items_in, items_of}
 use Rattle.acl_naming.specs.MarkSteps.{marked, mark_all, unmarked, among, leads, IsClosed}
 use Rattle.acl_naming.specs.Reach.{is_reference, refers, Walks, Reaches, ReachesItself}

@@ -6,9 +6,9 @@ use Rattle.acl_text.specs.declared.faults.Place.{Place}
 use Rattle.acl_text.specs.declared.faults.Slip.{Slip}
 use Rattle.acl_text.specs.declared.faults.Refusal.{Refusal}
 use Rattle.acl_text.specs.declared.faults.Refusal.TheVariants as refusals
-use Rattle.acl_naming.specs.declared.items.Item.{Item}
-use Rattle.acl_naming.specs.declared.items.Item.TheVariants.{Name, Network, Service}
-use Rattle.acl_naming.specs.declared.items.Reference.{Reference}
+use Rattle.acl_naming.specs.declared.naming_items.Item.{Item}
+use Rattle.acl_naming.specs.declared.naming_items.Item.TheVariants.{Name, Network, Service}
+use Rattle.acl_naming.specs.declared.naming_items.Reference.{Reference}
 use Rattle.acl_naming.specs.Definitions.{Definition, Naming, index_of}
 use Rattle.acl_naming.specs.GraphSteps.{graph_of}
 use Rattle.acl_naming.specs.MarkSteps.{marked, IsClosed}

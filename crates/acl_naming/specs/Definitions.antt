@@ -2,7 +2,7 @@
 use Rattle.std.specs.Prelude.{ℕ, ◌+◌, zero, suc, List, [], ◌∷◌, length, Option, None, Some, position}
 use Rattle.std.specs.Str.{bytes_eq}
 use Rattle.acl_text.specs.declared.faults.Place.{Place}
-use Rattle.acl_naming.specs.declared.items.Item.{Item}
+use Rattle.acl_naming.specs.declared.naming_items.Item.{Item}
 
 -- A name, the place where it is defined, and its items.
 pub record Definition : Type 0 where

@@ -1,8 +1,8 @@
 -- Names by the places of their definitions.
 use Rattle.std.specs.Prelude.{◌≡◌, ℕ, ◌+◌, ◌≤◌, ◌⊎◌, Bool, true, false, replicate, map, List, [], ◌∷◌, length, Option, None, Some}
 use Rattle.std.specs.List.{list_any}
-use Rattle.acl_naming.specs.declared.items.Item.{Item}
-use Rattle.acl_naming.specs.declared.items.Item.TheVariants.{Name, Network, Service}
+use Rattle.acl_naming.specs.declared.naming_items.Item.{Item}
+use Rattle.acl_naming.specs.declared.naming_items.Item.TheVariants.{Name, Network, Service}
 use Rattle.acl_naming.specs.Definitions.{Definition, index_of, items_at}
 use Rattle.acl_naming.specs.MarkSteps.{marked, leads, IsClosed}
 use Rattle.acl_naming.specs.Reach.{is_reference, Walks}

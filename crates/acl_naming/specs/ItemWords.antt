@@ -10,8 +10,8 @@ use Rattle.acl_text.specs.Names.{is_name}
 use Rattle.acl_text.specs.PortRanges.{ports_in}
 use Rattle.acl_naming.specs.declared.item_words.Kind.{Kind}
 use Rattle.acl_naming.specs.declared.item_words.Kind.TheVariants.{Networks, Services}
-use Rattle.acl_naming.specs.declared.items.Item.{Item}
-use Rattle.acl_naming.specs.declared.items.Item.TheVariants.{Name, Network, Service}
+use Rattle.acl_naming.specs.declared.naming_items.Item.{Item}
+use Rattle.acl_naming.specs.declared.naming_items.Item.TheVariants.{Name, Network, Service}
 use Rattle.acl_naming.specs.Ports.{Ports}
 
 -- A word that is a name.

@@ -3,8 +3,8 @@ use Rattle.std.specs.Prelude.{◌≡◌, ◌↔◌, ℕ, ◌+◌, Bool, true, fa
 use Rattle.std.specs.List.{list_any, All}
 use Rattle.acl_sets.specs.declared.sets.Range.{Range}
 use Rattle.acl_sets.specs.Ranges.{IsRange, inside, holds}
-use Rattle.acl_naming.specs.declared.items.Item.{Item}
-use Rattle.acl_naming.specs.declared.items.Item.TheVariants.{Name, Network, Service}
+use Rattle.acl_naming.specs.declared.naming_items.Item.{Item}
+use Rattle.acl_naming.specs.declared.naming_items.Item.TheVariants.{Name, Network, Service}
 use Rattle.acl_naming.specs.declared.reaching.Wanted.{Wanted}
 use Rattle.acl_naming.specs.declared.reaching.Wanted.TheVariants.{Addresses, Ports}
 use Rattle.acl_naming.specs.Definitions.{Definition}

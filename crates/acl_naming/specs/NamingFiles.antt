@@ -12,7 +12,7 @@ use Rattle.acl_text.specs.Cuts.{cut_at, has_byte}
 use Rattle.acl_text.specs.Names.{is_name}
 use Rattle.acl_naming.specs.declared.item_words.Kind.{Kind}
 use Rattle.acl_naming.specs.declared.item_words.Kind.TheVariants as kinds
-use Rattle.acl_naming.specs.declared.items.Item.{Item}
+use Rattle.acl_naming.specs.declared.naming_items.Item.{Item}
 use Rattle.acl_naming.specs.Checking.{slip}
 use Rattle.acl_naming.specs.Definitions.{Definition, Naming, index_of, items_count}
 use Rattle.acl_naming.specs.ItemWords.{item_in}

@@ -1,7 +1,7 @@
 -- Parts of a list of definitions, and one more item.
 use Rattle.std.specs.Prelude.{ℕ, zero, suc, List, [], ◌∷◌, ◌++◌}
 use Rattle.acl_text.specs.declared.faults.Place.{Place}
-use Rattle.acl_naming.specs.declared.items.Item.{Item}
+use Rattle.acl_naming.specs.declared.naming_items.Item.{Item}
 use Rattle.acl_naming.specs.Definitions.{Definition}
 
 -- the name, and the place, of the definition at an index

@@ -11,7 +11,7 @@ ghost use Rattle.acl_naming.specs.Checking.{
 };
 ghost use Rattle.acl_naming.specs.Reach.{ReachesItself};
 
-use crate::items::{Item, Reference};
+use crate::naming_items::{Item, Reference};
 use crate::marking::{has_mark, reached_by_items};
 use crate::refusals::refusal;
 use crate::settling::settled;

@@ -1,6 +1,6 @@
 ghost use Rattle.std.specs.Prelude.{◌≡◌, option_map, IfOk};
 ghost use Rattle.acl_text.specs.AddressTexts.{prefix_in};
-ghost use Rattle.acl_naming.specs.declared.items.Item.TheVariants.{Network, Service};
+ghost use Rattle.acl_naming.specs.declared.naming_items.Item.TheVariants.{Network, Service};
 ghost use Rattle.acl_naming.specs.ItemWords.{
   item_in,
   name_in,
@@ -9,7 +9,7 @@ ghost use Rattle.acl_naming.specs.ItemWords.{
   service_ports_in,
 };
 
-use crate::items::{Block, Item, PortRange, Reference};
+use crate::naming_items::{Block, Item, PortRange, Reference};
 use acl_packet::protocol_number;
 use acl_text::{
     Bytes, Memory, Place, contains_byte, is_name, read_ports, read_prefix, split_at_byte,

@@ -4,11 +4,11 @@
 mod bases;
 mod checking;
 mod item_words;
-mod items;
 mod line_parts;
 mod lookups;
 mod marking;
 mod naming_files;
+mod naming_items;
 mod reaching;
 mod refusals;
 mod settling;

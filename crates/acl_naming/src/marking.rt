@@ -2,7 +2,7 @@ ghost use Rattle.std.specs.Prelude.{◌≡◌, ◌<◌, ◌++◌, true, [], ◌�
 ghost use Rattle.acl_naming.specs.GraphSteps.{IsBehind, IsReached, blank, targets};
 ghost use Rattle.acl_naming.specs.MarkSteps.{mark_all, marked, unmarked};
 
-use crate::items::Item;
+use crate::naming_items::Item;
 use crate::tables::Table;
 use acl_text::Memory;
 use std::alloc::Global;

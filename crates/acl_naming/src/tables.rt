@@ -2,7 +2,7 @@ ghost use Rattle.std.specs.Prelude.{◌≡◌, ℕ, ◌<◌, List, [], ◌∷◌
 ghost use Rattle.acl_naming.specs.Definitions.{index_of, items_at, items_count};
 ghost use Rattle.acl_naming.specs.Tables.{name_at, place_at, with_item};
 
-use crate::items::Item;
+use crate::naming_items::Item;
 use acl_text::{Items, Memory, Place};
 use indexmap::IndexMap;
 use std::alloc::Global;

@@ -5,7 +5,7 @@ ghost use Rattle.acl_sets.specs.Ranges.{holds};
 ghost use Rattle.acl_sets.specs.LeastLists.{any_has, IsLeastList, IsFewest, LeastListHolds, LeastListIsFewest, OneLeastList};
 ghost use Rattle.acl_sets.specs.ComputableLeastLists.{halves, halved_space, last_of};
 
-use crate::pieces::{covers, meets};
+use crate::range_pieces::{covers, meets};
 use crate::sets::{Range, RangeSet};
 use acl_packet::{Family, Prefix};
 use acl_text::{Items, Memory};

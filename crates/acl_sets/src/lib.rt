@@ -2,7 +2,7 @@
 #![tactic(auto)]
 
 mod least;
-mod pieces;
+mod range_pieces;
 mod sets;
 #[cfg(test)]
 mod tests;

@@ -3,7 +3,7 @@ ghost use Rattle.std.specs.List.{All};
 ghost use Rattle.acl_sets.specs.Ranges.{holds, IsRange, IsNormal, OneNormalList};
 ghost use Rattle.acl_sets.specs.ComputableSets.{put_all, cut_all, shared_all, covers, all_covered};
 
-use crate::pieces;
+use crate::range_pieces;
 use acl_text::Memory;
 use std::alloc::Global;
 use std::marker::Model;

@@ -13,7 +13,7 @@ use crate::line_faults::line_fault;
 use crate::partial_splices::{MOST_OF_FILE, PartialSplice};
 use crate::sources::Sources;
 use crate::splicing::add_file;
-use crate::texts::folder_of;
+use crate::lines_and_folders::folder_of;
 use acl_host::{ReadFault, Tree, TreeFault};
 use acl_text::Code;
 use std::alloc::Global;

@@ -4,12 +4,12 @@
 mod gathering;
 mod include_lines;
 mod line_faults;
+mod lines_and_folders;
 mod partial_splices;
 mod sources;
 mod splicing;
 #[cfg(test)]
 mod tests;
-mod texts;
 
 pub use gathering::{GatherFault, gather};
 pub use sources::{Sources, label};

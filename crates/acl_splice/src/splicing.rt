@@ -11,7 +11,7 @@ ghost use Rattle.acl_host.specs.WholeFiles.{read_told};
 use crate::include_lines::{Asked, asked_in};
 use crate::line_faults::line_fault;
 use crate::partial_splices::{MOST_OF_FILE, PartialSplice};
-use crate::texts::first_line;
+use crate::lines_and_folders::first_line;
 use acl_host::{ReadFault, Tree, TreeFault};
 use acl_text::{Code, Place};
 use std::alloc::{AllocError, Global};

@@ -13,18 +13,18 @@ use Rattle.cisco_lang.specs.Walks.{outcome_of}
 use Rattle.gen_cisco.specs.declared.rules.Rule.{Rule}
 use Rattle.gen_cisco.specs.Rules.{filter_outcome}
 use Rattle.gen_cisco.specs.Sections.{entry_count}
-use Rattle.aclgen_core.specs.Words.{Options, options_of}
-use Rattle.aclgen_core.specs.Paths.{acl_path}
+use Rattle.aclgen_core.specs.CommandLines.{Options, options_of}
+use Rattle.aclgen_core.specs.FilterPaths.{acl_path}
 use Rattle.aclgen_core.specs.FaultLines.{usage_line, fault_line}
 use Rattle.aclgen_core.specs.Reports.{report_of}
-use Rattle.aclgen_core.specs.declared.policies.Word.{Word}
-use Rattle.aclgen_core.specs.declared.policies.Policy.{Policy}
+use Rattle.aclgen_core.specs.declared.narrow_policies.Word.{Word}
+use Rattle.aclgen_core.specs.declared.narrow_policies.Policy.{Policy}
 use Rattle.aclgen_core.specs.Rendering.{AreRulesOf, first_unknown}
 use Rattle.aclgen_core.specs.Job.{Plan, MOST_ENTRIES, policy_read, planned, too_many_entries, RendersWith, GoesOnWithPolicy, GoesOn, Plans, IsJobOf, IsJob, document_of}
-use Rattle.aclgen_core.specs.Endings.{IsRefused, IsRefusalLine, IsWritten, IsEnding, EndsAsAsked}
+use Rattle.aclgen_core.specs.RunEndings.{IsRefused, IsRefusalLine, IsWritten, IsEnding, EndsAsAsked}
 use Rattle.aclgen_core.specs.declared.endings.Ended.{Ended}
 use Rattle.aclgen_core.specs.declared.endings.Ended.TheVariants as ended
-use Rattle.aclgen_core.proofs.Decides.{rules-follow}
+use Rattle.aclgen_core.proofs.RulesFollow.{rules-follow}
 use Rattle.aclgen_core.proofs.OneAnswer.{one-job}
 
 -- ---- the job of the words

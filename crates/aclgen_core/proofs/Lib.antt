@@ -1,7 +1,7 @@
-pub mod Telling
-pub mod RuleLaws
-pub mod PolicyFacts
-pub mod PlanLaws
-pub mod Decides
-pub mod OneAnswer
 pub mod Jobs
+pub mod OneAnswer
+pub mod PlanLaws
+pub mod PolicyFacts
+pub mod RuleLaws
+pub mod RulesFollow
+pub mod Telling

@@ -8,7 +8,7 @@ use Rattle.acl_text.specs.declared.faults.Code.TheVariants as codes
 use Rattle.acl_text.specs.declared.faults.Fault.{Fault}
 use Rattle.acl_text.specs.declared.faults.Slip.{Slip}
 use Rattle.acl_host.specs.Files.{File, names_under}
-use Rattle.acl_naming.specs.declared.items.Reference.{Reference}
+use Rattle.acl_naming.specs.declared.naming_items.Reference.{Reference}
 use Rattle.acl_naming.specs.Definitions.{Definition, Naming}
 use Rattle.acl_naming.specs.Tables.{name_at, place_at}
 use Rattle.acl_packet.specs.Addresses.{top_address}
@@ -18,10 +18,10 @@ use Rattle.acl_sets.specs.declared.sets.Range.{Range}
 use Rattle.acl_sets.specs.Ranges.{holds}
 use Rattle.acl_sets.proofs.LeastListLaws.{one_least_list}
 use Rattle.gen_cisco.specs.declared.rules.Rule.{Rule}
-use Rattle.aclgen_core.specs.Words.{Options, options_of}
-use Rattle.aclgen_core.specs.declared.policies.Word.{Word}
-use Rattle.aclgen_core.specs.declared.policies.Term.{Term}
-use Rattle.aclgen_core.specs.declared.policies.Policy.{Policy}
+use Rattle.aclgen_core.specs.CommandLines.{Options, options_of}
+use Rattle.aclgen_core.specs.declared.narrow_policies.Word.{Word}
+use Rattle.aclgen_core.specs.declared.narrow_policies.Term.{Term}
+use Rattle.aclgen_core.specs.declared.narrow_policies.Policy.{Policy}
 use Rattle.aclgen_core.specs.Rendering.{IsSideSet, IsSide, IsRuleOf, AreRulesOf, first_unknown}
 use Rattle.aclgen_core.specs.Job.{Plan, policy_read, planned, RendersWith, GoesOnWithPolicy, GoesOn, Plans, IsJobOf, IsJob}
 

@@ -13,20 +13,18 @@ use Rattle.acl_packet.specs.Addresses.{IsPrefixOf}
 use Rattle.acl_sets.proofs.LeastListLaws.{least_list-prefixes}
 use Rattle.gen_cisco.specs.declared.rules.Rule.{Rule}
 use Rattle.gen_cisco.specs.Rules.{IsRule}
-use Rattle.aclgen_core.specs.Words.{Options}
-use Rattle.aclgen_core.specs.declared.policies.Word.{Word}
-use Rattle.aclgen_core.specs.declared.policies.Term.{Term}
-use Rattle.aclgen_core.specs.declared.policies.Policy.{Policy}
+use Rattle.aclgen_core.specs.CommandLines.{Options}
+use Rattle.aclgen_core.specs.declared.narrow_policies.Word.{Word}
+use Rattle.aclgen_core.specs.declared.narrow_policies.Term.{Term}
+use Rattle.aclgen_core.specs.declared.narrow_policies.Policy.{Policy}
 use Rattle.aclgen_core.specs.Rendering.{IsSide, IsRuleOf, AreRulesOf}
 use Rattle.acl_host.specs.Files.{File}
-use Rattle.acl_load.specs.declared.load_faults.LoadFault.{LoadFault}
-use Rattle.acl_load.specs.declared.load_faults.LoadFault.TheVariants as faults
-use Rattle.acl_load.specs.Answers.{Answers}
+use Rattle.acl_text.specs.Answers.{Answers}
 use Rattle.acl_load.specs.Loading.{Loads}
 use Rattle.aclgen_core.specs.declared.planning.Plan.{Plan as CodePlan}
-use Rattle.aclgen_core.specs.Views.{plan_view}
+use Rattle.aclgen_core.specs.CodeViews.{plan_view}
 use Rattle.aclgen_core.specs.Job.{Plan, MOST_ENTRIES, policy_read, Renders, GoesOnWithPolicy, Plans}
-use Rattle.aclgen_core.specs.Sound.{IsTerm}
+use Rattle.aclgen_core.specs.SoundPlans.{IsTerm}
 use Rattle.aclgen_core.proofs.PolicyFacts.{both}
 
 -- ---- the rules of a sound policy are sound
@@ -66,17 +64,19 @@ few-entries n count e h = omega (arith, e)
 
 -- ---- the whole
 
-answers-more : {X Y : Type 0} (view : X → Y) (r : Result X LoadFault) (R S : Result Y Fault → Type 0) → ((a : Result Y Fault) → R a → S a) → Answers view r R → Answers view r S
-answers-more view (Ok x) R S more h = more (Ok (view x)) h
-answers-more view (Err (faults.Fault fault)) R S more h = more (Err fault) h
-answers-more view (Err faults.List) R S more h = tt
-answers-more view (Err faults.Read) R S more h = tt
-answers-more view (Err faults.Memory) R S more h = tt
+told-more : {Y F : Type 0} (told : Option F) (R S : Result Y F → Type 0) → ((a : Result Y F) → R a → S a) → IfSome told (λ f. R (Err f)) → IfSome told (λ f. S (Err f))
+told-more None R S more h = tt
+told-more (Some f) R S more h = more (Err f) h
 
-pub plans : (told : Option (List File)) (o : Options) (naming : Naming) (policy : Policy) (r : Result CodePlan LoadFault)
-    → IfSome told (λ files. Loads o.definitions files (Ok naming)) → IfSome told (λ files. policy_read o files ≡ Ok policy)
-    → Answers plan_view r (Renders o naming policy) → IfSome told (λ files. Answers plan_view r (Plans o files))
-plans None o naming policy r loaded read rendered = tt
-plans (Some files) o naming policy r loaded read rendered =
+answers-more : {X Y E F : Type 0} (told : E → Option F) (view : X → Y) (r : Result X E) (R S : Result Y F → Type 0) → ((a : Result Y F) → R a → S a)
+    → Answers told view r R → Answers told view r S
+answers-more told view (Ok x) R S more h = more (Ok (view x)) h
+answers-more told view (Err e) R S more h = told-more (told e) R S more h
+
+pub plans : {E : Type 0} (told : E → Option Fault) (held : Option (List File)) (o : Options) (naming : Naming) (policy : Policy) (r : Result CodePlan E)
+    → IfSome held (λ files. Loads o.definitions files (Ok naming)) → IfSome held (λ files. policy_read o files ≡ Ok policy)
+    → Answers told plan_view r (Renders o naming policy) → IfSome held (λ files. Answers told plan_view r (Plans o files))
+plans told None o naming policy r loaded read rendered = tt
+plans told (Some files) o naming policy r loaded read rendered =
     let Goes : Result Plan Fault → Result Policy Fault → Type 0 = λ answer p. GoesOnWithPolicy o naming p answer in
-    answers-more plan_view r (Renders o naming policy) (Plans o files) (λ answer h. (Ok naming, loaded, subst (Goes answer) (sym read) h)) rendered
+    answers-more told plan_view r (Renders o naming policy) (Plans o files) (λ answer h. (Ok naming, loaded, subst (Goes answer) (sym read) h)) rendered

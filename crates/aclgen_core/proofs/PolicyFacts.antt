@@ -6,13 +6,13 @@ use Rattle.acl_text.specs.Cursors.{lines_of}
 use Rattle.acl_text.specs.OptionSteps.{◌>>=◌}
 use Rattle.acl_text.specs.Names.{is_filter_name}
 use Rattle.std.proofs.lemmas.Bool.{false≢true}
-use Rattle.aclgen_core.specs.Names.{is_short_name}
-use Rattle.aclgen_core.specs.declared.policies.Word.{Word}
-use Rattle.aclgen_core.specs.declared.policies.Target.{Target}
-use Rattle.aclgen_core.specs.declared.policies.Term.{Term}
-use Rattle.aclgen_core.specs.declared.policies.Policy.{Policy}
-use Rattle.aclgen_core.specs.Policies.{numbered_words, keyword, name, is_end, address_item, protocol_word, with_protocol, protocol_item, action_item, target_of, term_title, term_of, terms_of, closed_parts, is_closing, terms_fit, policy_in, policy_of, policy_from}
-use Rattle.aclgen_core.specs.Sound.{IsTerm, IsPolicy}
+use Rattle.aclgen_core.specs.ShortNames.{is_short_name}
+use Rattle.aclgen_core.specs.declared.narrow_policies.Word.{Word}
+use Rattle.aclgen_core.specs.declared.narrow_policies.Target.{Target}
+use Rattle.aclgen_core.specs.declared.narrow_policies.Term.{Term}
+use Rattle.aclgen_core.specs.declared.narrow_policies.Policy.{Policy}
+use Rattle.aclgen_core.specs.NarrowPolicies.{numbered_words, keyword, name, is_end, address_item, protocol_word, with_protocol, protocol_item, action_item, target_of, term_title, term_of, terms_of, closed_parts, is_closing, terms_fit, policy_in, policy_of, policy_from}
+use Rattle.aclgen_core.specs.SoundPlans.{IsTerm, IsPolicy}
 
 pub both : (a b : Bool) → (a && b) ≡ true → (a ≡ true) × (b ≡ true)
 both true true e = (refl, refl)

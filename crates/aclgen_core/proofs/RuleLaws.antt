@@ -3,8 +3,8 @@ use Rattle.std.proofs.Common.{◌≡◌, ℕ, ◌+◌, ◌<◌, List, [], ◌∷
 use Rattle.std.proofs.lemmas.List.{take_more}
 use Rattle.acl_naming.specs.Definitions.{Definition}
 use Rattle.gen_cisco.specs.declared.rules.Rule.{Rule}
-use Rattle.aclgen_core.specs.declared.policies.Word.{Word}
-use Rattle.aclgen_core.specs.declared.policies.Term.{Term}
+use Rattle.aclgen_core.specs.declared.narrow_policies.Word.{Word}
+use Rattle.aclgen_core.specs.declared.narrow_policies.Term.{Term}
 use Rattle.aclgen_core.specs.Rendering.{IsRuleOf, AreRulesOf, unknown_in, or_else, first_unknown}
 
 or_none : (a b c : Option Word) → or_else a b ≡ None → or_else a (or_else b c) ≡ c

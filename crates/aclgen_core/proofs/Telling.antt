@@ -5,7 +5,7 @@ use Rattle.acl_host.specs.declared.sinks.WriteFault.{WriteFault}
 use Rattle.acl_host.specs.declared.sinks.WriteFault.TheVariants.{Failed, Memory}
 use Rattle.acl_host.specs.Files.{BothTell}
 use Rattle.acl_host.specs.Outside.{Writes, AddsFront}
-use Rattle.aclgen_core.specs.Endings.{Tried}
+use Rattle.aclgen_core.specs.RunEndings.{Tried}
 
 whole-front : (line : List ℕ) (old new : Option (List ℕ)) → new ≡ option_map (λ (b : List ℕ). b ++ line) old → BothTell old new (AddsFront line)
 whole-front line None new e = e

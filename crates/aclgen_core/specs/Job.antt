@@ -4,16 +4,17 @@ use Rattle.acl_text.specs.declared.faults.Code.TheVariants.{UnknownName, NotYet,
 use Rattle.acl_text.specs.declared.faults.Fault.{Fault}
 use Rattle.acl_host.specs.Files.{File}
 use Rattle.acl_naming.specs.Definitions.{Naming}
-use Rattle.acl_load.specs.Reading.{◌>>=◌, fault_at, whole_file}
+use Rattle.acl_text.specs.Steps.{◌>>=◌, or_err}
+use Rattle.acl_host.specs.WholeFiles.{fault_at, whole_file}
 use Rattle.acl_load.specs.Loading.{Loads}
 use Rattle.cisco_lang.specs.declared.documents.Section.{Section}
 use Rattle.gen_cisco.specs.declared.rules.Rule.{Rule}
 use Rattle.gen_cisco.specs.Sections.{section_of, entry_count}
-use Rattle.aclgen_core.specs.Words.{Options, options_of}
-use Rattle.aclgen_core.specs.Paths.{acl_path}
-use Rattle.aclgen_core.specs.declared.policies.Word.{Word}
-use Rattle.aclgen_core.specs.declared.policies.Policy.{Policy}
-use Rattle.aclgen_core.specs.Policies.{policy_from}
+use Rattle.aclgen_core.specs.CommandLines.{Options, options_of}
+use Rattle.aclgen_core.specs.FilterPaths.{acl_path}
+use Rattle.aclgen_core.specs.declared.narrow_policies.Word.{Word}
+use Rattle.aclgen_core.specs.declared.narrow_policies.Policy.{Policy}
+use Rattle.aclgen_core.specs.NarrowPolicies.{policy_from}
 use Rattle.aclgen_core.specs.Rendering.{AreRulesOf, first_unknown}
 
 -- What a run writes: the definitions and the policy that it was read with, the rules that its terms become, and the
@@ -30,13 +31,9 @@ pub record Plan : Type 0 where
 abbrev pub MOST_BYTES : ℕ
 MOST_BYTES = 65536
 
-abbrev pub or_fault : Fault → Option Policy → Result Policy Fault
-or_fault fault None = Err fault
-or_fault fault (Some policy) = Ok policy
-
 -- The policy in the bytes of the file at the path; input beyond this version is a fault of the whole file.
 abbrev pub policy_in : List ℕ → List ℕ → Result Policy Fault
-policy_in path bytes = or_fault (fault_at NotYet path) (policy_from bytes)
+policy_in path bytes = or_err (fault_at NotYet path) (policy_from bytes)
 
 unfoldable pub policy_read : Options → List File → Result Policy Fault
 policy_read o files = do

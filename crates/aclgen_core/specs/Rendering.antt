@@ -8,9 +8,9 @@ use Rattle.acl_sets.specs.declared.sets.Range.{Range}
 use Rattle.acl_sets.specs.Ranges.{IsNormal, holds}
 use Rattle.acl_sets.specs.LeastLists.{IsLeastList}
 use Rattle.gen_cisco.specs.declared.rules.Rule.{Rule}
-use Rattle.aclgen_core.specs.declared.policies.Word.{Word}
-use Rattle.aclgen_core.specs.declared.policies.Term.{Term}
-use Rattle.aclgen_core.specs.Meaning.{Takes}
+use Rattle.aclgen_core.specs.declared.narrow_policies.Word.{Word}
+use Rattle.aclgen_core.specs.declared.narrow_policies.Term.{Term}
+use Rattle.aclgen_core.specs.NarrowMeaning.{Takes}
 
 -- A set of numbers is the set of the IPv4 addresses that one side of a term takes.
 pub record IsSideSet (networks : List Definition) (side : Option Word) (ranges : List Range) : Type 0 where

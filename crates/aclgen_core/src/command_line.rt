@@ -3,9 +3,19 @@ ghost use Rattle.std.specs.List.{list_all, zip};
 ghost use Rattle.std.specs.Str.{bytes_eq};
 ghost use Rattle.std.specs.Option.{option_map};
 ghost use Rattle.std.specs.String.{string_bytes};
-ghost use Rattle.aclgen_core.specs.Words.{word_at, paths_stand, folders_stand, output_stands, date_stands, is_date, date_byte, options_of};
-ghost use Rattle.acl_text.specs.Names.{is_digit};
-ghost use Rattle.aclgen_core.specs.Views.{options_view};
+ghost use Rattle.aclgen_core.specs.CommandLines.{
+  date_byte,
+  date_stands,
+  folders_stand,
+  is_date,
+  options_of,
+  output_stands,
+  paths_stand,
+  word_at,
+};
+ghost use Rattle.aclgen_core.specs.CodeViews.{options_view};
+
+use acl_text::is_digit;
 
 /// What the words ask for: the policy's path, the folder of the naming files, the folder for the filters.
 #[derive(Clone, Copy, Debug)]
@@ -16,7 +26,7 @@ pub struct Options<'a> {
 }
 
 /// The options that the words give.
-#[tactic(auto, unfolding(crate::specs::Words::options_of))]
+#[tactic(auto, unfolding(crate::specs::CommandLines::options_of))]
 pub fn options_of(words: &[String]) -> Option<Options<'_>>
     ensures { option_map options_view result ≡ options_of (map string_bytes words.now) }
 {
@@ -95,10 +105,4 @@ fn is_date_byte(byte: u8, form: u8) -> bool
     } else {
         is_digit(byte)
     }
-}
-
-fn is_digit(byte: u8) -> bool
-    ensures { result ≡ is_digit byte }
-{
-    b'0' <= byte && byte <= b'9'
 }

@@ -1,5 +1,13 @@
 ghost use Rattle.std.specs.Prelude.{◌≡◌, ◌++◌, map, take, IfOk, OnOk};
-ghost use Rattle.aclgen_core.specs.FaultLines.{code_text, line_text, visible, word_text, fault_line, usage_line, outside_line};
+ghost use Rattle.aclgen_core.specs.FaultLines.{
+  code_text,
+  fault_line,
+  line_text,
+  outside_line,
+  usage_line,
+  visible,
+  word_text,
+};
 
 use crate::endings::Which;
 use acl_text::{Bytes, Code, Fault, Memory};
@@ -60,7 +68,7 @@ fn visible(byte: u8) -> u8
     }
 }
 
-fn printed(alloc: Global, word: &[u8]) -> Result<Vec<u8>, AllocError>
+fn visible_word(alloc: Global, word: &[u8]) -> Result<Vec<u8>, AllocError>
     ensures { IfOk result (λ v. v.items ≡ map visible (take 64 word.now)) }
 {
     word.iter()
@@ -75,7 +83,7 @@ fn push_word(text: &mut Bytes, alloc: Global, word: &[u8]) -> Result<(), Memory>
     match word {
         [] => Ok(()),
         [_, ..] => {
-            let shown = printed(alloc, word)?;
+            let shown = visible_word(alloc, word)?;
             text.push_all(b" ")?;
             text.push_all(shown.as_slice())?;
             Ok(())

@@ -4,18 +4,17 @@
 mod command_line;
 mod endings;
 mod fault_lines;
-mod fronts;
-mod paths;
+mod filter_paths;
+mod filter_texts;
+mod narrow_policies;
+mod narrow_reading;
 mod planning;
-mod policies;
-mod reading;
 mod rendering;
 mod reports;
 mod running;
-mod writing;
+mod word_fronts;
+#[cfg(test)]
+mod tests;
 
 pub use endings::{Ended, Which, status_of};
 pub use running::aclgen;
-
-#[cfg(test)]
-mod tests;

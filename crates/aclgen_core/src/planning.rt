@@ -1,20 +1,22 @@
 ghost use Rattle.std.specs.Prelude.{◌≡◌, ◌≤◌, length, IfSome, IfOk, IsErrOf};
 ghost use Rattle.acl_text.specs.Output.{Rose};
-ghost use Rattle.acl_host.specs.Outside.{OnlyLooks};
-ghost use Rattle.acl_load.specs.Answers.{Answers};
+ghost use Rattle.acl_text.specs.Answers.{Answers, Gives, fault_told};
+ghost use Rattle.acl_host.specs.Outside.{OnlyListsAndReads, OnlyReads};
+ghost use Rattle.acl_host.specs.WholeFiles.{read_told};
+ghost use Rattle.acl_load.specs.LoadFaults.{load_told};
 ghost use Rattle.aclgen_core.specs.Job.{Plans, Renders, policy_in, policy_read, too_many_entries};
-ghost use Rattle.aclgen_core.specs.Sound.{IsPlan, IsPolicy};
-ghost use Rattle.aclgen_core.specs.Views.{options_view, plan_view};
+ghost use Rattle.aclgen_core.specs.SoundPlans.{IsPlan, IsPolicy};
+ghost use Rattle.aclgen_core.specs.CodeViews.{options_view, plan_view};
 
 use crate::command_line::Options;
-use crate::paths::acl_path;
-use crate::policies::Policy;
-use crate::reading::read_policy;
+use crate::filter_paths::acl_path;
+use crate::narrow_policies::Policy;
+use crate::narrow_reading::read_policy;
 use crate::rendering::rules_of;
-use acl_host::Tree;
-use acl_load::{LoadFault, fault_at, load_definitions, read_whole};
+use acl_host::{ReadFault, Tree, fault_at, read_whole};
+use acl_load::{LoadFault, load_definitions};
 use acl_naming::Checked;
-use acl_text::{Bytes, Code, Fault, Memory};
+use acl_text::{Bytes, Code, Fault, Items, Memory, Rejection};
 use gen_cisco::{Rules, entry_count};
 use std::alloc::Global;
 
@@ -35,16 +37,14 @@ pub struct Plan {
 }
 
 // The policy in the bytes of the file at the path.
-fn policy_in(alloc: Global, path: &str, bytes: &[u8]) -> Result<Policy, LoadFault>
+fn policy_in(alloc: Global, path: &str, bytes: &[u8]) -> Result<Policy, Rejection>
     requires { length bytes.now ≤ 65536 }
-    ensures gives { Answers (λ policy. policy) result (λ answer. policy_in path.now bytes.now ≡ answer) }
+    ensures gives { Gives fault_told result (policy_in path.now bytes.now) }
     ensures sound { IfOk result (λ policy. IsPolicy policy) }
-    ensures list_failed { IsErrOf result LoadFault.List → ⊥ }
-    ensures read_failed { IsErrOf result LoadFault.Read → ⊥ }
 {
     match read_policy(alloc, bytes)? {
         Some(policy) => Ok(policy),
-        None => Err(LoadFault::Fault(fault_at(alloc, Code::NotYet, path)?)),
+        None => Err(Rejection::Fault(fault_at(alloc, Code::NotYet, path)?)),
     }
 }
 
@@ -53,17 +53,17 @@ fn policy_read<T: Tree>(
     alloc: Global,
     options: &Options<'_>,
     tree: &mut T,
-) -> Result<Policy, LoadFault>
-    ensures gives { IfSome (T.files tree.old) (λ files. Answers (λ policy. policy) result (λ answer. policy_read (options_view options.now) files ≡ answer)) }
+) -> Result<Policy, ReadFault>
+    ensures gives { IfSome (T.files tree.old) (λ files. Gives read_told result
+        (policy_read (options_view options.now) files)) }
     ensures sound { IfOk result (λ policy. IsPolicy policy) }
-    ensures looks { OnlyLooks T.files T.begun T.faults T.refusals tree.old tree.new }
-    ensures reads { T.read_faults tree.old ≤ T.read_faults tree.new }
-    ensures lists { T.list_faults tree.new ≡ T.list_faults tree.old }
-    ensures list_failed { IsErrOf result LoadFault.List → ⊥ }
-    ensures read_failed { IsErrOf result LoadFault.Read → Rose (T.read_faults tree.old) (T.read_faults tree.new) }
+    ensures reads { OnlyReads T.files T.begun T.faults T.refusals T.list_faults T.read_faults
+        tree.old tree.new }
+    ensures outside { IsErrOf result ReadFault.Outside
+        → Rose (T.read_faults tree.old) (T.read_faults tree.new) }
 {
     let bytes = read_whole(alloc, tree, options.policy, MOST_BYTES, Code::NotYet)?;
-    policy_in(alloc, options.policy, bytes.as_slice())
+    Ok(policy_in(alloc, options.policy, bytes.as_slice())?)
 }
 
 fn too_many_entries(alloc: Global, path: &str, policy: &Policy) -> Result<Fault, Memory>
@@ -85,16 +85,15 @@ fn render(
     options: &Options<'_>,
     naming: Checked,
     policy: Policy,
-) -> Result<Plan, LoadFault>
+) -> Result<Plan, Rejection>
     requires { IsPolicy policy }
-    ensures gives { Answers plan_view result (Renders (options_view options.now) naming policy) }
+    ensures gives { Answers fault_told plan_view result
+        (Renders (options_view options.now) naming policy) }
     ensures sound { IfOk result (λ plan. IsPlan (plan_view plan)) }
-    ensures list_failed { IsErrOf result LoadFault.List → ⊥ }
-    ensures read_failed { IsErrOf result LoadFault.Read → ⊥ }
 {
     let rules = rules_of(alloc, &naming, options.policy, policy.terms.as_slice())?;
     if entry_count(rules.as_slice()) > MOST_ENTRIES {
-        return Err(LoadFault::Fault(too_many_entries(alloc, options.policy, &policy)?));
+        return Err(Rejection::Fault(too_many_entries(alloc, options.policy, &policy)?));
     }
     let path = acl_path(alloc, options)?;
     Ok(Plan {
@@ -111,15 +110,17 @@ pub fn make_plan<T: Tree>(
     options: &Options<'_>,
     tree: &mut T,
 ) -> Result<Plan, LoadFault>
-    ensures gives { IfSome (T.files tree.old) (λ files. Answers plan_view result (Plans (options_view options.now) files)) }
+    ensures gives { IfSome (T.files tree.old) (λ files. Answers load_told plan_view result
+        (Plans (options_view options.now) files)) }
     ensures sound { IfOk result (λ plan. IsPlan (plan_view plan)) }
-    ensures looks { OnlyLooks T.files T.begun T.faults T.refusals tree.old tree.new }
-    ensures reads { T.read_faults tree.old ≤ T.read_faults tree.new }
-    ensures lists { T.list_faults tree.old ≤ T.list_faults tree.new }
-    ensures list_failed { IsErrOf result LoadFault.List → Rose (T.list_faults tree.old) (T.list_faults tree.new) }
-    ensures read_failed { IsErrOf result LoadFault.Read → Rose (T.read_faults tree.old) (T.read_faults tree.new) }
+    ensures looks { OnlyListsAndReads T.files T.begun T.faults T.refusals T.list_faults T.read_faults
+        tree.old tree.new }
+    ensures list_failed { IsErrOf result LoadFault.List
+        → Rose (T.list_faults tree.old) (T.list_faults tree.new) }
+    ensures read_failed { IsErrOf result LoadFault.Read
+        → Rose (T.read_faults tree.old) (T.read_faults tree.new) }
 {
     let naming = load_definitions(alloc, tree, options.definitions)?;
     let policy = policy_read(alloc, options, tree)?;
-    render(alloc, options, naming, policy)
+    Ok(render(alloc, options, naming, policy)?)
 }

@@ -1,20 +1,16 @@
-ghost use Rattle.std.specs.Prelude.{◌≡◌, Some, IfOk, IsErrOf};
+ghost use Rattle.std.specs.Prelude.{◌≡◌, Some, IfOk};
 ghost use Rattle.std.specs.Option.{option_copied};
-ghost use Rattle.acl_load.specs.Answers.{Answers};
+ghost use Rattle.acl_text.specs.Answers.{Answers, fault_told};
 ghost use Rattle.aclgen_core.specs.Job.{unknown_name};
-ghost use Rattle.aclgen_core.specs.Steps.{SideGiven, SetGiven, RuleGiven, RulesGiven};
+ghost use Rattle.aclgen_core.specs.RenderingSteps.{SideGiven, SetGiven, RuleGiven, RulesGiven};
 
-use crate::policies::{Term, Word};
-use acl_load::LoadFault;
+use crate::narrow_policies::{Term, Word};
 use acl_naming::{Checked, Lookup, networks_of};
 use acl_packet::Family;
 use acl_sets::{Prefixes, RangeSet, least_prefixes};
-use acl_text::{Bytes, Code, Fault, Memory};
+use acl_text::{Bytes, Code, Fault, Items, Memory, Rejection};
 use gen_cisco::{Rule, Rules};
 use std::alloc::Global;
-
-// The highest IPv4 address, as a number.
-const TOP: u128 = 0xffff_ffff;
 
 fn unknown_name(alloc: Global, path: &str, word: &Word) -> Result<Fault, Memory>
     ensures { IfOk result (λ fault. fault ≡ unknown_name path.now word.now) }
@@ -35,16 +31,14 @@ fn addresses_named(
     definitions: &Checked,
     path: &str,
     word: &Word,
-) -> Result<RangeSet, LoadFault>
-    ensures gives { Answers (λ set. set) result (SetGiven path.now definitions.now.networks (Some word.now)) }
-    ensures list_failed { IsErrOf result LoadFault.List → ⊥ }
-    ensures read_failed { IsErrOf result LoadFault.Read → ⊥ }
+) -> Result<RangeSet, Rejection>
+    ensures { Answers fault_told (λ set. set) result (SetGiven path.now definitions.now.networks (Some word.now)) }
 {
     match networks_of(alloc, definitions, Family::V4, word.text.as_slice()) {
         Ok(set) => Ok(set),
-        Err(Lookup::Unknown) => Err(LoadFault::Fault(unknown_name(alloc, path, word)?)),
+        Err(Lookup::Unknown) => Err(Rejection::Fault(unknown_name(alloc, path, word)?)),
         Err(Lookup::NoPort) => unreachable!(),
-        Err(Lookup::Memory) => Err(LoadFault::Memory),
+        Err(Lookup::Memory) => Err(Rejection::Memory),
     }
 }
 
@@ -54,13 +48,11 @@ fn addresses_of(
     definitions: &Checked,
     path: &str,
     side: Option<&Word>,
-) -> Result<RangeSet, LoadFault>
-    ensures gives { Answers (λ set. set) result (SetGiven path.now definitions.now.networks (option_copied side.entry)) }
-    ensures list_failed { IsErrOf result LoadFault.List → ⊥ }
-    ensures read_failed { IsErrOf result LoadFault.Read → ⊥ }
+) -> Result<RangeSet, Rejection>
+    ensures { Answers fault_told (λ set. set) result (SetGiven path.now definitions.now.networks (option_copied side.entry)) }
 {
     match side {
-        None => Ok(RangeSet::all(alloc, TOP)?),
+        None => Ok(RangeSet::all(alloc, Family::V4.top_address())?),
         Some(word) => addresses_named(alloc, definitions, path, word),
     }
 }
@@ -71,19 +63,15 @@ fn prefixes_of(
     definitions: &Checked,
     path: &str,
     side: Option<&Word>,
-) -> Result<Prefixes, LoadFault>
-    ensures gives { Answers (λ prefixes. prefixes) result (SideGiven path.now definitions.now.networks (option_copied side.entry)) }
-    ensures list_failed { IsErrOf result LoadFault.List → ⊥ }
-    ensures read_failed { IsErrOf result LoadFault.Read → ⊥ }
+) -> Result<Prefixes, Rejection>
+    ensures { Answers fault_told (λ prefixes. prefixes) result (SideGiven path.now definitions.now.networks (option_copied side.entry)) }
 {
     let set = addresses_of(alloc, definitions, path, side)?;
     Ok(least_prefixes(alloc, &set, Family::V4)?)
 }
 
-fn rule_of(alloc: Global, definitions: &Checked, path: &str, term: &Term) -> Result<Rule, LoadFault>
-    ensures gives { Answers (λ rule. rule) result (RuleGiven path.now definitions.now.networks term.now) }
-    ensures list_failed { IsErrOf result LoadFault.List → ⊥ }
-    ensures read_failed { IsErrOf result LoadFault.Read → ⊥ }
+fn rule_of(alloc: Global, definitions: &Checked, path: &str, term: &Term) -> Result<Rule, Rejection>
+    ensures { Answers fault_told (λ rule. rule) result (RuleGiven path.now definitions.now.networks term.now) }
 {
     let src = prefixes_of(alloc, definitions, path, term.source.as_ref())?;
     let dst = prefixes_of(alloc, definitions, path, term.destination.as_ref())?;
@@ -104,10 +92,8 @@ pub fn rules_of(
     definitions: &Checked,
     path: &str,
     terms: &[Term],
-) -> Result<Rules, LoadFault>
-    ensures gives { Answers (λ rules. rules) result (RulesGiven path.now definitions.now.networks terms.now) }
-    ensures list_failed { IsErrOf result LoadFault.List → ⊥ }
-    ensures read_failed { IsErrOf result LoadFault.Read → ⊥ }
+) -> Result<Rules, Rejection>
+    ensures { Answers fault_told (λ rules. rules) result (RulesGiven path.now definitions.now.networks terms.now) }
 {
     let mut rules = Rules::new(alloc);
     for term in terms {

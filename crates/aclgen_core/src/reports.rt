@@ -1,7 +1,7 @@
 ghost use Rattle.std.specs.Prelude.{◌≡◌, IfOk};
 ghost use Rattle.aclgen_core.specs.Reports.{report_of};
-ghost use Rattle.aclgen_core.specs.Sound.{IsPlan};
-ghost use Rattle.aclgen_core.specs.Views.{plan_view};
+ghost use Rattle.aclgen_core.specs.SoundPlans.{IsPlan};
+ghost use Rattle.aclgen_core.specs.CodeViews.{plan_view};
 
 use crate::planning::Plan;
 use acl_text::{Bytes, Memory};

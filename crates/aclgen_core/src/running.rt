@@ -3,11 +3,11 @@ ghost use Rattle.std.specs.String.{string_bytes};
 ghost use Rattle.acl_text.specs.Output.{Rose};
 ghost use Rattle.acl_host.specs.Files.{BothTell};
 ghost use Rattle.acl_host.specs.Outside.{AddsFront};
-ghost use Rattle.aclgen_core.specs.Words.{options_of};
+ghost use Rattle.aclgen_core.specs.CommandLines.{options_of};
 ghost use Rattle.aclgen_core.specs.Job.{Plan, IsJob};
 ghost use Rattle.aclgen_core.specs.FaultLines.{usage_line, fault_line, outside_line};
 ghost use Rattle.aclgen_core.specs.Reports.{report_of};
-ghost use Rattle.aclgen_core.specs.Endings.{
+ghost use Rattle.aclgen_core.specs.RunEndings.{
   EndsAsAsked,
   IfRejected,
   IsEarly,
@@ -25,7 +25,7 @@ use crate::endings::{Ended, Which};
 use crate::fault_lines::{fault_line, outside_line, usage_line};
 use crate::planning::make_plan;
 use crate::reports::report_of;
-use crate::writing::list_text;
+use crate::filter_texts::list_text;
 use acl_host::{Clock, Sink, Tree, WriteFault, write_file};
 use acl_load::LoadFault;
 use std::alloc::Global;

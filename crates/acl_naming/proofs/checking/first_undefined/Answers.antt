@@ -1,5 +1,5 @@
 use Rattle.std.proofs.Common.{◌<◌, length, List, ap, ◌∙◌, arith}
-use Rattle.acl_naming.specs.declared.items.Item.{Item}
+use Rattle.acl_naming.specs.declared.naming_items.Item.{Item}
 use Rattle.acl_naming.specs.Checking.{undefined_in}
 use Rattle.acl_naming.proofs.CheckLaws.{undefined_here, undefined_behind}
 use Rattle.acl_naming.proofs.checking.first_undefined.Goals as goal

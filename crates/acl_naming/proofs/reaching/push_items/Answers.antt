@@ -1,6 +1,6 @@
 use Rattle.std.proofs.Common.{◌+◌, ◌<◌, Bool, ◌||◌, take, length, ap, sym, ◌∙◌, arith}
 use Rattle.std.proofs.lemmas.List.Folds.{list_any_more}
-use Rattle.acl_naming.specs.declared.items.Item.{Item}
+use Rattle.acl_naming.specs.declared.naming_items.Item.{Item}
 use Rattle.acl_naming.specs.LookupSteps.{any_item}
 use Rattle.acl_naming.proofs.ReachLaws.{collects_on}
 use Rattle.acl_naming.proofs.reaching.push_items.Goals as goal

@@ -1,6 +1,6 @@
 use Rattle.std.proofs.Common.{◌≡◌, ◌+◌, ◌≤◌, suc, true, [], ◌∷◌, length, List, slice_set, ap, arith, length-append}
 use Rattle.std.proofs.lemmas.Result.{on_ok_weaker}
-use Rattle.acl_naming.specs.declared.items.Item.{Item}
+use Rattle.acl_naming.specs.declared.naming_items.Item.{Item}
 use Rattle.acl_naming.specs.declared.settling.Step.TheVariants.{Leave}
 use Rattle.acl_naming.specs.Definitions.{items_at}
 use Rattle.acl_naming.specs.SettlingSteps.{steps_left}

@@ -1,5 +1,5 @@
 use Rattle.std.proofs.Common.{List, Bool, ◌≡◌, true, false, if◌then◌else◌, slice_set, ap, sym, ◌∙◌}
-use Rattle.acl_naming.specs.declared.items.Item.{Item}
+use Rattle.acl_naming.specs.declared.naming_items.Item.{Item}
 use Rattle.acl_naming.specs.Definitions.{items_at}
 use Rattle.acl_naming.specs.GraphSteps.{targets}
 use Rattle.acl_naming.specs.MarkSteps.{all_marked}

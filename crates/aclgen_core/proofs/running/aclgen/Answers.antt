@@ -6,9 +6,10 @@ use Rattle.acl_host.specs.Files.{File, BothTell}
 use Rattle.acl_host.specs.Writing.{HoldsText}
 use Rattle.cisco_lang.specs.Texts.{text_of}
 use Rattle.acl_load.specs.declared.load_faults.LoadFault.{LoadFault}
-use Rattle.acl_load.specs.Answers.{Answers}
+use Rattle.acl_text.specs.Answers.{Answers}
+use Rattle.acl_load.specs.LoadFaults.{load_told}
 use Rattle.aclgen_core.specs.Job.{Plans, document_of}
-use Rattle.aclgen_core.specs.Views.{options_view, plan_view}
+use Rattle.aclgen_core.specs.CodeViews.{options_view, plan_view}
 use Rattle.aclgen_core.proofs.Jobs.{asked-done, asked-rejected, done-told, is-planned}
 use Rattle.aclgen_core.proofs.running.aclgen.Goals as goal
 
@@ -16,7 +17,7 @@ pub returns-in-Ok-write-clause-complete : goal.returns-in-Ok-write-clause-comple
 returns-in-Ok-write-clause-complete g c =
     let told = g.T.Tree.files c.args.tree.now in
     let o = options_view c.in-Some.options in
-    let P : LoadFault → Type 0 = λ f. IfSome told (λ files. Answers plan_view (Err f) (Plans o files)) in
+    let P : LoadFault → Type 0 = λ f. IfSome told (λ files. Answers load_told plan_view (Err f) (Plans o files)) in
     λ none. asked-rejected told (map string_bytes c.args.words.now) o c.in-Err-Fault.fault
     (sym c.in-Some.ensures) (subst P c.in-Err-Fault.field-0-is c.in-Err-Fault.ensures.gives)
 

@@ -1,0 +1,50 @@
+ghost use Rattle.std.specs.Prelude.{◌≡◌, ◌++◌, map, codes, IfOk, slice_index_or, length, ◌-◌, [], nat_eq};
+ghost use Rattle.std.specs.List.{slice_split, ends_with};
+ghost use Rattle.std.specs.String.{string_bytes};
+ghost use Rattle.acl_host.specs.Files.{join_path};
+ghost use Rattle.aclgen_core.specs.FilterPaths.{parts_of, last_part, without_pol, acl_path};
+ghost use Rattle.aclgen_core.specs.CodeViews.{options_view};
+
+use crate::command_line::Options;
+use acl_host::join_path;
+use std::alloc::{AllocError, Global};
+
+fn parts_of(alloc: Global, path: &str) -> Result<Vec<&str>, AllocError>
+    ensures { IfOk result (λ parts. map (λ p. p.now) parts.items ≡ parts_of path.now) }
+{
+    path.split('/').collect(alloc)
+}
+
+fn last_of<'a>(parts: &[&'a str]) -> &'a str
+    ensures { result.now ≡ slice_index_or (map (λ p. p.now) parts.now) (length parts.now - 1) [] }
+{
+    match parts.last() {
+        Some(part) => part,
+        None => "",
+    }
+}
+
+fn without_pol(name: &str) -> &str
+    ensures { result.now ≡ without_pol name.now }
+{
+    if name.as_bytes().ends_with(b".pol") && name.len() > 4 {
+        &name[..name.len() - 4]
+    } else {
+        name
+    }
+}
+
+/// The path of the filter's file: in the output folder, under the policy's own name with `.acl`.
+#[tactic(auto, unfolding(crate::specs::FilterPaths::acl_path))]
+pub fn acl_path(alloc: Global, options: &Options<'_>) -> Result<String, AllocError>
+    ensures { IfOk result (λ path. string_bytes path ≡ acl_path (options_view options.now)) }
+{
+    let parts = parts_of(alloc, options.policy)?;
+    let mut path = join_path(
+        alloc,
+        options.output,
+        without_pol(last_of(parts.as_slice())),
+    )?;
+    path.push_str(".acl")?;
+    Ok(path)
+}
