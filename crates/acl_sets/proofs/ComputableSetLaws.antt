@@ -6,7 +6,7 @@ use Rattle.std.proofs.lemmas.List.Folds.{list_any-append}
 use Rattle.std.specs.List.{AllByRecursion}
 use Rattle.acl_sets.specs.declared.sets.Range.{Range}
 use Rattle.acl_sets.specs.Ranges.{inside, holds, IsRange, IsNormal}
-use Rattle.acl_sets.proofs.RangeLaws.{in_range, ends_of, lower_floor, at_floor}
+use Rattle.acl_sets.proofs.RangeLaws.{in_range, ends_of, lower_floor, at_floor, are_ranges, one_list}
 use Rattle.acl_sets.proofs.SetFacts.{flat_normal, or_group, or_turn, and_in, not_both, both_none, either_none, never, put_in-holds, put_in-normal, without-holds, without-normal, common-holds, common-normal}
 use Rattle.acl_sets.specs.ComputableSets.{put_in, put_all, cut, cut_all, shared, shared_all, covers, meets, all_covered}
 
@@ -132,3 +132,28 @@ subset-covered f g top (r ∷ rs) qs n m h =
     (or_left (inside r x) (holds rs x) (in_range r.low r.high x p q))))
     (subset-covered (r.high + 2) g top rs qs n.3 m (λ x p q. h x p
     (or_right (inside r x) (holds rs x) q)))
+
+-- A list in normal form that holds the right numbers is the one that is computed, so that a body owes
+-- the facts on what its list holds alone
+
+pub union-computed : (top : ℕ) (qs rs vs : List Range) → IsNormal 0 top qs → IsNormal 0 top rs
+    → IsNormal 0 top vs → ((x : ℕ) → holds vs x ≡ (holds qs x || holds rs x)) → vs ≡ put_all rs qs
+union-computed top qs rs vs n m k h =
+    let ranges = are_ranges 0 top rs m in
+    one_list 0 0 top vs (put_all rs qs) k (put_all-normal top rs qs ranges n)
+    (λ x. h x ∙ sym (put_all-holds top rs qs x ranges n))
+
+pub difference-computed : (top : ℕ) (qs rs vs : List Range) → IsNormal 0 top qs → IsNormal 0 top rs
+    → IsNormal 0 top vs → ((x : ℕ) → holds vs x ≡ (holds qs x && not (holds rs x)))
+    → vs ≡ cut_all rs qs
+difference-computed top qs rs vs n m k h =
+    let ranges = are_ranges 0 top rs m in
+    one_list 0 0 top vs (cut_all rs qs) k (cut_all-normal 0 top top rs qs ranges n)
+    (λ x. h x ∙ sym (cut_all-holds 0 top top rs qs x ranges n))
+
+pub intersection-computed : (top : ℕ) (qs rs vs : List Range) → IsNormal 0 top qs
+    → IsNormal 0 top rs → IsNormal 0 top vs → ((x : ℕ) → holds vs x ≡ (holds qs x && holds rs x))
+    → vs ≡ shared_all rs qs
+intersection-computed top qs rs vs n m k h =
+    one_list 0 0 top vs (shared_all rs qs) k (shared_all-normal 0 top 0 top rs qs m n)
+    (λ x. h x ∙ sym (shared_all-holds 0 top rs qs x n))
