@@ -35,7 +35,9 @@ join_path folder rest = with_slash folder ++ rest
 
 -- what stands behind a prefix in a longer path
 abbrev pub rest_behind : List ℕ → List ℕ → Option (List ℕ)
-rest_behind prefix path = if starts_with nat_eq path prefix && nat_lt (length prefix) (length path) then Some (drop (length prefix) path) else None
+rest_behind prefix path =
+    if starts_with nat_eq path prefix && nat_lt (length prefix) (length path)
+    then Some (drop (length prefix) path) else None
 
 -- what stands behind the folder in a path that lies under it
 abbrev pub rest_under : List ℕ → List ℕ → Option (List ℕ)
@@ -56,7 +58,9 @@ name_under folder path = only_name (rest_under folder path)
 -- a name put into its place among names in byte order
 abbrev pub put_in_order : List ℕ → List (List ℕ) → List (List ℕ)
 put_in_order name [] = name ∷ []
-put_in_order name (other ∷ others) = if is_le (slice_cmp nat_cmp name other) then name ∷ other ∷ others else other ∷ put_in_order name others
+put_in_order name (other ∷ others) =
+    if is_le (slice_cmp nat_cmp name other) then name ∷ other ∷ others
+    else other ∷ put_in_order name others
 
 abbrev pub in_byte_order : List (List ℕ) → List (List ℕ)
 in_byte_order [] = []
@@ -97,7 +101,8 @@ OthersStay None old new = (q : List ℕ) → file_at new q ≡ file_at old q
 OthersStay (Some path) old new = SameBut path old new
 
 -- What a tree holds beside the bytes of the begun file stayed.
-pub record RestStays (old new : Option (List File)) (old_begun new_begun : Option (List ℕ)) (old_lists new_lists old_reads new_reads : ℕ) : Type 0 where
+pub record RestStays (old new : Option (List File)) (old_begun new_begun : Option (List ℕ))
+    (old_lists new_lists old_reads new_reads : ℕ) : Type 0 where
   pub begun : SameOrNone old_begun new_begun
   pub lists : new_lists ≡ old_lists
   pub reads : new_reads ≡ old_reads

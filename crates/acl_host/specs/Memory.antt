@@ -5,12 +5,12 @@ use Rattle.acl_text.specs.Output.{COUNT_END, Puts}
 use Rattle.acl_text.specs.declared.output.PutFault.{PutFault}
 
 -- A count that is kept in 64 bits, one higher: it stands still at their end.
-abbrev pub raised : ℕ → ℕ
-raised count = min (count + 1) COUNT_END
+abbrev pub one_more : ℕ → ℕ
+one_more count = min (count + 1) COUNT_END
 
 -- the count after a call, where it is raised at one that met the cause
-abbrev pub raised_if : Bool → ℕ → ℕ
-raised_if met count = if met then raised count else count
+abbrev pub one_more_if : Bool → ℕ → ℕ
+one_more_if met count = if met then one_more count else count
 
 -- The calls of one kind: how many were made, and the numbers of those that fail, counted from 1.
 pub record CallsMade : Type 0 where
@@ -26,7 +26,7 @@ next_fails calls = list_any (λ n. n == calls.made + 1) calls.failing
 
 -- one more call was made
 abbrev pub after_one : CallsMade → CallsMade
-after_one calls = record calls { made = raised calls.made }
+after_one calls = record calls { made = one_more calls.made }
 
 -- the call of this number is to fail too
 abbrev pub with_failing : ℕ → CallsMade → CallsMade
@@ -40,4 +40,6 @@ pub record Gathered : Type 0 where
 
 -- A put into it: all bytes are told, nothing fails, and there is no rest.
 abbrev pub GatheredPuts : {T : Type 0} → Gathered → Gathered → List ℕ → Result T PutFault → Type 0
-GatheredPuts old new text result = Puts (λ (w : Gathered). Some w.bytes) (λ w. 0) (λ w. w.refusals) (λ w. w.is_open) (λ x y. Unit {0}) old new text result
+GatheredPuts old new text result =
+    Puts (λ (w : Gathered). Some w.bytes) (λ w. 0) (λ w. w.refusals) (λ w. w.is_open)
+    (λ x y. Unit {0}) old new text result

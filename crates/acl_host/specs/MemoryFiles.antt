@@ -10,7 +10,8 @@ use Rattle.acl_host.specs.Files.{File, file_at, rest_behind, only_name, put_in_o
 -- The file at the path is these bytes now: in its place where the path is held, else at the end.
 abbrev pub put_at : List ℕ → List ℕ → List File → List File
 put_at path bytes [] = (path, bytes) ∷ []
-put_at path bytes (f ∷ files) = if bytes_eq f.0 path then (f.0, bytes) ∷ files else f ∷ put_at path bytes files
+put_at path bytes (f ∷ files) =
+    if bytes_eq f.0 path then (f.0, bytes) ∷ files else f ∷ put_at path bytes files
 
 -- the path of the file at the index
 abbrev pub path_at : ℕ → List File → Option (List ℕ)
@@ -21,7 +22,8 @@ path_at (suc i) (f ∷ files) = path_at i files
 -- The bytes stand behind those of the file at the path, where it is held.
 abbrev pub append_to : List ℕ → List ℕ → List File → List File
 append_to path bytes [] = []
-append_to path bytes (f ∷ files) = if bytes_eq f.0 path then (f.0, f.1 ++ bytes) ∷ files else f ∷ append_to path bytes files
+append_to path bytes (f ∷ files) =
+    if bytes_eq f.0 path then (f.0, f.1 ++ bytes) ∷ files else f ∷ append_to path bytes files
 
 -- the same at the path that is begun, if one is
 abbrev pub append_begun : Option (List ℕ) → List ℕ → List File → List File
@@ -35,7 +37,8 @@ with_name (Some name) names = put_in_order name names
 
 -- the names directly behind the prefix, in byte order
 abbrev pub names_behind : List ℕ → List File → List (List ℕ)
-names_behind prefix files = in_byte_order (filter_map (λ (f : File). only_name (rest_behind prefix f.0)) files)
+names_behind prefix files =
+    in_byte_order (filter_map (λ (f : File). only_name (rest_behind prefix f.0)) files)
 
 -- some file lies behind the prefix
 abbrev pub is_prefix : List ℕ → List File → Bool
@@ -44,7 +47,9 @@ is_prefix prefix files = list_any (λ (f : File). is_some (rest_behind prefix f.
 -- that no path stands twice is shown in one way at most
 pub DistinctPaths-prop : (files : List File) → IsProp (DistinctPaths files)
 DistinctPaths-prop [] = Unit-prop
-DistinctPaths-prop (f ∷ files) = ×_prop (Coded-set (coded_option (coded_list coded_ℕ)) (file_at files f.0) None) (DistinctPaths-prop files)
+DistinctPaths-prop (f ∷ files) =
+    ×_prop (Coded-set (coded_option (coded_list coded_ℕ)) (file_at files f.0) None)
+    (DistinctPaths-prop files)
 
 -- that a begun file stands is shown in one way at most
 pub within-prop : (begun : Option ℕ) (files : List File)

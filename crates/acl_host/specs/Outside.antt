@@ -20,48 +20,55 @@ pub record OnlyLooks {S : Type 0} (files : S → Option (List File)) (begun : S 
   pub refusals_stay : refusals new ≡ refusals old
 
 -- A tree of which names are listed, and nothing more: its count of failed listings did not fall.
-pub record OnlyLists {S : Type 0} (files : S → Option (List File)) (begun : S → Option (List ℕ))
-    (faults refusals list_faults read_faults : S → ℕ) (old new : S) : Type 0 where
+pub record OnlyLists {S : Type 0} (files : S → Option (List File))
+    (begun : S → Option (List ℕ)) (faults refusals list_faults read_faults : S → ℕ)
+    (old new : S) : Type 0 where
   pub looks : OnlyLooks files begun faults refusals old new
   pub lists_grow : list_faults old ≤ list_faults new
   pub reads_stay : read_faults new ≡ read_faults old
 
 -- A tree of which files are read, and nothing more: its count of failed readings did not fall.
-pub record OnlyReads {S : Type 0} (files : S → Option (List File)) (begun : S → Option (List ℕ))
-    (faults refusals list_faults read_faults : S → ℕ) (old new : S) : Type 0 where
+pub record OnlyReads {S : Type 0} (files : S → Option (List File))
+    (begun : S → Option (List ℕ)) (faults refusals list_faults read_faults : S → ℕ)
+    (old new : S) : Type 0 where
   pub looks : OnlyLooks files begun faults refusals old new
   pub lists_stay : list_faults new ≡ list_faults old
   pub reads_grow : read_faults old ≤ read_faults new
 
 -- A tree of which names are listed and files are read, and nothing more.
-pub record OnlyListsAndReads {S : Type 0} (files : S → Option (List File)) (begun : S → Option (List ℕ))
-    (faults refusals list_faults read_faults : S → ℕ) (old new : S) : Type 0 where
+pub record OnlyListsAndReads {S : Type 0} (files : S → Option (List File))
+    (begun : S → Option (List ℕ)) (faults refusals list_faults read_faults : S → ℕ)
+    (old new : S) : Type 0 where
   pub looks : OnlyLooks files begun faults refusals old new
   pub lists_grow : list_faults old ≤ list_faults new
   pub reads_grow : read_faults old ≤ read_faults new
 
 -- The answer of a listing: absent exactly where nothing lies under the folder.
 abbrev pub IsListing : List ℕ → Result (List (List ℕ)) TreeFault → List File → Type 0
-IsListing folder (Ok names) files = (is_folder folder files ≡ true) × (names ≡ names_under folder files)
+IsListing folder (Ok names) files =
+    (is_folder folder files ≡ true) × (names ≡ names_under folder files)
 IsListing folder (Err tree.Absent) files = is_folder folder files ≡ false
 IsListing folder (Err tree.Failed) files = Unit {0}
 IsListing folder (Err tree.Memory) files = Unit {0}
 
-pub record Lists {S : Type 0} (files : S → Option (List File)) (begun : S → Option (List ℕ))
-    (faults refusals list_faults read_faults : S → ℕ) (old new : S) (folder : List ℕ) (result : Result (List (List ℕ)) TreeFault) : Type 0 where
+pub record Lists {S : Type 0} (files : S → Option (List File))
+    (begun : S → Option (List ℕ)) (faults refusals list_faults read_faults : S → ℕ)
+    (old new : S) (folder : List ℕ) (result : Result (List (List ℕ)) TreeFault) : Type 0 where
   pub lists : OnlyLists files begun faults refusals list_faults read_faults old new
   pub answer : IfSome (files old) (IsListing folder result)
   pub failed : IsErrOf result tree.Failed → Rose (list_faults old) (list_faults new)
 
 -- The answer of a reading: absent exactly where the path is not held.
 abbrev pub IsReading : List ℕ → ℕ → Result (List ℕ) TreeFault → List File → Type 0
-IsReading path most (Ok bytes) files = option_map (λ (b : List ℕ). take most b) (file_at files path) ≡ Some bytes
+IsReading path most (Ok bytes) files =
+    option_map (λ (b : List ℕ). take most b) (file_at files path) ≡ Some bytes
 IsReading path most (Err tree.Absent) files = file_at files path ≡ None
 IsReading path most (Err tree.Failed) files = Unit {0}
 IsReading path most (Err tree.Memory) files = Unit {0}
 
-pub record Reads {S : Type 0} (files : S → Option (List File)) (begun : S → Option (List ℕ))
-    (faults refusals list_faults read_faults : S → ℕ) (old new : S) (path : List ℕ) (most : ℕ) (result : Result (List ℕ) TreeFault) : Type 0 where
+pub record Reads {S : Type 0} (files : S → Option (List File))
+    (begun : S → Option (List ℕ)) (faults refusals list_faults read_faults : S → ℕ)
+    (old new : S) (path : List ℕ) (most : ℕ) (result : Result (List ℕ) TreeFault) : Type 0 where
   pub reads : OnlyReads files begun faults refusals list_faults read_faults old new
   pub answer : IfSome (files old) (IsReading path most result)
   pub failed : IsErrOf result tree.Failed → Rose (read_faults old) (read_faults new)
@@ -71,8 +78,9 @@ pub record MakesEmpty (path : List ℕ) (old new : List File) : Type 0 where
   pub empty : file_at new path ≡ Some []
   pub others : SameBut path old new
 
-pub record Begins {S T : Type 0} (files : S → Option (List File)) (begun : S → Option (List ℕ))
-    (faults refusals list_faults read_faults : S → ℕ) (old new : S) (path : List ℕ) (result : Result T WriteFault) : Type 0 where
+pub record Begins {S T : Type 0} (files : S → Option (List File))
+    (begun : S → Option (List ℕ)) (faults refusals list_faults read_faults : S → ℕ)
+    (old new : S) (path : List ℕ) (result : Result T WriteFault) : Type 0 where
   pub ok : OnOk result (begun new ≡ Some path)
   pub made : OnOk result (BothTell (files old) (files new) (MakesEmpty path))
   pub err : OnErr result (begun new ≡ None)
@@ -89,8 +97,9 @@ abbrev pub LeavesOthers : Option (List ℕ) → List File → List File → Type
 LeavesOthers None old new = new ≡ old
 LeavesOthers (Some path) old new = SameBut path old new
 
-pub record Finishes {S T : Type 0} (files : S → Option (List File)) (begun : S → Option (List ℕ))
-    (faults refusals list_faults read_faults : S → ℕ) (old new : S) (result : Result T WriteFault) : Type 0 where
+pub record Finishes {S T : Type 0} (files : S → Option (List File))
+    (begun : S → Option (List ℕ)) (faults refusals list_faults read_faults : S → ℕ)
+    (old new : S) (result : Result T WriteFault) : Type 0 where
   pub ended : begun new ≡ None
   pub ok : OnOk result (files new ≡ files old)
   pub left : OnErr result (BothTell (files old) (files new) (LeavesOthers (begun old)))

@@ -10,7 +10,8 @@ pub record HoldsText (path text : List ℕ) (old new : List File) : Type 0 where
   pub held : file_at new path ≡ Some text
   pub others : SameBut path old new
 
-pub record WritesFile {S T : Type 0} (files : S → Option (List File)) (begun : S → Option (List ℕ)) (faults refusals list_faults read_faults : S → ℕ)
+pub record WritesFile {S T : Type 0} (files : S → Option (List File)) (begun : S
+    → Option (List ℕ)) (faults refusals list_faults read_faults : S → ℕ)
     (old new : S) (path text : List ℕ) (result : Result T WriteFault) : Type 0 where
   pub ended : begun new ≡ None
   pub ok : OnOk result (BothTell (files old) (files new) (HoldsText path text))

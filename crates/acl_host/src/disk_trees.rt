@@ -38,7 +38,8 @@ impl<'a, R: Files> DiskTree<'a, R> {
     /// The files that the runtime reaches. Nothing is begun, and no call has failed yet.
     pub fn new(rt: &'a R) -> DiskTree<'a, R>
         ensures begun { result.begun ≡ None }
-        ensures counts { result.faults + result.refusals + result.list_faults + result.read_faults ≡ 0 }
+        ensures counts { result.faults + result.refusals + result.list_faults + result.read_faults
+            ≡ 0 }
     {
         DiskTree {
             rt,

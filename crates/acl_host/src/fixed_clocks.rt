@@ -1,5 +1,5 @@
 ghost use Rattle.std.specs.Prelude.{◌≡◌, true, Some, is_err};
-ghost use Rattle.acl_host.specs.Memory.{raised_if};
+ghost use Rattle.acl_host.specs.Memory.{one_more_if};
 ghost use Rattle.acl_host.specs.MemorySinks.{Standing, TellsItsDay};
 
 use crate::clocks::{Clock, ClockFault, Day};
@@ -42,7 +42,7 @@ impl Clock for FixedClock {
         ensures tells { TellsItsDay self.old self.new result }
         ensures fails { is_err result ≡ self.old.fails }
         ensures left { self.new
-            ≡ record self.old { faults = raised_if self.old.fails self.old.faults } }
+            ≡ record self.old { faults = one_more_if self.old.fails self.old.faults } }
     {
         if self.fails {
             self.faults = self.faults.saturating_add(1);

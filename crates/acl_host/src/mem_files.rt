@@ -104,7 +104,8 @@ impl MemFiles {
 
     /// Puts the file at the path, in its place or at the end, and tells where it stands.
     pub(crate) fn put(&mut self, alloc: Global, path: &str, bytes: Bytes) -> Result<usize, Memory>
-        ensures ok { OnOk result (self.new.items.items ≡ put_at path.now bytes self.old.items.items) }
+        ensures ok { OnOk result (self.new.items.items
+            ≡ put_at path.now bytes self.old.items.items) }
         ensures at { IfOk result (λ i. path_at i self.new.items.items ≡ Some path.now) }
         ensures err { OnErr result (self.new.items.items ≡ self.old.items.items) }
     {
@@ -125,8 +126,8 @@ impl MemFiles {
     /// Appends the bytes to the file at the index.
     pub(crate) fn append(&mut self, i: usize, bytes: &[u8]) -> Result<(), Memory>
         requires { IsSome (path_at i self.old.items.items) }
-        ensures ok { OnOk result (self.new.items.items ≡ append_begun (path_at i self.old.items.items) bytes.now
-            self.old.items.items) }
+        ensures ok { OnOk result (self.new.items.items
+            ≡ append_begun (path_at i self.old.items.items) bytes.now self.old.items.items) }
         ensures err { OnErr result (self.new.items.items ≡ self.old.items.items) }
     {
         let file = &mut self.items[i];
@@ -148,7 +149,8 @@ fn bytes_at<'a>(files: &'a [MemFile], path: &str) -> Option<&'a [u8]>
 
 // Where the file at the path stands.
 fn index_of(files: &[MemFile], path: &str) -> Option<usize>
-    ensures { MatchOption result (file_at files.now path.now ≡ None) (λ i. path_at i files.now ≡ Some path.now) }
+    ensures { MatchOption result (file_at files.now path.now ≡ None)
+        (λ i. path_at i files.now ≡ Some path.now) }
 {
     for (i, file) in files.iter().enumerate() {
         if file.is_at(path) {

@@ -39,7 +39,8 @@ fn add_name(
     prefix: &str,
     file: &MemFile,
 ) -> Result<(), Memory>
-    ensures { OnOk result (names.new ≡ with_name (only_name (rest_behind prefix.now file.now.0)) names.old) }
+    ensures { OnOk result (names.new
+        ≡ with_name (only_name (rest_behind prefix.now file.now.0)) names.old) }
 {
     if let Some(name) = name_behind(prefix, file.path()) {
         names.put_in_order(String::from_str(alloc, name)?)?;

@@ -36,11 +36,11 @@ impl MemTree {
     ghost use Rattle.std.specs.Option.{option_copied};
     ghost use Rattle.acl_host.specs.Files.{file_at};
     ghost use Rattle.acl_host.specs.MemoryFiles.{put_at, append_begun};
-    ghost use Rattle.acl_host.specs.MemoryTrees.{held, nothing_held, failing_too};
+    ghost use Rattle.acl_host.specs.MemoryTrees.{contents, no_contents, failing_too};
 
     /// No files, nothing begun, and no call that fails.
     pub fn new(alloc: Global) -> MemTree
-        ensures { held result ≡ nothing_held }
+        ensures { contents result ≡ no_contents }
     {
         MemTree {
             alloc,
@@ -60,9 +60,9 @@ impl MemTree {
 
     /// Puts a file there, in the place of one that lies at the path. A file that is begun stays begun.
     pub fn put_file(&mut self, path: &str, bytes: &[u8]) -> Result<(), Memory>
-        ensures ok { OnOk result (held self.new
-            ≡ record (held self.old) { files = put_at path.now bytes.now (held self.old).files }) }
-        ensures err { OnErr result (held self.new ≡ held self.old) }
+        ensures ok { OnOk result (contents self.new ≡ record (contents self.old)
+            { files = put_at path.now bytes.now (contents self.old).files }) }
+        ensures err { OnErr result (contents self.new ≡ contents self.old) }
     {
         let copy = Bytes::from_slice(self.alloc, bytes)?;
         self.files.put(self.alloc, path, copy)?;
@@ -71,15 +71,15 @@ impl MemTree {
 
     /// The bytes of the file at the path.
     pub fn file(&self, path: &str) -> Option<&[u8]>
-        ensures { option_copied result ≡ file_at (held self.now).files path.now }
+        ensures { option_copied result ≡ file_at (contents self.now).files path.now }
     {
         self.files.file(path)
     }
 
     /// The call of this kind and number, counted from 1, is to fail.
     pub fn fail(&mut self, op: Op, nth: u32) -> Result<(), Memory>
-        ensures ok { OnOk result (held self.new ≡ failing_too op nth (held self.old)) }
-        ensures err { OnErr result (held self.new ≡ held self.old) }
+        ensures ok { OnOk result (contents self.new ≡ failing_too op nth (contents self.old)) }
+        ensures err { OnErr result (contents self.new ≡ contents self.old) }
     {
         match op {
             Op::List => self.lists.fail(nth),
@@ -92,10 +92,10 @@ impl MemTree {
 
     // Appends the bytes to the file that is begun.
     fn append(&mut self, bytes: &[u8]) -> Result<(), Memory>
-        requires { IsSome (held self.old).begun }
-        ensures ok { OnOk result (held self.new ≡ record (held self.old)
-            { files = append_begun (held self.old).begun bytes.now (held self.old).files }) }
-        ensures err { OnErr result (held self.new ≡ held self.old) }
+        requires { IsSome (contents self.old).begun }
+        ensures ok { OnOk result (contents self.new ≡ record (contents self.old)
+            { files = append_begun (contents self.old).begun bytes.now (contents self.old).files }) }
+        ensures err { OnErr result (contents self.new ≡ contents self.old) }
     {
         match self.begun {
             Some(i) => self.files.append(i, bytes),
@@ -107,7 +107,7 @@ impl MemTree {
 impl Out for MemTree {
     ghost use Rattle.std.specs.Prelude.{◌≡◌, ◌↔◌, true, is_some, IsTrue, IsErrOf};
     ghost use Rattle.acl_host.specs.Memory.{next_fails};
-    ghost use Rattle.acl_host.specs.MemoryTrees.{held, begun_of, told_by, KeepsRest, PutsHeld, after_put};
+    ghost use Rattle.acl_host.specs.MemoryTrees.{contents, begun_of, told_by, KeepsRest, PutsInMemory, after_put};
     ghost use Rattle.acl_host.specs.Resting.{rest_same, rest_joined};
 
     ghost told = { told_by };
@@ -124,9 +124,10 @@ impl Out for MemTree {
     /// does one that wants memory.
     fn put(&mut self, bytes: &[u8]) -> Result<(), PutFault>
         requires { IsTrue (is_some (begun_of self.old)) }
-        ensures puts { PutsHeld self.old self.new bytes.now result }
-        ensures fails { IsErrOf result PutFault.Failed ↔ (next_fails (held self.old).appends ≡ true) }
-        ensures left { held self.new ≡ after_put result bytes.now (held self.old) }
+        ensures puts { PutsInMemory self.old self.new bytes.now result }
+        ensures fails { IsErrOf result PutFault.Failed
+            ↔ (next_fails (contents self.old).appends ≡ true) }
+        ensures left { contents self.new ≡ after_put result bytes.now (contents self.old) }
     {
         if self.appends.count() {
             self.begun = None;
@@ -151,7 +152,7 @@ impl Out for MemTree {
 impl Tree for MemTree {
     ghost use Rattle.std.specs.Prelude.{◌≡◌, ◌↔◌, true, None, Some, IsSome, IsErrOf, refl};
     ghost use Rattle.acl_host.specs.Memory.{next_fails};
-    ghost use Rattle.acl_host.specs.MemoryTrees.{held, files_of, begun_of, ListsHeld, ReadsHeld, BeginsHeld, FinishesHeld, after_list, after_read, after_begin, after_finish};
+    ghost use Rattle.acl_host.specs.MemoryTrees.{contents, files_of, begun_of, ListsInMemory, ReadsInMemory, BeginsInMemory, FinishesInMemory, after_list, after_read, after_begin, after_finish};
     ghost use Rattle.acl_host.specs.Holding.{begun_is_held};
 
     ghost files = { files_of };
@@ -164,9 +165,10 @@ impl Tree for MemTree {
 
     /// The names of the files directly under the folder, in byte order.
     fn list(&mut self, alloc: Global, dir: &str) -> Result<FileNames, TreeFault>
-        ensures lists { ListsHeld self.old self.new dir.now result }
-        ensures fails { IsErrOf result TreeFault.Failed ↔ (next_fails (held self.old).lists ≡ true) }
-        ensures left { held self.new ≡ after_list result (held self.old) }
+        ensures lists { ListsInMemory self.old self.new dir.now result }
+        ensures fails { IsErrOf result TreeFault.Failed
+            ↔ (next_fails (contents self.old).lists ≡ true) }
+        ensures left { contents self.new ≡ after_list result (contents self.old) }
     {
         if self.lists.count() {
             self.list_faults = self.list_faults.saturating_add(1);
@@ -177,9 +179,10 @@ impl Tree for MemTree {
 
     /// The bytes of the file, or its first `most` bytes where it is longer.
     fn read(&mut self, alloc: Global, path: &str, most: usize) -> Result<Bytes, TreeFault>
-        ensures reads { ReadsHeld self.old self.new path.now most result }
-        ensures fails { IsErrOf result TreeFault.Failed ↔ (next_fails (held self.old).reads ≡ true) }
-        ensures left { held self.new ≡ after_read result (held self.old) }
+        ensures reads { ReadsInMemory self.old self.new path.now most result }
+        ensures fails { IsErrOf result TreeFault.Failed
+            ↔ (next_fails (contents self.old).reads ≡ true) }
+        ensures left { contents self.new ≡ after_read result (contents self.old) }
     {
         if self.reads.count() {
             self.read_faults = self.read_faults.saturating_add(1);
@@ -191,9 +194,10 @@ impl Tree for MemTree {
     /// Makes the file empty, and begins it. A call that is to fail changes no file.
     fn begin(&mut self, path: &str) -> Result<(), WriteFault>
         requires { begun_of self.old ≡ None }
-        ensures begins { BeginsHeld self.old self.new path.now result }
-        ensures fails { IsErrOf result WriteFault.Failed ↔ (next_fails (held self.old).begins ≡ true) }
-        ensures left { held self.new ≡ after_begin result path.now (held self.old) }
+        ensures begins { BeginsInMemory self.old self.new path.now result }
+        ensures fails { IsErrOf result WriteFault.Failed
+            ↔ (next_fails (contents self.old).begins ≡ true) }
+        ensures left { contents self.new ≡ after_begin result path.now (contents self.old) }
     {
         if self.begins.count() {
             self.faults = self.faults.saturating_add(1);
@@ -214,10 +218,11 @@ impl Tree for MemTree {
     /// Ends the file that is begun, and changes no file. It needs no memory.
     fn finish(&mut self) -> Result<(), WriteFault>
         requires { IsSome (begun_of self.old) }
-        ensures finishes { FinishesHeld self.old self.new result }
-        ensures fails { IsErrOf result WriteFault.Failed ↔ (next_fails (held self.old).finishes ≡ true) }
+        ensures finishes { FinishesInMemory self.old self.new result }
+        ensures fails { IsErrOf result WriteFault.Failed
+            ↔ (next_fails (contents self.old).finishes ≡ true) }
         ensures sure { IsErrOf result WriteFault.Memory → ⊥ }
-        ensures left { held self.new ≡ after_finish result (held self.old) }
+        ensures left { contents self.new ≡ after_finish result (contents self.old) }
     {
         self.begun = None;
         if self.finishes.count() {

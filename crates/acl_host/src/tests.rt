@@ -18,7 +18,7 @@ fn listed<T: Tree>(alloc: Global, tree: &mut T, dir: &str) -> Result<String, Mem
 {
     match tree.list(alloc, dir) {
         Ok(names) => spaced(alloc, names.as_slice()),
-        Err(fault) => told(alloc, fault),
+        Err(fault) => fault_text(alloc, fault),
     }
 }
 
@@ -31,7 +31,7 @@ fn spaced(alloc: Global, names: &[String]) -> Result<String, Memory> {
     Ok(text)
 }
 
-fn told(alloc: Global, fault: TreeFault) -> Result<String, Memory> {
+fn fault_text(alloc: Global, fault: TreeFault) -> Result<String, Memory> {
     let text = match fault {
         TreeFault::Absent => "absent",
         TreeFault::Failed => "failed",
@@ -66,10 +66,10 @@ fn names_are_listed_in_byte_order(rt: HostRuntime) -> Result<(), Fail> {
     tree.put_file("define/y.net", b"")?;
     tree.put_file("def/a.svc", b"")?;
     assert_eq!(rt;
-        listed(rt.alloc(), &mut tree, "def")?.as_str(),
+        names_text(rt.alloc(), &mut tree, "def")?.as_str(),
         "B.net a.svc n.net "
     );
-    assert_eq!(rt; listed(rt.alloc(), &mut tree, "de")?.as_str(), "absent");
+    assert_eq!(rt; names_text(rt.alloc(), &mut tree, "de")?.as_str(), "absent");
     Ok(())
 }
 
@@ -147,8 +147,8 @@ fn a_listed_list_and_read_fail(rt: HostRuntime) -> Result<(), Fail> {
     let mut tree = MemTree::new(rt.alloc());
     tree.fail(Op::List, 2)?;
     tree.fail(Op::Read, 1)?;
-    assert_eq!(rt; listed(rt.alloc(), &mut tree, "a")?.as_str(), "absent");
-    assert_eq!(rt; listed(rt.alloc(), &mut tree, "a")?.as_str(), "failed");
+    assert_eq!(rt; names_text(rt.alloc(), &mut tree, "a")?.as_str(), "absent");
+    assert_eq!(rt; names_text(rt.alloc(), &mut tree, "a")?.as_str(), "failed");
     assert!(rt; !lacks(rt.alloc(), &mut tree, "a"));
     assert!(rt; lacks(rt.alloc(), &mut tree, "a"));
     Ok(())
@@ -212,21 +212,21 @@ fn the_machines_folders_are_listed(rt: HostRuntime) -> Result<(), Fail> {
     let file = below(&folder, "C")?;
     let mut tree = DiskTree::new(&rt);
     assert_eq!(rt;
-        listed(rt.alloc(), &mut tree, folder.as_str())?.as_str(),
+        names_text(rt.alloc(), &mut tree, folder.as_str())?.as_str(),
         "absent"
     );
     fill(&rt, &folder)?;
     assert_eq!(rt;
-        listed(rt.alloc(), &mut tree, folder.as_str())?.as_str(),
+        names_text(rt.alloc(), &mut tree, folder.as_str())?.as_str(),
         "C b.net "
     );
     assert_eq!(rt;
-        listed(rt.alloc(), &mut tree, file.as_str())?.as_str(),
+        names_text(rt.alloc(), &mut tree, file.as_str())?.as_str(),
         "absent"
     );
     fs::remove_dir_all(&rt, folder.as_str())?;
     assert_eq!(rt;
-        listed(rt.alloc(), &mut tree, folder.as_str())?.as_str(),
+        names_text(rt.alloc(), &mut tree, folder.as_str())?.as_str(),
         "absent"
     );
     Ok(())

@@ -139,25 +139,25 @@ pub trait Tree: Out {
 
     /// The names of the files directly under the folder, in byte order.
     fn list(&mut self, alloc: Global, dir: &str) -> Result<FileNames, TreeFault>
-        ensures { Lists files begun Self.faults Self.refusals list_faults read_faults self.old self.new
-            dir.now result };
+        ensures { Lists files begun Self.faults Self.refusals list_faults read_faults
+            self.old self.new dir.now result };
 
     /// The bytes of the file, or its first `most` bytes where it is longer.
     fn read(&mut self, alloc: Global, path: &str, most: usize) -> Result<Bytes, TreeFault>
-        ensures { Reads files begun Self.faults Self.refusals list_faults read_faults self.old self.new
-            path.now most result };
+        ensures { Reads files begun Self.faults Self.refusals list_faults read_faults
+            self.old self.new path.now most result };
 
     /// Makes the file empty, and begins it.
     fn begin(&mut self, path: &str) -> Result<(), WriteFault>
         requires { begun self.old ≡ None }
-        ensures { Begins files begun Self.faults Self.refusals list_faults read_faults self.old self.new
-            path.now result };
+        ensures { Begins files begun Self.faults Self.refusals list_faults read_faults
+            self.old self.new path.now result };
 
     /// Ends the file that is begun.
     fn finish(&mut self) -> Result<(), WriteFault>
         requires { IsSome (begun self.old) }
-        ensures { Finishes files begun Self.faults Self.refusals list_faults read_faults self.old self.new
-            result };
+        ensures { Finishes files begun Self.faults Self.refusals list_faults read_faults
+            self.old self.new result };
 
     // An open tree is one in which a path is begun.
     ghost open_is: { (x : Self) → Self.is_open x ≡ is_some (begun x) };

@@ -1,5 +1,5 @@
 ghost use Rattle.std.specs.Prelude.{◌≡◌, [], ◌++◌, true, false, Some, IsTrue, OnOk, OnErr};
-ghost use Rattle.acl_host.specs.Memory.{Gathered, GatheredPuts, raised};
+ghost use Rattle.acl_host.specs.Memory.{Gathered, GatheredPuts, one_more};
 
 use acl_text::{Bytes, Memory, Out, PutFault};
 use std::alloc::Global;
@@ -57,9 +57,10 @@ impl Out for Whole {
     fn put(&mut self, bytes: &[u8]) -> Result<(), PutFault>
         requires { IsTrue self.old.is_open }
         ensures puts { GatheredPuts self.old self.new bytes.now result }
-        ensures ok { OnOk result (self.new ≡ record self.old { bytes = self.old.bytes ++ bytes.now }) }
+        ensures ok { OnOk result (self.new
+            ≡ record self.old { bytes = self.old.bytes ++ bytes.now }) }
         ensures err { OnErr result (self.new
-            ≡ record self.old { is_open = false; refusals = raised self.old.refusals }) }
+            ≡ record self.old { is_open = false; refusals = one_more self.old.refusals }) }
     {
         match self.bytes.push_all(bytes) {
             Ok(()) => Ok(()),

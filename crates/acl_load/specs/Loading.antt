@@ -90,7 +90,8 @@ abbrev pub no_definitions : Naming
 no_definitions = record { networks = []; services = [] }
 
 -- The files of networks, then those of services, which are numbered behind them.
-unfoldable pub both_kinds : List (List ℕ) → List (List ℕ) → List (List ℕ) → List File → Result Naming Fault
+unfoldable pub both_kinds : List (List ℕ) → List (List ℕ) → List (List ℕ) → List File
+    → Result Naming Fault
 both_kinds paths networks services files = do
   base ← all_of paths Networks 0 networks files no_definitions
   all_of paths Services (length networks) services files base
@@ -124,4 +125,5 @@ AnswersWith paths (Ok naming) (Err fault) =
 -- first fault.
 abbrev pub Loads : List ℕ → List File → Result Naming Fault → Type 0
 Loads folder files answer =
-    AnswersWith (naming_paths folder (names_under folder files)) (definitions_of folder files) answer
+    AnswersWith (naming_paths folder (names_under folder files))
+        (definitions_of folder files) answer

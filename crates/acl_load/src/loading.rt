@@ -34,10 +34,10 @@ pub fn load_definitions<T: Tree>(
     tree: &mut T,
     folder: &str,
 ) -> Result<Checked, LoadFault>
-    ensures loads { IfSome (T.files tree.old) (λ files. Answers load_told (λ checked. checked) result
-        (Loads folder.now files)) }
-    ensures looks { OnlyListsAndReads T.files T.begun T.faults T.refusals T.list_faults T.read_faults
-        tree.old tree.new }
+    ensures loads { IfSome (T.files tree.old) (λ files.
+        Answers load_told (λ checked. checked) result (Loads folder.now files)) }
+    ensures looks { OnlyListsAndReads T.files T.begun T.faults T.refusals
+        T.list_faults T.read_faults tree.old tree.new }
     ensures list_failed { IsErrOf result LoadFault.List
         → Rose (T.list_faults tree.old) (T.list_faults tree.new) }
     ensures read_failed { IsErrOf result LoadFault.Read
@@ -63,9 +63,10 @@ fn read_definitions<T: Tree>(
     ensures gives { IfSome (T.files tree.old) (λ files. Answers load_told (λ read. read.base) result
         (λ answer. definitions_of folder.now files ≡ answer)) }
     ensures paths { IfSome (T.files tree.old) (λ files. IfOk result (λ read.
-        map string_bytes read.paths.items ≡ naming_paths folder.now (names_under folder.now files))) }
-    ensures looks { OnlyListsAndReads T.files T.begun T.faults T.refusals T.list_faults T.read_faults
-        tree.old tree.new }
+        map string_bytes read.paths.items
+            ≡ naming_paths folder.now (names_under folder.now files))) }
+    ensures looks { OnlyListsAndReads T.files T.begun T.faults T.refusals
+        T.list_faults T.read_faults tree.old tree.new }
     ensures list_failed { IsErrOf result LoadFault.List
         → Rose (T.list_faults tree.old) (T.list_faults tree.new) }
     ensures read_failed { IsErrOf result LoadFault.Read

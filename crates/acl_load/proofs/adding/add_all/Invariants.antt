@@ -7,7 +7,12 @@ use Rattle.acl_load.proofs.adding.add_all.Given as goal
 abbrev pub invariant-loop-path : goal.invariant-loop-path
 invariant-loop-path g l = record {
   counts : l.number ≡ l.first + l.path-index;
-  gives : IfSome (g.T.Tree.files l.initial.tree) (λ held. all_of (map string_bytes l.paths) l.kind l.number (map string_bytes (drop l.path-index l.files)) held l.so_far ≡ all_of (map string_bytes l.paths) l.kind l.first (map string_bytes l.files) held l.initial.so_far);
-  reads : OnlyReads g.T.Tree.files g.T.Tree.begun g.T.Out.faults g.T.Out.refusals g.T.Tree.list_faults g.T.Tree.read_faults
+  gives : IfSome (g.T.Tree.files l.initial.tree)
+      (λ held. all_of (map string_bytes l.paths) l.kind l.number
+      (map string_bytes (drop l.path-index l.files)) held l.so_far
+      ≡ all_of (map string_bytes l.paths) l.kind l.first
+      (map string_bytes l.files) held l.initial.so_far);
+  reads : OnlyReads g.T.Tree.files g.T.Tree.begun g.T.Out.faults g.T.Out.refusals
+      g.T.Tree.list_faults g.T.Tree.read_faults
       l.initial.tree l.tree;
 }

@@ -7,4 +7,6 @@ use Rattle.acl_load.proofs.naming_paths.push_paths.Given as goal
 abbrev pub invariant-loop-name : goal.invariant-loop-name
 invariant-loop-name l =
     map string_bytes l.paths.items ≡ map string_bytes l.initial.paths.items
-    ++ map (join_path l.folder) (filter (λ name. ends_with nat_eq name l.ending) (map string_bytes (take l.name-index l.names)))
+    ++ map (join_path l.folder)
+        (filter (λ name. ends_with nat_eq name l.ending)
+        (map string_bytes (take l.name-index l.names)))

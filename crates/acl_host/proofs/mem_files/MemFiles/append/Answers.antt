@@ -12,11 +12,16 @@ pub invariant_of-self : goal.invariant_of-self
 invariant_of-self c =
     let files = c.args.self.now in
     record {
-      distinct = distinct-appended c.append.result c.args.i files.items.items c.args.bytes.now c.index_mut-file.result.now c.append.new.self
-          files.distinct c.requires c.index_mut-file.ensures.value c.append.ensures.ok c.append.ensures.err;
+      distinct = distinct-appended c.append.result c.args.i files.items.items c.args.bytes.now
+          c.index_mut-file.result.now c.append.new.self
+          files.distinct c.requires c.index_mut-file.ensures.value c.append.ensures.ok
+              c.append.ensures.err;
     }
 
 pub returns-clause-ok : goal.returns-clause-ok
 returns-clause-ok c =
     let files = c.args.self.now in
-    on_ok_weaker c.append.result (appended-at c.args.i files.items.items c.args.bytes.now c.index_mut-file.result.now c.append.new.self files.distinct c.requires c.index_mut-file.ensures.value) c.append.ensures.ok
+    on_ok_weaker c.append.result
+        (appended-at c.args.i files.items.items c.args.bytes.now c.index_mut-file.result.now
+        c.append.new.self files.distinct c.requires c.index_mut-file.ensures.value)
+        c.append.ensures.ok

@@ -8,7 +8,8 @@ invariant_of-self c =
     let tree = c.args.self.now in
     record {
       begun_stands =
-          stands-put c.put.result tree.begun c.args.path.now c.in_ok-copy.copy tree.files.items.items
+          stands-put c.put.result tree.begun c.args.path.now c.in_ok-copy.copy
+              tree.files.items.items
           c.put.new.self.items.items tree.begun_stands c.put.ensures.ok c.put.ensures.err;
     }
 
@@ -16,5 +17,6 @@ pub returns-clause-ok : goal.returns-clause-ok
 returns-clause-ok c =
     let tree = c.args.self.now in
     let files = tree.files.items.items in
-    let put = c.in_ok-put.ensures.ok ∙ ap (λ b. put_at c.args.path.now b files) c.in_ok-copy.ensures in
+    let put = c.in_ok-put.ensures.ok
+        ∙ ap (λ b. put_at c.args.path.now b files) c.in_ok-copy.ensures in
     rw (put, begun-stays tree.begun c.args.path.now c.args.bytes.now files tree.begun_stands) refl

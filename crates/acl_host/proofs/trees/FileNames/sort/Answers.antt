@@ -14,4 +14,5 @@ returns-clause-same c =
     (IsPermutation-map string_bytes names now c.sort.ensures.permutation)
 
 pub returns-clause-ok : goal.returns-clause-ok
-returns-clause-ok c = sorted-bytes string_bytes (slice_cmp nat_cmp) c.sort.new.self.items c.in_ok-sort.ensures.sorted
+returns-clause-ok c = sorted-bytes string_bytes
+    (slice_cmp nat_cmp) c.sort.new.self.items c.in_ok-sort.ensures.sorted
