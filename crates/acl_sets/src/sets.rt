@@ -74,7 +74,7 @@ impl RangeSet {
     {
         Ok(RangeSet {
             limit: top,
-            list: pieces::put_all(alloc, &[], ranges)?,
+            list: range_pieces::put_all(alloc, &[], ranges)?,
         })
     }
 
@@ -89,7 +89,7 @@ impl RangeSet {
     {
         Ok(RangeSet {
             limit: self.limit,
-            list: pieces::put_all(alloc, &self.list, &other.list)?,
+            list: range_pieces::put_all(alloc, &self.list, &other.list)?,
         })
     }
 
@@ -104,7 +104,7 @@ impl RangeSet {
     {
         Ok(RangeSet {
             limit: self.limit,
-            list: pieces::cut_all(alloc, &self.list, &other.list)?,
+            list: range_pieces::cut_all(alloc, &self.list, &other.list)?,
         })
     }
 
@@ -120,7 +120,7 @@ impl RangeSet {
     {
         Ok(RangeSet {
             limit: self.limit,
-            list: pieces::shared_all(alloc, &self.list, &other.list)?,
+            list: range_pieces::shared_all(alloc, &self.list, &other.list)?,
         })
     }
 
@@ -139,7 +139,7 @@ impl RangeSet {
     pub fn contains(&self, x: u128) -> bool
         ensures { result ≡ holds self.now.ranges x }
     {
-        pieces::covers(&self.list, x, x)
+        range_pieces::covers(&self.list, x, x)
     }
 
     /// Whether each number of this set is in the other.
@@ -150,7 +150,7 @@ impl RangeSet {
             → IsTrue (holds self.now.ranges x) → IsTrue (holds other.now.ranges x)) }
         ensures computed { result ≡ all_covered self.now.ranges other.now.ranges }
     {
-        pieces::all_covered(&self.list, &other.list)
+        range_pieces::all_covered(&self.list, &other.list)
     }
 
     /// Whether no number is in the set.
@@ -168,7 +168,7 @@ impl RangeSet {
             ↔ ((x : ℕ) → x ≤ self.now.top → IsTrue (holds self.now.ranges x)) }
         ensures computed { result ≡ covers self.now.ranges 0 self.now.top }
     {
-        pieces::covers(&self.list, 0, self.limit)
+        range_pieces::covers(&self.list, 0, self.limit)
     }
 
     /// The ranges of the set, in rising order, disjoint and not touching.
