@@ -1,4 +1,4 @@
-ghost use Rattle.std.specs.Prelude.{◌≡◌, ◌-◌, ◌^◌, ◌≤◌, ◌<◌, ◌%◌, ◌==◌, ◌↔◌, IsTrue, nat_lt};
+ghost use Rattle.std.specs.Prelude.{◌≡◌, ◌≤◌, ◌↔◌, IsTrue};
 ghost use Rattle.acl_packet.specs.Addresses.{IsPrefixOf, width_of};
 ghost use Rattle.acl_grammar.specs.CheckSteps.{is_aligned, is_prefix_of};
 
@@ -8,7 +8,8 @@ use acl_packet::{Family, Prefix};
 /// behind the length is set.
 #[tactic(auto, using(crate::proofs::CheckLaws::prefix_decides))]
 pub fn is_prefix_of(family: Family, prefix: &Prefix) -> bool
-    ensures { IsTrue result ↔ IsPrefixOf family prefix.now }
+    ensures is { IsTrue result ↔ IsPrefixOf family prefix.now }
+    ensures exact { result ≡ is_prefix_of family prefix.now }
 {
     is_prefix(family, prefix)
 }
@@ -19,16 +20,7 @@ fn is_prefix(family: Family, prefix: &Prefix) -> bool
     if prefix.family != family || prefix.len > prefix.family.width() {
         return false;
     }
-    is_address(prefix.family, prefix.first) && is_aligned(prefix)
-}
-
-fn is_address(family: Family, address: u128) -> bool
-    ensures { result ≡ nat_lt address (2 ^ width_of family) }
-{
-    match family {
-        Family::V4 => address < 2u128.pow(32),
-        Family::V6 => true,
-    }
+    prefix.first <= prefix.family.top_address() && is_aligned(prefix)
 }
 
 fn is_aligned(prefix: &Prefix) -> bool

@@ -4,8 +4,8 @@ ghost use Rattle.acl_text.specs.Cuts.{views};
 ghost use Rattle.acl_grammar.specs.Rows.{Row, row};
 ghost use Rattle.acl_grammar.specs.RowSteps.{rows_in};
 
-use crate::splitting::{parts_at, read_row};
-use acl_text::Memory;
+use crate::splitting::read_row;
+use acl_text::{Memory, split_text};
 use std::alloc::Global;
 
 /// What has been read of a text, row by row. No row is refused: one that means nothing changes nothing.
@@ -21,7 +21,7 @@ pub trait Draft {
 pub fn read_rows<D: Draft>(alloc: Global, draft: &mut D, text: &[u8]) -> Result<(), Memory>
     ensures { OnOk result (draft.new ≡ fold D.step draft.old (rows_in text.now)) }
 {
-    let lines = parts_at(alloc, text, b'\n')?;
+    let lines = split_text(alloc, text, b'\n')?;
     for line in lines.as_slice() {
         let (indent, words) = read_row(alloc, line)?;
         draft.take_row(alloc, indent, words.as_slice())?;

@@ -1,11 +1,11 @@
-ghost use Rattle.std.specs.Prelude.{◌≡◌, ◌≤◌, ◌==◌, IfOk, length};
-ghost use Rattle.std.specs.List.{join_with_byte, prefix_len, slice_split};
+ghost use Rattle.std.specs.Prelude.{◌≡◌, ◌≤◌, IfOk, length};
+ghost use Rattle.std.specs.List.{join_with_byte, prefix_len};
 ghost use Rattle.acl_text.specs.Cuts.{views};
 ghost use Rattle.acl_grammar.specs.Rows.{row, is_space};
 ghost use Rattle.acl_grammar.specs.RowSteps.{row_in};
 
-use acl_text::{Bytes, Memory};
-use std::alloc::{AllocError, Global};
+use acl_text::{Bytes, Memory, split_text};
+use std::alloc::Global;
 
 /// The words with one space between.
 #[tactic(auto, using(crate::proofs::RowLaws::join_spaced))]
@@ -29,7 +29,7 @@ pub(crate) fn read_row<'a>(alloc: Global, line: &'a [u8]) -> Result<(usize, Vec<
     ensures { IfOk result (λ r. row r.0 (views r.1.items) ≡ row_in line.now) }
 {
     let indent = indent_of(line);
-    let words = parts_at(alloc, &line[indent..], b' ')?;
+    let words = split_text(alloc, &line[indent..], b' ')?;
     Ok((indent, words))
 }
 
@@ -43,11 +43,4 @@ fn indent_of(line: &[u8]) -> usize
         }
     }
     line.len()
-}
-
-/// The parts between such bytes.
-pub(crate) fn parts_at<'a>(alloc: Global, bytes: &'a [u8], cut: u8) -> Result<Vec<&'a [u8]>, AllocError>
-    ensures { IfOk result (λ v. views v.items ≡ slice_split (λ b. b == cut) bytes.now) }
-{
-    bytes.split(|b| *b == cut).collect(alloc)
 }
