@@ -23,7 +23,8 @@ first_of (Some x) other = Some x
 -- The first of the items that is a name defined nowhere.
 abbrev pub undefined_in : List Definition → List Item → Option Reference
 undefined_in base [] = None
-undefined_in base (Name r ∷ items) = if is_some (index_of base r.name) then undefined_in base items else Some r
+undefined_in base (Name r ∷ items) =
+    if is_some (index_of base r.name) then undefined_in base items else Some r
 undefined_in base (Network p ∷ items) = undefined_in base items
 undefined_in base (Service p ∷ items) = undefined_in base items
 
@@ -34,7 +35,8 @@ first_undefined base (d ∷ ds) = first_of (undefined_in base d.items) (first_un
 
 -- Networks come before services. A name refers to the same kind.
 abbrev pub undefined_of : Naming → Option Reference
-undefined_of n = first_of (first_undefined n.networks n.networks) (first_undefined n.services n.services)
+undefined_of n =
+    first_of (first_undefined n.networks n.networks) (first_undefined n.services n.services)
 
 -- No definition before the i-th reaches itself.
 abbrev pub NoCycleBefore : List Definition → ℕ → Type 0
@@ -54,7 +56,8 @@ slip code place word = record { code = code; place = place; word = word }
 
 -- The slip of the first definition that reaches itself.
 abbrev pub IsCycleSlip : List Definition → Slip → Type 0
-IsCycleSlip base s = (i : ℕ) × IsFirstCycle base i × (s ≡ slip codes.Cycle (place_at base i) (name_at base i))
+IsCycleSlip base s =
+    (i : ℕ) × IsFirstCycle base i × (s ≡ slip codes.Cycle (place_at base i) (name_at base i))
 
 -- The first name that is defined nowhere; where there is none, the first definition that reaches itself, and
 -- networks come before services there too.
@@ -74,7 +77,8 @@ IsChecked n (Err refusals.Memory) = Unit {0}
 -- The two parts of that answer.
 abbrev pub NamesAreDefined : {T : Type 0} → Naming → Result T Refusal → Type 0
 NamesAreDefined n (Ok x) = undefined_of n ≡ None
-NamesAreDefined n (Err (refusals.Slip s)) = (r : Reference) × (undefined_of n ≡ Some r) × (s ≡ slip codes.Undefined r.place r.name)
+NamesAreDefined n (Err (refusals.Slip s)) =
+    (r : Reference) × (undefined_of n ≡ Some r) × (s ≡ slip codes.Undefined r.place r.name)
 NamesAreDefined n (Err refusals.Memory) = Unit {0}
 
 abbrev pub CyclesAreAbsent : {T : Type 0} → List Definition → Result T Refusal → Type 0
@@ -90,4 +94,5 @@ IsRefusal s refusals.Memory = Unit {0}
 -- Definitions all of whose names are settled before them: what they name is settled, and none reaches itself.
 pub record IsSettled (base : List Definition) (m : List Bool) : Type 0 where
   pub closed : IsClosed (graph_of base) m
-  pub no_cycle : (name : List ℕ) (i : ℕ) → index_of base name ≡ Some i → marked m i ≡ true → ReachesItself base name → ⊥
+  pub no_cycle : (name : List ℕ) (i : ℕ) → index_of base name ≡ Some i → marked m i ≡ true
+      → ReachesItself base name → ⊥

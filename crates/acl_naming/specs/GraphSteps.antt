@@ -31,8 +31,10 @@ blank base = replicate (length base) false
 
 -- A walk that begins at a name among the items at i ends at a name that is defined at j. It has at most n names.
 abbrev pub Follows : List Definition → ℕ → ℕ → ℕ → Type 0
-Follows base i n j = (next : List ℕ) × (names : List (List ℕ)) × (end : List ℕ) × (length names + 1 ≤ n)
-    × (list_any (is_reference next) (items_at base i) ≡ true) × Walks base next names end × (index_of base end ≡ Some j)
+Follows base i n j =
+    (next : List ℕ) × (names : List (List ℕ)) × (end : List ℕ) × (length names + 1 ≤ n)
+    × (list_any (is_reference next) (items_at base i) ≡ true) × Walks base next names end
+    × (index_of base end ≡ Some j)
 
 -- The marks are at the definitions that the names of the i-th one reach.
 pub record IsBehind (base : List Definition) (i : ℕ) (m : List Bool) : Type 0 where

@@ -16,11 +16,14 @@ use Rattle.acl_naming.specs.Ports.{Ports}
 
 -- A word that is a name.
 abbrev pub name_in : Place → List ℕ → Option Item
-name_in place word = if is_name word then Some (Name (record { place = place; name = word })) else None
+name_in place word =
+    if is_name word then Some (Name (record { place = place; name = word })) else None
 
 -- A word with `.` (46) or `:` (58) is a prefix of addresses, and any other a name.
 unfoldable pub network_in : Place → List ℕ → Option Item
-network_in place word = if has_byte 46 word || has_byte 58 word then option_map Network (prefix_in word) else name_in place word
+network_in place word =
+    if has_byte 46 word || has_byte 58 word then option_map Network (prefix_in word)
+    else name_in place word
 
 -- One port or two with `-` (45) between, `/` (47) and a protocol.
 unfoldable pub service_ports_in : List ℕ → Option Ports
@@ -32,7 +35,8 @@ service_ports_in word = do
 
 -- A word with `/` is ports of a protocol, and any other a name.
 unfoldable pub service_in : Place → List ℕ → Option Item
-service_in place word = if has_byte 47 word then option_map Service (service_ports_in word) else name_in place word
+service_in place word =
+    if has_byte 47 word then option_map Service (service_ports_in word) else name_in place word
 
 unfoldable pub item_in : Kind → Place → List ℕ → Option Item
 item_in Networks place word = network_in place word

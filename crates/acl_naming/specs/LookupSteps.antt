@@ -33,7 +33,8 @@ is_wanted (Ports q) item = is_service_of q item
 -- The numbers of one item as a range, where it is of the kind.
 abbrev pub IsRangeOf : Wanted → Item → Option Range → Type 0
 IsRangeOf w item None = (is_wanted w item ≡ false) × ((x : ℕ) → has_number w x item ≡ false)
-IsRangeOf w item (Some r) = (is_wanted w item ≡ true) × IsRange (top_of w) r × ((x : ℕ) → inside r x ≡ has_number w x item)
+IsRangeOf w item (Some r) =
+    (is_wanted w item ≡ true) × IsRange (top_of w) r × ((x : ℕ) → inside r x ≡ has_number w x item)
 
 -- The numbers of the items were put behind the ranges.
 pub record Collects (w : Wanted) (test : (Item → Bool) → Bool) (old new : List Range) : Type 0 where
@@ -50,7 +51,8 @@ any_marked [] i m test = false
 any_marked (d ∷ ds) i m test = (marked m i && list_any test d.items) || any_marked ds (i + 1) m test
 
 -- The ranges are what the name reaches.
-pub record IsReach (base : List Definition) (name : List ℕ) (w : Wanted) (ranges : List Range) : Type 0 where
+pub record IsReach (base : List Definition) (name : List ℕ) (w : Wanted)
+    (ranges : List Range) : Type 0 where
   pub fits : All (λ r. IsRange (top_of w) r) ranges
   pub exact : (x : ℕ) → (holds ranges x ≡ true) ↔ Reaches base name (has_number w x)
   pub some : (nat_lt 0 (length ranges) ≡ true) ↔ Reaches base name (is_wanted w)

@@ -30,14 +30,17 @@ most = 16384
 
 abbrev pub item_put : Place → List Definition → List ℕ → Option Item → Outcome
 item_put place ds word None = Err (slip codes.BadValue place word)
-item_put place ds word (Some item) = if nat_le most (items_count ds) then Err (slip codes.TooMany place word) else Ok (with_item ds item)
+item_put place ds word (Some item) =
+    if nat_le most (items_count ds) then Err (slip codes.TooMany place word)
+    else Ok (with_item ds item)
 
 unfoldable pub item_added : Kind → Place → List Definition → List ℕ → Outcome
 item_added kind place ds word = item_put place ds word (item_in kind place word)
 
 abbrev pub items_added : Kind → Place → List Definition → List (List ℕ) → Outcome
 items_added kind place ds [] = Ok ds
-items_added kind place ds (word ∷ words) = item_added kind place ds word >>= λ more. items_added kind place more words
+items_added kind place ds (word ∷ words) =
+    item_added kind place ds word >>= λ more. items_added kind place more words
 
 -- ---- a line
 
@@ -71,24 +74,28 @@ with_definition kind place ds name rest =
     if not (is_name name) then Err (slip codes.BadName place name)
     else if is_some (index_of ds name) then Err (slip codes.Twice place name)
     else if nat_le most (length ds) then Err (slip codes.TooMany place name)
-    else items_added kind place (ds ++ record { name = name; place = place; items = [] } ∷ []) (words_of rest)
+    else items_added kind place
+    (ds ++ record { name = name; place = place; items = [] } ∷ []) (words_of rest)
 
 -- Further items of the definition above in the file.
 abbrev pub with_items : Kind → Place → Bool → List Definition → List (List ℕ) → Outcome
 with_items kind place is_open ds [] = Ok ds
 with_items kind place is_open ds (word ∷ words) =
-    if is_open then items_added kind place ds (word ∷ words) else Err (slip codes.NoDefinition place word)
+    if is_open then items_added kind place ds (word ∷ words)
+    else Err (slip codes.NoDefinition place word)
 
 -- A line of good bytes; `=` is 61.
 abbrev pub split_added : Kind → Place → Bool → List Definition → List ℕ → Outcome
 split_added kind place is_open ds text =
-    option_map_or {U = Outcome} (λ p. with_definition kind place ds (trimmed p.0) p.1) (cut_at 61 text)
+    option_map_or {U = Outcome} (λ p. with_definition kind place ds (trimmed p.0) p.1)
+    (cut_at 61 text)
     (with_items kind place is_open ds (words_of text))
 
 -- A line without its comment.
 abbrev pub line_added : Kind → Place → Bool → List Definition → List ℕ → Outcome
 line_added kind place is_open ds text =
-    option_map_or {U = Outcome} (λ b. Err (slip codes.BadByte place (b ∷ []))) (bad_byte text) (split_added kind place is_open ds text)
+    option_map_or {U = Outcome} (λ b. Err (slip codes.BadByte place (b ∷ []))) (bad_byte text)
+    (split_added kind place is_open ds text)
 
 -- ---- a file
 
@@ -110,10 +117,16 @@ file_added kind file ds bytes = lines_added kind file 1 false ds (lines_of bytes
 
 -- The file's definitions of networks are added, or its first slip is told; services stay as they are.
 abbrev pub AddsNetworks : ℕ → Naming → List ℕ → Result Naming Refusal → Type 0
-AddsNetworks file old bytes (Ok new) = (file_added kinds.Networks file old.networks bytes ≡ Ok new.networks) × (new.services ≡ old.services)
-AddsNetworks file old bytes (Err r) = Stops slip_told r (file_added kinds.Networks file old.networks bytes)
+AddsNetworks file old bytes (Ok new) =
+    (file_added kinds.Networks file old.networks bytes ≡ Ok new.networks)
+    × (new.services ≡ old.services)
+AddsNetworks file old bytes (Err r) =
+    Stops slip_told r (file_added kinds.Networks file old.networks bytes)
 
 -- The same of services.
 abbrev pub AddsServices : ℕ → Naming → List ℕ → Result Naming Refusal → Type 0
-AddsServices file old bytes (Ok new) = (file_added kinds.Services file old.services bytes ≡ Ok new.services) × (new.networks ≡ old.networks)
-AddsServices file old bytes (Err r) = Stops slip_told r (file_added kinds.Services file old.services bytes)
+AddsServices file old bytes (Ok new) =
+    (file_added kinds.Services file old.services bytes ≡ Ok new.services)
+    × (new.networks ≡ old.networks)
+AddsServices file old bytes (Err r) =
+    Stops slip_told r (file_added kinds.Services file old.services bytes)

@@ -45,7 +45,9 @@ Walks base name (next ∷ names) end = (refers base name next ≡ true) × Walks
 -- A walk from the name ends at a name with an item that passes the test. A walk has at most one name more than
 -- there are definitions, the first one included.
 abbrev pub Reaches : List Definition → List ℕ → (Item → Bool) → Type 0
-Reaches base name test = (names : List (List ℕ)) × (end : List ℕ) × (length names ≤ length base) × Walks base name names end
+Reaches base name test =
+    (names : List (List ℕ)) × (end : List ℕ) × (length names ≤ length base)
+    × Walks base name names end
     × (list_any test (items_of base end) ≡ true)
 
 -- The name reaches the address of the family.
@@ -62,4 +64,6 @@ ReachesProtocol base name q = Reaches base name (is_service_of q)
 
 -- A walk of two names or more comes back to the name.
 abbrev pub ReachesItself : List Definition → List ℕ → Type 0
-ReachesItself base name = (next : List ℕ) × (names : List (List ℕ)) × (length names + 1 ≤ length base) × Walks base name (next ∷ names) name
+ReachesItself base name =
+    (next : List ℕ) × (names : List (List ℕ)) × (length names + 1 ≤ length base)
+    × Walks base name (next ∷ names) name

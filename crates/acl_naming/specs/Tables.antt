@@ -18,5 +18,6 @@ place_at (d ∷ ds) (suc i) = place_at ds i
 -- the last definition has one more item
 abbrev pub with_item : List Definition → Item → List Definition
 with_item [] item = []
-with_item (d ∷ []) item = record { name = d.name; place = d.place; items = d.items ++ item ∷ [] } ∷ []
+with_item (d ∷ []) item =
+    record { name = d.name; place = d.place; items = d.items ++ item ∷ [] } ∷ []
 with_item (d ∷ e ∷ ds) item = d ∷ with_item (e ∷ ds) item

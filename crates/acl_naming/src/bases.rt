@@ -130,7 +130,8 @@ pub fn networks_of(
 ) -> Result<RangeSet, Lookup>
     ensures top { IfOk result (λ s. s.top ≡ top_address family) }
     ensures normal { IfOk result (λ s. IsNormal 0 s.top s.ranges) }
-    ensures exact { IfOk result (λ s. (x : ℕ) → (holds s.ranges x ≡ true) ↔ ReachesAddress base.now.networks name.now family x) }
+    ensures exact { IfOk result (λ s. (x : ℕ) → (holds s.ranges x ≡ true)
+        ↔ ReachesAddress base.now.networks name.now family x) }
     ensures unknown { (result ≡ Err Lookup.Unknown) ↔ (index_of base.now.networks name.now ≡ None) }
     ensures no_port { result ≡ Err Lookup.NoPort → ⊥ }
 {
@@ -146,9 +147,11 @@ pub fn networks_of(
 pub fn ports_of(alloc: Global, base: &Checked, proto: u8, name: &[u8]) -> Result<RangeSet, Lookup>
     ensures top { IfOk result (λ s. s.top ≡ top_port) }
     ensures normal { IfOk result (λ s. IsNormal 0 s.top s.ranges) }
-    ensures exact { IfOk result (λ s. (n : ℕ) → (holds s.ranges n ≡ true) ↔ ReachesPort base.now.services name.now proto n) }
+    ensures exact { IfOk result (λ s. (n : ℕ) → (holds s.ranges n ≡ true)
+        ↔ ReachesPort base.now.services name.now proto n) }
     ensures unknown { (result ≡ Err Lookup.Unknown) ↔ (index_of base.now.services name.now ≡ None) }
-    ensures no_port { result ≡ Err Lookup.NoPort → ReachesProtocol base.now.services name.now proto → ⊥ }
+    ensures no_port { result ≡ Err Lookup.NoPort
+        → ReachesProtocol base.now.services name.now proto → ⊥ }
     ensures some { IfOk result (λ s. ReachesProtocol base.now.services name.now proto) }
 {
     let wanted = Wanted::Ports(proto);

@@ -72,7 +72,8 @@ fn reaches_itself(alloc: Global, table: &Table, marks: &[bool], name: &[u8]) -> 
 
 /// The first definition that reaches itself.
 pub fn first_cycle(alloc: Global, table: &Table) -> Result<Option<usize>, Memory>
-    ensures { IfOk result (λ o. MatchOption o (HasNoCycle table.now) (λ i. IsFirstCycle table.now i)) }
+    ensures { IfOk result
+        (λ o. MatchOption o (HasNoCycle table.now) (λ i. IsFirstCycle table.now i)) }
 {
     // what is not settled is in a ring or in front of one
     let marks = settled(alloc, table)?;

@@ -11,7 +11,8 @@ use std::alloc::Global;
 fn mark(marks: &mut [bool], waiting: &mut Vec<usize>, index: usize) -> Result<(), Memory>
     requires { index < length marks.old }
     ensures marked { OnOk result (marks.new ≡ slice_set marks.old index true) }
-    ensures opened { OnOk result (waiting.new.items ≡ waiting.old.items ++ unmarked (index ∷ []) marks.old) }
+    ensures opened { OnOk result (waiting.new.items
+        ≡ waiting.old.items ++ unmarked (index ∷ []) marks.old) }
 {
     if !marks[index] {
         waiting.push(index)?;
@@ -35,8 +36,10 @@ fn mark_item(
     waiting: &mut Vec<usize>,
 ) -> Result<(), Memory>
     requires { length marks.old ≡ length table.now }
-    ensures marked { OnOk result (marks.new ≡ mark_all (targets table.now (item.now ∷ [])) marks.old) }
-    ensures opened { OnOk result (waiting.new.items ≡ waiting.old.items ++ unmarked (targets table.now (item.now ∷ [])) marks.old) }
+    ensures marked { OnOk result (marks.new
+        ≡ mark_all (targets table.now (item.now ∷ [])) marks.old) }
+    ensures opened { OnOk result (waiting.new.items
+        ≡ waiting.old.items ++ unmarked (targets table.now (item.now ∷ [])) marks.old) }
 {
     match item {
         Item::Name(reference) => match table.index_of(reference.name.as_slice()) {
@@ -57,7 +60,8 @@ fn mark_items(
 ) -> Result<(), Memory>
     requires { length marks.old ≡ length table.now }
     ensures marked { OnOk result (marks.new ≡ mark_all (targets table.now items.now) marks.old) }
-    ensures opened { OnOk result (waiting.new.items ≡ waiting.old.items ++ unmarked (targets table.now items.now) marks.old) }
+    ensures opened { OnOk result (waiting.new.items
+        ≡ waiting.old.items ++ unmarked (targets table.now items.now) marks.old) }
 {
     for item in items {
         mark_item(table, item, marks, waiting)?;

@@ -60,7 +60,8 @@ fn add_items(
     text: &[u8],
 ) -> Result<(), Refusal>
     requires { 0 < length table.old }
-    ensures gives { Leaves slip_told table.new result (items_added kind place table.old (words_of text.now)) }
+    ensures gives { Leaves slip_told table.new result
+        (items_added kind place table.old (words_of text.now)) }
     ensures filled { OnOk result (0 < length table.new) }
 {
     let mut from = 0;
@@ -80,7 +81,8 @@ fn define(
     name: &[u8],
     rest: &[u8],
 ) -> Result<(), Refusal>
-    ensures gives { Leaves slip_told table.new result (with_definition kind place table.old name.now rest.now) }
+    ensures gives { Leaves slip_told table.new result
+        (with_definition kind place table.old name.now rest.now) }
     ensures filled { OnOk result (0 < length table.new) }
 {
     if !is_name(name) {
@@ -105,7 +107,8 @@ fn go_on(
     text: &[u8],
 ) -> Result<(), Refusal>
     requires { is_open ≡ true → 0 < length table.old }
-    ensures gives { Leaves slip_told table.new result (with_items kind place is_open table.old (words_of text.now)) }
+    ensures gives { Leaves slip_told table.new result
+        (with_items kind place is_open table.old (words_of text.now)) }
     ensures filled { is_open ≡ true → OnOk result (0 < length table.new) }
 {
     let Some((start, end)) = next_word(text, 0) else {
@@ -128,7 +131,8 @@ fn add_split(
     text: &[u8],
 ) -> Result<bool, Refusal>
     requires { is_open ≡ true → 0 < length table.old }
-    ensures gives { Leaves slip_told table.new result (split_added kind place is_open table.old text.now) }
+    ensures gives { Leaves slip_told table.new result
+        (split_added kind place is_open table.old text.now) }
     ensures opened { IfOk result (λ o. o ≡ opens is_open text.now) }
     ensures filled { IfOk result (λ o. o ≡ true → 0 < length table.new) }
 {
@@ -153,7 +157,8 @@ fn add_line(
     text: &[u8],
 ) -> Result<bool, Refusal>
     requires { is_open ≡ true → 0 < length table.old }
-    ensures gives { Leaves slip_told table.new result (line_added kind place is_open table.old text.now) }
+    ensures gives { Leaves slip_told table.new result
+        (line_added kind place is_open table.old text.now) }
     ensures opened { IfOk result (λ o. o ≡ opens is_open text.now) }
     ensures filled { IfOk result (λ o. o ≡ true → 0 < length table.new) }
 {

@@ -74,7 +74,9 @@ fn push_marked(
 ) -> Result<(), Memory>
     requires fits { length marks.now ≡ length table.now }
     requires within { index < length table.now }
-    ensures { OnOk result (Collects wanted (λ test. marked marks.now index && list_any test (items_at table.now index)) out.old.items out.new.items) }
+    ensures { OnOk result (Collects wanted
+        (λ test. marked marks.now index && list_any test (items_at table.now index))
+        out.old.items out.new.items) }
 {
     if has_mark(marks, index) {
         push_items(out, wanted, table.items_at(index))?;

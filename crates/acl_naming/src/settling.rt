@@ -50,7 +50,9 @@ fn settle(table: &Table, index: usize, marks: &mut [bool])
     requires fits { length marks.old ≡ length table.now }
     requires within { index < length table.now }
     ensures kept { IsSettled table.now marks.old → IsSettled table.now marks.new }
-    ensures marked { marks.new ≡ (if all_marked marks.old (targets table.now (items_at table.now index)) then slice_set marks.old index true else marks.old) }
+    ensures marked { marks.new
+        ≡ (if all_marked marks.old (targets table.now (items_at table.now index))
+        then slice_set marks.old index true else marks.old) }
 {
     if are_marked(table, table.items_at(index), marks) {
         marks[index] = true;
@@ -58,7 +60,8 @@ fn settle(table: &Table, index: usize, marks: &mut [bool])
 }
 
 fn push_item(table: &Table, item: &Item, steps: &mut Vec<Step>) -> Result<(), Memory>
-    ensures within { OnOk result (All (IsStepOf table.now) steps.old.items → All (IsStepOf table.now) steps.new.items) }
+    ensures within { OnOk result (All (IsStepOf table.now) steps.old.items
+        → All (IsStepOf table.now) steps.new.items) }
     ensures few { OnOk result (length steps.new.items ≤ length steps.old.items + 1) }
 {
     if let Item::Name(reference) = item {
@@ -71,7 +74,8 @@ fn push_item(table: &Table, item: &Item, steps: &mut Vec<Step>) -> Result<(), Me
 
 // What the items name is to be entered.
 fn push_items(table: &Table, items: &[Item], steps: &mut Vec<Step>) -> Result<(), Memory>
-    ensures within { OnOk result (All (IsStepOf table.now) steps.old.items → All (IsStepOf table.now) steps.new.items) }
+    ensures within { OnOk result (All (IsStepOf table.now) steps.old.items
+        → All (IsStepOf table.now) steps.new.items) }
     ensures few { OnOk result (length steps.new.items ≤ length steps.old.items + length items.now) }
 {
     for item in items {
@@ -89,8 +93,11 @@ fn enter(
 ) -> Result<(), Memory>
     requires fits { length entered.old ≡ length table.now }
     requires within { index < length table.now }
-    ensures within { OnOk result (All (IsStepOf table.now) steps.old.items → All (IsStepOf table.now) steps.new.items) }
-    ensures few { OnOk result (length steps.new.items + steps_left table.now entered.new ≤ length steps.old.items + steps_left table.now entered.old) }
+    ensures within { OnOk result (All (IsStepOf table.now) steps.old.items
+        → All (IsStepOf table.now) steps.new.items) }
+    ensures few { OnOk result
+        (length steps.new.items + steps_left table.now entered.new
+        ≤ length steps.old.items + steps_left table.now entered.old) }
 {
     if entered[index] {
         return Ok(());

@@ -101,7 +101,8 @@ impl Table {
     /// Adds a definition without items at the end.
     pub fn add(&mut self, name: &[u8], place: Place) -> Result<(), Memory>
         requires { index_of self.old name.now ≡ None }
-        ensures { OnOk result (self.new ≡ self.old ++ record { name = name.now; place = place; items = [] } ∷ []) }
+        ensures { OnOk result (self.new
+            ≡ self.old ++ record { name = name.now; place = place; items = [] } ∷ []) }
     {
         let entry = Entry {
             place,

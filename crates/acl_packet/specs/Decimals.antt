@@ -20,7 +20,8 @@ pub record IsNumber (bs : List ℕ) (n : ℕ) : Type 0 where
 unfoldable pub digits_in : ℕ → ℕ → List ℕ → Option ℕ
 digits_in most value [] = Some value
 digits_in most value (b ∷ bs) =
-    if is_ascii_digit b && nat_le (value * 10 + (b - 48)) most then digits_in most (value * 10 + (b - 48)) bs else None
+    if is_ascii_digit b && nat_le (value * 10 + (b - 48)) most
+    then digits_in most (value * 10 + (b - 48)) bs else None
 
 -- Whether there is a first byte, and it is no `0` before others.
 abbrev pub has_front : List ℕ → Bool

@@ -42,7 +42,8 @@ row_of (r ∷ rs) word = if bytes_eq word r.0 then Some r.1 else row_of rs word
 -- a leading zero, which lies within the limits.
 abbrev pub IsNumberWord : List Row → ℕ → ℕ → List ℕ → ℕ → Type 0
 IsNumberWord table least most word n =
-    (row_of table word ≡ Some n) ⊎ ((row_of table word ≡ None) × (word ≡ decimal n) × (least ≤ n) × (n ≤ most))
+    (row_of table word ≡ Some n)
+    ⊎ ((row_of table word ≡ None) × (word ≡ decimal n) × (least ≤ n) × (n ≤ most))
 
 -- A protocol is a row's, or 1 to 255.
 abbrev pub IsProtocolWord : List ℕ → ℕ → Type 0
@@ -64,7 +65,8 @@ or_else (Some n) other = Some n
 
 -- The number of the word, by a table and limits.
 unfoldable pub row_or_number : List Row → ℕ → ℕ → List ℕ → Option ℕ
-row_or_number table least most word = or_else (row_of table word) (not_below least (number_in most word))
+row_or_number table least most word =
+    or_else (row_of table word) (not_below least (number_in most word))
 
 -- The protocol of the word.
 unfoldable pub protocol_in : List ℕ → Option ℕ

@@ -35,7 +35,8 @@ address_in f bs = do
 
 -- The block of an address and a length: the bits behind the length are cleared.
 abbrev pub block_of : Family → ℕ → ℕ → Prefix
-block_of f n len = record { family = f; first = n / 2 ^ (width_of f - len) * 2 ^ (width_of f - len); len = len }
+block_of f n len =
+    record { family = f; first = n / 2 ^ (width_of f - len) * 2 ^ (width_of f - len); len = len }
 
 -- The text is an address, which is of the full length, or an address, `/` and a length.
 pub record IsPrefixText (bs : List ℕ) (p : Prefix) : Type 0 where
@@ -43,7 +44,8 @@ pub record IsPrefixText (bs : List ℕ) (p : Prefix) : Type 0 where
   pub value : ℕ
   pub address_is : IsAddressText p.family address value
   pub length_is : ((bs ≡ address) × (p.len ≡ width_of p.family))
-      ⊎ ((word : List ℕ) × (bs ≡ address ++ 47 ∷ word) × IsNumber word p.len × (p.len ≤ width_of p.family))
+      ⊎ ((word : List ℕ) × (bs ≡ address ++ 47 ∷ word) × IsNumber word p.len
+      × (p.len ≤ width_of p.family))
   pub cleared : p ≡ block_of p.family value p.len
 
 -- A word with `:` is no IPv4 address, and one without it no IPv6 address.
@@ -65,7 +67,9 @@ block_in f bs word = do
 
 -- The prefix of the text, where it is one's.
 unfoldable pub prefix_in : List ℕ → Option Prefix
-prefix_in bs = option_map_or {U = Option Prefix} (λ p. block_in (family_in p.0) p.0 p.1) (cut_at 47 bs) (full_in (family_in bs) bs)
+prefix_in bs =
+    option_map_or {U = Option Prefix} (λ p. block_in (family_in p.0) p.0 p.1) (cut_at 47 bs)
+    (full_in (family_in bs) bs)
 
 -- The text that is printed for a prefix.
 unfoldable pub prefix_text : Prefix → List ℕ

@@ -34,6 +34,7 @@ Leaves told now (Ok x) expected = expected ≡ Ok now
 Leaves told now (Err e) expected = Stops told e expected
 
 -- The answer, seen by the definitions, is one that the relation takes.
-abbrev pub Answers : {X Y E F : Type 0} → (E → Option F) → (X → Y) → Result X E → (Result Y F → Type 0) → Type 0
+abbrev pub Answers : {X Y E F : Type 0} → (E → Option F) → (X → Y) → Result X E
+    → (Result Y F → Type 0) → Type 0
 Answers told view (Ok x) R = R (Ok (view x))
 Answers told view (Err e) R = IfSome (told e) (λ f. R (Err f))

@@ -24,7 +24,8 @@ pub record Remaining : Type 0 where
 -- where none was left.
 abbrev pub GivesLine : Remaining → Remaining → Option (List ℕ) → Type 0
 GivesLine old new None = (old.lines ≡ []) × (new ≡ old)
-GivesLine old new (Some line) = (old.lines ≡ line ∷ new.lines) × (new.line ≡ old.line + 1) × (new.file ≡ old.file)
+GivesLine old new (Some line) =
+    (old.lines ≡ line ∷ new.lines) × (new.line ≡ old.line + 1) × (new.file ≡ old.file)
 
 -- The first line, and the bytes behind it.
 abbrev pub all_or_none : List ℕ → Option (List ℕ × List ℕ)
@@ -82,7 +83,8 @@ run_end test line from = from + prefix_len test (drop from line)
 
 -- The bounds of the next word.
 abbrev pub word_to : List ℕ → ℕ → Option (ℕ × ℕ)
-word_to line start = if start == length line then None else Some (start, run_end is_black line start)
+word_to line start =
+    if start == length line then None else Some (start, run_end is_black line start)
 
 abbrev pub word_at : List ℕ → ℕ → Option (ℕ × ℕ)
 word_at line from = word_to line (run_end is_white line from)

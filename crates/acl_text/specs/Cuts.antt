@@ -19,8 +19,10 @@ has_byte c bs = list_any (λ b. b == c) bs
 
 -- What stands behind a front, where the text begins with it.
 unfoldable pub behind : List ℕ → List ℕ → Option (List ℕ)
-behind front text = if bytes_eq (take (length front) text) front then Some (drop (length front) text) else None
+behind front text =
+    if bytes_eq (take (length front) text) front then Some (drop (length front) text) else None
 
 -- What stands ahead of an end, where the text ends in it.
 unfoldable pub ahead : List ℕ → List ℕ → Option (List ℕ)
-ahead end text = if ends_with nat_eq text end then Some (take (length text - length end) text) else None
+ahead end text =
+    if ends_with nat_eq text end then Some (take (length text - length end) text) else None

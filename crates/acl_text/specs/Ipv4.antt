@@ -46,4 +46,5 @@ ipv4_in bs = do
 -- The text that is printed.
 unfoldable pub ipv4_text : ℕ → List ℕ
 ipv4_text n = join_with_byte 46
-    (decimal (n / 2 ^ 24) ∷ decimal (n / 2 ^ 16 % 256) ∷ decimal (n / 2 ^ 8 % 256) ∷ decimal (n % 256) ∷ [])
+    (decimal (n / 2 ^ 24) ∷ decimal (n / 2 ^ 16 % 256)
+    ∷ decimal (n / 2 ^ 8 % 256) ∷ decimal (n % 256) ∷ [])

@@ -31,7 +31,8 @@ abbrev pub IsGroups : Bool → List ℕ → List ℕ → Type 0
 IsGroups dotted bs [] = ⊥
 IsGroups dotted bs (g ∷ []) = IsGroup bs g
 IsGroups dotted bs (g ∷ h ∷ gs) =
-    ((xs : List ℕ) × (ys : List ℕ) × (bs ≡ xs ++ 58 ∷ ys) × IsGroup xs g × IsGroups dotted ys (h ∷ gs))
+    ((xs : List ℕ) × (ys : List ℕ) × (bs ≡ xs ++ 58 ∷ ys) × IsGroup xs g
+    × IsGroups dotted ys (h ∷ gs))
     ⊎ ((dotted ≡ true) × (gs ≡ []) × IsIpv4 bs (g * 65536 + h) × (h < 65536))
 
 -- One side of `::`: no groups, or some.
@@ -72,8 +73,10 @@ group_in bs = if nat_lt 0 (length bs) && nat_le (length bs) 4 then hex_worth 0 b
 
 -- The last group, or the last two as an IPv4 address: how many groups there may be behind, and the number.
 unfoldable pub last_in : ℕ → Bool → ℕ → List ℕ → Option (ℕ × ℕ)
-last_in left dotted value bs = option_map_or {U = Option (ℕ × ℕ)} (λ g. Some (left, value * 65536 + g)) (group_in bs)
-    (if dotted && nat_lt 0 left then option_map {U = ℕ × ℕ} (λ a. (left - 1, value * 2 ^ 32 + a)) (ipv4_in bs) else None)
+last_in left dotted value bs =
+    option_map_or {U = Option (ℕ × ℕ)} (λ g. Some (left, value * 65536 + g)) (group_in bs)
+    (if dotted && nat_lt 0 left
+    then option_map {U = ℕ × ℕ} (λ a. (left - 1, value * 2 ^ 32 + a)) (ipv4_in bs) else None)
 
 -- Groups behind a number that was read before them, where at most so many may come: how many more there
 -- might have been, and the number.
@@ -90,7 +93,9 @@ side_in dotted bs = if length bs == 0 then Some (8, 0) else groups_in 8 dotted 0
 -- The text before the first `::`, and the text behind it.
 abbrev pub gap_at : List ℕ → Option (List ℕ × List ℕ)
 gap_at [] = None
-gap_at (b ∷ bs) = if b == 58 && slice_index bs 0 == 58 then Some ([], drop 1 bs) else option_map (λ p. (b ∷ p.0, p.1)) (gap_at bs)
+gap_at (b ∷ bs) =
+    if b == 58 && slice_index bs 0 == 58 then Some ([], drop 1 bs)
+    else option_map (λ p. (b ∷ p.0, p.1)) (gap_at bs)
 
 -- The address of eight groups.
 unfoldable pub whole_in : List ℕ → Option ℕ
@@ -116,8 +121,10 @@ unfoldable pub group_text : ℕ → List ℕ
 group_text g =
     if nat_lt g 16 then hex_digit g ∷ []
     else if nat_lt g 256 then hex_digit (g / 16) ∷ hex_digit (g % 16) ∷ []
-    else if nat_lt g 4096 then hex_digit (g / 256) ∷ hex_digit (g / 16 % 16) ∷ hex_digit (g % 16) ∷ []
-    else hex_digit (g / 4096) ∷ hex_digit (g / 256 % 16) ∷ hex_digit (g / 16 % 16) ∷ hex_digit (g % 16) ∷ []
+    else if nat_lt g 4096
+    then hex_digit (g / 256) ∷ hex_digit (g / 16 % 16) ∷ hex_digit (g % 16) ∷ []
+    else hex_digit (g / 4096) ∷ hex_digit (g / 256 % 16)
+    ∷ hex_digit (g / 16 % 16) ∷ hex_digit (g % 16) ∷ []
 
 abbrev pub groups_text : List ℕ → List ℕ
 groups_text gs = join_with_byte 58 (map group_text gs)
@@ -152,7 +159,8 @@ pub record IsLongest (gs : List ℕ) (run : ℕ × ℕ) : Type 0 where
 -- `::` stands for that run, where it has two groups or more (RFC 5952 section 4.2).
 abbrev pub shortened : List ℕ → ℕ × ℕ → List ℕ
 shortened gs run =
-    if nat_le 2 run.1 then groups_text (take run.0 gs) ++ 58 ∷ 58 ∷ groups_text (drop (run.0 + run.1) gs)
+    if nat_le 2 run.1
+    then groups_text (take run.0 gs) ++ 58 ∷ 58 ∷ groups_text (drop (run.0 + run.1) gs)
     else groups_text gs
 
 -- The text that is printed.

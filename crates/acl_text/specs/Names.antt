@@ -21,7 +21,8 @@ is_name (b ∷ bs) = nat_le (length (b ∷ bs)) 128 && list_all is_name_byte (b 
 -- The name of a filter or of an access list is a name that begins with a letter and has at most 64 bytes.
 abbrev pub is_filter_name : List ℕ → Bool
 is_filter_name [] = false
-is_filter_name (b ∷ bs) = is_letter b && (nat_le (length (b ∷ bs)) 64 && list_all is_name_byte (b ∷ bs))
+is_filter_name (b ∷ bs) =
+    is_letter b && (nat_le (length (b ∷ bs)) 64 && list_all is_name_byte (b ∷ bs))
 
 -- The bytes of a free text: those of names, `.`, `,`, `:` and the space. None of them ends a comment or a quote
 -- in any of the languages.
@@ -35,4 +36,5 @@ single_spaced after (b ∷ bs) = not (after && b == 32) && single_spaced (b == 3
 
 -- A free text has 1 to 128 such bytes, no space at its ends and no two together.
 abbrev pub is_safe_text : List ℕ → Bool
-is_safe_text text = nat_le (length text) 128 && (list_all is_safe_byte text && single_spaced true text)
+is_safe_text text =
+    nat_le (length text) 128 && (list_all is_safe_byte text && single_spaced true text)

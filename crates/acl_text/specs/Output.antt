@@ -21,8 +21,9 @@ AppendsFront text None new = ⊥
 AppendsFront text (Some old) new = (n : ℕ) × (new ≡ old ++ take n text)
 
 -- A call that puts a text, from the output as it was to the output as it is then.
-pub record Puts {S T : Type 0} (told : S → Option (List ℕ)) (faults refusals : S → ℕ) (is_open : S → Bool)
-    (keeps_rest : S → S → Type 0) (old new : S) (text : List ℕ) (result : Result T PutFault) : Type 0 where
+pub record Puts {S T : Type 0} (told : S → Option (List ℕ)) (faults refusals : S → ℕ)
+    (is_open : S → Bool) (keeps_rest : S → S → Type 0) (old new : S) (text : List ℕ)
+    (result : Result T PutFault) : Type 0 where
   -- on success the text stands behind what was told
   pub ok : OnOk result (told new ≡ option_map (λ (b : List ℕ). b ++ text) (told old))
   -- on a refusal a front of it does, where the output still tells

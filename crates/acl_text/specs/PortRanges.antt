@@ -8,7 +8,8 @@ use Rattle.acl_text.specs.OptionSteps.{◌>>=◌}
 -- The word is that of the ports from one to another, both included. A port has 16 bits (RFC 9293 section 3.1).
 pub record IsPortsWord (separator : ℕ) (word : List ℕ) (ports : ℕ × ℕ) : Type 0 where
   pub spelled : (IsNumber word ports.0 × (ports.0 ≡ ports.1))
-      ⊎ ((low : List ℕ) × (high : List ℕ) × (word ≡ low ++ separator ∷ high) × IsNumber low ports.0 × IsNumber high ports.1)
+      ⊎ ((low : List ℕ) × (high : List ℕ) × (word ≡ low ++ separator ∷ high)
+      × IsNumber low ports.0 × IsNumber high ports.1)
   pub ordered : ports.0 ≤ ports.1
   pub fit : ports.1 < 65536
 
@@ -25,4 +26,6 @@ port_in word = do
 
 -- The ports of the word, if it is one of ports.
 unfoldable pub ports_in : ℕ → List ℕ → Option (ℕ × ℕ)
-ports_in separator word = option_map_or {U = Option (ℕ × ℕ)} (λ p. port_pair_in p.0 p.1) (cut_at separator word) (port_in word)
+ports_in separator word =
+    option_map_or {U = Option (ℕ × ℕ)} (λ p. port_pair_in p.0 p.1) (cut_at separator word)
+    (port_in word)

@@ -29,7 +29,8 @@ pub fn longest_runs_are_found()
 /// What `put_prefix` puts of a prefix is read as that prefix, by both readers.
 pub fn prefixes_are_read_again()
     ensures any { (p : Prefix) → IsPrefix p → prefix_in (prefix_text p) ≡ Some p }
-    ensures spelled { (p : Prefix) → IsPrefix p → spelled_prefix_in p.family (prefix_text p) ≡ Some p }
+    ensures spelled { (p : Prefix) → IsPrefix p
+        → spelled_prefix_in p.family (prefix_text p) ≡ Some p }
 {}
 
 /// A text is that of one prefix at most.

@@ -11,10 +11,12 @@ use Rattle.aclgen_core.specs.declared.narrow_reading.TargetWords.{TargetWords}
 use Rattle.aclgen_core.specs.declared.narrow_reading.TermWords.{TermWords}
 
 abbrev pub options_view : CodeOptions → Options
-options_view o = record { policy = o.policy.now; definitions = o.definitions.now; output = o.output.now }
+options_view o =
+    record { policy = o.policy.now; definitions = o.definitions.now; output = o.output.now }
 
 abbrev pub plan_view : CodePlan → Plan
-plan_view p = record { naming = p.naming; policy = p.policy; rules = p.rules; path = string_bytes p.path }
+plan_view p =
+    record { naming = p.naming; policy = p.policy; rules = p.rules; path = string_bytes p.path }
 
 abbrev pub target_view : TargetWords → Target
 target_view t = record { line = t.key.now.line; name = t.name.now.text }

@@ -37,5 +37,11 @@ date_stands ws = bytes_eq (word_at ws 6) (codes "--date") && is_date (word_at ws
 -- The options, where the words are these eight: `--policy_file P --definitions_directory D
 -- --output_directory O --date X`. P, D and O are not empty, P does not end in a slash, X is a date.
 unfoldable pub options_of : List (List ℕ) → Option Options
-options_of ws = if length ws == 8 && paths_stand ws && folders_stand ws && output_stands ws && date_stands ws
-    then Some (record { policy = word_at ws 1; definitions = word_at ws 3; output = word_at ws 5 }) else None
+options_of ws =
+    if length ws == 8 && paths_stand ws && folders_stand ws && output_stands ws && date_stands ws
+    then Some (record {
+      policy = word_at ws 1;
+      definitions = word_at ws 3;
+      output = word_at ws 5;
+    })
+    else None

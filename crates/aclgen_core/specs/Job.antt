@@ -47,10 +47,16 @@ abbrev pub MOST_ENTRIES : ℕ
 MOST_ENTRIES = 100000
 
 abbrev pub unknown_name : List ℕ → Word → Fault
-unknown_name path word = record { code = UnknownName; label = path; line = word.line; word = word.text }
+unknown_name path word =
+    record { code = UnknownName; label = path; line = word.line; word = word.text }
 
 abbrev pub too_many_entries : List ℕ → Policy → Fault
-too_many_entries path policy = record { code = TooManyEntries; label = path; line = policy.target.line; word = policy.target.name }
+too_many_entries path policy = record {
+  code = TooManyEntries;
+  label = path;
+  line = policy.target.line;
+  word = policy.target.name;
+}
 
 -- What stands once the terms became these rules.
 abbrev pub planned : Options → Naming → Policy → List Rule → Result Plan Fault
@@ -60,12 +66,15 @@ planned o naming policy rules =
 
 abbrev pub RendersWith : Option Word → Options → Naming → Policy → Result Plan Fault → Type 0
 RendersWith (Some word) o naming policy answer = answer ≡ Err (unknown_name o.policy word)
-RendersWith None o naming policy answer = (rules : List Rule) × AreRulesOf naming.networks policy.terms rules × (answer ≡ planned o naming policy rules)
+RendersWith None o naming policy answer =
+    (rules : List Rule) × AreRulesOf naming.networks policy.terms rules
+    × (answer ≡ planned o naming policy rules)
 
 -- The policy's names are looked up first: one that no network has is a fault. Then each term becomes a rule, and
 -- their entries are counted.
 abbrev pub Renders : Options → Naming → Policy → Result Plan Fault → Type 0
-Renders o naming policy answer = RendersWith (first_unknown naming.networks policy.terms) o naming policy answer
+Renders o naming policy answer =
+    RendersWith (first_unknown naming.networks policy.terms) o naming policy answer
 
 -- ---- the whole
 
@@ -80,7 +89,8 @@ GoesOn o files (Ok naming) answer = GoesOnWithPolicy o naming (policy_read o fil
 -- What is to be written, or the first fault: the naming files come first, then the policy, and then its names and
 -- the number of its entries.
 abbrev pub Plans : Options → List File → Result Plan Fault → Type 0
-Plans o files answer = (loaded : Result Naming Fault) × Loads o.definitions files loaded × GoesOn o files loaded answer
+Plans o files answer =
+    (loaded : Result Naming Fault) × Loads o.definitions files loaded × GoesOn o files loaded answer
 
 -- The job of the words: none where they are no command line, else what is to be written or the first fault.
 abbrev pub IsJobOf : Option Options → List File → Option (Result Plan Fault) → Type 0

@@ -36,7 +36,8 @@ cisco_ending p = silent (is_neighbour_discovery p.family p)
 abbrev pub PolicyOutcome : List Definition → List Term → Packet → Outcome → Type 0
 PolicyOutcome networks [] p outcome = outcome ≡ cisco_ending p
 PolicyOutcome networks (term ∷ terms) p outcome =
-    (Matches networks term p × (outcome ≡ silent term.permit)) ⊎ ((Matches networks term p → ⊥) × PolicyOutcome networks terms p outcome)
+    (Matches networks term p × (outcome ≡ silent term.permit))
+    ⊎ ((Matches networks term p → ⊥) × PolicyOutcome networks terms p outcome)
 
 -- A Cisco list shows reject and reset as a denial.
 abbrev pub shown_verdict : Verdict → Verdict

@@ -22,7 +22,8 @@ numbered number text = record { line = number; text = text }
 -- The words of the lines, of which the first has this number.
 abbrev pub numbered_words : ℕ → List (List ℕ) → List Word
 numbered_words number [] = []
-numbered_words number (line ∷ lines) = map (numbered number) (words_of line) ++ numbered_words (number + 1) lines
+numbered_words number (line ∷ lines) =
+    map (numbered number) (words_of line) ++ numbered_words (number + 1) lines
 
 -- ---- the words at a front
 
@@ -87,7 +88,8 @@ target_of words = do
   cisco ← keyword (codes "cisco") target.1
   filter ← name cisco.1
   extended ← keyword (codes "extended") filter.1
-  if is_end extended.1 && is_filter_name filter.0.text then Some (record { line = target.0.line; name = filter.0.text }) else None
+  if is_end extended.1 && is_filter_name filter.0.text
+    then Some (record { line = target.0.line; name = filter.0.text }) else None
 
 -- The name of a term, and the words behind its `{`.
 unfoldable pub term_title : List Word → Option (Word × List Word)
@@ -105,12 +107,19 @@ term_of words = do
   destination ← address_item (codes "destination-address::") source.1
   protocol ← protocol_item destination.1
   permit ← action_item protocol.1
-  Some (record { name = title.0.text; source = source.0; destination = destination.0; proto = protocol.0; permit = permit })
+  Some (record {
+    name = title.0.text;
+    source = source.0;
+    destination = destination.0;
+    proto = protocol.0;
+    permit = permit;
+  })
 
 -- The terms, each from its part of the words.
 abbrev pub terms_of : List (List Word) → Option (List Term)
 terms_of [] = Some []
-terms_of (part ∷ parts) = term_of part >>= (λ term. option_map (λ terms. term ∷ terms) (terms_of parts))
+terms_of (part ∷ parts) =
+    term_of part >>= (λ term. option_map (λ terms. term ∷ terms) (terms_of parts))
 
 -- The parts of the words that a `}` ends: all but the last part, in which nothing stands.
 abbrev pub is_closing : Word → Bool
@@ -120,7 +129,9 @@ abbrev pub last_part : List (List Word) → List Word
 last_part parts = slice_index_or parts (length parts - 1) []
 
 abbrev pub closed_parts : List (List Word) → Option (List (List Word))
-closed_parts parts = if nat_lt 0 (length parts) && is_end (last_part parts) then Some (take (length parts - 1) parts) else None
+closed_parts parts =
+    if nat_lt 0 (length parts) && is_end (last_part parts) then Some (take (length parts - 1) parts)
+    else None
 
 -- ---- the whole
 

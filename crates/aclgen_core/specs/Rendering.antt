@@ -13,9 +13,11 @@ use Rattle.aclgen_core.specs.declared.narrow_policies.Term.{Term}
 use Rattle.aclgen_core.specs.NarrowMeaning.{Takes}
 
 -- A set of numbers is the set of the IPv4 addresses that one side of a term takes.
-pub record IsSideSet (networks : List Definition) (side : Option Word) (ranges : List Range) : Type 0 where
+pub record IsSideSet (networks : List Definition) (side : Option Word)
+    (ranges : List Range) : Type 0 where
   pub normal : IsNormal 0 (top_address V4) ranges
-  pub exact : (address : ℕ) → address ≤ top_address V4 → (holds ranges address ≡ true) ↔ Takes networks side V4 address
+  pub exact : (address : ℕ) → address ≤ top_address V4
+      → (holds ranges address ≡ true) ↔ Takes networks side V4 address
 
 -- The prefixes of one side are the least list of that set.
 abbrev pub IsSide : List Definition → Option Word → List Prefix → Type 0
@@ -34,7 +36,8 @@ abbrev pub AreRulesOf : List Definition → List Term → List Rule → Type 0
 AreRulesOf networks [] [] = Unit {0}
 AreRulesOf networks [] (rule ∷ rules) = ⊥
 AreRulesOf networks (term ∷ terms) [] = ⊥
-AreRulesOf networks (term ∷ terms) (rule ∷ rules) = IsRuleOf networks term rule × AreRulesOf networks terms rules
+AreRulesOf networks (term ∷ terms) (rule ∷ rules) =
+    IsRuleOf networks term rule × AreRulesOf networks terms rules
 
 -- The first word of the terms that no network has as its name, the source before the destination.
 abbrev pub unknown_in : List Definition → Option Word → Option Word
@@ -48,4 +51,5 @@ or_else None other = other
 abbrev pub first_unknown : List Definition → List Term → Option Word
 first_unknown networks [] = None
 first_unknown networks (term ∷ terms) =
-    or_else (unknown_in networks term.source) (or_else (unknown_in networks term.destination) (first_unknown networks terms))
+    or_else (unknown_in networks term.source)
+    (or_else (unknown_in networks term.destination) (first_unknown networks terms))

@@ -55,7 +55,8 @@ IsPlanned words files = (plan : Plan) × IsJob words files (Some (Ok plan))
 
 -- The words are no command line, or the files have a fault.
 abbrev pub IsRefused : List (List ℕ) → List File → Type 0
-IsRefused words files = IsJob words files None ⊎ ((fault : Fault) × IsJob words files (Some (Err fault)))
+IsRefused words files =
+    IsJob words files None ⊎ ((fault : Fault) × IsJob words files (Some (Err fault)))
 
 -- The line on standard error of a job that is refused.
 abbrev pub IsRefusalLine : List (List ℕ) → List File → List ℕ → Type 0
@@ -70,12 +71,15 @@ pub record IsWritten (plan : Plan) (old new : List File) : Type 0 where
   pub held : file_at new plan.path ≡ Some (text_of (document_of plan))
   pub others : SameBut plan.path old new
   pub decides : (p : Packet) → IsPacket p → p.family ≡ V4 → (outcome : Outcome)
-      × PolicyOutcome plan.naming.networks plan.policy.terms p outcome × (outcome_of (document_of plan) 0 p ≡ Some (shown outcome))
+      × PolicyOutcome plan.naming.networks plan.policy.terms p outcome
+      × (outcome_of (document_of plan) 0 p ≡ Some (shown outcome))
 
 -- A line was tried on a stream: a front of it stands there, and the whole where no count of the stream rose.
-pub record Tried {S : Type 0} (told : S → Option (List ℕ)) (faults refusals : S → ℕ) (old new : S) (line : List ℕ) : Type 0 where
+pub record Tried {S : Type 0} (told : S → Option (List ℕ)) (faults refusals : S → ℕ) (old new : S)
+    (line : List ℕ) : Type 0 where
   pub front : BothTell (told old) (told new) (AddsFront line)
-  pub whole : (Rose (faults old) (faults new) → ⊥) → (Rose (refusals old) (refusals new) → ⊥) → told new ≡ option_map (λ (b : List ℕ). b ++ line) (told old)
+  pub whole : (Rose (faults old) (faults new) → ⊥) → (Rose (refusals old) (refusals new) → ⊥)
+      → told new ≡ option_map (λ (b : List ℕ). b ++ line) (told old)
   pub faults_grow : faults old ≤ faults new
   pub refusals_grow : refusals old ≤ refusals new
 
@@ -87,10 +91,12 @@ IsEnding (Some (Err fault)) result = (result ≡ ended.Rejected fault) ⊎ (resu
 
 -- The run ended as its job asks.
 abbrev pub EndsAsAsked : List (List ℕ) → List File → Ended → Type 0
-EndsAsAsked words files result = (job : Option (Result Plan Fault)) → IsJob words files job → IsEnding job result
+EndsAsAsked words files result =
+    (job : Option (Result Plan Fault)) → IsJob words files job → IsEnding job result
 
 -- No count of faults rose in the call.
-pub record NoneRose (lists lists' reads reads' writes writes' outs outs' errs errs' : ℕ) : Type 0 where
+pub record NoneRose (lists lists' reads reads' writes writes' outs outs'
+    errs errs' : ℕ) : Type 0 where
   pub no_list : Rose lists lists' → ⊥
   pub no_read : Rose reads reads' → ⊥
   pub no_write : Rose writes writes' → ⊥

@@ -21,9 +21,11 @@ use std::alloc::Global;
 pub fn list_text(alloc: Global, plan: &Plan) -> Result<Whole, Memory>
     requires { IsPlan (plan_view plan.now) }
     ensures text { IfOk result (λ whole. whole.bytes ≡ text_of (document_of (plan_view plan.now))) }
-    ensures spelled { Spells (text_of (document_of (plan_view plan.now))) (document_of (plan_view plan.now)) }
+    ensures spelled { Spells (text_of (document_of (plan_view plan.now)))
+        (document_of (plan_view plan.now)) }
     ensures decides { (p : Packet) → IsPacket p → p.family ≡ V4
-        → outcome_of (document_of (plan_view plan.now)) 0 p ≡ Some (filter_outcome (plan_view plan.now).rules p) }
+        → outcome_of (document_of (plan_view plan.now)) 0 p
+        ≡ Some (filter_outcome (plan_view plan.now).rules p) }
 {
     let mut text = Whole::new(alloc);
     let name = plan.policy.target.name.as_slice();

@@ -146,7 +146,8 @@ fn is_closing(word: &Word) -> bool
 }
 
 fn parts_of(alloc: Global, words: &[Word]) -> Result<Vec<&[Word]>, AllocError>
-    ensures { IfOk result (λ parts. map (λ p. p.now) parts.items ≡ slice_split is_closing words.now) }
+    ensures { IfOk result (λ parts. map (λ p. p.now) parts.items
+        ≡ slice_split is_closing words.now) }
 {
     words.split(|word| is_closing(word)).collect(alloc)
 }
@@ -162,7 +163,8 @@ fn last_part<'a>(parts: &[&'a [Word]]) -> &'a [Word]
 
 // All parts but the last, in which nothing may stand.
 fn closed_parts<'a, 'b>(parts: &'b [&'a [Word]]) -> Option<&'b [&'a [Word]]>
-    ensures { option_map (λ front. map (λ p. p.now) front.now) result ≡ closed_parts (map (λ p. p.now) parts.now) }
+    ensures { option_map (λ front. map (λ p. p.now) front.now) result
+        ≡ closed_parts (map (λ p. p.now) parts.now) }
 {
     if parts.is_empty() || !is_end(last_part(parts)) {
         return None;

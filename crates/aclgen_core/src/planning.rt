@@ -113,8 +113,8 @@ pub fn make_plan<T: Tree>(
     ensures gives { IfSome (T.files tree.old) (λ files. Answers load_told plan_view result
         (Plans (options_view options.now) files)) }
     ensures sound { IfOk result (λ plan. IsPlan (plan_view plan)) }
-    ensures looks { OnlyListsAndReads T.files T.begun T.faults T.refusals T.list_faults T.read_faults
-        tree.old tree.new }
+    ensures looks { OnlyListsAndReads T.files T.begun T.faults T.refusals
+        T.list_faults T.read_faults tree.old tree.new }
     ensures list_failed { IsErrOf result LoadFault.List
         → Rose (T.list_faults tree.old) (T.list_faults tree.new) }
     ensures read_failed { IsErrOf result LoadFault.Read

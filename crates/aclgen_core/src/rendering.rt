@@ -32,7 +32,8 @@ fn addresses_named(
     path: &str,
     word: &Word,
 ) -> Result<RangeSet, Rejection>
-    ensures { Answers fault_told (λ set. set) result (SetGiven path.now definitions.now.networks (Some word.now)) }
+    ensures { Answers fault_told (λ set. set) result
+        (SetGiven path.now definitions.now.networks (Some word.now)) }
 {
     match networks_of(alloc, definitions, Family::V4, word.text.as_slice()) {
         Ok(set) => Ok(set),
@@ -49,7 +50,8 @@ fn addresses_of(
     path: &str,
     side: Option<&Word>,
 ) -> Result<RangeSet, Rejection>
-    ensures { Answers fault_told (λ set. set) result (SetGiven path.now definitions.now.networks (option_copied side.entry)) }
+    ensures { Answers fault_told (λ set. set) result
+        (SetGiven path.now definitions.now.networks (option_copied side.entry)) }
 {
     match side {
         None => Ok(RangeSet::all(alloc, Family::V4.top_address())?),
@@ -64,14 +66,16 @@ fn prefixes_of(
     path: &str,
     side: Option<&Word>,
 ) -> Result<Prefixes, Rejection>
-    ensures { Answers fault_told (λ prefixes. prefixes) result (SideGiven path.now definitions.now.networks (option_copied side.entry)) }
+    ensures { Answers fault_told (λ prefixes. prefixes) result
+        (SideGiven path.now definitions.now.networks (option_copied side.entry)) }
 {
     let set = addresses_of(alloc, definitions, path, side)?;
     Ok(least_prefixes(alloc, &set, Family::V4)?)
 }
 
 fn rule_of(alloc: Global, definitions: &Checked, path: &str, term: &Term) -> Result<Rule, Rejection>
-    ensures { Answers fault_told (λ rule. rule) result (RuleGiven path.now definitions.now.networks term.now) }
+    ensures { Answers fault_told (λ rule. rule) result
+        (RuleGiven path.now definitions.now.networks term.now) }
 {
     let src = prefixes_of(alloc, definitions, path, term.source.as_ref())?;
     let dst = prefixes_of(alloc, definitions, path, term.destination.as_ref())?;
@@ -93,7 +97,8 @@ pub fn rules_of(
     path: &str,
     terms: &[Term],
 ) -> Result<Rules, Rejection>
-    ensures { Answers fault_told (λ rules. rules) result (RulesGiven path.now definitions.now.networks terms.now) }
+    ensures { Answers fault_told (λ rules. rules) result
+        (RulesGiven path.now definitions.now.networks terms.now) }
 {
     let mut rules = Rules::new(alloc);
     for term in terms {

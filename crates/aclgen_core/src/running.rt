@@ -60,11 +60,14 @@ pub fn aclgen<T: Tree, O: Sink, E: Sink, C: Clock>(
 
     // Each failure outside has its cause, and comes only where that call is made.
     ensures list_failed { result ≡ Ended.Outside Which.List
-        → Rose (T.list_faults tree.old) (T.list_faults tree.new) × IsSome (options_of (map string_bytes words.now)) }
+        → Rose (T.list_faults tree.old) (T.list_faults tree.new)
+        × IsSome (options_of (map string_bytes words.now)) }
     ensures read_failed { result ≡ Ended.Outside Which.Read
-        → Rose (T.read_faults tree.old) (T.read_faults tree.new) × IsSome (options_of (map string_bytes words.now)) }
+        → Rose (T.read_faults tree.old) (T.read_faults tree.new)
+        × IsSome (options_of (map string_bytes words.now)) }
     ensures write_failed { result ≡ Ended.Outside Which.Write
-        → Rose (T.faults tree.old) (T.faults tree.new) × IsSome (options_of (map string_bytes words.now))
+        → Rose (T.faults tree.old) (T.faults tree.new)
+        × IsSome (options_of (map string_bytes words.now))
         × IfSome (T.files tree.old) (λ files. IsPlanned (map string_bytes words.now) files) }
     ensures out_failed { result ≡ Ended.Outside Which.Out
         → Rose (O.faults out.old) (O.faults out.new)
@@ -77,7 +80,8 @@ pub fn aclgen<T: Tree, O: Sink, E: Sink, C: Clock>(
     // Refusals are exact.
     ensures usage { result ≡ Ended.Usage → options_of (map string_bytes words.now) ≡ None }
     ensures rejected { IfRejected result (λ fault. IsSome (options_of (map string_bytes words.now))
-        × IfSome (T.files tree.old) (λ files. IsJob (map string_bytes words.now) files (Some (Err fault)))) }
+        × IfSome (T.files tree.old)
+        (λ files. IsJob (map string_bytes words.now) files (Some (Err fault)))) }
 
     // The headline.
     ensures done { IfSome (T.files tree.old) (λ files. OnDone result ((plan : Plan)
@@ -87,18 +91,28 @@ pub fn aclgen<T: Tree, O: Sink, E: Sink, C: Clock>(
         × (E.told err.new ≡ E.told err.old))) }
 
     // What is printed is exact.
-    ensures usage_told { result ≡ Ended.Usage → E.told err.new ≡ option_map (λ b. b ++ usage_line) (E.told err.old) }
-    ensures fault_told { IfRejected result (λ fault. E.told err.new ≡ option_map (λ b. b ++ fault_line fault) (E.told err.old)) }
-    ensures list_told { result ≡ Ended.Outside Which.List → Tried E.told E.faults E.refusals err.old err.new (outside_line Which.List) }
-    ensures read_told { result ≡ Ended.Outside Which.Read → Tried E.told E.faults E.refusals err.old err.new (outside_line Which.Read) }
-    ensures write_told { result ≡ Ended.Outside Which.Write → Tried E.told E.faults E.refusals err.old err.new (outside_line Which.Write) }
-    ensures out_told { result ≡ Ended.Outside Which.Out → Tried E.told E.faults E.refusals err.old err.new (outside_line Which.Out) }
-    ensures err_told { result ≡ Ended.Outside Which.Err → IfSome (T.files tree.old) (λ files. (line : List ℕ)
-        × IsRefusalLine (map string_bytes words.now) files line × BothTell (E.told err.old) (E.told err.new) (AddsFront line)) }
+    ensures usage_told { result ≡ Ended.Usage
+        → E.told err.new ≡ option_map (λ b. b ++ usage_line) (E.told err.old) }
+    ensures fault_told { IfRejected result
+        (λ fault. E.told err.new ≡ option_map (λ b. b ++ fault_line fault) (E.told err.old)) }
+    ensures list_told { result ≡ Ended.Outside Which.List
+        → Tried E.told E.faults E.refusals err.old err.new (outside_line Which.List) }
+    ensures read_told { result ≡ Ended.Outside Which.Read
+        → Tried E.told E.faults E.refusals err.old err.new (outside_line Which.Read) }
+    ensures write_told { result ≡ Ended.Outside Which.Write
+        → Tried E.told E.faults E.refusals err.old err.new (outside_line Which.Write) }
+    ensures out_told { result ≡ Ended.Outside Which.Out
+        → Tried E.told E.faults E.refusals err.old err.new (outside_line Which.Out) }
+    ensures err_told { result ≡ Ended.Outside Which.Err
+        → IfSome (T.files tree.old) (λ files. (line : List ℕ)
+        × IsRefusalLine (map string_bytes words.now) files line
+        × BothTell (E.told err.old) (E.told err.new) (AddsFront line)) }
 
     // Where nothing failed outside, the ending is the one that the job asks for.
-    ensures complete { NoneRose (T.list_faults tree.old) (T.list_faults tree.new) (T.read_faults tree.old) (T.read_faults tree.new)
-        (T.faults tree.old) (T.faults tree.new) (O.faults out.old) (O.faults out.new) (E.faults err.old) (E.faults err.new)
+    ensures complete { NoneRose (T.list_faults tree.old) (T.list_faults tree.new)
+        (T.read_faults tree.old) (T.read_faults tree.new)
+        (T.faults tree.old) (T.faults tree.new) (O.faults out.old) (O.faults out.new)
+        (E.faults err.old) (E.faults err.new)
         → IfSome (T.files tree.old) (λ files. EndsAsAsked (map string_bytes words.now) files result) }
 {
     let Some(options) = options_of(words) else {

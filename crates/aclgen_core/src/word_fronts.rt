@@ -51,7 +51,8 @@ pub fn is_end(words: &[Word]) -> bool
 /// The name behind the keyword, where the keyword stands.
 #[tactic(auto, unfolding(crate::specs::NarrowPolicies::address_item))]
 pub fn address_item<'a>(words: &'a [Word], key: &[u8]) -> Option<(Option<&'a Word>, &'a [Word])>
-    ensures { option_map (λ p. (option_copied p.0, p.1.now)) result ≡ address_item key.now words.now }
+    ensures { option_map (λ p. (option_copied p.0, p.1.now)) result
+        ≡ address_item key.now words.now }
 {
     match keyword(words, key) {
         None => Some((None, words)),
