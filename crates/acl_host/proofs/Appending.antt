@@ -59,7 +59,7 @@ pub puts-held : (old new : MemTree) (b : List ℕ) → IsSome (begun_of old)
     → (contents new).files ≡ append_begun (begun_of old) b (contents old).files
     → begun_of new ≡ begun_of old
     → new.faults ≡ old.faults → new.refusals ≡ old.refusals → new.list_faults ≡ old.list_faults
-        → new.read_faults ≡ old.read_faults → PutsInMemory old new b done
+    → new.read_faults ≡ old.read_faults → PutsInMemory old new b done
 puts-held old new b is files begun faults refusals lists reads = record {
   ok = rw (begun, files) (told-append (begun_of old) b (contents old).files is);
   err = tt;
@@ -86,11 +86,13 @@ not-failed h = cc
 pub begins-held : (old new : MemTree) (p : List ℕ)
     → (contents new).files ≡ put_at p [] (contents old).files → begun_of new ≡ Some p
     → new.faults ≡ old.faults → new.refusals ≡ old.refusals → new.list_faults ≡ old.list_faults
-        → new.read_faults ≡ old.read_faults → BeginsInMemory old new p begun
+    → new.read_faults ≡ old.read_faults → BeginsInMemory old new p begun
 begins-held old new p files is faults refusals lists reads = record {
   ok = is;
-  made = rw files (record { empty = held-put p [] (contents old).files;
-      others = others-put p [] (contents old).files });
+  made = rw files (record {
+    empty = held-put p [] (contents old).files;
+    others = others-put p [] (contents old).files;
+  });
   err = tt;
   left = tt;
   lists_stay = lists;

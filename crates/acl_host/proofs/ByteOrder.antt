@@ -14,48 +14,48 @@ module _ {X : Type 0} (bytes : X → List ℕ) where
   names-from xs i x within is =
       let long : i < length (map bytes xs) = rw length-map within in
       let at : get_or (map bytes xs) i (bytes x) ≡ bytes x =
-          get_or-map bytes xs i x (bytes x) within ∙ ap bytes (sym is) in
+      get_or-map bytes xs i x (bytes x) within ∙ ap bytes (sym is) in
       rw add-one (drop-cons (map bytes xs) i (bytes x) long
-          ∙ ap (λ (n : List ℕ). n ∷ drop (suc i) (map bytes xs)) at)
+      ∙ ap (λ (n : List ℕ). n ∷ drop (suc i) (map bytes xs)) at)
 
   names-up-to : (xs : List X) (i : ℕ) (x : X) → i < length xs → x ≡ get_or xs i x
       → take (i + 1) (map bytes xs) ≡ take i (map bytes xs) ++ bytes x ∷ []
   names-up-to xs i x within is =
       let long : i < length (map bytes xs) = rw length-map within in
       let at : get_or (map bytes xs) i (bytes x) ≡ bytes x =
-          get_or-map bytes xs i x (bytes x) within ∙ ap bytes (sym is) in
+      get_or-map bytes xs i x (bytes x) within ∙ ap bytes (sym is) in
       rw add-one (take-suc (map bytes xs) i (bytes x) long
-          ∙ ap (λ (n : List ℕ). take i (map bytes xs) ++ n ∷ []) at)
+      ∙ ap (λ (n : List ℕ). take i (map bytes xs) ++ n ∷ []) at)
 
   pub place-found : (name : List ℕ) (xs : List X) (i : ℕ) (x : X) → i < length xs
       → x ≡ get_or xs i x → is_le (slice_cmp nat_cmp name (bytes x)) ≡ true
       → put_in_order name (map bytes xs) ≡ take i (map bytes xs)
-          ++ put_in_order name (drop i (map bytes xs))
-          → insert (map bytes xs) i name ≡ put_in_order name (map bytes xs)
+      ++ put_in_order name (drop i (map bytes xs))
+      → insert (map bytes xs) i name ≡ put_in_order name (map bytes xs)
   place-found name xs i x within is first before =
       let from = names-from xs i x within is in
       let put : put_in_order name (bytes x ∷ drop (i + 1) (map bytes xs))
-          ≡ name ∷ bytes x ∷ drop (i + 1) (map bytes xs) = rw first refl in
+      ≡ name ∷ bytes x ∷ drop (i + 1) (map bytes xs) = rw first refl in
       sym (before ∙ ap (λ t. take i (map bytes xs) ++ put_in_order name t) from
-          ∙ ap (λ t. take i (map bytes xs) ++ t) put
-          ∙ ap (λ t. take i (map bytes xs) ++ name ∷ t) (sym from))
+      ∙ ap (λ t. take i (map bytes xs) ++ t) put
+      ∙ ap (λ t. take i (map bytes xs) ++ name ∷ t) (sym from))
 
   pub place-later : (name : List ℕ) (xs : List X) (i : ℕ) (x : X) → i < length xs
       → x ≡ get_or xs i x → is_le (slice_cmp nat_cmp name (bytes x)) ≡ false
       → put_in_order name (map bytes xs) ≡ take i (map bytes xs)
-          ++ put_in_order name (drop i (map bytes xs))
+      ++ put_in_order name (drop i (map bytes xs))
       → put_in_order name (map bytes xs) ≡ take (i + 1) (map bytes xs)
-          ++ put_in_order name (drop (i + 1) (map bytes xs))
+      ++ put_in_order name (drop (i + 1) (map bytes xs))
   place-later name xs i x within is later before =
       let from = names-from xs i x within is in
       let put : put_in_order name (bytes x ∷ drop (i + 1) (map bytes xs))
-          ≡ bytes x ∷ put_in_order name (drop (i + 1) (map bytes xs)) = rw later refl in
+      ≡ bytes x ∷ put_in_order name (drop (i + 1) (map bytes xs)) = rw later refl in
       before ∙ ap (λ t. take i (map bytes xs) ++ put_in_order name t) from
-          ∙ ap (λ t. take i (map bytes xs) ++ t) put
+      ∙ ap (λ t. take i (map bytes xs) ++ t) put
       ∙ sym (append_assoc (take i (map bytes xs)) (bytes x ∷ [])
-          (put_in_order name (drop (i + 1) (map bytes xs))))
+      (put_in_order name (drop (i + 1) (map bytes xs))))
       ∙ ap (λ t. t ++ put_in_order name (drop (i + 1) (map bytes xs)))
-          (sym (names-up-to xs i x within is))
+      (sym (names-up-to xs i x within is))
 
   pub bytes-insert : (xs : List X) (i : ℕ) (x : X)
       → map bytes (insert xs i x) ≡ insert (map bytes xs) i (bytes x)
@@ -73,4 +73,4 @@ sorted-bytes bytes cmp (x ∷ xs) s = λ k d low h.
     let long : k + 1 < length (x ∷ xs) = rw length-map at h in
     let short : k < length (x ∷ xs) = omega arith in
     rw (get_or-map bytes (x ∷ xs) (k + 1) x d long, get_or-map bytes (x ∷ xs) k x d short)
-        (s k x low long)
+    (s k x low long)

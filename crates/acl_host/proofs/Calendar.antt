@@ -21,8 +21,14 @@ le_true : (a b : ℕ) → a ≤ b → nat_le a b ≡ true
 le_true a b h = grind (arith, nat_tests)
 
 pub real_is_real : (y m d : ℕ) → IsRealDate y m d → is_real y m d ≡ true
-real_is_real y m d r = rw (le_true 1 y r.year_from, le_true 1 m r.month_from, le_true m 12
-    r.month_to, le_true 1 d r.day_from, le_true d (days_in_month (pos y) m) r.day_to) refl
+real_is_real y m d r = rw (
+  le_true 1 y r.year_from,
+  le_true 1 m r.month_from,
+  le_true m 12
+      r.month_to,
+  le_true 1 d r.day_from,
+  le_true d (days_in_month (pos y) m) r.day_to,
+) refl
 
 real_from_IsDate : (y m d : ℕ) → y ≢ 0 → IsDate (pos y) (pos m) (pos d) → IsRealDate y m d
 real_from_IsDate y m d h e = record {
@@ -38,7 +44,7 @@ real_from_IsDate y m d h e = record {
 pub real_answer : (y m d : ℕ) (year : ℤ) (month day : ℕ) (n : ℤ) → year ≡ pos y → pos month ≡ pos m
     → pos day ≡ pos d
     → n ≡ days_from_civil year month day → y ≢ 0 → IsDate (pos y) (pos m) (pos d)
-        → Some n ≡ real_day y m d
+    → Some n ≡ real_day y m d
 real_answer y m d year month day n ye me de ne h real =
     let same_month : month ≡ m = cc in
     let same_day : day ≡ d = cc in
@@ -76,21 +82,27 @@ number_from_year_1 y m d h day =
 pub number_of_parts : (y m d : ℕ) (year : ℤ) (month day : ℕ) (n : ℤ) → year ≡ pos y
     → pos month ≡ pos m → pos day ≡ pos d
     → n ≡ days_from_civil year month day → y ≢ 0 → IsDate (pos y) (pos m) (pos d)
-        → negsuc 719161 ≤ℤ n
+    → negsuc 719161 ≤ℤ n
 number_of_parts y m d year month day n ye me de ne h real =
     let same_month : month ≡ m = cc in
     let same_day : day ≡ d = cc in
     let number : n ≡ days_from_civil (pos y) m d = cc in
     let r = real_from_IsDate y m d h real in
     subst (λ (z : ℤ). negsuc 719161 ≤ℤ z) (sym number)
-        (number_from_year_1 y m d r.year_from r.day_from)
+    (number_from_year_1 y m d r.year_from r.day_from)
 
 -- a day from the first of the year 1 on lies in a year from 1 on
 pub year_from_1 : (year : ℤ) (month day : ℕ) → IsCivilDate year month day
     → negsuc 719161 ≤ℤ days_from_civil year month day → pos 1 ≤ℤ year
 year_from_1 year month day real h = by_lt_z {P = pos 1 ≤ℤ year} year (pos 1)
-    (λ before. absurd (omega (arith, ints, year_1_count, day_count-lt_year year month day
-        (pos 1) 1 1 real (omega arith) before, days_from_civil-day_count year month day)))
+    (λ before. absurd (omega (
+      arith,
+      ints,
+      year_1_count,
+      day_count-lt_year year month day
+          (pos 1) 1 1 real (omega arith) before,
+      days_from_civil-day_count year month day,
+    )))
     (λ later. later)
 
 abbrev pair : ℕ → ℕ → ℕ × ℕ
@@ -117,8 +129,13 @@ year_passed : (first y m d days : ℕ) → IsRealDate y m d → first < y
 year_passed first y m d days r h e =
     let from : neg_ℤ (pos 10000) ≤ℤ pos first = omega (arith, ints) in
     let later : pos first <ℤ pos y = omega (arith, ints) in
-    omega (arith, r.day_from, day_count-later_year (pos first)
-        (pos y) from later, day_count-day_of_year (pos y) m d r.day_from)
+    omega (
+      arith,
+      r.day_from,
+      day_count-later_year (pos first)
+          (pos y) from later,
+      day_count-day_of_year (pos y) m d r.day_from,
+    )
 
 -- the days of the year before a day of it
 year_here : (y m d days : ℕ) → IsRealDate y m d
@@ -126,7 +143,7 @@ year_here : (y m d days : ℕ) → IsRealDate y m d
     → (days ≡ day_of_year (pos y) m d - 1) × (days < days_in_year (pos y))
 year_here y m d days r e =
     let one : days + 1 ≡ day_of_year (pos y) m d =
-        omega (arith, day_count-day_of_year (pos y) m d r.day_from) in
+    omega (arith, day_count-day_of_year (pos y) m d r.day_from) in
     (omega arith, omega (arith, day_of_year_bound (pos y) m d (civil y m d r)))
 
 year_at : (first y m d days : ℕ) → IsRealDate y m d
@@ -134,7 +151,7 @@ year_at : (first y m d days : ℕ) → IsRealDate y m d
     → (days ≡ day_of_year (pos y) m d - 1) × (days < days_in_year (pos first))
 year_at first y m d days r e q =
     let here = year_here y m d days r
-        (subst (λ (k : ℕ). days + day_count (pos k) 1 1 ≡ day_count (pos y) m d) q e) in
+    (subst (λ (k : ℕ). days + day_count (pos k) 1 1 ≡ day_count (pos y) m d) q e) in
     (here.0, subst (λ (k : ℕ). days < days_in_year (pos k)) (sym q) here.1)
 
 next_year : (first y m d days : ℕ) → days_in_year (pos first) ≤ days
@@ -147,37 +164,41 @@ next_year first y m d days h e =
 -- counting off whole years finds the year, and the days of it before the day
 years_counted : (more first y m d days : ℕ) → IsRealDate y m d → first ≤ y → y < first + more
     → days + day_count (pos first) 1 1 ≡ day_count (pos y) m d
-        → count_years more first days ≡ pair y (day_of_year (pos y) m d - 1)
+    → count_years more first days ≡ pair y (day_of_year (pos y) m d - 1)
 unfolding count_years
 years_counted zero first y m d days r low high e = absurd (omega arith)
 years_counted (suc more) first y m d days r low high e =
     elim (nat_lt days (days_in_year (pos first))) as
-        (λ v. nat_lt days (days_in_year (pos first)) ≡ v
+    (λ v. nat_lt days (days_in_year (pos first)) ≡ v
     → (if v then (first, days) else count_years more (first + 1) (days - days_in_year (pos first)))
-        ≡ pair y (day_of_year (pos y) m d - 1)) [
+    ≡ pair y (day_of_year (pos y) m d - 1)) [
       | true ↦ λ t.
           let inside : days < days_in_year (pos first) = grind (arith, nat_tests) in
           let not_later : first < y → ⊥ = λ h. omega (arith, year_passed first y m d days r h e) in
           let same : first ≡ y = same_below first y low not_later in
           same_pair first days y (day_of_year (pos y) m d - 1) same
-              (year_at first y m d days r e same).0
+          (year_at first y m d days r e same).0
       | false ↦ λ t.
           let whole : days_in_year (pos first) ≤ days = grind (arith, nat_tests) in
           let not_here : y ≤ first → ⊥ = λ h. let q : first ≡ y = omega arith in
-              omega (arith, (year_at first y m d days r e q).1) in
+          omega (arith, (year_at first y m d days r e q).1) in
           let later : first + 1 ≤ y = next_below first y low not_here in
           let bound : y < first + 1 + more = omega arith in
           years_counted more (first + 1) y m d (days - days_in_year (pos first)) r later bound
-              (next_year first y m d days whole e)
+          (next_year first y m d days whole e)
     ] refl
 
 month_passed : (y first m d days : ℕ) → 1 ≤ first → first < m → 1 ≤ d
     → days + days_of_months (pos y) (first - 1) + 1 ≡ days_of_months (pos y) (m - 1) + d
-        → days_in_month (pos y) first ≤ days
+    → days_in_month (pos y) first ≤ days
 month_passed y first m d days one h from e =
     let before : first ≤ m - 1 = omega arith in
-    omega (arith, days_of_months_more (pos y) first one, days_of_months_mono (pos y) first
-        (m - 1) before)
+    omega (
+      arith,
+      days_of_months_more (pos y) first one,
+      days_of_months_mono (pos y) first
+          (m - 1) before,
+    )
 
 month_at : (y first m d days : ℕ) → d ≤ days_in_month (pos y) m → 1 ≤ d → first ≡ m
     → days + days_of_months (pos y) (first - 1) + 1 ≡ days_of_months (pos y) (m - 1) + d
@@ -185,14 +206,14 @@ month_at : (y first m d days : ℕ) → d ≤ days_in_month (pos y) m → 1 ≤ 
 month_at y first m d days to from q e =
     let here : days + days_of_months (pos y) (m - 1) + 1 ≡ days_of_months (pos y) (m - 1) + d =
     subst (λ (k : ℕ). days + days_of_months (pos y) (k - 1) + 1
-        ≡ days_of_months (pos y) (m - 1) + d) q e in
+    ≡ days_of_months (pos y) (m - 1) + d) q e in
     let below : days < days_in_month (pos y) m = omega arith in
     (omega arith, subst (λ (k : ℕ). days < days_in_month (pos y) k) (sym q) below)
 
 next_month : (y first m d days : ℕ) → 1 ≤ first → days_in_month (pos y) first ≤ days
     → days + days_of_months (pos y) (first - 1) + 1 ≡ days_of_months (pos y) (m - 1) + d
     → days - days_in_month (pos y) first + days_of_months (pos y) (first + 1 - 1) + 1
-        ≡ days_of_months (pos y) (m - 1) + d
+    ≡ days_of_months (pos y) (m - 1) + d
 next_month y first m d days one h e =
     let same : first + 1 - 1 ≡ first = omega arith in
     rw same (omega (arith, days_of_months_more (pos y) first one))
@@ -201,31 +222,30 @@ next_month y first m d days one h e =
 months_counted : (more y first m d days : ℕ) → 1 ≤ first → first ≤ m → m < first + more → 1 ≤ d
     → d ≤ days_in_month (pos y) m
     → days + days_of_months (pos y) (first - 1) + 1 ≡ days_of_months (pos y) (m - 1) + d
-        → count_months more y first days ≡ pair m (d - 1)
+    → count_months more y first days ≡ pair m (d - 1)
 unfolding count_months
 months_counted zero y first m d days one low high from to e = absurd (omega arith)
 months_counted (suc more) y first m d days one low high from to e =
     elim (nat_lt days (days_in_month (pos y) first)) as
-        (λ v. nat_lt days (days_in_month (pos y) first) ≡ v
+    (λ v. nat_lt days (days_in_month (pos y) first) ≡ v
     → (if v then (first, days)
-        else count_months more y (first + 1) (days - days_in_month (pos y) first)) ≡ pair m (d - 1))
-        [
+    else count_months more y (first + 1) (days - days_in_month (pos y) first)) ≡ pair m (d - 1)) [
       | true ↦ λ t.
           let inside : days < days_in_month (pos y) first = grind (arith, nat_tests) in
           let not_later : first < m
-              → ⊥ = λ h. omega (arith, month_passed y first m d days one h from e) in
+          → ⊥ = λ h. omega (arith, month_passed y first m d days one h from e) in
           let same : first ≡ m = same_below first m low not_later in
           same_pair first days m (d - 1) same (month_at y first m d days to from same e).0
       | false ↦ λ t.
           let whole : days_in_month (pos y) first ≤ days = grind (arith, nat_tests) in
           let not_here : m ≤ first → ⊥ = λ h. let q : first ≡ m = omega arith in
-              omega (arith, (month_at y first m d days to from q e).1) in
+          omega (arith, (month_at y first m d days to from q e).1) in
           let later : first + 1 ≤ m = next_below first m low not_here in
           let bound : m < first + 1 + more = omega arith in
           let start : 1 ≤ first + 1 = omega arith in
           months_counted more y (first + 1) m d
-              (days - days_in_month (pos y) first) start later bound from to
-              (next_month y first m d days one whole e)
+          (days - days_in_month (pos y) first) start later bound from to
+          (next_month y first m d days one whole e)
     ] refl
 
 -- the days since the first day of the year 1
@@ -233,8 +253,13 @@ since_year_1 : (y m d : ℕ) → IsRealDate y m d
     → days_since_year_1 (days_from_civil (pos y) m d) + day_count (pos 1) 1 1
     ≡ day_count (pos y) m d
 since_year_1 y m d r =
-    omega (arith, ints, year_1_count, count_from_year_1 y m d r.year_from r.day_from,
-        days_from_civil-day_count (pos y) m d)
+    omega (
+      arith,
+      ints,
+      year_1_count,
+      count_from_year_1 y m d r.year_from r.day_from,
+      days_from_civil-day_count (pos y) m d,
+    )
 
 year_found : (y m d : ℕ) → IsRealDate y m d
     → count_years 9999 1 (days_since_year_1 (days_from_civil (pos y) m d))
@@ -242,18 +267,18 @@ year_found : (y m d : ℕ) → IsRealDate y m d
 year_found y m d r =
     let bound : y < 1 + 9999 = omega (arith, r.year_to) in
     years_counted 9999 1 y m d (days_since_year_1 (days_from_civil (pos y) m d)) r r.year_from bound
-        (since_year_1 y m d r)
+    (since_year_1 y m d r)
 
 month_found : (y m d : ℕ) → IsRealDate y m d
     → count_months 12 y 1 (day_of_year (pos y) m d - 1) ≡ pair m (d - 1)
 month_found y m d r =
     let bound : m < 1 + 12 = omega (arith, r.month_to) in
     let start : day_of_year (pos y) m d - 1 + days_of_months (pos y) (1 - 1) + 1
-        ≡ days_of_months (pos y) (m - 1) + d =
+    ≡ days_of_months (pos y) (m - 1) + d =
     omega (arith, r.day_from, days_of_months-zero (pos y)) in
     let one : 1 ≤ 1 = omega arith in
     months_counted 12 y 1 m d
-        (day_of_year (pos y) m d - 1) one r.month_from bound r.day_from r.day_to start
+    (day_of_year (pos y) m d - 1) one r.month_from bound r.day_from r.day_to start
 
 -- the text of a real date's day is the date's digits
 pub text_of_real : (y m d : ℕ) → IsRealDate y m d
@@ -280,8 +305,15 @@ real_is_read y m d r =
     let month : m < 100 = omega (arith, r.month_to) in
     let day : d < 100 = omega (arith, r.day_to, (days_in_month_bounds (pos y) m).0) in
     let year : y / 100 * 100 + y % 100 ≡ y = omega arith in
-    rw (two_back (y / 100) short, two_back
-        (y % 100) rest, two_back m month, two_back d day, year, real_is_real y m d r) refl
+    rw (
+      two_back (y / 100) short,
+      two_back
+          (y % 100) rest,
+      two_back m month,
+      two_back d day,
+      year,
+      real_is_real y m d r,
+    ) refl
 
 -- a day from the first of the year 1 on, by the parts of its date
 pub record IsDayOf (year : ℤ) (month day : ℕ) (number : ℤ) : Type 0 where
@@ -299,10 +331,10 @@ pub day_of_parts : (year : ℤ) (month day : ℕ) (number : ℤ) → IsCivilDate
     → IsDayOf year month day number
 day_of_parts year month day number real e h =
     let from : pos 1 ≤ℤ year =
-        year_from_1 year month day real (subst (λ (z : ℤ). negsuc 719161 ≤ℤ z) (sym e) h) in
+    year_from_1 year month day real (subst (λ (z : ℤ). negsuc 719161 ≤ℤ z) (sym e) h) in
     let y : year ≡ pos (unsigned_abs year) = whole_year year from in
     let bounds : IsCivilDate (pos (unsigned_abs year)) month day =
-        subst (λ (z : ℤ). IsCivilDate z month day) y real in
+    subst (λ (z : ℤ). IsCivilDate z month day) y real in
     let first : pos 1 ≤ℤ pos (unsigned_abs year) = subst (λ (z : ℤ). pos 1 ≤ℤ z) y from in
     record {
       whole = unsigned_abs year;
@@ -355,5 +387,5 @@ pub day_of_date : (year : ℤ) (month day : ℕ) (number wide : ℤ) → IsCivil
 day_of_date year month day number wide real e w l h =
     let narrow : wide ≡ number = w ∙ same_in_32 number l h in
     let same : to_z w64 (of_z w64 wide) ≡ number = ap (λ (z : ℤ). to_z w64 (of_z w64 z)) narrow
-        ∙ same_in_64 number l h in
+    ∙ same_in_64 number l h in
     day_of_parts year month day number real (e ∙ same) l

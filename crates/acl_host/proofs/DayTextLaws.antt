@@ -61,7 +61,7 @@ real-found y m d n h e =
     let p = guarded (is_real y m d) (Some (days_from_civil (pos y) m d)) n e in
     let last = days_in_month (pos y) m in
     let parts = and_parts (nat_le 1 y && (nat_le 1 m && nat_le m 12))
-        (nat_le 1 d && nat_le d last) p.0 in
+    (nat_le 1 d && nat_le d last) p.0 in
     let front = and_parts (nat_le 1 y) (nat_le 1 m && nat_le m 12) parts.0 in
     let month = and_parts (nat_le 1 m) (nat_le m 12) front.1 in
     let day = and_parts (nat_le 1 d) (nat_le d last) parts.1 in
@@ -84,8 +84,20 @@ dated : (c0 c1 y0 y1 s m0 m1 t d0 d1 c y m d : ℕ) → AreTwo c0 c1 c → AreTw
 dated c0 c1 y0 y1 s m0 m1 t d0 d1 c y m d two_c two_y two_m two_d first second =
     let front : (c * 100 + y) / 100 ≡ c = omega (arith, two_y.small) in
     let rest : (c * 100 + y) % 100 ≡ y = omega (arith, two_y.small) in
-    rw (first, second, front, rest, two_c.tens, two_c.ones, two_y.tens, two_y.ones, two_m.tens,
-        two_m.ones, two_d.tens, two_d.ones) refl
+    rw (
+      first,
+      second,
+      front,
+      rest,
+      two_c.tens,
+      two_c.ones,
+      two_y.tens,
+      two_y.ones,
+      two_m.tens,
+      two_m.ones,
+      two_d.tens,
+      two_d.ones,
+    ) refl
 
 ten-found : (c0 c1 y0 y1 s m0 m1 t d0 d1 : ℕ) (n : ℤ) → s ≡ 45 → t ≡ 45
     → digits_day (c0 ∷ c1 ∷ y0 ∷ y1 ∷ s ∷ m0 ∷ m1 ∷ t ∷ d0 ∷ d1 ∷ []) ≡ Some n
@@ -137,7 +149,7 @@ unfolding day_in
 day-text-found word n e =
     let p = guarded (has_dashes word) (digits_day word) n e in
     let parts = and_parts (length word == 10 && get_or word 4 0 == 45)
-        (get_or word 7 0 == 45) p.0 in
+    (get_or word 7 0 == 45) p.0 in
     let front = and_parts (length word == 10) (get_or word 4 0 == 45) parts.0 in
     ten-bytes word n (eqb-true (length word) 10 front.0) (eqb-true (get_or word 4 0) 45 front.1)
     (eqb-true (get_or word 7 0) 45 parts.1) p.1

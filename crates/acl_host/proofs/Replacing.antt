@@ -164,14 +164,14 @@ pub written-in-place : (i : ℕ) (fs : List File) (p b : List ℕ) (was now : Fi
 written-in-place i fs p b was now d e same is =
     let name : was.0 ≡ (get_or fs i was).0 = ap (λ (f : File). f.0) same in
     ap (λ (f : File). set fs i f) (is ∙ ap (λ (q : List ℕ). (q, b)) name)
-        ∙ in-place i fs p b was d e
+    ∙ in-place i fs p b was d e
 
 pub appended-in-place : (i : ℕ) (fs : List File) (p b : List ℕ) (was now : File) → DistinctPaths fs
     → path_at i fs ≡ Some p → was ≡ get_or fs i was → now ≡ (was.0, was.1 ++ b)
     → set fs i now ≡ append_to p b fs
 appended-in-place i fs p b was now d e same is =
     ap (λ (f : File). set fs i f) (is ∙ ap (λ (f : File). (f.0, f.1 ++ b)) same)
-        ∙ append-set i fs p b was d e
+    ∙ append-set i fs p b was d e
 
 -- the same where the path of the index is looked up
 pub appended-at : (i : ℕ) (fs : List File) (b : List ℕ) (was now : File) → DistinctPaths fs
@@ -193,7 +193,7 @@ distinct-appended (Ok x) i fs b was now d there same ok err =
     rw (appended-at i fs b was now d there same ok) (distinct-begun (path_at i fs) b fs d)
 distinct-appended (Err x) i fs b was now d there same ok err =
     let stays : set fs i now ≡ fs = ap (λ (f : File). set fs i f) (err ∙ same)
-        ∙ set-get_or fs i was in
+    ∙ set-get_or fs i was in
     rw stays d
 
 -- a file that was added at the end

@@ -55,11 +55,11 @@ rest_same files begun lists reads =
 pub rest_joined : {first middle last : Option (List File)} {b1 b2 b3 : Option (List ℕ)}
     {l1 l2 l3 r1 r2 r3 : ℕ}
     → RestStays first middle b1 b2 l1 l2 r1 r2 → RestStays middle last b2 b3 l2 l3 r2 r3
-        → RestStays first last b1 b3 l1 l3 r1 r3
+    → RestStays first last b1 b3 l1 l3 r1 r3
 rest_joined {first = first} {middle = middle} {last = last} {b1 = b1} {b2 = b2} {b3 = b3} p q =
     record {
-  begun = begun-joined b1 b2 b3 p.begun q.begun;
-  lists = q.lists ∙ p.lists;
-  reads = q.reads ∙ p.reads;
-  others = others-joined b1 b2 first middle last p.begun p.others q.others;
-}
+      begun = begun-joined b1 b2 b3 p.begun q.begun;
+      lists = q.lists ∙ p.lists;
+      reads = q.reads ∙ p.reads;
+      others = others-joined b1 b2 first middle last p.begun p.others q.others;
+    }

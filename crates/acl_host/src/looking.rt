@@ -1,8 +1,8 @@
 ghost use Rattle.std.specs.Prelude.{◌≡◌, ◌≤◌, IfOk, IsErrOf, length, take};
 ghost use Rattle.acl_host.specs.Outside.{IsListing, IsReading};
 
-use crate::mem_names::{lies_behind, names_of};
 use crate::mem_files::MemFiles;
+use crate::mem_names::{lies_behind, names_of};
 use crate::paths::with_slash;
 use crate::trees::{FileNames, TreeFault};
 use acl_text::{Bytes, Memory};

@@ -27,8 +27,7 @@ pub struct MemTree {
     refusals: u64,
     list_faults: u64,
     read_faults: u64,
-    ghost begun_stands: { IfSome begun (λ i. IsSome (path_at i files.items.items)) }
-        by { within-prop begun files.items.items },
+    ghost begun_stands: { IfSome begun (λ i. IsSome (path_at i files.items.items)) } by { within-prop begun files.items.items },
 }
 
 impl MemTree {

@@ -1,11 +1,11 @@
 ghost use Rattle.std.specs.Prelude.{◌≡◌};
 
+use crate::disk::front_of;
 use crate::{
     Clock, ClockFault, Day, DiskTree, FixedClock, ListFault, MemSink, MemTree, Op, ReadFault, Sink,
     StdSink, Tree, TreeFault, Whole, WriteFault, join_path, listing, put_day, read_day, read_whole,
     write_file,
 };
-use crate::disk::front_of;
 use acl_text::{Code, Memory, Out};
 use std::alloc::Global;
 use std::io::{ErrorKind, Read};
@@ -13,7 +13,7 @@ use std::test::Fail;
 use std::{fs, io, process};
 
 // What the tree says of the folder: each name with a space behind it, or why there are none.
-fn listed<T: Tree>(alloc: Global, tree: &mut T, dir: &str) -> Result<String, Memory>
+fn names_text<T: Tree>(alloc: Global, tree: &mut T, dir: &str) -> Result<String, Memory>
     ensures { T.begun tree.new ≡ T.begun tree.old }
 {
     match tree.list(alloc, dir) {
@@ -272,7 +272,15 @@ fn a_long_file_is_written_and_read(rt: HostRuntime) -> Result<(), Fail> {
         path.as_str(),
         &[b"ab".as_slice(), b"c".as_slice(), behind.as_slice()],
     )?;
-    assert!(rt; reads(rt.alloc(), &mut tree, path.as_str(), usize::MAX, whole.as_slice()));
+    assert!(rt;
+        reads(
+            rt.alloc(),
+            &mut tree,
+            path.as_str(),
+            usize::MAX,
+            whole.as_slice()
+        )
+    );
     match whole.as_slice().get(..9000) {
         Some(front) => assert!(rt; reads(rt.alloc(), &mut tree, path.as_str(), 9000, front)),
         None => panic!(rt; "a short file"),

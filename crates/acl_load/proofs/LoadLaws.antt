@@ -34,7 +34,7 @@ unfolding listing
 paths_told None folder names paths e is = tt
 paths_told (Some files) folder names paths e is =
     is ∙ sym (ap (naming_paths folder)
-        (chosen (is_folder folder files) _ names (names_under folder files) e))
+    (chosen (is_folder folder files) _ names (names_under folder files) e))
 
 -- networks, then services
 kinds_read : (files : List File) (paths networks services : List (List ℕ)) (n : ℕ)
@@ -54,10 +54,10 @@ pub kinds_told : (told now : Option (List File)) (paths networks services : List
 kinds_told None now paths networks services n start base result same none is first second = tt
 kinds_told (Some files) now paths networks services n start base result same none is first second =
     let at_once = subst (λ t. IfSome t
-        (λ files. Gives read_told result (all_of paths Services n services files base))) same
-        second in
+    (λ files. Gives read_told result (all_of paths Services n services files base))) same
+    second in
     subst (λ expected. Gives read_told result expected)
-        (sym (kinds_read files paths networks services n start base none is first)) at_once
+    (sym (kinds_read files paths networks services n start base none is first)) at_once
 
 -- a folder that has not too many naming files
 few_files : (folder : List ℕ) (names : List (List ℕ)) (files : List File)
@@ -77,7 +77,7 @@ pub defined_told : (told now : Option (List File)) (folder : List ℕ)
     (names paths networks services : List (List ℕ)) (base : Naming) → now ≡ told
     → IfSome told (λ files. listing folder files ≡ Ok names)
     → paths ≡ naming_paths folder names → networks ≡ net_paths folder names
-        → services ≡ svc_paths folder names → length paths ≤ 4096
+    → services ≡ svc_paths folder names → length paths ≤ 4096
     → IfSome now (λ files. both_kinds paths networks services files ≡ Ok base)
     → IfSome told (λ files. definitions_of folder files ≡ Ok base)
 defined_told None now folder names paths networks services base same listed all front back few
@@ -85,10 +85,10 @@ defined_told None now folder names paths networks services base same listed all 
 defined_told (Some files) now folder names paths networks services base same listed all front back
     few read =
     let at_once : both_kinds paths networks services files ≡ Ok base =
-        subst (λ t. IfSome t (λ files. both_kinds paths networks services files ≡ Ok base)) same
-        read in
+    subst (λ t. IfSome t (λ files. both_kinds paths networks services files ≡ Ok base)) same
+    read in
     let few_paths : length (naming_paths folder names) ≤ 4096 =
-        subst (λ ps. length ps ≤ 4096) all few in
+    subst (λ ps. length ps ≤ 4096) all few in
     defined_read files folder names few_paths listed
     ∙ ap (λ ps. both_kinds ps (net_paths folder names) (svc_paths folder names) files) (sym all)
     ∙ ap (λ ns. both_kinds paths ns (svc_paths folder names) files) (sym front)

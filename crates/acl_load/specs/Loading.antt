@@ -126,4 +126,4 @@ AnswersWith paths (Ok naming) (Err fault) =
 abbrev pub Loads : List ℕ → List File → Result Naming Fault → Type 0
 Loads folder files answer =
     AnswersWith (naming_paths folder (names_under folder files))
-        (definitions_of folder files) answer
+    (definitions_of folder files) answer

@@ -64,7 +64,7 @@ fn read_definitions<T: Tree>(
         (λ answer. definitions_of folder.now files ≡ answer)) }
     ensures paths { IfSome (T.files tree.old) (λ files. IfOk result (λ read.
         map string_bytes read.paths.items
-            ≡ naming_paths folder.now (names_under folder.now files))) }
+        ≡ naming_paths folder.now (names_under folder.now files))) }
     ensures looks { OnlyListsAndReads T.files T.begun T.faults T.refusals
         T.list_faults T.read_faults tree.old tree.new }
     ensures list_failed { IsErrOf result LoadFault.List
@@ -98,7 +98,7 @@ fn read_all<T: Tree>(
     requires { length networks.now + length services.now ≤ 4096 }
     ensures gives { IfSome (T.files tree.old) (λ files. Gives read_told result
         (both_kinds (map string_bytes paths.now) (map string_bytes networks.now)
-            (map string_bytes services.now) files)) }
+        (map string_bytes services.now) files)) }
     ensures reads { OnlyReads T.files T.begun T.faults T.refusals T.list_faults T.read_faults
         tree.old tree.new }
     ensures outside { IsErrOf result ReadFault.Outside

@@ -45,7 +45,7 @@ fn push_paths(
 ) -> Result<(), AllocError>
     ensures { OnOk result (map string_bytes paths.new.items ≡ map string_bytes paths.old.items
         ++ map (join_path folder.now)
-            (filter (λ name. ends_with nat_eq name ending.now) (map string_bytes names.now))) }
+        (filter (λ name. ends_with nat_eq name ending.now) (map string_bytes names.now))) }
 {
     for name in names {
         if name.as_bytes().ends_with(ending) {

@@ -7,10 +7,10 @@ overflow_cast-date c =
     let z = c.in-Ok.date in
     let n = c.args.day in
     let r = day_of_date z.year z.month z.day n.number c.from.result
-        (z.year_in, z.month_in, z.day_in) c.in-Ok.ensures.value c.from.ensures n.from_year_1
-        n.to_year_9999 in
+    (z.year_in, z.month_in, z.day_in) c.in-Ok.ensures.value c.from.ensures n.from_year_1
+    n.to_year_9999 in
     let cast : to_z w16 (of_z w16 z.year) ≡ pos r.whole =
-        year_cast z.year r.whole r.year_is r.real.year_to in
+    year_cast z.year r.whole r.year_is r.real.year_to in
     rw cast (tt, record { fits = omega (arith, r.real.year_to) })
 
 pub returns-clause-text : goal.returns-clause-text
@@ -18,10 +18,10 @@ returns-clause-text c =
     let z = c.in-Ok.date in
     let n = c.args.day in
     let r = day_of_date z.year z.month z.day n.number c.from.result
-        (z.year_in, z.month_in, z.day_in) c.in-Ok.ensures.value c.from.ensures n.from_year_1
-        n.to_year_9999 in
+    (z.year_in, z.month_in, z.day_in) c.in-Ok.ensures.value c.from.ensures n.from_year_1
+    n.to_year_9999 in
     let cast : to_z w16 (of_z w16 z.year) ≡ pos r.whole =
-        year_cast z.year r.whole r.year_is r.real.year_to in
+    year_cast z.year r.whole r.year_is r.real.year_to in
     let text = rw cast at c.full_date.ensures in
     text ∙ text_of_day z.year z.month z.day n.number r
 
@@ -31,5 +31,5 @@ returns-clause-real c =
     let n = c.args.day in
     text_is_days z.year z.month z.day n.number
     (day_of_date z.year z.month z.day n.number c.from.result
-        (z.year_in, z.month_in, z.day_in) c.in-Ok.ensures.value c.from.ensures n.from_year_1
-        n.to_year_9999)
+    (z.year_in, z.month_in, z.day_in) c.in-Ok.ensures.value c.from.ensures n.from_year_1
+    n.to_year_9999)

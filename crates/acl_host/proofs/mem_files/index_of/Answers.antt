@@ -9,6 +9,6 @@ returns-then-is_at c =
     let file : File = c.index-files-i.result in
     let path : List ℕ = c.args.path.now in
     let same : file.0 ≡ path =
-        (bytes_eq-Decides file.0 path).0 (sym c.is_at.ensures ∙ c.if-is_at.true) in
+    (bytes_eq-Decides file.0 path).0 (sym c.is_at.ensures ∙ c.if-is_at.true) in
     path-of c.loop-i.i c.args.files.now file c.loop-i-test.true
-        ∙ ap (λ (f : File). Some f.0) (sym c.index-files-i.is) ∙ ap (λ (q : List ℕ). Some q) same
+    ∙ ap (λ (f : File). Some f.0) (sym c.index-files-i.is) ∙ ap (λ (q : List ℕ). Some q) same

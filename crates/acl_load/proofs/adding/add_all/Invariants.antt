@@ -1,4 +1,4 @@
-use Rattle.std.proofs.Common.{◌≡◌, ◌≤◌, ◌+◌, map, drop, IfSome}
+use Rattle.std.proofs.Common.{◌≡◌, ◌+◌, map, drop, IfSome}
 use Rattle.std.specs.String.{string_bytes}
 use Rattle.acl_host.specs.Outside.{OnlyReads}
 use Rattle.acl_load.specs.Loading.{all_of}

@@ -8,15 +8,15 @@ use Rattle.acl_load.proofs.loading.read_definitions.Goals as goal
 pub returns-clause-gives : goal.returns-clause-gives
 returns-clause-gives g c =
     defined_told _ _ _ _ (map string_bytes c.as_slice-all.result.now)
-        (map string_bytes c.split_at.result.0.now)
-        (map string_bytes c.split_at.result.1.now) _ c.listing.ensures.lists.looks.files_stay
-        c.in_ok-names.ensures.gives
+    (map string_bytes c.split_at.result.0.now)
+    (map string_bytes c.split_at.result.1.now) _ c.listing.ensures.lists.looks.files_stay
+    c.in_ok-names.ensures.gives
     (ap (map string_bytes) c.as_slice-all.ensures.value ∙ c.in_ok-paths.ensures.all
-        ∙ ap (naming_paths c.args.folder.now) c.as_slice.ensures)
+    ∙ ap (naming_paths c.args.folder.now) c.as_slice.ensures)
     (grind (arith, common_steps)) (grind (arith, common_steps))
-        (grind (arith, common_steps)) c.in_ok-base.ensures.gives
+    (grind (arith, common_steps)) c.in_ok-base.ensures.gives
 
 pub returns-clause-paths : goal.returns-clause-paths
 returns-clause-paths g c =
     paths_told _ _ _ _ c.in_ok-names.ensures.gives (c.in_ok-paths.ensures.all
-        ∙ ap (naming_paths c.args.folder.now) c.as_slice.ensures)
+    ∙ ap (naming_paths c.args.folder.now) c.as_slice.ensures)

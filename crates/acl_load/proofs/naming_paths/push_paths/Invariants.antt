@@ -8,5 +8,5 @@ abbrev pub invariant-loop-name : goal.invariant-loop-name
 invariant-loop-name l =
     map string_bytes l.paths.items ≡ map string_bytes l.initial.paths.items
     ++ map (join_path l.folder)
-        (filter (λ name. ends_with nat_eq name l.ending)
-        (map string_bytes (take l.name-index l.names)))
+    (filter (λ name. ends_with nat_eq name l.ending)
+    (map string_bytes (take l.name-index l.names)))

@@ -15,13 +15,13 @@ invariant_of-self c =
       distinct = distinct-appended c.append.result c.args.i files.items.items c.args.bytes.now
           c.index_mut-file.result.now c.append.new.self
           files.distinct c.requires c.index_mut-file.ensures.value c.append.ensures.ok
-              c.append.ensures.err;
+          c.append.ensures.err;
     }
 
 pub returns-clause-ok : goal.returns-clause-ok
 returns-clause-ok c =
     let files = c.args.self.now in
     on_ok_weaker c.append.result
-        (appended-at c.args.i files.items.items c.args.bytes.now c.index_mut-file.result.now
-        c.append.new.self files.distinct c.requires c.index_mut-file.ensures.value)
-        c.append.ensures.ok
+    (appended-at c.args.i files.items.items c.args.bytes.now c.index_mut-file.result.now
+    c.append.new.self files.distinct c.requires c.index_mut-file.ensures.value)
+    c.append.ensures.ok

@@ -11,8 +11,8 @@ returns-clause-ok c =
     let new = c.append.new.self.items.items in
     let appended = append_begun (path_at i fs) c.args.bytes.now fs in
     rw c.in-Some.is (on_ok_weaker c.append.result
-        (λ (e : new ≡ appended). rw (e, path-begun i (path_at i fs) c.args.bytes.now fs) refl)
-        c.append.ensures.ok)
+    (λ (e : new ≡ appended). rw (e, path-begun i (path_at i fs) c.args.bytes.now fs) refl)
+    c.append.ensures.ok)
 
 pub invariant_of-self : goal.invariant_of-self
 invariant_of-self c =
@@ -21,5 +21,5 @@ invariant_of-self c =
     record {
       begun_stands =
           rw c.in-Some.is (stands-appended c.append.result c.in-Some.i c.args.bytes.now fs
-              c.append.new.self.items.items stood c.append.ensures.ok c.append.ensures.err);
+          c.append.new.self.items.items stood c.append.ensures.ok c.append.ensures.err);
     }

@@ -9,7 +9,7 @@ invariant_of-self c =
     record {
       begun_stands =
           stands-put c.put.result tree.begun c.args.path.now c.in_ok-copy.copy
-              tree.files.items.items
+          tree.files.items.items
           c.put.new.self.items.items tree.begun_stands c.put.ensures.ok c.put.ensures.err;
     }
 
@@ -18,5 +18,5 @@ returns-clause-ok c =
     let tree = c.args.self.now in
     let files = tree.files.items.items in
     let put = c.in_ok-put.ensures.ok
-        ∙ ap (λ b. put_at c.args.path.now b files) c.in_ok-copy.ensures in
+    ∙ ap (λ b. put_at c.args.path.now b files) c.in_ok-copy.ensures in
     rw (put, begun-stays tree.begun c.args.path.now c.args.bytes.now files tree.begun_stands) refl

@@ -7,7 +7,7 @@ pub returns-in-Ok-clause-puts : goal.returns-in-Ok-clause-puts
 returns-in-Ok-clause-puts c =
     let now = c.in-Ok.ensures.ok in
     puts-held c.args.self.now c.append.new.self c.args.bytes.now c.requires
-        (ap (λ (t : TreeContents). t.files) now) (ap (λ (t : TreeContents). t.begun) now)
+    (ap (λ (t : TreeContents). t.files) now) (ap (λ (t : TreeContents). t.begun) now)
     (ap (λ (t : TreeContents). t.faults) now) (ap (λ (t : TreeContents). t.refusals) now)
-        (ap (λ (t : TreeContents). t.list_faults) now)
-        (ap (λ (t : TreeContents). t.read_faults) now)
+    (ap (λ (t : TreeContents). t.list_faults) now)
+    (ap (λ (t : TreeContents). t.read_faults) now)

@@ -7,5 +7,5 @@ pub returns-in-Ok-clause-begins : goal.returns-in-Ok-clause-begins
 returns-in-Ok-clause-begins c =
     let path = c.args.path.now in
     begins-held c.args.self.now _ path (c.in-Ok.ensures.ok
-        ∙ ap (λ b. put_at path b c.args.self.now.files.items.items) c.new.ensures)
-        c.in-Ok.ensures.at refl refl refl refl
+    ∙ ap (λ b. put_at path b c.args.self.now.files.items.items) c.new.ensures)
+    c.in-Ok.ensures.at refl refl refl refl

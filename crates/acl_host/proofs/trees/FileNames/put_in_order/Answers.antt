@@ -7,7 +7,7 @@ use Rattle.acl_host.proofs.trees.FileNames.put_in_order.Goals as goal
 pub returns-clause-ok : goal.returns-clause-ok
 returns-clause-ok c =
     let place = rw (c.as_slice.ensures.value, c.as_bytes.ensures.value) at
-        c.place_of-place.ensures.place in
+    c.place_of-place.ensures.place in
     ap (map string_bytes) c.in_ok-insert.ensures.items
     ∙ bytes-insert string_bytes c.self.inside.names.items c.place_of-place.result c.args.item
     ∙ place
