@@ -1,9 +1,1 @@
-pub mod DocumentLaws
-pub mod EntryLaws
-pub mod EntryParts
-pub mod EntryPlaces
-pub mod Fronts
-pub mod ListLaws
-pub mod SafeWords
-pub mod SectionSteps
-pub mod Wildcards
+pub mod CheckLaws

@@ -2,15 +2,13 @@
 //! packet.
 #![tactic(auto)]
 
+mod checks;
 mod documents;
-mod entries;
-mod laws;
-mod parsing;
-#[cfg(test)]
-mod tests;
+mod drafts;
+mod entry_drafts;
 mod walking;
+mod writing;
 
-pub use documents::{AccessList, AccessLists, Doc, Entry, Flags, Item, Items, Section};
-pub use laws::{a_text_has_one_document, joined_texts_spell_joined_documents};
-pub use parsing::read;
+pub use documents::{AccessList, Doc, Entry, Flags, Item, Section};
 pub use walking::{outcome, sections};
+pub use writing::{EntryRow, ListEnd, ListHead, RemarkRow, SectionHead};
