@@ -86,7 +86,7 @@ list_decides l = all_decides (is_item l.family) (IsItem l.family) (item_decides 
 
 -- ---- sections
 
-abbrev head_of : AccessList → Family × List ℕ
+abbrev pub head_of : AccessList → Family × List ℕ
 head_of l = (l.family, l.name)
 
 head_decides : (l : AccessList) (f : Family) (name : List ℕ) → Decides (is_headed l f name) (head_of l ≡ (f, name))

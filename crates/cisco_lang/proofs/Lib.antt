@@ -1,1 +1,4 @@
 pub mod CheckLaws
+pub mod DocumentLaws
+pub mod EntryReadingLaws
+pub mod SafeRows

@@ -14,6 +14,7 @@ use Rattle.acl_packet.specs.Decimals.{number_in}
 use Rattle.acl_packet.specs.Packets.{icmp_of}
 use Rattle.acl_text.specs.AddressTexts.{address_in, spelled_prefix_in}
 use Rattle.acl_grammar.specs.Rows.{Row}
+use Rattle.acl_grammar.specs.RowSteps.{rows_in}
 use Rattle.cisco_lang.specs.declared.documents.Section.{Section}
 use Rattle.cisco_lang.specs.declared.documents.AccessList.{AccessList}
 use Rattle.cisco_lang.specs.declared.documents.Item.{Item}
@@ -187,7 +188,7 @@ take_four d w name kind =
     else d
 
 unfoldable pub take_outer : DocDraft → List (List ℕ) → DocDraft
-take_outer d (w ∷ []) = end_list d
+take_outer d (w ∷ []) = if bytes_eq w (codes "exit") then end_list d else d
 take_outer d (w ∷ v ∷ name ∷ []) = begin_list d V6 name
 take_outer d (w ∷ v ∷ name ∷ kind ∷ []) = take_four d w name kind
 take_outer d words = d
@@ -197,3 +198,10 @@ take_inner d words = record d { list = record d.list { items = d.list.items ++ i
 
 unfoldable pub take_row : DocDraft → Row → DocDraft
 take_row d r = if r.indent == 0 then take_outer d r.words else take_inner d r.words
+
+abbrev pub no_draft : DocDraft
+no_draft = record { sections = []; section = no_section; list = no_list }
+
+-- What the bytes say, whatever they are.
+unfoldable pub document_in : List ℕ → List Section
+document_in bytes = (fold take_row no_draft (rows_in bytes)).sections

@@ -1,6 +1,6 @@
-ghost use Rattle.std.specs.Prelude.{◌≡◌, [], OnOk, IfOk, true};
+ghost use Rattle.std.specs.Prelude.{◌≡◌, ◌∷◌, [], OnOk, IfOk, true};
 ghost use Rattle.acl_text.specs.Lines.{views};
-ghost use Rattle.cisco_lang.specs.ReadingSteps.{no_list, no_section, families_in, item_in, is_last, end_section, end_list, begin_list, take_four, take_outer, take_inner, take_row};
+ghost use Rattle.cisco_lang.specs.ReadingSteps.{no_list, no_section, families_in, item_in, is_last, no_draft, end_section, end_list, begin_list, take_four, take_outer, take_inner, take_row};
 
 use crate::documents::{AccessList, Doc, Item, Section};
 use crate::entry_drafts::entry_of;
@@ -34,7 +34,7 @@ impl Draft for DocDraft {
 impl DocDraft {
     /// Nothing has been read.
     pub(crate) fn new(alloc: Global) -> DocDraft
-        ensures { result ≡ record { sections = []; section = no_section; list = no_list } }
+        ensures { result ≡ no_draft }
     {
         DocDraft {
             sections: Items::new(alloc),
@@ -48,10 +48,21 @@ impl DocDraft {
         ensures { OnOk result (self.new ≡ take_outer self.old (views words.now)) }
     {
         match words {
-            [_] => self.end_list(alloc),
+            [word] => self.take_one(alloc, word),
             [_, _, name] => self.begin_list(alloc, Family::V6, name),
             [word, _, name, kind] => self.take_four(alloc, word, name, kind),
             _ => Ok(()),
+        }
+    }
+
+    #[tactic(auto, unfolding(crate::specs::ReadingSteps::take_outer))]
+    fn take_one(&mut self, alloc: Global, word: &[u8]) -> Result<(), Memory>
+        ensures { OnOk result (self.new ≡ take_outer self.old (word.now ∷ [])) }
+    {
+        if word == b"exit".as_slice() {
+            self.end_list(alloc)
+        } else {
+            Ok(())
         }
     }
 
