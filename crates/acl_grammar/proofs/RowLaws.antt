@@ -13,17 +13,6 @@ use Rattle.acl_text.proofs.CutLaws.{has-append}
 use Rattle.acl_grammar.specs.Rows.{Row, row, spaced, row_line, row_text, text_of_rows, is_space, words_in}
 use Rattle.acl_grammar.specs.RowSteps.{is_feed, row_in, rows_in, IsWord, begins, IsRow}
 
--- ---- lists
-
-pub all_append : {A : Type 0} (P : A → Type 0) (xs ys : List A) → AllByRecursion P xs → AllByRecursion P ys → AllByRecursion P (xs ++ ys)
-all_append P [] ys h k = k
-all_append P (x ∷ xs) ys h k = (h.0, all_append P xs ys h.1 k)
-
-pub all_flat : {A B : Type 0} (P : A → Type 0) (Q : B → Type 0) (f : A → List B) → ((x : A) → P x → AllByRecursion Q (f x))
-    → (xs : List A) → AllByRecursion P xs → AllByRecursion Q (flat_map f xs)
-all_flat P Q f each [] h = tt
-all_flat P Q f each (x ∷ xs) h = all_append Q (f x) (flat_map f xs) (each x h.0) (all_flat P Q f each xs h.1)
-
 -- ---- words with one space between
 
 pub join_spaced : (w : List ℕ) (ws : List (List ℕ)) → w ++ spaced ws ≡ join_with_byte 32 (w ∷ ws)

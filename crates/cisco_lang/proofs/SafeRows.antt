@@ -15,7 +15,7 @@ use Rattle.acl_text.specs.Names.{is_safe_text}
 use Rattle.acl_text.proofs.CutLaws.{has-append}
 use Rattle.acl_grammar.specs.Rows.{Row, row, words_in}
 use Rattle.acl_grammar.specs.RowSteps.{begins, IsRow, IsWord}
-use Rattle.acl_grammar.proofs.RowLaws.{all_append, all_flat}
+use Rattle.acl_grammar.proofs.ListLaws.{all_append, all_flat}
 use Rattle.acl_grammar.proofs.WordLaws.{word, decimal_word, address_word, wildcard_word, prefix_word, name_word, text_words}
 use Rattle.cisco_lang.specs.declared.documents.Section.{Section}
 use Rattle.cisco_lang.specs.declared.documents.AccessList.{AccessList}
