@@ -1,4 +1,5 @@
 pub mod CheckLaws
+pub mod ListLaws
 pub mod NamingLaws
 pub mod PutLaws
 pub mod RowLaws

@@ -18,10 +18,6 @@ use Rattle.acl_text.proofs.Printed.{IsForeign}
 use Rattle.acl_grammar.specs.Rows.{is_space, words_in}
 use Rattle.acl_grammar.specs.RowSteps.{IsWord}
 
-pub words_append : (ws vs : List (List ℕ)) → AllByRecursion IsWord ws → AllByRecursion IsWord vs → AllByRecursion IsWord (ws ++ vs)
-words_append [] vs h k = k
-words_append (w ∷ ws) vs h k = (h.0, words_append ws vs h.1 k)
-
 -- of a literal: give `refl` twice
 pub word : (w : List ℕ) → has_byte 32 w ≡ false → has_byte 10 w ≡ false → IsWord w
 word w h k = record { no_space = h; no_feed = k }

@@ -1,143 +1,150 @@
--- A document is read exactly from its text, a text has one document, and joined texts spell the joined document.
-use Rattle.std.proofs.Common.{◌≡◌, ℕ, Bool, true, false, not, ◌&&◌, List, [], ◌∷◌, ◌++◌, length, map, flat_map, codes, Option, None, Some, IfSome, IfNone, refl, ap, sym, subst, ◌∙◌, arith}
-use Rattle.std.specs.List.{list_any, AllByRecursion}
-use Rattle.std.proofs.lemmas.Bool.{and_parts, or_parts, or_from}
-use Rattle.std.proofs.lemmas.List.Folds.{list_any-append}
+-- What is written of a document is read again.
+use Rattle.std.proofs.Common.{◌≡◌, ℕ, Bool, true, false, List, [], ◌∷◌, ◌++◌, map, flat_map, codes, Option, None, Some, refl, ap, sym, subst, ◌∙◌, append_assoc, append-nil}
+use Rattle.std.specs.List.{fold, AllByRecursion}
+use Rattle.std.specs.Str.{bytes_eq}
 use Rattle.std.proofs.lemmas.Grind.{flat_map-append}
-use Rattle.std.proofs.lemmas.Option.{none-some, same_Some}
+use Rattle.std.proofs.lemmas.List.Splits.{join_with_byte-slice_split}
+use Rattle.std.proofs.lemmas.List.Sums.{fold-append}
 use Rattle.acl_packet.specs.declared.addresses.Family.{Family}
 use Rattle.acl_packet.specs.declared.addresses.Family.TheVariants.{V4, V6}
 use Rattle.acl_packet.specs.declared.addresses.Families.{Families}
 use Rattle.acl_packet.specs.declared.addresses.Families.TheVariants.{Inet, Inet6, Mixed}
-use Rattle.acl_text.specs.Cuts.{◌>>=◌}
-use Rattle.acl_text.specs.Lines.{IsLine, lines_in, text_of_lines}
-use Rattle.acl_text.proofs.Reading.{bound, bound_on, guarded, by_Some, has-append}
-use Rattle.acl_text.proofs.LineLaws.{lines-found, lines-again, line-safe, lines-append, text-append}
+use Rattle.acl_packet.proofs.PrefixLaws.{first_fits}
+use Rattle.acl_grammar.specs.Rows.{Row, row, words_in, row_text, text_of_rows}
+use Rattle.acl_grammar.specs.RowSteps.{IsRow, IsWord, row_in, rows_in}
+use Rattle.acl_grammar.proofs.RowLaws.{fold-again}
 use Rattle.cisco_lang.specs.declared.documents.Section.{Section}
 use Rattle.cisco_lang.specs.declared.documents.AccessList.{AccessList}
 use Rattle.cisco_lang.specs.declared.documents.Item.{Item}
 use Rattle.cisco_lang.specs.declared.documents.Item.TheVariants.{Remark, Entry as AnEntry}
-use Rattle.cisco_lang.specs.Documents.{IsItem, IsList, IsSection, heads_of, clash, names_differ, share_name}
-use Rattle.cisco_lang.specs.Texts.{entry_words, item_line, head_line, exit_line, list_lines, section_words, section_lines, document_lines, text_of, Spells}
-use Rattle.cisco_lang.specs.Reading.{sections_in, differing, document_in}
-use Rattle.cisco_lang.proofs.Wildcards.{on}
-use Rattle.cisco_lang.proofs.SafeWords.{entry-safe, name-safe, text-safe}
-use Rattle.cisco_lang.proofs.ListLaws.{head_of, header-safe, sections-found, sections-again}
+use Rattle.cisco_lang.specs.declared.drafts.DocDraft.{DocDraft}
+use Rattle.cisco_lang.specs.Documents.{IsItem, IsList, heads_of, IsSection}
+use Rattle.cisco_lang.specs.Texts.{action_word, proto_word, end_words, type_words, flags_words, log_words, entry_words, item_rows, head_rows, end_rows, list_rows, families_word, section_row, section_rows, Spells}
+use Rattle.cisco_lang.specs.ReadingSteps.{no_list, no_section, no_draft, families_in, entry_in, item_in, is_last, end_section, end_list, take_four, take_outer, take_inner, take_row, document_in}
+use Rattle.cisco_lang.proofs.CheckLaws.{head_of}
+use Rattle.cisco_lang.proofs.EntryReadingLaws.{entry_again}
+use Rattle.cisco_lang.proofs.SafeRows.{sections_safe}
 
--- ---- no line of a document has a line feed
+abbrev at : List Section → Section → AccessList → DocDraft
+at ss s l = record { sections = ss; section = s; list = l }
 
-item_safe : (f : Family) (i : Item) → IsItem f i → IsLine (item_line f i)
-unfolding item_line
-item_safe f (Remark text) h = has-append 10 (codes " remark ") text refl (text-safe text h)
-item_safe f (AnEntry e) h = line-safe 1 (entry_words f e) (entry-safe f e h)
+abbrev read : DocDraft → List Row → DocDraft
+read d rows = fold take_row d rows
 
-items_safe : (f : Family) (items : List Item) → AllByRecursion (IsItem f) items → AllByRecursion IsLine (map (item_line f) items)
-items_safe f [] h = tt
-items_safe f (i ∷ items) h = (item_safe f i h.0, items_safe f items h.1)
+then : (d m e : DocDraft) (xs ys : List Row) → read d xs ≡ m → read m ys ≡ e → read d (xs ++ ys) ≡ e
+then d m e xs ys h k = fold-append take_row d xs ys ∙ ap (λ s. read s ys) h ∙ k
 
-head_safe : (f : Family) (name : List ℕ) → IsLine name → IsLine (head_line f name)
-head_safe V4 name h = has-append 10 (codes "ip access-list extended ") name refl h
-head_safe V6 name h = has-append 10 (codes "ipv6 access-list ") name refl h
+-- ---- items
 
-list_safe : (l : AccessList) → IsLine l.name → IsList l → AllByRecursion IsLine (list_lines l)
-unfolding list_lines
-list_safe l n h =
-    let head = head_safe l.family l.name n in (
-      has-append 10 (codes "no ") (head_line l.family l.name) refl head,
-      (
-        head,
-        lines-append (map (item_line l.family) l.items) (exit_line ∷ []) (items_safe l.family l.items h) (refl, tt),
-      ),
-    )
+abbrev with_item : AccessList → Item → AccessList
+with_item l i = record l { items = l.items ++ i ∷ [] }
 
-lists_safe : (lists : List AccessList) → AllByRecursion (λ (h : Family × List ℕ). IsLine h.1) (map head_of lists) → AllByRecursion IsList lists → AllByRecursion IsLine (flat_map list_lines lists)
-lists_safe [] n h = tt
-lists_safe (l ∷ lists) n h = lines-append (list_lines l) (flat_map list_lines lists) (list_safe l n.0 h.0) (lists_safe lists n.1 h.1)
+-- the row of an entry does not begin as that of a remark
+no_remark : (f : Family) (b : Bool) (words : List (List ℕ)) → item_in f (action_word b ∷ words) ≡ AnEntry (entry_in f (action_word b ∷ words))
+unfolding item_in
+no_remark f true words = refl
+no_remark f false words = refl
 
-heads_safe : (fs : Families) (name : List ℕ) → IsLine name → AllByRecursion (λ (h : Family × List ℕ). IsLine h.1) (heads_of fs name)
-heads_safe Inet name h = (h, tt)
-heads_safe Inet6 name h = (h, tt)
-heads_safe Mixed name h = (h, (has-append 10 (codes "ipv6-") name refl h, tt))
+item_read : (ss : List Section) (s : Section) (l : AccessList) (i : Item) → IsItem l.family i
+    → read (at ss s l) (item_rows l.family i) ≡ at ss s (with_item l i)
+unfolding item_rows take_row take_inner item_in entry_words
+item_read ss s l (Remark text) h = ap (λ t. at ss s (with_item l (Remark t))) (join_with_byte-slice_split 32 text)
+item_read ss s l (AnEntry e) h =
+    let rest : List (List ℕ) = proto_word l.family e.proto ∷ (end_words l.family e.src e.sport
+    ++ (end_words l.family e.dst e.dport ++ (type_words e.itype ++ (flags_words e.flags ++ log_words e.log)))) in
+    ap (λ i. at ss s (with_item l i)) (no_remark l.family e.permit rest ∙ ap AnEntry (entry_again l.family e h))
 
-section_safe : (s : Section) → IsSection s → AllByRecursion IsLine (section_lines s)
-unfolding section_lines
-section_safe s h =
-    let safe : List (Family × List ℕ) → Type 0 = AllByRecursion (λ (x : Family × List ℕ). IsLine x.1) in
-    let named = name-safe s.name h.named in (
-      line-safe 0 (section_words s.name s.families) (header-safe s.name s.families h.named),
-      lists_safe s.lists (subst safe (sym h.heads) (heads_safe s.families s.name named.no_feed)) h.lists,
-    )
+items_read : (ss : List Section) (s : Section) (l : AccessList) (items : List Item) → AllByRecursion (IsItem l.family) items
+    → read (at ss s l) (flat_map (item_rows l.family) items) ≡ at ss s (record l { items = l.items ++ items })
+items_read ss s l [] h = ap (λ t. at ss s (record l { items = t })) (sym (append-nil l.items))
+items_read ss s l (i ∷ items) h =
+    then (at ss s l) (at ss s (with_item l i)) (at ss s (record l { items = l.items ++ i ∷ items })) (item_rows l.family i) (flat_map (item_rows l.family) items)
+    (item_read ss s l i h.0)
+    (items_read ss s (with_item l i) items h.1 ∙ ap (λ t. at ss s (record l { items = t })) (append_assoc l.items (i ∷ []) items))
 
-sections_safe : (doc : List Section) → AllByRecursion IsSection doc → AllByRecursion IsLine (document_lines doc)
-sections_safe [] h = tt
-sections_safe (s ∷ doc) h = lines-append (section_lines s) (document_lines doc) (section_safe s h.0) (sections_safe doc h.1)
+-- ---- lists
+
+head_read : (ss : List Section) (s : Section) (k : AccessList) (f : Family) (name : List ℕ)
+    → read (at ss s k) (head_rows f name) ≡ at ss s (record { family = f; name = name; items = [] })
+unfolding take_row take_outer take_four
+head_read ss s k V4 name = refl
+head_read ss s k V6 name = refl
+
+list_read : (ss : List Section) (s : Section) (k l : AccessList) → IsList l → read (at ss s k) (list_rows l) ≡ end_list (at ss s l)
+unfolding list_rows take_row take_outer
+list_read ss s k l h =
+    let empty : AccessList = record { family = l.family; name = l.name; items = [] } in
+    let items = flat_map (item_rows l.family) l.items in
+    then (at ss s k) (at ss s empty) (end_list (at ss s l)) (head_rows l.family l.name) (items ++ end_rows) (head_read ss s k l.family l.name)
+    (then (at ss s empty) (at ss s l) (end_list (at ss s l)) items end_rows (items_read ss s empty l.items h) refl)
+
+-- ---- sections
+
+abbrev so_far : List ℕ → Families → List AccessList → Section
+so_far name fs ls = record { name = name; families = fs; lists = ls }
+
+lists_read : (ss : List Section) (name : List ℕ) (fs : Families) (k : AccessList) (ls : List AccessList) → map head_of ls ≡ heads_of fs name
+    → AllByRecursion IsList ls → read (at ss (so_far name fs []) k) (flat_map list_rows ls) ≡ at (ss ++ so_far name fs ls ∷ []) no_section no_list
+unfolding end_list
+lists_read ss name Inet k [] e h = absurd cc
+lists_read ss name Inet6 k [] e h = absurd cc
+lists_read ss name Mixed k [] e h = absurd cc
+lists_read ss name Inet k (l ∷ []) e h = ap (read (at ss (so_far name Inet []) k)) (append-nil (list_rows l)) ∙ list_read ss (so_far name Inet []) k l h.0
+lists_read ss name Inet6 k (l ∷ []) e h = ap (read (at ss (so_far name Inet6 []) k)) (append-nil (list_rows l)) ∙ list_read ss (so_far name Inet6 []) k l h.0
+lists_read ss name Mixed k (l ∷ []) e h = absurd cc
+lists_read ss name Inet k (l ∷ m ∷ ls) e h = absurd cc
+lists_read ss name Inet6 k (l ∷ m ∷ ls) e h = absurd cc
+lists_read ss name Mixed k (l ∷ m ∷ []) e h =
+    let start = at ss (so_far name Mixed []) k in
+    let middle = at ss (so_far name Mixed (l ∷ [])) no_list in
+    let end = at (ss ++ so_far name Mixed (l ∷ m ∷ []) ∷ []) no_section no_list in
+    let first : head_of l ≡ (V4, name) = cc in
+    let second : head_of m ≡ (V6, codes "ipv6-" ++ name) = cc in
+    let four = ap (λ (h : Family × List ℕ). h.0) first in
+    let six = ap (λ (h : Family × List ℕ). h.0) second in
+    then start middle end (list_rows l) (list_rows m ++ []) (list_read ss (so_far name Mixed []) k l h.0 ∙ ap (λ f. end_section (is_last Mixed f) middle) four)
+    (ap (read middle) (append-nil (list_rows m)) ∙ list_read ss (so_far name Mixed (l ∷ [])) no_list m h.1.0 ∙ ap (λ f. end_section (is_last Mixed f) (at ss (so_far name Mixed (l ∷ m ∷ [])) no_list)) six)
+lists_read ss name Mixed k (l ∷ m ∷ n ∷ ls) e h = absurd cc
+
+families_again : (fs : Families) → families_in (families_word fs) ≡ fs
+unfolding families_in
+families_again Inet = refl
+families_again Inet6 = refl
+families_again Mixed = refl
+
+section_read : (ss : List Section) (t : Section) (k : AccessList) (s : Section) → IsSection s
+    → read (at ss t k) (section_rows s) ≡ at (ss ++ s ∷ []) no_section no_list
+unfolding section_rows take_row take_outer take_four
+section_read ss t k s h =
+    ap (λ fs. read (at ss (so_far s.name fs []) k) (flat_map list_rows s.lists)) (families_again s.families)
+    ∙ lists_read ss s.name s.families k s.lists h.heads h.lists
+
+sections_read : (ss doc : List Section) → AllByRecursion IsSection doc
+    → read (at ss no_section no_list) (flat_map section_rows doc) ≡ at (ss ++ doc) no_section no_list
+sections_read ss [] h = ap (λ t. at t no_section no_list) (sym (append-nil ss))
+sections_read ss (s ∷ doc) h =
+    then (at ss no_section no_list) (at (ss ++ s ∷ []) no_section no_list) (at (ss ++ s ∷ doc) no_section no_list) (section_rows s) (flat_map section_rows doc)
+    (section_read ss no_section no_list s h.0)
+    (sections_read (ss ++ s ∷ []) doc h.1 ∙ ap (λ t. at t no_section no_list) (append_assoc ss (s ∷ []) doc))
 
 -- ---- documents
 
-pub document-found : (bytes : List ℕ) (doc : List Section) → document_in bytes ≡ Some doc → Spells bytes doc
+empty_row : (d : DocDraft) → take_row d (row_in []) ≡ d
+unfolding row_in take_row take_outer
+empty_row d = refl
+
+pub document_again : (bytes : List ℕ) (doc : List Section) → Spells bytes doc → document_in bytes ≡ doc
 unfolding document_in
-document-found bytes doc e =
-    let a = bound (lines_in bytes) (λ ls. sections_in (length ls) ls >>= differing) doc e in
-    let b = bound (sections_in (length a.0) a.0) differing doc a.2 in
-    let g = guarded (names_differ b.0) (Some b.0) doc b.2 in
-    let lines = lines-found bytes a.0 a.1 in
-    let sections = sections-found (length a.0) a.0 b.0 b.1 in
-    by_Some (Spells bytes) b.0 doc g.1 (record {
-      valid = record { sections = sections.1; differ = g.0 };
-      written = lines ∙ ap text_of_lines sections.0;
-    })
+document_again bytes doc h =
+    let end = at doc no_section no_list in
+    ap (λ t. (read no_draft (rows_in t)).sections) h.written
+    ∙ ap (λ d. d.sections) (fold-again take_row no_draft end (flat_map section_rows doc) (sections_safe doc h.valid.sections) (sections_read [] doc h.valid.sections) (empty_row end))
 
-pub document-again : (bytes : List ℕ) (doc : List Section) → Spells bytes doc → document_in bytes ≡ Some doc
-unfolding document_in
-document-again bytes doc h =
-    let ls : List (List ℕ) = document_lines doc in
-    ap document_in h.written
-    ∙ bound_on (lines_in (text_of_lines ls)) ls (λ x. sections_in (length x) x >>= differing) doc (lines-again ls (sections_safe doc h.valid.sections))
-    (bound_on (sections_in (length ls) ls) doc differing doc (sections-again (length ls) doc h.valid.sections (omega arith))
-    (on (names_differ doc) (Some doc) None h.valid.differ))
+pub read_all : (bytes : List ℕ) (draft doc : List Section) → draft ≡ document_in bytes → Spells bytes doc → Some draft ≡ Some doc
+read_all bytes draft doc e h = ap Some (e ∙ document_again bytes doc h)
 
-pub document-some : (bytes : List ℕ) (o : Option (List Section)) → o ≡ document_in bytes → IfSome o (λ doc. Spells bytes doc)
-document-some bytes None e = tt
-document-some bytes (Some doc) e = document-found bytes doc (sym e)
-
-pub document-all : (bytes : List ℕ) (o : Option (List Section)) → o ≡ document_in bytes → (doc : List Section) → Spells bytes doc → o ≡ Some doc
-document-all bytes o e doc h = e ∙ document-again bytes doc h
-
-pub document-none : (bytes : List ℕ) (o : Option (List Section)) → o ≡ document_in bytes → IfNone o ((doc : List Section) → Spells bytes doc → ⊥)
-document-none bytes None e = λ doc h. none-some doc (e ∙ document-again bytes doc h)
-document-none bytes (Some doc) e = tt
+pub read_other : (bytes : List ℕ) (draft doc : List Section) → draft ≡ document_in bytes → (Spells bytes draft → ⊥) → Spells bytes doc → ⊥
+read_other bytes draft doc e n h = n (subst (Spells bytes) (sym (e ∙ document_again bytes doc h)) h)
 
 pub one_document : (bytes : List ℕ) (a b : List Section) → Spells bytes a → Spells bytes b → a ≡ b
-one_document bytes a b h k = same_Some a b (sym (document-again bytes a h) ∙ document-again bytes b k)
-
--- ---- joined texts
-
-both : (a b : Bool) → a ≡ true → b ≡ true → (a && b) ≡ true
-both a b h k = cc
-
-not_false : (a : Bool) → not a ≡ true → a ≡ false
-not_false true h = cc
-not_false false h = refl
-
-sections-append : (a b : List Section) → AllByRecursion IsSection a → AllByRecursion IsSection b → AllByRecursion IsSection (a ++ b)
-sections-append [] b h k = k
-sections-append (s ∷ a) b h k = (h.0, sections-append a b h.1 k)
-
-differ-append : (a b : List Section) → names_differ a ≡ true → names_differ b ≡ true → share_name a b ≡ false → names_differ (a ++ b) ≡ true
-differ-append [] b h k n = k
-differ-append (s ∷ a) b h k n =
-    let own = and_parts (not (list_any (λ t. clash s t) a)) (names_differ a) h in
-    let apart = or_parts (list_any (λ t. clash s t) b) (share_name a b) n in
-    let no_clash : list_any (λ t. clash s t) (a ++ b) ≡ false =
-    list_any-append (λ t. clash s t) a b ∙ or_from (list_any (λ t. clash s t) a) (list_any (λ t. clash s t) b) (not_false (list_any (λ t. clash s t) a) own.0) apart.0 in
-    both (not (list_any (λ t. clash s t) (a ++ b))) (names_differ (a ++ b)) (ap not no_clash) (differ-append a b own.1 k apart.1)
-
-pub joined_documents : (bytes more : List ℕ) (a b : List Section) → Spells bytes a → Spells more b → share_name a b ≡ false → Spells (bytes ++ more) (a ++ b)
-joined_documents bytes more a b h k n = record {
-  valid = record {
-    sections = sections-append a b h.valid.sections k.valid.sections;
-    differ = differ-append a b h.valid.differ k.valid.differ n;
-  };
-  written = ap (λ t. t ++ more) h.written ∙ ap (λ t. text_of a ++ t) k.written
-      ∙ sym (ap text_of_lines (flat_map-append section_lines a b) ∙ text-append (document_lines a) (document_lines b));
-}
+one_document bytes a b h k = sym (document_again bytes a h) ∙ document_again bytes b k

@@ -1,9 +1,5 @@
+pub mod CheckLaws
 pub mod DocumentLaws
-pub mod EntryLaws
-pub mod EntryParts
-pub mod EntryPlaces
-pub mod Fronts
-pub mod ListLaws
-pub mod SafeWords
-pub mod SectionSteps
-pub mod Wildcards
+pub mod EntryReadingLaws
+pub mod JoinLaws
+pub mod SafeRows

@@ -1,15 +1,15 @@
 -- Documents of Cisco IOS access lists, and which of them are valid.
 -- Sources: Cisco IOS Security Command Reference, "access-list (IP extended)" and "ip access-list";
 -- Cisco IOS IPv6 Command Reference, "ipv6 access-list", "permit (IPv6)" and "deny (IPv6)".
-use Rattle.std.specs.Prelude.{◌≡◌, ℕ, ◌<◌, ◌≤◌, Bool, true, false, not, ◌&&◌, ◌||◌, ◌==◌, List, [], ◌∷◌, ◌++◌, map, codes, Option, None, Some, IfSome, is_none}
-use Rattle.std.specs.List.{list_any, AllByRecursion}
+use Rattle.std.specs.Prelude.{◌≡◌, ℕ, ◌<◌, ◌≤◌, Bool, true, false, ◌&&◌, ◌||◌, ◌==◌, List, [], ◌∷◌, ◌++◌, map, flat_map, codes, Option, None, Some, IfSome, is_none}
+use Rattle.std.specs.List.{AllByRecursion, IsDistinct}
 use Rattle.std.specs.Str.{bytes_eq}
 use Rattle.acl_packet.specs.declared.addresses.Family.{Family}
 use Rattle.acl_packet.specs.declared.addresses.Family.TheVariants.{V4, V6}
 use Rattle.acl_packet.specs.declared.addresses.Families.{Families}
 use Rattle.acl_packet.specs.declared.addresses.Families.TheVariants.{Inet, Inet6, Mixed}
-use Rattle.acl_packet.specs.declared.addresses.Prefix.{Prefix}
-use Rattle.acl_packet.specs.Addresses.{IsPrefix}
+use Rattle.acl_packet.specs.Addresses.{IsPrefixOf}
+use Rattle.acl_packet.specs.Packets.{icmp_of}
 use Rattle.acl_text.specs.Names.{is_filter_name, is_safe_text}
 use Rattle.cisco_lang.specs.declared.documents.Section.{Section}
 use Rattle.cisco_lang.specs.declared.documents.AccessList.{AccessList}
@@ -19,17 +19,9 @@ use Rattle.cisco_lang.specs.declared.documents.Entry.{Entry}
 use Rattle.cisco_lang.specs.declared.documents.Flags.{Flags}
 use Rattle.cisco_lang.specs.declared.documents.Flags.TheVariants.{SynNotAck}
 
--- The protocol that the word `icmp` means: ICMP in an IPv4 list, ICMPv6 in an IPv6 list.
-abbrev pub icmp_of : Family → ℕ
-icmp_of V4 = 1
-icmp_of V6 = 58
-
 abbrev pub is_proto : Option ℕ → ℕ → Bool
 is_proto None number = false
 is_proto (Some proto) number = proto == number
-
-abbrev pub IsPrefixOf : Family → Prefix → Type 0
-IsPrefixOf family prefix = (prefix.family ≡ family) × IsPrefix prefix
 
 -- A range of ports, from the low one to the high one.
 abbrev pub IsPortRange : ℕ × ℕ → Type 0
@@ -80,20 +72,11 @@ pub record IsSection (s : Section) : Type 0 where
   pub heads : map (λ l. (l.family, l.name)) s.lists ≡ heads_of s.families s.name
   pub lists : AllByRecursion IsList s.lists
 
--- Two sections clash where a list of the one has the name of a list of the other.
-abbrev pub clash : Section → Section → Bool
-clash s t = list_any (λ a. list_any (λ b. bytes_eq a.name b.name) t.lists) s.lists
+-- The names of a document's lists, in order.
+abbrev pub names_of : List Section → List (List ℕ)
+names_of doc = flat_map (λ s. map (λ l. l.name) s.lists) doc
 
--- No two sections clash.
-abbrev pub names_differ : List Section → Bool
-names_differ [] = true
-names_differ (s ∷ sections) = not (list_any (λ t. clash s t) sections) && names_differ sections
-
--- A section of the one document clashes with one of the other.
-abbrev pub share_name : List Section → List Section → Bool
-share_name doc other = list_any (λ s. list_any (λ t. clash s t) other) doc
-
--- A document is its sections, none of which clash.
+-- A document is its sections, no two of whose lists have the same name.
 pub record IsDocument (doc : List Section) : Type 0 where
   pub sections : AllByRecursion IsSection doc
-  pub differ : names_differ doc ≡ true
+  pub names_differ : IsDistinct bytes_eq (names_of doc)

@@ -1,5 +1,5 @@
+pub mod CheckSteps
 pub mod Documents
-pub mod EntryReading
-pub mod Reading
+pub mod ReadingSteps
 pub mod Texts
 pub mod Walks

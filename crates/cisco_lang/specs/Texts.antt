@@ -9,8 +9,7 @@ use Rattle.acl_packet.specs.declared.addresses.Families.{Families}
 use Rattle.acl_packet.specs.declared.addresses.Families.TheVariants.{Inet, Inet6, Mixed}
 use Rattle.acl_packet.specs.declared.addresses.Prefix.{Prefix}
 use Rattle.acl_packet.specs.Addresses.{width_of}
-use Rattle.acl_text.specs.Lines.{line_of, text_of_lines}
-use Rattle.acl_text.specs.Addresses.{address_text, prefix_text, wildcard_text}
+use Rattle.acl_text.specs.AddressTexts.{address_text, prefix_text, wildcard_text}
 use Rattle.cisco_lang.specs.declared.documents.Section.{Section}
 use Rattle.cisco_lang.specs.declared.documents.AccessList.{AccessList}
 use Rattle.cisco_lang.specs.declared.documents.Item.{Item}
@@ -18,7 +17,9 @@ use Rattle.cisco_lang.specs.declared.documents.Item.TheVariants.{Remark, Entry a
 use Rattle.cisco_lang.specs.declared.documents.Entry.{Entry}
 use Rattle.cisco_lang.specs.declared.documents.Flags.{Flags}
 use Rattle.cisco_lang.specs.declared.documents.Flags.TheVariants.{Established, Rst, SynNotAck}
-use Rattle.cisco_lang.specs.Documents.{icmp_of, IsDocument}
+use Rattle.acl_packet.specs.Packets.{icmp_of}
+use Rattle.acl_grammar.specs.Rows.{Row, row, words_in, text_of_rows}
+use Rattle.cisco_lang.specs.Documents.{IsDocument}
 
 abbrev pub action_word : Bool → List ℕ
 action_word true = codes "permit"
@@ -68,23 +69,24 @@ unfoldable pub entry_words : Family → Entry → List (List ℕ)
 entry_words family e = action_word e.permit ∷ proto_word family e.proto ∷ (end_words family e.src e.sport
     ++ (end_words family e.dst e.dport ++ (type_words e.itype ++ (flags_words e.flags ++ log_words e.log))))
 
-unfoldable pub item_line : Family → Item → List ℕ
-item_line family (Remark text) = codes " remark " ++ text
-item_line family (AnEntry e) = line_of 1 (entry_words family e)
+-- A remark is a free text, an entry its words.
+unfoldable pub item_rows : Family → Item → List Row
+item_rows family (Remark text) = row 1 (codes "remark" ∷ words_in text) ∷ []
+item_rows family (AnEntry e) = row 1 (entry_words family e) ∷ []
 
--- The line that begins a list, the line before it that takes an older list of that name away, and the line behind it.
-abbrev pub head_line : Family → List ℕ → List ℕ
-head_line V4 name = codes "ip access-list extended " ++ name
-head_line V6 name = codes "ipv6 access-list " ++ name
+-- The row that begins a list, behind one that takes an older list of that name away.
+abbrev pub head_words : Family → List ℕ → List (List ℕ)
+head_words V4 name = codes "ip" ∷ codes "access-list" ∷ codes "extended" ∷ name ∷ []
+head_words V6 name = codes "ipv6" ∷ codes "access-list" ∷ name ∷ []
 
-abbrev pub removal_line : Family → List ℕ → List ℕ
-removal_line family name = codes "no " ++ head_line family name
+abbrev pub head_rows : Family → List ℕ → List Row
+head_rows family name = row 0 (codes "no" ∷ head_words family name) ∷ row 0 (head_words family name) ∷ []
 
-abbrev pub exit_line : List ℕ
-exit_line = codes "exit"
+abbrev pub end_rows : List Row
+end_rows = row 0 (codes "exit" ∷ []) ∷ []
 
-unfoldable pub list_lines : AccessList → List (List ℕ)
-list_lines l = removal_line l.family l.name ∷ head_line l.family l.name ∷ (map (item_line l.family) l.items ++ exit_line ∷ [])
+unfoldable pub list_rows : AccessList → List Row
+list_rows l = head_rows l.family l.name ++ (flat_map (item_rows l.family) l.items ++ end_rows)
 
 abbrev pub families_word : Families → List ℕ
 families_word Inet = codes "extended"
@@ -92,18 +94,15 @@ families_word Inet6 = codes "inet6"
 families_word Mixed = codes "mixed"
 
 -- A section begins with a comment that names its target.
-abbrev pub section_words : List ℕ → Families → List (List ℕ)
-section_words name families = codes "!" ∷ codes "cisco" ∷ name ∷ families_word families ∷ []
+abbrev pub section_row : List ℕ → Families → Row
+section_row name families = row 0 (codes "!" ∷ codes "cisco" ∷ name ∷ families_word families ∷ [])
 
-unfoldable pub section_lines : Section → List (List ℕ)
-section_lines s = line_of 0 (section_words s.name s.families) ∷ flat_map list_lines s.lists
-
-abbrev pub document_lines : List Section → List (List ℕ)
-document_lines doc = flat_map section_lines doc
+unfoldable pub section_rows : Section → List Row
+section_rows s = section_row s.name s.families ∷ flat_map list_rows s.lists
 
 -- The text of a document is its sections, one behind another.
 abbrev pub text_of : List Section → List ℕ
-text_of doc = text_of_lines (document_lines doc)
+text_of doc = text_of_rows (flat_map section_rows doc)
 
 -- The bytes spell the document: it is valid, and they are its text.
 pub record Spells (bytes : List ℕ) (doc : List Section) : Type 0 where

@@ -6,13 +6,13 @@ use Rattle.std.specs.Prelude.{ℕ, Bool, true, false, not, ◌&&◌, ◌||◌, �
 use Rattle.std.specs.List.{list_any}
 use Rattle.acl_packet.specs.declared.addresses.Family.{Family}
 use Rattle.acl_packet.specs.declared.addresses.Family.TheVariants.{V4, V6}
-use Rattle.acl_packet.specs.declared.addresses.Families.{Families}
-use Rattle.acl_packet.specs.declared.addresses.Families.TheVariants.{Inet, Inet6, Mixed}
 use Rattle.acl_packet.specs.declared.packets.Packet.{Packet}
 use Rattle.acl_packet.specs.declared.filtering.Outcome.{Outcome}
+use Rattle.acl_packet.specs.declared.filtering.Verdict.{Verdict}
 use Rattle.acl_packet.specs.declared.filtering.Verdict.TheVariants.{Accept, Deny}
-use Rattle.acl_packet.specs.Addresses.{has_address}
-use Rattle.acl_text.specs.Addresses.{same_family}
+use Rattle.acl_packet.specs.Addresses.{covers, has_address, same_family}
+use Rattle.acl_packet.specs.Outcomes.{unlogged}
+use Rattle.acl_packet.specs.Packets.{has_flag}
 use Rattle.cisco_lang.specs.declared.documents.Section.{Section}
 use Rattle.cisco_lang.specs.declared.documents.AccessList.{AccessList}
 use Rattle.cisco_lang.specs.declared.documents.Item.{Item}
@@ -30,10 +30,7 @@ abbrev pub port_holds : Option (ℕ × ℕ) → ℕ → Bool
 port_holds None port = true
 port_holds (Some range) port = nat_le range.0 port && nat_le port range.1
 
--- SYN 2, RST 4 and ACK 16 (RFC 9293 section 3.1). `established` wants ACK or RST.
-abbrev pub has_flag : ℕ → ℕ → Bool
-has_flag flags flag = not (bit_and flags flag == 0)
-
+-- SYN is 2, RST 4 and ACK 16 (RFC 9293 section 3.1). `established` wants ACK or RST.
 abbrev pub flags_hold : Option Flags → ℕ → Bool
 flags_hold None flags = true
 flags_hold (Some Established) flags = has_flag flags 16 || has_flag flags 4
@@ -57,21 +54,20 @@ abbrev pub is_entry : Item → Bool
 is_entry (Remark text) = false
 is_entry (AnEntry e) = true
 
-abbrev pub silent : Bool → Outcome
-silent true = record { verdict = Accept; logged = false }
-silent false = record { verdict = Deny; logged = false }
-
 -- What an entry decides, with its log.
+abbrev pub verdict_of : Bool → Verdict
+verdict_of permit = if permit then Accept else Deny
+
 abbrev pub decided_by : Entry → Outcome
-decided_by e = record { verdict = (silent e.permit).verdict; logged = e.log }
+decided_by e = record { verdict = verdict_of e.permit; logged = e.log }
 
 -- Neighbour advertisements, 136, and solicitations, 135, pass at the end of an IPv6 list; all else is denied.
 abbrev pub is_neighbour : Packet → Bool
 is_neighbour p = p.proto == 58 && (p.itype == 136 || p.itype == 135)
 
 abbrev pub ending : Family → Packet → Outcome
-ending V4 p = silent false
-ending V6 p = silent (is_neighbour p)
+ending V4 p = unlogged Deny
+ending V6 p = unlogged (verdict_of (is_neighbour p))
 
 -- The first entry that holds the packet decides, else the end of the list.
 unfoldable pub first_holding : List Item → Packet → Option Outcome
@@ -84,14 +80,7 @@ has_entries items = list_any is_entry items
 
 -- What the items of a list do: a list without entries accepts all.
 unfoldable pub walk : Family → List Item → Packet → Outcome
-walk family items p = if has_entries items then unwrap_or (first_holding items p) (ending family p) else silent true
-
--- The family of a list and of a section.
-
-abbrev pub covers : Families → Family → Bool
-covers Inet family = same_family V4 family
-covers Inet6 family = same_family V6 family
-covers Mixed family = true
+walk family items p = if has_entries items then unwrap_or (first_holding items p) (ending family p) else unlogged Accept
 
 -- The items of a section's list of the family; no list is one without entries.
 unfoldable pub items_of : Family → List AccessList → List Item

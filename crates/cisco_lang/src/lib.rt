@@ -2,15 +2,23 @@
 //! packet.
 #![tactic(auto)]
 
+mod checks;
 mod documents;
-mod entries;
+mod drafts;
+mod entry_drafts;
 mod laws;
-mod parsing;
+mod reading;
 #[cfg(test)]
 mod tests;
 mod walking;
+mod writing;
 
-pub use documents::{AccessList, AccessLists, Doc, Entry, Flags, Item, Items, Section};
-pub use laws::{a_text_has_one_document, joined_texts_spell_joined_documents};
-pub use parsing::read;
+pub use documents::{AccessList, Doc, Entry, Flags, Item, Section};
+pub use laws::{
+    a_document_has_one_text, a_text_has_one_document, joined_documents_have_joined_names,
+    joined_documents_keep_outcomes, joined_texts_spell_joined_documents,
+    the_empty_text_has_no_section,
+};
+pub use reading::read;
 pub use walking::{outcome, sections};
+pub use writing::{EntryRow, ListEnd, ListHead, RemarkRow, SectionHead};

@@ -1,8 +1,6 @@
-use crate::{
-    AccessList, AccessLists, Doc, Entry, Flags, Item, Items, Section, outcome, read, sections,
-};
+use crate::{AccessList, Doc, Entry, Flags, Item, Section, outcome, read, sections};
 use acl_packet::{Conn, Families, Family, Outcome, Packet, Prefix, Verdict, is_packet};
-use acl_text::{Bytes, Memory};
+use acl_text::{Bytes, Items, Memory};
 use std::alloc::Global;
 use std::test::Fail;
 
@@ -194,7 +192,7 @@ fn makes_a_document(rt: HostRuntime) -> Result<(), Fail> {
         flags: Some(Flags::SynNotAck),
         log: true,
     }))?;
-    let mut lists = AccessLists::new(rt.alloc());
+    let mut lists = Items::new(rt.alloc());
     let name = Bytes::from_slice(rt.alloc(), b"e")?;
     lists.push(AccessList {
         family: Family::V4,

@@ -1,18 +1,13 @@
-ghost use Rattle.std.specs.Prelude.{◌≡◌, ◌<◌, ◌^◌, ◌≤◌, nat_lt, length, Option};
+ghost use Rattle.std.specs.Prelude.{◌≡◌, length};
 ghost use Rattle.acl_packet.specs.Packets.{IsPacket};
-ghost use Rattle.acl_packet.specs.Addresses.{has_address, width_of};
-ghost use Rattle.acl_text.specs.Addresses.{same_family};
-ghost use Rattle.cisco_lang.specs.Walks.{proto_holds, port_holds, flags_hold, has_flag, entry_holds, ends_hold, ports_hold, tests_hold, is_entry, silent, decided_by, is_neighbour, ending, first_holding, has_entries, walk, covers, items_of, section_outcome, outcome_of};
-
-use acl_packet::{Families, Family, Outcome, Packet, Prefix, Verdict};
-
-const SYN: u8 = 2;
-
-const RST: u8 = 4;
-
-const ACK: u8 = 16;
+ghost use Rattle.cisco_lang.specs.Walks.{proto_holds, port_holds, flags_hold, entry_holds, ends_hold, ports_hold, tests_hold, is_entry, verdict_of, decided_by, is_neighbour, ending, first_holding, has_entries, walk, items_of, section_outcome, outcome_of};
 
 use crate::documents::{AccessList, Doc, Entry, Flags, Item, Section};
+use acl_packet::{Family, Outcome, Packet, Verdict, has_flag};
+
+const SYN: u8 = 2;
+const RST: u8 = 4;
+const ACK: u8 = 16;
 
 /// The number of sections of a document.
 pub fn sections(doc: &Doc) -> usize
@@ -34,21 +29,11 @@ pub fn outcome(doc: &Doc, which: usize, packet: &Packet) -> Option<Outcome>
 fn section_outcome(section: &Section, packet: &Packet) -> Option<Outcome>
     ensures { result ≡ section_outcome section.now packet.now }
 {
-    if covers(section.families, packet.family) {
+    if section.families.covers(packet.family) {
         let items = items_of(packet.family, section.lists.as_slice());
         Some(walk(packet.family, items, packet))
     } else {
         None
-    }
-}
-
-fn covers(families: Families, family: Family) -> bool
-    ensures { result ≡ covers families family }
-{
-    match families {
-        Families::Inet => family == Family::V4,
-        Families::Inet6 => family == Family::V6,
-        Families::Mixed => true,
     }
 }
 
@@ -69,7 +54,7 @@ fn walk(family: Family, items: &[Item], packet: &Packet) -> Outcome
     ensures { result ≡ walk family items.now packet.now }
 {
     if !has_entries(items) {
-        return silent(true);
+        return Outcome::unlogged(Verdict::Accept);
     }
     match first_holding(items, packet) {
         Some(outcome) => outcome,
@@ -106,16 +91,13 @@ fn first_holding(items: &[Item], packet: &Packet) -> Option<Outcome>
     None
 }
 
-fn silent(accepted: bool) -> Outcome
-    ensures { result ≡ silent accepted }
+fn verdict_of(permit: bool) -> Verdict
+    ensures { result ≡ verdict_of permit }
 {
-    Outcome {
-        verdict: if accepted {
-            Verdict::Accept
-        } else {
-            Verdict::Deny
-        },
-        logged: false,
+    if permit {
+        Verdict::Accept
+    } else {
+        Verdict::Deny
     }
 }
 
@@ -123,7 +105,7 @@ fn decided_by(entry: &Entry) -> Outcome
     ensures { result ≡ decided_by entry.now }
 {
     Outcome {
-        verdict: silent(entry.permit).verdict,
+        verdict: verdict_of(entry.permit),
         logged: entry.log,
     }
 }
@@ -132,8 +114,8 @@ fn ending(family: Family, packet: &Packet) -> Outcome
     ensures { result ≡ ending family packet.now }
 {
     match family {
-        Family::V4 => silent(false),
-        Family::V6 => silent(is_neighbour(packet)),
+        Family::V4 => Outcome::unlogged(Verdict::Deny),
+        Family::V6 => Outcome::unlogged(verdict_of(is_neighbour(packet))),
     }
 }
 
@@ -153,8 +135,8 @@ fn ends_hold(entry: &Entry, packet: &Packet) -> bool
     ensures { result ≡ ends_hold entry.now packet.now }
 {
     proto_holds(entry.proto, packet.proto)
-        && has_address(&entry.src, packet.src)
-        && has_address(&entry.dst, packet.dst)
+        && entry.src.contains(packet.src)
+        && entry.dst.contains(packet.dst)
 }
 
 fn ports_hold(entry: &Entry, packet: &Packet) -> bool
@@ -197,24 +179,4 @@ fn flags_hold(test: Option<Flags>, flags: u8) -> bool
         Some(Flags::Rst) => has_flag(flags, RST),
         Some(Flags::SynNotAck) => has_flag(flags, SYN) && !has_flag(flags, ACK),
     }
-}
-
-fn has_flag(flags: u8, flag: u8) -> bool
-    ensures { result ≡ has_flag flags flag }
-{
-    flags & flag != 0
-}
-
-fn has_address(prefix: &Prefix, address: u128) -> bool
-    ensures { result ≡ has_address prefix.now address }
-{
-    let free = prefix.family.width().saturating_sub(prefix.len);
-    prefix.first <= address && is_below_power(address - prefix.first, free)
-}
-
-fn is_below_power(offset: u128, free: u8) -> bool
-    requires { free ≤ 128 }
-    ensures { result ≡ nat_lt offset (2 ^ free) }
-{
-    free == 128 || offset < 2u128.pow(u32::from(free))
 }

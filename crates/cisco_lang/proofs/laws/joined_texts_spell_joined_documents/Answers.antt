@@ -1,4 +1,4 @@
-use Rattle.cisco_lang.proofs.DocumentLaws.{joined_documents}
+use Rattle.cisco_lang.proofs.JoinLaws.{joined_documents}
 use Rattle.cisco_lang.proofs.laws.joined_texts_spell_joined_documents.Goals as goal
 
 pub returns : goal.returns
