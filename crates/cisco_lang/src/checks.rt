@@ -1,6 +1,6 @@
 ghost use Rattle.std.specs.Prelude.{◌≡◌, ◌++◌, ◌&&◌, ◌↔◌, IfOk, OnOk, IsTrue, bytes_eq, codes, map};
 ghost use Rattle.std.specs.List.{list_all};
-ghost use Rattle.acl_text.specs.Lines.{views};
+ghost use Rattle.acl_text.specs.Cuts.{views};
 ghost use Rattle.cisco_lang.specs.Documents.{IsDocument, flags_fit, is_proto, match_all_fits, names_of, parts_fit, ports_fit, type_fits};
 ghost use Rattle.cisco_lang.specs.CheckSteps.{are_headed, are_ports, are_sections, is_end, is_entry, is_headed, is_item, is_list, is_number, is_section};
 

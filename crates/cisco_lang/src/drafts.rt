@@ -1,5 +1,5 @@
 ghost use Rattle.std.specs.Prelude.{◌≡◌, ◌∷◌, [], OnOk, IfOk, true};
-ghost use Rattle.acl_text.specs.Lines.{views};
+ghost use Rattle.acl_text.specs.Cuts.{views};
 ghost use Rattle.cisco_lang.specs.ReadingSteps.{no_list, no_section, families_in, item_in, is_last, no_draft, end_section, end_list, begin_list, take_four, take_outer, take_inner, take_row};
 
 use crate::documents::{AccessList, Doc, Item, Section};

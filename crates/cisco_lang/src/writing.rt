@@ -1,5 +1,5 @@
 ghost use Rattle.std.specs.Prelude.{◌≡◌, ◌∷◌, [], codes, IsTrue};
-ghost use Rattle.acl_text.specs.Lines.{views};
+ghost use Rattle.acl_text.specs.Cuts.{views};
 ghost use Rattle.acl_text.specs.Output.{Puts};
 ghost use Rattle.acl_grammar.specs.Rows.{row, spaced, text_of_rows, words_in};
 ghost use Rattle.cisco_lang.specs.declared.documents.Item.TheVariants.{Entry as AnEntry};

@@ -1,5 +1,5 @@
 use Rattle.std.proofs.Common.{ap, sym, ◌∙◌}
-use Rattle.acl_text.specs.Lines.{views}
+use Rattle.acl_text.specs.Cuts.{views}
 use Rattle.cisco_lang.proofs.CheckLaws.{document_decides}
 use Rattle.cisco_lang.proofs.checks.is_document.Goals as goal
 

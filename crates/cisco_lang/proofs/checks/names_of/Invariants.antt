@@ -1,5 +1,5 @@
 use Rattle.std.proofs.Common.{◌≡◌, take}
-use Rattle.acl_text.specs.Lines.{views}
+use Rattle.acl_text.specs.Cuts.{views}
 use Rattle.cisco_lang.specs.Documents.{names_of}
 use Rattle.cisco_lang.proofs.checks.names_of.Given as goal
 

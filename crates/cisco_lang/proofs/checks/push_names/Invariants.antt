@@ -1,5 +1,5 @@
 use Rattle.std.proofs.Common.{◌≡◌, ◌++◌, map, take}
-use Rattle.acl_text.specs.Lines.{views}
+use Rattle.acl_text.specs.Cuts.{views}
 use Rattle.cisco_lang.proofs.checks.push_names.Given as goal
 
 abbrev pub invariant-loop-list : goal.invariant-loop-list
