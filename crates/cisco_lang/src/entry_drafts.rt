@@ -1,7 +1,7 @@
 ghost use Rattle.std.specs.Prelude.{◌≡◌, Some, IfSome, ◌<◌, ◌^◌};
 ghost use Rattle.std.specs.List.{fold};
 ghost use Rattle.std.specs.Str.{bytes_eq};
-ghost use Rattle.acl_text.specs.Lines.{views};
+ghost use Rattle.acl_text.specs.Cuts.{views};
 ghost use Rattle.cisco_lang.specs.ReadingSteps.{draft, everywhere, no_entry, with_place, with_ports, place_of, ports_of, after, proto_named, proto_in, host_in, place_in, length_in, port_in, port_pair, begun, ports_begin, place_named, take_place, test_named, take_test, take_as, take_word, entry_in};
 
 use crate::documents::{Entry, Flags};

@@ -1,6 +1,6 @@
 use Rattle.std.proofs.Common.{◌≡◌, drop}
 use Rattle.std.specs.List.{fold}
-use Rattle.acl_text.specs.Lines.{views}
+use Rattle.acl_text.specs.Cuts.{views}
 use Rattle.cisco_lang.specs.ReadingSteps.{take_word}
 use Rattle.cisco_lang.proofs.entry_drafts.entry_of.Given as goal
 

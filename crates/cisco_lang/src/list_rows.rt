@@ -1,0 +1,476 @@
+ghost use Rattle.std.specs.Prelude.{◌≡◌, ◌∷◌, [], codes, IsTrue};
+ghost use Rattle.acl_text.specs.Cuts.{views};
+ghost use Rattle.acl_text.specs.Output.{Puts};
+ghost use Rattle.acl_grammar.specs.Rows.{row, spaced, text_of_rows, words_in};
+ghost use Rattle.cisco_lang.specs.declared.documents.Item.TheVariants.{Entry as AnEntry};
+ghost use Rattle.cisco_lang.specs.Texts.{action_word, any_word, families_word, proto_word, masked_words, address_words, ports_words, type_words, flags_words, log_words, end_words, entry_words, item_rows, head_rows, end_rows, list_rows, section_row, section_rows};
+
+use crate::documents::{AccessList, Entry, Flags, Item, Section};
+use acl_grammar::{Address, Each, Form, FreeText, Number, Piece, Row, Rows, Wildcard, Word, Words};
+use acl_packet::{Families, Family, Prefix};
+use acl_text::{Out, PutFault};
+
+/// The row of an entry of a list of the family.
+#[derive(Drop)]
+pub struct EntryRow {
+    pub family: Family,
+    pub entry: Entry,
+}
+
+impl Rows for EntryRow {
+    ghost rows = { λ r. item_rows r.family (AnEntry r.entry) };
+
+    #[tactic(auto, unfolding(crate::specs::Texts::item_rows, crate::specs::Texts::entry_words))]
+    fn put_rows<O: Out>(&self, out: &mut O) -> Result<(), PutFault> {
+        let family = self.family;
+        let entry = self.entry;
+        let source = End {
+            family,
+            place: entry.src,
+            ports: entry.sport,
+        };
+        let destination = End {
+            family,
+            place: entry.dst,
+            ports: entry.dport,
+        };
+        let tests = (
+            IcmpType { number: entry.itype },
+            (Test { flags: entry.flags }, Log { log: entry.log }),
+        );
+        let protocol = Word {
+            piece: Protocol {
+                family,
+                number: entry.proto,
+            },
+        };
+        let row = Row {
+            indent: 1,
+            first: Action {
+                permit: entry.permit,
+            },
+            rest: (protocol, (source, (destination, tests))),
+        };
+        row.put_rows(out)
+    }
+}
+
+/// The row of a remark.
+#[derive(Drop)]
+pub struct RemarkRow<'a> {
+    pub text: &'a [u8],
+}
+
+impl<'a> Rows for RemarkRow<'a> {
+    ghost rows = { λ r. row 1 (codes "remark" ∷ words_in r.text.now) ∷ [] };
+
+    fn put_rows<O: Out>(&self, out: &mut O) -> Result<(), PutFault> {
+        let row = Row {
+            indent: 1,
+            first: b"remark".as_slice(),
+            rest: FreeText { text: self.text },
+        };
+        row.put_rows(out)
+    }
+}
+
+/// The rows that begin a list, the first of which takes an older list of its name away.
+#[derive(Drop)]
+pub struct ListHead<'a> {
+    pub family: Family,
+    pub name: &'a [u8],
+}
+
+impl<'a> Rows for ListHead<'a> {
+    ghost rows = { λ h. head_rows h.family h.name.now };
+
+    fn put_rows<O: Out>(&self, out: &mut O) -> Result<(), PutFault> {
+        match self.family {
+            Family::V4 => put_head(b"ip", &[b"access-list", b"extended", self.name], out),
+            Family::V6 => put_head(b"ipv6", &[b"access-list", self.name], out),
+        }
+    }
+}
+
+fn put_head<O: Out>(first: &[u8], rest: &[&[u8]], out: &mut O) -> Result<(), PutFault>
+    requires { IsTrue (O.is_open out.old) }
+    ensures { Puts O.told O.faults O.refusals O.is_open O.keeps_rest out.old out.new
+        (text_of_rows (row 0 (codes "no" ∷ first.now ∷ views rest.now) ∷ row 0 (first.now ∷ views rest.now) ∷ [])) result }
+{
+    let removal = Row {
+        indent: 0,
+        first: b"no".as_slice(),
+        rest: (Word { piece: first }, rest),
+    };
+    let head = Row {
+        indent: 0,
+        first,
+        rest,
+    };
+    (removal, head).put_rows(out)
+}
+
+/// The row that ends a list.
+#[derive(Drop)]
+pub struct ListEnd;
+
+impl Rows for ListEnd {
+    ghost rows = { λ e. end_rows };
+
+    fn put_rows<O: Out>(&self, out: &mut O) -> Result<(), PutFault> {
+        let none: &[&[u8]] = &[];
+        let row = Row {
+            indent: 0,
+            first: b"exit".as_slice(),
+            rest: none,
+        };
+        row.put_rows(out)
+    }
+}
+
+/// The row that begins a section.
+#[derive(Drop)]
+pub struct SectionHead<'a> {
+    pub name: &'a [u8],
+    pub families: Families,
+}
+
+impl<'a> Rows for SectionHead<'a> {
+    ghost rows = { λ h. section_row h.name.now h.families ∷ [] };
+
+    fn put_rows<O: Out>(&self, out: &mut O) -> Result<(), PutFault> {
+        let row = Row {
+            indent: 0,
+            first: b"!".as_slice(),
+            rest: (
+                Word {
+                    piece: b"cisco".as_slice(),
+                },
+                (
+                    Word { piece: self.name },
+                    Word {
+                        piece: FamiliesWord {
+                            families: self.families,
+                        },
+                    },
+                ),
+            ),
+        };
+        row.put_rows(out)
+    }
+}
+
+#[derive(Drop)]
+struct FamiliesWord {
+    families: Families,
+}
+
+impl Piece for FamiliesWord {
+    ghost text = { λ w. families_word w.families };
+
+    fn put_into<O: Out>(&self, out: &mut O) -> Result<(), PutFault> {
+        match self.families {
+            Families::Inet => out.put(b"extended"),
+            Families::Inet6 => out.put(b"inet6"),
+            Families::Mixed => out.put(b"mixed"),
+        }
+    }
+}
+
+#[derive(Drop)]
+struct Action {
+    permit: bool,
+}
+
+impl Piece for Action {
+    ghost text = { λ a. action_word a.permit };
+
+    fn put_into<O: Out>(&self, out: &mut O) -> Result<(), PutFault> {
+        if self.permit {
+            out.put(b"permit")
+        } else {
+            out.put(b"deny")
+        }
+    }
+}
+
+#[derive(Drop)]
+struct Protocol {
+    family: Family,
+    number: Option<u8>,
+}
+
+impl Piece for Protocol {
+    ghost text = { λ p. proto_word p.family p.number };
+
+    #[tactic(auto, unfolding(crate::specs::Texts::proto_word))]
+    fn put_into<O: Out>(&self, out: &mut O) -> Result<(), PutFault> {
+        match self.number {
+            None => put_any(self.family, out),
+            Some(6) => out.put(b"tcp"),
+            Some(17) => out.put(b"udp"),
+            Some(number) => {
+                if number == self.family.icmp_number() {
+                    out.put(b"icmp")
+                } else {
+                    let number = u128::from(number);
+                    Number { number }.put_into(out)
+                }
+            }
+        }
+    }
+}
+
+fn put_any<O: Out>(family: Family, out: &mut O) -> Result<(), PutFault>
+    requires { IsTrue (O.is_open out.old) }
+    ensures { Puts O.told O.faults O.refusals O.is_open O.keeps_rest out.old out.new
+        (any_word family) result }
+{
+    match family {
+        Family::V4 => out.put(b"ip"),
+        Family::V6 => out.put(b"ipv6"),
+    }
+}
+
+#[derive(Drop)]
+struct End {
+    family: Family,
+    place: Prefix,
+    ports: Option<(u16, u16)>,
+}
+
+impl Words for End {
+    ghost words = { λ e. end_words e.family e.place e.ports };
+
+    #[tactic(auto, unfolding(crate::specs::Texts::end_words))]
+    fn put_spaced<O: Out>(&self, out: &mut O) -> Result<(), PutFault> {
+        let place = Place {
+            family: self.family,
+            place: self.place,
+        };
+        (place, Ports { ports: self.ports }).put_spaced(out)
+    }
+}
+
+#[derive(Drop)]
+struct Place {
+    family: Family,
+    place: Prefix,
+}
+
+impl Words for Place {
+    ghost words = { λ p. address_words p.family p.place };
+
+    #[tactic(auto, unfolding(crate::specs::Texts::address_words))]
+    fn put_spaced<O: Out>(&self, out: &mut O) -> Result<(), PutFault> {
+        if self.place.len == 0 {
+            let any: &[&[u8]] = &[b"any"];
+            any.put_spaced(out)
+        } else if self.place.len == self.family.width() {
+            let host = Word {
+                piece: b"host".as_slice(),
+            };
+            (host, Word { piece: self.address() }).put_spaced(out)
+        } else {
+            self.put_masked(out)
+        }
+    }
+}
+
+impl Place {
+    fn address(&self) -> Address
+        ensures { result ≡ record { family = self.now.family; address = self.now.place.first } }
+    {
+        Address {
+            family: self.family,
+            address: self.place.first,
+        }
+    }
+
+    fn put_masked<O: Out>(&self, out: &mut O) -> Result<(), PutFault>
+        requires { IsTrue (O.is_open out.old) }
+        ensures { Puts O.told O.faults O.refusals O.is_open O.keeps_rest out.old out.new
+            (spaced (masked_words self.now.family self.now.place)) result }
+    {
+        match self.family {
+            Family::V4 => {
+                let wildcard = Wildcard {
+                    len: self.place.len,
+                };
+                (Word { piece: self.address() }, Word { piece: wildcard }).put_spaced(out)
+            }
+            Family::V6 => Word { piece: self.place }.put_spaced(out),
+        }
+    }
+}
+
+#[derive(Drop)]
+struct Ports {
+    ports: Option<(u16, u16)>,
+}
+
+impl Words for Ports {
+    ghost words = { λ p. ports_words p.ports };
+
+    #[tactic(auto, unfolding(crate::specs::Texts::ports_words))]
+    fn put_spaced<O: Out>(&self, out: &mut O) -> Result<(), PutFault> {
+        match self.ports {
+            None => Ok(()),
+            Some((low, high)) => {
+                if low == high {
+                    let one = Word {
+                        piece: b"eq".as_slice(),
+                    };
+                    (one, port(low)).put_spaced(out)
+                } else {
+                    let range = Word {
+                        piece: b"range".as_slice(),
+                    };
+                    (range, (port(low), port(high))).put_spaced(out)
+                }
+            }
+        }
+    }
+}
+
+fn port(number: u16) -> Word<Number>
+    ensures { result ≡ record { piece = record { number = number } } }
+{
+    let number = u128::from(number);
+    Word {
+        piece: Number { number },
+    }
+}
+
+#[derive(Drop)]
+struct IcmpType {
+    number: Option<u8>,
+}
+
+impl Words for IcmpType {
+    ghost words = { λ t. type_words t.number };
+
+    #[tactic(auto, unfolding(crate::specs::Texts::type_words))]
+    fn put_spaced<O: Out>(&self, out: &mut O) -> Result<(), PutFault> {
+        match self.number {
+            None => Ok(()),
+            Some(number) => port(u16::from(number)).put_spaced(out),
+        }
+    }
+}
+
+#[derive(Drop)]
+struct Test {
+    flags: Option<Flags>,
+}
+
+impl Words for Test {
+    ghost words = { λ t. flags_words t.flags };
+
+    #[tactic(auto, unfolding(crate::specs::Texts::flags_words))]
+    fn put_spaced<O: Out>(&self, out: &mut O) -> Result<(), PutFault> {
+        match self.flags {
+            None => Ok(()),
+            Some(Flags::Established) => put_keywords(&[b"established"], out),
+            Some(Flags::Rst) => put_keywords(&[b"rst"], out),
+            Some(Flags::SynNotAck) => put_keywords(&[b"match-all", b"+syn", b"-ack"], out),
+        }
+    }
+}
+
+fn put_keywords<O: Out>(words: &[&[u8]], out: &mut O) -> Result<(), PutFault>
+    requires { IsTrue (O.is_open out.old) }
+    ensures { Puts O.told O.faults O.refusals O.is_open O.keeps_rest out.old out.new
+        (spaced (views words.now)) result }
+{
+    words.put_spaced(out)
+}
+
+#[derive(Drop)]
+struct Log {
+    log: bool,
+}
+
+impl Words for Log {
+    ghost words = { λ l. log_words l.log };
+
+    #[tactic(auto, unfolding(crate::specs::Texts::log_words))]
+    fn put_spaced<O: Out>(&self, out: &mut O) -> Result<(), PutFault> {
+        if self.log {
+            let log = Word {
+                piece: b"log".as_slice(),
+            };
+            log.put_spaced(out)
+        } else {
+            Ok(())
+        }
+    }
+}
+
+// The items of a list of the family.
+#[derive(Drop)]
+struct OfFamily {
+    family: Family,
+}
+
+impl Form<Item> for OfFamily {
+    ghost item_rows = { λ f i. item_rows f.family i };
+
+    #[tactic(auto, unfolding(crate::specs::Texts::item_rows))]
+    fn put_item<O: Out>(&self, item: &Item, out: &mut O) -> Result<(), PutFault> {
+        match item {
+            Item::Remark(text) => RemarkRow {
+                text: text.as_slice(),
+            }
+            .put_rows(out),
+            Item::Entry(entry) => EntryRow {
+                family: self.family,
+                entry: *entry,
+            }
+            .put_rows(out),
+        }
+    }
+}
+
+#[derive(Drop)]
+struct Lists;
+
+impl Form<AccessList> for Lists {
+    ghost item_rows = { λ f l. list_rows l };
+
+    #[tactic(auto, unfolding(crate::specs::Texts::list_rows))]
+    fn put_item<O: Out>(&self, list: &AccessList, out: &mut O) -> Result<(), PutFault> {
+        let head = ListHead {
+            family: list.family,
+            name: list.name.as_slice(),
+        };
+        let items = Each {
+            items: list.items.as_slice(),
+            form: OfFamily {
+                family: list.family,
+            },
+        };
+        (head, (items, ListEnd)).put_rows(out)
+    }
+}
+
+/// The sections of a document.
+#[derive(Drop)]
+pub(crate) struct Sections;
+
+impl Form<Section> for Sections {
+    ghost item_rows = { λ f s. section_rows s };
+
+    #[tactic(auto, unfolding(crate::specs::Texts::section_rows))]
+    fn put_item<O: Out>(&self, section: &Section, out: &mut O) -> Result<(), PutFault> {
+        let head = SectionHead {
+            name: section.name.as_slice(),
+            families: section.families,
+        };
+        let lists = Each {
+            items: section.lists.as_slice(),
+            form: Lists,
+        };
+        (head, lists).put_rows(out)
+    }
+}
