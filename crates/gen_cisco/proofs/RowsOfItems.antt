@@ -1,6 +1,7 @@
 -- The rows of a section as they are put: an entry for each destination of each source of each rule.
-use Rattle.std.proofs.Common.{◌≡◌, ℕ, ◌*◌, ◌<◌, ◌≤◌, Bool, false, List, [], ◌∷◌, ◌++◌, length, map, flat_map, None, append-nil, refl, ap, sym, ◌∙◌, arith}
+use Rattle.std.proofs.Common.{◌≡◌, ℕ, ◌*◌, ◌<◌, ◌≤◌, Bool, true, false, ◌||◌, ◌==◌, inl, inr, List, [], ◌∷◌, ◌++◌, length, map, flat_map, None, append-nil, refl, ap, sym, ◌∙◌, arith}
 use Rattle.std.proofs.lemmas.List.Folds.{flat_map-map}
+use Rattle.std.proofs.lemmas.Bool.{eqb-true, eqb-false, or_parts, or_cases}
 use Rattle.std.proofs.Math.Nat.{mul-le-mul_right, zero-mul, mul-zero}
 use Rattle.acl_packet.specs.declared.addresses.Family.TheVariants.{V4}
 use Rattle.acl_packet.specs.declared.addresses.Families.TheVariants.{Inet}
@@ -30,23 +31,28 @@ remarked : (name : List ℕ) (items : List Item) → 0 < entries items → rows_
 remarked name [] h = absurd (omega (arith, h))
 remarked name (item ∷ items) h = refl
 
-pub rule_rows : (rule : Rule) → 0 < length rule.src → 0 < length rule.dst
+pub rule_rows : (rule : Rule) → (length rule.src == 0 || length rule.dst == 0) ≡ false
     → rows_of (Remark rule.name ∷ []) ++ flat_map (λ src. rows_of (source_entries rule src)) rule.src ≡ rows_of (rule_items rule)
 unfolding item_rows
-rule_rows rule h k =
+rule_rows rule h =
+    let parts = or_parts (length rule.src == 0) (length rule.dst == 0) h in
+    let sources = eqb-false (length rule.src) 0 parts.0 in
+    let destinations = eqb-false (length rule.dst) 0 parts.1 in
     let count = rule-count rule in
-    let some = some_product (length rule.src) (length rule.dst) h k in
+    let some = some_product (length rule.src) (length rule.dst) (omega (arith, sources)) (omega (arith, destinations)) in
     ap (λ rows. rows_of (Remark rule.name ∷ []) ++ rows) (flat_twice (item_rows V4) (source_entries rule) rule.src)
     ∙ remarked rule.name (rule_entries rule) (omega (arith, count, some))
 
 no_entry : (rule : Rule) → length rule.src * length rule.dst ≡ 0 → rule_entries rule ≡ []
 no_entry rule h = none-left (rule_entries rule) (full-sources rule rule.src) (rule-count rule ∙ h)
 
-pub no_source : (rule : Rule) → length rule.src ≡ 0 → [] ≡ rows_of (rule_items rule)
-no_source rule h = ap (λ items. rows_of (with_remark rule.name items)) (sym (no_entry rule (ap (λ n. n * length rule.dst) h ∙ zero-mul (length rule.dst))))
-
-pub no_destination : (rule : Rule) → length rule.dst ≡ 0 → [] ≡ rows_of (rule_items rule)
-no_destination rule h = ap (λ items. rows_of (with_remark rule.name items)) (sym (no_entry rule (ap (λ n. length rule.src * n) h ∙ mul-zero (length rule.src))))
+pub no_rows : (rule : Rule) → (length rule.src == 0 || length rule.dst == 0) ≡ true → [] ≡ rows_of (rule_items rule)
+no_rows rule h =
+    let none : length rule.src * length rule.dst ≡ 0 = elim (or_cases (length rule.src == 0) (length rule.dst == 0) h) [
+      | inl e ↦ ap (λ n. n * length rule.dst) (eqb-true (length rule.src) 0 e) ∙ zero-mul (length rule.dst)
+      | inr e ↦ ap (λ n. length rule.src * n) (eqb-true (length rule.dst) 0 e) ∙ mul-zero (length rule.src)
+    ] in
+    ap (λ items. rows_of (with_remark rule.name items)) (sym (no_entry rule none))
 
 pub closing_rows : (rules : List Rule) → combinations rules ≡ 0
     → item_rows V4 (AnEntry (plain_entry false None everywhere everywhere)) ≡ rows_of (list_items rules)

@@ -1,4 +1,4 @@
-ghost use Rattle.std.specs.Prelude.{◌≡◌, ◌∷◌, [], IsTrue, Some, true, min, flat_map};
+ghost use Rattle.std.specs.Prelude.{◌≡◌, ◌==◌, ◌||◌, ◌∷◌, [], IsTrue, length, None, Some, false, true, min, flat_map};
 ghost use Rattle.std.specs.List.{AllByRecursion};
 ghost use Rattle.acl_packet.specs.declared.addresses.Family.TheVariants.{V4};
 ghost use Rattle.acl_packet.specs.declared.packets.Packet.{Packet};
@@ -83,7 +83,6 @@ struct OfRule<'a> {
 impl<'a> Form<Prefix> for OfRule<'a> {
     ghost item_rows = { λ f src. flat_map (item_rows V4) (source_entries f.rule.now src) };
 
-    #[tactic(auto, using(crate::proofs::RowsOfItems::source_rows))]
     fn put_item<O: Out>(&self, src: &Prefix, out: &mut O) -> Result<(), PutFault> {
         let form = FromSource {
             rule: self.rule,
@@ -104,9 +103,8 @@ struct InOrder;
 impl Form<Rule> for InOrder {
     ghost item_rows = { λ f rule. flat_map (item_rows V4) (rule_items rule) };
 
-    #[tactic(auto, using(crate::proofs::RowsOfItems::no_source, crate::proofs::RowsOfItems::no_destination))]
     fn put_item<O: Out>(&self, rule: &Rule, out: &mut O) -> Result<(), PutFault> {
-        if rule.src.as_slice().is_empty() || rule.dst.as_slice().is_empty() {
+        if is_empty(rule) {
             return Ok(());
         }
         let remark = RemarkRow {
@@ -120,6 +118,13 @@ impl Form<Rule> for InOrder {
     }
 }
 
+// Whether the rule has no entry.
+fn is_empty(rule: &Rule) -> bool
+    ensures { result ≡ (length rule.now.src == 0 || length rule.now.dst == 0) }
+{
+    rule.src.as_slice().is_empty() || rule.dst.as_slice().is_empty()
+}
+
 // The items of the list that the rules become.
 #[derive(Drop)]
 struct ListItems<'a> {
@@ -131,7 +136,7 @@ impl<'a> Rows for ListItems<'a> {
 
     fn put_rows<O: Out>(&self, out: &mut O) -> Result<(), PutFault> {
         if combinations(self.rules) == 0 {
-            plain_entry(false, None, everywhere(), everywhere()).put_rows(out)
+            closing_entry().put_rows(out)
         } else {
             let rules = Each {
                 items: self.rules,
@@ -140,6 +145,13 @@ impl<'a> Rows for ListItems<'a> {
             rules.put_rows(out)
         }
     }
+}
+
+// The entry that denies all packets.
+fn closing_entry() -> EntryRow
+    ensures { result ≡ record { family = V4; entry = plain_entry false None everywhere everywhere } }
+{
+    plain_entry(false, None, everywhere(), everywhere())
 }
 
 fn everywhere() -> Prefix
