@@ -10,7 +10,7 @@ use Rattle.acl_packet.specs.declared.addresses.Family.{Family}
 use Rattle.acl_packet.specs.declared.addresses.Family.TheVariants.{V4, V6}
 use Rattle.acl_packet.specs.declared.addresses.Prefix.{Prefix}
 use Rattle.acl_packet.specs.Addresses.{same_family, size_of, top_address, width_of, IsPrefix, IsPrefixOf}
-use Rattle.acl_grammar.specs.CheckSteps.{is_aligned, is_prefix_of}
+use Rattle.acl_grammar.specs.PrefixCheckSteps.{is_aligned, is_prefix_of}
 
 pub le_decides : (m n : ℕ) → Decides (nat_le m n) (m ≤ n)
 le_decides m n = (leb-true m n, le-leb m n)

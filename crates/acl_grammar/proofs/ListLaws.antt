@@ -28,3 +28,9 @@ pub joined_text : {A : Type 0} (rows : A → List Row) (xs ys : List A)
     → text_of_rows (flat_map rows xs) ++ text_of_rows (flat_map rows ys) ≡ text_of_rows (flat_map rows (xs ++ ys))
 joined_text rows xs ys =
     sym (flat_map-append row_text (flat_map rows xs) (flat_map rows ys)) ∙ ap text_of_rows (sym (flat_map-append rows xs ys))
+
+pub flat_twice : {A B C : Type 0} (g : B → List C) (f : A → List B) (xs : List A)
+    → flat_map (λ x. flat_map g (f x)) xs ≡ flat_map g (flat_map f xs)
+flat_twice g f [] = refl
+flat_twice g f (x ∷ xs) =
+    ap (λ t. flat_map g (f x) ++ t) (flat_twice g f xs) ∙ sym (flat_map-append g (f x) (flat_map f xs))

@@ -2,18 +2,18 @@
 //! reading into a draft, and the comparison of bytes with a text.
 #![tactic(auto)]
 
-mod checks;
 mod comparing;
 mod drafts;
 mod naming;
 mod pieces;
+mod prefix_checks;
 mod rows;
 mod splitting;
 
-pub use checks::is_prefix_of;
 pub use comparing::is_text_of;
 pub use drafts::{Draft, read_rows};
 pub use naming::are_distinct;
 pub use pieces::{Address, FreeText, Number, Piece, Wildcard, Word, Words};
+pub use prefix_checks::is_prefix_of;
 pub use rows::{Each, Form, Row, Rows};
 pub use splitting::join_words;

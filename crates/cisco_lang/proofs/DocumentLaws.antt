@@ -17,11 +17,11 @@ use Rattle.cisco_lang.specs.declared.documents.Section.{Section}
 use Rattle.cisco_lang.specs.declared.documents.AccessList.{AccessList}
 use Rattle.cisco_lang.specs.declared.documents.Item.{Item}
 use Rattle.cisco_lang.specs.declared.documents.Item.TheVariants.{Remark, Entry as AnEntry}
-use Rattle.cisco_lang.specs.declared.drafts.DocDraft.{DocDraft}
+use Rattle.cisco_lang.specs.declared.document_drafts.DocDraft.{DocDraft}
 use Rattle.cisco_lang.specs.Documents.{IsItem, IsList, heads_of, IsSection}
 use Rattle.cisco_lang.specs.Texts.{action_word, proto_word, end_words, type_words, flags_words, log_words, entry_words, item_rows, head_rows, end_rows, list_rows, families_word, section_row, section_rows, Spells}
 use Rattle.cisco_lang.specs.ReadingSteps.{no_list, no_section, no_draft, families_in, entry_in, item_in, is_last, end_section, end_list, take_four, take_outer, take_inner, take_row, document_in}
-use Rattle.cisco_lang.proofs.CheckLaws.{head_of}
+use Rattle.cisco_lang.proofs.ValidityLaws.{head_of}
 use Rattle.cisco_lang.proofs.EntryReadingLaws.{entry_again}
 use Rattle.cisco_lang.proofs.SafeRows.{sections_safe}
 

@@ -1,5 +1,5 @@
-pub mod CheckLaws
 pub mod DocumentLaws
 pub mod EntryReadingLaws
 pub mod JoinLaws
 pub mod SafeRows
+pub mod ValidityLaws

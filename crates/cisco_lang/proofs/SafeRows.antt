@@ -26,7 +26,7 @@ use Rattle.cisco_lang.specs.declared.documents.Flags.{Flags}
 use Rattle.cisco_lang.specs.declared.documents.Flags.TheVariants.{Established, Rst, SynNotAck}
 use Rattle.cisco_lang.specs.Documents.{IsPortRange, IsEntry, IsItem, IsList, heads_of, IsSection}
 use Rattle.cisco_lang.specs.Texts.{action_word, any_word, proto_word, masked_words, address_words, ports_words, type_words, flags_words, log_words, end_words, entry_words, item_rows, head_words, head_rows, end_rows, list_rows, families_word, section_row, section_rows}
-use Rattle.cisco_lang.proofs.CheckLaws.{head_of}
+use Rattle.cisco_lang.proofs.ValidityLaws.{head_of}
 
 abbrev AreWords : List (List ℕ) → Type 0
 AreWords words = AllByRecursion IsWord words

@@ -27,7 +27,7 @@ use Rattle.cisco_lang.specs.declared.entry_drafts.End.TheVariants.{Source, Desti
 use Rattle.cisco_lang.specs.declared.entry_drafts.Next.{Next}
 use Rattle.cisco_lang.specs.declared.entry_drafts.Next.TheVariants.{Action, Protocol, Place, Host, Wildcard, Port, Low, High, Tests}
 use Rattle.cisco_lang.specs.declared.entry_drafts.EntryDraft.{EntryDraft}
-use Rattle.cisco_lang.specs.declared.drafts.DocDraft.{DocDraft}
+use Rattle.cisco_lang.specs.declared.document_drafts.DocDraft.{DocDraft}
 
 -- ---- the words of an entry
 

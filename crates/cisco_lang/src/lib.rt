@@ -2,16 +2,16 @@
 //! packet.
 #![tactic(auto)]
 
-mod checks;
+mod document_drafts;
 mod documents;
-mod drafts;
 mod entry_drafts;
 mod laws;
+mod list_rows;
 mod reading;
 #[cfg(test)]
 mod tests;
+mod validity;
 mod walking;
-mod writing;
 
 pub use documents::{AccessList, Doc, Entry, Flags, Item, Section};
 pub use laws::{
@@ -19,6 +19,6 @@ pub use laws::{
     joined_documents_keep_outcomes, joined_texts_spell_joined_documents,
     the_empty_text_has_no_section,
 };
+pub use list_rows::{EntryRow, ListEnd, ListHead, RemarkRow, SectionHead};
 pub use reading::read;
 pub use walking::{outcome, sections};
-pub use writing::{EntryRow, ListEnd, ListHead, RemarkRow, SectionHead};

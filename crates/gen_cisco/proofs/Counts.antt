@@ -10,7 +10,7 @@ use Rattle.cisco_lang.specs.declared.documents.Item.TheVariants.{Remark, Entry a
 use Rattle.cisco_lang.specs.Walks.{is_entry, has_entries}
 use Rattle.gen_cisco.specs.declared.rules.Rule.{Rule}
 use Rattle.gen_cisco.specs.Sections.{plain_entry, source_entries, rule_entries, with_remark, rule_items, closed, list_items, entry_count}
-use Rattle.gen_cisco.specs.Pieces.{combinations}
+use Rattle.gen_cisco.specs.CountingSteps.{combinations}
 
 abbrev pub entries : List Item → ℕ
 entries items = count_by is_entry items
@@ -39,6 +39,9 @@ from-sources rule (src ∷ srcs) =
     let both = entries-append (source_entries rule src) (flat_map (source_entries rule) srcs) in
     omega (arith, here, rest, both)
 
+pub rule-count : (rule : Rule) → entries (rule_entries rule) ≡ length rule.src * length rule.dst
+rule-count rule = from-sources rule rule.src
+
 remarked : (name : List ℕ) (items : List Item) → entries (with_remark name items) ≡ entries items
 remarked name [] = refl
 remarked name (item ∷ items) = let step = entries-cons (Remark name) (item ∷ items) in omega (arith, step)
@@ -47,7 +50,7 @@ pub all-entries : (rules : List Rule) → entries (flat_map rule_items rules) �
 unfolding combinations
 all-entries [] = refl
 all-entries (rule ∷ rules) =
-    let here = remarked rule.name (rule_entries rule) ∙ from-sources rule rule.src in
+    let here = remarked rule.name (rule_entries rule) ∙ rule-count rule in
     let rest = all-entries rules in
     let both = entries-append (rule_items rule) (flat_map rule_items rules) in
     omega (arith, here, rest, both)
@@ -69,7 +72,7 @@ full-source permit proto src (dst ∷ dsts) =
     let step = entries-cons (AnEntry (plain_entry permit proto src dst)) (map (λ d. AnEntry (plain_entry permit proto src d)) dsts) in
     inr (refl, omega (arith, step))
 
-full-sources : (rule : Rule) (srcs : List Prefix) → IsFull (flat_map (source_entries rule) srcs)
+pub full-sources : (rule : Rule) (srcs : List Prefix) → IsFull (flat_map (source_entries rule) srcs)
 full-sources rule [] = inl refl
 full-sources rule (src ∷ srcs) =
     full-append (source_entries rule src) (flat_map (source_entries rule) srcs) (full-source rule.permit rule.proto src rule.dst) (full-sources rule srcs)

@@ -6,11 +6,11 @@ use Rattle.acl_packet.specs.declared.addresses.Families.TheVariants.{Inet}
 use Rattle.acl_packet.specs.declared.addresses.Prefix.{Prefix}
 use Rattle.acl_packet.specs.declared.packets.Packet.{Packet}
 use Rattle.acl_packet.specs.declared.filtering.Outcome.{Outcome}
-use Rattle.acl_packet.specs.Addresses.{has_address}
+use Rattle.acl_packet.specs.Addresses.{covers, has_address}
 use Rattle.acl_sets.specs.LeastLists.{any_has}
 use Rattle.cisco_lang.specs.declared.documents.Item.{Item}
 use Rattle.cisco_lang.specs.declared.documents.Item.TheVariants.{Entry as AnEntry}
-use Rattle.cisco_lang.specs.Walks.{covers, decided_by, entry_holds, first_holding, has_entries, items_of, outcome_of, proto_holds, section_outcome, walk}
+use Rattle.cisco_lang.specs.Walks.{decided_by, entry_holds, first_holding, has_entries, items_of, outcome_of, proto_holds, section_outcome, walk}
 use Rattle.gen_cisco.specs.declared.rules.Rule.{Rule}
 use Rattle.gen_cisco.specs.Rules.{is_protocol, rule_holds, silent, filter_outcome}
 use Rattle.gen_cisco.specs.Sections.{plain_entry, source_entries, rule_entries, with_remark, rule_items, closed, list_items, section_of, everywhere}

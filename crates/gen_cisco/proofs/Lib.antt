@@ -1,7 +1,5 @@
 pub mod Counts
 pub mod Decides
-pub mod Lists
 pub mod Names
-pub mod Retold
-pub mod Texts
+pub mod RowsOfItems
 pub mod Valid

@@ -1,3 +1,3 @@
+pub mod CountingSteps
 pub mod Rules
 pub mod Sections
-pub mod Pieces

@@ -6,7 +6,8 @@ use Rattle.acl_packet.specs.declared.packets.Packet.{Packet}
 use Rattle.acl_packet.specs.declared.filtering.Outcome.{Outcome}
 use Rattle.acl_packet.specs.declared.filtering.Verdict.TheVariants.{Accept, Deny}
 use Rattle.acl_text.specs.Names.{is_name}
-use Rattle.acl_sets.specs.LeastLists.{any_has, IsPrefixOf}
+use Rattle.acl_packet.specs.Addresses.{IsPrefixOf}
+use Rattle.acl_sets.specs.LeastLists.{any_has}
 use Rattle.gen_cisco.specs.declared.rules.Rule.{Rule}
 
 -- A rule for IPv4 packets: a name, lists of IPv4 prefixes, and a protocol with a number from 1, or any.

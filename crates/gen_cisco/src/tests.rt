@@ -1,7 +1,7 @@
 ghost use Rattle.std.specs.Prelude.{◌≡◌, ◌≤◌, true, IfOk, IfSome};
 ghost use Rattle.std.specs.List.{AllByRecursion};
 ghost use Rattle.acl_packet.specs.declared.addresses.Family.TheVariants.{V4};
-ghost use Rattle.acl_sets.specs.LeastLists.{IsPrefixOf};
+ghost use Rattle.acl_packet.specs.Addresses.{IsPrefixOf};
 ghost use Rattle.acl_text.specs.Names.{is_name};
 ghost use Rattle.gen_cisco.specs.Rules.{IsRule};
 

@@ -1,6 +1,6 @@
 use Rattle.std.proofs.Common.{min, arith}
 use Rattle.acl_text.specs.Output.{COUNT_END}
-use Rattle.gen_cisco.specs.Pieces.{combinations}
+use Rattle.gen_cisco.specs.CountingSteps.{combinations}
 use Rattle.gen_cisco.proofs.Counts.{count-on, nothing-left}
 use Rattle.gen_cisco.proofs.sections.combinations.Goals as goal
 

@@ -1,6 +1,6 @@
 use Rattle.std.proofs.Common.{◌≡◌, ◌+◌, ◌≤◌, min, drop}
 use Rattle.acl_text.specs.Output.{COUNT_END}
-use Rattle.gen_cisco.specs.Pieces.{combinations}
+use Rattle.gen_cisco.specs.CountingSteps.{combinations}
 use Rattle.gen_cisco.proofs.sections.combinations.Given as goal
 
 abbrev pub invariant-loop-rule : goal.invariant-loop-rule

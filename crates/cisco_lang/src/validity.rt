@@ -1,0 +1,213 @@
+ghost use Rattle.std.specs.Prelude.{◌≡◌, ◌++◌, ◌&&◌, ◌↔◌, IfOk, OnOk, IsTrue, bytes_eq, codes, map};
+ghost use Rattle.std.specs.List.{list_all};
+ghost use Rattle.acl_text.specs.Cuts.{views};
+ghost use Rattle.cisco_lang.specs.Documents.{IsDocument, flags_fit, is_proto, match_all_fits, names_of, parts_fit, ports_fit, type_fits};
+ghost use Rattle.cisco_lang.specs.ValiditySteps.{are_headed, are_ports, are_sections, is_end, is_entry, is_headed, is_item, is_list, is_number, is_section};
+
+use crate::documents::{AccessList, Entry, Flags, Item, Section};
+use acl_grammar::{are_distinct, is_prefix_of};
+use acl_packet::{Families, Family, Prefix};
+use acl_text::{Memory, behind, is_filter_name, is_safe_text};
+use std::alloc::Global;
+
+/// Whether the document is valid.
+#[tactic(auto, using(crate::proofs::ValidityLaws::not_document, crate::proofs::ValidityLaws::document_decides))]
+pub(crate) fn is_document(alloc: Global, sections: &[Section]) -> Result<bool, Memory>
+    ensures { IfOk result (λ b. IsTrue b ↔ IsDocument sections.now) }
+{
+    if !are_sections(sections) {
+        return Ok(false);
+    }
+    let names = names_of(alloc, sections)?;
+    Ok(are_distinct(names.as_slice()))
+}
+
+// The names of the lists, in order.
+fn names_of<'a>(alloc: Global, sections: &'a [Section]) -> Result<Vec<&'a [u8]>, Memory>
+    ensures { IfOk result (λ names. views names.items ≡ names_of sections.now) }
+{
+    let mut names = Vec::new(alloc);
+    for section in sections {
+        push_names(&mut names, section.lists.as_slice())?;
+    }
+    Ok(names)
+}
+
+fn push_names<'a>(names: &mut Vec<&'a [u8]>, lists: &'a [AccessList]) -> Result<(), Memory>
+    ensures { OnOk result (views names.new.items ≡ views names.old.items ++ map (λ l. l.name) lists.now) }
+{
+    for list in lists {
+        names.push(list.name.as_slice())?;
+    }
+    Ok(())
+}
+
+fn are_sections(sections: &[Section]) -> bool
+    ensures { result ≡ are_sections sections.now }
+{
+    sections.iter().all(|section| is_section(section))
+}
+
+fn is_section(section: &Section) -> bool
+    ensures { result ≡ is_section section.now }
+{
+    let name = section.name.as_slice();
+    let lists = section.lists.as_slice();
+    is_filter_name(name) && are_headed(lists, section.families, name) && are_lists(lists)
+}
+
+fn are_lists(lists: &[AccessList]) -> bool
+    ensures { result ≡ list_all is_list lists.now }
+{
+    lists.iter().all(|list| is_list(list))
+}
+
+fn is_list(list: &AccessList) -> bool
+    ensures { result ≡ is_list list.now }
+{
+    are_items(list.family, list.items.as_slice())
+}
+
+fn are_items(family: Family, items: &[Item]) -> bool
+    ensures { result ≡ list_all (is_item family) items.now }
+{
+    items.iter().all(|item| is_item(family, item))
+}
+
+// Whether the lists are of these families, under their names.
+fn are_headed(lists: &[AccessList], families: Families, name: &[u8]) -> bool
+    ensures { result ≡ are_headed lists.now families name.now }
+{
+    match (lists, families) {
+        ([list], Families::Inet) => is_headed(list, Family::V4, name),
+        ([list], Families::Inet6) => is_headed(list, Family::V6, name),
+        ([first, second], Families::Mixed) => {
+            is_headed(first, Family::V4, name) && is_second(second, name)
+        }
+        _ => false,
+    }
+}
+
+fn is_headed(list: &AccessList, family: Family, name: &[u8]) -> bool
+    ensures { result ≡ is_headed list.now family name.now }
+{
+    list.family == family && list.name.as_slice() == name
+}
+
+// Whether it is the IPv6 list of a mixed section of the name.
+fn is_second(list: &AccessList, name: &[u8]) -> bool
+    ensures { result ≡ is_headed list.now Family.V6 (codes "ipv6-" ++ name.now) }
+{
+    list.family == Family::V6 && is_front_and_name(list.name.as_slice(), b"ipv6-", name)
+}
+
+#[tactic(auto, using(crate::proofs::ValidityLaws::front_some, crate::proofs::ValidityLaws::front_none))]
+fn is_front_and_name(word: &[u8], front: &[u8], name: &[u8]) -> bool
+    ensures { result ≡ bytes_eq word.now (front.now ++ name.now) }
+{
+    match behind(word, front) {
+        Some(rest) => rest == name,
+        None => false,
+    }
+}
+
+fn is_item(family: Family, item: &Item) -> bool
+    ensures { result ≡ is_item family item.now }
+{
+    match item {
+        Item::Remark(text) => is_safe_text(text.as_slice()),
+        Item::Entry(entry) => is_entry(family, entry),
+    }
+}
+
+fn is_entry(family: Family, entry: &Entry) -> bool
+    ensures { result ≡ is_entry family entry.now }
+{
+    are_ends(family, entry) && are_tests(family, entry)
+}
+
+fn are_ends(family: Family, entry: &Entry) -> bool
+    ensures { result ≡ is_end family entry.now.src entry.now.sport && is_end family entry.now.dst entry.now.dport }
+{
+    is_end(family, &entry.src, entry.sport) && is_end(family, &entry.dst, entry.dport)
+}
+
+fn are_tests(family: Family, entry: &Entry) -> bool
+    ensures { result ≡ (is_number 1 255 entry.now.proto && is_number 0 254 entry.now.itype) && parts_fit family entry.now }
+{
+    are_numbers(entry) && parts_fit(family, entry)
+}
+
+fn are_numbers(entry: &Entry) -> bool
+    ensures { result ≡ is_number 1 255 entry.now.proto && is_number 0 254 entry.now.itype }
+{
+    is_number(1, 255, entry.proto) && is_number(0, 254, entry.itype)
+}
+
+fn is_end(family: Family, place: &Prefix, ports: Option<(u16, u16)>) -> bool
+    ensures { result ≡ is_end family place.now ports }
+{
+    is_prefix_of(family, place) && are_ports(ports)
+}
+
+fn is_number(least: u8, most: u8, number: Option<u8>) -> bool
+    ensures { result ≡ is_number least most number }
+{
+    match number {
+        Some(number) => least <= number && number <= most,
+        None => true,
+    }
+}
+
+fn are_ports(ports: Option<(u16, u16)>) -> bool
+    ensures { result ≡ are_ports ports }
+{
+    match ports {
+        Some((low, high)) => low <= high,
+        None => true,
+    }
+}
+
+fn parts_fit(family: Family, entry: &Entry) -> bool
+    ensures { result ≡ parts_fit family entry.now }
+{
+    ports_fit(entry) && type_fits(family, entry) && flags_fit(family, entry)
+}
+
+fn ports_fit(entry: &Entry) -> bool
+    ensures { result ≡ ports_fit entry.now }
+{
+    entry.sport.is_none() && entry.dport.is_none()
+        || is_proto(entry.proto, 6)
+        || is_proto(entry.proto, 17)
+}
+
+fn type_fits(family: Family, entry: &Entry) -> bool
+    ensures { result ≡ type_fits family entry.now }
+{
+    entry.itype.is_none() || is_proto(entry.proto, family.icmp_number())
+}
+
+fn flags_fit(family: Family, entry: &Entry) -> bool
+    ensures { result ≡ flags_fit family entry.now }
+{
+    (entry.flags.is_none() || is_proto(entry.proto, 6)) && match_all_fits(family, entry.flags)
+}
+
+fn match_all_fits(family: Family, flags: Option<Flags>) -> bool
+    ensures { result ≡ match_all_fits family flags }
+{
+    match (family, flags) {
+        (Family::V6, Some(Flags::SynNotAck)) => false,
+        _ => true,
+    }
+}
+
+fn is_proto(proto: Option<u8>, number: u8) -> bool
+    ensures { result ≡ is_proto proto number }
+{
+    match proto {
+        Some(proto) => proto == number,
+        None => false,
+    }
+}
