@@ -1,5 +1,5 @@
-use Rattle.std.proofs.Common.{◌≡◌, ◌∙◌, pos, to_z, of_z, w16, arith}
-use Rattle.acl_host.proofs.Calendar.{day_of_date, year_cast, text_of_day, text_is_days}
+use Rattle.std.proofs.Common.{◌∙◌, arith}
+use Rattle.acl_host.proofs.Calendar.{day_of_date, day_year, text_of_day, text_is_days}
 use Rattle.acl_host.proofs.days.date_text.Goals as goal
 
 pub overflow_cast-date : goal.overflow_cast-date
@@ -9,9 +9,7 @@ overflow_cast-date c =
     let r = day_of_date z.year z.month z.day n.number c.from.result
     (z.year_in, z.month_in, z.day_in) c.in-Ok.ensures.value c.from.ensures n.from_year_1
     n.to_year_9999 in
-    let cast : to_z w16 (of_z w16 z.year) ≡ pos r.whole =
-    year_cast z.year r.whole r.year_is r.real.year_to in
-    rw cast (tt, record { fits = omega (arith, r.real.year_to) })
+    rw (day_year z.year n.number z.month z.day r) (tt, record { fits = omega (arith, r.real.year_to) })
 
 pub returns-clause-text : goal.returns-clause-text
 returns-clause-text c =
@@ -20,9 +18,7 @@ returns-clause-text c =
     let r = day_of_date z.year z.month z.day n.number c.from.result
     (z.year_in, z.month_in, z.day_in) c.in-Ok.ensures.value c.from.ensures n.from_year_1
     n.to_year_9999 in
-    let cast : to_z w16 (of_z w16 z.year) ≡ pos r.whole =
-    year_cast z.year r.whole r.year_is r.real.year_to in
-    let text = rw cast at c.full_date.ensures in
+    let text = rw (day_year z.year n.number z.month z.day r) at c.full_date.ensures in
     text ∙ text_of_day z.year z.month z.day n.number r
 
 pub returns-clause-real : goal.returns-clause-real
