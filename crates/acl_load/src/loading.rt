@@ -60,6 +60,10 @@ fn read_definitions<T: Tree>(
     tree: &mut T,
     folder: &str,
 ) -> Result<Definitions, LoadFault>
+    ensures list_failed { IsErrOf result LoadFault.List
+        → Rose (T.list_faults tree.old) (T.list_faults tree.new) }
+    ensures read_failed { IsErrOf result LoadFault.Read
+        → Rose (T.read_faults tree.old) (T.read_faults tree.new) }
     ensures gives { IfSome (T.files tree.old) (λ files. Answers load_told (λ read. read.base) result
         (λ answer. definitions_of folder.now files ≡ answer)) }
     ensures paths { IfSome (T.files tree.old) (λ files. IfOk result (λ read.
@@ -67,10 +71,6 @@ fn read_definitions<T: Tree>(
         ≡ naming_paths folder.now (names_under folder.now files))) }
     ensures looks { OnlyListsAndReads T.files T.begun T.faults T.refusals
         T.list_faults T.read_faults tree.old tree.new }
-    ensures list_failed { IsErrOf result LoadFault.List
-        → Rose (T.list_faults tree.old) (T.list_faults tree.new) }
-    ensures read_failed { IsErrOf result LoadFault.Read
-        → Rose (T.read_faults tree.old) (T.read_faults tree.new) }
 {
     let names = listing(alloc, tree, folder)?;
     let paths = naming_paths(alloc, folder, names.as_slice())?;
