@@ -1,6 +1,6 @@
 -- Real dates, and the count of their days.
 use Prim.Native.Nat.{zero, suc}
-use Rattle.std.proofs.Common.{◌≡◌, ◌≢◌, ℕ, ◌+◌, ◌-◌, ◌*◌, ◌/◌, ◌%◌, ◌<◌, ◌≤◌, true, false, nat_le, nat_lt, if◌then◌else◌, ℤ, pos, negsuc, to_z, of_z, w8, w16, w32, w64, ◌≤ℤ◌, ◌<ℤ◌, neg_ℤ, unsigned_abs, Some, refl, ap, subst, ◌∙◌, sym, arith}
+use Rattle.std.proofs.Common.{◌≡◌, ◌≢◌, ℕ, ◌+◌, ◌-◌, ◌*◌, ◌/◌, ◌%◌, ◌<◌, ◌≤◌, true, false, nat_le, nat_lt, if◌then◌else◌, ℤ, pos, negsuc, to_z, of_z, w16, w32, w64, ◌≤ℤ◌, ◌<ℤ◌, neg_ℤ, unsigned_abs, Some, refl, ap, subst, ◌∙◌, sym, arith}
 use Rattle.std.proofs.lemmas.Bool.Decides.{nat_tests}
 use Rattle.std.proofs.lemmas.Int.{ints, by_lt_z, to_z_pos, to_z-of_z}
 use Rattle.jiff_core.specs.Calendar.{IsDate, IsCivilDate, days_in_year, days_in_month, days_from_civil, day_count, day_of_year, days_of_months, days_of_years}
@@ -41,7 +41,7 @@ real_from_IsDate y m d h e = record {
 }
 
 -- the parts of a date that the calendar has
-real_answer : (y m d : ℕ) (year : ℤ) (month day : ℕ) (n : ℤ) → year ≡ pos y → pos month ≡ pos m
+pub real_answer : (y m d : ℕ) (year : ℤ) (month day : ℕ) (n : ℤ) → year ≡ pos y → pos month ≡ pos m
     → pos day ≡ pos d
     → n ≡ days_from_civil year month day → y ≢ 0 → IsDate (pos y) (pos m) (pos d)
     → Some n ≡ real_day y m d
@@ -79,7 +79,7 @@ pub number_from_year_1 : (y m d : ℕ) → 1 ≤ y → 1 ≤ d → negsuc 719161
 number_from_year_1 y m d h day =
     omega (arith, ints, count_from_year_1 y m d h day, days_from_civil-day_count (pos y) m d)
 
-number_of_parts : (y m d : ℕ) (year : ℤ) (month day : ℕ) (n : ℤ) → year ≡ pos y
+pub number_of_parts : (y m d : ℕ) (year : ℤ) (month day : ℕ) (n : ℤ) → year ≡ pos y
     → pos month ≡ pos m → pos day ≡ pos d
     → n ≡ days_from_civil year month day → y ≢ 0 → IsDate (pos y) (pos m) (pos d)
     → negsuc 719161 ≤ℤ n
@@ -90,22 +90,6 @@ number_of_parts y m d year month day n ye me de ne h real =
     let r = real_from_IsDate y m d h real in
     subst (λ (z : ℤ). negsuc 719161 ≤ℤ z) (sym number)
     (number_from_year_1 y m d r.year_from r.day_from)
-
--- a date that jiff makes of casts: its day is the real day, and none before the year 1
-pub cast_answer : (y m d : ℕ) (year : ℤ) (month day : ℕ) (n : ℤ) → y < 32768 → m < 128 → d < 128
-    → year ≡ to_z w16 y → pos month ≡ to_z w8 m → pos day ≡ to_z w8 d
-    → n ≡ days_from_civil year month day → y ≢ 0 → IsDate (to_z w16 y) (to_z w8 m) (to_z w8 d)
-    → to_z w32 (of_z w32 n) ≡ n
-    → (Some (to_z w32 (of_z w32 n)) ≡ real_day y m d) × (negsuc 719161 ≤ℤ to_z w32 (of_z w32 n))
-cast_answer y m d year month day n yf mf df ye me de ne h real same =
-    let y_is = to_z_pos w16 y yf in
-    let m_is = to_z_pos w8 m mf in
-    let d_is = to_z_pos w8 d df in
-    let is_date = rw (y_is, m_is, d_is) at real in
-    rw same (
-      real_answer y m d year month day n (ye ∙ y_is) (me ∙ m_is) (de ∙ d_is) ne h is_date,
-      number_of_parts y m d year month day n (ye ∙ y_is) (me ∙ m_is) (de ∙ d_is) ne h is_date,
-    )
 
 -- a day from the first of the year 1 on lies in a year from 1 on
 pub year_from_1 : (year : ℤ) (month day : ℕ) → IsCivilDate year month day
@@ -367,7 +351,7 @@ day_of_parts year month day number real e h =
     }
 
 -- a year from 1 on as an unsigned number
-year_cast : (year : ℤ) (y : ℕ) → year ≡ pos y → y ≤ 9999 → to_z w16 (of_z w16 year) ≡ pos y
+pub year_cast : (year : ℤ) (y : ℕ) → year ≡ pos y → y ≤ 9999 → to_z w16 (of_z w16 year) ≡ pos y
 year_cast year y e h = ap (λ (z : ℤ). to_z w16 (of_z w16 z)) e ∙ to_z_pos w16 y (omega arith)
 
 pub text_of_day : (year : ℤ) (month day : ℕ) (number : ℤ) → (r : IsDayOf year month day number)
@@ -405,8 +389,3 @@ day_of_date year month day number wide real e w l h =
     let same : to_z w64 (of_z w64 wide) ≡ number = ap (λ (z : ℤ). to_z w64 (of_z w64 z)) narrow
     ∙ same_in_64 number l h in
     day_of_parts year month day number real (e ∙ same) l
-
--- its year as a cast
-pub day_year : (year number : ℤ) (month day : ℕ) (r : IsDayOf year month day number)
-    → to_z w16 (of_z w16 year) ≡ pos r.whole
-day_year year number month day r = year_cast year r.whole r.year_is r.real.year_to

@@ -25,7 +25,7 @@ pub returns-in-Err-Failed-write_file-clause-write_failed : goal.returns-in-Err-F
 returns-in-Err-Failed-write_file-clause-write_failed g c =
     let R : ℕ → Type 0 = λ n. Rose n (g.T.Out.faults c.write_file.new.tree) in
     λ ended. (
-      subst R c.make_plan.ensures.looks.only.looks.faults_stay ((rw c.in-Err-Failed-write_file.field-0-is at c.in-Err-Failed-write_file.ensures).failed refl),
+      subst R c.make_plan.ensures.looks.only.looks.faults_stay ((rw c.in-Err-Failed-write_file.field-0-is at c.in-Err-Failed-write_file.ensures).counts.failed refl),
       ap is_some (sym c.in-Some.ensures),
       is-planned (g.T.Tree.files c.args.tree.now) (map string_bytes c.args.words.now) (options_view c.in-Some.options) (plan_view c.in-Ok-make_plan.plan)
           (sym c.in-Some.ensures) c.in-Ok-make_plan.ensures.gives,
