@@ -95,10 +95,12 @@ begins-held old new p files is faults refusals lists reads = record {
   });
   err = tt;
   left = tt;
-  lists_stay = lists;
-  reads_stay = reads;
-  faults_grow = omega arith;
-  refusals_grow = omega arith;
-  failed = λ e. absurd (not-failed e);
-  memory = λ e. absurd (not-failed e);
+  counts = record {
+    lists_stay = lists;
+    reads_stay = reads;
+    faults_grow = omega arith;
+    refusals_grow = omega arith;
+    failed = λ e. absurd (not-failed e);
+    memory = λ e. absurd (not-failed e);
+  };
 }

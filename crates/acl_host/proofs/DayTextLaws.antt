@@ -1,14 +1,13 @@
 -- Texts of days: a text is that of one day at most, and a day has one text.
-use Rattle.std.proofs.Common.{◌≡◌, ℕ, ◌+◌, ◌-◌, ◌*◌, ◌/◌, ◌%◌, ◌<◌, ◌≤◌, ◌==◌, ◌&&◌, nat_le, true, ℤ, pos, List, [], ◌∷◌, ◌++◌, length, get_or, Option, None, Some, IfSome, IfNone, option_map, refl, ap, sym, ◌∙◌, arith}
+use Rattle.std.proofs.Common.{◌≡◌, ℕ, ◌+◌, ◌-◌, ◌*◌, ◌/◌, ◌%◌, ◌<◌, ◌≤◌, ◌==◌, ◌&&◌, nat_le, ℤ, pos, List, [], ◌∷◌, length, get_or, Option, None, Some, IfSome, IfNone, option_map, refl, ap, sym, ◌∙◌, arith}
 use Rattle.std.proofs.lemmas.Bool.{and_parts, leb-true, eqb-true}
-use Rattle.std.proofs.lemmas.Bool.Decides.{nat_tests}
 use Rattle.std.proofs.lemmas.Int.{ints}
 use Rattle.std.proofs.lemmas.Option.{none-some, same_Some}
 use Rattle.std.specs.Char.{is_ascii_digit}
 use Rattle.jiff_core.specs.Calendar.{days_in_month, days_from_civil}
 use Rattle.acl_packet.proofs.ChoiceLaws.{guarded}
 use Rattle.acl_text.proofs.OptionStepLaws.{bound}
-use Rattle.acl_host.specs.Days.{IsDayText, two_digits, full_date}
+use Rattle.acl_host.specs.Days.{IsDayText, full_date}
 use Rattle.acl_host.specs.DaySteps.{two_in, is_real, real_day, digits_day, has_dashes, day_in, date_text}
 use Rattle.acl_host.specs.declared.clocks.Day.{Day}
 use Rattle.acl_host.proofs.Calendar.{IsRealDate, civil, real_is_read, text_of_real}

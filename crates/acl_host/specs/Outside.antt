@@ -73,6 +73,17 @@ pub record Reads {S : Type 0} (files : S → Option (List File))
   pub answer : IfSome (files old) (IsReading path most result)
   pub failed : IsErrOf result tree.Failed → Rose (read_faults old) (read_faults new)
 
+-- What a writing call leaves of a tree's counts: those of looking stay, those of writing do not fall, and a
+-- refusal has its cause.
+pub record CountsWriting {S T : Type 0} (faults refusals list_faults read_faults : S → ℕ)
+    (old new : S) (result : Result T WriteFault) : Type 0 where
+  pub lists_stay : list_faults new ≡ list_faults old
+  pub reads_stay : read_faults new ≡ read_faults old
+  pub faults_grow : faults old ≤ faults new
+  pub refusals_grow : refusals old ≤ refusals new
+  pub failed : IsErrOf result write.Failed → Rose (faults old) (faults new)
+  pub memory : IsErrOf result write.Memory → Rose (refusals old) (refusals new)
+
 -- The file at the path is empty, and every other file is as it was.
 pub record MakesEmpty (path : List ℕ) (old new : List File) : Type 0 where
   pub empty : file_at new path ≡ Some []
@@ -85,12 +96,7 @@ pub record Begins {S T : Type 0} (files : S → Option (List File))
   pub made : OnOk result (BothTell (files old) (files new) (MakesEmpty path))
   pub err : OnErr result (begun new ≡ None)
   pub left : OnErr result (BothTell (files old) (files new) (SameBut path))
-  pub lists_stay : list_faults new ≡ list_faults old
-  pub reads_stay : read_faults new ≡ read_faults old
-  pub faults_grow : faults old ≤ faults new
-  pub refusals_grow : refusals old ≤ refusals new
-  pub failed : IsErrOf result write.Failed → Rose (faults old) (faults new)
-  pub memory : IsErrOf result write.Memory → Rose (refusals old) (refusals new)
+  pub counts : CountsWriting faults refusals list_faults read_faults old new result
 
 -- Every file but the one that was begun is as it was.
 abbrev pub LeavesOthers : Option (List ℕ) → List File → List File → Type 0
@@ -103,12 +109,7 @@ pub record Finishes {S T : Type 0} (files : S → Option (List File))
   pub ended : begun new ≡ None
   pub ok : OnOk result (files new ≡ files old)
   pub left : OnErr result (BothTell (files old) (files new) (LeavesOthers (begun old)))
-  pub lists_stay : list_faults new ≡ list_faults old
-  pub reads_stay : read_faults new ≡ read_faults old
-  pub faults_grow : faults old ≤ faults new
-  pub refusals_grow : refusals old ≤ refusals new
-  pub failed : IsErrOf result write.Failed → Rose (faults old) (faults new)
-  pub memory : IsErrOf result write.Memory → Rose (refusals old) (refusals new)
+  pub counts : CountsWriting faults refusals list_faults read_faults old new result
 
 -- What is told now is what was told before, and a front of the bytes behind it.
 abbrev pub AddsFront : List ℕ → List ℕ → List ℕ → Type 0

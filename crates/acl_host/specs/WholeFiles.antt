@@ -1,9 +1,13 @@
 -- Whole files and folders: what is read and listed, and the faults that have no line.
-use Rattle.std.specs.Prelude.{ℕ, nat_lt, if◌then◌else◌, List, [], length, Option, None, Some, Result, Ok, Err}
+use Rattle.std.specs.Prelude.{ℕ, nat_lt, if◌then◌else◌, List, [], length, Option, None, Some, Result, Ok, Err, IsErrOf}
 use Rattle.acl_text.specs.declared.faults.Code.{Code}
 use Rattle.acl_text.specs.declared.faults.Code.TheVariants.{NoFile}
 use Rattle.acl_text.specs.declared.faults.Fault.{Fault}
+use Rattle.acl_text.specs.declared.faults.Rejection.{Rejection}
+use Rattle.acl_text.specs.declared.faults.Rejection.TheVariants as rejections
+use Rattle.acl_text.specs.Output.{Rose}
 use Rattle.acl_host.specs.Files.{File, file_at, is_folder, names_under}
+use Rattle.acl_host.specs.Outside.{OnlyLists, OnlyReads}
 use Rattle.acl_host.specs.declared.look_faults.ListFault.{ListFault}
 use Rattle.acl_host.specs.declared.look_faults.ListFault.TheVariants as lists
 use Rattle.acl_host.specs.declared.look_faults.ReadFault.{ReadFault}
@@ -39,3 +43,24 @@ abbrev pub list_told : ListFault → Option Fault
 list_told (lists.Fault fault) = Some fault
 list_told lists.Outside = None
 list_told lists.Memory = None
+
+-- A step that touches nothing outside, as a part of one that reads.
+abbrev pub read_rejected : Rejection → ReadFault
+read_rejected (rejections.Fault fault) = reads.Fault fault
+read_rejected rejections.Memory = reads.Memory
+
+-- A call that lists a folder does nothing else, and fails outside only where the count of failed
+-- listings rose.
+pub record ListsFolder {S X : Type 0} (files : S → Option (List File)) (begun : S → Option (List ℕ))
+    (faults refusals list_faults read_faults : S → ℕ) (old new : S)
+    (result : Result X ListFault) : Type 0 where
+  pub only : OnlyLists files begun faults refusals list_faults read_faults old new
+  pub failed : IsErrOf result lists.Outside → Rose (list_faults old) (list_faults new)
+
+-- A call that reads files does nothing else, and fails outside only where the count of failed
+-- readings rose.
+pub record ReadsFiles {S X : Type 0} (files : S → Option (List File)) (begun : S → Option (List ℕ))
+    (faults refusals list_faults read_faults : S → ℕ) (old new : S)
+    (result : Result X ReadFault) : Type 0 where
+  pub only : OnlyReads files begun faults refusals list_faults read_faults old new
+  pub failed : IsErrOf result reads.Outside → Rose (read_faults old) (read_faults new)

@@ -1,25 +1,19 @@
 -- What it means to write a whole file.
-use Rattle.std.specs.Prelude.{◌≡◌, ℕ, ◌≤◌, List, Option, None, Some, Result, OnOk, OnErr, IsErrOf}
-use Rattle.acl_text.specs.Output.{Rose}
+use Rattle.std.specs.Prelude.{◌≡◌, ℕ, List, Option, None, Some, Result, OnOk, OnErr}
 use Rattle.acl_host.specs.Files.{File, file_at, SameBut, BothTell}
+use Rattle.acl_host.specs.Outside.{CountsWriting}
 use Rattle.acl_host.specs.declared.sinks.WriteFault.{WriteFault}
-use Rattle.acl_host.specs.declared.sinks.WriteFault.TheVariants.{Failed, Memory}
 
 -- The file at the path is the text, and every other file is as it was.
 pub record HoldsText (path text : List ℕ) (old new : List File) : Type 0 where
   pub held : file_at new path ≡ Some text
   pub others : SameBut path old new
 
-pub record WritesFile {S T : Type 0} (files : S → Option (List File)) (begun : S
-    → Option (List ℕ)) (faults refusals list_faults read_faults : S → ℕ)
+pub record WritesFile {S T : Type 0} (files : S → Option (List File))
+    (begun : S → Option (List ℕ)) (faults refusals list_faults read_faults : S → ℕ)
     (old new : S) (path text : List ℕ) (result : Result T WriteFault) : Type 0 where
   pub ended : begun new ≡ None
   pub ok : OnOk result (BothTell (files old) (files new) (HoldsText path text))
   -- on a refusal the file at the path may hold anything
   pub err : OnErr result (BothTell (files old) (files new) (SameBut path))
-  pub lists_stay : list_faults new ≡ list_faults old
-  pub reads_stay : read_faults new ≡ read_faults old
-  pub faults_grow : faults old ≤ faults new
-  pub refusals_grow : refusals old ≤ refusals new
-  pub failed : IsErrOf result Failed → Rose (faults old) (faults new)
-  pub memory : IsErrOf result Memory → Rose (refusals old) (refusals new)
+  pub counts : CountsWriting faults refusals list_faults read_faults old new result

@@ -1,9 +1,10 @@
 ghost use Rattle.std.specs.Prelude.{◌≡◌, IfOk};
 ghost use Rattle.std.specs.String.{string_bytes};
 
-use crate::disk::{bytes_at, is_memory, names_in};
+use crate::disk::{bytes_at, names_in};
 use crate::sinks::WriteFault;
 use crate::trees::{FileNames, Tree, TreeFault};
+use crate::write_counts::WriteCounts;
 use acl_text::{Bytes, Out, PutFault};
 use std::alloc::Global;
 use std::io::Write;
@@ -26,8 +27,7 @@ struct Opened<R: Files> {
 pub struct DiskTree<'a, R: Files> {
     rt: &'a R,
     begun: Option<Opened<R>>,
-    faults: u64,
-    refusals: u64,
+    counts: WriteCounts,
     list_faults: u64,
     read_faults: u64,
 }
@@ -38,14 +38,13 @@ impl<'a, R: Files> DiskTree<'a, R> {
     /// The files that the runtime reaches. Nothing is begun, and no call has failed yet.
     pub fn new(rt: &'a R) -> DiskTree<'a, R>
         ensures begun { result.begun ≡ None }
-        ensures counts { result.faults + result.refusals + result.list_faults + result.read_faults
-            ≡ 0 }
+        ensures counts { result.counts.faults + result.counts.refusals + result.list_faults
+            + result.read_faults ≡ 0 }
     {
         DiskTree {
             rt,
             begun: None,
-            faults: 0,
-            refusals: 0,
+            counts: WriteCounts::new(),
             list_faults: 0,
             read_faults: 0,
         }
@@ -60,9 +59,9 @@ impl<R: Files + AllocGlobal + Clone + Drop> Out for DiskTree<'_, R> {
 
     ghost told = { λ t. None };
 
-    ghost faults = { λ t. t.faults };
+    ghost faults = { λ t. t.counts.faults };
 
-    ghost refusals = { λ t. t.refusals };
+    ghost refusals = { λ t. t.counts.refusals };
 
     ghost is_open = { λ t. is_some (option_map (λ f. string_bytes f.path) t.begun) };
 
@@ -79,12 +78,10 @@ impl<R: Files + AllocGlobal + Clone + Drop> Out for DiskTree<'_, R> {
             Ok(()) => Ok(()),
             Err(error) => {
                 self.begun = None;
-                if is_memory(&error) {
-                    self.refusals = self.refusals.saturating_add(1);
-                    return Err(PutFault::Memory);
+                match self.counts.count(&error) {
+                    WriteFault::Failed => Err(PutFault::Failed),
+                    WriteFault::Memory => Err(PutFault::Memory),
                 }
-                self.faults = self.faults.saturating_add(1);
-                Err(PutFault::Failed)
             }
         }
     }
@@ -132,14 +129,7 @@ impl<R: Files + AllocGlobal + Clone + Drop> Tree for DiskTree<'_, R> {
                 self.begun = Some(opened);
                 Ok(())
             }
-            Err(error) => {
-                if is_memory(&error) {
-                    self.refusals = self.refusals.saturating_add(1);
-                    return Err(WriteFault::Memory);
-                }
-                self.faults = self.faults.saturating_add(1);
-                Err(WriteFault::Failed)
-            }
+            Err(error) => Err(self.counts.count(&error)),
         }
     }
 

@@ -22,6 +22,7 @@ mod tests;
 mod trees;
 mod whole_files;
 mod wholes;
+mod write_counts;
 mod writing;
 
 pub use clocks::{Clock, ClockFault, Day};

@@ -2,7 +2,7 @@ ghost use Rattle.std.specs.Prelude.{◌≡◌};
 ghost use Rattle.acl_host.specs.declared.look_faults.ListFault.TheVariants as lists;
 ghost use Rattle.acl_host.specs.declared.look_faults.ReadFault.TheVariants as reads;
 
-use acl_text::{Fault, Memory};
+use acl_text::{Fault, Memory, Rejection};
 use std::alloc::AllocError;
 
 /// Why the names in a folder were not given.
@@ -48,5 +48,18 @@ impl From<AllocError> for ReadFault {
 
     fn from(_error: AllocError) -> ReadFault {
         ReadFault::Memory
+    }
+}
+
+impl From<Rejection> for ReadFault {
+    ghost use Rattle.acl_host.specs.WholeFiles.{read_rejected};
+
+    ghost from_gives = { λ rejection fault. fault ≡ read_rejected rejection };
+
+    fn from(rejection: Rejection) -> ReadFault {
+        match rejection {
+            Rejection::Fault(fault) => ReadFault::Fault(fault),
+            Rejection::Memory => ReadFault::Memory,
+        }
     }
 }

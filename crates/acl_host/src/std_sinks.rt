@@ -1,5 +1,5 @@
-use crate::disk::is_memory;
 use crate::sinks::{Sink, WriteFault};
+use crate::write_counts::WriteCounts;
 use std::io;
 use std::io::Write;
 
@@ -7,8 +7,7 @@ use std::io::Write;
 #[derive(Drop)]
 pub struct StdSink<W: Write + Drop> {
     writer: W,
-    faults: u64,
-    refusals: u64,
+    counts: WriteCounts,
 }
 
 impl<W: Write + Drop> StdSink<W> {
@@ -16,12 +15,11 @@ impl<W: Write + Drop> StdSink<W> {
 
     /// A sink that writes there. No call has failed yet.
     pub fn new(writer: W) -> StdSink<W>
-        ensures { result.faults + result.refusals ≡ 0 }
+        ensures { result.counts.faults + result.counts.refusals ≡ 0 }
     {
         StdSink {
             writer,
-            faults: 0,
-            refusals: 0,
+            counts: WriteCounts::new(),
         }
     }
 }
@@ -31,21 +29,14 @@ impl<W: Write + Drop> Sink for StdSink<W> {
 
     ghost told = { λ s. None };
 
-    ghost faults = { λ s. s.faults };
+    ghost faults = { λ s. s.counts.faults };
 
-    ghost refusals = { λ s. s.refusals };
+    ghost refusals = { λ s. s.counts.refusals };
 
     fn write(&mut self, bytes: &[u8]) -> Result<(), WriteFault> {
         match write_through(&mut self.writer, bytes) {
             Ok(()) => Ok(()),
-            Err(error) => {
-                if is_memory(&error) {
-                    self.refusals = self.refusals.saturating_add(1);
-                    return Err(WriteFault::Memory);
-                }
-                self.faults = self.faults.saturating_add(1);
-                Err(WriteFault::Failed)
-            }
+            Err(error) => Err(self.counts.count(&error)),
         }
     }
 }

@@ -1,8 +1,6 @@
-ghost use Rattle.std.specs.Prelude.{◌≡◌, ◌≤◌, ◌<◌, ◌^◌, ◌+◌, length, IfSome, IfOk, IsErrOf};
-ghost use Rattle.acl_text.specs.Output.{Rose};
+ghost use Rattle.std.specs.Prelude.{◌≡◌, ◌≤◌, ◌<◌, ◌^◌, ◌+◌, length, IfSome, IfOk};
 ghost use Rattle.acl_text.specs.Answers.{Gives};
-ghost use Rattle.acl_host.specs.Outside.{OnlyLists, OnlyReads};
-ghost use Rattle.acl_host.specs.WholeFiles.{fault_at, listing, whole_file, list_told, read_told};
+ghost use Rattle.acl_host.specs.WholeFiles.{ListsFolder, ReadsFiles, fault_at, list_told, listing, read_told, whole_file};
 
 use crate::look_faults::{ListFault, ReadFault};
 use crate::trees::{FileNames, Tree, TreeFault};
@@ -28,10 +26,8 @@ pub fn fault_at(alloc: Global, code: Code, label: &str) -> Result<Fault, Memory>
 pub fn listing<T: Tree>(alloc: Global, tree: &mut T, folder: &str) -> Result<FileNames, ListFault>
     ensures gives { IfSome (T.files tree.old) (λ files. Gives list_told result
         (listing folder.now files)) }
-    ensures lists { OnlyLists T.files T.begun T.faults T.refusals T.list_faults T.read_faults
-        tree.old tree.new }
-    ensures outside { IsErrOf result ListFault.Outside
-        → Rose (T.list_faults tree.old) (T.list_faults tree.new) }
+    ensures lists { ListsFolder T.files T.begun T.faults T.refusals T.list_faults T.read_faults
+        tree.old tree.new result }
 {
     match tree.list(alloc, folder) {
         Ok(names) => Ok(names),
@@ -57,10 +53,8 @@ pub fn read_whole<T: Tree>(
     ensures gives { IfSome (T.files tree.old) (λ files. Gives read_told result
         (whole_file most longer path.now files)) }
     ensures fits { IfOk result (λ bytes. length bytes ≤ most) }
-    ensures reads { OnlyReads T.files T.begun T.faults T.refusals T.list_faults T.read_faults
-        tree.old tree.new }
-    ensures outside { IsErrOf result ReadFault.Outside
-        → Rose (T.read_faults tree.old) (T.read_faults tree.new) }
+    ensures reads { ReadsFiles T.files T.begun T.faults T.refusals T.list_faults T.read_faults
+        tree.old tree.new result }
 {
     match tree.read(alloc, path, most + 1) {
         Ok(bytes) => {

@@ -1,8 +1,11 @@
 -- Why nothing was loaded, beside why a folder was not listed, a file not read, or what they say not taken.
-use Rattle.std.specs.Prelude.{Option, None, Some}
+use Rattle.std.specs.Prelude.{ℕ, List, Option, None, Some, Result, IsErrOf}
+use Rattle.acl_text.specs.Output.{Rose}
 use Rattle.acl_text.specs.declared.faults.Fault.{Fault}
 use Rattle.acl_text.specs.declared.faults.Rejection.{Rejection}
 use Rattle.acl_text.specs.declared.faults.Rejection.TheVariants as rejections
+use Rattle.acl_host.specs.Files.{File}
+use Rattle.acl_host.specs.Outside.{OnlyListsAndReads}
 use Rattle.acl_host.specs.declared.look_faults.ListFault.{ListFault}
 use Rattle.acl_host.specs.declared.look_faults.ListFault.TheVariants as lists
 use Rattle.acl_host.specs.declared.look_faults.ReadFault.{ReadFault}
@@ -30,3 +33,12 @@ of_reading reads.Memory = faults.Memory
 abbrev pub of_rejection : Rejection → LoadFault
 of_rejection (rejections.Fault fault) = faults.Fault fault
 of_rejection rejections.Memory = faults.Memory
+
+-- A call that lists a folder and reads files does nothing else, and fails outside only where the count
+-- of that kind rose.
+pub record LoadsFiles {S X : Type 0} (files : S → Option (List File)) (begun : S → Option (List ℕ))
+    (faults refusals list_faults read_faults : S → ℕ) (old new : S)
+    (result : Result X LoadFault) : Type 0 where
+  pub only : OnlyListsAndReads files begun faults refusals list_faults read_faults old new
+  pub list_failed : IsErrOf result faults.List → Rose (list_faults old) (list_faults new)
+  pub read_failed : IsErrOf result faults.Read → Rose (read_faults old) (read_faults new)

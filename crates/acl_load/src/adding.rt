@@ -1,9 +1,7 @@
-ghost use Rattle.std.specs.Prelude.{◌≤◌, ◌+◌, length, map, IfSome, IsErrOf};
+ghost use Rattle.std.specs.Prelude.{◌≤◌, ◌+◌, length, map, IfSome};
 ghost use Rattle.std.specs.String.{string_bytes};
-ghost use Rattle.acl_text.specs.Output.{Rose};
 ghost use Rattle.acl_text.specs.Answers.{Gives};
-ghost use Rattle.acl_host.specs.Outside.{OnlyReads};
-ghost use Rattle.acl_host.specs.WholeFiles.{read_told};
+ghost use Rattle.acl_host.specs.WholeFiles.{ReadsFiles, read_told};
 ghost use Rattle.acl_load.specs.Loading.{with_file, all_of};
 
 use crate::slips::fault_of;
@@ -35,10 +33,8 @@ fn add_file<T: Tree>(
 ) -> Result<Base, ReadFault>
     ensures gives { IfSome (T.files tree.old) (λ files. Gives read_told result
         (with_file (map string_bytes paths.now) kind number path.now files base)) }
-    ensures reads { OnlyReads T.files T.begun T.faults T.refusals T.list_faults T.read_faults
-        tree.old tree.new }
-    ensures outside { IsErrOf result ReadFault.Outside
-        → Rose (T.read_faults tree.old) (T.read_faults tree.new) }
+    ensures reads { ReadsFiles T.files T.begun T.faults T.refusals T.list_faults T.read_faults
+        tree.old tree.new result }
 {
     let bytes = read_whole(alloc, tree, path, MOST_BYTES, Code::TooLong)?;
     let read = match kind {
@@ -65,10 +61,8 @@ pub(crate) fn add_all<T: Tree>(
     requires { first + length files.now ≤ 4096 }
     ensures gives { IfSome (T.files tree.old) (λ held. Gives read_told result
         (all_of (map string_bytes paths.now) kind first (map string_bytes files.now) held base)) }
-    ensures reads { OnlyReads T.files T.begun T.faults T.refusals T.list_faults T.read_faults
-        tree.old tree.new }
-    ensures outside { IsErrOf result ReadFault.Outside
-        → Rose (T.read_faults tree.old) (T.read_faults tree.new) }
+    ensures reads { ReadsFiles T.files T.begun T.faults T.refusals T.list_faults T.read_faults
+        tree.old tree.new result }
 {
     let mut so_far = base;
     let mut number = first;

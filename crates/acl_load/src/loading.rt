@@ -1,11 +1,9 @@
-ghost use Rattle.std.specs.Prelude.{◌≡◌, ◌≤◌, ◌+◌, length, map, IfSome, IfOk, IsErrOf, Ok};
+ghost use Rattle.std.specs.Prelude.{◌≡◌, ◌≤◌, ◌+◌, length, map, IfSome, IfOk, Ok};
 ghost use Rattle.std.specs.String.{string_bytes};
-ghost use Rattle.acl_text.specs.Output.{Rose};
 ghost use Rattle.acl_host.specs.Files.{names_under};
 ghost use Rattle.acl_text.specs.Answers.{Answers, Gives, fault_told};
-ghost use Rattle.acl_host.specs.Outside.{OnlyListsAndReads, OnlyReads};
-ghost use Rattle.acl_host.specs.WholeFiles.{read_told};
-ghost use Rattle.acl_load.specs.LoadFaults.{load_told};
+ghost use Rattle.acl_host.specs.WholeFiles.{ReadsFiles, read_told};
+ghost use Rattle.acl_load.specs.LoadFaults.{LoadsFiles, load_told};
 ghost use Rattle.acl_load.specs.Loading.{AnswersWith, Loads, naming_paths, both_kinds, definitions_of};
 
 use crate::adding::{Kind, add_all};
@@ -36,12 +34,8 @@ pub fn load_definitions<T: Tree>(
 ) -> Result<Checked, LoadFault>
     ensures loads { IfSome (T.files tree.old) (λ files.
         Answers load_told (λ checked. checked) result (Loads folder.now files)) }
-    ensures looks { OnlyListsAndReads T.files T.begun T.faults T.refusals
-        T.list_faults T.read_faults tree.old tree.new }
-    ensures list_failed { IsErrOf result LoadFault.List
-        → Rose (T.list_faults tree.old) (T.list_faults tree.new) }
-    ensures read_failed { IsErrOf result LoadFault.Read
-        → Rose (T.read_faults tree.old) (T.read_faults tree.new) }
+    ensures looks { LoadsFiles T.files T.begun T.faults T.refusals T.list_faults T.read_faults
+        tree.old tree.new result }
 {
     let Definitions { base, paths } = read_definitions(alloc, tree, folder)?;
     Ok(check_definitions(alloc, paths.as_slice(), base)?)
@@ -65,12 +59,8 @@ fn read_definitions<T: Tree>(
     ensures paths { IfSome (T.files tree.old) (λ files. IfOk result (λ read.
         map string_bytes read.paths.items
         ≡ naming_paths folder.now (names_under folder.now files))) }
-    ensures looks { OnlyListsAndReads T.files T.begun T.faults T.refusals
-        T.list_faults T.read_faults tree.old tree.new }
-    ensures list_failed { IsErrOf result LoadFault.List
-        → Rose (T.list_faults tree.old) (T.list_faults tree.new) }
-    ensures read_failed { IsErrOf result LoadFault.Read
-        → Rose (T.read_faults tree.old) (T.read_faults tree.new) }
+    ensures looks { LoadsFiles T.files T.begun T.faults T.refusals T.list_faults T.read_faults
+        tree.old tree.new result }
 {
     let names = listing(alloc, tree, folder)?;
     let paths = naming_paths(alloc, folder, names.as_slice())?;
@@ -99,10 +89,8 @@ fn read_all<T: Tree>(
     ensures gives { IfSome (T.files tree.old) (λ files. Gives read_told result
         (both_kinds (map string_bytes paths.now) (map string_bytes networks.now)
         (map string_bytes services.now) files)) }
-    ensures reads { OnlyReads T.files T.begun T.faults T.refusals T.list_faults T.read_faults
-        tree.old tree.new }
-    ensures outside { IsErrOf result ReadFault.Outside
-        → Rose (T.read_faults tree.old) (T.read_faults tree.new) }
+    ensures reads { ReadsFiles T.files T.begun T.faults T.refusals T.list_faults T.read_faults
+        tree.old tree.new result }
 {
     let empty = Base::new(alloc);
     let base = add_all(alloc, tree, paths, Kind::Networks, 0, networks, empty)?;

@@ -1,13 +1,11 @@
-ghost use Rattle.std.specs.Prelude.{◌≡◌, IfSome, IfOk, OnOk, IsErrOf};
+ghost use Rattle.std.specs.Prelude.{◌≡◌, IfSome, IfOk, OnOk};
 ghost use Rattle.std.specs.Str.{IsUtf8};
-ghost use Rattle.acl_text.specs.Output.{Rose};
 ghost use Rattle.acl_splice.specs.LinesAndFolders.{folder_of};
 ghost use Rattle.acl_splice.specs.Splices.{nothing_read};
 ghost use Rattle.acl_splice.specs.Labels.{IsLabelled};
 ghost use Rattle.acl_splice.specs.Splicing.{splice_of};
 ghost use Rattle.acl_text.specs.Answers.{Gives, Leaves};
-ghost use Rattle.acl_host.specs.Outside.{OnlyReads};
-ghost use Rattle.acl_host.specs.WholeFiles.{read_told};
+ghost use Rattle.acl_host.specs.WholeFiles.{ReadsFiles, read_told};
 
 use crate::line_faults::line_fault;
 use crate::partial_splices::{MOST_OF_FILE, PartialSplice};
@@ -30,10 +28,8 @@ pub type GatherFault = ReadFault;
 pub fn gather<T: Tree>(alloc: Global, tree: &mut T, path: &str) -> Result<Sources, GatherFault>
     ensures gives { IfSome (T.files tree.old) (λ fs. Gives read_told result
         (splice_of fs path.now)) }
-    ensures reads { OnlyReads T.files T.begun T.faults T.refusals T.list_faults T.read_faults
-        tree.old tree.new }
-    ensures outside { IsErrOf result ReadFault.Outside
-        → Rose (T.read_faults tree.old) (T.read_faults tree.new) }
+    ensures reads { ReadsFiles T.files T.begun T.faults T.refusals T.list_faults T.read_faults
+        tree.old tree.new result }
     ensures labelled { IfOk result IsLabelled }
 {
     let mut splice = PartialSplice::new(alloc);
@@ -61,10 +57,8 @@ fn gather_into<T: Tree>(
     requires { sources.old ≡ nothing_read }
     ensures gives { IfSome (T.files tree.old) (λ fs. Leaves read_told sources.new result
         (splice_of fs path.now)) }
-    ensures reads { OnlyReads T.files T.begun T.faults T.refusals T.list_faults T.read_faults
-        tree.old tree.new }
-    ensures outside { IsErrOf result ReadFault.Outside
-        → Rose (T.read_faults tree.old) (T.read_faults tree.new) }
+    ensures reads { ReadsFiles T.files T.begun T.faults T.refusals T.list_faults T.read_faults
+        tree.old tree.new result }
     ensures labelled { OnOk result (IsLabelled sources.new) }
 {
     match tree.read(alloc, path, MOST_OF_FILE + 1) {

@@ -1,12 +1,10 @@
-ghost use Rattle.std.specs.Prelude.{◌≡◌, ◌≤◌, ◌<◌, ◌++◌, true, length, IfSome, IfOk, OnOk, IsErrOf};
+ghost use Rattle.std.specs.Prelude.{◌≡◌, ◌≤◌, ◌<◌, ◌++◌, true, length, IfSome, IfOk, OnOk};
 ghost use Rattle.std.specs.String.{string_bytes};
-ghost use Rattle.acl_text.specs.Output.{Rose};
 ghost use Rattle.acl_splice.specs.IncludeLines.{is_path, asked_in};
 ghost use Rattle.acl_splice.specs.Labels.{AreOfFiles};
 ghost use Rattle.acl_splice.specs.Splicing.{behind_line, behind_file, behind_include};
 ghost use Rattle.acl_text.specs.Answers.{Leaves};
-ghost use Rattle.acl_host.specs.Outside.{OnlyReads};
-ghost use Rattle.acl_host.specs.WholeFiles.{read_told};
+ghost use Rattle.acl_host.specs.WholeFiles.{ReadsFiles, read_told};
 
 use crate::include_lines::{Asked, asked_in};
 use crate::line_faults::line_fault;
@@ -57,10 +55,8 @@ fn include_file<T: Tree>(
     requires { is_path path.now ≡ true }
     ensures gives { IfSome (T.files tree.old) (λ fs. Leaves read_told sources.new result
         (behind_include levels fs folder.now label.now line path.now sources.old)) }
-    ensures reads { OnlyReads T.files T.begun T.faults T.refusals T.list_faults T.read_faults
-        tree.old tree.new }
-    ensures outside { IsErrOf result ReadFault.Outside
-        → Rose (T.read_faults tree.old) (T.read_faults tree.new) }
+    ensures reads { ReadsFiles T.files T.begun T.faults T.refusals T.list_faults T.read_faults
+        tree.old tree.new result }
     ensures labels { OnOk result (length sources.old.labels ≤ length sources.new.labels) }
     ensures files { OnOk result (AreOfFiles sources.new) }
 {
@@ -110,10 +106,8 @@ fn meet_line<T: Tree>(
     ensures gives { IfSome (T.files tree.old) (λ fs. Leaves read_told sources.new result
         (behind_line (behind_include levels fs folder.now) label.now place.file place.line text.now
         (asked_in text.now) sources.old)) }
-    ensures reads { OnlyReads T.files T.begun T.faults T.refusals T.list_faults T.read_faults
-        tree.old tree.new }
-    ensures outside { IsErrOf result ReadFault.Outside
-        → Rose (T.read_faults tree.old) (T.read_faults tree.new) }
+    ensures reads { ReadsFiles T.files T.begun T.faults T.refusals T.list_faults T.read_faults
+        tree.old tree.new result }
     ensures labels { OnOk result (length sources.old.labels ≤ length sources.new.labels) }
     ensures files { OnOk result (AreOfFiles sources.new) }
 {
@@ -149,10 +143,8 @@ pub(crate) fn add_file<T: Tree>(
     requires room { length sources.old.labels ≤ sources.old.includes }
     ensures gives { IfSome (T.files tree.old) (λ fs. Leaves read_told sources.new result
         (behind_file (behind_include levels fs folder.now) label.now bytes.now sources.old)) }
-    ensures reads { OnlyReads T.files T.begun T.faults T.refusals T.list_faults T.read_faults
-        tree.old tree.new }
-    ensures outside { IsErrOf result ReadFault.Outside
-        → Rose (T.read_faults tree.old) (T.read_faults tree.new) }
+    ensures reads { ReadsFiles T.files T.begun T.faults T.refusals T.list_faults T.read_faults
+        tree.old tree.new result }
     ensures labels { OnOk result (length sources.old.labels < length sources.new.labels) }
     ensures files { OnOk result (AreOfFiles sources.new) }
 {

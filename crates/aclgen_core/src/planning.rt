@@ -1,9 +1,7 @@
-ghost use Rattle.std.specs.Prelude.{◌≡◌, ◌≤◌, length, IfSome, IfOk, IsErrOf};
-ghost use Rattle.acl_text.specs.Output.{Rose};
+ghost use Rattle.std.specs.Prelude.{◌≡◌, ◌≤◌, length, IfSome, IfOk};
 ghost use Rattle.acl_text.specs.Answers.{Answers, Gives, fault_told};
-ghost use Rattle.acl_host.specs.Outside.{OnlyListsAndReads, OnlyReads};
-ghost use Rattle.acl_host.specs.WholeFiles.{read_told};
-ghost use Rattle.acl_load.specs.LoadFaults.{load_told};
+ghost use Rattle.acl_host.specs.WholeFiles.{ReadsFiles, read_told};
+ghost use Rattle.acl_load.specs.LoadFaults.{LoadsFiles, load_told};
 ghost use Rattle.aclgen_core.specs.Job.{Plans, Renders, policy_in, policy_read, too_many_entries};
 ghost use Rattle.aclgen_core.specs.SoundPlans.{IsPlan, IsPolicy};
 ghost use Rattle.aclgen_core.specs.CodeViews.{options_view, plan_view};
@@ -57,10 +55,8 @@ fn policy_read<T: Tree>(
     ensures gives { IfSome (T.files tree.old) (λ files. Gives read_told result
         (policy_read (options_view options.now) files)) }
     ensures sound { IfOk result (λ policy. IsPolicy policy) }
-    ensures reads { OnlyReads T.files T.begun T.faults T.refusals T.list_faults T.read_faults
-        tree.old tree.new }
-    ensures outside { IsErrOf result ReadFault.Outside
-        → Rose (T.read_faults tree.old) (T.read_faults tree.new) }
+    ensures reads { ReadsFiles T.files T.begun T.faults T.refusals T.list_faults T.read_faults
+        tree.old tree.new result }
 {
     let bytes = read_whole(alloc, tree, options.policy, MOST_BYTES, Code::NotYet)?;
     Ok(policy_in(alloc, options.policy, bytes.as_slice())?)
@@ -113,12 +109,8 @@ pub fn make_plan<T: Tree>(
     ensures gives { IfSome (T.files tree.old) (λ files. Answers load_told plan_view result
         (Plans (options_view options.now) files)) }
     ensures sound { IfOk result (λ plan. IsPlan (plan_view plan)) }
-    ensures looks { OnlyListsAndReads T.files T.begun T.faults T.refusals
-        T.list_faults T.read_faults tree.old tree.new }
-    ensures list_failed { IsErrOf result LoadFault.List
-        → Rose (T.list_faults tree.old) (T.list_faults tree.new) }
-    ensures read_failed { IsErrOf result LoadFault.Read
-        → Rose (T.read_faults tree.old) (T.read_faults tree.new) }
+    ensures looks { LoadsFiles T.files T.begun T.faults T.refusals T.list_faults T.read_faults
+        tree.old tree.new result }
 {
     let naming = load_definitions(alloc, tree, options.definitions)?;
     let policy = policy_read(alloc, options, tree)?;

@@ -9,7 +9,7 @@ pub returns-clause-gives : goal.returns-clause-gives
 returns-clause-gives g c =
     defined_told _ _ _ _ (map string_bytes c.as_slice-all.result.now)
     (map string_bytes c.split_at.result.0.now)
-    (map string_bytes c.split_at.result.1.now) _ c.listing.ensures.lists.looks.files_stay
+    (map string_bytes c.split_at.result.1.now) _ c.listing.ensures.lists.only.looks.files_stay
     c.in_ok-names.ensures.gives
     (ap (map string_bytes) c.as_slice-all.ensures.value ∙ c.in_ok-paths.ensures.all
     ∙ ap (naming_paths c.args.folder.now) c.as_slice.ensures)

@@ -12,4 +12,4 @@ returns-clause-gives g c =
     let o = options_view c.args.options.now in
     let P : Option (List File) → Type 0 = λ t. IfSome t (λ files. policy_read o files ≡ Ok c.in_ok-policy.policy) in
     plans fault_told told o c.in_ok-naming.naming c.in_ok-policy.policy c.render.result c.in_ok-naming.ensures.loads
-    (subst P c.load_definitions.ensures.looks.files_stay c.in_ok-policy.ensures.gives) c.render.ensures.gives
+    (subst P c.load_definitions.ensures.looks.only.looks.files_stay c.in_ok-policy.ensures.gives) c.render.ensures.gives

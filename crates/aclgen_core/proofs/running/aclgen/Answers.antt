@@ -25,7 +25,7 @@ pub returns-in-Err-Failed-write_file-clause-write_failed : goal.returns-in-Err-F
 returns-in-Err-Failed-write_file-clause-write_failed g c =
     let R : ℕ → Type 0 = λ n. Rose n (g.T.Out.faults c.write_file.new.tree) in
     λ ended. (
-      subst R c.make_plan.ensures.looks.faults_stay ((rw c.in-Err-Failed-write_file.field-0-is at c.in-Err-Failed-write_file.ensures).failed refl),
+      subst R c.make_plan.ensures.looks.only.looks.faults_stay ((rw c.in-Err-Failed-write_file.field-0-is at c.in-Err-Failed-write_file.ensures).counts.failed refl),
       ap is_some (sym c.in-Some.ensures),
       is-planned (g.T.Tree.files c.args.tree.now) (map string_bytes c.args.words.now) (options_view c.in-Some.options) (plan_view c.in-Ok-make_plan.plan)
           (sym c.in-Some.ensures) c.in-Ok-make_plan.ensures.gives,
@@ -57,6 +57,6 @@ returns-in-Ok-write-2-clause-done g c =
     let written = rw c.as_str.ensures.value at c.in-Ok-write_file.ensures.ok in
     done-told told now (map string_bytes c.args.words.now) (options_view c.in-Some.options) plan out (g.O.Sink.told c.write-2.new.self) (g.E.Sink.told c.args.err.now) (g.E.Sink.told c.args.err.now)
     (sym c.in-Some.ensures) c.in-Ok-make_plan.ensures.gives
-    (subst P c.make_plan.ensures.looks.files_stay (subst W text written))
+    (subst P c.make_plan.ensures.looks.only.looks.files_stay (subst W text written))
     c.list_text.ensures.spelled c.list_text.ensures.decides
     (c.in-Ok-write-2.ensures.ok ∙ ap Q (c.as_slice-3.ensures ∙ c.in-Ok-report_of.ensures)) refl
