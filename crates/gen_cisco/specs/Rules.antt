@@ -7,6 +7,7 @@ use Rattle.acl_packet.specs.declared.filtering.Outcome.{Outcome}
 use Rattle.acl_packet.specs.declared.filtering.Verdict.TheVariants.{Accept, Deny}
 use Rattle.acl_text.specs.Names.{is_name}
 use Rattle.acl_packet.specs.Addresses.{IsPrefixOf}
+use Rattle.acl_packet.specs.Outcomes.{unlogged}
 use Rattle.acl_sets.specs.LeastLists.{any_has}
 use Rattle.gen_cisco.specs.declared.rules.Rule.{Rule}
 
@@ -25,9 +26,10 @@ is_protocol (Some wanted) number = number == wanted
 abbrev pub rule_holds : Rule → Packet → Bool
 rule_holds rule p = is_protocol rule.proto p.proto && (any_has rule.src p.src && any_has rule.dst p.dst)
 
+-- What lets through or denies without a log.
 abbrev pub silent : Bool → Outcome
-silent true = record { verdict = Accept; logged = false }
-silent false = record { verdict = Deny; logged = false }
+silent true = unlogged Accept
+silent false = unlogged Deny
 
 -- The first rule that holds the packet decides; a packet that none holds is denied.
 abbrev pub filter_outcome : List Rule → Packet → Outcome
