@@ -1,4 +1,4 @@
-pub mod CheckLaws
+pub mod DecisionLaws
 pub mod ListLaws
 pub mod NamingLaws
 pub mod PutLaws

@@ -6,7 +6,7 @@ use acl_packet::{Family, Prefix};
 
 /// Whether it is a prefix of the family: its length is within the address, its first address is one, and no bit
 /// behind the length is set.
-#[tactic(auto, using(crate::proofs::CheckLaws::prefix_decides))]
+#[tactic(auto, using(crate::proofs::DecisionLaws::prefix_decides))]
 pub fn is_prefix_of(family: Family, prefix: &Prefix) -> bool
     ensures is { IsTrue result ↔ IsPrefixOf family prefix.now }
     ensures exact { result ≡ is_prefix_of family prefix.now }

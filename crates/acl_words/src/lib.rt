@@ -2,11 +2,11 @@
 #![tactic(auto)]
 
 mod forms;
-mod reading;
+mod policy_words;
 mod runs;
 mod scanning;
 #[cfg(test)]
 mod tests;
 
 pub use forms::{Form, Token};
-pub use reading::read_words;
+pub use policy_words::read_words;

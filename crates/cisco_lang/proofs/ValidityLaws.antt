@@ -18,7 +18,7 @@ use Rattle.acl_text.specs.Cuts.{behind}
 use Rattle.acl_text.specs.Names.{is_filter_name, is_safe_text}
 use Rattle.acl_text.proofs.CutLaws.{behind-found, behind-again}
 use Rattle.acl_grammar.specs.PrefixCheckSteps.{is_prefix_of}
-use Rattle.acl_grammar.proofs.CheckLaws.{le_decides, family_decides, prefix_decides, all_decides}
+use Rattle.acl_grammar.proofs.DecisionLaws.{le_decides, family_decides, prefix_decides, all_decides}
 use Rattle.cisco_lang.specs.declared.documents.Section.{Section}
 use Rattle.cisco_lang.specs.declared.documents.AccessList.{AccessList}
 use Rattle.cisco_lang.specs.declared.documents.Item.{Item}

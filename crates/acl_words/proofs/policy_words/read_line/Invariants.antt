@@ -1,7 +1,7 @@
 use Rattle.std.proofs.Common.{◌≡◌, ◌++◌, drop}
 use Rattle.acl_words.specs.Words.{words_in, mode_in}
 use Rattle.acl_words.specs.ScanningSteps.{mode_of}
-use Rattle.acl_words.proofs.reading.read_line.Given as goal
+use Rattle.acl_words.proofs.policy_words.read_line.Given as goal
 
 abbrev pub invariant-loop-byte : goal.invariant-loop-byte
 invariant-loop-byte l = record {
