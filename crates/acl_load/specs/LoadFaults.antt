@@ -11,28 +11,28 @@ use Rattle.acl_host.specs.declared.look_faults.ListFault.TheVariants as lists
 use Rattle.acl_host.specs.declared.look_faults.ReadFault.{ReadFault}
 use Rattle.acl_host.specs.declared.look_faults.ReadFault.TheVariants as reads
 use Rattle.acl_load.specs.declared.load_faults.LoadFault.{LoadFault}
-use Rattle.acl_load.specs.declared.load_faults.LoadFault.TheVariants as faults
+use Rattle.acl_load.specs.declared.load_faults.LoadFault.TheVariants as loads
 
 -- The fault that is told of the input.
 abbrev pub load_told : LoadFault → Option Fault
-load_told (faults.Fault fault) = Some fault
-load_told faults.List = None
-load_told faults.Read = None
-load_told faults.Memory = None
+load_told (loads.Fault fault) = Some fault
+load_told loads.List = None
+load_told loads.Read = None
+load_told loads.Memory = None
 
 abbrev pub of_listing : ListFault → LoadFault
-of_listing (lists.Fault fault) = faults.Fault fault
-of_listing lists.Outside = faults.List
-of_listing lists.Memory = faults.Memory
+of_listing (lists.Fault fault) = loads.Fault fault
+of_listing lists.Outside = loads.List
+of_listing lists.Memory = loads.Memory
 
 abbrev pub of_reading : ReadFault → LoadFault
-of_reading (reads.Fault fault) = faults.Fault fault
-of_reading reads.Outside = faults.Read
-of_reading reads.Memory = faults.Memory
+of_reading (reads.Fault fault) = loads.Fault fault
+of_reading reads.Outside = loads.Read
+of_reading reads.Memory = loads.Memory
 
 abbrev pub of_rejection : Rejection → LoadFault
-of_rejection (rejections.Fault fault) = faults.Fault fault
-of_rejection rejections.Memory = faults.Memory
+of_rejection (rejections.Fault fault) = loads.Fault fault
+of_rejection rejections.Memory = loads.Memory
 
 -- A call that lists a folder and reads files does nothing else, and fails outside only where the count
 -- of that kind rose.
@@ -40,5 +40,5 @@ pub record LoadsFiles {S X : Type 0} (files : S → Option (List File)) (begun :
     (faults refusals list_faults read_faults : S → ℕ) (old new : S)
     (result : Result X LoadFault) : Type 0 where
   pub only : OnlyListsAndReads files begun faults refusals list_faults read_faults old new
-  pub list_failed : IsErrOf result faults.List → Rose (list_faults old) (list_faults new)
-  pub read_failed : IsErrOf result faults.Read → Rose (read_faults old) (read_faults new)
+  pub list_failed : IsErrOf result loads.List → Rose (list_faults old) (list_faults new)
+  pub read_failed : IsErrOf result loads.Read → Rose (read_faults old) (read_faults new)
