@@ -1,6 +1,7 @@
-pub mod DayLaws
-pub mod Lists
+pub mod NamedDayLaws
 pub mod Outcomes
 pub mod PolicyFit
+pub mod SharedLists
+pub mod SlipPlaces
 pub mod TargetFit
 pub mod TermFit

@@ -1,56 +1,33 @@
--- A target that is read is such as its line gives it.
-use Rattle.std.proofs.Common.{◌≡◌, ℕ, ◌≤◌, ◌==◌, ℤ, pos, Bool, true, false, List, [], ◌∷◌, Option, None, Some, IfOk, IfSome, unwrap_or, option_map, refl, codes, arith}
+-- A target that is read is such as its line gives it, and stands where the line does.
+use Rattle.std.proofs.Common.{◌≡◌, ℕ, ℤ, pos, negsuc, Bool, true, false, List, [], ◌∷◌, Option, None, Some, IfSome, unwrap_or, refl, codes, arith}
 use Rattle.std.specs.Str.{bytes_eq}
 use Rattle.std.proofs.lemmas.Int.{ints}
 use Rattle.std.proofs.lemmas.Slice.Eq.{bytes_eq-Decides}
 use Rattle.acl_packet.specs.declared.addresses.Families.{Families}
 use Rattle.acl_packet.specs.declared.addresses.Families.TheVariants.{Inet}
-use Rattle.acl_text.specs.Numbers.{number_in}
-use Rattle.acl_text.proofs.Numbers.{number-is}
+use Rattle.acl_text.specs.declared.faults.Place.{Place}
+use Rattle.acl_text.specs.Names.{is_filter_name}
+use Rattle.acl_text.specs.SignedNumbers.{IsSignedWord, signed_in}
+use Rattle.acl_text.proofs.SignedLaws.{signed_some}
 use Rattle.acl_words.specs.declared.forms.Token.{Token}
 use Rattle.acl_policy.specs.declared.choices.Choices.{Choices}
 use Rattle.acl_policy.specs.declared.filters.Ending.TheVariants as endings
 use Rattle.acl_policy.specs.declared.filters.Kind.{Kind}
 use Rattle.acl_policy.specs.declared.filters.Kind.TheVariants.{Cisco, Juniper, Iptables, Nftables}
 use Rattle.acl_policy.specs.declared.filters.Target.{Target}
-use Rattle.acl_policy.specs.declared.target_lines.Named.{Named}
+use Rattle.acl_policy.specs.declared.target_lines.NamedTarget.{NamedTarget}
 use Rattle.acl_policy.specs.Clashes.{is_mixed}
 use Rattle.acl_policy.specs.Conditions.{IsPriority, FitsPlatform, chain_text, hook_text, is_verdict, is_neighbours}
-use Rattle.acl_policy.specs.Targets.{is_word, or_refused, single_family, family_word, chain_word, hook_word, is_filter_name, name_word, negative, below_zero_in, from_zero_in, priority_in, priority_word, nothing_chosen, unless_some, with_policy, with_mark, with_families, with_priority, iptables_choice, nftables_choice, choice, chosen_from, last_family, device_line, policy_ending, iptables_line, hooked_line, nftables_line, line_met}
+use Rattle.acl_policy.specs.Targets.{is_word, or_slip, single_family, family_word, chain_word, hook_word, name_word, priority_word, no_choices, unless_some, with_policy, with_mark, with_families, with_priority, iptables_choice, nftables_choice, choice, choices_from, last_family, device_line, policy_ending, iptables_line, hooked_line, nftables_line, target_line}
 use Rattle.acl_policy.specs.Values.{is_plain}
-use Rattle.acl_policy.proofs.Outcomes.{bind_has, if_has, any_ok, some_if, then_has, some_from, and_right}
-
-or_has : {A : Type 0} (P : A → Type 0) (w : Token) (o : Option A) → IfSome o P → IfOk (or_refused w o) P
-or_has P w (Some x) h = h
-or_has P w None h = tt
+use Rattle.acl_policy.proofs.Outcomes.{Has, bind_has, if_has, some_if, then_has, and_right}
+use Rattle.acl_policy.proofs.TermFit.{Stand}
 
 abbrev NotMixed : Families → Type 0
 NotMixed f = is_mixed f ≡ false
 
 one_family : (w : Token) → IfSome (single_family w) NotMixed
 one_family w = some_if NotMixed (is_word w (codes "inet")) _ _ (λ _. refl) (λ _. some_if NotMixed (is_word w (codes "inet6")) _ _ (λ _. refl) (λ _. tt))
-
-juniper_family : (ws : List Token) → IfOk (last_family Juniper ws) NotMixed
-juniper_family [] = refl
-juniper_family (w ∷ []) = or_has NotMixed w (single_family w) (one_family w)
-juniper_family (w ∷ v ∷ ws) = bind_has NotMixed NotMixed (or_refused w (single_family w)) _ (or_has NotMixed w (single_family w) (one_family w)) (λ _ _. tt)
-
-abbrev pub Good : Named → Type 0
-Good n = FitsPlatform n.target.kind n.target
-
-cisco_good : (k p : Token) (ws : List Token) → IfOk (device_line Cisco k p ws) Good
-cisco_good k p [] = tt
-cisco_good k p (n ∷ ws) = if_has Good (name_word n) _ _
-    (λ c. bind_has (λ _. Unit {0}) Good (last_family Cisco ws) _ (any_ok (last_family Cisco ws))
-    (λ f _. record { name_is = and_right (is_plain n.form) (is_filter_name n.text) c; hook_is = refl; stateless = refl; ending_is = refl; priority_is = refl; verbose_is = refl }))
-    (λ _. tt)
-
-juniper_good : (k p : Token) (ws : List Token) → IfOk (device_line Juniper k p ws) Good
-juniper_good k p [] = tt
-juniper_good k p (n ∷ ws) = if_has Good (name_word n) _ _
-    (λ c. bind_has NotMixed Good (last_family Juniper ws) _ (juniper_family ws)
-    (λ f h. (record { name_is = and_right (is_plain n.form) (is_filter_name n.text) c; hook_is = refl; stateless = refl; ending_is = refl; priority_is = refl; verbose_is = refl }, h)))
-    (λ _. tt)
 
 is_the_text : (w : Token) (text : List ℕ) → is_word w text ≡ true → w.text ≡ text
 is_the_text w text h = (bytes_eq-Decides w.text text).0 (and_right (is_plain w.form) (bytes_eq w.text text) h)
@@ -66,26 +43,18 @@ hook_named w = some_if (λ hook. w.text ≡ hook_text hook) (is_word w (codes "i
     (λ _. some_if (λ hook. w.text ≡ hook_text hook) (is_word w (codes "forward")) _ _ (λ c. is_the_text w (codes "forward") c) (λ _. tt)))
 
 -- Priorities are within their limits.
-small : (most : ℕ) (bs : List ℕ) → IfSome (number_in most bs) (λ n. n ≤ most)
-small most bs = some_from (λ n. n ≤ most) (number_in most bs) (λ n e. (number-is most n bs e).1)
+in_limits : (word : List ℕ) (z : ℤ) → IsSignedWord 32768 32767 word z → IsPriority z
+in_limits word (pos n) h = (omega (arith, ints), omega (arith, ints, h.1))
+in_limits word (negsuc n) h = (omega (arith, ints, h.3), omega (arith, ints))
 
-below : (bs : List ℕ) → IfSome (below_zero_in bs) IsPriority
-below bs = then_has (λ n. n ≤ 32768) IsPriority negative (number_in 32768 bs) (small 32768 bs)
-    (λ n h. some_if IsPriority (n == 0) _ _ (λ _. tt) (λ _. (omega (arith, ints), omega (arith, ints))))
-
-mapped : (o : Option ℕ) → IfSome o (λ n. n ≤ 32767) → IfSome (option_map (λ n. pos n) o) IsPriority
-mapped None h = tt
-mapped (Some n) h = (omega (arith, ints), omega (arith, ints))
-
-above : (bs : List ℕ) → IfSome (from_zero_in bs) IsPriority
-above bs = mapped (number_in 32767 bs) (small 32767 bs)
-
-a_priority : (bs : List ℕ) → IfSome (priority_in bs) IsPriority
-a_priority [] = above []
-a_priority (b ∷ bs) = some_if IsPriority (b == 45) _ _ (λ _. below bs) (λ _. above (b ∷ bs))
+limited : (word : List ℕ) (o : Option ℤ) → IfSome o (λ z. IsSignedWord 32768 32767 word z) → IfSome o IsPriority
+limited word None h = tt
+limited word (Some z) h = in_limits word z h
 
 priority_good : (w : Token) → IfSome (priority_word w) IsPriority
-priority_good w = some_if IsPriority (is_plain w.form) _ _ (λ _. a_priority w.text) (λ _. tt)
+priority_good w = some_if IsPriority (is_plain w.form) _ _
+    (λ _. limited w.text (signed_in 32768 32767 w.text) (signed_some 32768 32767 w.text (signed_in 32768 32767 w.text) refl))
+    (λ _. tt)
 
 record Chosen (c : Choices) : Type 0 where
   pub families_fit : IfSome c.families NotMixed
@@ -123,13 +92,8 @@ choice_good Cisco c w h = nftables_chosen c w h
 choice_good Juniper c w h = nftables_chosen c w h
 choice_good Nftables c w h = nftables_chosen c w h
 
-chosen_good : (kind : Kind) (c : Choices) (ws : List Token) → Chosen c → IfOk (chosen_from kind c ws) Chosen
-chosen_good kind c [] h = h
-chosen_good kind c (w ∷ ws) h = bind_has Chosen Chosen (or_refused w (choice kind c w)) _ (or_has Chosen w (choice kind c w) (choice_good kind c w h))
-    (λ d g. chosen_good kind d ws g)
-
-nothing_good : Chosen nothing_chosen
-nothing_good = record { families_fit = tt; priority_fits = tt }
+none_chosen : Chosen no_choices
+none_chosen = record { families_fit = tt; priority_fits = tt }
 
 default_family : (o : Option Families) → IfSome o NotMixed → NotMixed (unwrap_or o Inet)
 default_family None h = refl
@@ -149,32 +113,100 @@ deny_ending None = refl
 deny_ending (Some true) = refl
 deny_ending (Some false) = refl
 
-iptables_good : (k p : Token) (ws : List Token) → IfOk (iptables_line k p ws) Good
-iptables_good k p [] = tt
-iptables_good k p (n ∷ ws) = bind_has (λ hook. n.text ≡ chain_text hook) Good (or_refused n (chain_word n)) _
-    (or_has (λ hook. n.text ≡ chain_text hook) n (chain_word n) (chain_named n))
-    (λ hook e. bind_has Chosen Good (chosen_from Iptables nothing_chosen ws) _ (chosen_good Iptables nothing_chosen ws nothing_good)
-    (λ c h. record { name_is = e; one_family = default_family c.families h.families_fit; ending_is = left_ending c.accept; priority_is = refl; verbose_is = refl }))
+-- A target that fits its platform; its line and its name stand at such places.
+pub record IsNamed (At : Place → Type 0) (n : NamedTarget) : Type 0 where
+  pub fits : FitsPlatform n.target.kind n.target
+  pub line_stands : At n.target.place
+  pub name_stands : At n.place
 
-hooked_good : (k p : Token) (families : Families) (ws : List Token) → IfOk (hooked_line k p families ws) Good
-hooked_good k p families [] = tt
-hooked_good k p families (n ∷ ws) = bind_has (λ hook. n.text ≡ hook_text hook) Good (or_refused n (hook_word n)) _
-    (or_has (λ hook. n.text ≡ hook_text hook) n (hook_word n) (hook_named n))
-    (λ hook e. bind_has Chosen Good (chosen_from Nftables nothing_chosen ws) _ (chosen_good Nftables nothing_chosen ws nothing_good)
-    (λ c h. record { name_is = e; stateful_is = refl; ending_is = deny_ending c.accept; priority_is = default_priority c.priority h.priority_fits }))
+module _ (At : Place → Type 0) where
+  or_has : {A : Type 0} (P : A → Type 0) (w : Token) (o : Option A) → At w.place → IfSome o P → Has At P (or_slip w o)
+  or_has P w (Some x) a h = h
+  or_has P w None a h = a
 
-nftables_good : (k p : Token) (ws : List Token) → IfOk (nftables_line k p ws) Good
-nftables_good k p [] = tt
-nftables_good k p (w ∷ ws) = bind_has (λ _. Unit {0}) Good (or_refused w (family_word Nftables w)) _ (any_ok (or_refused w (family_word Nftables w)))
-    (λ families _. hooked_good k p families ws)
+  juniper_family : (ws : List Token) → Stand At ws → Has At NotMixed (last_family Juniper ws)
+  juniper_family [] s = refl
+  juniper_family (w ∷ []) s = or_has NotMixed w (single_family w) s.0 (one_family w)
+  juniper_family (w ∷ v ∷ ws) s = bind_has At NotMixed NotMixed (or_slip w (single_family w)) _
+      (or_has NotMixed w (single_family w) s.0 (one_family w)) (λ _ _. s.1.0)
 
-pub line_good : (k : Token) (ws : List Token) → IfOk (line_met k ws) Good
-unfolding line_met
-line_good k [] = tt
-line_good k (p ∷ ws) = if_has Good (is_word p (codes "cisco")) _ _ (λ _. cisco_good k p ws)
-    (λ _. if_has Good (is_word p (codes "juniper")) _ _ (λ _. juniper_good k p ws)
-    (λ _. if_has Good (is_word p (codes "iptables")) _ _ (λ _. iptables_good k p ws)
-    (λ _. if_has Good (is_word p (codes "nftables")) _ _ (λ _. nftables_good k p ws) (λ _. tt))))
+  any_some : {A : Type 0} (o : Option A) → IfSome o (λ _. Unit {0})
+  any_some None = tt
+  any_some (Some x) = tt
+
+  cisco_family : (ws : List Token) → Stand At ws → Has At (λ _. Unit {0}) (last_family Cisco ws)
+  cisco_family [] s = tt
+  cisco_family (w ∷ []) s = or_has (λ _. Unit {0}) w (family_word Cisco w) s.0 (any_some (family_word Cisco w))
+  cisco_family (w ∷ v ∷ ws) s = bind_has At (λ _. Unit {0}) (λ _. Unit {0}) (or_slip w (family_word Cisco w)) _
+      (or_has (λ _. Unit {0}) w (family_word Cisco w) s.0 (any_some (family_word Cisco w))) (λ _ _. s.1.0)
+
+  cisco_good : (k p : Token) (ws : List Token) → At k.place → At p.place → Stand At ws
+      → Has At (IsNamed At) (device_line Cisco k p ws)
+  cisco_good k p [] a b s = b
+  cisco_good k p (n ∷ ws) a b s = if_has At (IsNamed At) (name_word n) _ _
+      (λ c. bind_has At (λ _. Unit {0}) (IsNamed At) (last_family Cisco ws) _ (cisco_family ws s.1)
+      (λ f _. record {
+        fits = record { name_is = and_right (is_plain n.form) (is_filter_name n.text) c; hook_is = refl; stateless = refl; ending_is = refl; priority_is = refl; verbose_is = refl };
+        line_stands = a;
+        name_stands = s.0;
+      }))
+      (λ _. s.0)
+
+  juniper_good : (k p : Token) (ws : List Token) → At k.place → At p.place → Stand At ws
+      → Has At (IsNamed At) (device_line Juniper k p ws)
+  juniper_good k p [] a b s = b
+  juniper_good k p (n ∷ ws) a b s = if_has At (IsNamed At) (name_word n) _ _
+      (λ c. bind_has At NotMixed (IsNamed At) (last_family Juniper ws) _ (juniper_family ws s.1)
+      (λ f h. record {
+        fits = (record { name_is = and_right (is_plain n.form) (is_filter_name n.text) c; hook_is = refl; stateless = refl; ending_is = refl; priority_is = refl; verbose_is = refl }, h);
+        line_stands = a;
+        name_stands = s.0;
+      }))
+      (λ _. s.0)
+
+  chosen_good : (kind : Kind) (c : Choices) (ws : List Token) → Chosen c → Stand At ws → Has At Chosen (choices_from kind c ws)
+  chosen_good kind c [] h s = h
+  chosen_good kind c (w ∷ ws) h s = bind_has At Chosen Chosen (or_slip w (choice kind c w)) _
+      (or_has Chosen w (choice kind c w) s.0 (choice_good kind c w h)) (λ d g. chosen_good kind d ws g s.1)
+
+  iptables_good : (k p : Token) (ws : List Token) → At k.place → At p.place → Stand At ws
+      → Has At (IsNamed At) (iptables_line k p ws)
+  iptables_good k p [] a b s = b
+  iptables_good k p (n ∷ ws) a b s = bind_has At (λ hook. n.text ≡ chain_text hook) (IsNamed At) (or_slip n (chain_word n)) _
+      (or_has (λ hook. n.text ≡ chain_text hook) n (chain_word n) s.0 (chain_named n))
+      (λ hook e. bind_has At Chosen (IsNamed At) (choices_from Iptables no_choices ws) _ (chosen_good Iptables no_choices ws none_chosen s.1)
+      (λ c h. record {
+        fits = record { name_is = e; one_family = default_family c.families h.families_fit; ending_is = left_ending c.accept; priority_is = refl; verbose_is = refl };
+        line_stands = a;
+        name_stands = s.0;
+      }))
+
+  hooked_good : (k p : Token) (families : Families) (ws : List Token) → At k.place → At p.place → Stand At ws
+      → Has At (IsNamed At) (hooked_line k p families ws)
+  hooked_good k p families [] a b s = b
+  hooked_good k p families (n ∷ ws) a b s = bind_has At (λ hook. n.text ≡ hook_text hook) (IsNamed At) (or_slip n (hook_word n)) _
+      (or_has (λ hook. n.text ≡ hook_text hook) n (hook_word n) s.0 (hook_named n))
+      (λ hook e. bind_has At Chosen (IsNamed At) (choices_from Nftables no_choices ws) _ (chosen_good Nftables no_choices ws none_chosen s.1)
+      (λ c h. record {
+        fits = record { name_is = e; stateful_is = refl; ending_is = deny_ending c.accept; priority_is = default_priority c.priority h.priority_fits };
+        line_stands = a;
+        name_stands = s.0;
+      }))
+
+  nftables_good : (k p : Token) (ws : List Token) → At k.place → At p.place → Stand At ws
+      → Has At (IsNamed At) (nftables_line k p ws)
+  nftables_good k p [] a b s = b
+  nftables_good k p (w ∷ ws) a b s = bind_has At (λ _. Unit {0}) (IsNamed At) (or_slip w (family_word Nftables w)) _
+      (or_has (λ _. Unit {0}) w (family_word Nftables w) s.0 (any_some (family_word Nftables w)))
+      (λ families _. hooked_good k p families ws a b s.1)
+
+  pub line_good : (k : Token) (ws : List Token) → At k.place → Stand At ws → Has At (IsNamed At) (target_line k ws)
+  unfolding target_line
+  line_good k [] a s = a
+  line_good k (p ∷ ws) a s = if_has At (IsNamed At) (is_word p (codes "cisco")) _ _ (λ _. cisco_good k p ws a s.0 s.1)
+      (λ _. if_has At (IsNamed At) (is_word p (codes "juniper")) _ _ (λ _. juniper_good k p ws a s.0 s.1)
+      (λ _. if_has At (IsNamed At) (is_word p (codes "iptables")) _ _ (λ _. iptables_good k p ws a s.0 s.1)
+      (λ _. if_has At (IsNamed At) (is_word p (codes "nftables")) _ _ (λ _. nftables_good k p ws a s.0 s.1) (λ _. s.0))))
 
 pub renumbered : (kind : Kind) (t : Target) (m : ℕ) → FitsPlatform kind t → FitsPlatform kind (record t { number = m })
 renumbered Cisco t m h = record { name_is = h.name_is; hook_is = h.hook_is; stateless = h.stateless; ending_is = h.ending_is; priority_is = h.priority_is; verbose_is = h.verbose_is }

@@ -1,196 +1,176 @@
--- A term that is read has words that its keywords take.
-use Rattle.std.proofs.Common.{◌≡◌, ℕ, true, false, List, [], ◌∷◌, ◌++◌, map, IfOk, is_some, refl, ap, ◌∙◌, codes}
-use Rattle.std.specs.List.{list_all}
+-- A term that is read has words that its keywords take, and they stand where its words do.
+use Rattle.std.proofs.Common.{◌≡◌, ℕ, ◌<◌, true, false, List, [], ◌∷◌, map, set, get_or, is_some, Ok, refl, subst, sym, ◌∙◌, codes, arith}
+use Rattle.std.specs.List.{All, AllByRecursion}
 use Rattle.std.specs.Str.{bytes_eq}
-use Rattle.std.proofs.lemmas.List.Folds.{list_all-append}
+use Rattle.std.proofs.lemmas.List.Elements.{All-nil, All-cons, All-append, All-set, All-get_or}
+use Rattle.acl_text.specs.declared.faults.Place.{Place}
+use Rattle.acl_text.specs.Steps.{◌>>=◌}
 use Rattle.acl_words.specs.declared.forms.Token.{Token}
-use Rattle.acl_policy.specs.declared.drafts.Draft.{Draft}
-use Rattle.acl_policy.specs.declared.entries.Word.{Word}
-use Rattle.acl_policy.specs.declared.entries.RawTerm.{RawTerm}
+use Rattle.acl_policy.specs.declared.term_drafts.Draft.{Draft}
+use Rattle.acl_policy.specs.declared.raw_terms.Word.{Word}
+use Rattle.acl_policy.specs.declared.raw_terms.RawTerm.{RawTerm}
 use Rattle.acl_policy.specs.declared.values.Takes.{Takes}
 use Rattle.acl_policy.specs.declared.values.Takes.TheVariants as takes
-use Rattle.acl_policy.specs.Conditions.{AllAre, ListsFit}
-use Rattle.acl_policy.specs.Terms.{begun, with_comments, with_comment, address_met, protocol_met, list_met, term_met}
-use Rattle.acl_policy.specs.Values.{is_action, text_fits, form_fits, is_value, kept, all_values, valued, listed, single}
-use Rattle.acl_policy.proofs.Outcomes.{bind_has, if_has, weaker, any_ok, and_right, and_both}
+use Rattle.acl_policy.specs.Conditions.{lists_of}
+use Rattle.acl_policy.specs.Terms.{draft_of, with_comments, with_comment, term_with_addresses, term_with_protocols, term_with_lists, draft_behind}
+use Rattle.acl_policy.specs.Values.{text_fits, form_fits, is_value, word_of, all_values, some_values, words_with, one_value}
+use Rattle.acl_policy.proofs.Outcomes.{Has, bind_has, if_has, weaker, and_right}
 
-abbrev pub AllFit : Takes → List Word → Type 0
-AllFit kind ws = AllAre (text_fits kind) ws
+-- The words stand at such places.
+abbrev pub Stand : (Place → Type 0) → List Token → Type 0
+Stand At ws = AllByRecursion (λ (w : Token). At w.place) ws
+
+-- The word is one that the keyword takes, and stands at such a place.
+abbrev pub Fits : (Place → Type 0) → Takes → Word → Type 0
+Fits At kind w = (text_fits kind w.text ≡ true) × At w.place
+
+abbrev pub ListFits : (Place → Type 0) → Takes × List Word → Type 0
+ListFits At l = All (Fits At l.0) l.1
+
+abbrev pub ListsFit : (Place → Type 0) → RawTerm → Type 0
+ListsFit At t = All (ListFits At) (lists_of t)
+
+-- A term of that name and action, whose lists fit.
+pub record TermOf (At : Place → Type 0) (name action : Word) (t : RawTerm) : Type 0 where
+  pub name_is : t.name ≡ name
+  pub action_is : t.action ≡ action
+  pub lists : ListsFit At t
+
+-- A draft of that name, whose lists fit, and whose action does where there is one.
+pub record Sound (At : Place → Type 0) (name : Word) (d : Draft) : Type 0 where
+  pub name_is : d.term.name ≡ name
+  pub action_fits : d.has_action ≡ true → Fits At takes.Action d.term.action
+  pub lists : ListsFit At d.term
 
 value_fits : (kind : Takes) (w : Token) → is_value kind w ≡ true → text_fits kind w.text ≡ true
 value_fits kind w h = and_right (form_fits kind w.form) (text_fits kind w.text) h
 
-all_fit : (kind : Takes) (ws : List Token) → IfOk (all_values kind ws) (λ _. AllFit kind (map kept ws))
-all_fit kind [] = refl
-all_fit kind (w ∷ ws) = if_has (λ _. AllFit kind (map kept (w ∷ ws))) (is_value kind w) _ _
-    (λ c. weaker (λ _. AllFit kind (map kept ws)) (λ _. AllFit kind (map kept (w ∷ ws))) (all_values kind ws) (all_fit kind ws)
-    (λ _ h. and_both (text_fits kind w.text) (list_all (λ v. text_fits kind v.text) (map kept ws)) (value_fits kind w c) h))
-    (λ _. tt)
+module _ (At : Place → Type 0) where
+  all_fit : (kind : Takes) (ws : List Token) → Stand At ws
+      → Has At (λ _. All (Fits At kind) (map word_of ws)) (all_values kind ws)
+  all_fit kind [] h = All-nil (Fits At kind)
+  all_fit kind (w ∷ ws) h = if_has At (λ _. All (Fits At kind) (map word_of (w ∷ ws))) (is_value kind w) _ _
+      (λ c. weaker At (λ _. All (Fits At kind) (map word_of ws)) (λ _. All (Fits At kind) (map word_of (w ∷ ws)))
+      (all_values kind ws) (all_fit kind ws h.1)
+      (λ _ g. All-cons (Fits At kind) (word_of w) (map word_of ws) (value_fits kind w c, h.0) g))
+      (λ _. h.0)
 
-valued_fit : (kind : Takes) (k : Token) (ws : List Token) → IfOk (valued kind k ws) (λ _. AllFit kind (map kept ws))
-valued_fit kind k [] = tt
-valued_fit kind k (w ∷ ws) = all_fit kind (w ∷ ws)
+  pub some_fit : (kind : Takes) (k : Token) (ws : List Token) → At k.place → Stand At ws
+      → Has At (λ _. All (Fits At kind) (map word_of ws)) (some_values kind k ws)
+  some_fit kind k [] p h = p
+  some_fit kind k (w ∷ ws) p h = all_fit kind (w ∷ ws) h
 
-both_fit : (kind : Takes) (xs ys : List Word) → AllFit kind xs → AllFit kind ys → AllFit kind (xs ++ ys)
-both_fit kind xs ys h k = list_all-append (λ v. text_fits kind v.text) xs ys
-    ∙ and_both (list_all (λ v. text_fits kind v.text) xs) (list_all (λ v. text_fits kind v.text) ys) h k
+  with_fit : (kind : Takes) (k : Token) (ws : List Token) (before : List Word) → At k.place → Stand At ws
+      → All (Fits At kind) before → Has At (All (Fits At kind)) (words_with kind k ws before)
+  with_fit kind k ws before p h b =
+      bind_has At (λ _. All (Fits At kind) (map word_of ws)) (All (Fits At kind)) (some_values kind k ws) _
+      (some_fit kind k ws p h) (λ _ g. All-append (Fits At kind) before (map word_of ws) b g)
 
-listed_fit : (kind : Takes) (k : Token) (ws : List Token) (before : List Word) → AllFit kind before → IfOk (listed kind k ws before) (AllFit kind)
-listed_fit kind k ws before h = bind_has (λ _. AllFit kind (map kept ws)) (AllFit kind) (valued kind k ws) _ (valued_fit kind k ws)
-    (λ _ g. both_fit kind before (map kept ws) h g)
+  one_fits : (kind : Takes) (k : Token) (ws : List Token) → At k.place → Stand At ws
+      → Has At (Fits At kind) (one_value kind k ws)
+  one_fits kind k [] p h = p
+  one_fits kind k (w ∷ []) p h = if_has At (Fits At kind) (is_value kind w) _ _ (λ c. (value_fits kind w c, h.0)) (λ _. h.0)
+  one_fits kind k (w ∷ v ∷ ws) p h = if_has At (Fits At kind) (is_value kind w) _ _ (λ _. h.1.0) (λ _. h.0)
 
-single_fits : (kind : Takes) (k : Token) (ws : List Token) → IfOk (single kind k ws) (λ w. text_fits kind w.text ≡ true)
-single_fits kind k [] = tt
-single_fits kind k (w ∷ []) = if_has (λ v. text_fits kind v.text ≡ true) (is_value kind w) _ _ (λ c. value_fits kind w c) (λ _. tt)
-single_fits kind k (w ∷ v ∷ ws) = if_has (λ x. text_fits kind x.text ≡ true) (is_value kind w) _ _ (λ _. tt) (λ _. tt)
+  -- a keyword of the n-th list
+  list_fits : (name action : Word) (t : RawTerm) (n : ℕ) (kind : Takes) (old : List Word) (next : List Word → RawTerm)
+      (k : Token) (ws : List Token) → TermOf At name action t → At k.place → Stand At ws
+      → n < 11 → get_or (lists_of t) n (kind, []) ≡ (kind, old)
+      → ((xs : List Word) → lists_of (next xs) ≡ set (lists_of t) n (kind, xs))
+      → ((xs : List Word) → (next xs).name ≡ t.name) → ((xs : List Word) → (next xs).action ≡ t.action)
+      → Has At (TermOf At name action) (words_with kind k ws old >>= λ xs. Ok (next xs))
+  list_fits name action t n kind old next k ws h p s below at_n one_list same_name same_action =
+      bind_has At (All (Fits At kind)) (TermOf At name action) (words_with kind k ws old) _
+      (with_fit kind k ws old p s (subst (ListFits At) at_n (All-get_or (ListFits At) (lists_of t) n (kind, []) below h.lists)))
+      (λ xs g. record {
+        name_is = same_name xs ∙ h.name_is;
+        action_is = same_action xs ∙ h.action_is;
+        lists = subst (All (ListFits At)) (sym (one_list xs)) (All-set (ListFits At) (lists_of t) n (kind, xs) g h.lists);
+      })
 
-with_sources : (t : RawTerm) (xs : List Word) → ListsFit t → AllFit takes.Name xs → ListsFit (record t { sources = xs })
-with_sources t xs h g = record { sources_are = g; source_excludes_are = h.source_excludes_are; destinations_are = h.destinations_are; destination_excludes_are = h.destination_excludes_are; protocols_are = h.protocols_are; source_ports_are = h.source_ports_are; destination_ports_are = h.destination_ports_are; icmp_types_are = h.icmp_types_are; options_are = h.options_are; platforms_are = h.platforms_are; not_platforms_are = h.not_platforms_are }
+  addresses_fit : (n a : Word) (t : RawTerm) (k : Token) (ws : List Token) → TermOf At n a t → At k.place → Stand At ws
+      → Has At (TermOf At n a) (term_with_addresses t k ws)
+  unfolding term_with_addresses
+  addresses_fit n a t k ws h p s = if_has At (TermOf At n a) (bytes_eq k.text (codes "source-address::")) _ _
+      (λ _. list_fits n a t 0 takes.Name t.sources (λ xs. record t { sources = xs }) k ws h p s (omega arith) refl (λ _. refl) (λ _. refl) (λ _. refl))
+      (λ _. if_has At (TermOf At n a) (bytes_eq k.text (codes "source-exclude::")) _ _
+      (λ _. list_fits n a t 1 takes.Name t.source_excludes (λ xs. record t { source_excludes = xs }) k ws h p s (omega arith) refl (λ _. refl) (λ _. refl) (λ _. refl))
+      (λ _. if_has At (TermOf At n a) (bytes_eq k.text (codes "destination-address::")) _ _
+      (λ _. list_fits n a t 2 takes.Name t.destinations (λ xs. record t { destinations = xs }) k ws h p s (omega arith) refl (λ _. refl) (λ _. refl) (λ _. refl))
+      (λ _. if_has At (TermOf At n a) (bytes_eq k.text (codes "destination-exclude::")) _ _
+      (λ _. list_fits n a t 3 takes.Name t.destination_excludes (λ xs. record t { destination_excludes = xs }) k ws h p s (omega arith) refl (λ _. refl) (λ _. refl) (λ _. refl))
+      (λ _. p))))
 
-with_source_excludes : (t : RawTerm) (xs : List Word) → ListsFit t → AllFit takes.Name xs → ListsFit (record t { source_excludes = xs })
-with_source_excludes t xs h g = record { sources_are = h.sources_are; source_excludes_are = g; destinations_are = h.destinations_are; destination_excludes_are = h.destination_excludes_are; protocols_are = h.protocols_are; source_ports_are = h.source_ports_are; destination_ports_are = h.destination_ports_are; icmp_types_are = h.icmp_types_are; options_are = h.options_are; platforms_are = h.platforms_are; not_platforms_are = h.not_platforms_are }
+  protocols_fit : (n a : Word) (t : RawTerm) (k : Token) (ws : List Token) → TermOf At n a t → At k.place → Stand At ws
+      → Has At (TermOf At n a) (term_with_protocols t k ws)
+  unfolding term_with_protocols
+  protocols_fit n a t k ws h p s = if_has At (TermOf At n a) (bytes_eq k.text (codes "protocol::")) _ _
+      (λ _. list_fits n a t 4 takes.Protocol t.protocols (λ xs. record t { protocols = xs }) k ws h p s (omega arith) refl (λ _. refl) (λ _. refl) (λ _. refl))
+      (λ _. if_has At (TermOf At n a) (bytes_eq k.text (codes "source-port::")) _ _
+      (λ _. list_fits n a t 5 takes.Name t.source_ports (λ xs. record t { source_ports = xs }) k ws h p s (omega arith) refl (λ _. refl) (λ _. refl) (λ _. refl))
+      (λ _. if_has At (TermOf At n a) (bytes_eq k.text (codes "destination-port::")) _ _
+      (λ _. list_fits n a t 6 takes.Name t.destination_ports (λ xs. record t { destination_ports = xs }) k ws h p s (omega arith) refl (λ _. refl) (λ _. refl) (λ _. refl))
+      (λ _. if_has At (TermOf At n a) (bytes_eq k.text (codes "icmp-type::")) _ _
+      (λ _. list_fits n a t 7 takes.IcmpType t.icmp_types (λ xs. record t { icmp_types = xs }) k ws h p s (omega arith) refl (λ _. refl) (λ _. refl) (λ _. refl))
+      (λ _. addresses_fit n a t k ws h p s))))
 
-with_destinations : (t : RawTerm) (xs : List Word) → ListsFit t → AllFit takes.Name xs → ListsFit (record t { destinations = xs })
-with_destinations t xs h g = record { sources_are = h.sources_are; source_excludes_are = h.source_excludes_are; destinations_are = g; destination_excludes_are = h.destination_excludes_are; protocols_are = h.protocols_are; source_ports_are = h.source_ports_are; destination_ports_are = h.destination_ports_are; icmp_types_are = h.icmp_types_are; options_are = h.options_are; platforms_are = h.platforms_are; not_platforms_are = h.not_platforms_are }
+  lists_fit : (n a : Word) (t : RawTerm) (k : Token) (ws : List Token) → TermOf At n a t → At k.place → Stand At ws
+      → Has At (TermOf At n a) (term_with_lists t k ws)
+  unfolding term_with_lists
+  lists_fit n a t k ws h p s = if_has At (TermOf At n a) (bytes_eq k.text (codes "option::")) _ _
+      (λ _. list_fits n a t 8 takes.Opt t.options (λ xs. record t { options = xs }) k ws h p s (omega arith) refl (λ _. refl) (λ _. refl) (λ _. refl))
+      (λ _. if_has At (TermOf At n a) (bytes_eq k.text (codes "platform::")) _ _
+      (λ _. list_fits n a t 9 takes.Name t.platforms (λ xs. record t { platforms = xs }) k ws h p s (omega arith) refl (λ _. refl) (λ _. refl) (λ _. refl))
+      (λ _. if_has At (TermOf At n a) (bytes_eq k.text (codes "platform-exclude::")) _ _
+      (λ _. list_fits n a t 10 takes.Name t.not_platforms (λ xs. record t { not_platforms = xs }) k ws h p s (omega arith) refl (λ _. refl) (λ _. refl) (λ _. refl))
+      (λ _. protocols_fit n a t k ws h p s)))
 
-with_destination_excludes : (t : RawTerm) (xs : List Word) → ListsFit t → AllFit takes.Name xs → ListsFit (record t { destination_excludes = xs })
-with_destination_excludes t xs h g = record { sources_are = h.sources_are; source_excludes_are = h.source_excludes_are; destinations_are = h.destinations_are; destination_excludes_are = g; protocols_are = h.protocols_are; source_ports_are = h.source_ports_are; destination_ports_are = h.destination_ports_are; icmp_types_are = h.icmp_types_are; options_are = h.options_are; platforms_are = h.platforms_are; not_platforms_are = h.not_platforms_are }
+  pub draft_sound : (name : Word) → Sound At name (draft_of name)
+  draft_sound name = record {
+    name_is = refl;
+    action_fits = λ h. no_action h;
+    lists = no_words (takes.Name ∷ takes.Name ∷ takes.Name ∷ takes.Name ∷ takes.Protocol ∷ takes.Name
+        ∷ takes.Name ∷ takes.IcmpType ∷ takes.Opt ∷ takes.Name ∷ takes.Name ∷ []);
+  }
+    where
+      no_action : {P : Type 0} → false ≡ true → P
+      no_action h = cc
 
-with_protocols : (t : RawTerm) (xs : List Word) → ListsFit t → AllFit takes.Protocol xs → ListsFit (record t { protocols = xs })
-with_protocols t xs h g = record { sources_are = h.sources_are; source_excludes_are = h.source_excludes_are; destinations_are = h.destinations_are; destination_excludes_are = h.destination_excludes_are; protocols_are = g; source_ports_are = h.source_ports_are; destination_ports_are = h.destination_ports_are; icmp_types_are = h.icmp_types_are; options_are = h.options_are; platforms_are = h.platforms_are; not_platforms_are = h.not_platforms_are }
+      no_words : (kinds : List Takes) → All (ListFits At) (map (λ kind. (kind, [])) kinds)
+      no_words [] = All-nil (ListFits At)
+      no_words (kind ∷ kinds) = All-cons (ListFits At) (kind, []) (map (λ k. (k, [])) kinds) (All-nil (Fits At kind)) (no_words kinds)
 
-with_source_ports : (t : RawTerm) (xs : List Word) → ListsFit t → AllFit takes.Name xs → ListsFit (record t { source_ports = xs })
-with_source_ports t xs h g = record { sources_are = h.sources_are; source_excludes_are = h.source_excludes_are; destinations_are = h.destinations_are; destination_excludes_are = h.destination_excludes_are; protocols_are = h.protocols_are; source_ports_are = g; destination_ports_are = h.destination_ports_are; icmp_types_are = h.icmp_types_are; options_are = h.options_are; platforms_are = h.platforms_are; not_platforms_are = h.not_platforms_are }
+  comments_sound : (n : Word) (d : Draft) (ws : List Token) → Sound At n d → Sound At n (with_comments d ws)
+  comments_sound n d [] h = h
+  comments_sound n d (w ∷ ws) h = comments_sound n (with_comment d w.text) ws
+      (record { name_is = h.name_is; action_fits = h.action_fits; lists = h.lists })
 
-with_destination_ports : (t : RawTerm) (xs : List Word) → ListsFit t → AllFit takes.Name xs → ListsFit (record t { destination_ports = xs })
-with_destination_ports t xs h g = record { sources_are = h.sources_are; source_excludes_are = h.source_excludes_are; destinations_are = h.destinations_are; destination_excludes_are = h.destination_excludes_are; protocols_are = h.protocols_are; source_ports_are = h.source_ports_are; destination_ports_are = g; icmp_types_are = h.icmp_types_are; options_are = h.options_are; platforms_are = h.platforms_are; not_platforms_are = h.not_platforms_are }
-
-with_icmp_types : (t : RawTerm) (xs : List Word) → ListsFit t → AllFit takes.IcmpType xs → ListsFit (record t { icmp_types = xs })
-with_icmp_types t xs h g = record { sources_are = h.sources_are; source_excludes_are = h.source_excludes_are; destinations_are = h.destinations_are; destination_excludes_are = h.destination_excludes_are; protocols_are = h.protocols_are; source_ports_are = h.source_ports_are; destination_ports_are = h.destination_ports_are; icmp_types_are = g; options_are = h.options_are; platforms_are = h.platforms_are; not_platforms_are = h.not_platforms_are }
-
-with_options : (t : RawTerm) (xs : List Word) → ListsFit t → AllFit takes.Opt xs → ListsFit (record t { options = xs })
-with_options t xs h g = record { sources_are = h.sources_are; source_excludes_are = h.source_excludes_are; destinations_are = h.destinations_are; destination_excludes_are = h.destination_excludes_are; protocols_are = h.protocols_are; source_ports_are = h.source_ports_are; destination_ports_are = h.destination_ports_are; icmp_types_are = h.icmp_types_are; options_are = g; platforms_are = h.platforms_are; not_platforms_are = h.not_platforms_are }
-
-with_platforms : (t : RawTerm) (xs : List Word) → ListsFit t → AllFit takes.Name xs → ListsFit (record t { platforms = xs })
-with_platforms t xs h g = record { sources_are = h.sources_are; source_excludes_are = h.source_excludes_are; destinations_are = h.destinations_are; destination_excludes_are = h.destination_excludes_are; protocols_are = h.protocols_are; source_ports_are = h.source_ports_are; destination_ports_are = h.destination_ports_are; icmp_types_are = h.icmp_types_are; options_are = h.options_are; platforms_are = g; not_platforms_are = h.not_platforms_are }
-
-with_not_platforms : (t : RawTerm) (xs : List Word) → ListsFit t → AllFit takes.Name xs → ListsFit (record t { not_platforms = xs })
-with_not_platforms t xs h g = record { sources_are = h.sources_are; source_excludes_are = h.source_excludes_are; destinations_are = h.destinations_are; destination_excludes_are = h.destination_excludes_are; protocols_are = h.protocols_are; source_ports_are = h.source_ports_are; destination_ports_are = h.destination_ports_are; icmp_types_are = h.icmp_types_are; options_are = h.options_are; platforms_are = h.platforms_are; not_platforms_are = g }
-
--- A term of that name and action, whose lists fit.
-pub record Kept (name action : Word) (t : RawTerm) : Type 0 where
-  pub name_kept : t.name ≡ name
-  pub action_kept : t.action ≡ action
-  pub lists : ListsFit t
-
-address_kept : (n a : Word) (t : RawTerm) (k : Token) (ws : List Token) → Kept n a t → IfOk (address_met t k ws) (Kept n a)
-unfolding address_met
-address_kept n a t k ws h = if_has (Kept n a) (bytes_eq k.text (codes "source-address::")) _ _
-    (λ _. bind_has (AllFit takes.Name) (Kept n a) (listed takes.Name k ws t.sources) _ (listed_fit takes.Name k ws t.sources h.lists.sources_are)
-    (λ xs g. record { name_kept = h.name_kept; action_kept = h.action_kept; lists = with_sources t xs h.lists g }))
-    (λ _. if_has (Kept n a) (bytes_eq k.text (codes "source-exclude::")) _ _
-    (λ _. bind_has (AllFit takes.Name) (Kept n a) (listed takes.Name k ws t.source_excludes) _ (listed_fit takes.Name k ws t.source_excludes h.lists.source_excludes_are)
-    (λ xs g. record { name_kept = h.name_kept; action_kept = h.action_kept; lists = with_source_excludes t xs h.lists g }))
-    (λ _. if_has (Kept n a) (bytes_eq k.text (codes "destination-address::")) _ _
-    (λ _. bind_has (AllFit takes.Name) (Kept n a) (listed takes.Name k ws t.destinations) _ (listed_fit takes.Name k ws t.destinations h.lists.destinations_are)
-    (λ xs g. record { name_kept = h.name_kept; action_kept = h.action_kept; lists = with_destinations t xs h.lists g }))
-    (λ _. if_has (Kept n a) (bytes_eq k.text (codes "destination-exclude::")) _ _
-    (λ _. bind_has (AllFit takes.Name) (Kept n a) (listed takes.Name k ws t.destination_excludes) _ (listed_fit takes.Name k ws t.destination_excludes h.lists.destination_excludes_are)
-    (λ xs g. record { name_kept = h.name_kept; action_kept = h.action_kept; lists = with_destination_excludes t xs h.lists g }))
-    (λ _. tt))))
-
-protocol_kept : (n a : Word) (t : RawTerm) (k : Token) (ws : List Token) → Kept n a t → IfOk (protocol_met t k ws) (Kept n a)
-unfolding protocol_met
-protocol_kept n a t k ws h = if_has (Kept n a) (bytes_eq k.text (codes "protocol::")) _ _
-    (λ _. bind_has (AllFit takes.Protocol) (Kept n a) (listed takes.Protocol k ws t.protocols) _ (listed_fit takes.Protocol k ws t.protocols h.lists.protocols_are)
-    (λ xs g. record { name_kept = h.name_kept; action_kept = h.action_kept; lists = with_protocols t xs h.lists g }))
-    (λ _. if_has (Kept n a) (bytes_eq k.text (codes "source-port::")) _ _
-    (λ _. bind_has (AllFit takes.Name) (Kept n a) (listed takes.Name k ws t.source_ports) _ (listed_fit takes.Name k ws t.source_ports h.lists.source_ports_are)
-    (λ xs g. record { name_kept = h.name_kept; action_kept = h.action_kept; lists = with_source_ports t xs h.lists g }))
-    (λ _. if_has (Kept n a) (bytes_eq k.text (codes "destination-port::")) _ _
-    (λ _. bind_has (AllFit takes.Name) (Kept n a) (listed takes.Name k ws t.destination_ports) _ (listed_fit takes.Name k ws t.destination_ports h.lists.destination_ports_are)
-    (λ xs g. record { name_kept = h.name_kept; action_kept = h.action_kept; lists = with_destination_ports t xs h.lists g }))
-    (λ _. if_has (Kept n a) (bytes_eq k.text (codes "icmp-type::")) _ _
-    (λ _. bind_has (AllFit takes.IcmpType) (Kept n a) (listed takes.IcmpType k ws t.icmp_types) _ (listed_fit takes.IcmpType k ws t.icmp_types h.lists.icmp_types_are)
-    (λ xs g. record { name_kept = h.name_kept; action_kept = h.action_kept; lists = with_icmp_types t xs h.lists g }))
-    (λ _. address_kept n a t k ws h))))
-
-list_kept : (n a : Word) (t : RawTerm) (k : Token) (ws : List Token) → Kept n a t → IfOk (list_met t k ws) (Kept n a)
-unfolding list_met
-list_kept n a t k ws h = if_has (Kept n a) (bytes_eq k.text (codes "option::")) _ _
-    (λ _. bind_has (AllFit takes.Opt) (Kept n a) (listed takes.Opt k ws t.options) _ (listed_fit takes.Opt k ws t.options h.lists.options_are)
-    (λ xs g. record { name_kept = h.name_kept; action_kept = h.action_kept; lists = with_options t xs h.lists g }))
-    (λ _. if_has (Kept n a) (bytes_eq k.text (codes "platform::")) _ _
-    (λ _. bind_has (AllFit takes.Name) (Kept n a) (listed takes.Name k ws t.platforms) _ (listed_fit takes.Name k ws t.platforms h.lists.platforms_are)
-    (λ xs g. record { name_kept = h.name_kept; action_kept = h.action_kept; lists = with_platforms t xs h.lists g }))
-    (λ _. if_has (Kept n a) (bytes_eq k.text (codes "platform-exclude::")) _ _
-    (λ _. bind_has (AllFit takes.Name) (Kept n a) (listed takes.Name k ws t.not_platforms) _ (listed_fit takes.Name k ws t.not_platforms h.lists.not_platforms_are)
-    (λ xs g. record { name_kept = h.name_kept; action_kept = h.action_kept; lists = with_not_platforms t xs h.lists g }))
-    (λ _. protocol_kept n a t k ws h)))
-
--- A draft of that name, whose lists fit, and whose action does where there is one.
-pub record Sound (name : Word) (d : Draft) : Type 0 where
-  pub name_kept : d.term.name ≡ name
-  pub action_fits : d.acted ≡ true → is_action d.term.action.text ≡ true
-  pub lists : ListsFit d.term
-
-pub begun_sound : (name : Word) → Sound name (begun name)
-begun_sound name = record {
-  name_kept = refl;
-  action_fits = λ h. no_action h;
-  lists = record {
-    sources_are = refl;
-    source_excludes_are = refl;
-    destinations_are = refl;
-    destination_excludes_are = refl;
-    protocols_are = refl;
-    source_ports_are = refl;
-    destination_ports_are = refl;
-    icmp_types_are = refl;
-    options_are = refl;
-    platforms_are = refl;
-    not_platforms_are = refl;
-  };
-}
-  where
-    no_action : {P : Type 0} → false ≡ true → P
-    no_action h = cc
-
-comment_sound : (n : Word) (d : Draft) (text : List ℕ) → Sound n d → Sound n (with_comment d text)
-comment_sound n d text h = record {
-  name_kept = h.name_kept;
-  action_fits = h.action_fits;
-  lists = h.lists;
-}
-
-comments_sound : (n : Word) (d : Draft) (ws : List Token) → Sound n d → Sound n (with_comments d ws)
-comments_sound n d [] h = h
-comments_sound n d (w ∷ ws) h = comments_sound n (with_comment d w.text) ws (comment_sound n d w.text h)
-
-pub term_sound : (n : Word) (d : Draft) (k : Token) (ws : List Token) → Sound n d → IfOk (term_met d k ws) (Sound n)
-unfolding term_met
-term_sound n d k ws h = if_has (Sound n) (bytes_eq k.text (codes "comment::")) _ _
-    (λ _. bind_has (λ _. Unit {0}) (Sound n) (valued takes.String k ws) _ (any_ok (valued takes.String k ws)) (λ _ _. comments_sound n d ws h))
-    (λ _. if_has (Sound n) (bytes_eq k.text (codes "owner::")) _ _
-    (λ _. if_has (Sound n) d.owned _ _ (λ _. tt)
-    (λ _. bind_has (λ _. Unit {0}) (Sound n) (single takes.Any k ws) _ (any_ok (single takes.Any k ws))
-    (λ _ _. record { name_kept = h.name_kept; action_fits = h.action_fits; lists = h.lists })))
-    (λ _. if_has (Sound n) (bytes_eq k.text (codes "action::")) _ _
-    (λ _. if_has (Sound n) d.acted _ _ (λ _. tt)
-    (λ _. bind_has (λ w. is_action w.text ≡ true) (Sound n) (single takes.Action k ws) _ (single_fits takes.Action k ws)
-    (λ w g. record { name_kept = h.name_kept; action_fits = λ _. g; lists = h.lists })))
-    (λ _. if_has (Sound n) (bytes_eq k.text (codes "logging::")) _ _
-    (λ _. if_has (Sound n) d.term.logging _ _ (λ _. tt)
-    (λ _. bind_has (λ _. Unit {0}) (Sound n) (single takes.Logging k ws) _ (any_ok (single takes.Logging k ws))
-    (λ _ _. record { name_kept = h.name_kept; action_fits = h.action_fits; lists = h.lists })))
-    (λ _. if_has (Sound n) (bytes_eq k.text (codes "expiration::")) _ _
-    (λ _. if_has (Sound n) (is_some d.term.expires) _ _ (λ _. tt)
-    (λ _. bind_has (λ _. Unit {0}) (Sound n) (single takes.Day k ws) _ (any_ok (single takes.Day k ws))
-    (λ _ _. record { name_kept = h.name_kept; action_fits = h.action_fits; lists = h.lists })))
-    (λ _. bind_has (Kept d.term.name d.term.action) (Sound n) (list_met d.term k ws) _
-    (list_kept d.term.name d.term.action d.term k ws (record { name_kept = refl; action_kept = refl; lists = h.lists }))
-    (λ t g. record {
-      name_kept = g.name_kept ∙ h.name_kept;
-      action_fits = λ e. ap (λ w. is_action w.text) g.action_kept ∙ h.action_fits e;
-      lists = g.lists;
-    }))))))
+  pub term_sound : (n : Word) (d : Draft) (k : Token) (ws : List Token) → Sound At n d → At k.place → Stand At ws
+      → Has At (Sound At n) (draft_behind d k ws)
+  unfolding draft_behind
+  term_sound n d k ws h p s = if_has At (Sound At n) (bytes_eq k.text (codes "comment::")) _ _
+      (λ _. bind_has At (λ _. All (Fits At takes.String) (map word_of ws)) (Sound At n) (some_values takes.String k ws) _
+      (some_fit takes.String k ws p s) (λ _ _. comments_sound n d ws h))
+      (λ _. if_has At (Sound At n) (bytes_eq k.text (codes "owner::")) _ _
+      (λ _. if_has At (Sound At n) d.has_owner _ _ (λ _. p)
+      (λ _. bind_has At (Fits At takes.Any) (Sound At n) (one_value takes.Any k ws) _ (one_fits takes.Any k ws p s)
+      (λ _ _. record { name_is = h.name_is; action_fits = h.action_fits; lists = h.lists })))
+      (λ _. if_has At (Sound At n) (bytes_eq k.text (codes "action::")) _ _
+      (λ _. if_has At (Sound At n) d.has_action _ _ (λ _. p)
+      (λ _. bind_has At (Fits At takes.Action) (Sound At n) (one_value takes.Action k ws) _ (one_fits takes.Action k ws p s)
+      (λ w g. record { name_is = h.name_is; action_fits = λ _. g; lists = h.lists })))
+      (λ _. if_has At (Sound At n) (bytes_eq k.text (codes "logging::")) _ _
+      (λ _. if_has At (Sound At n) d.term.logging _ _ (λ _. p)
+      (λ _. bind_has At (Fits At takes.Logging) (Sound At n) (one_value takes.Logging k ws) _ (one_fits takes.Logging k ws p s)
+      (λ _ _. record { name_is = h.name_is; action_fits = h.action_fits; lists = h.lists })))
+      (λ _. if_has At (Sound At n) (bytes_eq k.text (codes "expiration::")) _ _
+      (λ _. if_has At (Sound At n) (is_some d.term.expires) _ _ (λ _. p)
+      (λ _. bind_has At (Fits At takes.Day) (Sound At n) (one_value takes.Day k ws) _ (one_fits takes.Day k ws p s)
+      (λ _ _. record { name_is = h.name_is; action_fits = h.action_fits; lists = h.lists })))
+      (λ _. bind_has At (TermOf At d.term.name d.term.action) (Sound At n) (term_with_lists d.term k ws) _
+      (lists_fit d.term.name d.term.action d.term k ws (record { name_is = refl; action_is = refl; lists = h.lists }) p s)
+      (λ t g. record {
+        name_is = g.name_is ∙ h.name_is;
+        action_fits = λ e. subst (Fits At takes.Action) (sym g.action_is) (h.action_fits e);
+        lists = g.lists;
+      }))))))

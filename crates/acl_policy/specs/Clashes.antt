@@ -1,5 +1,5 @@
 -- Targets that would have the same name on their platform.
-use Rattle.std.specs.Prelude.{ℕ, Bool, true, false, ◌&&◌, ◌||◌, if◌then◌else◌, List, [], ◌∷◌, ◌++◌, codes}
+use Rattle.std.specs.Prelude.{ℕ, Bool, true, false, ◌&&◌, if◌then◌else◌, List, [], ◌∷◌, ◌++◌, codes}
 use Rattle.std.specs.List.{list_any}
 use Rattle.std.specs.Str.{bytes_eq}
 use Rattle.acl_packet.specs.declared.addresses.Families.{Families}
@@ -26,12 +26,9 @@ list_names mixed name = if mixed then name ∷ ipv6_list name ∷ [] else name �
 abbrev pub in_common : List (List ℕ) → List (List ℕ) → Bool
 in_common xs ys = list_any (λ x. list_any (λ y. bytes_eq x y) ys) xs
 
--- The same, by the names of the two targets: a list of one target is one of the other's.
-abbrev pub names_shared : Bool → Bool → List ℕ → List ℕ → Bool
-names_shared x y a b = bytes_eq a b || (y && bytes_eq a (ipv6_list b)) || (x && bytes_eq b (ipv6_list a))
-
 unfoldable pub share_lists : Target → Target → Bool
-share_lists a b = in_common (list_names (is_mixed a.families) a.name) (list_names (is_mixed b.families) b.name)
+share_lists a b =
+    in_common (list_names (is_mixed a.families) a.name) (list_names (is_mixed b.families) b.name)
 
 abbrev pub same_families : Families → Families → Bool
 same_families Inet Inet = true

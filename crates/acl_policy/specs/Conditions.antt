@@ -1,52 +1,44 @@
--- What a policy that is read fulfils: each word is one that its keyword takes, each target is such as its line gives it, no
--- two targets clash, and the names of the terms of a block differ.
-use Rattle.std.specs.Prelude.{◌≡◌, ℕ, ◌+◌, ◌<◌, ◌≤◌, Bool, true, false, ℤ, pos, negsuc, ◌≤ℤ◌, List, [], ◌∷◌, ◌++◌, length, flat_map, is_some, codes}
-use Rattle.std.specs.List.{All, list_all, list_any, count_by}
+-- What a policy that is read fulfils: each word is one that its keyword takes, each target is such as its line
+-- gives it, no two targets clash, the numbers of a platform's targets and the names of a block's terms differ,
+-- and there are no more targets and terms than the limits.
+use Rattle.std.specs.Prelude.{◌≡◌, ◌≢◌, ℕ, ◌+◌, ◌<◌, ◌≤◌, Bool, true, false, ℤ, pos, negsuc, ◌≤ℤ◌, List, [], ◌∷◌, ◌++◌, length, flat_map, codes}
+use Rattle.std.specs.List.{All, AllPairs, list_any, count_by}
 use Rattle.std.specs.Str.{bytes_eq}
-use Rattle.acl_packet.specs.Numbers.{protocol_in}
 use Rattle.acl_packet.specs.declared.filtering.Hook.{Hook}
 use Rattle.acl_packet.specs.declared.filtering.Hook.TheVariants as hooks
-use Rattle.acl_policy.specs.declared.entries.RawTerm.{RawTerm}
-use Rattle.acl_policy.specs.declared.entries.Word.{Word}
+use Rattle.acl_text.specs.Names.{is_name, is_filter_name}
+use Rattle.acl_policy.specs.declared.raw_terms.RawTerm.{RawTerm}
+use Rattle.acl_policy.specs.declared.raw_terms.Word.{Word}
 use Rattle.acl_policy.specs.declared.filters.Ending.{Ending}
 use Rattle.acl_policy.specs.declared.filters.Ending.TheVariants as endings
 use Rattle.acl_policy.specs.declared.filters.Kind.{Kind}
 use Rattle.acl_policy.specs.declared.filters.Kind.TheVariants.{Cisco, Juniper, Iptables, Nftables}
 use Rattle.acl_policy.specs.declared.filters.Target.{Target}
-use Rattle.acl_policy.specs.declared.policies.Block.{Block}
-use Rattle.acl_policy.specs.declared.policies.Policy.{Policy}
+use Rattle.acl_policy.specs.declared.blocks.Block.{Block}
+use Rattle.acl_policy.specs.declared.blocks.Policy.{Policy}
+use Rattle.acl_policy.specs.declared.values.Takes.{Takes}
+use Rattle.acl_policy.specs.declared.values.Takes.TheVariants as takes
 use Rattle.acl_policy.specs.Clashes.{clash, same_kind, is_mixed}
-use Rattle.acl_policy.specs.Targets.{is_filter_name}
-use Rattle.acl_policy.specs.Values.{is_name, is_action, is_option, is_icmp_type}
+use Rattle.acl_policy.specs.Values.{is_action, text_fits}
 
--- Each word passes the test.
-abbrev pub AllAre : (List ℕ → Bool) → List Word → Type 0
-AllAre test ws = list_all (λ w. test w.text) ws ≡ true
+-- The words of a term, list by list, each list with what its keyword takes.
+abbrev pub lists_of : RawTerm → List (Takes × List Word)
+lists_of t =
+    (takes.Name, t.sources) ∷ (takes.Name, t.source_excludes)
+    ∷ (takes.Name, t.destinations) ∷ (takes.Name, t.destination_excludes)
+    ∷ (takes.Protocol, t.protocols) ∷ (takes.Name, t.source_ports)
+    ∷ (takes.Name, t.destination_ports) ∷ (takes.IcmpType, t.icmp_types)
+    ∷ (takes.Opt, t.options) ∷ (takes.Name, t.platforms)
+    ∷ (takes.Name, t.not_platforms) ∷ []
 
-abbrev pub is_protocol : List ℕ → Bool
-is_protocol bs = is_some (protocol_in bs)
-
--- The words of a term: those of each field are such as its keyword takes.
-pub record WordsFit (sources source_excludes destinations destination_excludes protocols source_ports destination_ports icmp_types options platforms not_platforms : List Word) : Type 0 where
-  pub sources_are : AllAre is_name sources
-  pub source_excludes_are : AllAre is_name source_excludes
-  pub destinations_are : AllAre is_name destinations
-  pub destination_excludes_are : AllAre is_name destination_excludes
-  pub protocols_are : AllAre is_protocol protocols
-  pub source_ports_are : AllAre is_name source_ports
-  pub destination_ports_are : AllAre is_name destination_ports
-  pub icmp_types_are : AllAre is_icmp_type icmp_types
-  pub options_are : AllAre is_option options
-  pub platforms_are : AllAre is_name platforms
-  pub not_platforms_are : AllAre is_name not_platforms
-
-abbrev pub ListsFit : RawTerm → Type 0
-ListsFit t = WordsFit t.sources t.source_excludes t.destinations t.destination_excludes t.protocols t.source_ports t.destination_ports t.icmp_types t.options t.platforms t.not_platforms
+-- Each word of each list is one that the keyword takes.
+abbrev pub WordsFit : List (Takes × List Word) → Type 0
+WordsFit lists = All (λ l. All (λ w. text_fits l.0 w.text ≡ true) l.1) lists
 
 pub record IsRawTerm (t : RawTerm) : Type 0 where
   pub name_is : is_name t.name.text ≡ true
   pub action_is : is_action t.action.text ≡ true
-  pub lists_fit : ListsFit t
+  pub words_fit : WordsFit (lists_of t)
 
 -- The names of iptables' chains and of nftables' hooks.
 abbrev pub chain_text : Hook → List ℕ
@@ -116,6 +108,10 @@ pub record StandsBehind (before : List Target) (t : Target) : Type 0 where
   pub clashes_not : list_any (λ e. clash e t) before ≡ false
   pub number_is : t.number ≡ count_by (λ e. same_kind e.kind t.kind) before + 1
 
+-- Two targets of a platform differ in number.
+abbrev pub NumbersDiffer : List Target → Type 0
+NumbersDiffer targets = AllPairs (λ a b. a.kind ≡ b.kind → a.number ≢ b.number) targets
+
 abbrev pub NameIsNew : List RawTerm → RawTerm → Type 0
 NameIsNew before t = list_any (λ e. bytes_eq e.name.text t.name.text) before ≡ false
 
@@ -129,6 +125,13 @@ pub record IsBlock (b : Block) : Type 0 where
 abbrev pub targets_of : List Block → List Target
 targets_of blocks = flat_map (λ b. b.targets) blocks
 
+abbrev pub terms_of : List Block → List RawTerm
+terms_of blocks = flat_map (λ b. b.terms) blocks
+
+-- A policy has at most 64 targets and 1,024 terms.
 pub record IsPolicy (p : Policy) : Type 0 where
   pub blocks_are : All IsBlock p.blocks
   pub targets_stand : Each StandsBehind [] (targets_of p.blocks)
+  pub numbers_differ : NumbersDiffer (targets_of p.blocks)
+  pub few_targets : length (targets_of p.blocks) ≤ 64
+  pub few_terms : length (terms_of p.blocks) ≤ 1024

@@ -1,11 +1,12 @@
+pub mod ClashSteps
 pub mod Clashes
 pub mod Conditions
-pub mod Days
-pub mod Endings
+pub mod FilterEndings
+pub mod NamedDays
 pub mod Policies
+pub mod PolicyPlaces
 pub mod Slips
-pub mod Steps
+pub mod TargetTexts
 pub mod Targets
 pub mod Terms
-pub mod Texts
 pub mod Values

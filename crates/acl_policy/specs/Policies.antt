@@ -13,21 +13,29 @@ use Rattle.acl_words.specs.declared.forms.Form.{Form}
 use Rattle.acl_words.specs.declared.forms.Form.TheVariants as forms
 use Rattle.acl_words.specs.declared.forms.Token.{Token}
 use Rattle.acl_policy.specs.declared.filters.Target.{Target}
-use Rattle.acl_policy.specs.declared.policies.Policy.{Policy}
+use Rattle.acl_policy.specs.declared.blocks.Policy.{Policy}
 use Rattle.acl_policy.specs.declared.states.Part.{Part}
 use Rattle.acl_policy.specs.declared.states.Part.TheVariants.{Start, Header, InHeader, HeaderEnd, Term, Named, InTerm, TermEnd}
 use Rattle.acl_policy.specs.declared.states.State.{State}
-use Rattle.acl_policy.specs.declared.target_lines.Named.{Named as NamedTarget}
+use Rattle.acl_policy.specs.declared.target_lines.NamedTarget.{NamedTarget}
 use Rattle.acl_policy.specs.declared.values.Takes.TheVariants as takes
 use Rattle.acl_policy.specs.Clashes.{clash, same_kind}
-use Rattle.acl_policy.specs.Slips.{slip_of, slip_with, refused}
-use Rattle.acl_policy.specs.Steps.{◌>>=◌}
-use Rattle.acl_policy.specs.Targets.{is_word, line_met}
-use Rattle.acl_policy.specs.Terms.{no_draft, begun, term_met}
-use Rattle.acl_policy.specs.Values.{is_value, kept, valued}
+use Rattle.acl_policy.specs.Slips.{start_place, slip_of, slip_with, slip_for}
+use Rattle.acl_text.specs.Steps.{◌>>=◌}
+use Rattle.acl_policy.specs.Targets.{is_word, target_line}
+use Rattle.acl_policy.specs.Terms.{no_draft, draft_of, draft_behind}
+use Rattle.acl_policy.specs.Values.{is_value, word_of, some_values}
 
 abbrev pub start : State
-start = record { blocks = []; earlier = []; targets = []; terms = []; term_count = 0; part = Start; draft = no_draft }
+start = record {
+  blocks = [];
+  earlier = [];
+  targets = [];
+  terms = [];
+  term_count = 0;
+  part = Start;
+  draft = no_draft;
+}
 
 -- A policy has at most 64 target lines and 1,024 terms.
 abbrev pub most_targets : ℕ
@@ -37,87 +45,95 @@ abbrev pub most_terms : ℕ
 most_terms = 1024
 
 -- A target's number counts the target lines of its platform in the policy, from 1.
-abbrev pub numbered : List Target → Target → Target
-numbered earlier t = record t { number = count_by (λ e. same_kind e.kind t.kind) earlier + 1 }
+abbrev pub with_number : List Target → Target → Target
+with_number earlier t = record t { number = count_by (λ e. same_kind e.kind t.kind) earlier + 1 }
 
 abbrev pub with_target : State → Target → State
 with_target s t = record s { earlier = s.earlier ++ t ∷ []; targets = s.targets ++ t ∷ [] }
 
 -- A target stands where it clashes with no target of the policy before it, of any block, and is none too many.
-unfoldable pub placed : State → Token → NamedTarget → Result State Slip
-placed s k n =
-    if list_any (λ e. clash e n.target) s.earlier then Err (slip_with codes_of.FilterTwice n.place n.target.name)
+unfoldable pub behind_target : State → Token → NamedTarget → Result State Slip
+behind_target s k n =
+    if list_any (λ e. clash e n.target) s.earlier
+    then Err (slip_with codes_of.FilterTwice n.place n.target.name)
     else if nat_le most_targets (length s.earlier) then Err (slip_of codes_of.TooMany k)
-    else Ok (with_target s (numbered s.earlier n.target))
+    else Ok (with_target s (with_number s.earlier n.target))
 
 -- A keyword of a header. Its comment is read and not written.
-unfoldable pub header_met : State → Token → List Token → Result State Slip
-header_met s k ws =
-    if bytes_eq k.text (codes "comment::") then (valued takes.String k ws >>= λ _. Ok s)
-    else if bytes_eq k.text (codes "target::") then (line_met k ws >>= λ n. placed s k n)
+unfoldable pub behind_header_keyword : State → Token → List Token → Result State Slip
+behind_header_keyword s k ws =
+    if bytes_eq k.text (codes "comment::") then (some_values takes.String k ws >>= λ _. Ok s)
+    else if bytes_eq k.text (codes "target::") then (target_line k ws >>= λ n. behind_target s k n)
     else Err (slip_of codes_of.Keyword k)
 
 -- The name of a term: a name, which no term of the block has, and not of a term too many.
-unfoldable pub name_met : State → Token → Result State Slip
-name_met s w =
-    if not (is_value takes.Name w) then Err (refused codes_of.Syntax w)
-    else if list_any (λ t. bytes_eq t.name.text w.text) s.terms then Err (slip_of codes_of.TermTwice w)
+unfoldable pub behind_name : State → Token → Result State Slip
+behind_name s w =
+    if not (is_value takes.Name w) then Err (slip_for codes_of.Syntax w)
+    else if list_any (λ t. bytes_eq t.name.text w.text) s.terms
+    then Err (slip_of codes_of.TermTwice w)
     else if nat_le most_terms s.term_count then Err (slip_of codes_of.TooMany w)
-    else Ok (record s { draft = begun (kept w); term_count = s.term_count + 1; part = Named })
+    else Ok (record s { draft = draft_of (word_of w); term_count = s.term_count + 1; part = Named })
 
 -- The block's targets and terms become a block.
 abbrev pub with_block : State → State
-with_block s = record s { blocks = s.blocks ++ record { targets = s.targets; terms = s.terms } ∷ []; targets = []; terms = [] }
+with_block s = record s {
+  blocks = s.blocks ++ record { targets = s.targets; terms = s.terms } ∷ [];
+  targets = [];
+  terms = [];
+}
 
 abbrev pub with_term : State → State
 with_term s = record s { terms = s.terms ++ s.draft.term ∷ []; draft = no_draft; part = TermEnd }
 
 -- A word that is no value of a keyword.
-unfoldable pub word_met : Part → State → Token → Result State Slip
-word_met Start s w = if is_word w (codes "header") then Ok (record s { part = Header }) else Err (refused codes_of.Syntax w)
-word_met HeaderEnd s w =
+unfoldable pub behind_word : Part → State → Token → Result State Slip
+behind_word Start s w =
+    if is_word w (codes "header") then Ok (record s { part = Header })
+    else Err (slip_for codes_of.Syntax w)
+behind_word HeaderEnd s w =
     if is_word w (codes "term") then Ok (record s { part = Term })
     -- the block before it has no term
     else if is_word w (codes "header") then Err (slip_with codes_of.Missing w.place (codes "term"))
-    else Err (refused codes_of.Syntax w)
-word_met Term s w = name_met s w
-word_met TermEnd s w =
+    else Err (slip_for codes_of.Syntax w)
+behind_word Term s w = behind_name s w
+behind_word TermEnd s w =
     if is_word w (codes "term") then Ok (record s { part = Term })
     else if is_word w (codes "header") then Ok (record (with_block s) { part = Header })
-    else Err (refused codes_of.Syntax w)
-word_met _ s w = Err (refused codes_of.Syntax w)
+    else Err (slip_for codes_of.Syntax w)
+behind_word _ s w = Err (slip_for codes_of.Syntax w)
 
-abbrev pub words_met : State → List Token → Result State Slip
-words_met s [] = Ok s
-words_met s (w ∷ ws) = word_met s.part s w >>= λ t. words_met t ws
+abbrev pub behind_words : State → List Token → Result State Slip
+behind_words s [] = Ok s
+behind_words s (w ∷ ws) = behind_word s.part s w >>= λ t. behind_words t ws
 
 -- A keyword, with its values.
-unfoldable pub keyword_met : Part → State → Token → List Token → Result State Slip
-keyword_met InHeader s k ws = header_met s k ws
-keyword_met InTerm s k ws = term_met s.draft k ws >>= λ d. Ok (record s { draft = d })
-keyword_met _ s k ws = Err (slip_of codes_of.Syntax k)
+unfoldable pub behind_keyword : Part → State → Token → List Token → Result State Slip
+behind_keyword InHeader s k ws = behind_header_keyword s k ws
+behind_keyword InTerm s k ws = draft_behind s.draft k ws >>= λ d. Ok (record s { draft = d })
+behind_keyword _ s k ws = Err (slip_of codes_of.Syntax k)
 
 -- `{`.
-unfoldable pub begin_met : Part → State → Token → Result State Slip
-begin_met Header s m = Ok (record s { part = InHeader })
-begin_met Named s m = Ok (record s { part = InTerm })
-begin_met _ s m = Err (slip_of codes_of.Syntax m)
+unfoldable pub behind_begin : Part → State → Token → Result State Slip
+behind_begin Header s m = Ok (record s { part = InHeader })
+behind_begin Named s m = Ok (record s { part = InTerm })
+behind_begin _ s m = Err (slip_of codes_of.Syntax m)
 
 -- `}`. A header has a target, and a term an action.
-unfoldable pub end_met : Part → State → Token → Result State Slip
-end_met InHeader s m =
+unfoldable pub behind_end : Part → State → Token → Result State Slip
+behind_end InHeader s m =
     if length s.targets == 0 then Err (slip_with codes_of.Missing m.place (codes "target::"))
     else Ok (record s { part = HeaderEnd })
-end_met InTerm s m =
-    if s.draft.acted then Ok (with_term s)
+behind_end InTerm s m =
+    if s.draft.has_action then Ok (with_term s)
     else Err (slip_with codes_of.Missing m.place (codes "action::"))
-end_met _ s m = Err (slip_of codes_of.Syntax m)
+behind_end _ s m = Err (slip_of codes_of.Syntax m)
 
 -- A keyword or a brace, and the words behind it up to the next one.
-unfoldable pub mark_met : Form → State → Token → List Token → Result State Slip
-mark_met forms.Keyword s m ws = keyword_met s.part s m ws
-mark_met forms.Begin s m ws = begin_met s.part s m >>= λ t. words_met t ws
-mark_met _ s m ws = end_met s.part s m >>= λ t. words_met t ws
+unfoldable pub behind_mark : Form → State → Token → List Token → Result State Slip
+behind_mark forms.Keyword s m ws = behind_keyword s.part s m ws
+behind_mark forms.Begin s m ws = behind_begin s.part s m >>= λ t. behind_words t ws
+behind_mark _ s m ws = behind_end s.part s m >>= λ t. behind_words t ws
 
 abbrev pub is_mark : Form → Bool
 is_mark forms.Keyword = true
@@ -131,12 +147,14 @@ values_of [] = []
 values_of (w ∷ ws) = if is_mark w.form then [] else w ∷ values_of ws
 
 -- Each mark is judged with the words behind it before the next one is.
-abbrev pub marks_met : State → List Token → Result State Slip
-marks_met s [] = Ok s
-marks_met s (w ∷ ws) = if is_mark w.form then (mark_met w.form s w (values_of ws) >>= λ t. marks_met t ws) else marks_met s ws
+abbrev pub behind_marks : State → List Token → Result State Slip
+behind_marks s [] = Ok s
+behind_marks s (w ∷ ws) =
+    if is_mark w.form then (behind_mark w.form s w (values_of ws) >>= λ t. behind_marks t ws)
+    else behind_marks s ws
 
-abbrev pub all_met : List Token → Result State Slip
-all_met ws = words_met start (values_of ws) >>= λ s. marks_met s ws
+abbrev pub behind_all : List Token → Result State Slip
+behind_all ws = behind_words start (values_of ws) >>= λ s. behind_marks s ws
 
 -- The place of the last word, or line 0 of the policy where there is none.
 abbrev pub last_place : Place → List Token → Place
@@ -152,4 +170,4 @@ end_of _ s place = Err (slip_with codes_of.Syntax place (codes "end"))
 
 -- The policy of the words, or the first slip.
 unfoldable pub policy_of : List Token → Result Policy Slip
-policy_of ws = all_met ws >>= λ s. end_of s.part s (last_place (record { file = 0; line = 0 }) ws)
+policy_of ws = behind_all ws >>= λ s. end_of s.part s (last_place start_place ws)

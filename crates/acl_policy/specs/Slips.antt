@@ -8,6 +8,10 @@ use Rattle.acl_words.specs.declared.forms.Form.{Form}
 use Rattle.acl_words.specs.declared.forms.Form.TheVariants.{Bad, Unclosed}
 use Rattle.acl_words.specs.declared.forms.Token.{Token}
 
+-- Line 0 of file 0, which is the policy: the start, where no word stands.
+abbrev pub start_place : Place
+start_place = record { file = 0; line = 0 }
+
 abbrev pub slip_of : Code → Token → Slip
 slip_of code w = record { code = code; place = w.place; word = w.text }
 
@@ -19,8 +23,8 @@ code_for Unclosed code = codes_of.Syntax
 code_for form code = code
 
 -- The slip at a word that is not taken.
-abbrev pub refused : Code → Token → Slip
-refused code w = slip_of (code_for w.form code) w
+abbrev pub slip_for : Code → Token → Slip
+slip_for code w = slip_of (code_for w.form code) w
 
 -- A slip whose word stands elsewhere, or nowhere in the text.
 abbrev pub slip_with : Code → Place → List ℕ → Slip

@@ -1,12 +1,12 @@
 -- Target lines.
-use Rattle.std.specs.Prelude.{ℕ, ◌-◌, Bool, true, false, not, ◌&&◌, ◌==◌, nat_le, ℤ, pos, negsuc, if◌then◌else◌, List, [], ◌∷◌, length, Option, None, Some, option_map, option_and_then, unwrap_or, Result, Ok, Err, codes}
-use Rattle.std.specs.List.{list_all}
+use Rattle.std.specs.Prelude.{ℕ, Bool, true, false, not, ◌&&◌, ℤ, pos, if◌then◌else◌, List, [], ◌∷◌, Option, None, Some, option_and_then, unwrap_or, Result, Ok, Err, codes}
 use Rattle.std.specs.Str.{bytes_eq}
 use Rattle.acl_packet.specs.declared.addresses.Families.{Families}
 use Rattle.acl_packet.specs.declared.addresses.Families.TheVariants.{Inet, Inet6, Mixed}
 use Rattle.acl_packet.specs.declared.filtering.Hook.{Hook}
 use Rattle.acl_packet.specs.declared.filtering.Hook.TheVariants as hooks
-use Rattle.acl_text.specs.Numbers.{number_in}
+use Rattle.acl_text.specs.Names.{is_filter_name}
+use Rattle.acl_text.specs.SignedNumbers.{signed_in}
 use Rattle.acl_text.specs.declared.faults.Code.TheVariants as codes_of
 use Rattle.acl_text.specs.declared.faults.Slip.{Slip}
 use Rattle.acl_words.specs.declared.forms.Token.{Token}
@@ -16,19 +16,19 @@ use Rattle.acl_policy.specs.declared.filters.Kind.TheVariants.{Cisco, Juniper, I
 use Rattle.acl_policy.specs.declared.filters.Ending.{Ending}
 use Rattle.acl_policy.specs.declared.filters.Ending.TheVariants as endings
 use Rattle.acl_policy.specs.declared.filters.Target.{Target}
-use Rattle.acl_policy.specs.declared.target_lines.Named.{Named}
-use Rattle.acl_policy.specs.Slips.{slip_of, refused}
-use Rattle.acl_policy.specs.Steps.{◌>>=◌}
-use Rattle.acl_policy.specs.Values.{is_letter, is_name_byte, is_plain}
+use Rattle.acl_policy.specs.declared.target_lines.NamedTarget.{NamedTarget}
+use Rattle.acl_policy.specs.Slips.{slip_of, slip_for}
+use Rattle.acl_text.specs.Steps.{◌>>=◌}
+use Rattle.acl_policy.specs.Values.{is_plain}
 
 -- A word that is no string, by its text.
 abbrev pub is_word : Token → List ℕ → Bool
 is_word w text = is_plain w.form && bytes_eq w.text text
 
 -- What a word has to be: where it is not, it is the slip.
-abbrev pub or_refused : {A : Type 0} → Token → Option A → Result A Slip
-or_refused w None = Err (refused codes_of.TargetLine w)
-or_refused w (Some x) = Ok x
+abbrev pub or_slip : {A : Type 0} → Token → Option A → Result A Slip
+or_slip w None = Err (slip_for codes_of.TargetLine w)
+or_slip w (Some x) = Ok x
 
 -- The words for families.
 abbrev pub single_family : Token → Option Families
@@ -64,37 +64,16 @@ hook_word w =
     else if is_word w (codes "forward") then Some hooks.Forward
     else None
 
--- A filter's name begins with a letter, has letters, digits, `-` and `_`, and at most 64 of them.
-abbrev pub begins_with_letter : List ℕ → Bool
-begins_with_letter [] = false
-begins_with_letter (b ∷ bs) = is_letter b
-
-abbrev pub is_filter_name : List ℕ → Bool
-is_filter_name bs = begins_with_letter bs && nat_le (length bs) 64 && list_all is_name_byte bs
-
 abbrev pub name_word : Token → Bool
 name_word w = is_plain w.form && is_filter_name w.text
 
 -- A priority is 0 to 32767, or `-` and 1 to 32768.
-abbrev pub negative : ℕ → Option ℤ
-negative n = if n == 0 then None else Some (negsuc (n - 1))
-
-abbrev pub below_zero_in : List ℕ → Option ℤ
-below_zero_in digits = option_and_then negative (number_in 32768 digits)
-
-abbrev pub from_zero_in : List ℕ → Option ℤ
-from_zero_in digits = option_map (λ n. pos n) (number_in 32767 digits)
-
-abbrev pub priority_in : List ℕ → Option ℤ
-priority_in [] = from_zero_in []
-priority_in (b ∷ bs) = if b == 45 then below_zero_in bs else from_zero_in (b ∷ bs)
-
 abbrev pub priority_word : Token → Option ℤ
-priority_word w = if is_plain w.form then priority_in w.text else None
+priority_word w = if is_plain w.form then signed_in 32768 32767 w.text else None
 
 -- The words of iptables and nftables lines that stand in any order: each kind of them at most once.
-abbrev pub nothing_chosen : Choices
-nothing_chosen = record { accept = None; marked = false; families = None; priority = None }
+abbrev pub no_choices : Choices
+no_choices = record { accept = None; marked = false; families = None; priority = None }
 
 abbrev pub unless_some : {A B : Type 0} → Option A → B → Option B
 unless_some None x = Some x
@@ -130,9 +109,9 @@ abbrev pub choice : Kind → Choices → Token → Option Choices
 choice Iptables c w = iptables_choice c w
 choice _ c w = nftables_choice c w
 
-abbrev pub chosen_from : Kind → Choices → List Token → Result Choices Slip
-chosen_from kind c [] = Ok c
-chosen_from kind c (w ∷ ws) = or_refused w (choice kind c w) >>= λ d. chosen_from kind d ws
+abbrev pub choices_from : Kind → Choices → List Token → Result Choices Slip
+choices_from kind c [] = Ok c
+choices_from kind c (w ∷ ws) = or_slip w (choice kind c w) >>= λ d. choices_from kind d ws
 
 -- A target by the keyword of its line and the word that names it. Its number comes last.
 abbrev pub target_of : Token → Token → Kind → Families → Hook → Target
@@ -149,25 +128,30 @@ target_of k n kind families hook = record {
   number = 0;
 }
 
-abbrev pub named : Token → Target → Named
-named n t = record { target = t; place = n.place }
+abbrev pub named_target : Token → Target → NamedTarget
+named_target n t = record { target = t; place = n.place }
 
 -- `cisco NAME [extended, inet6 or mixed]` and `juniper NAME [inet or inet6]`.
 abbrev pub last_family : Kind → List Token → Result Families Slip
 last_family kind [] = Ok Inet
-last_family kind (w ∷ []) = or_refused w (family_word kind w)
-last_family kind (w ∷ v ∷ ws) = or_refused w (family_word kind w) >>= λ _. Err (refused codes_of.TargetLine v)
+last_family kind (w ∷ []) = or_slip w (family_word kind w)
+last_family kind (w ∷ v ∷ ws) =
+    or_slip w (family_word kind w) >>= λ _. Err (slip_for codes_of.TargetLine v)
 
 abbrev pub device_ending : Kind → Ending
 device_ending Cisco = endings.Neighbours
 device_ending _ = endings.Deny
 
-abbrev pub device_line : Kind → Token → Token → List Token → Result Named Slip
+abbrev pub device_target : Token → Token → Kind → Families → Target
+device_target k n kind families =
+    record (target_of k n kind families hooks.Input) { ending = device_ending kind }
+
+abbrev pub device_line : Kind → Token → Token → List Token → Result NamedTarget Slip
 device_line kind k p [] = Err (slip_of codes_of.TargetLine p)
 device_line kind k p (n ∷ ws) =
     if name_word n
-    then (last_family kind ws >>= λ f. Ok (named n (record (target_of k n kind f hooks.Input) { ending = device_ending kind })))
-    else Err (refused codes_of.TargetLine n)
+    then (last_family kind ws >>= λ f. Ok (named_target n (device_target k n kind f)))
+    else Err (slip_for codes_of.TargetLine n)
 
 -- `iptables CHAIN`, then `ACCEPT` or `DROP`, `nostate`, and `inet` or `inet6`.
 abbrev pub policy_ending : Ending → Option Bool → Ending
@@ -181,10 +165,11 @@ iptables_target k n hook c = record (target_of k n Iptables (unwrap_or c.familie
   ending = policy_ending endings.Left c.accept;
 }
 
-abbrev pub iptables_line : Token → Token → List Token → Result Named Slip
+abbrev pub iptables_line : Token → Token → List Token → Result NamedTarget Slip
 iptables_line k p [] = Err (slip_of codes_of.TargetLine p)
 iptables_line k p (n ∷ ws) =
-    or_refused n (chain_word n) >>= λ hook. (chosen_from Iptables nothing_chosen ws >>= λ c. Ok (named n (iptables_target k n hook c)))
+    or_slip n (chain_word n) >>= λ hook. (choices_from Iptables no_choices ws
+    >>= λ c. Ok (named_target n (iptables_target k n hook c)))
 
 -- `nftables FAMILIES HOOK`, then `ACCEPT` or `DROP`, a priority, and `noverbose`.
 abbrev pub nftables_target : Token → Token → Families → Hook → Choices → Target
@@ -195,21 +180,23 @@ nftables_target k n families hook c = record (target_of k n Nftables families ho
   verbose = not c.marked;
 }
 
-abbrev pub hooked_line : Token → Token → Families → List Token → Result Named Slip
+abbrev pub hooked_line : Token → Token → Families → List Token → Result NamedTarget Slip
 hooked_line k p families [] = Err (slip_of codes_of.TargetLine p)
 hooked_line k p families (n ∷ ws) =
-    or_refused n (hook_word n) >>= λ hook. (chosen_from Nftables nothing_chosen ws >>= λ c. Ok (named n (nftables_target k n families hook c)))
+    or_slip n (hook_word n) >>= λ hook. (choices_from Nftables no_choices ws
+    >>= λ c. Ok (named_target n (nftables_target k n families hook c)))
 
-abbrev pub nftables_line : Token → Token → List Token → Result Named Slip
+abbrev pub nftables_line : Token → Token → List Token → Result NamedTarget Slip
 nftables_line k p [] = Err (slip_of codes_of.TargetLine p)
-nftables_line k p (w ∷ ws) = or_refused w (family_word Nftables w) >>= λ families. hooked_line k p families ws
+nftables_line k p (w ∷ ws) =
+    or_slip w (family_word Nftables w) >>= λ families. hooked_line k p families ws
 
 -- The words behind `target::`.
-unfoldable pub line_met : Token → List Token → Result Named Slip
-line_met k [] = Err (slip_of codes_of.Missing k)
-line_met k (p ∷ ws) =
+unfoldable pub target_line : Token → List Token → Result NamedTarget Slip
+target_line k [] = Err (slip_of codes_of.Missing k)
+target_line k (p ∷ ws) =
     if is_word p (codes "cisco") then device_line Cisco k p ws
     else if is_word p (codes "juniper") then device_line Juniper k p ws
     else if is_word p (codes "iptables") then iptables_line k p ws
     else if is_word p (codes "nftables") then nftables_line k p ws
-    else Err (refused codes_of.TargetLine p)
+    else Err (slip_for codes_of.TargetLine p)

@@ -1,31 +1,20 @@
 -- The values of keywords.
-use Rattle.std.specs.Prelude.{ℕ, Bool, true, false, ◌&&◌, ◌||◌, ◌==◌, nat_le, nat_lt, if◌then◌else◌, List, [], ◌∷◌, ◌++◌, length, map, is_some, Result, Ok, Err, codes}
-use Rattle.std.specs.List.{list_all}
+use Rattle.std.specs.Prelude.{ℕ, Bool, true, false, ◌&&◌, ◌||◌, if◌then◌else◌, List, [], ◌∷◌, ◌++◌, map, is_some, Result, Ok, Err, codes}
 use Rattle.std.specs.Str.{bytes_eq}
 use Rattle.acl_packet.specs.declared.addresses.Family.TheVariants.{V4, V6}
-use Rattle.acl_packet.specs.Numbers.{protocol_in, icmp_in}
+use Rattle.acl_packet.specs.NumberWords.{protocol_in, icmp_in}
 use Rattle.acl_text.specs.declared.faults.Code.TheVariants.{Missing, Value}
 use Rattle.acl_text.specs.declared.faults.Slip.{Slip}
+use Rattle.acl_text.specs.Names.{is_name}
 use Rattle.acl_words.specs.declared.forms.Form.{Form}
 use Rattle.acl_words.specs.declared.forms.Form.TheVariants.{Plain, Quoted}
 use Rattle.acl_words.specs.declared.forms.Token.{Token}
-use Rattle.acl_policy.specs.declared.entries.Word.{Word}
+use Rattle.acl_policy.specs.declared.raw_terms.Word.{Word}
 use Rattle.acl_policy.specs.declared.values.Takes.{Takes}
 use Rattle.acl_policy.specs.declared.values.Takes.TheVariants as takes
-use Rattle.acl_policy.specs.Days.{day_named}
-use Rattle.acl_policy.specs.Slips.{slip_of, refused}
-use Rattle.acl_policy.specs.Steps.{◌>>=◌}
-
-abbrev pub is_letter : ℕ → Bool
-is_letter b = nat_le 65 b && nat_le b 90 || nat_le 97 b && nat_le b 122
-
--- Letters, digits, `-` and `_`.
-abbrev pub is_name_byte : ℕ → Bool
-is_name_byte b = is_letter b || nat_le 48 b && nat_le b 57 || b == 45 || b == 95
-
--- A name is 1 to 128 such bytes.
-abbrev pub is_name : List ℕ → Bool
-is_name bs = nat_lt 0 (length bs) && nat_le (length bs) 128 && list_all is_name_byte bs
+use Rattle.acl_policy.specs.NamedDays.{day_named}
+use Rattle.acl_policy.specs.Slips.{slip_of, slip_for}
+use Rattle.acl_text.specs.Steps.{◌>>=◌}
 
 abbrev pub is_action : List ℕ → Bool
 is_action bs = bytes_eq bs (codes "accept") || bytes_eq bs (codes "deny")
@@ -37,7 +26,8 @@ is_option bs = bytes_eq bs (codes "established") || bytes_eq bs (codes "tcp-esta
 
 -- All three mean that the term is logged.
 abbrev pub is_logging : List ℕ → Bool
-is_logging bs = bytes_eq bs (codes "true") || bytes_eq bs (codes "True") || bytes_eq bs (codes "syslog")
+is_logging bs =
+    bytes_eq bs (codes "true") || bytes_eq bs (codes "True") || bytes_eq bs (codes "syslog")
 
 -- A type of ICMP in either family.
 abbrev pub is_icmp_type : List ℕ → Bool
@@ -72,25 +62,27 @@ form_fits _ form = is_plain form
 abbrev pub is_value : Takes → Token → Bool
 is_value kind w = form_fits kind w.form && text_fits kind w.text
 
-abbrev pub kept : Token → Word
-kept w = record { place = w.place; text = w.text }
+abbrev pub word_of : Token → Word
+word_of w = record { place = w.place; text = w.text }
 
 -- Each word is a value, or the first one that is none is the slip.
 abbrev pub all_values : Takes → List Token → Result (Unit {0}) Slip
 all_values kind [] = Ok tt
-all_values kind (w ∷ ws) = if is_value kind w then all_values kind ws else Err (refused Value w)
+all_values kind (w ∷ ws) = if is_value kind w then all_values kind ws else Err (slip_for Value w)
 
 -- A keyword has a value.
-abbrev pub valued : Takes → Token → List Token → Result (Unit {0}) Slip
-valued kind keyword [] = Err (slip_of Missing keyword)
-valued kind keyword (w ∷ ws) = all_values kind (w ∷ ws)
+abbrev pub some_values : Takes → Token → List Token → Result (Unit {0}) Slip
+some_values kind keyword [] = Err (slip_of Missing keyword)
+some_values kind keyword (w ∷ ws) = all_values kind (w ∷ ws)
 
 -- The values stand behind those of the same keyword before.
-abbrev pub listed : Takes → Token → List Token → List Word → Result (List Word) Slip
-listed kind keyword ws before = valued kind keyword ws >>= λ _. Ok (before ++ map kept ws)
+abbrev pub words_with : Takes → Token → List Token → List Word → Result (List Word) Slip
+words_with kind keyword ws before =
+    some_values kind keyword ws >>= λ _. Ok (before ++ map word_of ws)
 
 -- A keyword has one value.
-abbrev pub single : Takes → Token → List Token → Result Word Slip
-single kind keyword [] = Err (slip_of Missing keyword)
-single kind keyword (w ∷ []) = if is_value kind w then Ok (kept w) else Err (refused Value w)
-single kind keyword (w ∷ v ∷ ws) = if is_value kind w then Err (refused Value v) else Err (refused Value w)
+abbrev pub one_value : Takes → Token → List Token → Result Word Slip
+one_value kind keyword [] = Err (slip_of Missing keyword)
+one_value kind keyword (w ∷ []) = if is_value kind w then Ok (word_of w) else Err (slip_for Value w)
+one_value kind keyword (w ∷ v ∷ ws) =
+    if is_value kind w then Err (slip_for Value v) else Err (slip_for Value w)

@@ -1,15 +1,12 @@
-ghost use Rattle.std.specs.Prelude.{◌≡◌, IfSome, map, option_map, ℤ, pos, negsuc, ◌≤ℤ◌};
-ghost use Rattle.acl_policy.specs.Steps.{Gives};
+ghost use Rattle.std.specs.Prelude.{◌≡◌, IfSome, map, option_map, ℤ};
+ghost use Rattle.acl_text.specs.Answers.{Gives, slip_told};
 ghost use Rattle.acl_policy.specs.Targets.{
   is_word,
-  nothing_chosen,
+  no_choices,
   with_policy,
   with_mark,
   with_families,
   with_priority,
-  below_zero_in,
-  from_zero_in,
-  priority_in,
   priority_word,
   later_family,
   single_family,
@@ -17,14 +14,14 @@ ghost use Rattle.acl_policy.specs.Targets.{
   iptables_choice,
   nftables_choice,
   choice,
-  chosen_from,
+  choices_from,
 };
 
 use crate::filters::Kind;
-use crate::slips::refused_at;
 use crate::values::{is_plain, is_text};
+use crate::word_slips::slip_for;
 use acl_packet::Families;
-use acl_text::{Code, Refusal, read_number};
+use acl_text::{Code, Refusal, read_signed};
 use acl_words::Token;
 use std::alloc::Global;
 
@@ -95,33 +92,6 @@ fn choose_priority(choices: Choices, priority: i32) -> Option<Choices>
     }
 }
 
-fn read_below_zero(digits: &[u8]) -> Option<i32>
-    ensures { result ≡ below_zero_in digits.now }
-{
-    let number = read_number(digits, 32_768)?;
-    if number == 0 {
-        return None;
-    }
-    Some(-(number as i32))
-}
-
-fn read_from_zero(digits: &[u8]) -> Option<i32>
-    ensures { result ≡ from_zero_in digits.now }
-{
-    let number = read_number(digits, 32_767)?;
-    Some(number as i32)
-}
-
-/// The priority of the word: 0 to 32767, or `-` and 1 to 32768.
-fn read_priority(word: &[u8]) -> Option<i32>
-    ensures { result ≡ priority_in word.now }
-{
-    match word {
-        [b'-', digits @ ..] => read_below_zero(digits),
-        _ => read_from_zero(word),
-    }
-}
-
 /// The families of a word of a target line of the platform.
 pub(crate) fn family_word(kind: Kind, word: &Token) -> Option<Families>
     ensures { result ≡ family_word kind word.now }
@@ -185,11 +155,12 @@ fn choose_iptables(choices: Choices, word: &Token) -> Option<Choices>
     }
 }
 
+/// The priority of the word: 0 to 32767, or `-` and 1 to 32768.
 fn priority_word(word: &Token) -> Option<i32>
     ensures { result ≡ priority_word word.now }
 {
     if is_plain(word.form) {
-        read_priority(word.text.as_slice())
+        read_signed(word.text.as_slice(), 32_768, 32_767)
     } else {
         None
     }
@@ -221,7 +192,7 @@ fn choose(kind: Kind, choices: Choices, word: &Token) -> Option<Choices>
 }
 
 fn no_choices() -> Choices
-    ensures { result ≡ nothing_chosen }
+    ensures { result ≡ no_choices }
 {
     Choices {
         accept: None,
@@ -233,12 +204,12 @@ fn no_choices() -> Choices
 
 /// What the words of a target line choose that stand in any order, each at most once.
 pub(crate) fn read_choices(alloc: Global, kind: Kind, words: &[Token]) -> Result<Choices, Refusal>
-    ensures { Gives result (chosen_from kind nothing_chosen words.now) }
+    ensures { Gives slip_told result (choices_from kind no_choices words.now) }
 {
     let mut choices = no_choices();
     for word in words {
         match choose(kind, choices, word) {
-            None => return Err(Refusal::Slip(refused_at(alloc, Code::TargetLine, word)?)),
+            None => return Err(Refusal::Slip(slip_for(alloc, Code::TargetLine, word)?)),
             Some(more) => choices = more,
         }
     }

@@ -1,21 +1,19 @@
 ghost use Rattle.std.specs.Prelude.{◌≡◌, ◌≤◌, length};
 ghost use Rattle.std.specs.List.{list_any, count_by};
 ghost use Rattle.std.specs.Str.{bytes_eq};
+ghost use Rattle.acl_policy.specs.ClashSteps.{names_shared};
 ghost use Rattle.acl_policy.specs.Clashes.{
   is_mixed,
   ipv6_list,
-  names_shared,
   share_lists,
-  same_families,
   common_family,
-  same_hook,
   same_kind,
   clash_on,
   clash,
 };
 
 use crate::filters::{Kind, Target};
-use acl_packet::{Families, Hook};
+use acl_packet::Families;
 
 fn is_mixed(families: Families) -> bool
     ensures { result ≡ is_mixed families }
@@ -36,23 +34,13 @@ fn share_names(a: &[u8], a_mixed: bool, b: &[u8], b_mixed: bool) -> bool
     a == b || (b_mixed && is_ipv6_list(a, b)) || (a_mixed && is_ipv6_list(b, a))
 }
 
-#[tactic(auto, using(crate::proofs::Lists::shared_is), unfolding(crate::specs::Clashes::share_lists))]
+#[tactic(auto, using(crate::proofs::SharedLists::shared_is), unfolding(crate::specs::Clashes::share_lists))]
 fn share_lists(a: &Target, b: &Target) -> bool
     ensures { result ≡ share_lists a.now b.now }
 {
     let a_mixed = is_mixed(a.families);
     let b_mixed = is_mixed(b.families);
     share_names(a.name.as_slice(), a_mixed, b.name.as_slice(), b_mixed)
-}
-
-fn same_families(a: Families, b: Families) -> bool
-    ensures { result ≡ same_families a b }
-{
-    match a {
-        Families::Inet => matches!(b, Families::Inet),
-        Families::Inet6 => matches!(b, Families::Inet6),
-        Families::Mixed => matches!(b, Families::Mixed),
-    }
 }
 
 fn common_family(a: Families, b: Families) -> bool
@@ -62,27 +50,6 @@ fn common_family(a: Families, b: Families) -> bool
         Families::Inet => !matches!(b, Families::Inet6),
         Families::Inet6 => !matches!(b, Families::Inet),
         Families::Mixed => true,
-    }
-}
-
-fn same_hook(a: Hook, b: Hook) -> bool
-    ensures { result ≡ same_hook a b }
-{
-    match a {
-        Hook::Input => matches!(b, Hook::Input),
-        Hook::Output => matches!(b, Hook::Output),
-        Hook::Forward => matches!(b, Hook::Forward),
-    }
-}
-
-fn same_kind(a: Kind, b: Kind) -> bool
-    ensures { result ≡ same_kind a b }
-{
-    match a {
-        Kind::Cisco => matches!(b, Kind::Cisco),
-        Kind::Juniper => matches!(b, Kind::Juniper),
-        Kind::Iptables => matches!(b, Kind::Iptables),
-        Kind::Nftables => matches!(b, Kind::Nftables),
     }
 }
 
@@ -97,9 +64,9 @@ fn clash_on(kind: Kind, a: &Target, b: &Target) -> bool
 {
     match kind {
         Kind::Cisco => share_lists(a, b),
-        Kind::Juniper => same_families(a.families, b.families) && same_name(a, b),
-        Kind::Iptables => same_hook(a.hook, b.hook) && same_families(a.families, b.families),
-        Kind::Nftables => same_hook(a.hook, b.hook) && common_family(a.families, b.families),
+        Kind::Juniper => a.families == b.families && same_name(a, b),
+        Kind::Iptables => a.hook == b.hook && a.families == b.families,
+        Kind::Nftables => a.hook == b.hook && common_family(a.families, b.families),
     }
 }
 
@@ -107,7 +74,7 @@ fn clash_on(kind: Kind, a: &Target, b: &Target) -> bool
 fn clash(a: &Target, b: &Target) -> bool
     ensures { result ≡ clash a.now b.now }
 {
-    same_kind(a.kind, b.kind) && clash_on(a.kind, a, b)
+    a.kind == b.kind && clash_on(a.kind, a, b)
 }
 
 /// Whether the target clashes with one of the earlier ones.
@@ -122,5 +89,5 @@ pub(crate) fn count_of(earlier: &[Target], kind: Kind) -> usize
     ensures count { result ≡ count_by (λ e. same_kind e.kind kind) earlier.now }
     ensures bound { result ≤ length earlier.now }
 {
-    earlier.iter().filter(|e| same_kind(e.kind, kind)).count()
+    earlier.iter().filter(|e| e.kind == kind).count()
 }

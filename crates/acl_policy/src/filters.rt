@@ -1,6 +1,5 @@
 use acl_packet::{Families, Hook};
-use acl_text::{Bytes, Place};
-use acl_words::Items;
+use acl_text::{Bytes, Items, Place};
 
 /// The platform of a target.
 #[derive(Clone, Copy, Debug, PartialEq, Eq)]

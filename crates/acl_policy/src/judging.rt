@@ -1,34 +1,34 @@
 ghost use Rattle.std.specs.Prelude.{◌≡◌, OnOk};
 ghost use Rattle.std.specs.List.{list_any};
 ghost use Rattle.std.specs.Str.{bytes_eq};
-ghost use Rattle.acl_policy.specs.Steps.{Leaves};
+ghost use Rattle.acl_text.specs.Answers.{Leaves, slip_told};
 ghost use Rattle.acl_policy.specs.Policies.{
-  placed,
-  header_met,
-  name_met,
+  behind_target,
+  behind_header_keyword,
+  behind_name,
   with_block,
   with_term,
-  word_met,
-  words_met,
-  keyword_met,
-  begin_met,
-  end_met,
-  mark_met,
+  behind_word,
+  behind_words,
+  behind_keyword,
+  behind_begin,
+  behind_end,
+  behind_mark,
 };
 
+use crate::blocks::Block;
 use crate::choices::is_word;
 use crate::clashes::{clashes, count_of};
 use crate::copies::copy_target;
-use crate::drafts::{begin_draft, no_draft};
-use crate::entries::RawTerm;
-use crate::policies::Block;
-use crate::slips::{refused_at, slip_at, slip_with};
+use crate::raw_terms::RawTerm;
 use crate::states::{Part, State};
-use crate::target_lines::{Named, read_target_line};
-use crate::terms::meet_term_keyword;
-use crate::values::{Takes, check_values, is_text, is_value, keep};
-use acl_text::{Code, Memory, Refusal};
-use acl_words::{Form, Items, Token};
+use crate::target_lines::{NamedTarget, read_target_line};
+use crate::term_drafts::{draft_of, no_draft};
+use crate::terms::judge_term_keyword;
+use crate::values::{Takes, check_values, is_text, is_value, word_of};
+use crate::word_slips::{slip_at, slip_for, slip_with};
+use acl_text::{Code, Items, Memory, Refusal};
+use acl_words::{Form, Token};
 use std::alloc::Global;
 use std::mem;
 
@@ -36,16 +36,16 @@ const MOST_TARGETS: usize = 64;
 
 const MOST_TERMS: usize = 1024;
 
-#[tactic(auto, unfolding(crate::specs::Policies::placed))]
-fn place_target(
+#[tactic(auto, unfolding(crate::specs::Policies::behind_target))]
+fn judge_target(
     alloc: Global,
     state: &mut State,
     keyword: &Token,
-    named: Named,
+    named: NamedTarget,
 ) -> Result<(), Refusal>
-    ensures { Leaves state.new result (placed state.old keyword.now named) }
+    ensures { Leaves slip_told state.new result (behind_target state.old keyword.now named) }
 {
-    let Named { mut target, place } = named;
+    let NamedTarget { mut target, place } = named;
     let earlier = state.earlier.as_slice();
     if clashes(earlier, &target) {
         let word = target.name.as_slice();
@@ -60,21 +60,22 @@ fn place_target(
     Ok(())
 }
 
-#[tactic(auto, unfolding(crate::specs::Policies::header_met))]
-fn meet_header_keyword(
+#[tactic(auto, unfolding(crate::specs::Policies::behind_header_keyword))]
+fn judge_header_keyword(
     alloc: Global,
     state: &mut State,
     keyword: &Token,
     values: &[Token],
 ) -> Result<(), Refusal>
-    ensures { Leaves state.new result (header_met state.old keyword.now values.now) }
+    ensures { Leaves slip_told state.new result
+        (behind_header_keyword state.old keyword.now values.now) }
 {
     if is_text(keyword, b"comment::") {
         check_values(alloc, Takes::String, keyword, values)?;
         Ok(())
     } else if is_text(keyword, b"target::") {
         let named = read_target_line(alloc, keyword, values)?;
-        place_target(alloc, state, keyword, named)
+        judge_target(alloc, state, keyword, named)
     } else {
         Err(Refusal::Slip(slip_at(alloc, Code::Keyword, keyword)?))
     }
@@ -92,12 +93,12 @@ fn is_name_of(term: &RawTerm, name: &Token) -> bool
     term.name.text.as_slice() == name.text.as_slice()
 }
 
-#[tactic(auto, unfolding(crate::specs::Policies::name_met))]
-fn meet_name(alloc: Global, state: &mut State, word: &Token) -> Result<(), Refusal>
-    ensures { Leaves state.new result (name_met state.old word.now) }
+#[tactic(auto, unfolding(crate::specs::Policies::behind_name))]
+fn judge_name(alloc: Global, state: &mut State, word: &Token) -> Result<(), Refusal>
+    ensures { Leaves slip_told state.new result (behind_name state.old word.now) }
 {
     if !is_value(Takes::Name, word) {
-        return Err(Refusal::Slip(refused_at(alloc, Code::Syntax, word)?));
+        return Err(Refusal::Slip(slip_for(alloc, Code::Syntax, word)?));
     }
     if is_term_name(state.terms.as_slice(), word) {
         return Err(Refusal::Slip(slip_at(alloc, Code::TermTwice, word)?));
@@ -105,7 +106,7 @@ fn meet_name(alloc: Global, state: &mut State, word: &Token) -> Result<(), Refus
     if state.term_count >= MOST_TERMS {
         return Err(Refusal::Slip(slip_at(alloc, Code::TooMany, word)?));
     }
-    state.draft = begin_draft(alloc, keep(alloc, word)?);
+    state.draft = draft_of(alloc, word_of(alloc, word)?);
     state.term_count += 1;
     state.part = Part::Named;
     Ok(())
@@ -129,21 +130,21 @@ fn end_term(alloc: Global, state: &mut State) -> Result<(), Memory>
     Ok(())
 }
 
-#[tactic(auto, unfolding(crate::specs::Policies::word_met))]
-fn meet_start(alloc: Global, state: &mut State, word: &Token) -> Result<(), Refusal>
-    ensures { Leaves state.new result (word_met Part.Start state.old word.now) }
+#[tactic(auto, unfolding(crate::specs::Policies::behind_word))]
+fn judge_start(alloc: Global, state: &mut State, word: &Token) -> Result<(), Refusal>
+    ensures { Leaves slip_told state.new result (behind_word Part.Start state.old word.now) }
 {
     if is_word(word, b"header") {
         state.part = Part::Header;
         Ok(())
     } else {
-        Err(Refusal::Slip(refused_at(alloc, Code::Syntax, word)?))
+        Err(Refusal::Slip(slip_for(alloc, Code::Syntax, word)?))
     }
 }
 
-#[tactic(auto, unfolding(crate::specs::Policies::word_met))]
-fn meet_behind_header(alloc: Global, state: &mut State, word: &Token) -> Result<(), Refusal>
-    ensures { Leaves state.new result (word_met Part.HeaderEnd state.old word.now) }
+#[tactic(auto, unfolding(crate::specs::Policies::behind_word))]
+fn judge_behind_header(alloc: Global, state: &mut State, word: &Token) -> Result<(), Refusal>
+    ensures { Leaves slip_told state.new result (behind_word Part.HeaderEnd state.old word.now) }
 {
     if is_word(word, b"term") {
         state.part = Part::Term;
@@ -151,13 +152,13 @@ fn meet_behind_header(alloc: Global, state: &mut State, word: &Token) -> Result<
     } else if is_word(word, b"header") {
         Err(Refusal::Slip(slip_with(alloc, Code::Missing, word.place, b"term")?))
     } else {
-        Err(Refusal::Slip(refused_at(alloc, Code::Syntax, word)?))
+        Err(Refusal::Slip(slip_for(alloc, Code::Syntax, word)?))
     }
 }
 
-#[tactic(auto, unfolding(crate::specs::Policies::word_met))]
-fn meet_behind_term(alloc: Global, state: &mut State, word: &Token) -> Result<(), Refusal>
-    ensures { Leaves state.new result (word_met Part.TermEnd state.old word.now) }
+#[tactic(auto, unfolding(crate::specs::Policies::behind_word))]
+fn judge_behind_term(alloc: Global, state: &mut State, word: &Token) -> Result<(), Refusal>
+    ensures { Leaves slip_told state.new result (behind_word Part.TermEnd state.old word.now) }
 {
     if is_word(word, b"term") {
         state.part = Part::Term;
@@ -167,56 +168,57 @@ fn meet_behind_term(alloc: Global, state: &mut State, word: &Token) -> Result<()
         state.part = Part::Header;
         Ok(())
     } else {
-        Err(Refusal::Slip(refused_at(alloc, Code::Syntax, word)?))
+        Err(Refusal::Slip(slip_for(alloc, Code::Syntax, word)?))
     }
 }
 
-#[tactic(auto, unfolding(crate::specs::Policies::word_met))]
-fn meet_word(alloc: Global, part: Part, state: &mut State, word: &Token) -> Result<(), Refusal>
-    ensures { Leaves state.new result (word_met part state.old word.now) }
+#[tactic(auto, unfolding(crate::specs::Policies::behind_word))]
+fn judge_word(alloc: Global, part: Part, state: &mut State, word: &Token) -> Result<(), Refusal>
+    ensures { Leaves slip_told state.new result (behind_word part state.old word.now) }
 {
     match part {
-        Part::Start => meet_start(alloc, state, word),
-        Part::HeaderEnd => meet_behind_header(alloc, state, word),
-        Part::Term => meet_name(alloc, state, word),
-        Part::TermEnd => meet_behind_term(alloc, state, word),
-        _ => Err(Refusal::Slip(refused_at(alloc, Code::Syntax, word)?)),
+        Part::Start => judge_start(alloc, state, word),
+        Part::HeaderEnd => judge_behind_header(alloc, state, word),
+        Part::Term => judge_name(alloc, state, word),
+        Part::TermEnd => judge_behind_term(alloc, state, word),
+        _ => Err(Refusal::Slip(slip_for(alloc, Code::Syntax, word)?)),
     }
 }
 
 /// Judges words that are no values of a keyword.
-pub(crate) fn meet_words(alloc: Global, state: &mut State, words: &[Token]) -> Result<(), Refusal>
-    ensures { Leaves state.new result (words_met state.old words.now) }
+pub(crate) fn judge_words(alloc: Global, state: &mut State, words: &[Token]) -> Result<(), Refusal>
+    ensures { Leaves slip_told state.new result (behind_words state.old words.now) }
 {
     for word in words {
-        meet_word(alloc, state.part, state, word)?;
+        judge_word(alloc, state.part, state, word)?;
     }
     Ok(())
 }
 
-#[tactic(auto, unfolding(crate::specs::Policies::keyword_met))]
-fn meet_keyword(
+#[tactic(auto, unfolding(crate::specs::Policies::behind_keyword))]
+fn judge_keyword(
     alloc: Global,
     part: Part,
     state: &mut State,
     keyword: &Token,
     values: &[Token],
 ) -> Result<(), Refusal>
-    ensures { Leaves state.new result (keyword_met part state.old keyword.now values.now) }
+    ensures { Leaves slip_told state.new result
+        (behind_keyword part state.old keyword.now values.now) }
 {
     match part {
-        Part::InHeader => meet_header_keyword(alloc, state, keyword, values),
+        Part::InHeader => judge_header_keyword(alloc, state, keyword, values),
         Part::InTerm => {
-            meet_term_keyword(alloc, &mut state.draft, keyword, values)?;
+            judge_term_keyword(alloc, &mut state.draft, keyword, values)?;
             Ok(())
         }
         _ => Err(Refusal::Slip(slip_at(alloc, Code::Syntax, keyword)?)),
     }
 }
 
-#[tactic(auto, unfolding(crate::specs::Policies::begin_met))]
-fn meet_begin(alloc: Global, part: Part, state: &mut State, brace: &Token) -> Result<(), Refusal>
-    ensures { Leaves state.new result (begin_met part state.old brace.now) }
+#[tactic(auto, unfolding(crate::specs::Policies::behind_begin))]
+fn judge_begin(alloc: Global, part: Part, state: &mut State, brace: &Token) -> Result<(), Refusal>
+    ensures { Leaves slip_told state.new result (behind_begin part state.old brace.now) }
 {
     match part {
         Part::Header => {
@@ -231,9 +233,9 @@ fn meet_begin(alloc: Global, part: Part, state: &mut State, brace: &Token) -> Re
     }
 }
 
-#[tactic(auto, unfolding(crate::specs::Policies::end_met))]
-fn meet_header_end(alloc: Global, state: &mut State, brace: &Token) -> Result<(), Refusal>
-    ensures { Leaves state.new result (end_met Part.InHeader state.old brace.now) }
+#[tactic(auto, unfolding(crate::specs::Policies::behind_end))]
+fn judge_header_end(alloc: Global, state: &mut State, brace: &Token) -> Result<(), Refusal>
+    ensures { Leaves slip_told state.new result (behind_end Part.InHeader state.old brace.now) }
 {
     if state.targets.as_slice().is_empty() {
         let slip = slip_with(alloc, Code::Missing, brace.place, b"target::")?;
@@ -243,11 +245,11 @@ fn meet_header_end(alloc: Global, state: &mut State, brace: &Token) -> Result<()
     Ok(())
 }
 
-#[tactic(auto, unfolding(crate::specs::Policies::end_met))]
-fn meet_term_end(alloc: Global, state: &mut State, brace: &Token) -> Result<(), Refusal>
-    ensures { Leaves state.new result (end_met Part.InTerm state.old brace.now) }
+#[tactic(auto, unfolding(crate::specs::Policies::behind_end))]
+fn judge_term_end(alloc: Global, state: &mut State, brace: &Token) -> Result<(), Refusal>
+    ensures { Leaves slip_told state.new result (behind_end Part.InTerm state.old brace.now) }
 {
-    if !state.draft.acted {
+    if !state.draft.has_action {
         let slip = slip_with(alloc, Code::Missing, brace.place, b"action::")?;
         return Err(Refusal::Slip(slip));
     }
@@ -255,36 +257,37 @@ fn meet_term_end(alloc: Global, state: &mut State, brace: &Token) -> Result<(), 
     Ok(())
 }
 
-#[tactic(auto, unfolding(crate::specs::Policies::end_met))]
-fn meet_end(alloc: Global, part: Part, state: &mut State, brace: &Token) -> Result<(), Refusal>
-    ensures { Leaves state.new result (end_met part state.old brace.now) }
+#[tactic(auto, unfolding(crate::specs::Policies::behind_end))]
+fn judge_end(alloc: Global, part: Part, state: &mut State, brace: &Token) -> Result<(), Refusal>
+    ensures { Leaves slip_told state.new result (behind_end part state.old brace.now) }
 {
     match part {
-        Part::InHeader => meet_header_end(alloc, state, brace),
-        Part::InTerm => meet_term_end(alloc, state, brace),
+        Part::InHeader => judge_header_end(alloc, state, brace),
+        Part::InTerm => judge_term_end(alloc, state, brace),
         _ => Err(Refusal::Slip(slip_at(alloc, Code::Syntax, brace)?)),
     }
 }
 
 /// Judges a keyword or a brace with the words behind it up to the next one.
-#[tactic(auto, unfolding(crate::specs::Policies::mark_met))]
-pub(crate) fn meet_mark(
+#[tactic(auto, unfolding(crate::specs::Policies::behind_mark))]
+pub(crate) fn judge_mark(
     alloc: Global,
     state: &mut State,
     mark: &Token,
     values: &[Token],
 ) -> Result<(), Refusal>
-    ensures { Leaves state.new result (mark_met mark.now.form state.old mark.now values.now) }
+    ensures { Leaves slip_told state.new result
+        (behind_mark mark.now.form state.old mark.now values.now) }
 {
     match mark.form {
-        Form::Keyword => meet_keyword(alloc, state.part, state, mark, values),
+        Form::Keyword => judge_keyword(alloc, state.part, state, mark, values),
         Form::Begin => {
-            meet_begin(alloc, state.part, state, mark)?;
-            meet_words(alloc, state, values)
+            judge_begin(alloc, state.part, state, mark)?;
+            judge_words(alloc, state, values)
         }
         _ => {
-            meet_end(alloc, state.part, state, mark)?;
-            meet_words(alloc, state, values)
+            judge_end(alloc, state.part, state, mark)?;
+            judge_words(alloc, state, values)
         }
     }
 }

@@ -1,28 +1,28 @@
 //! Policies: from the spliced lines of a policy to its blocks of targets and terms, or the first slip.
 #![tactic(auto)]
 
+mod blocks;
 mod choices;
 mod clashes;
 mod copies;
-mod days;
-mod drafts;
-mod entries;
 mod filters;
 mod judging;
-mod parsing;
-mod policies;
-mod slips;
+mod named_days;
+mod policy_parsing;
+mod raw_terms;
 mod states;
 mod target_lines;
 mod target_texts;
+mod term_drafts;
 mod terms;
 #[cfg(test)]
 mod tests;
 mod values;
+mod word_slips;
 
 pub use acl_splice::{GatherFault, Sources, gather, label};
-pub use entries::{RawTerm, RawTerms, Word, Words};
+pub use blocks::{Block, Blocks, Policy};
 pub use filters::{Ending, Kind, Target, Targets};
-pub use parsing::parse;
-pub use policies::{Block, Blocks, Policy};
+pub use policy_parsing::parse;
+pub use raw_terms::{RawTerm, RawTerms, Word, Words};
 pub use target_texts::put_target;

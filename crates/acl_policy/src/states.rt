@@ -1,7 +1,7 @@
-use crate::drafts::Draft;
-use crate::entries::RawTerms;
+use crate::blocks::Blocks;
 use crate::filters::Targets;
-use crate::policies::Blocks;
+use crate::raw_terms::RawTerms;
+use crate::term_drafts::Draft;
 
 /// Where in the structure of a policy the reading stands.
 #[derive(Clone, Copy, Debug, PartialEq, Eq)]

@@ -1,10 +1,8 @@
 ghost use Rattle.std.specs.Prelude.{◌≡◌, IfOk, codes};
-ghost use Rattle.acl_policy.specs.Steps.{Gives};
+ghost use Rattle.acl_text.specs.Answers.{Gives, slip_told};
 ghost use Rattle.acl_policy.specs.Targets.{
   chain_word,
   hook_word,
-  is_filter_name,
-  begins_with_letter,
   name_word,
   target_of,
   last_family,
@@ -14,21 +12,21 @@ ghost use Rattle.acl_policy.specs.Targets.{
   iptables_line,
   hooked_line,
   nftables_line,
-  line_met,
+  target_line,
 };
 
 use crate::choices::{family_word, is_word, read_choices};
 use crate::filters::{Ending, Kind, Target};
-use crate::slips::{refused_at, slip_at};
-use crate::values::{all_name_bytes, is_letter, is_plain};
+use crate::values::is_plain;
+use crate::word_slips::{slip_at, slip_for};
 use acl_packet::{Families, Hook};
-use acl_text::{Bytes, Code, Memory, Place, Refusal};
+use acl_text::{Bytes, Code, Memory, Place, Refusal, is_filter_name};
 use acl_words::Token;
 use std::alloc::Global;
 
 /// A target, and the place of the word that names it.
 #[derive(Drop)]
-pub(crate) struct Named {
+pub(crate) struct NamedTarget {
     pub(crate) target: Target,
     pub(crate) place: Place,
 }
@@ -59,21 +57,6 @@ fn hook_word(word: &Token) -> Option<Hook>
     } else {
         None
     }
-}
-
-fn begins_with_letter(text: &[u8]) -> bool
-    ensures { result ≡ begins_with_letter text.now }
-{
-    match text {
-        [] => false,
-        [first, ..] => is_letter(*first),
-    }
-}
-
-fn is_filter_name(text: &[u8]) -> bool
-    ensures { result ≡ is_filter_name text.now }
-{
-    begins_with_letter(text) && text.len() <= 64 && all_name_bytes(text)
 }
 
 fn name_word(word: &Token) -> bool
@@ -107,15 +90,15 @@ fn make_target(
 }
 
 fn read_last_family(alloc: Global, kind: Kind, words: &[Token]) -> Result<Families, Refusal>
-    ensures { Gives result (last_family kind words.now) }
+    ensures { Gives slip_told result (last_family kind words.now) }
 {
     match words {
         [] => Ok(Families::Inet),
         [word, behind @ ..] => match family_word(kind, word) {
-            None => Err(Refusal::Slip(refused_at(alloc, Code::TargetLine, word)?)),
+            None => Err(Refusal::Slip(slip_for(alloc, Code::TargetLine, word)?)),
             Some(families) => match behind {
                 [] => Ok(families),
-                [next, ..] => Err(Refusal::Slip(refused_at(alloc, Code::TargetLine, next)?)),
+                [next, ..] => Err(Refusal::Slip(slip_for(alloc, Code::TargetLine, next)?)),
             },
         },
     }
@@ -136,19 +119,19 @@ fn read_device(
     keyword: &Token,
     platform: &Token,
     words: &[Token],
-) -> Result<Named, Refusal>
-    ensures { Gives result (device_line kind keyword.now platform.now words.now) }
+) -> Result<NamedTarget, Refusal>
+    ensures { Gives slip_told result (device_line kind keyword.now platform.now words.now) }
 {
     match words {
         [] => Err(Refusal::Slip(slip_at(alloc, Code::TargetLine, platform)?)),
         [name, ..] if !name_word(name) => {
-            Err(Refusal::Slip(refused_at(alloc, Code::TargetLine, name)?))
+            Err(Refusal::Slip(slip_for(alloc, Code::TargetLine, name)?))
         }
         [name, behind @ ..] => {
             let families = read_last_family(alloc, kind, behind)?;
             let mut target = make_target(alloc, keyword, name, kind, families, Hook::Input)?;
             target.ending = device_ending(kind);
-            Ok(Named {
+            Ok(NamedTarget {
                 target,
                 place: name.place,
             })
@@ -171,22 +154,22 @@ fn read_iptables(
     keyword: &Token,
     platform: &Token,
     words: &[Token],
-) -> Result<Named, Refusal>
-    ensures { Gives result (iptables_line keyword.now platform.now words.now) }
+) -> Result<NamedTarget, Refusal>
+    ensures { Gives slip_told result (iptables_line keyword.now platform.now words.now) }
 {
     let (name, behind) = match words {
         [] => return Err(Refusal::Slip(slip_at(alloc, Code::TargetLine, platform)?)),
         [name, behind @ ..] => (name, behind),
     };
     let Some(hook) = chain_word(name) else {
-        return Err(Refusal::Slip(refused_at(alloc, Code::TargetLine, name)?));
+        return Err(Refusal::Slip(slip_for(alloc, Code::TargetLine, name)?));
     };
     let choices = read_choices(alloc, Kind::Iptables, behind)?;
     let families = choices.families.unwrap_or(Families::Inet);
     let mut target = make_target(alloc, keyword, name, Kind::Iptables, families, hook)?;
     target.stateful = !choices.marked;
     target.ending = policy_ending(Ending::Left, choices.accept);
-    Ok(Named {
+    Ok(NamedTarget {
         target,
         place: name.place,
     })
@@ -198,15 +181,15 @@ fn read_hooked(
     platform: &Token,
     families: Families,
     words: &[Token],
-) -> Result<Named, Refusal>
-    ensures { Gives result (hooked_line keyword.now platform.now families words.now) }
+) -> Result<NamedTarget, Refusal>
+    ensures { Gives slip_told result (hooked_line keyword.now platform.now families words.now) }
 {
     let (name, behind) = match words {
         [] => return Err(Refusal::Slip(slip_at(alloc, Code::TargetLine, platform)?)),
         [name, behind @ ..] => (name, behind),
     };
     let Some(hook) = hook_word(name) else {
-        return Err(Refusal::Slip(refused_at(alloc, Code::TargetLine, name)?));
+        return Err(Refusal::Slip(slip_for(alloc, Code::TargetLine, name)?));
     };
     let choices = read_choices(alloc, Kind::Nftables, behind)?;
     let mut target = make_target(alloc, keyword, name, Kind::Nftables, families, hook)?;
@@ -214,7 +197,7 @@ fn read_hooked(
     target.ending = policy_ending(Ending::Deny, choices.accept);
     target.priority = choices.priority.unwrap_or(0);
     target.verbose = !choices.marked;
-    Ok(Named {
+    Ok(NamedTarget {
         target,
         place: name.place,
     })
@@ -225,26 +208,26 @@ fn read_nftables(
     keyword: &Token,
     platform: &Token,
     words: &[Token],
-) -> Result<Named, Refusal>
-    ensures { Gives result (nftables_line keyword.now platform.now words.now) }
+) -> Result<NamedTarget, Refusal>
+    ensures { Gives slip_told result (nftables_line keyword.now platform.now words.now) }
 {
     match words {
         [] => Err(Refusal::Slip(slip_at(alloc, Code::TargetLine, platform)?)),
         [word, behind @ ..] => match family_word(Kind::Nftables, word) {
-            None => Err(Refusal::Slip(refused_at(alloc, Code::TargetLine, word)?)),
+            None => Err(Refusal::Slip(slip_for(alloc, Code::TargetLine, word)?)),
             Some(families) => read_hooked(alloc, keyword, platform, families, behind),
         },
     }
 }
 
 /// The target of the words behind `target::`, without its number.
-#[tactic(auto, unfolding(crate::specs::Targets::line_met))]
+#[tactic(auto, unfolding(crate::specs::Targets::target_line))]
 pub(crate) fn read_target_line(
     alloc: Global,
     keyword: &Token,
     values: &[Token],
-) -> Result<Named, Refusal>
-    ensures { Gives result (line_met keyword.now values.now) }
+) -> Result<NamedTarget, Refusal>
+    ensures { Gives slip_told result (target_line keyword.now values.now) }
 {
     match values {
         [] => Err(Refusal::Slip(slip_at(alloc, Code::Missing, keyword)?)),
@@ -258,7 +241,7 @@ pub(crate) fn read_target_line(
             } else if is_word(platform, b"nftables") {
                 read_nftables(alloc, keyword, platform, words)
             } else {
-                Err(Refusal::Slip(refused_at(alloc, Code::TargetLine, platform)?))
+                Err(Refusal::Slip(slip_for(alloc, Code::TargetLine, platform)?))
             }
         }
     }

@@ -1,6 +1,6 @@
 ghost use Rattle.std.specs.Prelude.{◌≡◌, [], ◌∷◌, IsTrue, codes};
 ghost use Rattle.acl_text.specs.Output.{Puts, joined};
-ghost use Rattle.acl_policy.specs.Texts.{kind_text, inet_text, families_text, target_text};
+ghost use Rattle.acl_policy.specs.TargetTexts.{kind_text, inet_text, families_text, target_text};
 
 use crate::filters::{Kind, Target};
 use acl_packet::Families;
@@ -50,10 +50,11 @@ fn put_words<'a, O: Out>(
 }
 
 /// Puts the target's text: its platform, its name and its families.
-#[tactic(auto, unfolding(crate::specs::Texts::target_text))]
+#[tactic(auto, unfolding(crate::specs::TargetTexts::target_text))]
 pub fn put_target<O: Out>(out: &mut O, target: &Target) -> Result<(), PutFault>
     requires { IsTrue (O.is_open out.old) }
-    ensures { Puts O.told O.faults O.refusals O.is_open O.keeps_rest out.old out.new (target_text target.now) result }
+    ensures { Puts O.told O.faults O.refusals O.is_open O.keeps_rest out.old out.new
+        (target_text target.now) result }
 {
     let kind = kind_text(target.kind);
     let families = families_text(target.kind, target.families);

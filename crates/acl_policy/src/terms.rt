@@ -1,78 +1,82 @@
 ghost use Rattle.std.specs.Prelude.{◌≡◌};
-ghost use Rattle.acl_policy.specs.Steps.{Leaves};
+ghost use Rattle.acl_text.specs.Answers.{Leaves, slip_told};
 ghost use Rattle.acl_policy.specs.Terms.{
-  commented,
-  owned,
-  acted,
-  logged,
-  expired,
-  address_met,
-  protocol_met,
-  list_met,
-  term_met,
+  draft_with_comments,
+  draft_with_owner,
+  draft_with_action,
+  draft_with_logging,
+  draft_with_expiration,
+  term_with_addresses,
+  term_with_protocols,
+  term_with_lists,
+  draft_behind,
 };
 
-use crate::days::day_of;
-use crate::drafts::{Draft, add_comments};
-use crate::entries::RawTerm;
-use crate::slips::slip_at;
+use crate::named_days::day_of;
+use crate::raw_terms::RawTerm;
+use crate::term_drafts::{Draft, add_comments};
 use crate::values::{Takes, check_values, is_text, one_value, push_values};
+use crate::word_slips::slip_at;
 use acl_text::{Code, Refusal};
 use acl_words::Token;
 use std::alloc::Global;
 
-fn meet_comment(
+fn judge_comment(
     alloc: Global,
     draft: &mut Draft,
     keyword: &Token,
     values: &[Token],
 ) -> Result<(), Refusal>
-    ensures { Leaves draft.new result (commented draft.old keyword.now values.now) }
+    ensures { Leaves slip_told draft.new result
+        (draft_with_comments draft.old keyword.now values.now) }
 {
     check_values(alloc, Takes::String, keyword, values)?;
     add_comments(draft, values)?;
     Ok(())
 }
 
-fn meet_owner(
+fn judge_owner(
     alloc: Global,
     draft: &mut Draft,
     keyword: &Token,
     values: &[Token],
 ) -> Result<(), Refusal>
-    ensures { Leaves draft.new result (owned draft.old keyword.now values.now) }
+    ensures { Leaves slip_told draft.new result
+        (draft_with_owner draft.old keyword.now values.now) }
 {
-    if draft.owned {
+    if draft.has_owner {
         return Err(Refusal::Slip(slip_at(alloc, Code::Repeated, keyword)?));
     }
     let _owner = one_value(alloc, Takes::Any, keyword, values)?;
-    draft.owned = true;
+    draft.has_owner = true;
     Ok(())
 }
 
-fn meet_action(
+fn judge_action(
     alloc: Global,
     draft: &mut Draft,
     keyword: &Token,
     values: &[Token],
 ) -> Result<(), Refusal>
-    ensures { Leaves draft.new result (acted draft.old keyword.now values.now) }
+    ensures { Leaves slip_told draft.new result
+        (draft_with_action draft.old keyword.now values.now) }
 {
-    if draft.acted {
+    if draft.has_action {
         return Err(Refusal::Slip(slip_at(alloc, Code::Repeated, keyword)?));
     }
     draft.term.action = one_value(alloc, Takes::Action, keyword, values)?;
-    draft.acted = true;
+    draft.has_action = true;
     Ok(())
 }
 
-fn meet_logging(
+fn judge_logging(
     alloc: Global,
     draft: &mut Draft,
     keyword: &Token,
     values: &[Token],
 ) -> Result<(), Refusal>
-    ensures { Leaves draft.new result (logged draft.old keyword.now values.now) }
+    ensures { Leaves slip_told draft.new result
+        (draft_with_logging draft.old keyword.now values.now) }
 {
     if draft.term.logging {
         return Err(Refusal::Slip(slip_at(alloc, Code::Repeated, keyword)?));
@@ -82,13 +86,14 @@ fn meet_logging(
     Ok(())
 }
 
-fn meet_expiration(
+fn judge_expiration(
     alloc: Global,
     draft: &mut Draft,
     keyword: &Token,
     values: &[Token],
 ) -> Result<(), Refusal>
-    ensures { Leaves draft.new result (expired draft.old keyword.now values.now) }
+    ensures { Leaves slip_told draft.new result
+        (draft_with_expiration draft.old keyword.now values.now) }
 {
     if draft.term.expires.is_some() {
         return Err(Refusal::Slip(slip_at(alloc, Code::Repeated, keyword)?));
@@ -98,14 +103,15 @@ fn meet_expiration(
     Ok(())
 }
 
-#[tactic(auto, unfolding(crate::specs::Terms::address_met))]
-fn meet_address(
+#[tactic(auto, unfolding(crate::specs::Terms::term_with_addresses))]
+fn judge_addresses(
     alloc: Global,
     term: &mut RawTerm,
     keyword: &Token,
     values: &[Token],
 ) -> Result<(), Refusal>
-    ensures { Leaves term.new result (address_met term.old keyword.now values.now) }
+    ensures { Leaves slip_told term.new result
+        (term_with_addresses term.old keyword.now values.now) }
 {
     if is_text(keyword, b"source-address::") {
         push_values(alloc, Takes::Name, &mut term.sources, keyword, values)?;
@@ -136,14 +142,15 @@ fn meet_address(
     }
 }
 
-#[tactic(auto, unfolding(crate::specs::Terms::protocol_met))]
-fn meet_protocol(
+#[tactic(auto, unfolding(crate::specs::Terms::term_with_protocols))]
+fn judge_protocols(
     alloc: Global,
     term: &mut RawTerm,
     keyword: &Token,
     values: &[Token],
 ) -> Result<(), Refusal>
-    ensures { Leaves term.new result (protocol_met term.old keyword.now values.now) }
+    ensures { Leaves slip_told term.new result
+        (term_with_protocols term.old keyword.now values.now) }
 {
     if is_text(keyword, b"protocol::") {
         push_values(alloc, Takes::Protocol, &mut term.protocols, keyword, values)?;
@@ -170,18 +177,18 @@ fn meet_protocol(
         )?;
         Ok(())
     } else {
-        meet_address(alloc, term, keyword, values)
+        judge_addresses(alloc, term, keyword, values)
     }
 }
 
-#[tactic(auto, unfolding(crate::specs::Terms::list_met))]
-fn meet_list(
+#[tactic(auto, unfolding(crate::specs::Terms::term_with_lists))]
+fn judge_lists(
     alloc: Global,
     term: &mut RawTerm,
     keyword: &Token,
     values: &[Token],
 ) -> Result<(), Refusal>
-    ensures { Leaves term.new result (list_met term.old keyword.now values.now) }
+    ensures { Leaves slip_told term.new result (term_with_lists term.old keyword.now values.now) }
 {
     if is_text(keyword, b"option::") {
         push_values(alloc, Takes::Opt, &mut term.options, keyword, values)?;
@@ -193,32 +200,32 @@ fn meet_list(
         push_values(alloc, Takes::Name, &mut term.not_platforms, keyword, values)?;
         Ok(())
     } else {
-        meet_protocol(alloc, term, keyword, values)
+        judge_protocols(alloc, term, keyword, values)
     }
 }
 
 /// Judges a keyword of a term with its values, and puts them into the draft.
-#[tactic(auto, unfolding(crate::specs::Terms::term_met))]
-pub(crate) fn meet_term_keyword(
+#[tactic(auto, unfolding(crate::specs::Terms::draft_behind))]
+pub(crate) fn judge_term_keyword(
     alloc: Global,
     draft: &mut Draft,
     keyword: &Token,
     values: &[Token],
 ) -> Result<(), Refusal>
-    ensures { Leaves draft.new result (term_met draft.old keyword.now values.now) }
+    ensures { Leaves slip_told draft.new result (draft_behind draft.old keyword.now values.now) }
 {
     if is_text(keyword, b"comment::") {
-        meet_comment(alloc, draft, keyword, values)
+        judge_comment(alloc, draft, keyword, values)
     } else if is_text(keyword, b"owner::") {
-        meet_owner(alloc, draft, keyword, values)
+        judge_owner(alloc, draft, keyword, values)
     } else if is_text(keyword, b"action::") {
-        meet_action(alloc, draft, keyword, values)
+        judge_action(alloc, draft, keyword, values)
     } else if is_text(keyword, b"logging::") {
-        meet_logging(alloc, draft, keyword, values)
+        judge_logging(alloc, draft, keyword, values)
     } else if is_text(keyword, b"expiration::") {
-        meet_expiration(alloc, draft, keyword, values)
+        judge_expiration(alloc, draft, keyword, values)
     } else {
-        meet_list(alloc, &mut draft.term, keyword, values)?;
+        judge_lists(alloc, &mut draft.term, keyword, values)?;
         Ok(())
     }
 }

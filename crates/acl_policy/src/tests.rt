@@ -1,7 +1,7 @@
 use crate::{Policy, RawTerm, Target, Words, parse, put_target};
 use acl_host::{Day, MemTree, Whole};
 use acl_splice::{Sources, gather};
-use acl_text::{Memory, Refusal, Slip};
+use acl_text::{Bytes, Memory, Refusal, Slip};
 use std::alloc::Global;
 use std::str;
 use std::test::Fail;
@@ -174,6 +174,37 @@ fn the_place_of_a_slip_is_in_the_included_file(rt: HostRuntime) -> Result<(), Fa
     Ok(())
 }
 
+// A block of so many targets and terms, each on a line of its own.
+fn long_policy(alloc: Global, targets: u32, terms: u32) -> Result<Bytes, Memory> {
+    let mut all = Bytes::new(alloc);
+    all.push_all(b"header {\n")?;
+    for number in 0..targets {
+        let line = format!(in alloc; " target:: cisco e{number}\n")?;
+        all.push_all(line.as_bytes())?;
+    }
+    all.push_all(b"}\n")?;
+    for number in 0..terms {
+        let line = format!(in alloc; "term t{number} {{ action:: deny }}\n")?;
+        all.push_all(line.as_bytes())?;
+    }
+    Ok(all)
+}
+
+#[test]
+fn targets_and_terms_are_counted(rt: HostRuntime) -> Result<(), Fail> {
+    let table = [
+        (64, 1, "none"),
+        (65, 1, "0:66 TooMany target::"),
+        (1, 1024, "none"),
+        (1, 1025, "0:1028 TooMany t1024"),
+    ];
+    for (targets, terms, slip) in table {
+        let policy = long_policy(rt.alloc(), targets, terms)?;
+        assert_eq!(rt; first_slip(rt.alloc(), policy.as_slice())?.as_str(), slip);
+    }
+    Ok(())
+}
+
 fn add_words(all: &mut String, words: &Words) -> Result<(), Memory> {
     for word in words.as_slice() {
         all.push_str(text(word.text.as_slice()))?;
@@ -247,8 +278,9 @@ fn policy_of(alloc: Global, bytes: &[u8]) -> Result<String, Memory> {
 #[test]
 fn targets_have_their_defaults(rt: HostRuntime) -> Result<(), Fail> {
     let policy =
-        b"header { comment:: \"x\" target:: cisco e target:: juniper e target:: iptables INPUT target:: nftables inet6 output -5
-        target:: cisco f mixed target:: iptables OUTPUT nostate inet6 DROP } term t { action:: deny }";
+        b"header { comment:: \"x\" target:: cisco e target:: juniper e target:: iptables INPUT
+        target:: nftables inet6 output -5 target:: cisco f mixed
+        target:: iptables OUTPUT nostate inet6 DROP } term t { action:: deny }";
     assert_eq!(rt;
         policy_of(rt.alloc(), policy)?.as_str(),
         "cisco e extended 1 0 Neighbours false;juniper e inet 1 0 Deny false;iptables INPUT inet 1 0 Left true;nftables output inet6 1 -5 Deny true;cisco f mixed 2 0 Neighbours false;iptables OUTPUT inet6 2 0 Deny false;t||||||||deny false none"
@@ -259,8 +291,9 @@ fn targets_have_their_defaults(rt: HostRuntime) -> Result<(), Fail> {
 #[test]
 fn the_words_of_a_term(rt: HostRuntime) -> Result<(), Fail> {
     let policy = b"header { target:: cisco e } term t { source-address:: A B# c
-        comment:: \"\" \"a # b\" source-address::C protocol:: 6 tcp destination-port:: term icmp-type:: echo-reply packet-too-big
-        option:: rst owner:: \"me\" logging:: True expiration:: 2026-01-15 platform:: arista comment:: \"c\" action:: reject }";
+        comment:: \"\" \"a # b\" source-address::C protocol:: 6 tcp destination-port:: term
+        icmp-type:: echo-reply packet-too-big option:: rst owner:: \"me\" logging:: True
+        expiration:: 2026-01-15 platform:: arista comment:: \"c\" action:: reject }";
     assert_eq!(rt;
         policy_of(rt.alloc(), policy)?.as_str(),
         "cisco e extended 1 0 Neighbours false;t| a # b c|A B C |6 tcp |term |echo-reply packet-too-big |rst |arista |reject true 20468"

@@ -1,11 +1,7 @@
 ghost use Rattle.std.specs.Prelude.{◌≡◌, ◌++◌, IfOk, OnOk, map};
-ghost use Rattle.std.specs.List.{list_all};
 ghost use Rattle.std.specs.Str.{bytes_eq};
-ghost use Rattle.acl_policy.specs.Steps.{Gives, Leaves};
+ghost use Rattle.acl_text.specs.Answers.{Gives, Leaves, slip_told};
 ghost use Rattle.acl_policy.specs.Values.{
-  is_letter,
-  is_name_byte,
-  is_name,
   is_action,
   is_option,
   is_logging,
@@ -15,18 +11,18 @@ ghost use Rattle.acl_policy.specs.Values.{
   text_fits,
   form_fits,
   is_value,
-  kept,
+  word_of,
   all_values,
-  valued,
-  listed,
-  single,
+  some_values,
+  words_with,
+  one_value,
 };
 
-use crate::days::day_of;
-use crate::entries::{Word, Words};
-use crate::slips::{refused_at, slip_at};
+use crate::named_days::day_of;
+use crate::raw_terms::{Word, Words};
+use crate::word_slips::{slip_at, slip_for};
 use acl_packet::{Family, icmp_number, protocol_number};
-use acl_text::{Bytes, Code, Memory, Refusal};
+use acl_text::{Bytes, Code, Memory, Refusal, is_name};
 use acl_words::{Form, Token};
 use std::alloc::Global;
 
@@ -51,30 +47,6 @@ pub(crate) fn is_text(word: &Token, text: &[u8]) -> bool
     ensures { result ≡ bytes_eq word.now.text text.now }
 {
     word.text.as_slice() == text
-}
-
-pub(crate) fn is_letter(byte: u8) -> bool
-    ensures { result ≡ is_letter byte }
-{
-    (b'A' <= byte && byte <= b'Z') || (b'a' <= byte && byte <= b'z')
-}
-
-pub(crate) fn is_name_byte(byte: u8) -> bool
-    ensures { result ≡ is_name_byte byte }
-{
-    is_letter(byte) || (b'0' <= byte && byte <= b'9') || byte == b'-' || byte == b'_'
-}
-
-pub(crate) fn all_name_bytes(text: &[u8]) -> bool
-    ensures { result ≡ list_all is_name_byte text.now }
-{
-    text.iter().all(|byte| is_name_byte(*byte))
-}
-
-fn is_name(text: &[u8]) -> bool
-    ensures { result ≡ is_name text.now }
-{
-    0 < text.len() && text.len() <= 128 && all_name_bytes(text)
 }
 
 fn is_action(text: &[u8]) -> bool
@@ -153,8 +125,8 @@ pub(crate) fn is_value(kind: Takes, word: &Token) -> bool
 }
 
 /// A copy of the word.
-pub(crate) fn keep(alloc: Global, word: &Token) -> Result<Word, Memory>
-    ensures { IfOk result (λ w. w ≡ kept word.now) }
+pub(crate) fn word_of(alloc: Global, word: &Token) -> Result<Word, Memory>
+    ensures { IfOk result (λ w. w ≡ word_of word.now) }
 {
     Ok(Word {
         place: word.place,
@@ -163,11 +135,11 @@ pub(crate) fn keep(alloc: Global, word: &Token) -> Result<Word, Memory>
 }
 
 fn check_all(alloc: Global, kind: Takes, values: &[Token]) -> Result<(), Refusal>
-    ensures { Gives result (all_values kind values.now) }
+    ensures { Gives slip_told result (all_values kind values.now) }
 {
     for value in values {
         if !is_value(kind, value) {
-            return Err(Refusal::Slip(refused_at(alloc, Code::Value, value)?));
+            return Err(Refusal::Slip(slip_for(alloc, Code::Value, value)?));
         }
     }
     Ok(())
@@ -180,7 +152,7 @@ pub(crate) fn check_values(
     keyword: &Token,
     values: &[Token],
 ) -> Result<(), Refusal>
-    ensures { Gives result (valued kind keyword.now values.now) }
+    ensures { Gives slip_told result (some_values kind keyword.now values.now) }
 {
     match values {
         [] => Err(Refusal::Slip(slip_at(alloc, Code::Missing, keyword)?)),
@@ -188,11 +160,11 @@ pub(crate) fn check_values(
     }
 }
 
-fn keep_all(alloc: Global, words: &mut Words, values: &[Token]) -> Result<(), Memory>
-    ensures { OnOk result (words.new ≡ words.old ++ map kept values.now) }
+fn push_all(alloc: Global, words: &mut Words, values: &[Token]) -> Result<(), Memory>
+    ensures { OnOk result (words.new ≡ words.old ++ map word_of values.now) }
 {
     for value in values {
-        words.push(keep(alloc, value)?)?;
+        words.push(word_of(alloc, value)?)?;
     }
     Ok(())
 }
@@ -205,10 +177,10 @@ pub(crate) fn push_values(
     keyword: &Token,
     values: &[Token],
 ) -> Result<(), Refusal>
-    ensures { Leaves words.new result (listed kind keyword.now values.now words.old) }
+    ensures { Leaves slip_told words.new result (words_with kind keyword.now values.now words.old) }
 {
     check_values(alloc, kind, keyword, values)?;
-    keep_all(alloc, words, values)?;
+    push_all(alloc, words, values)?;
     Ok(())
 }
 
@@ -219,14 +191,14 @@ pub(crate) fn one_value(
     keyword: &Token,
     values: &[Token],
 ) -> Result<Word, Refusal>
-    ensures { Gives result (single kind keyword.now values.now) }
+    ensures { Gives slip_told result (one_value kind keyword.now values.now) }
 {
     match values {
         [] => Err(Refusal::Slip(slip_at(alloc, Code::Missing, keyword)?)),
         [value, ..] if !is_value(kind, value) => {
-            Err(Refusal::Slip(refused_at(alloc, Code::Value, value)?))
+            Err(Refusal::Slip(slip_for(alloc, Code::Value, value)?))
         }
-        [value] => Ok(keep(alloc, value)?),
-        [_, second, ..] => Err(Refusal::Slip(refused_at(alloc, Code::Value, second)?)),
+        [value] => Ok(word_of(alloc, value)?),
+        [_, second, ..] => Err(Refusal::Slip(slip_for(alloc, Code::Value, second)?)),
     }
 }

@@ -1,0 +1,19 @@
+use crate::filters::Targets;
+use crate::raw_terms::RawTerms;
+use acl_text::Items;
+
+/// A header's targets and the terms behind it.
+#[derive(Debug, Drop)]
+pub struct Block {
+    pub targets: Targets,
+    pub terms: RawTerms,
+}
+
+/// A list of blocks.
+pub type Blocks = Items<Block>;
+
+/// A policy: its blocks in order.
+#[derive(Debug, Drop)]
+pub struct Policy {
+    pub blocks: Blocks,
+}

@@ -1,0 +1,85 @@
+ghost use Rattle.std.specs.Prelude.{◌≡◌, [], ◌++◌, IfOk, OnOk};
+ghost use Rattle.acl_policy.specs.Terms.{draft_of, no_draft, with_comment, with_comments};
+
+use crate::raw_terms::{RawTerm, Word};
+use acl_text::{Bytes, Items, Memory, Place};
+use acl_words::Token;
+use std::alloc::Global;
+
+/// A term whose braces are open, and what stood in it already.
+#[derive(Drop)]
+pub(crate) struct Draft {
+    pub(crate) term: RawTerm,
+    /// Whether a string of `comment::` stood there: strings may be empty.
+    pub(crate) has_comment: bool,
+    pub(crate) has_owner: bool,
+    pub(crate) has_action: bool,
+}
+
+/// The draft of a term of the name, before its first keyword.
+pub(crate) fn draft_of(alloc: Global, name: Word) -> Draft
+    ensures { result ≡ draft_of name }
+{
+    let action = Word {
+        place: Place { file: 0, line: 0 },
+        text: Bytes::new(alloc),
+    };
+    let term = RawTerm {
+        name,
+        comments: Bytes::new(alloc),
+        action,
+        sources: Items::new(alloc),
+        source_excludes: Items::new(alloc),
+        destinations: Items::new(alloc),
+        destination_excludes: Items::new(alloc),
+        protocols: Items::new(alloc),
+        source_ports: Items::new(alloc),
+        destination_ports: Items::new(alloc),
+        icmp_types: Items::new(alloc),
+        options: Items::new(alloc),
+        logging: false,
+        expires: None,
+        platforms: Items::new(alloc),
+        not_platforms: Items::new(alloc),
+    };
+    Draft {
+        term,
+        has_comment: false,
+        has_owner: false,
+        has_action: false,
+    }
+}
+
+/// What stands where no term is open.
+pub(crate) fn no_draft(alloc: Global) -> Draft
+    ensures { result ≡ no_draft }
+{
+    draft_of(
+        alloc,
+        Word {
+            place: Place { file: 0, line: 0 },
+            text: Bytes::new(alloc),
+        },
+    )
+}
+
+fn add_comment(draft: &mut Draft, text: &[u8]) -> Result<(), Memory>
+    ensures { OnOk result (draft.new ≡ with_comment draft.old text.now) }
+{
+    if draft.has_comment {
+        draft.term.comments.push_all(b" ")?;
+    }
+    draft.term.comments.push_all(text)?;
+    draft.has_comment = true;
+    Ok(())
+}
+
+/// Adds the strings to the term's comment.
+pub(crate) fn add_comments(draft: &mut Draft, values: &[Token]) -> Result<(), Memory>
+    ensures { OnOk result (draft.new ≡ with_comments draft.old values.now) }
+{
+    for value in values {
+        add_comment(draft, value.text.as_slice())?;
+    }
+    Ok(())
+}
