@@ -2,7 +2,7 @@ ghost use Rattle.std.specs.Prelude.{◌≡◌, ◌≤◌, ◌<◌, ◌++◌, tru
 ghost use Rattle.std.specs.String.{string_bytes};
 ghost use Rattle.acl_text.specs.Output.{Rose};
 ghost use Rattle.acl_splice.specs.IncludeLines.{is_path, asked_in};
-ghost use Rattle.acl_splice.specs.Labels.{AreOfFiles};
+ghost use Rattle.acl_splice.specs.Labels.{GoesOn};
 ghost use Rattle.acl_splice.specs.Splicing.{behind_line, behind_file, behind_include};
 ghost use Rattle.acl_text.specs.Answers.{Leaves};
 ghost use Rattle.acl_host.specs.Outside.{OnlyReads};
@@ -10,8 +10,8 @@ ghost use Rattle.acl_host.specs.WholeFiles.{read_told};
 
 use crate::include_lines::{Asked, asked_in};
 use crate::line_faults::line_fault;
-use crate::partial_splices::{MOST_OF_FILE, PartialSplice};
 use crate::lines_and_folders::first_line;
+use crate::partial_splices::{MOST_OF_FILE, PartialSplice};
 use acl_host::{ReadFault, Tree, TreeFault};
 use acl_text::{Code, Place};
 use std::alloc::{AllocError, Global};
@@ -61,8 +61,7 @@ fn include_file<T: Tree>(
         tree.old tree.new }
     ensures outside { IsErrOf result ReadFault.Outside
         → Rose (T.read_faults tree.old) (T.read_faults tree.new) }
-    ensures labels { OnOk result (length sources.old.labels ≤ length sources.new.labels) }
-    ensures files { OnOk result (AreOfFiles sources.new) }
+    ensures goes_on { OnOk result (GoesOn sources.old sources.new) }
 {
     if levels == 0 {
         return Err(ReadFault::Fault(line_fault(alloc, Code::IncludeDepth, label, line, path)?));
@@ -114,8 +113,7 @@ fn meet_line<T: Tree>(
         tree.old tree.new }
     ensures outside { IsErrOf result ReadFault.Outside
         → Rose (T.read_faults tree.old) (T.read_faults tree.new) }
-    ensures labels { OnOk result (length sources.old.labels ≤ length sources.new.labels) }
-    ensures files { OnOk result (AreOfFiles sources.new) }
+    ensures goes_on { OnOk result (GoesOn sources.old sources.new) }
 {
     match asked_in(text) {
         Asked::Nothing => {
@@ -153,8 +151,8 @@ pub(crate) fn add_file<T: Tree>(
         tree.old tree.new }
     ensures outside { IsErrOf result ReadFault.Outside
         → Rose (T.read_faults tree.old) (T.read_faults tree.new) }
-    ensures labels { OnOk result (length sources.old.labels < length sources.new.labels) }
-    ensures files { OnOk result (AreOfFiles sources.new) }
+    ensures goes_on { OnOk result (GoesOn sources.old sources.new) }
+    ensures labels { OnOk result (0 < length sources.new.labels) }
 {
     if sources.is_too_long(bytes.len()) {
         return Err(ReadFault::Fault(line_fault(alloc, Code::TooLong, label, 0, b"")?));
