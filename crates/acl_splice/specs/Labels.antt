@@ -1,5 +1,5 @@
 -- The labels of the files from which a policy is read.
-use Rattle.std.specs.Prelude.{ℕ, ◌<◌, List, length, slice_get, IsSome}
+use Rattle.std.specs.Prelude.{ℕ, ◌<◌, ◌≤◌, List, length, slice_get, IsSome}
 use Rattle.std.specs.List.{All}
 use Rattle.acl_text.specs.declared.faults.Place.{Place}
 use Rattle.acl_splice.specs.Splices.{Splice}
@@ -16,3 +16,8 @@ pub record IsLabelled (s : Splice) : Type 0 where
 -- The files of the lines are among those that have been met so far.
 abbrev pub AreOfFiles : Splice → Type 0
 AreOfFiles s = All (λ l. l.place.file < length s.labels) s.lines
+
+-- What was read goes on: no label is lost, and the files of the lines are among those that have been met.
+pub record GoesOn (old new : Splice) : Type 0 where
+  pub labels_stay : length old.labels ≤ length new.labels
+  pub files_are : AreOfFiles new

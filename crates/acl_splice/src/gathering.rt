@@ -8,10 +8,10 @@ ghost use Rattle.acl_text.specs.Answers.{Gives, Leaves};
 ghost use Rattle.acl_host.specs.WholeFiles.{ReadsFiles, read_told};
 
 use crate::line_faults::line_fault;
+use crate::lines_and_folders::folder_of;
 use crate::partial_splices::{MOST_OF_FILE, PartialSplice};
 use crate::sources::Sources;
 use crate::splicing::add_file;
-use crate::lines_and_folders::folder_of;
 use acl_host::{ReadFault, Tree, TreeFault};
 use acl_text::Code;
 use std::alloc::Global;

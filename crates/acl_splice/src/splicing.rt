@@ -1,15 +1,15 @@
 ghost use Rattle.std.specs.Prelude.{◌≡◌, ◌≤◌, ◌<◌, ◌++◌, true, length, IfSome, IfOk, OnOk};
 ghost use Rattle.std.specs.String.{string_bytes};
 ghost use Rattle.acl_splice.specs.IncludeLines.{is_path, asked_in};
-ghost use Rattle.acl_splice.specs.Labels.{AreOfFiles};
+ghost use Rattle.acl_splice.specs.Labels.{GoesOn};
 ghost use Rattle.acl_splice.specs.Splicing.{behind_line, behind_file, behind_include};
 ghost use Rattle.acl_text.specs.Answers.{Leaves};
 ghost use Rattle.acl_host.specs.WholeFiles.{ReadsFiles, read_told};
 
 use crate::include_lines::{Asked, asked_in};
 use crate::line_faults::line_fault;
-use crate::partial_splices::{MOST_OF_FILE, PartialSplice};
 use crate::lines_and_folders::first_line;
+use crate::partial_splices::{MOST_OF_FILE, PartialSplice};
 use acl_host::{ReadFault, Tree, TreeFault};
 use acl_text::{Code, Place};
 use std::alloc::{AllocError, Global};
@@ -57,8 +57,7 @@ fn include_file<T: Tree>(
         (behind_include levels fs folder.now label.now line path.now sources.old)) }
     ensures reads { ReadsFiles T.files T.begun T.faults T.refusals T.list_faults T.read_faults
         tree.old tree.new result }
-    ensures labels { OnOk result (length sources.old.labels ≤ length sources.new.labels) }
-    ensures files { OnOk result (AreOfFiles sources.new) }
+    ensures goes_on { OnOk result (GoesOn sources.old sources.new) }
 {
     if levels == 0 {
         return Err(ReadFault::Fault(line_fault(alloc, Code::IncludeDepth, label, line, path)?));
@@ -108,8 +107,7 @@ fn meet_line<T: Tree>(
         (asked_in text.now) sources.old)) }
     ensures reads { ReadsFiles T.files T.begun T.faults T.refusals T.list_faults T.read_faults
         tree.old tree.new result }
-    ensures labels { OnOk result (length sources.old.labels ≤ length sources.new.labels) }
-    ensures files { OnOk result (AreOfFiles sources.new) }
+    ensures goes_on { OnOk result (GoesOn sources.old sources.new) }
 {
     match asked_in(text) {
         Asked::Nothing => {
@@ -145,8 +143,8 @@ pub(crate) fn add_file<T: Tree>(
         (behind_file (behind_include levels fs folder.now) label.now bytes.now sources.old)) }
     ensures reads { ReadsFiles T.files T.begun T.faults T.refusals T.list_faults T.read_faults
         tree.old tree.new result }
-    ensures labels { OnOk result (length sources.old.labels < length sources.new.labels) }
-    ensures files { OnOk result (AreOfFiles sources.new) }
+    ensures goes_on { OnOk result (GoesOn sources.old sources.new) }
+    ensures labels { OnOk result (0 < length sources.new.labels) }
 {
     if sources.is_too_long(bytes.len()) {
         return Err(ReadFault::Fault(line_fault(alloc, Code::TooLong, label, 0, b"")?));

@@ -1,6 +1,6 @@
 use Rattle.std.proofs.Common.{◌≡◌, ◌≤◌, ◌+◌, ◌*◌, length, IfSome}
 use Rattle.acl_splice.specs.LinesAndFolders.{lines_of}
-use Rattle.acl_splice.specs.Labels.{AreOfFiles}
+use Rattle.acl_splice.specs.Labels.{GoesOn}
 use Rattle.acl_splice.specs.Splicing.{behind_lines, behind_include}
 use Rattle.acl_host.specs.Outside.{OnlyReads}
 use Rattle.acl_splice.proofs.splicing.+includes.Given as goal
@@ -19,8 +19,7 @@ abbrev pub invariant-add_file-loop-text : goal.invariant-add_file-loop-text
 invariant-add_file-loop-text g l = record {
   reads : OnlyReads g.T.Tree.files g.T.Tree.begun g.T.Out.faults g.T.Out.refusals
       g.T.Tree.list_faults g.T.Tree.read_faults l.fn.tree l.tree;
-  labels : length l.initial.sources.labels ≤ length l.sources.labels;
-  files : AreOfFiles l.sources;
+  read_on : GoesOn l.initial.sources l.sources;
   few : l.line + length l.rest ≤ length l.bytes;
   goes_on : IfSome (g.T.Tree.files l.fn.tree) (λ fs.
       behind_lines (behind_include l.levels fs l.folder) l.label l.file (l.line + 1)
