@@ -9,11 +9,13 @@ mod pieces;
 mod prefix_checks;
 mod rows;
 mod splitting;
+#[cfg(test)]
+mod tests;
 
 pub use comparing::is_text_of;
 pub use drafts::{Draft, read_rows};
 pub use naming::are_distinct;
-pub use pieces::{Address, FreeText, Number, Piece, Wildcard, Word, Words};
+pub use pieces::{Address, FreeText, Number, Piece, Wildcard, Word, Words, put_words};
 pub use prefix_checks::is_prefix_of;
 pub use rows::{Each, Form, Row, Rows};
 pub use splitting::join_words;

@@ -124,7 +124,8 @@ impl<'a> Words for &'a [&'a [u8]] {
     }
 }
 
-fn put_words<O: Out>(words: &[&[u8]], out: &mut O) -> Result<(), PutFault>
+/// Puts the words, each behind a space.
+pub fn put_words<O: Out>(words: &[&[u8]], out: &mut O) -> Result<(), PutFault>
     requires { IsTrue (O.is_open out.old) }
     ensures { Puts O.told O.faults O.refusals O.is_open O.keeps_rest out.old out.new
         (spaced (views words.now)) result }

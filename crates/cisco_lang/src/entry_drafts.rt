@@ -2,7 +2,7 @@ ghost use Rattle.std.specs.Prelude.{◌≡◌, Some, IfSome, ◌<◌, ◌^◌};
 ghost use Rattle.std.specs.List.{fold};
 ghost use Rattle.std.specs.Str.{bytes_eq};
 ghost use Rattle.acl_text.specs.Cuts.{views};
-ghost use Rattle.cisco_lang.specs.ReadingSteps.{draft, everywhere, no_entry, with_place, with_ports, place_of, ports_of, after, proto_named, proto_in, host_in, place_in, length_in, port_in, port_pair, begun, ports_begin, place_named, take_place, test_named, take_test, take_as, take_word, entry_in};
+ghost use Rattle.cisco_lang.specs.ReadingSteps.{draft, everywhere, no_entry, with_place, with_ports, place_of, ports_of, after, proto_in, host_in, place_in, length_in, port_in, port_pair, begun, ports_begin, place_named, take_place, test_named, take_test, take_as, take_word, entry_in};
 
 use crate::documents::{Entry, Flags};
 use acl_packet::{Family, Prefix};
@@ -303,15 +303,9 @@ fn after(end: End) -> Next
 fn protocol_of(family: Family, word: &[u8]) -> Option<u8>
     ensures { result ≡ proto_in family word.now }
 {
-    match read_u8(word, 255) {
-        Some(number) => Some(number),
-        None => protocol_named(family, word),
+    if let Some(number) = read_u8(word, 255) {
+        return Some(number);
     }
-}
-
-fn protocol_named(family: Family, word: &[u8]) -> Option<u8>
-    ensures { result ≡ proto_named family word.now }
-{
     if is(word, "tcp") {
         Some(6)
     } else if is(word, "udp") {

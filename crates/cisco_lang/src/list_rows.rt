@@ -6,7 +6,9 @@ ghost use Rattle.cisco_lang.specs.declared.documents.Item.TheVariants.{Entry as 
 ghost use Rattle.cisco_lang.specs.Texts.{action_word, any_word, families_word, proto_word, masked_words, address_words, ports_words, type_words, flags_words, log_words, end_words, entry_words, item_rows, head_rows, end_rows, list_rows, section_row, section_rows};
 
 use crate::documents::{AccessList, Entry, Flags, Item, Section};
-use acl_grammar::{Address, Each, Form, FreeText, Number, Piece, Row, Rows, Wildcard, Word, Words};
+use acl_grammar::{
+    Address, Each, Form, FreeText, Number, Piece, Row, Rows, Wildcard, Word, Words, put_words,
+};
 use acl_packet::{Families, Family, Prefix};
 use acl_text::{Out, PutFault};
 
@@ -46,9 +48,7 @@ impl Rows for EntryRow {
         };
         let row = Row {
             indent: 1,
-            first: Action {
-                permit: entry.permit,
-            },
+            first: action_word(entry.permit),
             rest: (protocol, (source, (destination, tests))),
         };
         row.put_rows(out)
@@ -149,9 +149,7 @@ impl<'a> Rows for SectionHead<'a> {
                 (
                     Word { piece: self.name },
                     Word {
-                        piece: FamiliesWord {
-                            families: self.families,
-                        },
+                        piece: families_word(self.families),
                     },
                 ),
             ),
@@ -160,37 +158,28 @@ impl<'a> Rows for SectionHead<'a> {
     }
 }
 
-#[derive(Drop)]
-struct FamiliesWord {
-    families: Families,
-}
-
-impl Piece for FamiliesWord {
-    ghost text = { λ w. families_word w.families };
-
-    fn put_into<O: Out>(&self, out: &mut O) -> Result<(), PutFault> {
-        match self.families {
-            Families::Inet => out.put(b"extended"),
-            Families::Inet6 => out.put(b"inet6"),
-            Families::Mixed => out.put(b"mixed"),
-        }
+fn families_word(families: Families) -> &'static [u8]
+    ensures { result.now ≡ families_word families }
+{
+    match families {
+        Families::Inet => b"extended",
+        Families::Inet6 => b"inet6",
+        Families::Mixed => b"mixed",
     }
 }
 
-#[derive(Drop)]
-struct Action {
-    permit: bool,
+fn action_word(permit: bool) -> &'static [u8]
+    ensures { result.now ≡ action_word permit }
+{
+    if permit { b"permit" } else { b"deny" }
 }
 
-impl Piece for Action {
-    ghost text = { λ a. action_word a.permit };
-
-    fn put_into<O: Out>(&self, out: &mut O) -> Result<(), PutFault> {
-        if self.permit {
-            out.put(b"permit")
-        } else {
-            out.put(b"deny")
-        }
+fn any_word(family: Family) -> &'static [u8]
+    ensures { result.now ≡ any_word family }
+{
+    match family {
+        Family::V4 => b"ip",
+        Family::V6 => b"ipv6",
     }
 }
 
@@ -206,7 +195,7 @@ impl Piece for Protocol {
     #[tactic(auto, unfolding(crate::specs::Texts::proto_word))]
     fn put_into<O: Out>(&self, out: &mut O) -> Result<(), PutFault> {
         match self.number {
-            None => put_any(self.family, out),
+            None => out.put(any_word(self.family)),
             Some(6) => out.put(b"tcp"),
             Some(17) => out.put(b"udp"),
             Some(number) => {
@@ -218,17 +207,6 @@ impl Piece for Protocol {
                 }
             }
         }
-    }
-}
-
-fn put_any<O: Out>(family: Family, out: &mut O) -> Result<(), PutFault>
-    requires { IsTrue (O.is_open out.old) }
-    ensures { Puts O.told O.faults O.refusals O.is_open O.keeps_rest out.old out.new
-        (any_word family) result }
-{
-    match family {
-        Family::V4 => out.put(b"ip"),
-        Family::V6 => out.put(b"ipv6"),
     }
 }
 
@@ -264,13 +242,16 @@ impl Words for Place {
     #[tactic(auto, unfolding(crate::specs::Texts::address_words))]
     fn put_spaced<O: Out>(&self, out: &mut O) -> Result<(), PutFault> {
         if self.place.len == 0 {
-            let any: &[&[u8]] = &[b"any"];
-            any.put_spaced(out)
+            put_words(&[b"any"], out)
         } else if self.place.len == self.family.width() {
             let host = Word {
                 piece: b"host".as_slice(),
             };
-            (host, Word { piece: self.address() }).put_spaced(out)
+            let address = Address {
+                family: self.family,
+                address: self.place.first,
+            };
+            (host, Word { piece: address }).put_spaced(out)
         } else {
             self.put_masked(out)
         }
@@ -278,15 +259,6 @@ impl Words for Place {
 }
 
 impl Place {
-    fn address(&self) -> Address
-        ensures { result ≡ record { family = self.now.family; address = self.now.place.first } }
-    {
-        Address {
-            family: self.family,
-            address: self.place.first,
-        }
-    }
-
     fn put_masked<O: Out>(&self, out: &mut O) -> Result<(), PutFault>
         requires { IsTrue (O.is_open out.old) }
         ensures { Puts O.told O.faults O.refusals O.is_open O.keeps_rest out.old out.new
@@ -294,10 +266,14 @@ impl Place {
     {
         match self.family {
             Family::V4 => {
+                let address = Address {
+                    family: self.family,
+                    address: self.place.first,
+                };
                 let wildcard = Wildcard {
                     len: self.place.len,
                 };
-                (Word { piece: self.address() }, Word { piece: wildcard }).put_spaced(out)
+                (Word { piece: address }, Word { piece: wildcard }).put_spaced(out)
             }
             Family::V6 => Word { piece: self.place }.put_spaced(out),
         }
@@ -371,19 +347,11 @@ impl Words for Test {
     fn put_spaced<O: Out>(&self, out: &mut O) -> Result<(), PutFault> {
         match self.flags {
             None => Ok(()),
-            Some(Flags::Established) => put_keywords(&[b"established"], out),
-            Some(Flags::Rst) => put_keywords(&[b"rst"], out),
-            Some(Flags::SynNotAck) => put_keywords(&[b"match-all", b"+syn", b"-ack"], out),
+            Some(Flags::Established) => put_words(&[b"established"], out),
+            Some(Flags::Rst) => put_words(&[b"rst"], out),
+            Some(Flags::SynNotAck) => put_words(&[b"match-all", b"+syn", b"-ack"], out),
         }
     }
-}
-
-fn put_keywords<O: Out>(words: &[&[u8]], out: &mut O) -> Result<(), PutFault>
-    requires { IsTrue (O.is_open out.old) }
-    ensures { Puts O.told O.faults O.refusals O.is_open O.keeps_rest out.old out.new
-        (spaced (views words.now)) result }
-{
-    words.put_spaced(out)
 }
 
 #[derive(Drop)]
@@ -397,10 +365,7 @@ impl Words for Log {
     #[tactic(auto, unfolding(crate::specs::Texts::log_words))]
     fn put_spaced<O: Out>(&self, out: &mut O) -> Result<(), PutFault> {
         if self.log {
-            let log = Word {
-                piece: b"log".as_slice(),
-            };
-            log.put_spaced(out)
+            put_words(&[b"log"], out)
         } else {
             Ok(())
         }

@@ -123,25 +123,10 @@ fn is_item(family: Family, item: &Item) -> bool
 fn is_entry(family: Family, entry: &Entry) -> bool
     ensures { result ≡ is_entry family entry.now }
 {
-    are_ends(family, entry) && are_tests(family, entry)
-}
-
-fn are_ends(family: Family, entry: &Entry) -> bool
-    ensures { result ≡ is_end family entry.now.src entry.now.sport && is_end family entry.now.dst entry.now.dport }
-{
-    is_end(family, &entry.src, entry.sport) && is_end(family, &entry.dst, entry.dport)
-}
-
-fn are_tests(family: Family, entry: &Entry) -> bool
-    ensures { result ≡ (is_number 1 255 entry.now.proto && is_number 0 254 entry.now.itype) && parts_fit family entry.now }
-{
-    are_numbers(entry) && parts_fit(family, entry)
-}
-
-fn are_numbers(entry: &Entry) -> bool
-    ensures { result ≡ is_number 1 255 entry.now.proto && is_number 0 254 entry.now.itype }
-{
-    is_number(1, 255, entry.proto) && is_number(0, 254, entry.itype)
+    if !is_end(family, &entry.src, entry.sport) || !is_end(family, &entry.dst, entry.dport) {
+        return false;
+    }
+    is_number(1, 255, entry.proto) && is_number(0, 254, entry.itype) && parts_fit(family, entry)
 }
 
 fn is_end(family: Family, place: &Prefix, ports: Option<(u16, u16)>) -> bool
