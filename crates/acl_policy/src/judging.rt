@@ -19,6 +19,7 @@ ghost use Rattle.acl_policy.specs.Policies.{
 use crate::blocks::Block;
 use crate::choices::is_word;
 use crate::clashes::{clashes, count_of};
+use crate::clauses::Clause;
 use crate::copies::copy_target;
 use crate::raw_terms::RawTerm;
 use crate::states::{Part, State};
@@ -64,20 +65,19 @@ fn judge_target(
 fn judge_header_keyword(
     alloc: Global,
     state: &mut State,
-    keyword: &Token,
-    values: &[Token],
+    clause: &Clause<'_>,
 ) -> Result<(), Refusal>
     ensures { Leaves slip_told state.new result
-        (behind_header_keyword state.old keyword.now values.now) }
+        (behind_header_keyword state.old clause.now.keyword.now clause.now.values.now) }
 {
-    if is_text(keyword, b"comment::") {
-        check_values(alloc, Takes::String, keyword, values)?;
+    if is_text(clause.keyword, b"comment::") {
+        check_values(alloc, Takes::String, clause)?;
         Ok(())
-    } else if is_text(keyword, b"target::") {
-        let named = read_target_line(alloc, keyword, values)?;
-        judge_target(alloc, state, keyword, named)
+    } else if is_text(clause.keyword, b"target::") {
+        let named = read_target_line(alloc, clause)?;
+        judge_target(alloc, state, clause.keyword, named)
     } else {
-        Err(Refusal::Slip(slip_at(alloc, Code::Keyword, keyword)?))
+        Err(Refusal::Slip(slip_at(alloc, Code::Keyword, clause.keyword)?))
     }
 }
 
@@ -200,19 +200,18 @@ fn judge_keyword(
     alloc: Global,
     part: Part,
     state: &mut State,
-    keyword: &Token,
-    values: &[Token],
+    clause: &Clause<'_>,
 ) -> Result<(), Refusal>
     ensures { Leaves slip_told state.new result
-        (behind_keyword part state.old keyword.now values.now) }
+        (behind_keyword part state.old clause.now.keyword.now clause.now.values.now) }
 {
     match part {
-        Part::InHeader => judge_header_keyword(alloc, state, keyword, values),
+        Part::InHeader => judge_header_keyword(alloc, state, clause),
         Part::InTerm => {
-            judge_term_keyword(alloc, &mut state.draft, keyword, values)?;
+            judge_term_keyword(alloc, &mut state.draft, clause)?;
             Ok(())
         }
-        _ => Err(Refusal::Slip(slip_at(alloc, Code::Syntax, keyword)?)),
+        _ => Err(Refusal::Slip(slip_at(alloc, Code::Syntax, clause.keyword)?)),
     }
 }
 
@@ -273,21 +272,20 @@ fn judge_end(alloc: Global, part: Part, state: &mut State, brace: &Token) -> Res
 pub(crate) fn judge_mark(
     alloc: Global,
     state: &mut State,
-    mark: &Token,
-    values: &[Token],
+    clause: &Clause<'_>,
 ) -> Result<(), Refusal>
-    ensures { Leaves slip_told state.new result
-        (behind_mark mark.now.form state.old mark.now values.now) }
+    ensures { Leaves slip_told state.new result (behind_mark clause.now.keyword.now.form state.old
+        clause.now.keyword.now clause.now.values.now) }
 {
-    match mark.form {
-        Form::Keyword => judge_keyword(alloc, state.part, state, mark, values),
+    match clause.keyword.form {
+        Form::Keyword => judge_keyword(alloc, state.part, state, clause),
         Form::Begin => {
-            judge_begin(alloc, state.part, state, mark)?;
-            judge_words(alloc, state, values)
+            judge_begin(alloc, state.part, state, clause.keyword)?;
+            judge_words(alloc, state, clause.values)
         }
         _ => {
-            judge_end(alloc, state.part, state, mark)?;
-            judge_words(alloc, state, values)
+            judge_end(alloc, state.part, state, clause.keyword)?;
+            judge_words(alloc, state, clause.values)
         }
     }
 }

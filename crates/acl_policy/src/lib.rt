@@ -4,6 +4,7 @@
 mod blocks;
 mod choices;
 mod clashes;
+mod clauses;
 mod copies;
 mod filters;
 mod judging;

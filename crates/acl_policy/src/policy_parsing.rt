@@ -19,6 +19,7 @@ ghost use Rattle.acl_policy.specs.Policies.{
 };
 
 use crate::blocks::Policy;
+use crate::clauses::Clause;
 use crate::judging::{end_block, judge_mark, judge_words};
 use crate::states::{Part, State};
 use crate::term_drafts::no_draft;
@@ -65,7 +66,11 @@ fn judge_marks(alloc: Global, state: &mut State, words: &[Token]) -> Result<(), 
 {
     for (i, word) in words.iter().enumerate() {
         if is_mark(word.form) {
-            judge_mark(alloc, state, word, values_of(&words[i + 1..]))?;
+            let clause = Clause {
+                keyword: word,
+                values: values_of(&words[i + 1..]),
+            };
+            judge_mark(alloc, state, &clause)?;
         }
     }
     Ok(())

@@ -16,6 +16,7 @@ ghost use Rattle.acl_policy.specs.Targets.{
 };
 
 use crate::choices::{family_word, is_word, read_choices};
+use crate::clauses::Clause;
 use crate::filters::{Ending, Kind, Target};
 use crate::values::is_plain;
 use crate::word_slips::{slip_at, slip_for};
@@ -222,24 +223,20 @@ fn read_nftables(
 
 /// The target of the words behind `target::`, without its number.
 #[tactic(auto, unfolding(crate::specs::Targets::target_line))]
-pub(crate) fn read_target_line(
-    alloc: Global,
-    keyword: &Token,
-    values: &[Token],
-) -> Result<NamedTarget, Refusal>
-    ensures { Gives slip_told result (target_line keyword.now values.now) }
+pub(crate) fn read_target_line(alloc: Global, clause: &Clause<'_>) -> Result<NamedTarget, Refusal>
+    ensures { Gives slip_told result (target_line clause.now.keyword.now clause.now.values.now) }
 {
-    match values {
-        [] => Err(Refusal::Slip(slip_at(alloc, Code::Missing, keyword)?)),
+    match clause.values {
+        [] => Err(Refusal::Slip(slip_at(alloc, Code::Missing, clause.keyword)?)),
         [platform, words @ ..] => {
             if is_word(platform, b"cisco") {
-                read_device(alloc, Kind::Cisco, keyword, platform, words)
+                read_device(alloc, Kind::Cisco, clause.keyword, platform, words)
             } else if is_word(platform, b"juniper") {
-                read_device(alloc, Kind::Juniper, keyword, platform, words)
+                read_device(alloc, Kind::Juniper, clause.keyword, platform, words)
             } else if is_word(platform, b"iptables") {
-                read_iptables(alloc, keyword, platform, words)
+                read_iptables(alloc, clause.keyword, platform, words)
             } else if is_word(platform, b"nftables") {
-                read_nftables(alloc, keyword, platform, words)
+                read_nftables(alloc, clause.keyword, platform, words)
             } else {
                 Err(Refusal::Slip(slip_for(alloc, Code::TargetLine, platform)?))
             }

@@ -12,6 +12,7 @@ ghost use Rattle.acl_policy.specs.Terms.{
   draft_behind,
 };
 
+use crate::clauses::Clause;
 use crate::named_days::day_of;
 use crate::raw_terms::RawTerm;
 use crate::term_drafts::{Draft, add_comments};
@@ -21,186 +22,122 @@ use acl_text::{Code, Refusal};
 use acl_words::Token;
 use std::alloc::Global;
 
-fn judge_comment(
-    alloc: Global,
-    draft: &mut Draft,
-    keyword: &Token,
-    values: &[Token],
-) -> Result<(), Refusal>
+fn judge_comment(alloc: Global, draft: &mut Draft, clause: &Clause<'_>) -> Result<(), Refusal>
     ensures { Leaves slip_told draft.new result
-        (draft_with_comments draft.old keyword.now values.now) }
+        (draft_with_comments draft.old clause.now.keyword.now clause.now.values.now) }
 {
-    check_values(alloc, Takes::String, keyword, values)?;
-    add_comments(draft, values)?;
+    check_values(alloc, Takes::String, clause)?;
+    add_comments(draft, clause.values)?;
     Ok(())
 }
 
-fn judge_owner(
-    alloc: Global,
-    draft: &mut Draft,
-    keyword: &Token,
-    values: &[Token],
-) -> Result<(), Refusal>
+fn judge_owner(alloc: Global, draft: &mut Draft, clause: &Clause<'_>) -> Result<(), Refusal>
     ensures { Leaves slip_told draft.new result
-        (draft_with_owner draft.old keyword.now values.now) }
+        (draft_with_owner draft.old clause.now.keyword.now clause.now.values.now) }
 {
     if draft.has_owner {
-        return Err(Refusal::Slip(slip_at(alloc, Code::Repeated, keyword)?));
+        return Err(Refusal::Slip(slip_at(alloc, Code::Repeated, clause.keyword)?));
     }
-    let _owner = one_value(alloc, Takes::Any, keyword, values)?;
+    let _owner = one_value(alloc, Takes::Any, clause)?;
     draft.has_owner = true;
     Ok(())
 }
 
-fn judge_action(
-    alloc: Global,
-    draft: &mut Draft,
-    keyword: &Token,
-    values: &[Token],
-) -> Result<(), Refusal>
+fn judge_action(alloc: Global, draft: &mut Draft, clause: &Clause<'_>) -> Result<(), Refusal>
     ensures { Leaves slip_told draft.new result
-        (draft_with_action draft.old keyword.now values.now) }
+        (draft_with_action draft.old clause.now.keyword.now clause.now.values.now) }
 {
     if draft.has_action {
-        return Err(Refusal::Slip(slip_at(alloc, Code::Repeated, keyword)?));
+        return Err(Refusal::Slip(slip_at(alloc, Code::Repeated, clause.keyword)?));
     }
-    draft.term.action = one_value(alloc, Takes::Action, keyword, values)?;
+    draft.term.action = one_value(alloc, Takes::Action, clause)?;
     draft.has_action = true;
     Ok(())
 }
 
-fn judge_logging(
-    alloc: Global,
-    draft: &mut Draft,
-    keyword: &Token,
-    values: &[Token],
-) -> Result<(), Refusal>
+fn judge_logging(alloc: Global, draft: &mut Draft, clause: &Clause<'_>) -> Result<(), Refusal>
     ensures { Leaves slip_told draft.new result
-        (draft_with_logging draft.old keyword.now values.now) }
+        (draft_with_logging draft.old clause.now.keyword.now clause.now.values.now) }
 {
     if draft.term.logging {
-        return Err(Refusal::Slip(slip_at(alloc, Code::Repeated, keyword)?));
+        return Err(Refusal::Slip(slip_at(alloc, Code::Repeated, clause.keyword)?));
     }
-    let _word = one_value(alloc, Takes::Logging, keyword, values)?;
+    let _word = one_value(alloc, Takes::Logging, clause)?;
     draft.term.logging = true;
     Ok(())
 }
 
-fn judge_expiration(
-    alloc: Global,
-    draft: &mut Draft,
-    keyword: &Token,
-    values: &[Token],
-) -> Result<(), Refusal>
+fn judge_expiration(alloc: Global, draft: &mut Draft, clause: &Clause<'_>) -> Result<(), Refusal>
     ensures { Leaves slip_told draft.new result
-        (draft_with_expiration draft.old keyword.now values.now) }
+        (draft_with_expiration draft.old clause.now.keyword.now clause.now.values.now) }
 {
     if draft.term.expires.is_some() {
-        return Err(Refusal::Slip(slip_at(alloc, Code::Repeated, keyword)?));
+        return Err(Refusal::Slip(slip_at(alloc, Code::Repeated, clause.keyword)?));
     }
-    let word = one_value(alloc, Takes::Day, keyword, values)?;
+    let word = one_value(alloc, Takes::Day, clause)?;
     draft.term.expires = day_of(word.text.as_slice());
     Ok(())
 }
 
 #[tactic(auto, unfolding(crate::specs::Terms::term_with_addresses))]
-fn judge_addresses(
-    alloc: Global,
-    term: &mut RawTerm,
-    keyword: &Token,
-    values: &[Token],
-) -> Result<(), Refusal>
+fn judge_addresses(alloc: Global, term: &mut RawTerm, clause: &Clause<'_>) -> Result<(), Refusal>
     ensures { Leaves slip_told term.new result
-        (term_with_addresses term.old keyword.now values.now) }
+        (term_with_addresses term.old clause.now.keyword.now clause.now.values.now) }
 {
-    if is_text(keyword, b"source-address::") {
-        push_values(alloc, Takes::Name, &mut term.sources, keyword, values)?;
+    if is_text(clause.keyword, b"source-address::") {
+        push_values(alloc, Takes::Name, &mut term.sources, clause)?;
         Ok(())
-    } else if is_text(keyword, b"source-exclude::") {
-        push_values(
-            alloc,
-            Takes::Name,
-            &mut term.source_excludes,
-            keyword,
-            values,
-        )?;
+    } else if is_text(clause.keyword, b"source-exclude::") {
+        push_values(alloc, Takes::Name, &mut term.source_excludes, clause)?;
         Ok(())
-    } else if is_text(keyword, b"destination-address::") {
-        push_values(alloc, Takes::Name, &mut term.destinations, keyword, values)?;
+    } else if is_text(clause.keyword, b"destination-address::") {
+        push_values(alloc, Takes::Name, &mut term.destinations, clause)?;
         Ok(())
-    } else if is_text(keyword, b"destination-exclude::") {
-        push_values(
-            alloc,
-            Takes::Name,
-            &mut term.destination_excludes,
-            keyword,
-            values,
-        )?;
+    } else if is_text(clause.keyword, b"destination-exclude::") {
+        push_values(alloc, Takes::Name, &mut term.destination_excludes, clause)?;
         Ok(())
     } else {
-        Err(Refusal::Slip(slip_at(alloc, Code::Keyword, keyword)?))
+        Err(Refusal::Slip(slip_at(alloc, Code::Keyword, clause.keyword)?))
     }
 }
 
 #[tactic(auto, unfolding(crate::specs::Terms::term_with_protocols))]
-fn judge_protocols(
-    alloc: Global,
-    term: &mut RawTerm,
-    keyword: &Token,
-    values: &[Token],
-) -> Result<(), Refusal>
+fn judge_protocols(alloc: Global, term: &mut RawTerm, clause: &Clause<'_>) -> Result<(), Refusal>
     ensures { Leaves slip_told term.new result
-        (term_with_protocols term.old keyword.now values.now) }
+        (term_with_protocols term.old clause.now.keyword.now clause.now.values.now) }
 {
-    if is_text(keyword, b"protocol::") {
-        push_values(alloc, Takes::Protocol, &mut term.protocols, keyword, values)?;
+    if is_text(clause.keyword, b"protocol::") {
+        push_values(alloc, Takes::Protocol, &mut term.protocols, clause)?;
         Ok(())
-    } else if is_text(keyword, b"source-port::") {
-        push_values(alloc, Takes::Name, &mut term.source_ports, keyword, values)?;
+    } else if is_text(clause.keyword, b"source-port::") {
+        push_values(alloc, Takes::Name, &mut term.source_ports, clause)?;
         Ok(())
-    } else if is_text(keyword, b"destination-port::") {
-        push_values(
-            alloc,
-            Takes::Name,
-            &mut term.destination_ports,
-            keyword,
-            values,
-        )?;
+    } else if is_text(clause.keyword, b"destination-port::") {
+        push_values(alloc, Takes::Name, &mut term.destination_ports, clause)?;
         Ok(())
-    } else if is_text(keyword, b"icmp-type::") {
-        push_values(
-            alloc,
-            Takes::IcmpType,
-            &mut term.icmp_types,
-            keyword,
-            values,
-        )?;
+    } else if is_text(clause.keyword, b"icmp-type::") {
+        push_values(alloc, Takes::IcmpType, &mut term.icmp_types, clause)?;
         Ok(())
     } else {
-        judge_addresses(alloc, term, keyword, values)
+        judge_addresses(alloc, term, clause)
     }
 }
 
 #[tactic(auto, unfolding(crate::specs::Terms::term_with_lists))]
-fn judge_lists(
-    alloc: Global,
-    term: &mut RawTerm,
-    keyword: &Token,
-    values: &[Token],
-) -> Result<(), Refusal>
-    ensures { Leaves slip_told term.new result (term_with_lists term.old keyword.now values.now) }
+fn judge_lists(alloc: Global, term: &mut RawTerm, clause: &Clause<'_>) -> Result<(), Refusal>
+    ensures { Leaves slip_told term.new result (term_with_lists term.old clause.now.keyword.now clause.now.values.now) }
 {
-    if is_text(keyword, b"option::") {
-        push_values(alloc, Takes::Opt, &mut term.options, keyword, values)?;
+    if is_text(clause.keyword, b"option::") {
+        push_values(alloc, Takes::Opt, &mut term.options, clause)?;
         Ok(())
-    } else if is_text(keyword, b"platform::") {
-        push_values(alloc, Takes::Name, &mut term.platforms, keyword, values)?;
+    } else if is_text(clause.keyword, b"platform::") {
+        push_values(alloc, Takes::Name, &mut term.platforms, clause)?;
         Ok(())
-    } else if is_text(keyword, b"platform-exclude::") {
-        push_values(alloc, Takes::Name, &mut term.not_platforms, keyword, values)?;
+    } else if is_text(clause.keyword, b"platform-exclude::") {
+        push_values(alloc, Takes::Name, &mut term.not_platforms, clause)?;
         Ok(())
     } else {
-        judge_protocols(alloc, term, keyword, values)
+        judge_protocols(alloc, term, clause)
     }
 }
 
@@ -209,23 +146,22 @@ fn judge_lists(
 pub(crate) fn judge_term_keyword(
     alloc: Global,
     draft: &mut Draft,
-    keyword: &Token,
-    values: &[Token],
+    clause: &Clause<'_>,
 ) -> Result<(), Refusal>
-    ensures { Leaves slip_told draft.new result (draft_behind draft.old keyword.now values.now) }
+    ensures { Leaves slip_told draft.new result (draft_behind draft.old clause.now.keyword.now clause.now.values.now) }
 {
-    if is_text(keyword, b"comment::") {
-        judge_comment(alloc, draft, keyword, values)
-    } else if is_text(keyword, b"owner::") {
-        judge_owner(alloc, draft, keyword, values)
-    } else if is_text(keyword, b"action::") {
-        judge_action(alloc, draft, keyword, values)
-    } else if is_text(keyword, b"logging::") {
-        judge_logging(alloc, draft, keyword, values)
-    } else if is_text(keyword, b"expiration::") {
-        judge_expiration(alloc, draft, keyword, values)
+    if is_text(clause.keyword, b"comment::") {
+        judge_comment(alloc, draft, clause)
+    } else if is_text(clause.keyword, b"owner::") {
+        judge_owner(alloc, draft, clause)
+    } else if is_text(clause.keyword, b"action::") {
+        judge_action(alloc, draft, clause)
+    } else if is_text(clause.keyword, b"logging::") {
+        judge_logging(alloc, draft, clause)
+    } else if is_text(clause.keyword, b"expiration::") {
+        judge_expiration(alloc, draft, clause)
     } else {
-        judge_lists(alloc, &mut draft.term, keyword, values)?;
+        judge_lists(alloc, &mut draft.term, clause)?;
         Ok(())
     }
 }

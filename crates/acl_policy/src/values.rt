@@ -18,6 +18,7 @@ ghost use Rattle.acl_policy.specs.Values.{
   one_value,
 };
 
+use crate::clauses::Clause;
 use crate::named_days::day_of;
 use crate::raw_terms::{Word, Words};
 use crate::word_slips::{slip_at, slip_for};
@@ -146,17 +147,12 @@ fn check_all(alloc: Global, kind: Takes, values: &[Token]) -> Result<(), Refusal
 }
 
 /// Checks that the keyword has values, and that each of them is one that it takes.
-pub(crate) fn check_values(
-    alloc: Global,
-    kind: Takes,
-    keyword: &Token,
-    values: &[Token],
-) -> Result<(), Refusal>
-    ensures { Gives slip_told result (some_values kind keyword.now values.now) }
+pub(crate) fn check_values(alloc: Global, kind: Takes, clause: &Clause<'_>) -> Result<(), Refusal>
+    ensures { Gives slip_told result (some_values kind clause.now.keyword.now clause.now.values.now) }
 {
-    match values {
-        [] => Err(Refusal::Slip(slip_at(alloc, Code::Missing, keyword)?)),
-        [_, ..] => check_all(alloc, kind, values),
+    match clause.values {
+        [] => Err(Refusal::Slip(slip_at(alloc, Code::Missing, clause.keyword)?)),
+        [_, ..] => check_all(alloc, kind, clause.values),
     }
 }
 
@@ -174,27 +170,21 @@ pub(crate) fn push_values(
     alloc: Global,
     kind: Takes,
     words: &mut Words,
-    keyword: &Token,
-    values: &[Token],
+    clause: &Clause<'_>,
 ) -> Result<(), Refusal>
-    ensures { Leaves slip_told words.new result (words_with kind keyword.now values.now words.old) }
+    ensures { Leaves slip_told words.new result (words_with kind clause.now.keyword.now clause.now.values.now words.old) }
 {
-    check_values(alloc, kind, keyword, values)?;
-    push_all(alloc, words, values)?;
+    check_values(alloc, kind, clause)?;
+    push_all(alloc, words, clause.values)?;
     Ok(())
 }
 
 /// The value of a keyword that takes one.
-pub(crate) fn one_value(
-    alloc: Global,
-    kind: Takes,
-    keyword: &Token,
-    values: &[Token],
-) -> Result<Word, Refusal>
-    ensures { Gives slip_told result (one_value kind keyword.now values.now) }
+pub(crate) fn one_value(alloc: Global, kind: Takes, clause: &Clause<'_>) -> Result<Word, Refusal>
+    ensures { Gives slip_told result (one_value kind clause.now.keyword.now clause.now.values.now) }
 {
-    match values {
-        [] => Err(Refusal::Slip(slip_at(alloc, Code::Missing, keyword)?)),
+    match clause.values {
+        [] => Err(Refusal::Slip(slip_at(alloc, Code::Missing, clause.keyword)?)),
         [value, ..] if !is_value(kind, value) => {
             Err(Refusal::Slip(slip_for(alloc, Code::Value, value)?))
         }
