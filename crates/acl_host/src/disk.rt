@@ -42,6 +42,12 @@ pub(crate) fn names_in<R: Files + AllocGlobal + Clone + Drop>(
     if found == 0 {
         return Err(TreeFault::Absent);
     }
+    in_order(names)
+}
+
+fn in_order(mut names: FileNames) -> Result<FileNames, TreeFault>
+    ensures { IfOk result AreInByteOrder }
+{
     names.sort()?;
     Ok(names)
 }
