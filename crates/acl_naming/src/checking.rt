@@ -11,8 +11,8 @@ ghost use Rattle.acl_naming.specs.Checking.{
 };
 ghost use Rattle.acl_naming.specs.Reach.{ReachesItself};
 
-use crate::naming_items::{Item, Reference};
 use crate::marking::{has_mark, reached_by_items};
+use crate::naming_items::{Item, Reference};
 use crate::refusals::refusal;
 use crate::settling::settled;
 use crate::tables::Table;

@@ -6,9 +6,9 @@ ghost use Rattle.acl_naming.specs.MarkSteps.{marked};
 ghost use Rattle.acl_naming.specs.Reach.{Reaches};
 ghost use Rattle.acl_naming.specs.LookupSteps.{Collects, IsRangeOf, IsReach, any_item, any_marked, has_number, is_wanted, top_of};
 
-use crate::naming_items::Item;
 use crate::lookups::Lookup;
 use crate::marking::{has_mark, reached};
+use crate::naming_items::Item;
 use crate::tables::Table;
 use acl_packet::Family;
 use acl_sets::{Range, RangeSet};

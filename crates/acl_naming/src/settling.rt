@@ -6,8 +6,8 @@ ghost use Rattle.acl_naming.specs.GraphSteps.{targets};
 ghost use Rattle.acl_naming.specs.MarkSteps.{all_marked};
 ghost use Rattle.acl_naming.specs.SettlingSteps.{IsStepOf, steps_left};
 
-use crate::naming_items::Item;
 use crate::marking::no_marks;
+use crate::naming_items::Item;
 use crate::tables::Table;
 use acl_text::Memory;
 use std::alloc::Global;

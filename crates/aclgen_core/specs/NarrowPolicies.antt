@@ -89,7 +89,7 @@ target_of words = do
   filter ← name cisco.1
   extended ← keyword (codes "extended") filter.1
   if is_end extended.1 && is_filter_name filter.0.text
-    then Some (record { line = target.0.line; name = filter.0.text }) else None
+      then Some (record { line = target.0.line; name = filter.0.text }) else None
 
 -- The name of a term, and the words behind its `{`.
 unfoldable pub term_title : List Word → Option (Word × List Word)

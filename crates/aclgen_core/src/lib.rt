@@ -12,9 +12,9 @@ mod planning;
 mod rendering;
 mod reports;
 mod running;
-mod word_fronts;
 #[cfg(test)]
 mod tests;
+mod word_fronts;
 
 pub use endings::{Ended, Which, status_of};
 pub use running::aclgen;

@@ -46,12 +46,7 @@ pub struct Policy {
     pub terms: Items<Term>,
 }
 
-fn push_word(
-    alloc: Global,
-    words: &mut Items<Word>,
-    line: u32,
-    text: &[u8],
-) -> Result<(), Memory>
+fn push_word(alloc: Global, words: &mut Items<Word>, line: u32, text: &[u8]) -> Result<(), Memory>
     ensures { OnOk result (words.new ≡ words.old ++ numbered line text.now ∷ []) }
 {
     let text = Bytes::from_slice(alloc, text)?;

@@ -19,8 +19,8 @@ ghost use Rattle.aclgen_core.specs.NarrowPolicies.{
 };
 ghost use Rattle.aclgen_core.specs.CodeViews.{target_view, term_view};
 
-use crate::word_fronts::{action_item, address_item, is_end, keyword, name, protocol_item};
 use crate::narrow_policies::{Policy, Target, Term, Word, push_line};
+use crate::word_fronts::{action_item, address_item, is_end, keyword, name, protocol_item};
 use acl_text::{Bytes, Cursor, Items, Memory, is_filter_name};
 use std::alloc::{AllocError, Global};
 

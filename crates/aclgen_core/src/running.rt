@@ -23,9 +23,9 @@ ghost use Rattle.aclgen_core.specs.RunEndings.{
 use crate::command_line::options_of;
 use crate::endings::{Ended, Which};
 use crate::fault_lines::{fault_line, outside_line, usage_line};
+use crate::filter_texts::list_text;
 use crate::planning::make_plan;
 use crate::reports::report_of;
-use crate::filter_texts::list_text;
 use acl_host::{Clock, Sink, Tree, WriteFault, write_file};
 use acl_load::LoadFault;
 use std::alloc::Global;

@@ -183,9 +183,11 @@ ports_read f x Destination None n h = ap (λ r. draft f (record x { dport = r })
 ports_read f x e (Some (low, high)) n h = port_cases (low == high) refl where
   low_again : port_in (decimal low) ≡ low
   low_again = port_again low (omega (arith, h.0, h.1))
+
   pair_read : (a : End) → read (draft f x (Low a)) (decimal low ∷ decimal high ∷ []) ≡ draft f (with_ports a (Some (low, high)) x) (after a)
   pair_read Source = ap (λ l. draft f (record x { sport = Some (l, port_in (decimal high)) }) (after Source)) low_again ∙ ap (λ m. draft f (record x { sport = Some (low, m) }) (after Source)) (port_again high h.1)
   pair_read Destination = ap (λ l. draft f (record x { dport = Some (l, port_in (decimal high)) }) (after Destination)) low_again ∙ ap (λ m. draft f (record x { dport = Some (low, m) }) (after Destination)) (port_again high h.1)
+
   port_cases : (a : Bool) → (low == high) ≡ a → read (draft f x (after e)) (cond a (codes "eq" ∷ decimal low ∷ []) (codes "range" ∷ decimal low ∷ decimal high ∷ [])) ≡ draft f (with_ports e (Some (low, high)) x) (after e)
   port_cases true i =
       ap (λ d. take_word d (decimal low)) (port_begun f x e).0 ∙ ap (λ m. draft f (with_ports e (Some (m, m)) x) (after e)) low_again

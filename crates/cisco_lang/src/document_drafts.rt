@@ -98,7 +98,8 @@ impl DocDraft {
 
     fn begin_section(&mut self, alloc: Global, name: &[u8], kind: &[u8]) -> Result<(), Memory>
         ensures { OnOk result (self.new ≡ record self.old {
-            section = record { name = name.now; families = families_in kind.now; lists = [] } }) }
+          section = record { name = name.now; families = families_in kind.now; lists = [] };
+        }) }
     {
         self.section = Section {
             name: Bytes::from_slice(alloc, name)?,

@@ -37,7 +37,9 @@ impl Rows for EntryRow {
             ports: entry.dport,
         };
         let tests = (
-            IcmpType { number: entry.itype },
+            IcmpType {
+                number: entry.itype,
+            },
             (Test { flags: entry.flags }, Log { log: entry.log }),
         );
         let protocol = Word {

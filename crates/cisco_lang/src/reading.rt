@@ -3,10 +3,10 @@ ghost use Rattle.cisco_lang.specs.declared.documents.Section.{Section};
 ghost use Rattle.cisco_lang.specs.ReadingSteps.{document_in};
 ghost use Rattle.cisco_lang.specs.Texts.{Spells, text_of};
 
-use crate::validity::is_document;
-use crate::documents::{Doc, Section};
 use crate::document_drafts::DocDraft;
+use crate::documents::{Doc, Section};
 use crate::list_rows::Sections;
+use crate::validity::is_document;
 use acl_grammar::{Each, is_text_of, read_rows};
 use acl_text::Memory;
 use std::alloc::Global;

@@ -6,7 +6,9 @@ use crate::documents::{AccessList, Doc, Entry, Flags, Item, Section};
 use acl_packet::{Family, Outcome, Packet, Verdict, has_flag};
 
 const SYN: u8 = 2;
+
 const RST: u8 = 4;
+
 const ACK: u8 = 16;
 
 /// The number of sections of a document.
