@@ -63,9 +63,11 @@ pub takes_front : (text bytes : List ℕ) (place k : ℕ) (other : Option ℕ) �
 takes_front text bytes place k None h e l =
     let last : List ℕ = get_or bytes k 0 ∷ [] in
     let front : take k (drop place text) ≡ take k bytes =
-    ap (λ n. take n (drop place text)) e ∙ same_front (drop place text) bytes ∙ ap (λ n. take n bytes) (sym e) in
-    (k + 1, ap (λ t. t ++ last) (take-add place k text ∙ ap (λ t. take place text ++ t) front)
-        ∙ append_assoc (take place text) (take k bytes) last ∙ ap (λ t. take place text ++ t) (sym (take_more bytes k 0 l)))
+    ap (λ n. take n (drop place text)) e ∙ same_front (drop place text) bytes ∙ ap (λ n. take n bytes) (sym e) in (
+      k + 1,
+      ap (λ t. t ++ last) (take-add place k text ∙ ap (λ t. take place text ++ t) front)
+          ∙ append_assoc (take place text) (take k bytes) last ∙ ap (λ t. take place text ++ t) (sym (take_more bytes k 0 l)),
+    )
 takes_front text bytes place k (Some byte) h e l = absurd (false≢true h)
 
 pub compared_still : (text bytes : List ℕ) (place k : ℕ) → place ≤ length text → k ≡ common (drop place text) bytes → k < length bytes
@@ -82,12 +84,11 @@ first_fault (Some byte) h = absurd (false≢true h)
 pub all_taken : (bytes text : List ℕ) (place : ℕ) (other : Option ℕ) → place ≤ length bytes → is_none other ≡ true
     → Some (taken bytes place other) ≡ Some text → (place ≡ length bytes → bytes ≡ text) × (bytes ≡ text → place ≡ length bytes)
 all_taken bytes text place None fits h e =
-    let same : take place bytes ≡ text = same_Some (take place bytes) text e in
-    (
+    let same : take place bytes ≡ text = same_Some (take place bytes) text e in (
       λ f. sym (ap (λ n. take n bytes) f ∙ take-length bytes) ∙ same,
       λ f.
-      let long : length (take place bytes) ≡ length bytes = ap length (same ∙ sym f) in
-      omega (arith, long, length-take place bytes, fits),
+          let long : length (take place bytes) ≡ length bytes = ap length (same ∙ sym f) in
+          omega (arith, long, length-take place bytes, fits),
     )
 all_taken bytes text place (Some byte) fits h e = absurd (false≢true h)
 

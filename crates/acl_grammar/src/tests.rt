@@ -1,8 +1,8 @@
 ghost use Rattle.std.specs.Prelude.{max};
 
 use crate::{
-    Address, Draft, Each, Form, FreeText, Number, Row, Rows, Wildcard, Word, are_distinct, is_prefix_of,
-    is_text_of, join_words, read_rows,
+    Address, Draft, Each, Form, FreeText, Number, Row, Rows, Wildcard, Word, are_distinct,
+    is_prefix_of, is_text_of, join_words, read_rows,
 };
 use acl_packet::{Family, Prefix};
 use acl_text::{Memory, Out, PutFault};
@@ -65,8 +65,16 @@ fn compares_rows_with_a_text(rt: HostRuntime) {
         indent: 1,
         first: (b"a".as_slice(), b"b".as_slice()),
         rest: (
-            (Word { piece: address }, Word { piece: Wildcard { len: 24 } }),
-            (Some(Word { piece: prefix }), (literals, FreeText { text: b"to all" })),
+            (
+                Word { piece: address },
+                Word {
+                    piece: Wildcard { len: 24 },
+                },
+            ),
+            (
+                Some(Word { piece: prefix }),
+                (literals, FreeText { text: b"to all" }),
+            ),
         ),
     };
     let numbers: &[u8] = &[7, 10];
@@ -78,11 +86,26 @@ fn compares_rows_with_a_text(rt: HostRuntime) {
         },
     );
     let cases = [
-        (" ab 192.0.2.0 0.0.0.255 2001:db8::/32 x y to all\n  number 7\n  number 10\n", true),
-        (" ab 192.0.2.0 0.0.0.255 2001:db8::/32 x y to all\n  number 7\n  number 11\n", false),
-        (" ab 192.0.2.0  0.0.0.255 2001:db8::/32 x y to all\n  number 7\n  number 10\n", false),
-        (" ab 192.0.2.0 0.0.0.255 2001:db8::/32 x y to all\n  number 7\n  number 10", false),
-        (" ab 192.0.2.0 0.0.0.255 2001:db8::/32 x y to all\n  number 7\n  number 10\n\n", false),
+        (
+            " ab 192.0.2.0 0.0.0.255 2001:db8::/32 x y to all\n  number 7\n  number 10\n",
+            true,
+        ),
+        (
+            " ab 192.0.2.0 0.0.0.255 2001:db8::/32 x y to all\n  number 7\n  number 11\n",
+            false,
+        ),
+        (
+            " ab 192.0.2.0  0.0.0.255 2001:db8::/32 x y to all\n  number 7\n  number 10\n",
+            false,
+        ),
+        (
+            " ab 192.0.2.0 0.0.0.255 2001:db8::/32 x y to all\n  number 7\n  number 10",
+            false,
+        ),
+        (
+            " ab 192.0.2.0 0.0.0.255 2001:db8::/32 x y to all\n  number 7\n  number 10\n\n",
+            false,
+        ),
         ("", false),
     ];
     for (text, same) in cases {

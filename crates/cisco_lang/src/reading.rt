@@ -3,16 +3,16 @@ ghost use Rattle.cisco_lang.specs.declared.documents.Section.{Section};
 ghost use Rattle.cisco_lang.specs.ReadingSteps.{document_in};
 ghost use Rattle.cisco_lang.specs.Texts.{Spells, text_of};
 
-use crate::validity::is_document;
-use crate::documents::{Doc, Section};
 use crate::document_drafts::DocDraft;
+use crate::documents::{Doc, Section};
 use crate::list_rows::Sections;
+use crate::validity::is_document;
 use acl_grammar::{Each, is_text_of, read_rows};
 use acl_text::Memory;
 use std::alloc::Global;
 
-/// The document that the bytes spell: `Some` exactly where they spell one, and `None` exactly where they
-/// spell none. The bytes spell a document where it is valid and they are its text.
+/// The document that the bytes spell: `Some` exactly where they spell one, and `None` exactly where
+/// they spell none. The bytes spell a document where it is valid and they are its text.
 #[tactic(auto, using(crate::proofs::DocumentLaws::read_other))]
 pub fn read(alloc: Global, bytes: &[u8]) -> Result<Option<Doc>, Memory>
     ensures some { IfOk result (λ o. IfSome o (λ doc. Spells bytes.now doc)) }
