@@ -2,7 +2,8 @@
 use Rattle.std.specs.Prelude.{◌≡◌, ℕ, ◌≤◌, List, [], ◌∷◌, ◌++◌, length, take, drop, Option, None, Some}
 use Rattle.std.specs.Option.{ForSome}
 
--- The bytes that were taken: those of the text up to a place, and behind them the first that differs.
+-- The bytes that were taken: those of the text up to a place, and behind them the first that
+-- differs.
 abbrev pub taken : List ℕ → ℕ → Option ℕ → List ℕ
 taken text place None = take place text
 taken text place (Some byte) = take place text ++ byte ∷ []

@@ -8,7 +8,8 @@ use crate::splitting::read_row;
 use acl_text::{Memory, split_text};
 use std::alloc::Global;
 
-/// What has been read of a text, row by row. No row is refused: one that means nothing changes nothing.
+/// What has been read of a text, row by row. No row is refused: one that means nothing changes
+/// nothing.
 pub trait Draft {
     ghost step: { Self → Row → Self };
 

@@ -1,5 +1,5 @@
-//! What strict readers and writers of device languages share: pieces with a stated text, rows of words, lenient
-//! reading into a draft, and the comparison of bytes with a text.
+//! What strict readers and writers of device languages share: pieces with a stated text, rows of
+//! words, lenient reading into a draft, and the comparison of bytes with a text.
 #![tactic(auto)]
 
 mod comparing;

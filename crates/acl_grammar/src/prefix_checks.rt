@@ -4,8 +4,8 @@ ghost use Rattle.acl_grammar.specs.PrefixCheckSteps.{is_aligned, is_prefix_of};
 
 use acl_packet::{Family, Prefix};
 
-/// Whether it is a prefix of the family: its length is within the address, its first address is one, and no bit
-/// behind the length is set.
+/// Whether it is a prefix of the family: its length is within the address, its first address is
+/// one, and no bit behind the length is set.
 #[tactic(auto, using(crate::proofs::DecisionLaws::prefix_decides))]
 pub fn is_prefix_of(family: Family, prefix: &Prefix) -> bool
     ensures is { IsTrue result ↔ IsPrefixOf family prefix.now }

@@ -1,17 +1,14 @@
 -- What is written of a document is read again.
-use Rattle.std.proofs.Common.{◌≡◌, ℕ, Bool, true, false, List, [], ◌∷◌, ◌++◌, map, flat_map, codes, Option, None, Some, refl, ap, sym, subst, ◌∙◌, append_assoc, append-nil}
+use Rattle.std.proofs.Common.{◌≡◌, ℕ, Bool, true, false, List, [], ◌∷◌, ◌++◌, map, flat_map, codes, Some, refl, ap, sym, subst, ◌∙◌, append_assoc, append-nil}
 use Rattle.std.specs.List.{fold, AllByRecursion}
-use Rattle.std.specs.Str.{bytes_eq}
-use Rattle.std.proofs.lemmas.Grind.{flat_map-append}
 use Rattle.std.proofs.lemmas.List.Splits.{join_with_byte-slice_split}
 use Rattle.std.proofs.lemmas.List.Sums.{fold-append}
 use Rattle.acl_packet.specs.declared.addresses.Family.{Family}
 use Rattle.acl_packet.specs.declared.addresses.Family.TheVariants.{V4, V6}
 use Rattle.acl_packet.specs.declared.addresses.Families.{Families}
 use Rattle.acl_packet.specs.declared.addresses.Families.TheVariants.{Inet, Inet6, Mixed}
-use Rattle.acl_packet.proofs.PrefixLaws.{first_fits}
-use Rattle.acl_grammar.specs.Rows.{Row, row, words_in, row_text, text_of_rows}
-use Rattle.acl_grammar.specs.RowSteps.{IsRow, IsWord, row_in, rows_in}
+use Rattle.acl_grammar.specs.Rows.{Row}
+use Rattle.acl_grammar.specs.RowSteps.{row_in, rows_in}
 use Rattle.acl_grammar.proofs.RowLaws.{fold-again}
 use Rattle.cisco_lang.specs.declared.documents.Section.{Section}
 use Rattle.cisco_lang.specs.declared.documents.AccessList.{AccessList}
@@ -19,7 +16,7 @@ use Rattle.cisco_lang.specs.declared.documents.Item.{Item}
 use Rattle.cisco_lang.specs.declared.documents.Item.TheVariants.{Remark, Entry as AnEntry}
 use Rattle.cisco_lang.specs.declared.document_drafts.DocDraft.{DocDraft}
 use Rattle.cisco_lang.specs.Documents.{IsItem, IsList, heads_of, IsSection}
-use Rattle.cisco_lang.specs.Texts.{action_word, proto_word, end_words, type_words, flags_words, log_words, entry_words, item_rows, head_rows, end_rows, list_rows, families_word, section_row, section_rows, Spells}
+use Rattle.cisco_lang.specs.Texts.{action_word, proto_word, end_words, type_words, flags_words, log_words, entry_words, item_rows, head_rows, end_rows, list_rows, families_word, section_rows, Spells}
 use Rattle.cisco_lang.specs.ReadingSteps.{no_list, no_section, no_draft, families_in, entry_in, item_in, is_last, end_section, end_list, take_four, take_outer, take_inner, take_row, document_in}
 use Rattle.cisco_lang.proofs.ValidityLaws.{head_of}
 use Rattle.cisco_lang.proofs.EntryReadingLaws.{entry_again}

@@ -1,11 +1,11 @@
 -- What is written of an entry is read again.
-use Rattle.std.proofs.Common.{◌≡◌, ℕ, ◌+◌, ◌-◌, ◌*◌, ◌^◌, ◌<◌, ◌≤◌, Bool, true, false, cond, ◌==◌, List, [], ◌∷◌, ◌++◌, codes, Option, None, Some, option_map, unwrap_or, IfSome, inl, inr, refl, ap, sym, subst, ◌∙◌, arith, lit<}
+use Rattle.std.proofs.Common.{◌≡◌, ℕ, ◌+◌, ◌-◌, ◌*◌, ◌^◌, ◌<◌, ◌≤◌, Bool, true, false, cond, ◌==◌, List, [], ◌∷◌, ◌++◌, codes, Option, None, Some, option_map, unwrap_or, IfSome, inl, inr, refl, ap, sym, subst, ◌∙◌, arith}
 use Rattle.std.specs.Fmt.{decimal}
 use Rattle.std.specs.Int.Count.{count_leading_zeros, leading_unique}
 use Rattle.std.specs.List.{fold}
 use Rattle.std.specs.Option.{option_map_or}
 use Rattle.std.specs.Str.{bytes_eq}
-use Rattle.std.proofs.lemmas.Bool.{cases_eq, eqb-true, eqb-false}
+use Rattle.std.proofs.lemmas.Bool.{cases_eq, eqb-true}
 use Rattle.std.proofs.lemmas.List.Sums.{fold-append}
 use Rattle.std.proofs.lemmas.Nat.{pow_pos}
 use Rattle.std.proofs.Math.Nat.{mul-le-mul_right, zero-mul}
@@ -26,11 +26,10 @@ use Rattle.cisco_lang.specs.declared.documents.Flags.{Flags}
 use Rattle.cisco_lang.specs.declared.documents.Flags.TheVariants.{Established, Rst, SynNotAck}
 use Rattle.cisco_lang.specs.declared.entry_drafts.End.{End}
 use Rattle.cisco_lang.specs.declared.entry_drafts.End.TheVariants.{Source, Destination}
-use Rattle.cisco_lang.specs.declared.entry_drafts.Next.{Next}
-use Rattle.cisco_lang.specs.declared.entry_drafts.Next.TheVariants.{Action, Protocol, Place, Host, Wildcard, Port, Low, High, Tests}
+use Rattle.cisco_lang.specs.declared.entry_drafts.Next.TheVariants.{Place, Wildcard, Port, Low, Tests}
 use Rattle.cisco_lang.specs.declared.entry_drafts.EntryDraft.{EntryDraft}
 use Rattle.cisco_lang.specs.Documents.{IsPortRange, IsEntry}
-use Rattle.cisco_lang.specs.Texts.{action_word, any_word, proto_word, masked_words, address_words, ports_words, type_words, flags_words, log_words, end_words, entry_words}
+use Rattle.cisco_lang.specs.Texts.{action_word, proto_word, masked_words, address_words, ports_words, type_words, flags_words, log_words, end_words, entry_words}
 use Rattle.cisco_lang.specs.ReadingSteps.{draft, everywhere, no_entry, with_place, with_ports, ports_of, after, proto_named, proto_in, host_in, place_in, length_in, port_in, begun, place_named, take_place, test_named, take_test, take_as, take_word, entry_in}
 
 abbrev read : EntryDraft → List (List ℕ) → EntryDraft

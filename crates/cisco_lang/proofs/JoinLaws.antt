@@ -1,6 +1,6 @@
 -- Documents that are joined, and the one without sections.
-use Rattle.std.proofs.Common.{◌≡◌, ℕ, ◌+◌, ◌<◌, zero, suc, false, List, [], ◌∷◌, ◌++◌, length, Option, slice_get, option_and_then, refl, ap, sym, subst, ◌∙◌, arith}
-use Rattle.std.specs.List.{AllByRecursion, IsDistinct}
+use Rattle.std.proofs.Common.{◌≡◌, ℕ, ◌+◌, ◌<◌, false, List, [], ◌++◌, length, option_and_then, refl, ap, sym, subst, ◌∙◌}
+use Rattle.std.specs.List.{IsDistinct}
 use Rattle.std.specs.Str.{bytes_eq}
 use Rattle.std.proofs.lemmas.Grind.{flat_map-append}
 use Rattle.acl_packet.specs.declared.packets.Packet.{Packet}
@@ -8,7 +8,7 @@ use Rattle.acl_grammar.specs.Naming.{in_common}
 use Rattle.acl_grammar.proofs.NamingLaws.{distinct-append}
 use Rattle.acl_grammar.proofs.ListLaws.{all_append, get_left, get_right, joined_text}
 use Rattle.cisco_lang.specs.declared.documents.Section.{Section}
-use Rattle.cisco_lang.specs.Documents.{IsSection, IsDocument, names_of}
+use Rattle.cisco_lang.specs.Documents.{IsSection, names_of}
 use Rattle.cisco_lang.specs.Texts.{section_rows, text_of, Spells}
 use Rattle.cisco_lang.specs.Walks.{section_outcome, outcome_of}
 

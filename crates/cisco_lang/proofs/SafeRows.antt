@@ -1,5 +1,5 @@
 -- Each row of a document can be found again in its text.
-use Rattle.std.proofs.Common.{◌≡◌, ℕ, ◌^◌, ◌<◌, ◌≤◌, Bool, true, false, cond, ◌==◌, List, [], ◌∷◌, ◌++◌, map, flat_map, codes, Option, None, Some, IfSome, refl, subst, sym, arith}
+use Rattle.std.proofs.Common.{◌≡◌, ℕ, ◌≤◌, Bool, true, false, cond, ◌==◌, List, [], ◌∷◌, ◌++◌, map, flat_map, codes, Option, None, Some, IfSome, refl, subst, sym, arith}
 use Rattle.std.specs.Fmt.{decimal}
 use Rattle.std.specs.List.{AllByRecursion}
 use Rattle.acl_packet.specs.declared.addresses.Family.{Family}
@@ -11,9 +11,8 @@ use Rattle.acl_packet.specs.Addresses.{width_of, IsPrefixOf}
 use Rattle.acl_packet.specs.Packets.{icmp_of}
 use Rattle.acl_packet.proofs.PrefixLaws.{first_fits}
 use Rattle.acl_text.specs.AddressTexts.{address_text}
-use Rattle.acl_text.specs.Names.{is_safe_text}
 use Rattle.acl_text.proofs.CutLaws.{has-append}
-use Rattle.acl_grammar.specs.Rows.{Row, row, words_in}
+use Rattle.acl_grammar.specs.Rows.{Row}
 use Rattle.acl_grammar.specs.RowSteps.{begins, IsRow, IsWord}
 use Rattle.acl_grammar.proofs.ListLaws.{all_append, all_flat}
 use Rattle.acl_grammar.proofs.WordLaws.{word, decimal_word, address_word, wildcard_word, prefix_word, name_word, text_words}
@@ -25,7 +24,7 @@ use Rattle.cisco_lang.specs.declared.documents.Entry.{Entry}
 use Rattle.cisco_lang.specs.declared.documents.Flags.{Flags}
 use Rattle.cisco_lang.specs.declared.documents.Flags.TheVariants.{Established, Rst, SynNotAck}
 use Rattle.cisco_lang.specs.Documents.{IsPortRange, IsEntry, IsItem, IsList, heads_of, IsSection}
-use Rattle.cisco_lang.specs.Texts.{action_word, any_word, proto_word, masked_words, address_words, ports_words, type_words, flags_words, log_words, end_words, entry_words, item_rows, head_words, head_rows, end_rows, list_rows, families_word, section_row, section_rows}
+use Rattle.cisco_lang.specs.Texts.{action_word, proto_word, masked_words, address_words, ports_words, type_words, flags_words, log_words, end_words, entry_words, item_rows, head_words, head_rows, end_rows, list_rows, families_word, section_rows}
 use Rattle.cisco_lang.proofs.ValidityLaws.{head_of}
 
 abbrev AreWords : List (List ℕ) → Type 0

@@ -27,7 +27,8 @@ is_proto (Some proto) number = proto == number
 abbrev pub IsPortRange : ℕ × ℕ → Type 0
 IsPortRange ports = (ports.0 ≤ ports.1) × (ports.1 < 65536)
 
--- Ports belong to TCP or UDP, a type to the family's ICMP, flags to TCP, and `match-all` to IPv4 lists.
+-- Ports belong to TCP or UDP, a type to the family's ICMP, flags to TCP, and `match-all` to IPv4
+-- lists.
 abbrev pub match_all_fits : Family → Option Flags → Bool
 match_all_fits V6 (Some SynNotAck) = false
 match_all_fits family flags = true

@@ -79,14 +79,17 @@ proto_named family w =
     else None
 
 unfoldable pub proto_in : Family → List ℕ → Option ℕ
-proto_in family w = option_map_or {U = Option ℕ} (λ n. Some n) (number_in 255 w) (proto_named family w)
+proto_in family w =
+    option_map_or {U = Option ℕ} (λ n. Some n) (number_in 255 w) (proto_named family w)
 
 unfoldable pub host_in : Family → List ℕ → Prefix
-host_in family w = record { family = family; first = unwrap_or (address_in family w) 0; len = width_of family }
+host_in family w =
+    record { family = family; first = unwrap_or (address_in family w) 0; len = width_of family }
 
 -- The prefix that a word begins, in IPv4 that of the address alone.
 unfoldable pub place_in : Family → List ℕ → Option Prefix
-place_in V4 w = option_map {U = Prefix} (λ a. record { family = V4; first = a; len = 32 }) (address_in V4 w)
+place_in V4 w =
+    option_map {U = Prefix} (λ a. record { family = V4; first = a; len = 32 }) (address_in V4 w)
 place_in V6 w = spelled_prefix_in V6 w
 
 -- The length that has the wildcard: as many bits as are not set before the first that is.
@@ -118,28 +121,40 @@ place_named family e end w =
     else ports_begin family e (Place end) Source w
 
 unfoldable pub take_place : Family → Entry → End → List ℕ → EntryDraft
-take_place family e end w = option_map_or {U = EntryDraft} (λ p. begun family end p e) (place_in family w) (place_named family e end w)
+take_place family e end w =
+    option_map_or {U = EntryDraft} (λ p. begun family end p e) (place_in family w)
+    (place_named family e end w)
+
+abbrev pub with_test : Family → Entry → Flags → EntryDraft
+with_test family e flags = draft family (record e { flags = Some flags }) Tests
 
 abbrev pub test_named : Family → Entry → List ℕ → EntryDraft
 test_named family e w =
-    if bytes_eq w (codes "established") then draft family (record e { flags = Some Established }) Tests
-    else if bytes_eq w (codes "rst") then draft family (record e { flags = Some Rst }) Tests
-    else if bytes_eq w (codes "match-all") then draft family (record e { flags = Some SynNotAck }) Tests
+    if bytes_eq w (codes "established") then with_test family e Established
+    else if bytes_eq w (codes "rst") then with_test family e Rst
+    else if bytes_eq w (codes "match-all") then with_test family e SynNotAck
     else if bytes_eq w (codes "log") then draft family (record e { log = true }) Tests
     else ports_begin family e Tests Destination w
 
 unfoldable pub take_test : Family → Entry → List ℕ → EntryDraft
-take_test family e w = option_map_or {U = EntryDraft} (λ n. draft family (record e { itype = Some n }) Tests) (number_in 254 w) (test_named family e w)
+take_test family e w =
+    option_map_or {U = EntryDraft} (λ n. draft family (record e { itype = Some n }) Tests)
+    (number_in 254 w) (test_named family e w)
 
 unfoldable pub take_as : Family → Entry → Next → List ℕ → EntryDraft
-take_as family e Action w = draft family (record e { permit = bytes_eq w (codes "permit") }) Protocol
+take_as family e Action w =
+    draft family (record e { permit = bytes_eq w (codes "permit") }) Protocol
 take_as family e Protocol w = draft family (record e { proto = proto_in family w }) (Place Source)
 take_as family e (Place end) w = take_place family e end w
 take_as family e (Host end) w = draft family (with_place end (host_in family w) e) (after end)
-take_as family e (Wildcard end) w = draft family (with_place end (record (place_of end e) { len = length_in w }) e) (after end)
-take_as family e (Port end) w = draft family (with_ports end (Some (port_in w, port_in w)) e) (after end)
-take_as family e (Low end) w = draft family (with_ports end (Some (port_in w, port_in w)) e) (High end)
-take_as family e (High end) w = draft family (with_ports end (Some (port_pair (ports_of end e) (port_in w))) e) (after end)
+take_as family e (Wildcard end) w =
+    draft family (with_place end (record (place_of end e) { len = length_in w }) e) (after end)
+take_as family e (Port end) w =
+    draft family (with_ports end (Some (port_in w, port_in w)) e) (after end)
+take_as family e (Low end) w =
+    draft family (with_ports end (Some (port_in w, port_in w)) e) (High end)
+take_as family e (High end) w =
+    draft family (with_ports end (Some (port_pair (ports_of end e) (port_in w))) e) (after end)
 take_as family e Tests w = take_test family e w
 
 abbrev pub take_word : EntryDraft → List ℕ → EntryDraft
@@ -157,12 +172,16 @@ abbrev pub no_section : Section
 no_section = record { name = []; families = Inet; lists = [] }
 
 unfoldable pub families_in : List ℕ → Families
-families_in w = if bytes_eq w (codes "inet6") then Inet6 else if bytes_eq w (codes "mixed") then Mixed else Inet
+families_in w =
+    if bytes_eq w (codes "inet6") then Inet6
+    else if bytes_eq w (codes "mixed") then Mixed
+    else Inet
 
 unfoldable pub item_in : Family → List (List ℕ) → Item
 item_in family [] = AnEntry (entry_in family [])
 item_in family (w ∷ words) =
-    if bytes_eq w (codes "remark") then Remark (join_with_byte 32 words) else AnEntry (entry_in family (w ∷ words))
+    if bytes_eq w (codes "remark") then Remark (join_with_byte 32 words)
+    else AnEntry (entry_in family (w ∷ words))
 
 -- The list that ends is the last of its section: in a mixed one the IPv6 list is.
 abbrev pub is_last : Families → Family → Bool
@@ -174,16 +193,22 @@ end_section true d = record d { sections = d.sections ++ d.section ∷ []; secti
 end_section false d = d
 
 unfoldable pub end_list : DocDraft → DocDraft
-end_list d = end_section (is_last d.section.families d.list.family)
-    (record d { section = record d.section { lists = d.section.lists ++ d.list ∷ [] }; list = no_list })
+end_list d = end_section (is_last d.section.families d.list.family) (record d {
+  section = record d.section { lists = d.section.lists ++ d.list ∷ [] };
+  list = no_list;
+})
 
 abbrev pub begin_list : DocDraft → Family → List ℕ → DocDraft
 begin_list d family name = record d { list = record { family = family; name = name; items = [] } }
 
+abbrev pub begin_section : DocDraft → List ℕ → List ℕ → DocDraft
+begin_section d name kind =
+    record d { section = record { name = name; families = families_in kind; lists = [] } }
+
 -- A row of four words begins a section or an IPv4 list, or takes an IPv6 list away.
 unfoldable pub take_four : DocDraft → List ℕ → List ℕ → List ℕ → DocDraft
 take_four d w name kind =
-    if bytes_eq w (codes "!") then record d { section = record { name = name; families = families_in kind; lists = [] } }
+    if bytes_eq w (codes "!") then begin_section d name kind
     else if bytes_eq w (codes "ip") then begin_list d V4 kind
     else d
 
@@ -194,7 +219,9 @@ take_outer d (w ∷ v ∷ name ∷ kind ∷ []) = take_four d w name kind
 take_outer d words = d
 
 unfoldable pub take_inner : DocDraft → List (List ℕ) → DocDraft
-take_inner d words = record d { list = record d.list { items = d.list.items ++ item_in d.list.family words ∷ [] } }
+take_inner d words = record d {
+  list = record d.list { items = d.list.items ++ item_in d.list.family words ∷ [] };
+}
 
 unfoldable pub take_row : DocDraft → Row → DocDraft
 take_row d r = if r.indent == 0 then take_outer d r.words else take_inner d r.words

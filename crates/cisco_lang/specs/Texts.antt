@@ -1,7 +1,8 @@
 -- The text of a document of Cisco IOS access lists.
--- Sources: Cisco IOS Security Command Reference, "access-list (IP extended)", "ip access-list" and "remark";
+-- Sources: Cisco IOS Security Command Reference, "access-list (IP extended)", "ip access-list" and
+-- "remark";
 -- Cisco IOS IPv6 Command Reference, "ipv6 access-list", "permit (IPv6)" and "deny (IPv6)".
-use Rattle.std.specs.Prelude.{◌≡◌, ℕ, Bool, true, false, ◌==◌, if◌then◌else◌, List, [], ◌∷◌, ◌++◌, map, flat_map, codes, Option, None, Some}
+use Rattle.std.specs.Prelude.{◌≡◌, ℕ, Bool, true, false, ◌==◌, if◌then◌else◌, List, [], ◌∷◌, ◌++◌, flat_map, codes, Option, None, Some}
 use Rattle.std.specs.Fmt.{decimal}
 use Rattle.acl_packet.specs.declared.addresses.Family.{Family}
 use Rattle.acl_packet.specs.declared.addresses.Family.TheVariants.{V4, V6}
@@ -32,7 +33,11 @@ any_word V6 = codes "ipv6"
 
 unfoldable pub proto_word : Family → Option ℕ → List ℕ
 proto_word family None = any_word family
-proto_word family (Some n) = if n == 6 then codes "tcp" else if n == 17 then codes "udp" else if n == icmp_of family then codes "icmp" else decimal n
+proto_word family (Some n) =
+    if n == 6 then codes "tcp"
+    else if n == 17 then codes "udp"
+    else if n == icmp_of family then codes "icmp"
+    else decimal n
 
 -- An address and its wildcard, whose set bits are ignored; in IPv6 an address and its length.
 abbrev pub masked_words : Family → Prefix → List (List ℕ)
@@ -40,11 +45,16 @@ masked_words V4 p = address_text V4 p.first ∷ wildcard_text p.len ∷ []
 masked_words V6 p = prefix_text p ∷ []
 
 unfoldable pub address_words : Family → Prefix → List (List ℕ)
-address_words family p = if p.len == 0 then codes "any" ∷ [] else if p.len == width_of family then codes "host" ∷ address_text family p.first ∷ [] else masked_words family p
+address_words family p =
+    if p.len == 0 then codes "any" ∷ []
+    else if p.len == width_of family then codes "host" ∷ address_text family p.first ∷ []
+    else masked_words family p
 
 unfoldable pub ports_words : Option (ℕ × ℕ) → List (List ℕ)
 ports_words None = []
-ports_words (Some p) = if p.0 == p.1 then codes "eq" ∷ decimal p.0 ∷ [] else codes "range" ∷ decimal p.0 ∷ decimal p.1 ∷ []
+ports_words (Some p) =
+    if p.0 == p.1 then codes "eq" ∷ decimal p.0 ∷ []
+    else codes "range" ∷ decimal p.0 ∷ decimal p.1 ∷ []
 
 unfoldable pub type_words : Option ℕ → List (List ℕ)
 type_words None = []
@@ -66,8 +76,9 @@ end_words family p ports = address_words family p ++ ports_words ports
 
 -- The words of an entry of a list of the family.
 unfoldable pub entry_words : Family → Entry → List (List ℕ)
-entry_words family e = action_word e.permit ∷ proto_word family e.proto ∷ (end_words family e.src e.sport
-    ++ (end_words family e.dst e.dport ++ (type_words e.itype ++ (flags_words e.flags ++ log_words e.log))))
+entry_words family e = action_word e.permit ∷ proto_word family e.proto
+    ∷ (end_words family e.src e.sport ++ (end_words family e.dst e.dport
+    ++ (type_words e.itype ++ (flags_words e.flags ++ log_words e.log))))
 
 -- A remark is a free text, an entry its words.
 unfoldable pub item_rows : Family → Item → List Row
@@ -80,7 +91,8 @@ head_words V4 name = codes "ip" ∷ codes "access-list" ∷ codes "extended" ∷
 head_words V6 name = codes "ipv6" ∷ codes "access-list" ∷ name ∷ []
 
 abbrev pub head_rows : Family → List ℕ → List Row
-head_rows family name = row 0 (codes "no" ∷ head_words family name) ∷ row 0 (head_words family name) ∷ []
+head_rows family name =
+    row 0 (codes "no" ∷ head_words family name) ∷ row 0 (head_words family name) ∷ []
 
 abbrev pub end_rows : List Row
 end_rows = row 0 (codes "exit" ∷ []) ∷ []

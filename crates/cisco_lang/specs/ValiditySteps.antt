@@ -49,7 +49,8 @@ are_headed (l ∷ m ∷ []) Mixed name = is_headed l V4 name && is_headed m V6 (
 are_headed lists families name = false
 
 abbrev pub is_section : Section → Bool
-is_section s = is_filter_name s.name && (are_headed s.lists s.families s.name && list_all is_list s.lists)
+is_section s = is_filter_name s.name
+    && (are_headed s.lists s.families s.name && list_all is_list s.lists)
 
 abbrev pub are_sections : List Section → Bool
 are_sections doc = list_all is_section doc

@@ -1,8 +1,9 @@
 -- What the lists of a document do to a packet.
--- Sources: Cisco IOS Security Command Reference, "access-list (IP extended)" (an implicit deny at the end, and an
--- interface whose list has no entry lets all pass); Cisco IOS IPv6 Command Reference, "ipv6 access-list" (the implicit
--- permit of neighbour advertisements and solicitations before the implicit deny); RFC 4861 section 4 for their types.
-use Rattle.std.specs.Prelude.{ℕ, Bool, true, false, not, ◌&&◌, ◌||◌, ◌==◌, nat_le, if◌then◌else◌, bit_and, List, [], ◌∷◌, Option, None, Some, slice_get, unwrap_or, option_and_then}
+-- Sources: Cisco IOS Security Command Reference, "access-list (IP extended)" (an implicit deny at
+-- the end; an interface whose list has no entry lets all pass); Cisco IOS IPv6 Command Reference,
+-- "ipv6 access-list" (the implicit permit of neighbour advertisements and solicitations before the
+-- implicit deny); RFC 4861 section 4 for their types.
+use Rattle.std.specs.Prelude.{ℕ, Bool, true, false, not, ◌&&◌, ◌||◌, ◌==◌, nat_le, if◌then◌else◌, List, [], ◌∷◌, Option, None, Some, slice_get, unwrap_or, option_and_then}
 use Rattle.std.specs.List.{list_any}
 use Rattle.acl_packet.specs.declared.addresses.Family.{Family}
 use Rattle.acl_packet.specs.declared.addresses.Family.TheVariants.{V4, V6}
@@ -37,7 +38,8 @@ flags_hold (Some Established) flags = has_flag flags 16 || has_flag flags 4
 flags_hold (Some Rst) flags = has_flag flags 4
 flags_hold (Some SynNotAck) flags = has_flag flags 2 && not (has_flag flags 16)
 
--- An entry holds a packet where each of its parts does: protocol and addresses, ports, type and flags.
+-- An entry holds a packet where each of its parts does: protocol and addresses, ports, type and
+-- flags.
 abbrev pub ends_hold : Entry → Packet → Bool
 ends_hold e p = proto_holds e.proto p.proto && (has_address e.src p.src && has_address e.dst p.dst)
 
@@ -61,7 +63,8 @@ verdict_of permit = if permit then Accept else Deny
 abbrev pub decided_by : Entry → Outcome
 decided_by e = record { verdict = verdict_of e.permit; logged = e.log }
 
--- Neighbour advertisements, 136, and solicitations, 135, pass at the end of an IPv6 list; all else is denied.
+-- Neighbour advertisements, 136, and solicitations, 135, pass at the end of an IPv6 list; all else
+-- is denied.
 abbrev pub is_neighbour : Packet → Bool
 is_neighbour p = p.proto == 58 && (p.itype == 136 || p.itype == 135)
 
@@ -73,14 +76,17 @@ ending V6 p = unlogged (verdict_of (is_neighbour p))
 unfoldable pub first_holding : List Item → Packet → Option Outcome
 first_holding [] p = None
 first_holding (Remark text ∷ items) p = first_holding items p
-first_holding (AnEntry e ∷ items) p = if entry_holds e p then Some (decided_by e) else first_holding items p
+first_holding (AnEntry e ∷ items) p =
+    if entry_holds e p then Some (decided_by e) else first_holding items p
 
 abbrev pub has_entries : List Item → Bool
 has_entries items = list_any is_entry items
 
 -- What the items of a list do: a list without entries accepts all.
 unfoldable pub walk : Family → List Item → Packet → Outcome
-walk family items p = if has_entries items then unwrap_or (first_holding items p) (ending family p) else unlogged Accept
+walk family items p =
+    if has_entries items then unwrap_or (first_holding items p) (ending family p)
+    else unlogged Accept
 
 -- The items of a section's list of the family; no list is one without entries.
 unfoldable pub items_of : Family → List AccessList → List Item
@@ -89,7 +95,8 @@ items_of family (l ∷ lists) = if same_family l.family family then l.items else
 
 -- What a section does, where the packet is of one of its families.
 unfoldable pub section_outcome : Section → Packet → Option Outcome
-section_outcome s p = if covers s.families p.family then Some (walk p.family (items_of p.family s.lists) p) else None
+section_outcome s p =
+    if covers s.families p.family then Some (walk p.family (items_of p.family s.lists) p) else None
 
 -- What the section at that place does; nothing where there is none.
 abbrev pub outcome_of : List Section → ℕ → Packet → Option Outcome

@@ -1,6 +1,6 @@
 ghost use Rattle.std.specs.Prelude.{◌≡◌, ◌∷◌, [], OnOk, IfOk, true};
 ghost use Rattle.acl_text.specs.Cuts.{views};
-ghost use Rattle.cisco_lang.specs.ReadingSteps.{no_list, no_section, families_in, item_in, is_last, no_draft, end_section, end_list, begin_list, take_four, take_outer, take_inner, take_row};
+ghost use Rattle.cisco_lang.specs.ReadingSteps.{no_list, no_section, families_in, item_in, is_last, no_draft, end_section, end_list, begin_list, begin_section, take_four, take_outer, take_inner, take_row};
 
 use crate::documents::{AccessList, Doc, Item, Section};
 use crate::entry_drafts::entry_of;
@@ -10,7 +10,8 @@ use acl_text::{Bytes, Items, Memory};
 use std::alloc::Global;
 use std::mem;
 
-/// What has been read of a document's rows: the sections that have ended, the next one, and its next list.
+/// What has been read of a document's rows: the sections that have ended, the next one, and its next
+/// list.
 #[derive(Drop)]
 pub(crate) struct DocDraft {
     pub(crate) sections: Doc,
@@ -97,9 +98,7 @@ impl DocDraft {
     }
 
     fn begin_section(&mut self, alloc: Global, name: &[u8], kind: &[u8]) -> Result<(), Memory>
-        ensures { OnOk result (self.new ≡ record self.old {
-          section = record { name = name.now; families = families_in kind.now; lists = [] };
-        }) }
+        ensures { OnOk result (self.new ≡ begin_section self.old name.now kind.now) }
     {
         self.section = Section {
             name: Bytes::from_slice(alloc, name)?,

@@ -12,8 +12,8 @@ pub enum Flags {
     SynNotAck,
 }
 
-/// An entry of a list: what it does, and which packets it holds. A part that is `None` is not written, and
-/// holds all. A prefix of length 0 is written `any`.
+/// An entry of a list: what it does, and which packets it holds. A part that is `None` is not
+/// written, and holds all. A prefix of length 0 is written `any`.
 #[derive(Clone, Copy, Debug, PartialEq, Eq)]
 pub struct Entry {
     pub permit: bool,

@@ -2,7 +2,7 @@ ghost use Rattle.std.specs.Prelude.{◌≡◌, Some, IfSome, ◌<◌, ◌^◌};
 ghost use Rattle.std.specs.List.{fold};
 ghost use Rattle.std.specs.Str.{bytes_eq};
 ghost use Rattle.acl_text.specs.Cuts.{views};
-ghost use Rattle.cisco_lang.specs.ReadingSteps.{draft, everywhere, no_entry, with_place, with_ports, place_of, ports_of, after, proto_in, host_in, place_in, length_in, port_in, port_pair, begun, ports_begin, place_named, take_place, test_named, take_test, take_as, take_word, entry_in};
+ghost use Rattle.cisco_lang.specs.ReadingSteps.{draft, everywhere, no_entry, with_place, with_ports, place_of, ports_of, after, proto_in, host_in, place_in, length_in, port_in, port_pair, begun, ports_begin, place_named, take_place, test_named, with_test, take_test, take_as, take_word, entry_in};
 
 use crate::documents::{Entry, Flags};
 use acl_packet::{Family, Prefix};
@@ -219,7 +219,7 @@ impl EntryDraft {
     }
 
     fn test(self, flags: Flags) -> EntryDraft
-        ensures { result ≡ draft self.family (record self.entry { flags = Some flags }) Next.Tests }
+        ensures { result ≡ with_test self.family self.entry flags }
     {
         EntryDraft {
             entry: Entry {

@@ -1,5 +1,5 @@
-//! The language of Cisco IOS access lists: documents, their texts, a strict reader, and what a list does to a
-//! packet.
+//! The language of Cisco IOS access lists: documents, their texts, a strict reader, and what a list
+//! does to a packet.
 #![tactic(auto)]
 
 mod document_drafts;

@@ -97,7 +97,8 @@ impl<'a> Rows for ListHead<'a> {
 fn put_head<O: Out>(first: &[u8], rest: &[&[u8]], out: &mut O) -> Result<(), PutFault>
     requires { IsTrue (O.is_open out.old) }
     ensures { Puts O.told O.faults O.refusals O.is_open O.keeps_rest out.old out.new
-        (text_of_rows (row 0 (codes "no" ∷ first.now ∷ views rest.now) ∷ row 0 (first.now ∷ views rest.now) ∷ [])) result }
+        (text_of_rows (row 0 (codes "no" ∷ first.now ∷ views rest.now)
+        ∷ row 0 (first.now ∷ views rest.now) ∷ [])) result }
 {
     let removal = Row {
         indent: 0,

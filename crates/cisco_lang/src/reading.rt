@@ -11,8 +11,8 @@ use acl_grammar::{Each, is_text_of, read_rows};
 use acl_text::Memory;
 use std::alloc::Global;
 
-/// The document that the bytes spell: `Some` exactly where they spell one, and `None` exactly where they
-/// spell none. The bytes spell a document where it is valid and they are its text.
+/// The document that the bytes spell: `Some` exactly where they spell one, and `None` exactly where
+/// they spell none. The bytes spell a document where it is valid and they are its text.
 #[tactic(auto, using(crate::proofs::DocumentLaws::read_other))]
 pub fn read(alloc: Global, bytes: &[u8]) -> Result<Option<Doc>, Memory>
     ensures some { IfOk result (λ o. IfSome o (λ doc. Spells bytes.now doc)) }

@@ -34,7 +34,8 @@ fn names_of<'a>(alloc: Global, sections: &'a [Section]) -> Result<Vec<&'a [u8]>,
 }
 
 fn push_names<'a>(names: &mut Vec<&'a [u8]>, lists: &'a [AccessList]) -> Result<(), Memory>
-    ensures { OnOk result (views names.new.items ≡ views names.old.items ++ map (λ l. l.name) lists.now) }
+    ensures { OnOk result (views names.new.items
+        ≡ views names.old.items ++ map (λ l. l.name) lists.now) }
 {
     for list in lists {
         names.push(list.name.as_slice())?;

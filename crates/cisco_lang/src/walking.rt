@@ -18,8 +18,8 @@ pub fn sections(doc: &Doc) -> usize
     doc.as_slice().len()
 }
 
-/// What the section at that place, counted from 0, does to the packet. `None` exactly where there is no such
-/// section, or the packet's family is none of the section's.
+/// What the section at that place, counted from 0, does to the packet. `None` exactly where there is
+/// no such section, or the packet's family is none of the section's.
 pub fn outcome(doc: &Doc, which: usize, packet: &Packet) -> Option<Outcome>
     requires { IsPacket packet.now }
     ensures { result ≡ outcome_of doc.now which packet.now }

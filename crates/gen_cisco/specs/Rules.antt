@@ -11,7 +11,8 @@ use Rattle.acl_packet.specs.Outcomes.{unlogged}
 use Rattle.acl_sets.specs.LeastLists.{any_has}
 use Rattle.gen_cisco.specs.declared.rules.Rule.{Rule}
 
--- A rule for IPv4 packets: a name, lists of IPv4 prefixes, and a protocol with a number from 1, or any.
+-- A rule for IPv4 packets: a name, lists of IPv4 prefixes, and a protocol with a number from 1, or
+-- any.
 pub record IsRule (rule : Rule) : Type 0 where
   pub name : is_name rule.name ≡ true
   pub protocol : IfSome rule.proto (λ n. (1 ≤ n) × (n ≤ 255))
@@ -24,7 +25,8 @@ is_protocol (Some wanted) number = number == wanted
 
 -- A rule holds a packet of its protocol from one of its sources to one of its destinations.
 abbrev pub rule_holds : Rule → Packet → Bool
-rule_holds rule p = is_protocol rule.proto p.proto && (any_has rule.src p.src && any_has rule.dst p.dst)
+rule_holds rule p =
+    is_protocol rule.proto p.proto && (any_has rule.src p.src && any_has rule.dst p.dst)
 
 -- What lets through or denies without a log.
 abbrev pub silent : Bool → Outcome
@@ -34,4 +36,5 @@ silent false = unlogged Deny
 -- The first rule that holds the packet decides; a packet that none holds is denied.
 abbrev pub filter_outcome : List Rule → Packet → Outcome
 filter_outcome [] p = silent false
-filter_outcome (rule ∷ rules) p = if rule_holds rule p then silent rule.permit else filter_outcome rules p
+filter_outcome (rule ∷ rules) p =
+    if rule_holds rule p then silent rule.permit else filter_outcome rules p

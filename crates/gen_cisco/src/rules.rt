@@ -1,7 +1,8 @@
 use acl_sets::Prefixes;
 use acl_text::{Bytes, Items};
 
-/// A rule of a filter: what it does with packets of a protocol from its sources to its destinations.
+/// A rule of a filter: what it does with packets of a protocol from its sources to its
+/// destinations.
 #[derive(Debug, Drop)]
 pub struct Rule {
     pub name: Bytes,

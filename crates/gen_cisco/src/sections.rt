@@ -31,8 +31,8 @@ fn combinations(rules: &[Rule]) -> u64
     count
 }
 
-/// The number of entries of the section that the rules become; a number that does not fit stands at the
-/// greatest one that does.
+/// The number of entries of the section that the rules become; a number that does not fit stands at
+/// the greatest one that does.
 pub fn entry_count(rules: &[Rule]) -> u64
     ensures { result ≡ min (entry_count rules.now) COUNT_END }
 {
@@ -67,7 +67,8 @@ struct FromSource<'a> {
 }
 
 impl<'a> Form<Prefix> for FromSource<'a> {
-    ghost item_rows = { λ f dst. item_rows V4 (AnEntry (plain_entry f.rule.now.permit f.rule.now.proto f.src dst)) };
+    ghost item_rows = { λ f dst.
+        item_rows V4 (AnEntry (plain_entry f.rule.now.permit f.rule.now.proto f.src dst)) };
 
     fn put_item<O: Out>(&self, dst: &Prefix, out: &mut O) -> Result<(), PutFault> {
         plain_entry(self.rule.permit, self.rule.proto, self.src, *dst).put_rows(out)
@@ -149,7 +150,10 @@ impl<'a> Rows for ListItems<'a> {
 
 // The entry that denies all packets.
 fn closing_entry() -> EntryRow
-    ensures { result ≡ record { family = V4; entry = plain_entry false None everywhere everywhere } }
+    ensures { result ≡ record {
+      family = V4;
+      entry = plain_entry false None everywhere everywhere;
+    } }
 {
     plain_entry(false, None, everywhere(), everywhere())
 }
