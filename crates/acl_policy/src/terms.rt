@@ -125,7 +125,8 @@ fn judge_protocols(alloc: Global, term: &mut RawTerm, clause: &Clause<'_>) -> Re
 
 #[tactic(auto, unfolding(crate::specs::Terms::term_with_lists))]
 fn judge_lists(alloc: Global, term: &mut RawTerm, clause: &Clause<'_>) -> Result<(), Refusal>
-    ensures { Leaves slip_told term.new result (term_with_lists term.old clause.now.keyword.now clause.now.values.now) }
+    ensures { Leaves slip_told term.new result
+        (term_with_lists term.old clause.now.keyword.now clause.now.values.now) }
 {
     if is_text(clause.keyword, b"option::") {
         push_values(alloc, Takes::Opt, &mut term.options, clause)?;
@@ -148,7 +149,8 @@ pub(crate) fn judge_term_keyword(
     draft: &mut Draft,
     clause: &Clause<'_>,
 ) -> Result<(), Refusal>
-    ensures { Leaves slip_told draft.new result (draft_behind draft.old clause.now.keyword.now clause.now.values.now) }
+    ensures { Leaves slip_told draft.new result
+        (draft_behind draft.old clause.now.keyword.now clause.now.values.now) }
 {
     if is_text(clause.keyword, b"comment::") {
         judge_comment(alloc, draft, clause)

@@ -148,7 +148,8 @@ fn check_all(alloc: Global, kind: Takes, values: &[Token]) -> Result<(), Refusal
 
 /// Checks that the keyword has values, and that each of them is one that it takes.
 pub(crate) fn check_values(alloc: Global, kind: Takes, clause: &Clause<'_>) -> Result<(), Refusal>
-    ensures { Gives slip_told result (some_values kind clause.now.keyword.now clause.now.values.now) }
+    ensures { Gives slip_told result
+        (some_values kind clause.now.keyword.now clause.now.values.now) }
 {
     match clause.values {
         [] => Err(Refusal::Slip(slip_at(alloc, Code::Missing, clause.keyword)?)),
@@ -172,7 +173,8 @@ pub(crate) fn push_values(
     words: &mut Words,
     clause: &Clause<'_>,
 ) -> Result<(), Refusal>
-    ensures { Leaves slip_told words.new result (words_with kind clause.now.keyword.now clause.now.values.now words.old) }
+    ensures { Leaves slip_told words.new result
+        (words_with kind clause.now.keyword.now clause.now.values.now words.old) }
 {
     check_values(alloc, kind, clause)?;
     push_all(alloc, words, clause.values)?;
