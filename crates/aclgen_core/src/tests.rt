@@ -1,5 +1,5 @@
 ghost use Rattle.std.specs.Prelude.{◌≡◌, IfOk, None};
-ghost use Rattle.acl_host.specs.MemoryTrees.{held};
+ghost use Rattle.acl_host.specs.MemoryTrees.{contents};
 
 use crate::{aclgen, status_of};
 use acl_host::{Day, FixedClock, MemSink, MemTree, Op};
@@ -69,7 +69,7 @@ fn tree_of(
     services: &[u8],
     policy: &[u8],
 ) -> Result<MemTree, Memory>
-    ensures { IfOk result (λ t. (held t).begun ≡ None) }
+    ensures { IfOk result (λ t. (contents t).begun ≡ None) }
 {
     let mut tree = MemTree::new(alloc);
     tree.put_file("def/n.net", networks)?;
@@ -88,7 +88,7 @@ struct Left {
 }
 
 fn run(alloc: Global, mut tree: MemTree, words: &[String]) -> Left
-    requires { (held tree).begun ≡ None }
+    requires { (contents tree).begun ≡ None }
 {
     let mut out = MemSink::new(alloc);
     let mut err = MemSink::new(alloc);
