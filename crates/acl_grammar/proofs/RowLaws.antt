@@ -1,8 +1,7 @@
 -- What is written as rows is read as those rows.
-use Rattle.std.proofs.Common.{◌≡◌, ℕ, zero, suc, ◌+◌, ◌-◌, ◌≤◌, length, take, get_or, Bool, true, false, cond, ◌==◌, ◌||◌, List, [], ◌∷◌, ◌++◌, drop, map, flat_map, replicate, refl, ap, sym, ◌∙◌, append_assoc, append-nil, arith, eqb}
+use Rattle.std.proofs.Common.{◌≡◌, ℕ, zero, suc, ◌+◌, ◌-◌, ◌≤◌, length, take, get_or, Bool, true, false, cond, ◌||◌, List, [], ◌∷◌, ◌++◌, drop, map, replicate, refl, ap, sym, ◌∙◌, append_assoc, append-nil, arith, eqb}
 use Rattle.std.specs.Borrow.{Bor}
 use Rattle.std.specs.List.{AllByRecursion, prefix_len, slice_split, join_with_byte, onto_first, fold}
-use Rattle.std.proofs.lemmas.Bool.{or_from}
 use Rattle.std.proofs.lemmas.Bool.Decides.{Decides-eqb}
 use Rattle.std.proofs.lemmas.List.Splits.{join_with_byte-slice_split}
 use Rattle.std.proofs.lemmas.List.Sums.{fold-append}
@@ -11,7 +10,7 @@ use Rattle.std.proofs.Math.Seq.{take-length}
 use Rattle.acl_text.specs.Cuts.{views, has_byte}
 use Rattle.acl_text.proofs.CutLaws.{has-append}
 use Rattle.acl_grammar.specs.Rows.{Row, row, spaced, row_line, row_text, text_of_rows, is_space, words_in}
-use Rattle.acl_grammar.specs.RowSteps.{is_feed, row_in, rows_in, IsWord, begins, IsRow}
+use Rattle.acl_grammar.specs.RowSteps.{row_in, rows_in, IsWord, begins, IsRow}
 
 -- ---- words with one space between
 

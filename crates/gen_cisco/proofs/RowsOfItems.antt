@@ -1,12 +1,12 @@
 -- The rows of a section as they are put: an entry for each destination of each source of each rule.
-use Rattle.std.proofs.Common.{◌≡◌, ℕ, ◌*◌, ◌<◌, ◌≤◌, Bool, true, false, ◌||◌, ◌==◌, inl, inr, List, [], ◌∷◌, ◌++◌, length, map, flat_map, None, append-nil, refl, ap, sym, ◌∙◌, arith}
+use Rattle.std.proofs.Common.{◌≡◌, ℕ, ◌*◌, ◌<◌, true, false, ◌||◌, ◌==◌, inl, inr, List, [], ◌∷◌, ◌++◌, length, flat_map, None, append-nil, refl, ap, sym, ◌∙◌, arith}
 use Rattle.std.proofs.lemmas.List.Folds.{flat_map-map}
 use Rattle.std.proofs.lemmas.Bool.{eqb-true, eqb-false, or_parts, or_cases}
 use Rattle.std.proofs.Math.Nat.{mul-le-mul_right, zero-mul, mul-zero}
 use Rattle.acl_packet.specs.declared.addresses.Family.TheVariants.{V4}
 use Rattle.acl_packet.specs.declared.addresses.Families.TheVariants.{Inet}
 use Rattle.acl_packet.specs.declared.addresses.Prefix.{Prefix}
-use Rattle.acl_grammar.specs.Rows.{Row, row, words_in, text_of_rows}
+use Rattle.acl_grammar.specs.Rows.{Row, text_of_rows}
 use Rattle.acl_grammar.proofs.ListLaws.{flat_twice}
 use Rattle.cisco_lang.specs.declared.documents.Item.{Item}
 use Rattle.cisco_lang.specs.declared.documents.Item.TheVariants.{Remark, Entry as AnEntry}

@@ -1,5 +1,5 @@
 -- The section of sound rules is a document.
-use Rattle.std.proofs.Common.{◌≡◌, ℕ, ◌≤◌, Bool, true, false, List, [], ◌∷◌, map, flat_map, Option, None, IfSome, lit<, lit≤, refl}
+use Rattle.std.proofs.Common.{◌≡◌, ℕ, ◌≤◌, Bool, true, false, List, [], ◌∷◌, map, flat_map, Option, None, IfSome, refl}
 use Rattle.std.specs.List.{AllByRecursion, IsDistinct}
 use Rattle.acl_packet.specs.declared.addresses.Family.TheVariants.{V4}
 use Rattle.acl_packet.specs.declared.addresses.Prefix.{Prefix}

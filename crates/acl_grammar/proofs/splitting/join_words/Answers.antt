@@ -1,4 +1,3 @@
-use Rattle.std.proofs.Common.{◌++◌, ap, ◌∙◌}
 use Rattle.acl_grammar.proofs.RowLaws.{words_joined}
 use Rattle.acl_grammar.proofs.splitting.join_words.Goals as goal
 

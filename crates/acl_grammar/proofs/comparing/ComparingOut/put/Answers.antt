@@ -1,5 +1,4 @@
 use Rattle.std.proofs.Common.{◌≡◌, ◌<◌, drop, length, refl, ap, ◌∙◌, arith}
-use Rattle.acl_text.specs.declared.output.PutFault.TheVariants.{Failed, Memory}
 use Rattle.acl_grammar.proofs.TakenLaws.{common, takes_all, takes_front, compared_still, first_fault}
 use Rattle.acl_grammar.proofs.comparing.ComparingOut.put.Goals as goal
 

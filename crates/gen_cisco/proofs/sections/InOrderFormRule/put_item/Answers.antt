@@ -1,5 +1,4 @@
 use Rattle.std.proofs.Common.{rules, ◌∷◌, [], ◌++◌, List, ℕ, codes, flat_map, ap, sym, ◌∙◌}
-use Rattle.acl_packet.specs.declared.addresses.Family.TheVariants.{V4}
 use Rattle.acl_packet.specs.declared.addresses.Prefix.{Prefix}
 use Rattle.acl_text.proofs.Putting.{puts-nothing}
 use Rattle.acl_grammar.specs.Rows.{row, words_in, text_of_rows}
