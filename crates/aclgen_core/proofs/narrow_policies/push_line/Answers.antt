@@ -13,7 +13,7 @@ loop-start-preserved c =
     let rest = map (numbered line) (words_of (drop c.in-Some.end text)) in
     record {
       within = n.1;
-      goes = ap (λ (ws : List Word). ws ++ rest) c.in_ok-push.ensures
+      goes = ap (λ (ws : List Word). ws ++ rest) c.in_ok-push_word.ensures
           ∙ append_assoc _ _ rest
           ∙ sym (ap (λ (ws : List (List _)). c.loop-start.words ++ map (numbered line) ws) n.2)
           ∙ c.loop-start.invariant.goes;

@@ -7,7 +7,7 @@ use Rattle.aclgen_core.proofs.planning.render.Goals as goal
 pub returns-clause-sound : goal.returns-clause-sound
 returns-clause-sound c =
     let rules : List Rule = c.in_ok-rules.rules in
-    let given = rw c.as_slice.ensures at c.in_ok-rules.ensures.gives in
+    let given = rw c.as_slice.ensures at c.in_ok-rules.ensures in
     let counted = rw c.as_slice-2.ensures at c.entry_count.ensures in
     record {
       named = c.requires.named;
