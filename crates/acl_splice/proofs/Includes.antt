@@ -6,7 +6,7 @@ use Rattle.std.proofs.lemmas.List.{take_all, length-take}
 use Rattle.acl_text.specs.declared.faults.Fault.{Fault}
 use Rattle.acl_text.specs.declared.faults.Code.TheVariants.{TooLong, NoFile, IncludeCount}
 use Rattle.acl_host.specs.Files.{File, file_at}
-use Rattle.acl_splice.specs.LinesAndFolders.{folder_of}
+use Rattle.acl_splice.specs.Folders.{folder_of}
 use Rattle.acl_splice.specs.Splices.{Splice, nothing_read, with_include, is_long}
 use Rattle.acl_splice.specs.Splicing.{Include, fault, behind_file, behind_include, splice_of}
 use Rattle.acl_text.specs.Answers.{Leaves}

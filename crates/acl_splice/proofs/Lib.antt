@@ -1,5 +1,4 @@
-pub mod Folders
-pub mod FirstLines
+pub mod FolderLaws
 pub mod Includes
 pub mod LabelLaws
 pub mod Paths

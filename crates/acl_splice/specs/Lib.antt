@@ -1,6 +1,6 @@
-pub mod IncludeLines
+pub mod Folders
 pub mod IncludeLineSteps
+pub mod IncludeLines
 pub mod Labels
-pub mod LinesAndFolders
 pub mod Splices
 pub mod Splicing

@@ -6,7 +6,8 @@ use Rattle.acl_text.specs.declared.faults.Code.TheVariants.{TooLong, NoFile, Inc
 use Rattle.acl_text.specs.declared.faults.Fault.{Fault}
 use Rattle.acl_host.specs.Files.{File, file_at}
 use Rattle.acl_text.specs.Steps.{◌>>=◌, or_err}
-use Rattle.acl_splice.specs.LinesAndFolders.{lines_of, folder_of}
+use Rattle.acl_text.specs.Cursors.{lines_of}
+use Rattle.acl_splice.specs.Folders.{folder_of}
 use Rattle.acl_splice.specs.IncludeLines.{Asked, Nothing, Wrong, Wanted, asked_in}
 use Rattle.acl_splice.specs.Splices.{Splice, nothing_read, with_line, with_file, with_include, is_long}
 

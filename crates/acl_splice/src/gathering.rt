@@ -1,14 +1,14 @@
 ghost use Rattle.std.specs.Prelude.{◌≡◌, IfSome, IfOk, OnOk};
 ghost use Rattle.std.specs.Str.{IsUtf8};
-ghost use Rattle.acl_splice.specs.LinesAndFolders.{folder_of};
+ghost use Rattle.acl_splice.specs.Folders.{folder_of};
 ghost use Rattle.acl_splice.specs.Splices.{nothing_read};
 ghost use Rattle.acl_splice.specs.Labels.{IsLabelled};
 ghost use Rattle.acl_splice.specs.Splicing.{splice_of};
 ghost use Rattle.acl_text.specs.Answers.{Gives, Leaves};
 ghost use Rattle.acl_host.specs.WholeFiles.{ReadsFiles, read_told};
 
+use crate::folders::folder_of;
 use crate::line_faults::line_fault;
-use crate::lines_and_folders::folder_of;
 use crate::partial_splices::{MOST_OF_FILE, PartialSplice};
 use crate::sources::Sources;
 use crate::splicing::add_file;

@@ -1,10 +1,10 @@
 //! A policy's lines, with the files that it includes spliced in.
 #![tactic(auto)]
 
+mod folders;
 mod gathering;
 mod include_lines;
 mod line_faults;
-mod lines_and_folders;
 mod partial_splices;
 mod sources;
 mod splicing;

@@ -8,10 +8,9 @@ ghost use Rattle.acl_host.specs.WholeFiles.{ReadsFiles, read_told};
 
 use crate::include_lines::{Asked, asked_in};
 use crate::line_faults::line_fault;
-use crate::lines_and_folders::first_line;
 use crate::partial_splices::{MOST_OF_FILE, PartialSplice};
 use acl_host::{ReadFault, Tree, TreeFault};
-use acl_text::{Code, Place};
+use acl_text::{Code, Cursor, Place};
 use std::alloc::{AllocError, Global};
 use std::str;
 
@@ -150,13 +149,10 @@ pub(crate) fn add_file<T: Tree>(
         return Err(ReadFault::Fault(line_fault(alloc, Code::TooLong, label, 0, b"")?));
     }
     let file = sources.add_file(alloc, label, bytes.len())?;
-    let mut rest = bytes;
-    let mut line = 0;
-    while let Some((text, behind)) = first_line(rest) {
-        line += 1;
-        let place = Place { file, line };
+    let mut cursor = Cursor::new(file, bytes);
+    while let Some(text) = cursor.line() {
+        let place = cursor.place();
         meet_line(alloc, tree, sources, folder, levels, label, place, text)?;
-        rest = behind;
     }
     Ok(())
 }

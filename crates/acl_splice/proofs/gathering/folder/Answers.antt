@@ -1,7 +1,7 @@
 use Rattle.std.proofs.Common.{subst, sym, ap, ◌∙◌}
 use Rattle.std.specs.Str.{IsUtf8}
-use Rattle.acl_splice.specs.LinesAndFolders.{folder_of}
-use Rattle.acl_splice.proofs.Folders.{IsUtf8-folder}
+use Rattle.acl_splice.specs.Folders.{folder_of}
+use Rattle.acl_splice.proofs.FolderLaws.{IsUtf8-folder}
 use Rattle.acl_splice.proofs.gathering.folder.Goals as goal
 
 pub unreachable-requires : goal.unreachable-requires

@@ -1,5 +1,5 @@
 use Rattle.std.proofs.Common.{◌≡◌, ◌≤◌, ◌+◌, ◌*◌, length, IfSome}
-use Rattle.acl_splice.specs.LinesAndFolders.{lines_of}
+use Rattle.acl_text.specs.Cursors.{lines_of}
 use Rattle.acl_splice.specs.Labels.{GoesOn}
 use Rattle.acl_splice.specs.Splicing.{behind_lines, behind_include}
 use Rattle.acl_host.specs.Outside.{OnlyReads}
@@ -20,13 +20,13 @@ invariant-add_file-loop-text g l = record {
   reads : OnlyReads g.T.Tree.files g.T.Tree.begun g.T.Out.faults g.T.Out.refusals
       g.T.Tree.list_faults g.T.Tree.read_faults l.fn.tree l.tree;
   read_on : GoesOn l.initial.sources l.sources;
-  few : l.line + length l.rest ≤ length l.bytes;
+  place : l.cursor.file ≡ l.file;
   goes_on : IfSome (g.T.Tree.files l.fn.tree) (λ fs.
-      behind_lines (behind_include l.levels fs l.folder) l.label l.file (l.line + 1)
-      (lines_of l.rest) l.sources
+      behind_lines (behind_include l.levels fs l.folder) l.label l.file
+      (l.cursor.line + 1) l.cursor.lines l.sources
       ≡ behind_lines (behind_include l.levels fs l.folder) l.label l.file 1
       (lines_of l.bytes) l.initial.sources);
 }
 
 abbrev pub decreases-add_file-loop-text : goal.decreases-add_file-loop-text
-decreases-add_file-loop-text g l = length l.rest
+decreases-add_file-loop-text g l = length l.cursor.lines

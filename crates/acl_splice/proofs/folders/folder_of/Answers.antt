@@ -1,6 +1,6 @@
 use Rattle.std.proofs.Common.{◌∙◌, sym}
-use Rattle.acl_splice.proofs.Folders.{ends_in_slash, ends_in_other}
-use Rattle.acl_splice.proofs.lines_and_folders.folder_of.Goals as goal
+use Rattle.acl_splice.proofs.FolderLaws.{ends_in_slash, ends_in_other}
+use Rattle.acl_splice.proofs.folders.folder_of.Goals as goal
 
 pub returns-then-last-eq47 : goal.returns-then-last-eq47
 returns-then-last-eq47 c =

@@ -8,7 +8,7 @@ use Rattle.std.proofs.Math.Bool.{or-true, or-false}
 use Rattle.std.specs.List.{list_any}
 use Rattle.std.specs.Str.{IsUtf8, IsCharBoundary}
 use Rattle.std.proofs.lemmas.Str.{IsUtf8-take, IsUtf8-nil, IsCharBoundary-after_ascii}
-use Rattle.acl_splice.specs.LinesAndFolders.{folder_of}
+use Rattle.acl_splice.specs.Folders.{folder_of}
 
 abbrev has_slash : List ℕ → Bool
 has_slash bs = list_any (λ c. c == 47) bs

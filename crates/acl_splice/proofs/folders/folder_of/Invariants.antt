@@ -1,6 +1,6 @@
 use Rattle.std.specs.Prelude.{◌≡◌, length}
-use Rattle.acl_splice.specs.LinesAndFolders.{folder_of}
-use Rattle.acl_splice.proofs.lines_and_folders.folder_of.Given as goal
+use Rattle.acl_splice.specs.Folders.{folder_of}
+use Rattle.acl_splice.proofs.folders.folder_of.Given as goal
 
 abbrev pub invariant-loop-front : goal.invariant-loop-front
 invariant-loop-front l = folder_of l.front ≡ folder_of l.path
