@@ -14,7 +14,7 @@ use Rattle.cisco_lang.specs.declared.documents.Section.{Section}
 use Rattle.cisco_lang.specs.declared.documents.AccessList.{AccessList}
 use Rattle.cisco_lang.specs.declared.documents.Item.{Item}
 use Rattle.cisco_lang.specs.declared.documents.Item.TheVariants.{Remark, Entry as AnEntry}
-use Rattle.cisco_lang.specs.declared.document_drafts.DocDraft.{DocDraft}
+use Rattle.cisco_lang.specs.declared.document_drafts.DocumentDraft.{DocumentDraft}
 use Rattle.cisco_lang.specs.Documents.{IsItem, IsList, heads_of, IsSection}
 use Rattle.cisco_lang.specs.Texts.{action_word, proto_word, end_words, type_words, flags_words, log_words, entry_words, item_rows, head_rows, end_rows, list_rows, families_word, section_rows, Spells}
 use Rattle.cisco_lang.specs.ReadingSteps.{no_list, no_section, no_draft, families_in, entry_in, item_in, is_last, end_section, end_list, take_four, take_outer, take_inner, take_row, document_in}
@@ -22,13 +22,13 @@ use Rattle.cisco_lang.proofs.ValidityLaws.{head_of}
 use Rattle.cisco_lang.proofs.EntryReadingLaws.{entry_again}
 use Rattle.cisco_lang.proofs.SafeRows.{sections_safe}
 
-abbrev at : List Section → Section → AccessList → DocDraft
+abbrev at : List Section → Section → AccessList → DocumentDraft
 at ss s l = record { sections = ss; section = s; list = l }
 
-abbrev read : DocDraft → List Row → DocDraft
+abbrev read : DocumentDraft → List Row → DocumentDraft
 read d rows = fold take_row d rows
 
-then : (d m e : DocDraft) (xs ys : List Row) → read d xs ≡ m → read m ys ≡ e → read d (xs ++ ys) ≡ e
+then : (d m e : DocumentDraft) (xs ys : List Row) → read d xs ≡ m → read m ys ≡ e → read d (xs ++ ys) ≡ e
 then d m e xs ys h k = fold-append take_row d xs ys ∙ ap (λ s. read s ys) h ∙ k
 
 -- ---- items
@@ -126,7 +126,7 @@ sections_read ss (s ∷ doc) h =
 
 -- ---- documents
 
-empty_row : (d : DocDraft) → take_row d (row_in []) ≡ d
+empty_row : (d : DocumentDraft) → take_row d (row_in []) ≡ d
 unfolding row_in take_row take_outer
 empty_row d = refl
 

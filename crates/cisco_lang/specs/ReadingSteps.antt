@@ -27,7 +27,7 @@ use Rattle.cisco_lang.specs.declared.entry_drafts.End.TheVariants.{Source, Desti
 use Rattle.cisco_lang.specs.declared.entry_drafts.Next.{Next}
 use Rattle.cisco_lang.specs.declared.entry_drafts.Next.TheVariants.{Action, Protocol, Place, Host, Wildcard, Port, Low, High, Tests}
 use Rattle.cisco_lang.specs.declared.entry_drafts.EntryDraft.{EntryDraft}
-use Rattle.cisco_lang.specs.declared.document_drafts.DocDraft.{DocDraft}
+use Rattle.cisco_lang.specs.declared.document_drafts.DocumentDraft.{DocumentDraft}
 
 -- ---- the words of an entry
 
@@ -188,45 +188,45 @@ abbrev pub is_last : Families → Family → Bool
 is_last Mixed V4 = false
 is_last families family = true
 
-abbrev pub end_section : Bool → DocDraft → DocDraft
+abbrev pub end_section : Bool → DocumentDraft → DocumentDraft
 end_section true d = record d { sections = d.sections ++ d.section ∷ []; section = no_section }
 end_section false d = d
 
-unfoldable pub end_list : DocDraft → DocDraft
+unfoldable pub end_list : DocumentDraft → DocumentDraft
 end_list d = end_section (is_last d.section.families d.list.family) (record d {
   section = record d.section { lists = d.section.lists ++ d.list ∷ [] };
   list = no_list;
 })
 
-abbrev pub begin_list : DocDraft → Family → List ℕ → DocDraft
+abbrev pub begin_list : DocumentDraft → Family → List ℕ → DocumentDraft
 begin_list d family name = record d { list = record { family = family; name = name; items = [] } }
 
-abbrev pub begin_section : DocDraft → List ℕ → List ℕ → DocDraft
+abbrev pub begin_section : DocumentDraft → List ℕ → List ℕ → DocumentDraft
 begin_section d name kind =
     record d { section = record { name = name; families = families_in kind; lists = [] } }
 
 -- A row of four words begins a section or an IPv4 list, or takes an IPv6 list away.
-unfoldable pub take_four : DocDraft → List ℕ → List ℕ → List ℕ → DocDraft
+unfoldable pub take_four : DocumentDraft → List ℕ → List ℕ → List ℕ → DocumentDraft
 take_four d w name kind =
     if bytes_eq w (codes "!") then begin_section d name kind
     else if bytes_eq w (codes "ip") then begin_list d V4 kind
     else d
 
-unfoldable pub take_outer : DocDraft → List (List ℕ) → DocDraft
+unfoldable pub take_outer : DocumentDraft → List (List ℕ) → DocumentDraft
 take_outer d (w ∷ []) = if bytes_eq w (codes "exit") then end_list d else d
 take_outer d (w ∷ v ∷ name ∷ []) = begin_list d V6 name
 take_outer d (w ∷ v ∷ name ∷ kind ∷ []) = take_four d w name kind
 take_outer d words = d
 
-unfoldable pub take_inner : DocDraft → List (List ℕ) → DocDraft
+unfoldable pub take_inner : DocumentDraft → List (List ℕ) → DocumentDraft
 take_inner d words = record d {
   list = record d.list { items = d.list.items ++ item_in d.list.family words ∷ [] };
 }
 
-unfoldable pub take_row : DocDraft → Row → DocDraft
+unfoldable pub take_row : DocumentDraft → Row → DocumentDraft
 take_row d r = if r.indent == 0 then take_outer d r.words else take_inner d r.words
 
-abbrev pub no_draft : DocDraft
+abbrev pub no_draft : DocumentDraft
 no_draft = record { sections = []; section = no_section; list = no_list }
 
 -- What the bytes say, whatever they are.

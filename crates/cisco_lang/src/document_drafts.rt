@@ -13,13 +13,13 @@ use std::mem;
 /// What has been read of a document's rows: the sections that have ended, the next one, and its next
 /// list.
 #[derive(Drop)]
-pub(crate) struct DocDraft {
+pub(crate) struct DocumentDraft {
     pub(crate) sections: Doc,
     section: Section,
     list: AccessList,
 }
 
-impl Draft for DocDraft {
+impl Draft for DocumentDraft {
     ghost step = { take_row };
 
     #[tactic(auto, unfolding(crate::specs::ReadingSteps::take_row))]
@@ -32,12 +32,12 @@ impl Draft for DocDraft {
     }
 }
 
-impl DocDraft {
+impl DocumentDraft {
     /// Nothing has been read.
-    pub(crate) fn new(alloc: Global) -> DocDraft
+    pub(crate) fn new(alloc: Global) -> DocumentDraft
         ensures { result ≡ no_draft }
     {
-        DocDraft {
+        DocumentDraft {
             sections: Items::new(alloc),
             section: no_section(alloc),
             list: no_list(alloc),

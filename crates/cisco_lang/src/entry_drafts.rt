@@ -111,19 +111,19 @@ impl EntryDraft {
                 ..self
             },
             Next::Place(end) => self.take_place(end, word),
-            Next::Host(end) => self.place(end, host_of(self.family, word), after(end)),
+            Next::Host(end) => self.with_place(end, host_of(self.family, word), after(end)),
             Next::Wildcard(end) => {
                 let place = Prefix {
                     len: wildcard_length(word),
                     ..self.place_of(end)
                 };
-                self.place(end, place, after(end))
+                self.with_place(end, place, after(end))
             }
-            Next::Port(end) => self.ports(end, (port_of(word), port_of(word)), after(end)),
-            Next::Low(end) => self.ports(end, (port_of(word), port_of(word)), Next::High(end)),
+            Next::Port(end) => self.with_ports(end, (port_of(word), port_of(word)), after(end)),
+            Next::Low(end) => self.with_ports(end, (port_of(word), port_of(word)), Next::High(end)),
             Next::High(end) => {
                 let ports = port_pair(self.ports_of(end), port_of(word));
-                self.ports(end, ports, after(end))
+                self.with_ports(end, ports, after(end))
             }
             Next::Tests => self.take_test(word),
         }
@@ -143,8 +143,8 @@ impl EntryDraft {
         ensures { result ≡ begun self.family end place self.entry }
     {
         match self.family {
-            Family::V4 => self.place(end, place, Next::Wildcard(end)),
-            Family::V6 => self.place(end, place, after(end)),
+            Family::V4 => self.with_place(end, place, Next::Wildcard(end)),
+            Family::V6 => self.with_place(end, place, after(end)),
         }
     }
 
@@ -152,9 +152,9 @@ impl EntryDraft {
         ensures { result ≡ place_named self.family self.entry end word.now }
     {
         if is(word, "any") {
-            self.place(end, everywhere(self.family), after(end))
+            self.with_place(end, everywhere(self.family), after(end))
         } else if is(word, "host") {
-            self.go_on(Next::Host(end))
+            self.with_next(Next::Host(end))
         } else {
             self.begin_ports(Next::Place(end), End::Source, word)
         }
@@ -164,11 +164,11 @@ impl EntryDraft {
         ensures { result ≡ ports_begin self.family self.entry next end word.now }
     {
         if is(word, "eq") {
-            self.go_on(Next::Port(end))
+            self.with_next(Next::Port(end))
         } else if is(word, "range") {
-            self.go_on(Next::Low(end))
+            self.with_next(Next::Low(end))
         } else {
-            self.go_on(next)
+            self.with_next(next)
         }
     }
 
@@ -193,11 +193,11 @@ impl EntryDraft {
         ensures { result ≡ test_named self.family self.entry word.now }
     {
         if is(word, "established") {
-            self.test(Flags::Established)
+            self.with_test(Flags::Established)
         } else if is(word, "rst") {
-            self.test(Flags::Rst)
+            self.with_test(Flags::Rst)
         } else if is(word, "match-all") {
-            self.test(Flags::SynNotAck)
+            self.with_test(Flags::SynNotAck)
         } else if is(word, "log") {
             EntryDraft {
                 entry: Entry {
@@ -212,13 +212,13 @@ impl EntryDraft {
         }
     }
 
-    fn go_on(self, next: Next) -> EntryDraft
+    fn with_next(self, next: Next) -> EntryDraft
         ensures { result ≡ draft self.family self.entry next }
     {
         EntryDraft { next, ..self }
     }
 
-    fn test(self, flags: Flags) -> EntryDraft
+    fn with_test(self, flags: Flags) -> EntryDraft
         ensures { result ≡ with_test self.family self.entry flags }
     {
         EntryDraft {
@@ -249,7 +249,7 @@ impl EntryDraft {
         }
     }
 
-    fn place(self, end: End, place: Prefix, next: Next) -> EntryDraft
+    fn with_place(self, end: End, place: Prefix, next: Next) -> EntryDraft
         ensures { result ≡ draft self.family (with_place end place self.entry) next }
     {
         let entry = match end {
@@ -269,7 +269,7 @@ impl EntryDraft {
         }
     }
 
-    fn ports(self, end: End, ports: (u16, u16), next: Next) -> EntryDraft
+    fn with_ports(self, end: End, ports: (u16, u16), next: Next) -> EntryDraft
         ensures { result ≡ draft self.family (with_ports end (Some ports) self.entry) next }
     {
         let entry = match end {

@@ -3,7 +3,7 @@ ghost use Rattle.cisco_lang.specs.declared.documents.Section.{Section};
 ghost use Rattle.cisco_lang.specs.ReadingSteps.{document_in};
 ghost use Rattle.cisco_lang.specs.Texts.{Spells, text_of};
 
-use crate::document_drafts::DocDraft;
+use crate::document_drafts::DocumentDraft;
 use crate::documents::{Doc, Section};
 use crate::list_rows::Sections;
 use crate::validity::is_document;
@@ -32,7 +32,7 @@ pub fn read(alloc: Global, bytes: &[u8]) -> Result<Option<Doc>, Memory>
 fn read_leniently(alloc: Global, bytes: &[u8]) -> Result<Doc, Memory>
     ensures { IfOk result (λ doc. doc ≡ document_in bytes.now) }
 {
-    let mut draft = DocDraft::new(alloc);
+    let mut draft = DocumentDraft::new(alloc);
     read_rows(alloc, &mut draft, bytes)?;
     Ok(draft.sections)
 }
