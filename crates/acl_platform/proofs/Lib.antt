@@ -1,0 +1,2 @@
+mod Sections
+mod TextFronts
