@@ -1,2 +1,3 @@
+mod RuleOutcomes
 mod Sections
 mod TextFronts

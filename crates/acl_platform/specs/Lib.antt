@@ -1,3 +1,6 @@
+pub mod ChoiceSteps
+pub mod Choices
+pub mod Combinations
 pub mod Platforms
 pub mod Rules
 pub mod SoundFilters

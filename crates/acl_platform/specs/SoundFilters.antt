@@ -11,7 +11,6 @@ use Rattle.acl_packet.specs.declared.filtering.Verdict.TheVariants.{Accept, Deny
 use Rattle.acl_packet.specs.Addresses.{covers}
 use Rattle.acl_packet.specs.Packets.{has_ports, is_extension_header, is_icmp}
 use Rattle.acl_text.specs.Names.{is_name, is_safe_text}
-use Rattle.acl_sets.specs.ComputableSets.{covers as covers_range}
 use Rattle.acl_sets.specs.LeastLists.{any_has, IsLeastList}
 use Rattle.acl_sets.specs.Ranges.{holds, IsNormal, Numbers}
 use Rattle.acl_policy.specs.declared.filters.Kind.{Kind}
@@ -21,6 +20,7 @@ use Rattle.acl_policy.specs.Conditions.{IsTarget}
 use Rattle.acl_platform.specs.declared.filters.Filter.{Filter}
 use Rattle.acl_platform.specs.declared.rules.Rule.{Rule}
 use Rattle.acl_platform.specs.declared.rules.Test.{Test}
+use Rattle.acl_platform.specs.Choices.{is_all}
 use Rattle.acl_platform.specs.declared.rules.Test.TheVariants.{Plain, AckOrRst, SynNotAck, Rst, State}
 
 -- A set with a top and a number, in normal form.
@@ -33,10 +33,6 @@ pub record IsFull (top : ℕ) (s : Numbers) : Type 0 where
 pub record IsFullList (family : Family) (prefixes : List Prefix) : Type 0 where
   pub least : IsLeastList family (any_has prefixes) prefixes
   pub some : prefixes ≢ []
-
--- A set has all numbers up to its top.
-abbrev pub is_all : Numbers → Bool
-is_all s = covers_range s.ranges 0 s.top
 
 -- A set has only numbers that pass a test.
 abbrev pub Only : (ℕ → Bool) → Numbers → Type 0

@@ -2,14 +2,20 @@
 //! generators of texts share.
 #![tactic(auto)]
 
+mod choices;
+mod combinations;
 mod filtering;
 mod filters;
+mod laws;
 mod platforms;
 mod rules;
 mod writing;
 
+pub use choices::{Choices, NumberChoices, RangeChoices};
+pub use combinations::{Combination, count_combinations, put_combinations};
 pub use filtering::filter_outcome;
 pub use filters::{Filter, Limit};
+pub use laws::{combinations_hold_what_the_sets_hold, sound_rules_have_combinations};
 pub use platforms::Platform;
 pub use rules::{Rule, Rules, Test};
 pub use writing::write_all;

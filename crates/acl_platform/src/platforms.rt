@@ -20,6 +20,7 @@ use acl_text::{Out, PutFault};
 /// that a filter becomes, `count` the number of its entries, and `limit` why it is not taken.
 pub trait Platform {
     type Doc;
+
     type Section;
 
     ghost handles: { Filter → Bool };

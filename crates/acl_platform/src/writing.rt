@@ -18,8 +18,7 @@ pub fn write_all<P: Platform, O: Out>(
 ) -> Result<(), PutFault>
     requires open { IsTrue (O.is_open out.old) }
     requires accepted { All (IsAccepted P.handles P.limit) filters.now }
-    requires names_differ {
-        IsDistinct bytes_eq (flat_map (λ f. P.names (P.section f)) filters.now) }
+    requires names_differ { IsDistinct bytes_eq (flat_map (λ f. P.names (P.section f)) filters.now) }
     ensures puts { Puts O.told O.faults O.refusals O.is_open O.keeps_rest out.old out.new
         (flat_map (λ f. P.text (P.section f)) filters.now) result }
     ensures spelled { P.spells (flat_map (λ f. P.text (P.section f)) filters.now)
