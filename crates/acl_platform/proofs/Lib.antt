@@ -1,3 +1,7 @@
+mod ChoiceLaws
+mod CombinationLaws
+pub mod EntryLaws
+pub mod PairLaws
 mod RuleOutcomes
 mod Sections
 mod TextFronts
