@@ -3,8 +3,8 @@ use Rattle.std.proofs.Common.{◌≡◌, ℕ, ◌+◌, ◌<◌, ◌≤◌, cond,
 use Rattle.std.proofs.lemmas.List.{drop_all, drop_more}
 use Rattle.acl_packet.specs.declared.packets.Packet.{Packet}
 use Rattle.acl_packet.specs.Outcomes.{unlogged}
-use Rattle.acl_policy.specs.declared.filters.Ending.{Ending}
-use Rattle.acl_policy.specs.FilterEndings.{ending_outcome, ending_verdict}
+use Rattle.acl_target.specs.declared.targets.Ending.{Ending}
+use Rattle.acl_target.specs.FilterEndings.{ending_outcome, ending_verdict}
 use Rattle.acl_platform.specs.declared.rules.Rule.{Rule}
 use Rattle.acl_platform.specs.Rules.{decided_by, rule_holds, rules_outcome}
 

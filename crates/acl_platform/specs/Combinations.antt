@@ -6,7 +6,7 @@ use Rattle.acl_packet.specs.declared.addresses.Prefix.{Prefix}
 use Rattle.acl_packet.specs.declared.packets.Packet.{Packet}
 use Rattle.acl_packet.specs.Addresses.{has_address}
 use Rattle.acl_packet.specs.Packets.{IsPacket}
-use Rattle.acl_policy.specs.declared.filters.Kind.{Kind}
+use Rattle.acl_target.specs.declared.targets.Kind.{Kind}
 use Rattle.acl_platform.specs.declared.combinations.Combination.{Combination}
 use Rattle.acl_platform.specs.declared.rules.Rule.{Rule}
 use Rattle.acl_platform.specs.Choices.{in_range, is_chosen, number_choices, pairs, range_choices}

@@ -8,8 +8,8 @@ use Rattle.acl_packet.specs.Addresses.{same_family}
 use Rattle.acl_packet.specs.Packets.{has_flag}
 use Rattle.acl_sets.specs.LeastLists.{any_has}
 use Rattle.acl_sets.specs.Ranges.{holds}
-use Rattle.acl_policy.specs.declared.filters.Ending.{Ending}
-use Rattle.acl_policy.specs.FilterEndings.{ending_outcome}
+use Rattle.acl_target.specs.declared.targets.Ending.{Ending}
+use Rattle.acl_target.specs.FilterEndings.{ending_outcome}
 use Rattle.acl_platform.specs.declared.filters.Filter.{Filter}
 use Rattle.acl_platform.specs.declared.rules.Rule.{Rule}
 use Rattle.acl_platform.specs.declared.rules.Test.{Test}

@@ -13,10 +13,10 @@ use Rattle.acl_packet.specs.Packets.{has_ports, is_extension_header, is_icmp}
 use Rattle.acl_text.specs.Names.{is_name, is_safe_text}
 use Rattle.acl_sets.specs.LeastLists.{any_has, IsLeastList}
 use Rattle.acl_sets.specs.Ranges.{holds, IsNormal, Numbers}
-use Rattle.acl_policy.specs.declared.filters.Kind.{Kind}
-use Rattle.acl_policy.specs.declared.filters.Kind.TheVariants.{Cisco, Juniper, Iptables, Nftables}
-use Rattle.acl_policy.specs.declared.filters.Target.{Target}
-use Rattle.acl_policy.specs.Conditions.{IsTarget}
+use Rattle.acl_target.specs.declared.targets.Kind.{Kind}
+use Rattle.acl_target.specs.declared.targets.Kind.TheVariants.{Cisco, Juniper, Iptables, Nftables}
+use Rattle.acl_target.specs.declared.targets.Target.{Target}
+use Rattle.acl_target.specs.TargetData.{IsTarget}
 use Rattle.acl_platform.specs.declared.filters.Filter.{Filter}
 use Rattle.acl_platform.specs.declared.rules.Rule.{Rule}
 use Rattle.acl_platform.specs.declared.rules.Test.{Test}

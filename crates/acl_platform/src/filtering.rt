@@ -1,7 +1,7 @@
 ghost use Rattle.std.specs.Prelude.{◌≡◌};
 ghost use Rattle.std.specs.List.{list_any};
 ghost use Rattle.acl_packet.specs.Outcomes.{unlogged};
-ghost use Rattle.acl_policy.specs.FilterEndings.{ending_verdict, is_neighbour_discovery};
+ghost use Rattle.acl_target.specs.FilterEndings.{ending_verdict, is_neighbour_discovery};
 ghost use Rattle.acl_sets.specs.LeastLists.{any_has};
 ghost use Rattle.acl_platform.specs.Rules.{
   decided_by,
@@ -15,7 +15,7 @@ ghost use Rattle.acl_platform.specs.Rules.{
 use crate::filters::Filter;
 use crate::rules::{Rule, Test};
 use acl_packet::{Conn, Family, Outcome, Packet, Prefix, Verdict, has_flag};
-use acl_policy::Ending;
+use acl_target::Ending;
 
 /// What the filter does with the packet: the first rule that holds it decides, else the ending,
 /// without a log.

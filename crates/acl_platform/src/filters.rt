@@ -1,6 +1,6 @@
 use crate::rules::Rules;
 use acl_packet::{Families, Hook};
-use acl_policy::{Ending, Kind};
+use acl_target::{Ending, Kind};
 use acl_text::{Bytes, Place};
 
 /// A filter: the data of a target, and the rules that the terms of its block become.
