@@ -194,7 +194,7 @@ some-number-by floor top s h k false = some-numbers floor top s.ranges h k
 pub some-number : (floor top : ℕ) (s : Numbers) → IsNormal floor top s.ranges → s.ranges ≢ [] → number_choices s ≢ []
 some-number floor top s h k = some-number-by floor top s h k (is_all s)
 
-some-range-by : (rs : List Range) → rs ≢ [] → (b : Bool) → cond b (None ∷ []) (map (λ r. Some (r.low, r.high)) rs) ≢ []
+some-range-by : (rs : List Range) → rs ≢ [] → (b : Bool) → cond {A = List (Option (ℕ × ℕ))} b (None ∷ []) (map (λ r. Some (r.low, r.high)) rs) ≢ []
 some-range-by rs h true = λ e. cc
 some-range-by [] h false = absurd (h refl)
 some-range-by (r ∷ rs) h false = λ e. cc

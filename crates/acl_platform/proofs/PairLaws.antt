@@ -5,7 +5,7 @@ use Rattle.std.proofs.lemmas.Bool.{cases_lt}
 use Rattle.std.proofs.lemmas.List.{length-append, length-map}
 use Rattle.std.proofs.lemmas.List.Folds.{flat_map-map, list_any-append}
 use Rattle.std.proofs.lemmas.Grind.{flat_map-append}
-use Rattle.std.proofs.Math.Nat.{mul-zero, mul-comm}
+use Rattle.std.proofs.Math.Nat.{mul-zero, mul_comm}
 use Rattle.acl_grammar.proofs.ListLaws.{all_flat}
 use Rattle.acl_platform.specs.Choices.{pairs}
 
@@ -44,7 +44,7 @@ absorb a b e = elim (cases_lt e a) [
 -- a product of counts that stand still at their end
 pub product-min : (a b e : ℕ) → min (min a e * min b e) e ≡ min (a * b) e
 product-min a b e =
-    absorb a (min b e) e ∙ ap (λ n. min n e) (mul-comm a (min b e)) ∙ absorb b a e ∙ ap (λ n. min n e) (mul-comm b a)
+    absorb a (min b e) e ∙ ap (λ n. min n e) (mul_comm a (min b e)) ∙ absorb b a e ∙ ap (λ n. min n e) (mul_comm b a)
 
 -- ---- what is asked
 

@@ -10,7 +10,8 @@ use Rattle.acl_packet.specs.declared.filtering.Verdict.{Verdict}
 use Rattle.acl_packet.specs.declared.filtering.Verdict.TheVariants.{Accept, Deny, Reject, Reset, Left}
 use Rattle.acl_packet.specs.Addresses.{covers}
 use Rattle.acl_packet.specs.Packets.{has_ports, is_extension_header, is_icmp}
-use Rattle.acl_text.specs.Names.{is_name, is_safe_text}
+use Rattle.acl_text.specs.Names.{is_name}
+use Rattle.acl_text.specs.Notes.{is_note}
 use Rattle.acl_sets.specs.LeastLists.{any_has, IsLeastList}
 use Rattle.acl_sets.specs.Ranges.{holds, IsNormal, Numbers}
 use Rattle.acl_target.specs.declared.targets.Kind.{Kind}
@@ -89,11 +90,6 @@ IsRuleName Cisco name = (is_name name ≡ true) ⊎ IsSplitName name
 IsRuleName Juniper name = (is_name name ≡ true) ⊎ IsSplitName name
 IsRuleName Iptables name = (is_name name ≡ true) ⊎ IsSplitName name
 IsRuleName Nftables name = is_name name ≡ true
-
--- A note is empty, or a free text.
-abbrev pub is_note : List ℕ → Bool
-is_note [] = true
-is_note (b ∷ bs) = is_safe_text (b ∷ bs)
 
 -- Ports belong to TCP, UDP and SCTP, types to the family's ICMP, flags and resets to TCP. A type
 -- that is named is below 255, so that a document can write it on each platform.
