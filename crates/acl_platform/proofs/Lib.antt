@@ -1,7 +1,8 @@
-mod ChoiceLaws
-mod CombinationLaws
+pub mod ChoiceLaws
+pub mod CombinationLaws
 pub mod EntryLaws
 pub mod PairLaws
 mod RuleOutcomes
 mod Sections
-mod TextFronts
+pub mod SoundRules
+pub mod TextFronts

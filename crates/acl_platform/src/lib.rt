@@ -8,7 +8,10 @@ mod filtering;
 mod filters;
 mod laws;
 mod platforms;
+mod rule_rows;
 mod rules;
+#[cfg(test)]
+mod tests;
 mod writing;
 
 pub use choices::{Choices, NumberChoices, RangeChoices};
@@ -17,5 +20,6 @@ pub use filtering::filter_outcome;
 pub use filters::{Filter, Limit};
 pub use laws::{combinations_hold_what_the_sets_hold, sound_rules_have_combinations};
 pub use platforms::Platform;
+pub use rule_rows::{RuleForm, put_rules};
 pub use rules::{Rule, Rules, Test};
 pub use writing::write_all;
