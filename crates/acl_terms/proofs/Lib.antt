@@ -1,0 +1,4 @@
+pub mod SetLaws
+pub mod SlipLaws
+pub mod WordLaws
+pub mod SoundLaws

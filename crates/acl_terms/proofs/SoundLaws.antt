@@ -1,0 +1,166 @@
+-- The sets of a term without a slip fulfil what every term does.
+use Rattle.std.proofs.Common.{◌≡◌, ◌≢◌, ◌⊎◌, ◌↔◌, ℕ, ◌+◌, ◌<◌, ◌≤◌, Bool, true, false, cond, ◌&&◌, ◌||◌, ◌==◌, List, [], ◌∷◌, ◌++◌, Option, None, Some, inl, inr, refl, ap, sym, ◌∙◌, subst, arith}
+use Rattle.std.specs.Prelude.{flat_map, option_to_list, is_some}
+use Rattle.std.specs.List.{list_all}
+use Rattle.std.proofs.lemmas.Bool.{both_ways, false_from_ne_true, cases_Bool}
+use Rattle.std.proofs.lemmas.Option.{none-some, same_Some}
+use Rattle.acl_packet.specs.declared.addresses.Family.{Family}
+use Rattle.acl_packet.specs.declared.addresses.Family.TheVariants.{V4, V6}
+use Rattle.acl_packet.specs.declared.filtering.Verdict.{Verdict}
+use Rattle.acl_packet.specs.declared.filtering.Verdict.TheVariants as verdicts
+use Rattle.acl_packet.specs.NumberWords.{protocol_in}
+use Rattle.acl_packet.specs.Packets.{has_ports}
+use Rattle.acl_text.specs.declared.faults.Code.{Code}
+use Rattle.acl_text.specs.declared.faults.Code.TheVariants as codes
+use Rattle.acl_text.specs.Names.{is_name}
+use Rattle.acl_sets.specs.declared.sets.Range.{Range}
+use Rattle.acl_sets.specs.Ranges.{Numbers, IsNormal, holds}
+use Rattle.acl_sets.proofs.RangeLaws.{at_top}
+use Rattle.acl_sets.proofs.ComputableSetLaws.{holds-covers}
+use Rattle.acl_policy.specs.declared.raw_terms.Word.{Word}
+use Rattle.acl_policy.specs.declared.raw_terms.RawTerm.{RawTerm}
+use Rattle.acl_naming.specs.Definitions.{Naming}
+use Rattle.acl_terms.specs.declared.options.Opt.{Opt}
+use Rattle.acl_terms.specs.declared.options.Opt.TheVariants.{Plain, Established, TcpEstablished, TcpInitial, Rst}
+use Rattle.acl_terms.specs.Matching.{AnyOf, Admits, IsProtocol, IsType, only, is_number, icmp_family, type_in, protocols_of, is_written}
+use Rattle.acl_terms.specs.Options.{option_of, verdict_of}
+use Rattle.acl_terms.specs.Sets.{IsSetOf, Sets, AreSetsOf}
+use Rattle.acl_terms.specs.Slips.{unless, first_unless, first_in, slip_of, questions, first_some, type_slip, option_fits, verdict_fits, is_tcp_or_udp, port_words}
+use Rattle.acl_terms.specs.Soundness.{IsSound, is_all, Only, is_established, needs_tcp, is_reset, is_left}
+use Rattle.acl_terms.specs.StandIns.{note_of, is_note}
+use Rattle.acl_terms.proofs.WordLaws.{protocol-within, type-within, parts, passed, first-passed, none-more, left-some, right-some, some-only, only-all, any-passes, any-number}
+
+-- ---- all numbers
+
+pub whole : (top : ℕ) (s : Numbers) → IsSetOf (λ x. Unit {0}) top s → is_all s ≡ true
+whole top s h =
+    let t : s.top ≡ top = h.top_is in
+    holds-covers 0 s.top s.ranges 0 s.top h.normal (omega arith)
+    (λ x a b. let e = h.exact x (omega arith) in e.1 tt)
+
+-- Where a set is not all, words are written.
+pub not-whole : (P : ℕ → Word → Type 0) (top : ℕ) (ws : List Word) (s : Numbers)
+    → IsSetOf (λ x. Admits (P x) ws) top s → is_all s ≡ false → ws ≢ []
+not-whole P top [] s h e = λ _. both_ways (is_all s) e (whole top s h)
+not-whole P top (w ∷ ws) s h e = none-more w ws
+
+-- A number of a set that is not all is one of the words'.
+pub named-number : (P : ℕ → Word → Type 0) (top : ℕ) (ws : List Word) (s : Numbers) (x : ℕ)
+    → IsSetOf (λ n. Admits (P n) ws) top s → ws ≢ [] → holds s.ranges x ≡ true → AnyOf (P x) ws
+named-number P top [] s x h some e = absurd (some refl)
+named-number P top (w ∷ ws) s x h some e =
+    let t : s.top ≡ top = h.top_is in
+    let l : x ≤ s.top = at_top 0 s.top s.ranges x h.normal e in
+    let law = h.exact x (omega arith) in law.0 e
+
+-- ---- protocols
+
+pub only-held : (test : ℕ → Bool) (ws : List Word) (s : Numbers) → IsSetOf (IsProtocol ws) 255 s
+    → only test (protocols_of ws) ≡ true → Only test s
+only-held test [] s h o x e = absurd (both_ways false refl o)
+only-held test (w ∷ ws) s h o x e =
+    any-passes test (λ v. protocol_in v.text) (w ∷ ws) x (only-all test (protocols_of (w ∷ ws)) o)
+    (named-number (λ n v. protocol_in v.text ≡ Some n) 255 (w ∷ ws) s x h (none-more w ws) e)
+
+no-zero : (ws : List Word) → AnyOf (λ w. protocol_in w.text ≡ Some 0) ws → ⊥
+no-zero ws a =
+    let l : 1 ≤ 0 = any-number (λ w. protocol_in w.text) (λ n. 1 ≤ n) ws 0
+          (λ w e. (protocol-within 0 w.text e).0) a in
+    absurd (omega arith)
+
+lack-zero : (ws : List Word) (s : Numbers) → IsSetOf (IsProtocol ws) 255 s → is_all s ≡ false
+    → holds s.ranges 0 ≡ false
+lack-zero ws s h e = false_from_ne_true (holds s.ranges 0)
+    (λ t. no-zero ws (named-number (λ n v. protocol_in v.text ≡ Some n) 255 ws s 0 h
+    (not-whole (λ n v. protocol_in v.text ≡ Some n) 255 ws s h e) t))
+
+-- ---- ports
+
+ports-fit : (n : Naming) (P : ℕ → Word → Type 0) (top : ℕ) (ws : List Word) (s : Numbers) (b : Bool) (code : Code) (all : List Word)
+    → IsSetOf (λ x. Admits (P x) ws) top s → (ws ≢ [] → all ≢ []) → first_unless b code all ≡ None
+    → is_all s ≡ false → b ≡ true
+ports-fit n P top ws s b code all h more none e =
+    first-passed b code all none (more (not-whole P top ws s h e))
+
+-- ---- types
+
+some-range : (rs : List Range) (x : ℕ) → holds rs x ≡ true → rs ≢ []
+some-range [] x e = absurd (both_ways false refl e)
+some-range (r ∷ rs) x e = none-more r rs
+
+whole-some : (s : Numbers) → is_all s ≡ true → s.ranges ≢ []
+whole-some s e = λ h. both_ways false refl (sym (ap (λ rs. is_all (record { top = s.top; ranges = rs })) h) ∙ e)
+
+some-there : (o : Option ℕ) → is_some o ≡ true → (n : ℕ) × (o ≡ Some n)
+some-there None h = absurd (both_ways false refl h)
+some-there (Some n) h = (n, refl)
+
+some-type : (f : Option Family) (w : Word) → type_slip f w ≡ None
+    → (n : ℕ) × (type_in f w.text ≡ Some n)
+some-type f w none = some-there (type_in f w.text) (passed (is_some (type_in f w.text)) codes.Missing w none)
+
+types-some : (f : Option Family) (ws : List Word) (s : Numbers) → IsSetOf (IsType f ws) 255 s
+    → first_in (type_slip f) ws ≡ None → s.ranges ≢ []
+types-some f [] s h none = whole-some s (whole 255 s h)
+types-some f (w ∷ ws) s h none =
+    let t = some-type f w (parts (type_slip f w) (first_in (type_slip f) ws) none).0 in
+    let l : t.0 ≤ 254 = type-within f t.0 w.text t.1 in
+    let law = h.exact t.0 (omega arith) in
+    some-range s.ranges t.0 (law.1 (inl t.1))
+
+lack-255 : (f : Option Family) (ws : List Word) (s : Numbers) → IsSetOf (IsType f ws) 255 s
+    → is_all s ≡ false → holds s.ranges 255 ≡ false
+lack-255 f ws s h e = false_from_ne_true (holds s.ranges 255)
+    (λ t. let a = named-number (λ n v. type_in f v.text ≡ Some n) 255 ws s 255 h
+            (not-whole (λ n v. type_in f v.text ≡ Some n) 255 ws s h e) t in
+      let l : 255 ≤ 254 = any-number (λ w. type_in f w.text) (λ n. n ≤ 254) ws 255
+            (λ w q. type-within f 255 w.text q) a in
+      absurd (omega arith))
+
+is-family : (f : Option Family) (ws : List Word) → ws ≢ [] → first_in (type_slip f) ws ≡ None → f ≢ None
+is-family f [] some none = absurd (some refl)
+is-family f (w ∷ ws) some none =
+    let t = some-type f w (parts (type_slip f w) (first_in (type_slip f) ws) none).0 in
+    λ e. none-some t.0 (sym (ap (λ g. type_in g w.text) e) ∙ t.1)
+
+one-icmp : (a b : Bool) → cond a (Some V4) (cond b (Some V6) None) ≢ None → (a ≡ true → ⊥) → b ≡ true
+one-icmp true b h no = absurd (no refl)
+one-icmp false true h no = refl
+one-icmp false false h no = absurd (h refl)
+
+-- ---- options and verdicts
+
+established-only : (o : Opt) (qs : List ℕ) → option_fits o qs ≡ true → is_established o ≡ true
+    → only is_tcp_or_udp qs ≡ true
+established-only Plain qs h e = absurd (both_ways false refl e)
+established-only Established qs h e = h
+established-only TcpEstablished qs h e = absurd (both_ways false refl e)
+established-only TcpInitial qs h e = absurd (both_ways false refl e)
+established-only Rst qs h e = absurd (both_ways false refl e)
+
+flags-only : (o : Opt) (qs : List ℕ) → option_fits o qs ≡ true → needs_tcp o ≡ true
+    → only (is_number 6) qs ≡ true
+flags-only Plain qs h e = absurd (both_ways false refl e)
+flags-only Established qs h e = absurd (both_ways false refl e)
+flags-only TcpEstablished qs h e = h
+flags-only TcpInitial qs h e = h
+flags-only Rst qs h e = h
+
+option-fitting : (qs : List ℕ) (ws : List Word)
+    → first_unless (option_fits (option_of ws) qs) codes.Value ws ≡ None → option_fits (option_of ws) qs ≡ true
+option-fitting qs [] h = refl
+option-fitting qs (w ∷ ws) h = passed (option_fits (option_of (w ∷ ws)) qs) codes.Value w h
+
+reset-only : (v : Verdict) (qs : List ℕ) → verdict_fits v qs ≡ true → is_reset v ≡ true
+    → only (is_number 6) qs ≡ true
+reset-only verdicts.Accept qs h e = absurd (both_ways false refl e)
+reset-only verdicts.Deny qs h e = absurd (both_ways false refl e)
+reset-only verdicts.Reject qs h e = absurd (both_ways false refl e)
+reset-only verdicts.Reset qs h e = h
+reset-only verdicts.Left qs h e = absurd (both_ways false refl e)
+
+never-left : (a b c : Bool) → is_left (cond a verdicts.Accept (cond b verdicts.Deny (cond c verdicts.Reject verdicts.Reset))) ≡ false
+never-left true b c = refl
+never-left false true c = refl
+never-left false false true = refl
+never-left false false false = refl

@@ -1,0 +1,9 @@
+pub mod Living
+pub mod Matching
+pub mod Options
+pub mod Resolved
+pub mod SetSteps
+pub mod Sets
+pub mod Slips
+pub mod Soundness
+pub mod StandIns

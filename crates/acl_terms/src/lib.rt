@@ -1,0 +1,19 @@
+//! Terms: what a term of a policy means for a packet, before any platform is asked.
+#![tactic(auto)]
+
+mod addresses;
+mod checks;
+mod living;
+mod matching;
+mod notes;
+mod options;
+mod ports;
+mod protocols;
+mod resolving;
+mod terms;
+
+pub use living::is_live;
+pub use matching::{is_empty_in, matches};
+pub use options::{Mode, Opt};
+pub use resolving::resolve;
+pub use terms::{Platforms, Term};
