@@ -1,8 +1,10 @@
 -- Sets that hold exactly the numbers of which a fact holds: union, difference, nothing and all.
-use Rattle.std.proofs.Common.{◌≡◌, ◌↔◌, ◌⊎◌, ℕ, ◌+◌, ◌<◌, ◌≤◌, Bool, true, false, not, ◌&&◌, ◌||◌, nat_le, List, [], ◌∷◌, ◌++◌, length, take, get_or, inl, inr, refl, ap, sym, ◌∙◌, arith}
+use Rattle.std.proofs.Common.{◌≡◌, ◌≢◌, ◌↔◌, ◌⊎◌, ℕ, ◌+◌, ◌<◌, ◌≤◌, Bool, true, false, not, ◌&&◌, ◌||◌, nat_le, List, [], ◌∷◌, ◌++◌, length, take, get_or, inl, inr, refl, ap, sym, ◌∙◌, arith}
 use Rattle.std.proofs.lemmas.Bool.{and_from, and_parts, or_cases, or_left, or_right, both_ways, false_from_ne_true, le-leb}
 use Rattle.std.proofs.lemmas.List.{take_more}
-use Rattle.acl_sets.specs.Ranges.{Numbers, IsNormal, holds}
+use Rattle.acl_sets.specs.declared.sets.Range.{Range}
+use Rattle.acl_sets.specs.Ranges.{Numbers, IsNormal, holds, inside}
+use Rattle.acl_sets.proofs.RangeLaws.{in_range}
 use Rattle.acl_terms.specs.Matching.{AnyOf}
 use Rattle.acl_terms.specs.Sets.{IsSetOf}
 
@@ -114,3 +116,21 @@ more-set P top xs i a d s m u within is hs hm t n e =
     same-set (λ x. AnyOf (P x) (take i xs) ⊎ P x a) (λ x. AnyOf (P x) (take (i + 1) xs)) top u
     (λ x. let q = any-more (P x) xs i a d within is in (q.1, q.0))
     (joined-set (λ x. AnyOf (P x) (take i xs)) (λ x. P x a) top s m u hs hm t n e)
+
+-- A list in normal form that is not empty holds a number up to its top.
+holds-some : (top : ℕ) (rs : List Range) → IsNormal 0 top rs → rs ≢ []
+    → (x : ℕ) × (x ≤ top) × (holds rs x ≡ true)
+holds-some top [] n some = absurd (some refl)
+holds-some top (r ∷ rs) n some =
+    let first : r.low ≤ r.high = n.1 in
+    let last : r.high ≤ top = n.2 in
+    (r.low, omega arith, or_left (inside r r.low) (holds rs r.low)
+    (in_range r.low r.high r.low (omega arith) first))
+
+-- The union with a set that is not empty is not empty.
+pub more-some : (top : ℕ) (s m u : Numbers) → IsNormal 0 m.top m.ranges → m.ranges ≢ []
+    → ((x : ℕ) → holds u.ranges x ≡ (holds s.ranges x || holds m.ranges x)) → u.ranges ≢ []
+more-some top s m u normal some e = λ none.
+    let p = holds-some m.top m.ranges normal some in
+    both_ways false refl (sym (ap (λ rs. holds rs p.0) none) ∙ e p.0
+    ∙ or_right (holds s.ranges p.0) (holds m.ranges p.0) p.2)

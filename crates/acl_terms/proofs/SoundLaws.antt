@@ -1,6 +1,7 @@
 -- The sets of a term without a slip fulfil what every term does.
 use Rattle.std.proofs.Common.{◌≡◌, ◌≢◌, ◌⊎◌, ◌↔◌, ℕ, ◌+◌, ◌<◌, ◌≤◌, Bool, true, false, cond, ◌&&◌, ◌||◌, ◌==◌, List, [], ◌∷◌, ◌++◌, Option, None, Some, inl, inr, refl, ap, sym, ◌∙◌, subst, arith}
-use Rattle.std.specs.Prelude.{flat_map, option_to_list, is_some}
+use Rattle.std.specs.Prelude.{flat_map, option_to_list, is_some, codes as codes_of}
+use Rattle.std.specs.Str.{bytes_eq}
 use Rattle.std.specs.List.{list_all}
 use Rattle.std.proofs.lemmas.Bool.{both_ways, false_from_ne_true, cases_Bool}
 use Rattle.std.proofs.lemmas.Option.{none-some, same_Some}
@@ -20,12 +21,13 @@ use Rattle.acl_sets.proofs.ComputableSetLaws.{holds-covers}
 use Rattle.acl_policy.specs.declared.raw_terms.Word.{Word}
 use Rattle.acl_policy.specs.declared.raw_terms.RawTerm.{RawTerm}
 use Rattle.acl_naming.specs.Definitions.{Naming}
+use Rattle.acl_naming.specs.Ports.{top_port}
 use Rattle.acl_terms.specs.declared.options.Opt.{Opt}
 use Rattle.acl_terms.specs.declared.options.Opt.TheVariants.{Plain, Established, TcpEstablished, TcpInitial, Rst}
-use Rattle.acl_terms.specs.Matching.{AnyOf, Admits, IsProtocol, IsType, only, is_number, icmp_family, type_in, protocols_of, is_written}
+use Rattle.acl_terms.specs.Matching.{AnyOf, Admits, IsProtocol, IsType, NamesPort, only, is_number, icmp_family, type_in, protocols_of, is_written}
 use Rattle.acl_terms.specs.Options.{option_of, verdict_of}
 use Rattle.acl_terms.specs.Sets.{IsSetOf, Sets, AreSetsOf}
-use Rattle.acl_terms.specs.Slips.{unless, first_unless, first_in, slip_of, questions, first_some, type_slip, option_fits, verdict_fits, is_tcp_or_udp, port_words}
+use Rattle.acl_terms.specs.Slips.{unless, first_unless, first_in, slip_of, questions, first_some, type_slip, option_fits, verdict_fits, is_tcp_or_udp, port_words, networks_slip, port_protocol_slip, services_slip, words_slips, types_slip, clash_slip, option_slip, reset_slip}
 use Rattle.acl_terms.specs.Soundness.{IsSound, is_all, Only, is_established, needs_tcp, is_reset, is_left}
 use Rattle.acl_terms.specs.StandIns.{note_of, is_note}
 use Rattle.acl_terms.proofs.WordLaws.{protocol-within, type-within, parts, passed, first-passed, none-more, left-some, right-some, some-only, only-all, any-passes, any-number}
@@ -124,9 +126,9 @@ is-family f (w ∷ ws) some none =
     λ e. none-some t.0 (sym (ap (λ g. type_in g w.text) e) ∙ t.1)
 
 one-icmp : (a b : Bool) → cond a (Some V4) (cond b (Some V6) None) ≢ None → (a ≡ true → ⊥) → b ≡ true
-one-icmp true b h no = absurd (no refl)
-one-icmp false true h no = refl
-one-icmp false false h no = absurd (h refl)
+one-icmp true b h other = absurd (other refl)
+one-icmp false true h other = refl
+one-icmp false false h other = absurd (h refl)
 
 -- ---- options and verdicts
 
@@ -164,3 +166,98 @@ never-left true b c = refl
 never-left false true c = refl
 never-left false false true = refl
 never-left false false false = refl
+
+-- ---- the whole term
+
+-- What a term without a slip passes.
+record Passed (t : RawTerm) : Type 0 where
+  ports : first_unless (only has_ports (protocols_of t.protocols)) codes.NoFile (port_words t) ≡ None
+  types : first_in (type_slip (icmp_family (protocols_of t.protocols))) t.icmp_types ≡ None
+  option : option_fits (option_of t.options) (protocols_of t.protocols) ≡ true
+  verdict : verdict_fits (verdict_of t.action.text) (protocols_of t.protocols) ≡ true
+
+passes-all : (n : Naming) (t : RawTerm) → slip_of n t ≡ None → Passed t
+unfolding slip_of
+passes-all n t h =
+    let qs = protocols_of t.protocols in
+    let a = parts (networks_slip n.networks t) (first_some (port_protocol_slip qs t ∷ services_slip n.services qs t ∷ words_slips qs t)) h in
+    let b = parts (port_protocol_slip qs t) (first_some (services_slip n.services qs t ∷ words_slips qs t)) a.1 in
+    let c = parts (services_slip n.services qs t) (first_some (words_slips qs t)) b.1 in
+    let d = parts (types_slip qs t) (first_some (clash_slip t.options ∷ option_slip qs t.options ∷ reset_slip qs t.action ∷ [])) c.1 in
+    let e = parts (clash_slip t.options) (first_some (option_slip qs t.options ∷ reset_slip qs t.action ∷ [])) d.1 in
+    let f = parts (option_slip qs t.options) (first_some (reset_slip qs t.action ∷ [])) e.1 in
+    let g = parts (reset_slip qs t.action) None f.1 in
+    record {
+      ports = b.0;
+      types = d.0;
+      option = option-fitting qs t.options f.0;
+      verdict = passed (verdict_fits (verdict_of t.action.text) qs) codes.Repeated t.action g.0;
+    }
+
+not-written : (ws : List Word) (P : ℕ → Word → Type 0) (top : ℕ) (s : Numbers) → IsSetOf (λ x. Admits (P x) ws) top s
+    → is_written ws ≡ false → is_all s ≡ true
+not-written [] P top s h e = whole top s h
+not-written (w ∷ ws) P top s h e = absurd (both_ways true e refl)
+
+pub sound : (n : Naming) (t : RawTerm) (s : Sets) → is_name t.name.text ≡ true
+    → is_note (note_of t.comments) ≡ true → slip_of n t ≡ None → AreSetsOf n t s
+    → IsSound t.name.text (note_of t.comments) s.src4 s.src6 s.dst4 s.dst6 s.protos s.sports s.dports
+    (is_written t.destination_ports) s.itypes (option_of t.options) (verdict_of t.action.text)
+sound n t s name note clean are =
+    let qs = protocols_of t.protocols in
+    let p = passes-all n t clean in
+    let named = NamesPort n qs in
+    record {
+      name_is = name;
+      note_is = note;
+      src4_top = are.ipv4.0.top_is;
+      src4_normal = are.ipv4.0.normal;
+      src6_top = are.ipv6.0.top_is;
+      src6_normal = are.ipv6.0.normal;
+      dst4_top = are.ipv4.1.top_is;
+      dst4_normal = are.ipv4.1.normal;
+      dst6_top = are.ipv6.1.top_is;
+      dst6_normal = are.ipv6.1.normal;
+      protos_top = are.protos_are.top_is;
+      protos_normal = are.protos_are.normal;
+      protos_lack_0 = lack-zero t.protocols s.protos are.protos_are;
+      sports_top = are.ports.0.top_is;
+      sports_normal = are.ports.0.normal;
+      sports_some = are.ports.2;
+      sports_fit = λ e. only-held has_ports t.protocols s.protos are.protos_are
+          (ports-fit n (NamesPort n qs) top_port t.source_ports s.sports (only has_ports qs) codes.NoFile (port_words t)
+          are.ports.0 (left-some t.source_ports t.destination_ports) p.ports e);
+      dports_top = are.ports.1.top_is;
+      dports_normal = are.ports.1.normal;
+      dports_some = are.ports.3;
+      dports_fit = λ e. only-held has_ports t.protocols s.protos are.protos_are
+          (ports-fit n (NamesPort n qs) top_port t.destination_ports s.dports (only has_ports qs) codes.NoFile (port_words t)
+          are.ports.1 (right-some t.source_ports t.destination_ports) p.ports e);
+      dports_named = not-written t.destination_ports (NamesPort n qs) top_port s.dports are.ports.1;
+      itypes_top = are.itypes_are.top_is;
+      itypes_normal = are.itypes_are.normal;
+      itypes_some = types-some (icmp_family qs) t.icmp_types s.itypes are.itypes_are p.types;
+      itypes_lack_255 = lack-255 (icmp_family qs) t.icmp_types s.itypes are.itypes_are;
+      itypes_fit = λ e none. only-held (is_number 58) t.protocols s.protos are.protos_are
+          (one-icmp (only (is_number 1) qs) (only (is_number 58) qs)
+          (is-family (icmp_family qs) t.icmp_types
+          (not-whole (λ x w. type_in (icmp_family qs) w.text ≡ Some x) 255 t.icmp_types s.itypes are.itypes_are e) p.types)
+          (λ o. none (only-held (is_number 1) t.protocols s.protos are.protos_are o)));
+      established_fits = λ e. only-held is_tcp_or_udp t.protocols s.protos are.protos_are
+          (established-only (option_of t.options) qs p.option e);
+      flags_fit = λ e. only-held (is_number 6) t.protocols s.protos are.protos_are
+          (flags-only (option_of t.options) qs p.option e);
+      reset_fits = λ e. only-held (is_number 6) t.protocols s.protos are.protos_are
+          (reset-only (verdict_of t.action.text) qs p.verdict e);
+      verdict_is = never-left (bytes_eq t.action.text (codes_of "accept")) (bytes_eq t.action.text (codes_of "deny"))
+          (bytes_eq t.action.text (codes_of "reject"));
+    }
+
+-- The same for fields that equal those.
+pub sound-fields : (n : Naming) (t : RawTerm) (s : Sets) (name note : List ℕ) (named : Bool) (option : Opt) (verdict : Verdict)
+    → name ≡ t.name.text → note ≡ note_of t.comments → named ≡ is_written t.destination_ports
+    → option ≡ option_of t.options → verdict ≡ verdict_of t.action.text
+    → is_name t.name.text ≡ true → is_note note ≡ true → slip_of n t ≡ None → AreSetsOf n t s
+    → IsSound name note s.src4 s.src6 s.dst4 s.dst6 s.protos s.sports s.dports named s.itypes option verdict
+sound-fields n t s name note named option verdict e1 e2 e3 e4 e5 is safe clean are =
+    rw (e1, e2, e3, e4, e5) (sound n t s is (sym (ap is_note e2) ∙ safe) clean are)

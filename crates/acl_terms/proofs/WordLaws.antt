@@ -67,7 +67,7 @@ pub first-passed : (b : Bool) (code : Code) (ws : List Word) → first_unless b 
 first-passed b code [] h some = absurd (some refl)
 first-passed b code (w ∷ ws) h some = passed b code w h
 
-none-more : {A : Type 0} (x : A) (xs : List A) → x ∷ xs ≢ []
+pub none-more : {A : Type 0} (x : A) (xs : List A) → x ∷ xs ≢ []
 none-more x xs = λ e. cc
 
 pub left-some : {A : Type 0} (xs ys : List A) → xs ≢ [] → xs ++ ys ≢ []

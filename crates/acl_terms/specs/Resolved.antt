@@ -106,8 +106,8 @@ is_empty_in f t = has_none (source_in f t) || has_none (destination_in f t) || h
 -- out.
 abbrev pub IsEmptyIn : Family → Term → Type 0
 IsEmptyIn f t = ((x : ℕ) → holds (source_in f t).ranges x ≡ false)
-    ⊎ ((x : ℕ) → holds (destination_in f t).ranges x ≡ false)
-    ⊎ ((x : ℕ) → has_protocol f t x ≡ false)
+    ⊎ (((x : ℕ) → holds (destination_in f t).ranges x ≡ false)
+    ⊎ ((x : ℕ) → has_protocol f t x ≡ false))
 
 -- ---- life
 

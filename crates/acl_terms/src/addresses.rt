@@ -4,6 +4,7 @@ ghost use Rattle.acl_packet.specs.Addresses.{top_address};
 ghost use Rattle.acl_naming.specs.Checking.{first_of};
 ghost use Rattle.acl_terms.specs.Matching.{Admits, AnyOf, IsAddress, NamesAddress};
 ghost use Rattle.acl_terms.specs.Sets.{IsAddressSet, IsSetOf};
+ghost use Rattle.acl_terms.specs.SetSteps.{ends_slip};
 ghost use Rattle.acl_terms.specs.Slips.{Judges, first_in, network_slip, networks_slip};
 
 use crate::checks::refusal_at;
@@ -120,9 +121,9 @@ fn end_of(
     Ok(Addresses { v4, v6 })
 }
 
-/// The addresses of a term's ends, or the first name that no network has.
-pub(crate) fn ends_of(alloc: Global, base: &Checked, raw: &RawTerm) -> Result<Ends, Refusal>
-    ensures judged { Judges result (networks_slip base.now.networks raw.now) }
+// The addresses of a term's ends, end by end.
+fn both_ends(alloc: Global, base: &Checked, raw: &RawTerm) -> Result<Ends, Refusal>
+    ensures judged { Judges result (ends_slip base.now.networks raw.now) }
     ensures v4 { IfOk result (λ e. IsAddressSet base.now V4 raw.now e.src.v4 e.dst.v4) }
     ensures v6 { IfOk result (λ e. IsAddressSet base.now V6 raw.now e.src.v6 e.dst.v6) }
 {
@@ -134,4 +135,14 @@ pub(crate) fn ends_of(alloc: Global, base: &Checked, raw: &RawTerm) -> Result<En
         raw.destination_excludes.as_slice(),
     )?;
     Ok(Ends { src, dst })
+}
+
+/// The addresses of a term's ends, or the first name that no network has.
+#[tactic(auto, using(crate::proofs::SlipLaws::networks_by_ends))]
+pub(crate) fn ends_of(alloc: Global, base: &Checked, raw: &RawTerm) -> Result<Ends, Refusal>
+    ensures judged { Judges result (networks_slip base.now.networks raw.now) }
+    ensures v4 { IfOk result (λ e. IsAddressSet base.now V4 raw.now e.src.v4 e.dst.v4) }
+    ensures v6 { IfOk result (λ e. IsAddressSet base.now V6 raw.now e.src.v6 e.dst.v6) }
+{
+    both_ends(alloc, base, raw)
 }

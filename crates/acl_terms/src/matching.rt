@@ -141,14 +141,20 @@ fn has_no_protocol(family: Family, term: &Term) -> bool
     !term.protos.is_all() && are_just(foreign_of(family), term.protos.ranges())
 }
 
-/// Whether the term is empty in the family: its source, its destination or its protocols there are none. Where
-/// protocols are named, 58 is none of IPv4 and 1 none of IPv6.
 #[tactic(auto, unfolding(crate::specs::Resolved::is_empty_in))]
-pub fn is_empty_in(term: &Term, family: Family) -> bool
-    ensures exact { IsTrue result ↔ IsEmptyIn family term.now }
-    ensures computed { result ≡ is_empty_in family term.now }
+fn has_nothing_in(term: &Term, family: Family) -> bool
+    ensures { result ≡ is_empty_in family term.now }
 {
     source_in(family, term).is_empty()
         || destination_in(family, term).is_empty()
         || has_no_protocol(family, term)
+}
+
+/// Whether the term is empty in the family: its source, its destination or its protocols there are none. Where
+/// protocols are named, 58 is none of IPv4 and 1 none of IPv6.
+pub fn is_empty_in(term: &Term, family: Family) -> bool
+    ensures exact { IsTrue result ↔ IsEmptyIn family term.now }
+    ensures computed { result ≡ is_empty_in family term.now }
+{
+    has_nothing_in(term, family)
 }

@@ -1,15 +1,12 @@
-ghost use Rattle.std.specs.Prelude.{◌≡◌, ◌≢◌, [], ◌++◌, true, IfOk};
-ghost use Rattle.acl_packet.specs.Packets.{has_ports};
-ghost use Rattle.acl_text.specs.declared.faults.Code.TheVariants as codes;
-ghost use Rattle.acl_naming.specs.Checking.{first_of};
+ghost use Rattle.std.specs.Prelude.{◌≡◌, ◌≢◌, [], IfOk};
 ghost use Rattle.acl_naming.specs.Ports.{top_port};
 ghost use Rattle.acl_naming.specs.Reach.{ReachesPort};
-ghost use Rattle.acl_terms.specs.Matching.{Admits, AnyOf, IsPort, NamesPort, only};
-ghost use Rattle.acl_terms.specs.Sets.{IsPortSet, IsSetOf};
-ghost use Rattle.acl_terms.specs.SetSteps.{protocol_slip};
-ghost use Rattle.acl_terms.specs.Slips.{Judges, first_in, first_unless, port_protocol_slip, service_slip, services_slip};
+ghost use Rattle.acl_terms.specs.Matching.{Admits, AnyOf, IsPort, NamesPort};
+ghost use Rattle.acl_terms.specs.Sets.{IsSetOf};
+ghost use Rattle.acl_terms.specs.SetSteps.{both_ports_slip, protocol_slip};
+ghost use Rattle.acl_terms.specs.Slips.{Judges, first_in, port_words, service_slip, services_slip};
 
-use crate::checks::{check_port_protocol, refusal_at};
+use crate::checks::refusal_at;
 use acl_naming::{Checked, Lookup, ports_of};
 use acl_policy::{RawTerm, Word};
 use acl_sets::RangeSet;
@@ -103,15 +100,15 @@ fn admitted(
     }
 }
 
-/// The ports of a term with its protocols, or its first slip in words of ports.
-pub(crate) fn ports_of_term(
+// The ports of a term with its protocols, end by end.
+fn both_ports(
     alloc: Global,
     base: &Checked,
     protos: &[u8],
     raw: &RawTerm,
 ) -> Result<TermPorts, Refusal>
-    ensures judged { Judges result (first_of (port_protocol_slip protos.now raw.now)
-        (services_slip base.now.services protos.now raw.now)) }
+    requires { port_words raw.now ≢ [] → protos.now ≢ [] }
+    ensures judged { Judges result (both_ports_slip base.now.services protos.now raw.now) }
     ensures sports { IfOk result (λ p.
         IsSetOf (IsPort base.now protos.now raw.now.source_ports) top_port p.sports) }
     ensures dports { IfOk result (λ p.
@@ -119,10 +116,28 @@ pub(crate) fn ports_of_term(
     ensures some_sports { IfOk result (λ p. p.sports.ranges ≢ []) }
     ensures some_dports { IfOk result (λ p. p.dports.ranges ≢ []) }
 {
-    let sources = raw.source_ports.as_slice();
-    let destinations = raw.destination_ports.as_slice();
-    check_port_protocol(alloc, protos, sources, destinations)?;
-    let sports = admitted(alloc, base, protos, sources)?;
-    let dports = admitted(alloc, base, protos, destinations)?;
+    let sports = admitted(alloc, base, protos, raw.source_ports.as_slice())?;
+    let dports = admitted(alloc, base, protos, raw.destination_ports.as_slice())?;
     Ok(TermPorts { sports, dports })
+}
+
+/// The ports of a term with its protocols, or the first slip at names of ports. Some protocol is named where
+/// ports are.
+#[tactic(auto, using(crate::proofs::SlipLaws::services_by_ends))]
+pub(crate) fn ports_of_term(
+    alloc: Global,
+    base: &Checked,
+    protos: &[u8],
+    raw: &RawTerm,
+) -> Result<TermPorts, Refusal>
+    requires { port_words raw.now ≢ [] → protos.now ≢ [] }
+    ensures judged { Judges result (services_slip base.now.services protos.now raw.now) }
+    ensures sports { IfOk result (λ p.
+        IsSetOf (IsPort base.now protos.now raw.now.source_ports) top_port p.sports) }
+    ensures dports { IfOk result (λ p.
+        IsSetOf (IsPort base.now protos.now raw.now.destination_ports) top_port p.dports) }
+    ensures some_sports { IfOk result (λ p. p.sports.ranges ≢ []) }
+    ensures some_dports { IfOk result (λ p. p.dports.ranges ≢ []) }
+{
+    both_ports(alloc, base, protos, raw)
 }

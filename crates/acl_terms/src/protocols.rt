@@ -1,7 +1,7 @@
-ghost use Rattle.std.specs.Prelude.{◌≡◌, ◌↔◌, ◌++◌, ◌∷◌, ℕ, [], true, OnOk, IfOk, Option, option_to_list, map, flat_map};
-ghost use Rattle.acl_packet.specs.declared.addresses.Family.{Family};
-ghost use Rattle.acl_sets.specs.Ranges.{IsNormal, holds};
-ghost use Rattle.acl_terms.specs.Matching.{Admits, AnyOf, IsProtocol, IsType, protocols_of, type_in};
+ghost use Rattle.std.specs.Prelude.{◌≡◌, ◌++◌, OnOk, IfOk, option_to_list, map};
+ghost use Rattle.acl_sets.specs.Ranges.{IsRange};
+ghost use Rattle.std.specs.List.{All};
+ghost use Rattle.acl_terms.specs.Matching.{AnyOf, IsProtocol, IsType, protocols_of, type_in};
 ghost use Rattle.acl_terms.specs.Sets.{IsSetOf};
 ghost use Rattle.acl_terms.specs.SetSteps.{single, types_of};
 
@@ -46,7 +46,8 @@ fn types_of(alloc: Global, family: Option<Family>, words: &[Word]) -> Result<Vec
 }
 
 fn singles(alloc: Global, numbers: &[u8]) -> Result<Vec<Range>, Memory>
-    ensures { IfOk result (λ v. v.items ≡ map single numbers.now) }
+    ensures same { IfOk result (λ v. v.items ≡ map single numbers.now) }
+    ensures fit { IfOk result (λ v. All (λ r. IsRange TOP r) v.items) }
 {
     let mut out = Vec::new(alloc);
     for number in numbers {

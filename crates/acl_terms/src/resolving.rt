@@ -6,7 +6,7 @@ ghost use Rattle.acl_terms.specs.Sets.{AreSetsOf};
 ghost use Rattle.acl_terms.specs.Slips.{Judges, slip_of};
 
 use crate::addresses::{Ends, ends_of};
-use crate::checks::{check_words, icmp_family, option_of, verdict_of};
+use crate::checks::{check_port_protocol, check_words, icmp_family, option_of, verdict_of};
 use crate::living::{platforms_of, some_platforms};
 use crate::notes::note;
 use crate::ports::{TermPorts, ports_of_term};
@@ -44,6 +44,12 @@ fn parts_of(alloc: Global, base: &Checked, raw: &RawTerm) -> Result<Parts, Refus
 {
     let protos = protocols_of(alloc, raw.protocols.as_slice())?;
     let ends = ends_of(alloc, base, raw)?;
+    check_port_protocol(
+        alloc,
+        &protos,
+        raw.source_ports.as_slice(),
+        raw.destination_ports.as_slice(),
+    )?;
     let ports = ports_of_term(alloc, base, &protos, raw)?;
     check_words(alloc, &protos, raw)?;
     let family = icmp_family(&protos);
