@@ -1,13 +1,13 @@
 -- Sets of the numbers of words.
 use Rattle.std.proofs.Common.{◌≡◌, ◌⊎◌, ◌↔◌, ℕ, ◌≤◌, Bool, true, false, ◌&&◌, ◌||◌, nat_le, List, [], ◌∷◌, ◌++◌, map, Option, None, Some, inl, inr, refl, ap, sym, ◌∙◌, subst, arith}
-use Rattle.std.specs.Prelude.{flat_map, option_to_list}
+use Rattle.std.specs.Prelude.{flat_map, option_to_list, Result, Ok, Err, IfOk, length}
 use Rattle.std.proofs.lemmas.Bool.{or_cases, or_left, or_right, both_ways}
 use Rattle.std.proofs.lemmas.Option.{none-some, same_Some}
 use Rattle.acl_sets.specs.declared.sets.Range.{Range}
 use Rattle.acl_sets.specs.Ranges.{Numbers, IsNormal, holds, inside}
 use Rattle.acl_sets.proofs.RangeLaws.{ends_of, in_range}
 use Rattle.acl_policy.specs.declared.raw_terms.Word.{Word}
-use Rattle.acl_terms.specs.Matching.{AnyOf}
+use Rattle.acl_terms.specs.Matching.{AnyOf, Admits}
 use Rattle.acl_terms.specs.Sets.{IsSetOf}
 use Rattle.acl_terms.specs.SetSteps.{single}
 use Rattle.acl_terms.proofs.SetLaws.{any-join, same-set}
@@ -64,3 +64,20 @@ pub words-set : (f : Word → Option ℕ) (ws : List Word) (ns : List ℕ) (top 
 words-set f ws ns top s e h =
     same-set (λ x. AnyOf (λ n. n ≡ x) ns) (λ x. AnyOf (λ w. f w ≡ Some x) ws) top s
     (λ x. subst (λ ms. AnyOf (λ n. n ≡ x) ms ↔ AnyOf (λ w. f w ≡ Some x) ws) (sym e) (any-flat f ws x)) h
+
+-- ---- what calls give
+
+pub numbers-result : {E : Type 0} (ns : List ℕ) (top : ℕ) (rs : List Range) (r : Result Numbers E)
+    → rs ≡ map single ns → IfOk r (λ s. s.top ≡ top) → IfOk r (λ s. IsNormal 0 s.top s.ranges)
+    → IfOk r (λ s. (x : ℕ) → holds s.ranges x ≡ holds rs x)
+    → IfOk r (λ s. IsSetOf (λ x. AnyOf (λ n. n ≡ x) ns) top s)
+numbers-result ns top rs (Ok s) e t n exact = numbers-set ns top rs s e t n exact
+numbers-result ns top rs (Err d) e t n exact = tt
+
+pub words-result : {E : Type 0} (f : Word → Option ℕ) (ws : List Word) (ns : List ℕ) (top : ℕ) (r : Result Numbers E)
+    → 1 ≤ length ws → ns ≡ flat_map (λ w. option_to_list (f w)) ws
+    → IfOk r (λ s. IsSetOf (λ x. AnyOf (λ n. n ≡ x) ns) top s)
+    → IfOk r (λ s. IsSetOf (λ x. Admits (λ w. f w ≡ Some x) ws) top s)
+words-result f [] ns top (Ok s) l e h = absurd (omega arith)
+words-result f (w ∷ ws) ns top (Ok s) l e h = words-set f (w ∷ ws) ns top s e h
+words-result f ws ns top (Err d) l e h = tt

@@ -4,6 +4,7 @@ use Rattle.std.specs.List.{list_all}
 use Rattle.std.proofs.lemmas.List.{drop_more}
 use Rattle.std.proofs.lemmas.Bool.{false_from_ne_true}
 use Rattle.acl_text.specs.declared.faults.Code.TheVariants as codes
+use Rattle.acl_text.specs.declared.faults.Slip.{Slip}
 use Rattle.acl_policy.specs.declared.raw_terms.Word.{Word}
 use Rattle.acl_naming.specs.Definitions.{Definition, index_of}
 use Rattle.acl_naming.specs.Ports.{top_port}
@@ -11,7 +12,7 @@ use Rattle.acl_naming.specs.Reach.{ReachesPort, ReachesProtocol, is_service_of}
 use Rattle.acl_sets.specs.Ranges.{Numbers, IsNormal, holds}
 use Rattle.acl_terms.specs.Sets.{IsSetOf}
 use Rattle.acl_terms.specs.SetSteps.{protocol_slip}
-use Rattle.acl_terms.specs.Slips.{is_defined, reaches_protocol, unless}
+use Rattle.acl_terms.specs.Slips.{is_defined, reaches_protocol, slip_at, unless}
 use Rattle.acl_terms.proofs.ReachStandIn.{items-law}
 use Rattle.acl_terms.proofs.SlipLaws.{some-is, both-passed, second-failed}
 use Rattle.acl_terms.proofs.WordLaws.{parts, passed}
@@ -57,9 +58,13 @@ found services name q w e defined reaches =
     (let law = protocol-tested services w.text q in
      law.1 (subst (λ t. ReachesProtocol services t q) e reaches))
 
+-- The slip of a word without ports of a protocol.
+abbrev pub word-slip : Word → Slip
+word-slip w = slip_at codes.NoDefinition w
+
 pub not-found : (services : List Definition) (name : List ℕ) (q : ℕ) (w : Word) → name ≡ w.text
     → (index_of services name ≡ None → ⊥) → (ReachesProtocol services name q → ⊥)
-    → protocol_slip services q w ≡ Some (record { code = codes.NoDefinition; place = w.place; word = w.text })
+    → protocol_slip services q w ≡ Some (word-slip w)
 not-found services name q w e defined no-port =
     second-failed (is_defined services w.text) (reaches_protocol services w.text q) codes.UnknownName codes.NoDefinition w
     (some-is (index_of services w.text) (λ h. defined (ap (index_of services) e ∙ h)))
