@@ -1,8 +1,11 @@
 pub mod EmptyLaws
+pub mod LifeLaws
+pub mod MatchLaws
 pub mod NumberLaws
+pub mod PolicyLaws
 pub mod PortLaws
 pub mod ReachStandIn
 pub mod SetLaws
 pub mod SlipLaws
-pub mod WordLaws
 pub mod SoundLaws
+pub mod WordLaws

@@ -64,7 +64,7 @@ only-held test (w ∷ ws) s h o x e =
     any-passes test (λ v. protocol_in v.text) (w ∷ ws) x (only-all test (protocols_of (w ∷ ws)) o)
     (named-number (λ n v. protocol_in v.text ≡ Some n) 255 (w ∷ ws) s x h (none-more w ws) e)
 
-no-zero : (ws : List Word) → AnyOf (λ w. protocol_in w.text ≡ Some 0) ws → ⊥
+pub no-zero : (ws : List Word) → AnyOf (λ w. protocol_in w.text ≡ Some 0) ws → ⊥
 no-zero ws a =
     let l : 1 ≤ 0 = any-number (λ w. protocol_in w.text) (λ n. 1 ≤ n) ws 0
           (λ w e. (protocol-within 0 w.text e).0) a in

@@ -1,6 +1,7 @@
 pub mod Living
 pub mod Matching
 pub mod Options
+pub mod Outcomes
 pub mod Resolved
 pub mod SetSteps
 pub mod Sets

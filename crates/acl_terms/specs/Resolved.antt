@@ -1,6 +1,7 @@
 -- A resolved term: its fields, when it matches, when it is empty in a family, and when it is live.
 use Rattle.std.specs.Prelude.{◌≡◌, ◌⊎◌, ℕ, ℤ, ◌<ℤ◌, Bool, true, false, not, ◌&&◌, ◌||◌, ◌==◌, List, [], ◌∷◌, length, Option, None, Some, Result, Ok, Err}
 use Rattle.std.specs.List.{list_all}
+use Rattle.std.specs.Int.Signed.{lt_z}
 use Rattle.acl_packet.specs.declared.addresses.Family.{Family}
 use Rattle.acl_packet.specs.declared.addresses.Family.TheVariants.{V4, V6}
 use Rattle.acl_packet.specs.declared.packets.Packet.{Packet}
@@ -115,3 +116,11 @@ pub record IsTermLive (t : Term) (kind : Kind) (today : Day) : Type 0 where
   pub unexpired : IsUnexpired t.expires today
   pub wanted : allows t.only kind ≡ true
   pub not_excluded : has_platform t.never kind ≡ false
+
+abbrev pub is_unexpired : Option Day → Day → Bool
+is_unexpired None today = true
+is_unexpired (Some day) today = lt_z today.number day.number
+
+unfoldable pub is_term_live : Term → Kind → Day → Bool
+is_term_live t kind today =
+    is_unexpired t.expires today && allows t.only kind && not (has_platform t.never kind)

@@ -3,6 +3,7 @@
 
 mod addresses;
 mod checks;
+mod laws;
 mod living;
 mod matching;
 mod notes;
@@ -12,6 +13,7 @@ mod protocols;
 mod resolving;
 mod terms;
 
+pub use laws::{policies_decide_as_written, terms_live_as_written, terms_match_as_written};
 pub use living::is_live;
 pub use matching::{is_empty_in, matches};
 pub use options::{Mode, Opt};

@@ -1,8 +1,8 @@
 ghost use Rattle.std.specs.Prelude.{◌≡◌, ◌↔◌, IsTrue, map};
 ghost use Rattle.std.specs.List.{list_any};
 ghost use Rattle.std.specs.Str.{bytes_eq};
-ghost use Rattle.acl_terms.specs.Living.{IsUnexpired, allows, has_platform, names_platform, platform_name, platforms_of, some_platforms};
-ghost use Rattle.acl_terms.specs.Resolved.{IsTermLive};
+ghost use Rattle.acl_terms.specs.Living.{allows, has_platform, names_platform, platform_name, platforms_of, some_platforms};
+ghost use Rattle.acl_terms.specs.Resolved.{IsTermLive, is_term_live, is_unexpired};
 
 use crate::terms::{Platforms, Term};
 use acl_host::Day;
@@ -73,7 +73,7 @@ fn allows(only: Option<Platforms>, kind: Kind) -> bool
 }
 
 fn is_unexpired(expires: Option<Day>, today: Day) -> bool
-    ensures { IsTrue result ↔ IsUnexpired expires today }
+    ensures { result ≡ is_unexpired expires today }
 {
     match expires {
         None => true,
@@ -81,11 +81,19 @@ fn is_unexpired(expires: Option<Day>, today: Day) -> bool
     }
 }
 
-/// Whether the term is live: it is for the platform, and `today` is before the day on which it expires.
-pub fn is_live(term: &Term, kind: Kind, today: Day) -> bool
-    ensures { IsTrue result ↔ IsTermLive term.now kind today }
+#[tactic(auto, unfolding(crate::specs::Resolved::is_term_live))]
+fn is_term_live(term: &Term, kind: Kind, today: Day) -> bool
+    ensures { result ≡ is_term_live term.now kind today }
 {
     is_unexpired(term.expires, today)
         && allows(term.only, kind)
         && !has_platform(term.never, kind)
+}
+
+/// Whether the term is live: it is for the platform, and `today` is before the day on which it expires.
+pub fn is_live(term: &Term, kind: Kind, today: Day) -> bool
+    ensures exact { IsTrue result ↔ IsTermLive term.now kind today }
+    ensures computed { result ≡ is_term_live term.now kind today }
+{
+    is_term_live(term, kind, today)
 }
