@@ -1,7 +1,6 @@
 pub mod NamedDayLaws
 pub mod Outcomes
 pub mod PolicyFit
-pub mod SharedLists
 pub mod SlipPlaces
 pub mod TargetFit
 pub mod TermFit

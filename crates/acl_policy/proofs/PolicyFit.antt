@@ -24,9 +24,9 @@ use Rattle.acl_words.specs.Places.{IsLinePlace, HaveLinePlaces}
 use Rattle.acl_policy.specs.declared.term_drafts.Draft.{Draft}
 use Rattle.acl_policy.specs.declared.raw_terms.RawTerm.{RawTerm}
 use Rattle.acl_policy.specs.declared.raw_terms.Word.{Word}
-use Rattle.acl_policy.specs.declared.filters.Kind.{Kind}
-use Rattle.acl_policy.specs.declared.filters.Kind.TheVariants.{Cisco, Juniper, Iptables, Nftables}
-use Rattle.acl_policy.specs.declared.filters.Target.{Target}
+use Rattle.acl_target.specs.declared.targets.Kind.{Kind}
+use Rattle.acl_target.specs.declared.targets.Kind.TheVariants.{Cisco, Juniper, Iptables, Nftables}
+use Rattle.acl_target.specs.declared.targets.Target.{Target}
 use Rattle.acl_policy.specs.declared.blocks.Block.{Block}
 use Rattle.acl_policy.specs.declared.blocks.Policy.{Policy}
 use Rattle.acl_policy.specs.declared.states.Part.{Part}
@@ -35,8 +35,9 @@ use Rattle.acl_policy.specs.declared.states.State.{State}
 use Rattle.acl_policy.specs.declared.target_lines.NamedTarget.{NamedTarget}
 use Rattle.acl_policy.specs.declared.values.Takes.{Takes}
 use Rattle.acl_policy.specs.declared.values.Takes.TheVariants as takes
-use Rattle.acl_policy.specs.Clashes.{share_lists, clash, clash_on, same_kind}
-use Rattle.acl_policy.specs.Conditions.{lists_of, IsRawTerm, IsTarget, FitsPlatform, Each, StandsBehind, NumbersDiffer, NameIsNew, IsBlock, targets_of, terms_of, IsPolicy}
+use Rattle.acl_target.specs.Clashes.{share_lists, clash, clash_on, same_kind}
+use Rattle.acl_policy.specs.Conditions.{lists_of, IsRawTerm, Each, StandsBehind, NumbersDiffer, NameIsNew, IsBlock, targets_of, terms_of, IsPolicy}
+use Rattle.acl_target.specs.TargetData.{IsTarget, FitsPlatform}
 use Rattle.acl_policy.specs.Policies.{start, with_number, behind_target, behind_header_keyword, behind_name, with_block, behind_word, behind_words, behind_keyword, behind_begin, behind_end, behind_mark, is_mark, values_of, behind_marks, behind_all, last_place, end_of, policy_of}
 use Rattle.acl_policy.specs.PolicyPlaces.{TermStands, BlockStands, PolicyStands, IsSlipPlace}
 use Rattle.acl_policy.specs.Slips.{start_place}

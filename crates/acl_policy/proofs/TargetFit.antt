@@ -11,13 +11,13 @@ use Rattle.acl_text.specs.SignedNumbers.{IsSignedWord, signed_in}
 use Rattle.acl_text.proofs.SignedLaws.{signed_some}
 use Rattle.acl_words.specs.declared.forms.Token.{Token}
 use Rattle.acl_policy.specs.declared.choices.Choices.{Choices}
-use Rattle.acl_policy.specs.declared.filters.Ending.TheVariants as endings
-use Rattle.acl_policy.specs.declared.filters.Kind.{Kind}
-use Rattle.acl_policy.specs.declared.filters.Kind.TheVariants.{Cisco, Juniper, Iptables, Nftables}
-use Rattle.acl_policy.specs.declared.filters.Target.{Target}
+use Rattle.acl_target.specs.declared.targets.Ending.TheVariants as endings
+use Rattle.acl_target.specs.declared.targets.Kind.{Kind}
+use Rattle.acl_target.specs.declared.targets.Kind.TheVariants.{Cisco, Juniper, Iptables, Nftables}
+use Rattle.acl_target.specs.declared.targets.Target.{Target}
 use Rattle.acl_policy.specs.declared.target_lines.NamedTarget.{NamedTarget}
-use Rattle.acl_policy.specs.Clashes.{is_mixed}
-use Rattle.acl_policy.specs.Conditions.{IsPriority, FitsPlatform, chain_text, hook_text, is_verdict, is_neighbours}
+use Rattle.acl_target.specs.Clashes.{is_mixed}
+use Rattle.acl_target.specs.TargetData.{IsPriority, FitsPlatform, chain_text, hook_text, is_verdict, is_neighbours}
 use Rattle.acl_policy.specs.Targets.{is_word, or_slip, single_family, family_word, chain_word, hook_word, name_word, priority_word, no_choices, unless_some, with_policy, with_mark, with_families, with_priority, iptables_choice, nftables_choice, choice, choices_from, last_family, device_line, policy_ending, iptables_line, hooked_line, nftables_line, target_line}
 use Rattle.acl_policy.specs.Values.{is_plain}
 use Rattle.acl_policy.proofs.Outcomes.{Has, bind_has, if_has, some_if, then_has, and_right}

@@ -1,24 +1,19 @@
 -- What a policy that is read fulfils: each word is one that its keyword takes, each target is such as its line
 -- gives it, no two targets clash, the numbers of a platform's targets and the names of a block's terms differ,
 -- and there are no more targets and terms than the limits.
-use Rattle.std.specs.Prelude.{◌≡◌, ◌≢◌, ℕ, ◌+◌, ◌<◌, ◌≤◌, Bool, true, false, ℤ, pos, negsuc, ◌≤ℤ◌, List, [], ◌∷◌, ◌++◌, length, flat_map, codes}
+use Rattle.std.specs.Prelude.{◌≡◌, ◌≢◌, ◌+◌, ◌<◌, ◌≤◌, true, false, List, [], ◌∷◌, ◌++◌, length, flat_map}
 use Rattle.std.specs.List.{All, AllPairs, list_any, count_by}
 use Rattle.std.specs.Str.{bytes_eq}
-use Rattle.acl_packet.specs.declared.filtering.Hook.{Hook}
-use Rattle.acl_packet.specs.declared.filtering.Hook.TheVariants as hooks
-use Rattle.acl_text.specs.Names.{is_name, is_filter_name}
+use Rattle.acl_text.specs.Names.{is_name}
 use Rattle.acl_policy.specs.declared.raw_terms.RawTerm.{RawTerm}
 use Rattle.acl_policy.specs.declared.raw_terms.Word.{Word}
-use Rattle.acl_policy.specs.declared.filters.Ending.{Ending}
-use Rattle.acl_policy.specs.declared.filters.Ending.TheVariants as endings
-use Rattle.acl_policy.specs.declared.filters.Kind.{Kind}
-use Rattle.acl_policy.specs.declared.filters.Kind.TheVariants.{Cisco, Juniper, Iptables, Nftables}
-use Rattle.acl_policy.specs.declared.filters.Target.{Target}
+use Rattle.acl_target.specs.declared.targets.Target.{Target}
 use Rattle.acl_policy.specs.declared.blocks.Block.{Block}
 use Rattle.acl_policy.specs.declared.blocks.Policy.{Policy}
 use Rattle.acl_policy.specs.declared.values.Takes.{Takes}
 use Rattle.acl_policy.specs.declared.values.Takes.TheVariants as takes
-use Rattle.acl_policy.specs.Clashes.{clash, same_kind, is_mixed}
+use Rattle.acl_target.specs.Clashes.{clash, same_kind}
+use Rattle.acl_target.specs.TargetData.{IsTarget}
 use Rattle.acl_policy.specs.Values.{is_action, text_fits}
 
 -- The words of a term, list by list, each list with what its keyword takes.
@@ -39,64 +34,6 @@ pub record IsRawTerm (t : RawTerm) : Type 0 where
   pub name_is : is_name t.name.text ≡ true
   pub action_is : is_action t.action.text ≡ true
   pub words_fit : WordsFit (lists_of t)
-
--- The names of iptables' chains and of nftables' hooks.
-abbrev pub chain_text : Hook → List ℕ
-chain_text hooks.Input = codes "INPUT"
-chain_text hooks.Output = codes "OUTPUT"
-chain_text hooks.Forward = codes "FORWARD"
-
-abbrev pub hook_text : Hook → List ℕ
-hook_text hooks.Input = codes "input"
-hook_text hooks.Output = codes "output"
-hook_text hooks.Forward = codes "forward"
-
-abbrev pub is_verdict : Ending → Bool
-is_verdict endings.Accept = true
-is_verdict endings.Deny = true
-is_verdict _ = false
-
-abbrev pub is_neighbours : Ending → Bool
-is_neighbours endings.Neighbours = true
-is_neighbours _ = false
-
--- A target of Cisco or Junos.
-pub record IsDevice (ends : Ending) (t : Target) : Type 0 where
-  pub name_is : is_filter_name t.name ≡ true
-  pub hook_is : t.hook ≡ hooks.Input
-  pub stateless : t.stateful ≡ false
-  pub ending_is : t.ending ≡ ends
-  pub priority_is : t.priority ≡ pos 0
-  pub verbose_is : t.verbose ≡ true
-
--- A target of iptables.
-pub record IsChain (t : Target) : Type 0 where
-  pub name_is : t.name ≡ chain_text t.hook
-  pub one_family : is_mixed t.families ≡ false
-  pub ending_is : is_neighbours t.ending ≡ false
-  pub priority_is : t.priority ≡ pos 0
-  pub verbose_is : t.verbose ≡ true
-
-abbrev pub IsPriority : ℤ → Type 0
-IsPriority z = (negsuc 32767 ≤ℤ z) × (z ≤ℤ pos 32767)
-
--- A target of nftables.
-pub record IsHooked (t : Target) : Type 0 where
-  pub name_is : t.name ≡ hook_text t.hook
-  pub stateful_is : t.stateful ≡ true
-  pub ending_is : is_verdict t.ending ≡ true
-  pub priority_is : IsPriority t.priority
-
-abbrev pub FitsPlatform : Kind → Target → Type 0
-FitsPlatform Cisco t = IsDevice endings.Neighbours t
-FitsPlatform Juniper t = IsDevice endings.Deny t × (is_mixed t.families ≡ false)
-FitsPlatform Iptables t = IsChain t
-FitsPlatform Nftables t = IsHooked t
-
-pub record IsTarget (t : Target) : Type 0 where
-  pub platform : FitsPlatform t.kind t
-  pub number_from : 1 ≤ t.number
-  pub number_to : t.number ≤ 64
 
 -- Each item of a list stands so to those before it.
 abbrev pub Each : {A : Type 0} → (List A → A → Type 0) → List A → List A → Type 0

@@ -1,12 +1,8 @@
-pub mod ClashSteps
-pub mod Clashes
 pub mod Conditions
-pub mod FilterEndings
 pub mod NamedDays
 pub mod Policies
 pub mod PolicyPlaces
 pub mod Slips
-pub mod TargetTexts
 pub mod Targets
 pub mod Terms
 pub mod Values

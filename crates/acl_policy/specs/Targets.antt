@@ -11,11 +11,11 @@ use Rattle.acl_text.specs.declared.faults.Code.TheVariants as codes_of
 use Rattle.acl_text.specs.declared.faults.Slip.{Slip}
 use Rattle.acl_words.specs.declared.forms.Token.{Token}
 use Rattle.acl_policy.specs.declared.choices.Choices.{Choices}
-use Rattle.acl_policy.specs.declared.filters.Kind.{Kind}
-use Rattle.acl_policy.specs.declared.filters.Kind.TheVariants.{Cisco, Juniper, Iptables, Nftables}
-use Rattle.acl_policy.specs.declared.filters.Ending.{Ending}
-use Rattle.acl_policy.specs.declared.filters.Ending.TheVariants as endings
-use Rattle.acl_policy.specs.declared.filters.Target.{Target}
+use Rattle.acl_target.specs.declared.targets.Kind.{Kind}
+use Rattle.acl_target.specs.declared.targets.Kind.TheVariants.{Cisco, Juniper, Iptables, Nftables}
+use Rattle.acl_target.specs.declared.targets.Ending.{Ending}
+use Rattle.acl_target.specs.declared.targets.Ending.TheVariants as endings
+use Rattle.acl_target.specs.declared.targets.Target.{Target}
 use Rattle.acl_policy.specs.declared.target_lines.NamedTarget.{NamedTarget}
 use Rattle.acl_policy.specs.Slips.{slip_of, slip_for}
 use Rattle.acl_text.specs.Steps.{◌>>=◌}

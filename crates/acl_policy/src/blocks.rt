@@ -1,4 +1,4 @@
-use crate::filters::Targets;
+use acl_target::Targets;
 use crate::raw_terms::RawTerms;
 use acl_text::Items;
 

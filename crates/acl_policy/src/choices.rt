@@ -17,7 +17,7 @@ ghost use Rattle.acl_policy.specs.Targets.{
   choices_from,
 };
 
-use crate::filters::Kind;
+use acl_target::Kind;
 use crate::values::{is_plain, is_text};
 use crate::word_slips::slip_for;
 use acl_packet::Families;

@@ -1,6 +1,6 @@
 ghost use Rattle.std.specs.Prelude.{◌≡◌, IfOk};
 
-use crate::filters::Target;
+use acl_target::Target;
 use acl_text::{Bytes, Memory};
 use std::alloc::Global;
 

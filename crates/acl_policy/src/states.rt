@@ -1,5 +1,5 @@
 use crate::blocks::Blocks;
-use crate::filters::Targets;
+use acl_target::Targets;
 use crate::raw_terms::RawTerms;
 use crate::term_drafts::Draft;
 

@@ -17,7 +17,7 @@ ghost use Rattle.acl_policy.specs.Targets.{
 
 use crate::choices::{family_word, is_word, read_choices};
 use crate::clauses::Clause;
-use crate::filters::{Ending, Kind, Target};
+use acl_target::{Ending, Kind, Target};
 use crate::values::is_plain;
 use crate::word_slips::{slip_at, slip_for};
 use acl_packet::{Families, Hook};

@@ -1,5 +1,5 @@
 -- What an error of a part says of the whole.
-use Rattle.std.proofs.Common.{◌≡◌, Option, None, Some, Result, Ok, Err, IfSome, ap}
+use Rattle.std.proofs.Common.{◌≡◌, Option, None, Some, Result, Err, IfSome, ap}
 use Rattle.acl_text.specs.Answers.{Stops}
 use Rattle.acl_text.specs.Steps.{◌>>=◌}
 

@@ -8,6 +8,7 @@ pub mod Dotted
 pub mod Gaps
 pub mod GroupSteps
 pub mod Groups
+pub mod NoteLaws
 pub mod OptionStepLaws
 pub mod PortLaws
 pub mod Printed

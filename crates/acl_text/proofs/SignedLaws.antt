@@ -1,5 +1,5 @@
 -- Words of whole numbers: what is read is the word's number, and a number's word is read.
-use Rattle.std.proofs.Common.{◌≡◌, ◌≢◌, ℕ, ◌+◌, ◌-◌, ◌≤◌, ◌==◌, Bool, true, false, ℤ, pos, negsuc, List, [], ◌∷◌, Option, None, Some, IfSome, IfNone, option_map, option_and_then, inl, inr, refl, ap, sym, subst, ◌∙◌, arith}
+use Rattle.std.proofs.Common.{◌≡◌, ◌≢◌, ℕ, ◌+◌, ◌-◌, ◌≤◌, ◌==◌, true, false, ℤ, pos, negsuc, List, [], ◌∷◌, Option, None, Some, IfSome, IfNone, option_map, option_and_then, inl, inr, ap, sym, subst, ◌∙◌, arith}
 use Rattle.std.specs.Str.{all_ascii_digits}
 use Rattle.std.specs.Char.{is_ascii_digit}
 use Rattle.std.proofs.lemmas.Bool.{and_parts, cond-false, eqb-true, eq-eqb, false≢true, ne_eqb}

@@ -5,6 +5,8 @@ pub mod Cuts
 pub mod Ipv4
 pub mod Ipv6
 pub mod Names
+pub mod NoteSteps
+pub mod Notes
 pub mod OptionSteps
 pub mod Output
 pub mod PortRanges

@@ -59,12 +59,34 @@ pub enum Code {
     FilterTwice,
     /// A name is used that the naming files do not define.
     UnknownName,
+    /// A service has no port of a protocol that its term names.
+    NoPortForProtocol,
+    /// Ports stand in a term whose protocols are not all TCP, UDP or SCTP.
+    PortProtocol,
+    /// An ICMP type stands in a term whose protocol is not the one that has it.
+    IcmpProtocol,
+    /// An option stands in a term whose protocols it does not speak of.
+    OptionProtocol,
+    /// A TCP reset is the action of a term whose protocol is not TCP alone.
+    ResetProtocol,
+    /// A term has two different options.
+    OptionClash,
     /// The input is beyond what this version takes.
     NotYet,
     /// More include lines than the limit.
     IncludeCount,
+    /// A term for IPv6 names a protocol that is an extension header.
+    ExtensionHeader,
+    /// The name of a rule is longer than its platform takes.
+    NameLength,
+    /// Two rules of a filter have one name, where the platform tells them apart by name.
+    NameClash,
+    /// The platform has no form for what a rule asks.
+    Unsupported,
     /// A filter would have more entries than the limit.
     TooManyEntries,
+    /// The address lists of a filter would have more prefixes than the limit.
+    TooManyPrefixes,
 }
 
 /// A fault of the input by the number of its file: what is wrong, where, and the word in error.

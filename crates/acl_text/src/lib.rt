@@ -12,6 +12,7 @@ mod ipv6_text;
 mod items;
 mod laws;
 mod names;
+mod notes;
 mod output;
 mod port_ranges;
 mod prefixes;
@@ -32,6 +33,7 @@ pub use laws::{
     prefixes_are_read_again, texts_have_one_number, texts_have_one_prefix,
 };
 pub use names::{is_digit, is_filter_name, is_letter, is_name, is_safe_text};
+pub use notes::note;
 pub use output::{Out, PutFault, put_pieces};
 pub use port_ranges::read_ports;
 pub use prefixes::{

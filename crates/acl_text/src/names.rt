@@ -50,7 +50,7 @@ fn is_name_byte(byte: u8) -> bool
     is_letter(byte) || is_digit(byte) || byte == b'-' || byte == b'_'
 }
 
-fn is_safe_byte(byte: u8) -> bool
+pub(crate) fn is_safe_byte(byte: u8) -> bool
     ensures { result ≡ is_safe_byte byte }
 {
     is_name_byte(byte) || matches!(byte, b'.' | b',' | b':' | b' ')

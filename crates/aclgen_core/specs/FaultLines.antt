@@ -1,7 +1,7 @@
 -- The lines that are printed.
 use Rattle.std.specs.Prelude.{ℕ, ◌&&◌, ◌==◌, nat_le, if◌then◌else◌, List, [], ◌∷◌, ◌++◌, take, map, codes, decimal}
 use Rattle.acl_text.specs.declared.faults.Code.{Code}
-use Rattle.acl_text.specs.declared.faults.Code.TheVariants.{TooLong, BadByte, BadName, NoDefinition, BadValue, Twice, TooMany, Undefined, Cycle, TooManyFiles, NoFile, IncludeDepth, IncludePath, Syntax, Keyword, Value, Repeated, Missing, TermTwice, TargetLine, FilterTwice, UnknownName, NotYet, IncludeCount, TooManyEntries}
+use Rattle.acl_text.specs.declared.faults.Code.TheVariants.{TooLong, BadByte, BadName, NoDefinition, BadValue, Twice, TooMany, Undefined, Cycle, TooManyFiles, NoFile, IncludeDepth, IncludePath, Syntax, Keyword, Value, Repeated, Missing, TermTwice, TargetLine, FilterTwice, UnknownName, NoPortForProtocol, PortProtocol, IcmpProtocol, OptionProtocol, ResetProtocol, OptionClash, NotYet, IncludeCount, ExtensionHeader, NameLength, NameClash, Unsupported, TooManyEntries, TooManyPrefixes}
 use Rattle.acl_text.specs.declared.faults.Fault.{Fault}
 use Rattle.aclgen_core.specs.declared.endings.Which.{Which}
 use Rattle.aclgen_core.specs.declared.endings.Which.TheVariants as which
@@ -30,9 +30,20 @@ code_text TermTwice = codes "F28 TermTwice"
 code_text TargetLine = codes "F29 TargetLine"
 code_text FilterTwice = codes "F30 FilterTwice"
 code_text UnknownName = codes "F31 UnknownName"
+code_text NoPortForProtocol = codes "F32 NoPortForProtocol"
+code_text PortProtocol = codes "F33 PortProtocol"
+code_text IcmpProtocol = codes "F34 IcmpProtocol"
+code_text OptionProtocol = codes "F35 OptionProtocol"
+code_text ResetProtocol = codes "F36 ResetProtocol"
+code_text OptionClash = codes "F37 OptionClash"
 code_text NotYet = codes "F38 NotYet"
 code_text IncludeCount = codes "F39 IncludeCount"
+code_text ExtensionHeader = codes "F40 ExtensionHeader"
+code_text NameLength = codes "F41 NameLength"
+code_text NameClash = codes "F42 NameClash"
+code_text Unsupported = codes "F43 Unsupported"
 code_text TooManyEntries = codes "F44 TooManyEntries"
+code_text TooManyPrefixes = codes "F45 TooManyPrefixes"
 
 -- the line's number, where there is a line
 abbrev pub line_text : ℕ → List ℕ

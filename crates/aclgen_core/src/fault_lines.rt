@@ -40,9 +40,20 @@ fn code_text(code: Code) -> &'static str
         Code::TargetLine => "F29 TargetLine",
         Code::FilterTwice => "F30 FilterTwice",
         Code::UnknownName => "F31 UnknownName",
+        Code::NoPortForProtocol => "F32 NoPortForProtocol",
+        Code::PortProtocol => "F33 PortProtocol",
+        Code::IcmpProtocol => "F34 IcmpProtocol",
+        Code::OptionProtocol => "F35 OptionProtocol",
+        Code::ResetProtocol => "F36 ResetProtocol",
+        Code::OptionClash => "F37 OptionClash",
         Code::NotYet => "F38 NotYet",
         Code::IncludeCount => "F39 IncludeCount",
+        Code::ExtensionHeader => "F40 ExtensionHeader",
+        Code::NameLength => "F41 NameLength",
+        Code::NameClash => "F42 NameClash",
+        Code::Unsupported => "F43 Unsupported",
         Code::TooManyEntries => "F44 TooManyEntries",
+        Code::TooManyPrefixes => "F45 TooManyPrefixes",
     }
 }
 

@@ -3,9 +3,9 @@ use Rattle.std.specs.Prelude.{ℕ, List, [], ◌∷◌, codes}
 use Rattle.acl_packet.specs.declared.addresses.Families.{Families}
 use Rattle.acl_packet.specs.declared.addresses.Families.TheVariants.{Inet, Inet6, Mixed}
 use Rattle.acl_text.specs.Output.{joined}
-use Rattle.acl_policy.specs.declared.filters.Kind.{Kind}
-use Rattle.acl_policy.specs.declared.filters.Kind.TheVariants.{Cisco, Juniper, Iptables, Nftables}
-use Rattle.acl_policy.specs.declared.filters.Target.{Target}
+use Rattle.acl_target.specs.declared.targets.Kind.{Kind}
+use Rattle.acl_target.specs.declared.targets.Kind.TheVariants.{Cisco, Juniper, Iptables, Nftables}
+use Rattle.acl_target.specs.declared.targets.Target.{Target}
 
 abbrev pub kind_text : Kind → List ℕ
 kind_text Cisco = codes "cisco"

@@ -7,8 +7,8 @@ use Rattle.acl_packet.specs.declared.filtering.Verdict.TheVariants as verdicts
 use Rattle.acl_packet.specs.Addresses.{same_family}
 use Rattle.acl_packet.specs.Outcomes.{unlogged}
 use Rattle.acl_packet.specs.declared.packets.Packet.{Packet}
-use Rattle.acl_policy.specs.declared.filters.Ending.{Ending}
-use Rattle.acl_policy.specs.declared.filters.Ending.TheVariants as endings
+use Rattle.acl_target.specs.declared.targets.Ending.{Ending}
+use Rattle.acl_target.specs.declared.targets.Ending.TheVariants as endings
 
 -- Neighbor solicitations and advertisements (RFC 4861 sections 4.3 and 4.4), which the end of a Cisco IPv6 list accepts
 -- (Cisco IOS IPv6 command reference, ipv6 access-list).

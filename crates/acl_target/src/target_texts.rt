@@ -1,8 +1,8 @@
 ghost use Rattle.std.specs.Prelude.{◌≡◌, [], ◌∷◌, IsTrue, codes};
 ghost use Rattle.acl_text.specs.Output.{Puts, joined};
-ghost use Rattle.acl_policy.specs.TargetTexts.{kind_text, inet_text, families_text, target_text};
+ghost use Rattle.acl_target.specs.TargetTexts.{kind_text, inet_text, families_text, target_text};
 
-use crate::filters::{Kind, Target};
+use crate::targets::{Kind, Target};
 use acl_packet::Families;
 use acl_text::{Out, PutFault, put_pieces};
 

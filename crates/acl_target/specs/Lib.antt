@@ -1,0 +1,5 @@
+pub mod ClashSteps
+pub mod Clashes
+pub mod FilterEndings
+pub mod TargetData
+pub mod TargetTexts
