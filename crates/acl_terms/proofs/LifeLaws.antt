@@ -4,8 +4,8 @@ use Rattle.std.specs.Prelude.{◌<ℤ◌}
 use Rattle.std.specs.Int.Signed.{lt_z, lt_z_yes, lt_z_no, <ℤ_irrefl, <ℤ-≤ℤ_trans}
 use Rattle.std.proofs.lemmas.Bool.{and_from, and_parts, both_ways}
 use Rattle.acl_host.specs.declared.clocks.Day.{Day}
-use Rattle.acl_policy.specs.declared.filters.Kind.{Kind}
-use Rattle.acl_policy.specs.declared.filters.Kind.TheVariants.{Cisco, Juniper, Iptables, Nftables}
+use Rattle.acl_target.specs.declared.targets.Kind.{Kind}
+use Rattle.acl_target.specs.declared.targets.Kind.TheVariants.{Cisco, Juniper, Iptables, Nftables}
 use Rattle.acl_policy.specs.declared.raw_terms.RawTerm.{RawTerm}
 use Rattle.acl_policy.specs.declared.raw_terms.Word.{Word}
 use Rattle.acl_naming.specs.Definitions.{Naming}

@@ -12,7 +12,7 @@ use Rattle.acl_terms.specs.Sets.{IsSetOf}
 use Rattle.acl_terms.specs.SetSteps.{single}
 use Rattle.acl_terms.proofs.SetLaws.{any-join, same-set}
 
-single-held : (ns : List ℕ) (x : ℕ) → (holds (map single ns) x ≡ true) ↔ AnyOf (λ n. n ≡ x) ns
+pub single-held : (ns : List ℕ) (x : ℕ) → (holds (map single ns) x ≡ true) ↔ AnyOf (λ n. n ≡ x) ns
 single-held [] x = (λ h. absurd (both_ways false refl h), λ a. absurd a)
 single-held (n ∷ ns) x =
     let rest = single-held ns x in (
@@ -39,7 +39,7 @@ numbers-set ns top rs s e t n exact = record {
       (λ h. law.0 (sym same ∙ h), λ a. same ∙ law.1 a);
 }
 
-one-number : (o : Option ℕ) (x : ℕ) → AnyOf (λ n. n ≡ x) (option_to_list o) ↔ (o ≡ Some x)
+pub one-number : (o : Option ℕ) (x : ℕ) → AnyOf (λ n. n ≡ x) (option_to_list o) ↔ (o ≡ Some x)
 one-number None x = (λ a. absurd a, λ e. absurd (none-some x e))
 one-number (Some n) x = (
   λ a. elim a [ inl e ↦ ap (λ k. Some k) e | inr b ↦ absurd b ],

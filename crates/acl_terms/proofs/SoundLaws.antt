@@ -29,7 +29,7 @@ use Rattle.acl_terms.specs.Options.{option_of, verdict_of}
 use Rattle.acl_terms.specs.Sets.{IsSetOf, Sets, AreSetsOf}
 use Rattle.acl_terms.specs.Slips.{unless, first_unless, first_in, slip_of, questions, first_some, type_slip, option_fits, verdict_fits, is_tcp_or_udp, port_words, networks_slip, port_protocol_slip, services_slip, words_slips, types_slip, clash_slip, option_slip, reset_slip}
 use Rattle.acl_terms.specs.Soundness.{IsSound, is_all, Only, is_established, needs_tcp, is_reset, is_left}
-use Rattle.acl_terms.specs.StandIns.{note_of, is_note}
+use Rattle.acl_text.specs.Notes.{is_note, note_of}
 use Rattle.acl_terms.proofs.WordLaws.{protocol-within, type-within, parts, passed, first-passed, none-more, left-some, right-some, some-only, only-all, any-passes, any-number}
 
 -- ---- all numbers
@@ -99,7 +99,7 @@ some-there (Some n) h = (n, refl)
 
 some-type : (f : Option Family) (w : Word) → type_slip f w ≡ None
     → (n : ℕ) × (type_in f w.text ≡ Some n)
-some-type f w none = some-there (type_in f w.text) (passed (is_some (type_in f w.text)) codes.Missing w none)
+some-type f w none = some-there (type_in f w.text) (passed (is_some (type_in f w.text)) codes.IcmpProtocol w none)
 
 types-some : (f : Option Family) (ws : List Word) (s : Numbers) → IsSetOf (IsType f ws) 255 s
     → first_in (type_slip f) ws ≡ None → s.ranges ≢ []
@@ -149,9 +149,9 @@ flags-only TcpInitial qs h e = h
 flags-only Rst qs h e = h
 
 option-fitting : (qs : List ℕ) (ws : List Word)
-    → first_unless (option_fits (option_of ws) qs) codes.Value ws ≡ None → option_fits (option_of ws) qs ≡ true
+    → first_unless (option_fits (option_of ws) qs) codes.OptionProtocol ws ≡ None → option_fits (option_of ws) qs ≡ true
 option-fitting qs [] h = refl
-option-fitting qs (w ∷ ws) h = passed (option_fits (option_of (w ∷ ws)) qs) codes.Value w h
+option-fitting qs (w ∷ ws) h = passed (option_fits (option_of (w ∷ ws)) qs) codes.OptionProtocol w h
 
 reset-only : (v : Verdict) (qs : List ℕ) → verdict_fits v qs ≡ true → is_reset v ≡ true
     → only (is_number 6) qs ≡ true
@@ -171,7 +171,7 @@ never-left false false false = refl
 
 -- What a term without a slip passes.
 record Passed (t : RawTerm) : Type 0 where
-  ports : first_unless (only has_ports (protocols_of t.protocols)) codes.NoFile (port_words t) ≡ None
+  ports : first_unless (only has_ports (protocols_of t.protocols)) codes.PortProtocol (port_words t) ≡ None
   types : first_in (type_slip (icmp_family (protocols_of t.protocols))) t.icmp_types ≡ None
   option : option_fits (option_of t.options) (protocols_of t.protocols) ≡ true
   verdict : verdict_fits (verdict_of t.action.text) (protocols_of t.protocols) ≡ true
@@ -191,7 +191,7 @@ passes-all n t h =
       ports = b.0;
       types = d.0;
       option = option-fitting qs t.options f.0;
-      verdict = passed (verdict_fits (verdict_of t.action.text) qs) codes.Repeated t.action g.0;
+      verdict = passed (verdict_fits (verdict_of t.action.text) qs) codes.ResetProtocol t.action g.0;
     }
 
 not-written : (ws : List Word) (P : ℕ → Word → Type 0) (top : ℕ) (s : Numbers) → IsSetOf (λ x. Admits (P x) ws) top s
@@ -225,13 +225,13 @@ sound n t s name note clean are =
       sports_normal = are.ports.0.normal;
       sports_some = are.ports.2;
       sports_fit = λ e. only-held has_ports t.protocols s.protos are.protos_are
-          (ports-fit n (NamesPort n qs) top_port t.source_ports s.sports (only has_ports qs) codes.NoFile (port_words t)
+          (ports-fit n (NamesPort n qs) top_port t.source_ports s.sports (only has_ports qs) codes.PortProtocol (port_words t)
           are.ports.0 (left-some t.source_ports t.destination_ports) p.ports e);
       dports_top = are.ports.1.top_is;
       dports_normal = are.ports.1.normal;
       dports_some = are.ports.3;
       dports_fit = λ e. only-held has_ports t.protocols s.protos are.protos_are
-          (ports-fit n (NamesPort n qs) top_port t.destination_ports s.dports (only has_ports qs) codes.NoFile (port_words t)
+          (ports-fit n (NamesPort n qs) top_port t.destination_ports s.dports (only has_ports qs) codes.PortProtocol (port_words t)
           are.ports.1 (right-some t.source_ports t.destination_ports) p.ports e);
       dports_named = not-written t.destination_ports (NamesPort n qs) top_port s.dports are.ports.1;
       itypes_top = are.itypes_are.top_is;

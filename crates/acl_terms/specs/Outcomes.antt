@@ -8,11 +8,11 @@ use Rattle.acl_packet.specs.declared.filtering.Verdict.TheVariants as verdicts
 use Rattle.acl_packet.specs.declared.packets.Packet.{Packet}
 use Rattle.acl_packet.specs.Packets.{IsPacket}
 use Rattle.acl_host.specs.declared.clocks.Day.{Day}
-use Rattle.acl_policy.specs.declared.filters.Kind.{Kind}
-use Rattle.acl_policy.specs.declared.filters.Kind.TheVariants.{Cisco, Juniper, Iptables, Nftables}
-use Rattle.acl_policy.specs.declared.filters.Target.{Target}
+use Rattle.acl_target.specs.declared.targets.Kind.{Kind}
+use Rattle.acl_target.specs.declared.targets.Kind.TheVariants.{Cisco, Juniper, Iptables, Nftables}
+use Rattle.acl_target.specs.declared.targets.Target.{Target}
 use Rattle.acl_policy.specs.declared.raw_terms.RawTerm.{RawTerm}
-use Rattle.acl_policy.specs.FilterEndings.{ending_outcome}
+use Rattle.acl_target.specs.FilterEndings.{ending_outcome}
 use Rattle.acl_naming.specs.Definitions.{Naming}
 use Rattle.acl_terms.specs.declared.options.Mode.{Mode}
 use Rattle.acl_terms.specs.declared.options.Mode.TheVariants.{Stateful, Stateless}
@@ -88,7 +88,3 @@ abbrev pub PoliciesDecideAsWritten : Type 0
 PoliciesDecideAsWritten = (n : Naming) (target : Target) (today : Day) (raws : List RawTerm) (ts : List Term)
     (p : Packet) → IsPacket p → AllZip (IsResolved n) raws ts
     → PolicyDecides n target today raws p (policy_outcome target today ts p)
-
--- A written term is resolved in one way.
-abbrev pub TermsAreOne : Type 0
-TermsAreOne = (n : Naming) (raw : RawTerm) (t u : Term) → IsResolved n raw t → IsResolved n raw u → t ≡ u

@@ -10,7 +10,7 @@ use Rattle.acl_text.specs.declared.faults.Refusal.TheVariants as refusals
 use Rattle.acl_host.specs.declared.clocks.Day.{Day}
 use Rattle.acl_sets.specs.declared.sets.Range.{Range}
 use Rattle.acl_sets.specs.Ranges.{Numbers, holds}
-use Rattle.acl_policy.specs.declared.filters.Kind.{Kind}
+use Rattle.acl_target.specs.declared.targets.Kind.{Kind}
 use Rattle.acl_policy.specs.declared.raw_terms.RawTerm.{RawTerm}
 use Rattle.acl_naming.specs.Definitions.{Naming}
 use Rattle.acl_terms.specs.declared.options.Mode.{Mode}
@@ -20,7 +20,7 @@ use Rattle.acl_terms.specs.Matching.{foreign_of, is_written}
 use Rattle.acl_terms.specs.Options.{option_of, passes, verdict_of}
 use Rattle.acl_terms.specs.Sets.{AreSetsOf, Sets}
 use Rattle.acl_terms.specs.Soundness.{is_all}
-use Rattle.acl_terms.specs.StandIns.{note_of}
+use Rattle.acl_text.specs.Notes.{note_of}
 
 abbrev pub sets_in : Term → Sets
 sets_in t = record {

@@ -22,7 +22,7 @@ single n = record { low = n; high = n }
 abbrev pub protocol_slip : List Definition → ℕ → Word → Option Slip
 protocol_slip services q w =
     first_of (unless (is_defined services w.text) codes.UnknownName w)
-    (unless (reaches_protocol services w.text q) codes.NoDefinition w)
+    (unless (reaches_protocol services w.text q) codes.NoPortForProtocol w)
 
 -- The questions on names, end by end.
 abbrev pub ends_slip : List Definition → RawTerm → Option Slip

@@ -72,27 +72,27 @@ networks_slip networks t = first_in (network_slip networks) (address_words t)
 
 -- Are ports named, though the protocols are not some of TCP, UDP and SCTP? The slip is at the first of them.
 abbrev pub port_protocol_slip : List ℕ → RawTerm → Option Slip
-port_protocol_slip protos t = first_unless (only has_ports protos) codes.NoFile (port_words t)
+port_protocol_slip protos t = first_unless (only has_ports protos) codes.PortProtocol (port_words t)
 
 -- Which name of ports is the first that no service has, or that reaches no ports of one of the protocols?
 abbrev pub service_slip : List Definition → List ℕ → Word → Option Slip
 service_slip services protos w =
     first_of (unless (is_defined services w.text) codes.UnknownName w)
-    (unless (list_all (reaches_protocol services w.text) protos) codes.NoDefinition w)
+    (unless (list_all (reaches_protocol services w.text) protos) codes.NoPortForProtocol w)
 
 abbrev pub services_slip : List Definition → List ℕ → RawTerm → Option Slip
 services_slip services protos t = first_in (service_slip services protos) (port_words t)
 
 -- Which ICMP type is the first that is none of the family whose ICMP is the only protocol?
 abbrev pub type_slip : Option Family → Word → Option Slip
-type_slip family w = unless (is_some (type_in family w.text)) codes.Missing w
+type_slip family w = unless (is_some (type_in family w.text)) codes.IcmpProtocol w
 
 abbrev pub types_slip : List ℕ → RawTerm → Option Slip
 types_slip protos t = first_in (type_slip (icmp_family protos)) t.icmp_types
 
 -- Which option is the first that is another than the first one?
 abbrev pub same_slip : Word → Word → Option Slip
-same_slip w v = unless (bytes_eq v.text w.text) codes.Keyword v
+same_slip w v = unless (bytes_eq v.text w.text) codes.OptionClash v
 
 abbrev pub clash_slip : List Word → Option Slip
 clash_slip [] = None
@@ -108,7 +108,7 @@ option_fits Established protos = only is_tcp_or_udp protos
 option_fits option protos = only (is_number 6) protos
 
 abbrev pub option_slip : List ℕ → List Word → Option Slip
-option_slip protos words = first_unless (option_fits (option_of words) protos) codes.Value words
+option_slip protos words = first_unless (option_fits (option_of words) protos) codes.OptionProtocol words
 
 -- Is the action a reset of TCP, though TCP is not the only protocol?
 abbrev pub verdict_fits : Verdict → List ℕ → Bool
@@ -116,7 +116,7 @@ verdict_fits Reset protos = only (is_number 6) protos
 verdict_fits verdict protos = true
 
 abbrev pub reset_slip : List ℕ → Word → Option Slip
-reset_slip protos w = unless (verdict_fits (verdict_of w.text) protos) codes.Repeated w
+reset_slip protos w = unless (verdict_fits (verdict_of w.text) protos) codes.ResetProtocol w
 
 -- ---- the whole term
 

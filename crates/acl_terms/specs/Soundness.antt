@@ -15,7 +15,7 @@ use Rattle.acl_terms.specs.declared.options.Opt.{Opt}
 use Rattle.acl_terms.specs.declared.options.Opt.TheVariants.{Plain, Established, TcpEstablished, TcpInitial, Rst}
 use Rattle.acl_terms.specs.Matching.{is_number}
 use Rattle.acl_terms.specs.Slips.{is_tcp_or_udp}
-use Rattle.acl_terms.specs.StandIns.{is_note}
+use Rattle.acl_text.specs.Notes.{is_note}
 
 -- The set has all numbers up to its top: one range does.
 abbrev pub is_all : Numbers → Bool

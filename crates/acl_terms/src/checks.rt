@@ -197,7 +197,7 @@ fn check_types(alloc: Global, family: Option<Family>, words: &[Word]) -> Result<
 {
     for word in words {
         let passed = is_type_in(family, word.text.as_slice());
-        check(alloc, passed, Code::Missing, word)?;
+        check(alloc, passed, Code::IcmpProtocol, word)?;
     }
     Ok(())
 }
@@ -207,7 +207,7 @@ fn check_same(alloc: Global, first: &Word, words: &[Word]) -> Result<(), Refusal
 {
     for word in words {
         let passed = word.text.as_slice() == first.text.as_slice();
-        check(alloc, passed, Code::Keyword, word)?;
+        check(alloc, passed, Code::OptionClash, word)?;
     }
     Ok(())
 }
@@ -224,14 +224,14 @@ fn check_clash(alloc: Global, words: &[Word]) -> Result<(), Refusal>
 fn check_option(alloc: Global, protos: &[u8], words: &[Word]) -> Result<(), Refusal>
     ensures { Judges result (option_slip protos.now words.now) }
 {
-    check_first(alloc, option_fits(option_of(words), protos), Code::Value, words)
+    check_first(alloc, option_fits(option_of(words), protos), Code::OptionProtocol, words)
 }
 
 fn check_reset(alloc: Global, protos: &[u8], word: &Word) -> Result<(), Refusal>
     ensures { Judges result (reset_slip protos.now word.now) }
 {
     let verdict = verdict_of(word.text.as_slice());
-    check(alloc, verdict_fits(verdict, protos), Code::Repeated, word)
+    check(alloc, verdict_fits(verdict, protos), Code::ResetProtocol, word)
 }
 
 /// Whether ports stand only with TCP, UDP and SCTP. The slip is at the first word of ports.
@@ -241,13 +241,13 @@ pub(crate) fn check_port_protocol(
     sources: &[Word],
     destinations: &[Word],
 ) -> Result<(), Refusal>
-    ensures { Judges result (first_unless (only has_ports protos.now) codes.NoFile
+    ensures { Judges result (first_unless (only has_ports protos.now) codes.PortProtocol
         (sources.now ++ destinations.now)) }
 {
     let passed = only_ports(protos);
     match sources {
-        [] => check_first(alloc, passed, Code::NoFile, destinations),
-        [_, ..] => check_first(alloc, passed, Code::NoFile, sources),
+        [] => check_first(alloc, passed, Code::PortProtocol, destinations),
+        [_, ..] => check_first(alloc, passed, Code::PortProtocol, sources),
     }
 }
 

@@ -6,7 +6,6 @@ mod checks;
 mod laws;
 mod living;
 mod matching;
-mod notes;
 mod options;
 mod ports;
 mod protocols;

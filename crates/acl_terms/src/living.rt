@@ -6,7 +6,8 @@ ghost use Rattle.acl_terms.specs.Resolved.{IsTermLive, is_term_live, is_unexpire
 
 use crate::terms::{Platforms, Term};
 use acl_host::Day;
-use acl_policy::{Kind, Word};
+use acl_policy::Word;
+use acl_target::Kind;
 
 // ---- platforms by their words
 

@@ -37,7 +37,7 @@ fn ports_at(
     match ports_of(alloc, base, proto, word.text.as_slice()) {
         Ok(set) => Ok(set),
         Err(Lookup::Unknown) => Err(refusal_at(alloc, Code::UnknownName, word)),
-        Err(Lookup::NoPort) => Err(refusal_at(alloc, Code::NoDefinition, word)),
+        Err(Lookup::NoPort) => Err(refusal_at(alloc, Code::NoPortForProtocol, word)),
         Err(Lookup::Memory) => Err(Refusal::Memory),
     }
 }

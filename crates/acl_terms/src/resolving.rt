@@ -8,14 +8,13 @@ ghost use Rattle.acl_terms.specs.Slips.{Judges, slip_of};
 use crate::addresses::{Ends, ends_of};
 use crate::checks::{check_port_protocol, check_words, icmp_family, option_of, verdict_of};
 use crate::living::{platforms_of, some_platforms};
-use crate::notes::note;
 use crate::ports::{TermPorts, ports_of_term};
 use crate::protocols::{admitted_protocols, admitted_types, protocols_of};
 use crate::terms::Term;
 use acl_naming::Checked;
 use acl_policy::{RawTerm, Word};
 use acl_sets::RangeSet;
-use acl_text::{Bytes, Refusal};
+use acl_text::{Bytes, Refusal, note};
 use std::alloc::Global;
 
 // The sets of a term.

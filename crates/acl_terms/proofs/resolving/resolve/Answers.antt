@@ -1,7 +1,7 @@
 use Rattle.std.proofs.Common.{ap, ◌∙◌}
 use Rattle.acl_terms.specs.Matching.{is_written}
 use Rattle.acl_terms.specs.Options.{option_of, verdict_of}
-use Rattle.acl_terms.specs.StandIns.{note_of}
+use Rattle.acl_text.specs.Notes.{note_of}
 use Rattle.acl_terms.proofs.SoundLaws.{sound-fields}
 use Rattle.acl_terms.proofs.resolving.resolve.Goals as goal
 
