@@ -5,3 +5,4 @@ pub mod ReachLaws
 pub mod ReadLaws
 pub mod TableLaws
 pub mod WalkLaws
+pub mod ComputedReachLaws

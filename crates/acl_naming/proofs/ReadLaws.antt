@@ -11,7 +11,6 @@ use Rattle.acl_text.specs.Cursors.{is_white}
 use Rattle.acl_text.specs.Cuts.{cut_at, has_byte}
 use Rattle.acl_text.proofs.CutLaws.{cut-none, none-cut}
 use Rattle.acl_naming.specs.Checking.{IsRefusal}
-use Rattle.acl_naming.specs.Definitions.{Definition}
 use Rattle.acl_naming.specs.NamingFiles.{Outcome, in_front_of, without_end, opens}
 
 -- ---- white space at the end

@@ -1,6 +1,5 @@
 -- The words of a definition's items.
-use Rattle.std.specs.Prelude.{ℕ, ◌||◌, nat_le, if◌then◌else◌, List, Option, None, Some, option_map}
-use Rattle.std.specs.Option.{option_map_or}
+use Rattle.std.specs.Prelude.{ℕ, ◌||◌, if◌then◌else◌, List, Option, None, Some, option_map}
 use Rattle.acl_packet.specs.NumberWords.{protocol_in}
 use Rattle.acl_text.specs.declared.faults.Place.{Place}
 use Rattle.acl_text.specs.AddressTexts.{prefix_in}

@@ -1,4 +1,5 @@
 pub mod Checking
+pub mod ComputableReach
 pub mod Definitions
 pub mod GraphSteps
 pub mod ItemWords

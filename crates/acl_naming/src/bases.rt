@@ -1,6 +1,7 @@
-ghost use Rattle.std.specs.Prelude.{◌≡◌, ◌↔◌, ◌≤◌, ℕ, [], true, None, Err, IfOk, length};
+ghost use Rattle.std.specs.Prelude.{◌≡◌, ◌≢◌, ◌↔◌, ◌≤◌, ℕ, [], true, None, Err, IfOk, length};
 ghost use Rattle.acl_sets.specs.Ranges.{IsNormal, holds};
 ghost use Rattle.acl_naming.specs.Checking.{IsChecked};
+ghost use Rattle.acl_naming.specs.ComputableReach.{addresses_reached, ports_reached};
 ghost use Rattle.acl_naming.specs.Definitions.{index_of};
 ghost use Rattle.acl_packet.specs.Addresses.{top_address};
 ghost use Rattle.acl_naming.specs.Ports.{top_port};
@@ -122,6 +123,7 @@ pub fn check(base: Base) -> Result<Checked, Refusal>
 /// The addresses of the family that the name reaches, as numbers.
 ///
 /// `Unknown` exactly where no network has the name; never `NoPort`.
+
 pub fn networks_of(
     alloc: Global,
     base: &Checked,
@@ -132,6 +134,8 @@ pub fn networks_of(
     ensures normal { IfOk result (λ s. IsNormal 0 s.top s.ranges) }
     ensures exact { IfOk result (λ s. (x : ℕ) → (holds s.ranges x ≡ true)
         ↔ ReachesAddress base.now.networks name.now family x) }
+    ensures computed { IfOk result (λ s.
+        s.ranges ≡ addresses_reached base.now.networks family name.now) }
     ensures unknown { (result ≡ Err Lookup.Unknown) ↔ (index_of base.now.networks name.now ≡ None) }
     ensures no_port { result ≡ Err Lookup.NoPort → ⊥ }
 {
@@ -144,15 +148,19 @@ pub fn networks_of(
 ///
 /// `Unknown` exactly where no service has the name; `NoPort` only where the name reaches no ports of the
 /// protocol, and a set only where it reaches some.
+
 pub fn ports_of(alloc: Global, base: &Checked, proto: u8, name: &[u8]) -> Result<RangeSet, Lookup>
     ensures top { IfOk result (λ s. s.top ≡ top_port) }
     ensures normal { IfOk result (λ s. IsNormal 0 s.top s.ranges) }
     ensures exact { IfOk result (λ s. (n : ℕ) → (holds s.ranges n ≡ true)
         ↔ ReachesPort base.now.services name.now proto n) }
+    ensures computed { IfOk result (λ s.
+        s.ranges ≡ ports_reached base.now.services proto name.now) }
+    ensures some { IfOk result (λ s. s.ranges ≢ []) }
     ensures unknown { (result ≡ Err Lookup.Unknown) ↔ (index_of base.now.services name.now ≡ None) }
     ensures no_port { result ≡ Err Lookup.NoPort
         → ReachesProtocol base.now.services name.now proto → ⊥ }
-    ensures some { IfOk result (λ s. ReachesProtocol base.now.services name.now proto) }
+    ensures reached { IfOk result (λ s. ReachesProtocol base.now.services name.now proto) }
 {
     let wanted = Wanted::Ports(proto);
     let ranges = ranges_of(alloc, &base.services, wanted, name)?;

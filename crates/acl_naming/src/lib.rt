@@ -4,6 +4,7 @@
 mod bases;
 mod checking;
 mod item_words;
+mod laws;
 mod line_parts;
 mod lookups;
 mod marking;
@@ -17,4 +18,5 @@ mod tables;
 mod tests;
 
 pub use bases::{Base, Checked, check, networks_of, ports_of, read_networks, read_services};
+pub use laws::{addresses_are_computed, ports_are_computed, reach_is_computed};
 pub use lookups::Lookup;

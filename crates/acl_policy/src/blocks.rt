@@ -1,5 +1,5 @@
-use acl_target::Targets;
 use crate::raw_terms::RawTerms;
+use acl_target::Targets;
 use acl_text::Items;
 
 /// A header's targets and the terms behind it.

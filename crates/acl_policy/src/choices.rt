@@ -17,10 +17,10 @@ ghost use Rattle.acl_policy.specs.Targets.{
   choices_from,
 };
 
-use acl_target::Kind;
 use crate::values::{is_plain, is_text};
 use crate::word_slips::slip_for;
 use acl_packet::Families;
+use acl_target::Kind;
 use acl_text::{Code, Refusal, read_signed};
 use acl_words::Token;
 use std::alloc::Global;

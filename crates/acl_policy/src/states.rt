@@ -1,7 +1,7 @@
 use crate::blocks::Blocks;
-use acl_target::Targets;
 use crate::raw_terms::RawTerms;
 use crate::term_drafts::Draft;
+use acl_target::Targets;
 
 /// Where in the structure of a policy the reading stands.
 #[derive(Clone, Copy, Debug, PartialEq, Eq)]

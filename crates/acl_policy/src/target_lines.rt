@@ -17,10 +17,10 @@ ghost use Rattle.acl_policy.specs.Targets.{
 
 use crate::choices::{family_word, is_word, read_choices};
 use crate::clauses::Clause;
-use acl_target::{Ending, Kind, Target};
 use crate::values::is_plain;
 use crate::word_slips::{slip_at, slip_for};
 use acl_packet::{Families, Hook};
+use acl_target::{Ending, Kind, Target};
 use acl_text::{Bytes, Code, Memory, Place, Refusal, is_filter_name};
 use acl_words::Token;
 use std::alloc::Global;

@@ -12,6 +12,7 @@ use Rattle.std.specs.List.{AllByRecursion}
 use Rattle.acl_packet.specs.declared.addresses.Family.{Family}
 use Rattle.acl_packet.specs.declared.addresses.Prefix.{Prefix}
 use Rattle.acl_packet.specs.Addresses.{width_of, size_of, has_address, IsPrefixOf}
+use Rattle.acl_text.proofs.ListLaws.{all_append}
 use Rattle.acl_sets.specs.LeastLists.{any_has, LiesIn, IsMaximal, IsInOrder, IsLeastList, IsFewest}
 use Rattle.acl_sets.specs.ComputableLeastLists.{block}
 use Rattle.acl_sets.proofs.SetFacts.{and_out}
@@ -163,11 +164,6 @@ halved-holds f set x l =
     (le-leb 0 x (omega arith)) (lt-ltb x (0 + 2 ^ width_of f) (omega arith)))
 
 -- Each prefix is maximal
-
-all_append : (P : Prefix → Type 0) (ps qs : List Prefix) → AllByRecursion P ps → AllByRecursion P qs
-    → AllByRecursion P (ps ++ qs)
-all_append P [] qs h k = k
-all_append P (p ∷ ps) qs h k = (h.0, all_append P ps qs h.1 k)
 
 abbrev AllMaximal : Family → (ℕ → Bool) → List Prefix → Type 0
 AllMaximal f set ps = AllByRecursion (λ p. IsMaximal f set p) ps

@@ -8,6 +8,7 @@ pub mod Dotted
 pub mod Gaps
 pub mod GroupSteps
 pub mod Groups
+pub mod ListLaws
 pub mod NoteLaws
 pub mod OptionStepLaws
 pub mod PortLaws

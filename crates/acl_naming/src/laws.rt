@@ -1,0 +1,19 @@
+ghost use Rattle.acl_naming.specs.ComputableReach.{AddressesAreComputed, PortsAreComputed, ReachIsComputed};
+
+/// A law: a test passes at some item that is reached, as it is computed, exactly where a walk ends at one.
+#[tactic(auto, using(crate::proofs::ComputedReachLaws::reach_computed))]
+pub fn reach_is_computed()
+    ensures { ReachIsComputed }
+{}
+
+/// A law: the addresses that are computed are those of a set, and are those that the name reaches.
+
+pub fn addresses_are_computed()
+    ensures { AddressesAreComputed }
+{}
+
+/// A law: the ports that are computed are those of a set, and are those that the name reaches.
+
+pub fn ports_are_computed()
+    ensures { PortsAreComputed }
+{}
