@@ -13,7 +13,8 @@ use std::alloc::Global;
 use std::str;
 use std::test::Fail;
 
-const NETWORKS: &[u8] = b"WEB = 192.0.2.10\nTEN = 10.0.0.0/8\nPIN = 10.128.0.1\nSIX = 2001:db8::10\nALL6 = ::/0\n";
+const NETWORKS: &[u8] =
+    b"WEB = 192.0.2.10\nTEN = 10.0.0.0/8\nPIN = 10.128.0.1\nSIX = 2001:db8::10\nALL6 = ::/0\n";
 
 const SERVICES: &[u8] = b"HTTP = 80/tcp\nBOTHS = 80/tcp 53/udp\nTFTP = 69/udp\nANY = 0-65535/tcp\n";
 
@@ -77,18 +78,54 @@ fn slip_of(alloc: Global, base: &Checked, items: &str) -> Result<String, Memory>
 #[test]
 fn each_slip(rt: HostRuntime) -> Result<(), Fail> {
     let table = [
-        ("destination-address:: NOPE\naction:: deny", "5 UnknownName NOPE"),
-        ("protocol:: tcp\nsource-port:: NOPE\naction:: deny", "6 UnknownName NOPE"),
-        ("protocol:: tcp udp\nsource-port:: HTTP\naction:: deny", "6 NoPortForProtocol HTTP"),
-        ("protocol:: tcp icmp\nsource-port:: HTTP\naction:: deny", "6 PortProtocol HTTP"),
-        ("destination-port:: HTTP\naction:: deny", "5 PortProtocol HTTP"),
-        ("protocol:: icmp\nicmp-type:: redirect 3 router-solicit\naction:: deny", "6 IcmpProtocol router-solicit"),
-        ("protocol:: icmp icmpv6\nicmp-type:: 3\naction:: deny", "6 IcmpProtocol 3"),
-        ("protocol:: tcp\noption:: rst rst tcp-initial\naction:: deny", "6 OptionClash tcp-initial"),
-        ("protocol:: tcp sctp\noption:: established\naction:: deny", "6 OptionProtocol established"),
-        ("protocol:: tcp udp\noption:: tcp-established\naction:: deny", "6 OptionProtocol tcp-established"),
-        ("protocol:: udp\naction:: reject-with-tcp-rst", "6 ResetProtocol reject-with-tcp-rst"),
-        ("protocol:: tcp 6\noption:: rst\naction:: reject-with-tcp-rst", "none"),
+        (
+            "destination-address:: NOPE\naction:: deny",
+            "5 UnknownName NOPE",
+        ),
+        (
+            "protocol:: tcp\nsource-port:: NOPE\naction:: deny",
+            "6 UnknownName NOPE",
+        ),
+        (
+            "protocol:: tcp udp\nsource-port:: HTTP\naction:: deny",
+            "6 NoPortForProtocol HTTP",
+        ),
+        (
+            "protocol:: tcp icmp\nsource-port:: HTTP\naction:: deny",
+            "6 PortProtocol HTTP",
+        ),
+        (
+            "destination-port:: HTTP\naction:: deny",
+            "5 PortProtocol HTTP",
+        ),
+        (
+            "protocol:: icmp\nicmp-type:: redirect 3 router-solicit\naction:: deny",
+            "6 IcmpProtocol router-solicit",
+        ),
+        (
+            "protocol:: icmp icmpv6\nicmp-type:: 3\naction:: deny",
+            "6 IcmpProtocol 3",
+        ),
+        (
+            "protocol:: tcp\noption:: rst rst tcp-initial\naction:: deny",
+            "6 OptionClash tcp-initial",
+        ),
+        (
+            "protocol:: tcp sctp\noption:: established\naction:: deny",
+            "6 OptionProtocol established",
+        ),
+        (
+            "protocol:: tcp udp\noption:: tcp-established\naction:: deny",
+            "6 OptionProtocol tcp-established",
+        ),
+        (
+            "protocol:: udp\naction:: reject-with-tcp-rst",
+            "6 ResetProtocol reject-with-tcp-rst",
+        ),
+        (
+            "protocol:: tcp 6\noption:: rst\naction:: reject-with-tcp-rst",
+            "none",
+        ),
     ];
     let base = definitions(rt.alloc())?;
     for (items, slip) in table {
@@ -100,16 +137,46 @@ fn each_slip(rt: HostRuntime) -> Result<(), Fail> {
 #[test]
 fn the_first_of_two_slips(rt: HostRuntime) -> Result<(), Fail> {
     let table = [
-        ("destination-address:: D\nsource-exclude:: E\naction:: deny", "6 UnknownName E"),
-        ("destination-port:: HTTP\nsource-address:: A\naction:: deny", "6 UnknownName A"),
-        ("destination-port:: NOPE\nprotocol:: icmp\naction:: deny", "5 PortProtocol NOPE"),
-        ("destination-port:: A\nsource-port:: B\nprotocol:: tcp\naction:: deny", "6 UnknownName B"),
-        ("source-port:: TFTP NOPE\nprotocol:: tcp\naction:: deny", "5 NoPortForProtocol TFTP"),
-        ("source-port:: NOPE TFTP\nprotocol:: tcp\naction:: deny", "5 UnknownName NOPE"),
-        ("icmp-type:: 8\nsource-port:: TFTP\nprotocol:: tcp\naction:: deny", "6 NoPortForProtocol TFTP"),
-        ("option:: rst tcp-initial\nicmp-type:: 8\naction:: deny", "6 IcmpProtocol 8"),
-        ("protocol:: udp\noption:: rst tcp-initial\naction:: deny", "6 OptionClash tcp-initial"),
-        ("action:: reject-with-tcp-rst\noption:: rst\nprotocol:: udp", "6 OptionProtocol rst"),
+        (
+            "destination-address:: D\nsource-exclude:: E\naction:: deny",
+            "6 UnknownName E",
+        ),
+        (
+            "destination-port:: HTTP\nsource-address:: A\naction:: deny",
+            "6 UnknownName A",
+        ),
+        (
+            "destination-port:: NOPE\nprotocol:: icmp\naction:: deny",
+            "5 PortProtocol NOPE",
+        ),
+        (
+            "destination-port:: A\nsource-port:: B\nprotocol:: tcp\naction:: deny",
+            "6 UnknownName B",
+        ),
+        (
+            "source-port:: TFTP NOPE\nprotocol:: tcp\naction:: deny",
+            "5 NoPortForProtocol TFTP",
+        ),
+        (
+            "source-port:: NOPE TFTP\nprotocol:: tcp\naction:: deny",
+            "5 UnknownName NOPE",
+        ),
+        (
+            "icmp-type:: 8\nsource-port:: TFTP\nprotocol:: tcp\naction:: deny",
+            "6 NoPortForProtocol TFTP",
+        ),
+        (
+            "option:: rst tcp-initial\nicmp-type:: 8\naction:: deny",
+            "6 IcmpProtocol 8",
+        ),
+        (
+            "protocol:: udp\noption:: rst tcp-initial\naction:: deny",
+            "6 OptionClash tcp-initial",
+        ),
+        (
+            "action:: reject-with-tcp-rst\noption:: rst\nprotocol:: udp",
+            "6 OptionProtocol rst",
+        ),
     ];
     let base = definitions(rt.alloc())?;
     for (items, slip) in table {
@@ -139,23 +206,87 @@ fn packet(family: Family, proto: u8, dport: u16, flags: u8, conn: Conn) -> Packe
 #[test]
 fn matches_by_names_and_protocols(rt: HostRuntime) -> Result<(), Fail> {
     let table = [
-        ("protocol:: tcp udp\ndestination-port:: BOTHS\naction:: deny", Family::V4, 6, 53, true),
-        ("protocol:: tcp udp\ndestination-port:: BOTHS\naction:: deny", Family::V4, 6, 54, false),
-        ("protocol:: icmp icmpv6\naction:: deny", Family::V4, 58, 0, false),
-        ("protocol:: icmp icmpv6\naction:: deny", Family::V6, 58, 0, true),
-        ("protocol:: icmp icmpv6\naction:: deny", Family::V6, 1, 0, false),
+        (
+            "protocol:: tcp udp\ndestination-port:: BOTHS\naction:: deny",
+            Family::V4,
+            6,
+            53,
+            true,
+        ),
+        (
+            "protocol:: tcp udp\ndestination-port:: BOTHS\naction:: deny",
+            Family::V4,
+            6,
+            54,
+            false,
+        ),
+        (
+            "protocol:: icmp icmpv6\naction:: deny",
+            Family::V4,
+            58,
+            0,
+            false,
+        ),
+        (
+            "protocol:: icmp icmpv6\naction:: deny",
+            Family::V6,
+            58,
+            0,
+            true,
+        ),
+        (
+            "protocol:: icmp icmpv6\naction:: deny",
+            Family::V6,
+            1,
+            0,
+            false,
+        ),
         ("action:: deny", Family::V4, 58, 0, true),
-        ("source-address:: TEN\naction:: deny", Family::V4, 17, 1, true),
-        ("source-address:: TEN\naction:: deny", Family::V6, 17, 1, false),
-        ("source-address:: TEN\nsource-exclude:: TEN\naction:: deny", Family::V4, 17, 1, false),
-        ("source-exclude:: PIN\naction:: deny", Family::V4, 17, 1, true),
-        ("source-exclude:: ALL6\naction:: deny", Family::V6, 17, 1, false),
+        (
+            "source-address:: TEN\naction:: deny",
+            Family::V4,
+            17,
+            1,
+            true,
+        ),
+        (
+            "source-address:: TEN\naction:: deny",
+            Family::V6,
+            17,
+            1,
+            false,
+        ),
+        (
+            "source-address:: TEN\nsource-exclude:: TEN\naction:: deny",
+            Family::V4,
+            17,
+            1,
+            false,
+        ),
+        (
+            "source-exclude:: PIN\naction:: deny",
+            Family::V4,
+            17,
+            1,
+            true,
+        ),
+        (
+            "source-exclude:: ALL6\naction:: deny",
+            Family::V6,
+            17,
+            1,
+            false,
+        ),
     ];
     let base = definitions(rt.alloc())?;
     for (items, family, proto, dport, expected) in table {
         let term = term_of(rt.alloc(), &base, items)?;
         let packet = packet(family, proto, dport, 0, Conn::New);
-        assert_eq!(rt; matches(&term, Mode::Stateless, &packet), expected, "at {items}");
+        assert_eq!(rt;
+            matches(&term, Mode::Stateless, &packet),
+            expected,
+            "at {items}"
+        );
     }
     Ok(())
 }
@@ -172,15 +303,43 @@ fn matches_by_options(rt: HostRuntime) -> Result<(), Fail> {
         (named, Mode::Stateless, 17, 53, 0, Conn::New, true),
         (named, Mode::Stateful, 17, 53, 0, Conn::New, false),
         (free, Mode::Stateful, 17, 53, 0, Conn::Related, true),
-        ("protocol:: tcp\noption:: tcp-initial\naction:: deny", Mode::Stateful, 6, 1, 2, Conn::New, true),
-        ("protocol:: tcp\noption:: tcp-initial\naction:: deny", Mode::Stateful, 6, 1, 18, Conn::New, false),
-        ("protocol:: tcp\noption:: rst\naction:: deny", Mode::Stateful, 6, 1, 4, Conn::New, true),
+        (
+            "protocol:: tcp\noption:: tcp-initial\naction:: deny",
+            Mode::Stateful,
+            6,
+            1,
+            2,
+            Conn::New,
+            true,
+        ),
+        (
+            "protocol:: tcp\noption:: tcp-initial\naction:: deny",
+            Mode::Stateful,
+            6,
+            1,
+            18,
+            Conn::New,
+            false,
+        ),
+        (
+            "protocol:: tcp\noption:: rst\naction:: deny",
+            Mode::Stateful,
+            6,
+            1,
+            4,
+            Conn::New,
+            true,
+        ),
     ];
     let base = definitions(rt.alloc())?;
     for (items, mode, proto, dport, flags, conn, expected) in table {
         let term = term_of(rt.alloc(), &base, items)?;
         let packet = packet(Family::V4, proto, dport, flags, conn);
-        assert_eq!(rt; matches(&term, mode, &packet), expected, "at {items} {dport} {flags}");
+        assert_eq!(rt;
+            matches(&term, mode, &packet),
+            expected,
+            "at {items} {dport} {flags}"
+        );
     }
     Ok(())
 }
@@ -190,7 +349,11 @@ fn empty_in_a_family(rt: HostRuntime) -> Result<(), Fail> {
     let table = [
         ("action:: deny", false, false),
         ("source-address:: WEB\naction:: deny", false, true),
-        ("destination-address:: WEB SIX\ndestination-exclude:: WEB\naction:: deny", true, false),
+        (
+            "destination-address:: WEB SIX\ndestination-exclude:: WEB\naction:: deny",
+            true,
+            false,
+        ),
         ("protocol:: icmpv6\naction:: deny", true, false),
         ("protocol:: icmp\naction:: deny", false, true),
         ("protocol:: icmp icmpv6\naction:: deny", false, false),
@@ -210,7 +373,11 @@ fn live_on_a_platform_and_day(rt: HostRuntime) -> Result<(), Fail> {
         ("action:: deny", true, true),
         ("platform:: arista\naction:: deny", false, false),
         ("platform:: juniper arista\naction:: deny", false, true),
-        ("platform-exclude:: cisco\nplatform:: cisco\naction:: deny", false, false),
+        (
+            "platform-exclude:: cisco\nplatform:: cisco\naction:: deny",
+            false,
+            false,
+        ),
         ("expiration:: 2026-01-15\naction:: deny", false, false),
         ("expiration:: 2026-01-16\naction:: deny", true, true),
     ];
