@@ -142,7 +142,7 @@ address-is n f words excludes =
     yes out refl (cut_all-normal 0 top top less some ranges yes.normal)
     (λ x. cut_all-holds 0 top top less some x ranges yes.normal)
 
-port-is : (n : Naming) (qs : List ℕ) (words : List Word)
+pub port-is : (n : Naming) (qs : List ℕ) (words : List Word)
     → IsSetOf (IsPort n qs words) top_port (port_set n qs words)
 port-is n qs words = admitted-set (NamesPort n qs) top_port (word_ports n qs) words
     (λ w. all-flat (λ r. IsRange top_port r) (λ q. ports_reached n.services q w.text) qs

@@ -13,14 +13,14 @@ use Rattle.acl_sets.specs.Ranges.{Numbers, IsNormal, holds}
 use Rattle.acl_terms.specs.Sets.{IsSetOf}
 use Rattle.acl_terms.specs.SetSteps.{protocol_slip}
 use Rattle.acl_terms.specs.Slips.{is_defined, reaches_protocol, slip_at, unless}
-use Rattle.acl_terms.proofs.ReachStandIn.{items-law}
+use Rattle.acl_naming.proofs.ComputedReachLaws.{reach_computed}
 use Rattle.acl_terms.proofs.SlipLaws.{some-is, both-passed, second-failed}
 use Rattle.acl_terms.proofs.WordLaws.{parts, passed}
 
 pub protocol-tested : (base : List Definition) (name : List ℕ) (q : ℕ)
     → (reaches_protocol base name q ≡ true) ↔ ReachesProtocol base name q
 unfolding reaches_protocol
-protocol-tested base name q = items-law base name (is_service_of q)
+protocol-tested base name q = reach_computed base name (is_service_of q)
 
 pub word-passed : (services : List Definition) (q : ℕ) (w : Word) → protocol_slip services q w ≡ None
     → (is_defined services w.text ≡ true) × (reaches_protocol services w.text q ≡ true)

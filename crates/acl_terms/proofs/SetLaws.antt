@@ -118,7 +118,7 @@ more-set P top xs i a d s m u within is hs hm t n e =
     (joined-set (λ x. AnyOf (P x) (take i xs)) (λ x. P x a) top s m u hs hm t n e)
 
 -- A list in normal form that is not empty holds a number up to its top.
-holds-some : (top : ℕ) (rs : List Range) → IsNormal 0 top rs → rs ≢ []
+pub holds-some : (top : ℕ) (rs : List Range) → IsNormal 0 top rs → rs ≢ []
     → (x : ℕ) × (x ≤ top) × (holds rs x ≡ true)
 holds-some top [] n some = absurd (some refl)
 holds-some top (r ∷ rs) n some =

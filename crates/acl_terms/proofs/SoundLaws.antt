@@ -86,7 +86,7 @@ ports-fit n P top ws s b code all h more none e =
 
 -- ---- types
 
-some-range : (rs : List Range) (x : ℕ) → holds rs x ≡ true → rs ≢ []
+pub some-range : (rs : List Range) (x : ℕ) → holds rs x ≡ true → rs ≢ []
 some-range [] x e = absurd (both_ways false refl e)
 some-range (r ∷ rs) x e = none-more r rs
 
@@ -170,13 +170,14 @@ never-left false false false = refl
 -- ---- the whole term
 
 -- What a term without a slip passes.
-record Passed (t : RawTerm) : Type 0 where
-  ports : first_unless (only has_ports (protocols_of t.protocols)) codes.PortProtocol (port_words t) ≡ None
-  types : first_in (type_slip (icmp_family (protocols_of t.protocols))) t.icmp_types ≡ None
-  option : option_fits (option_of t.options) (protocols_of t.protocols) ≡ true
-  verdict : verdict_fits (verdict_of t.action.text) (protocols_of t.protocols) ≡ true
+pub record Passed (n : Naming) (t : RawTerm) : Type 0 where
+  pub ports : first_unless (only has_ports (protocols_of t.protocols)) codes.PortProtocol (port_words t) ≡ None
+  pub services : services_slip n.services (protocols_of t.protocols) t ≡ None
+  pub types : first_in (type_slip (icmp_family (protocols_of t.protocols))) t.icmp_types ≡ None
+  pub option : option_fits (option_of t.options) (protocols_of t.protocols) ≡ true
+  pub verdict : verdict_fits (verdict_of t.action.text) (protocols_of t.protocols) ≡ true
 
-passes-all : (n : Naming) (t : RawTerm) → slip_of n t ≡ None → Passed t
+pub passes-all : (n : Naming) (t : RawTerm) → slip_of n t ≡ None → Passed n t
 unfolding slip_of
 passes-all n t h =
     let qs = protocols_of t.protocols in
@@ -189,6 +190,7 @@ passes-all n t h =
     let g = parts (reset_slip qs t.action) None f.1 in
     record {
       ports = b.0;
+      services = c.0;
       types = d.0;
       option = option-fitting qs t.options f.0;
       verdict = passed (verdict_fits (verdict_of t.action.text) qs) codes.ResetProtocol t.action g.0;

@@ -1,3 +1,4 @@
+pub mod ComputableTerms
 pub mod Living
 pub mod Matching
 pub mod Options
@@ -7,4 +8,3 @@ pub mod SetSteps
 pub mod Sets
 pub mod Slips
 pub mod Soundness
-pub mod StandIns

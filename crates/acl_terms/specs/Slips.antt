@@ -20,7 +20,7 @@ use Rattle.acl_terms.specs.declared.options.Opt.{Opt}
 use Rattle.acl_terms.specs.declared.options.Opt.TheVariants.{Plain, Established}
 use Rattle.acl_terms.specs.Matching.{protocols_of, only, is_number, icmp_family, type_in}
 use Rattle.acl_terms.specs.Options.{option_of, verdict_of}
-use Rattle.acl_terms.specs.StandIns.{items_reached}
+use Rattle.acl_naming.specs.ComputableReach.{items_reached}
 
 -- ---- answers
 

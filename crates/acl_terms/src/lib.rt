@@ -11,8 +11,13 @@ mod ports;
 mod protocols;
 mod resolving;
 mod terms;
+#[cfg(test)]
+mod tests;
 
-pub use laws::{policies_decide_as_written, terms_live_as_written, terms_match_as_written};
+pub use laws::{
+    policies_decide_as_written, terms_are_one, terms_are_there, terms_live_as_written,
+    terms_match_as_written,
+};
 pub use living::is_live;
 pub use matching::{is_empty_in, matches};
 pub use options::{Mode, Opt};

@@ -1,5 +1,6 @@
 ghost use Rattle.std.specs.Prelude.{◌≡◌, None, IfOk};
 ghost use Rattle.acl_policy.specs.Conditions.{IsRawTerm};
+ghost use Rattle.acl_terms.specs.ComputableTerms.{sets_of};
 ghost use Rattle.acl_terms.specs.Matching.{is_written};
 ghost use Rattle.acl_terms.specs.Resolved.{AreFieldsOf, GivesValue, IsResolved, sets_in};
 ghost use Rattle.acl_terms.specs.Sets.{AreSetsOf};
@@ -80,6 +81,8 @@ pub fn resolve(alloc: Global, base: &Checked, raw: &RawTerm) -> Result<Term, Ref
     ensures complete { slip_of base.now raw.now ≡ None → GivesValue result }
     ensures sets { IfOk result (λ t. AreSetsOf base.now raw.now (sets_in t)) }
     ensures fields { IfOk result (AreFieldsOf raw.now) }
+    ensures computed { IfOk result (λ t. sets_in t ≡ sets_of base.now raw.now) }
+    ensures resolved { IfOk result (IsResolved base.now raw.now) }
 {
     let parts = parts_of(alloc, base, raw)?;
     let Parts {
