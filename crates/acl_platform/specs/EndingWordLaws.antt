@@ -74,7 +74,7 @@ pub joined_are_spelled : (bytes more : List ℕ) (a b : List Ending) → Endings
     → in_common (flat_map words_of a) (flat_map words_of b) ≡ false → EndingsSpell (bytes ++ more) (a ++ b)
 joined_are_spelled bytes more a b h k n = record {
   differ = subst (IsDistinct bytes_eq) (sym (flat_map-append words_of a b))
-  (distinct-append (flat_map words_of a) (flat_map words_of b) h.differ k.differ n);
+      (distinct-append (flat_map words_of a) (flat_map words_of b) h.differ k.differ n);
   written = ap (λ t. t ++ more) h.written ∙ ap (λ t. flat_map ending_line a ++ t) k.written ∙ sym (flat_map-append ending_line a b);
 }
 

@@ -21,11 +21,7 @@ pub trait RuleForm {
 }
 
 /// Puts the lines of each rule in the form, in order.
-pub fn put_rules<F: RuleForm, O: Out>(
-    rules: &[Rule],
-    form: &F,
-    out: &mut O,
-) -> Result<(), PutFault>
+pub fn put_rules<F: RuleForm, O: Out>(rules: &[Rule], form: &F, out: &mut O) -> Result<(), PutFault>
     requires open { IsTrue (O.is_open out.old) }
     requires sized { All IsSized rules.now }
     ensures { Puts O.told O.faults O.refusals O.is_open O.keeps_rest out.old out.new
