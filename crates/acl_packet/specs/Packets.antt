@@ -1,7 +1,9 @@
 -- What a packet is: one that is no fragment, with each field that its protocol has not at 0.
-use Rattle.std.specs.Prelude.{◌≡◌, ◌≢◌, ℕ, ◌<◌, ◌^◌, Bool, false, not, ◌||◌, ◌==◌, bit_and}
+use Rattle.std.specs.Prelude.{◌≡◌, ◌≢◌, ℕ, ◌<◌, ◌^◌, Bool, true, false, not, ◌&&◌, ◌||◌, ◌==◌, bit_and}
 use Rattle.acl_packet.specs.declared.addresses.Family.{Family}
 use Rattle.acl_packet.specs.declared.addresses.Family.TheVariants.{V4, V6}
+use Rattle.acl_packet.specs.declared.packets.Conn.{Conn}
+use Rattle.acl_packet.specs.declared.packets.Conn.TheVariants.{New, Established, Related, Invalid}
 use Rattle.acl_packet.specs.declared.packets.Packet.{Packet}
 use Rattle.acl_packet.specs.Addresses.{width_of}
 
@@ -20,6 +22,22 @@ is_icmp family proto = proto == icmp_of family
 -- A flag of TCP is set: FIN 1, SYN 2, RST 4, PSH 8, ACK 16, URG 32 (RFC 9293 section 3.1).
 abbrev pub has_flag : ℕ → ℕ → Bool
 has_flag flags flag = not (bit_and flags flag == 0)
+
+-- ACK or RST is set: the packet does not open a connection of TCP (RFC 9293 section 3.5).
+abbrev pub has_ack_or_rst : Packet → Bool
+has_ack_or_rst p = has_flag p.flags 16 || has_flag p.flags 4
+
+-- SYN is set and ACK is not: it opens one.
+abbrev pub is_initial : Packet → Bool
+is_initial p = has_flag p.flags 2 && not (has_flag p.flags 16)
+
+-- The connection is known already, or such a one asked for it (nftables(8), "ct state";
+-- iptables-extensions(8), "conntrack").
+abbrev pub is_tracked : Conn → Bool
+is_tracked New = false
+is_tracked Established = true
+is_tracked Related = true
+is_tracked Invalid = false
 
 -- The numbers that stand for no protocol of an IPv6 packet here: extension headers and "no next header"
 -- (RFC 8200, IANA's list of extension headers). ESP, 50, counts as a protocol: this project's own choice.

@@ -5,6 +5,7 @@
 use Rattle.std.specs.Prelude.{ℕ, ◌+◌, ◌-◌, min, max, Bool, ◌&&◌, nat_le, nat_lt, if◌then◌else◌, List, [], ◌∷◌, ◌++◌, flat_map}
 use Rattle.std.specs.List.{list_any, list_all}
 use Rattle.acl_sets.specs.declared.sets.Range.{Range}
+use Rattle.acl_sets.specs.Ranges.{Numbers}
 
 -- One range ends before another begins, and a number lies between them.
 abbrev pub is_before : Range → Range → Bool
@@ -60,6 +61,10 @@ shared_all rs qs = flat_map (λ r. flat_map (λ q. shared r q) qs) rs
 -- All numbers from low to high are in the set: in normal form they lie in one range.
 abbrev pub covers : List Range → ℕ → ℕ → Bool
 covers rs low high = list_any (λ r. nat_le r.low low && nat_le high r.high) rs
+
+-- The set has all numbers up to its top: in normal form one range has them.
+abbrev pub is_all : Numbers → Bool
+is_all s = covers s.ranges 0 s.top
 
 -- Some number from low to high is in the set: some range has one.
 abbrev pub meets : List Range → ℕ → ℕ → Bool

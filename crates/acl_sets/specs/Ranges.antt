@@ -1,6 +1,6 @@
 -- Sets of whole numbers from 0 to a top, as lists of ranges. Union, intersection and difference are
 -- those of the algebra of sets: membership is told number by number, by `||`, `&&` and `not`.
-use Rattle.std.specs.Prelude.{ℕ, ◌≡◌, ◌+◌, ◌≤◌, Bool, ◌&&◌, nat_le, List, [], ◌∷◌}
+use Rattle.std.specs.Prelude.{ℕ, ◌≡◌, ◌+◌, ◌≤◌, Bool, true, ◌&&◌, nat_le, List, [], ◌∷◌}
 use Rattle.std.specs.List.{list_any}
 use Rattle.acl_sets.specs.declared.sets.Range.{Range}
 
@@ -27,6 +27,10 @@ IsNormal floor top (r ∷ rs) =
 pub record Numbers : Type 0 where
   pub top : ℕ
   pub ranges : List Range
+
+-- The set has only numbers that pass a test.
+abbrev pub Only : (ℕ → Bool) → Numbers → Type 0
+Only test s = (x : ℕ) → holds s.ranges x ≡ true → test x ≡ true
 
 -- A set of numbers has one list in normal form.
 abbrev pub OneNormalList : Type 0

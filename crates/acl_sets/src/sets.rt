@@ -1,7 +1,7 @@
 ghost use Rattle.std.specs.Prelude.{◌≡◌, ℕ, ◌≤◌, ◌==◌, ◌||◌, ◌&&◌, not, nat_le, false, IsTrue, ◌↔◌, IfOk, [], ◌∷◌, length};
 ghost use Rattle.std.specs.List.{All};
 ghost use Rattle.acl_sets.specs.Ranges.{holds, IsRange, IsNormal, OneNormalList};
-ghost use Rattle.acl_sets.specs.ComputableSets.{put_all, cut_all, shared_all, covers, all_covered};
+ghost use Rattle.acl_sets.specs.ComputableSets.{put_all, cut_all, shared_all, is_all, all_covered};
 
 use crate::range_pieces;
 use acl_text::Memory;
@@ -166,7 +166,7 @@ impl RangeSet {
     pub fn is_all(&self) -> bool
         ensures exact { IsTrue result
             ↔ ((x : ℕ) → x ≤ self.now.top → IsTrue (holds self.now.ranges x)) }
-        ensures computed { result ≡ covers self.now.ranges 0 self.now.top }
+        ensures computed { result ≡ is_all self.now }
     {
         range_pieces::covers(&self.list, 0, self.limit)
     }
