@@ -1,7 +1,7 @@
 -- Which packets the rules of a term hold.
-use Rattle.std.proofs.Common.{◌≡◌, ℕ, ◌<◌, inl, inr, Bool, true, false, cond, not, ◌&&◌, ◌||◌, ◌==◌, nat_le, List, [], ◌∷◌, ◌++◌, map, flat_map, codes, refl, ap, sym, subst, ◌∙◌, append-nil, arith}
+use Rattle.std.proofs.Common.{◌≡◌, ℕ, inl, inr, Bool, true, false, cond, ◌&&◌, ◌||◌, ◌==◌, nat_le, List, [], ◌∷◌, ◌++◌, map, flat_map, codes, refl, ap, sym, ◌∙◌, append-nil, arith}
 use Rattle.std.specs.List.{list_any}
-use Rattle.std.proofs.lemmas.Bool.{and_left, and_right, both_ways, eqb-true, eq-eqb, false_from_ne_true}
+use Rattle.std.proofs.lemmas.Bool.{and_left, and_right, both_ways, eqb-true}
 use Rattle.std.proofs.lemmas.List.Folds.{list_any-append}
 use Rattle.acl_packet.specs.declared.addresses.Families.{Families}
 use Rattle.acl_packet.specs.declared.addresses.Families.TheVariants.{Inet, Inet6, Mixed}
@@ -11,9 +11,8 @@ use Rattle.acl_packet.specs.declared.packets.Packet.{Packet}
 use Rattle.acl_packet.specs.Addresses.{covers, same_family}
 use Rattle.acl_packet.specs.Packets.{IsPacket}
 use Rattle.acl_host.specs.declared.clocks.Day.{Day}
-use Rattle.acl_sets.specs.ComputableSets.{is_all}
 use Rattle.acl_sets.specs.LeastLists.{any_has}
-use Rattle.acl_sets.specs.Ranges.{Numbers, Only, holds}
+use Rattle.acl_sets.specs.Ranges.{Only, holds}
 use Rattle.acl_target.specs.declared.targets.Kind.{Kind}
 use Rattle.acl_target.specs.declared.targets.Target.{Target}
 use Rattle.acl_terms.specs.declared.options.Mode.{Mode}
@@ -33,8 +32,8 @@ use Rattle.acl_platform.specs.declared.rules.Test.TheVariants as tests
 use Rattle.acl_platform.specs.Rules as rules
 use Rattle.acl_platform.specs.Rules.{rule_holds, sets_hold}
 use Rattle.acl_expand.specs.declared.conditions.Conditions.{Conditions}
-use Rattle.acl_expand.specs.TermRules.{client_ports, conditions_by, established_conditions, family_rules, members, only_protocol, protocols_in, rule_of, term_rules, udp_ports, whole}
-use Rattle.acl_expand.proofs.SetForms.{and-true, destination-top, just-holds, least-holds, or-false, or-true, protocol-holds, source-top, tcp-or-udp, udp-holds}
+use Rattle.acl_expand.specs.TermRules.{conditions_by, established_conditions, family_rules, members, only_protocol, protocols_in, rule_of, term_rules, udp_ports, whole}
+use Rattle.acl_expand.proofs.SetForms.{and-true, destination-top, just-holds, least-holds, or-false, protocol-holds, source-top, tcp-or-udp, udp-holds}
 
 -- ---- one rule
 
@@ -150,13 +149,13 @@ established-step kind f t p true true is only e d =
     let u : Bool = t.dport_named || nat_le 1024 p.dport in
     let same : Bool = same_family f p.family in
     let first = rule-sets kind f t (record { suffix = codes "-tcp"; protos = only_protocol 6; dports = t.dports; test = tests.AckOrRst }) p
-          ∙ ap (λ x. same && (with-sets f t p x dp && ack)) (just-holds 6 p.proto) in
+    ∙ ap (λ x. same && (with-sets f t p x dp && ack)) (just-holds 6 p.proto) in
     let second = rule-sets kind f t (record { suffix = codes "-udp"; protos = only_protocol 17; dports = udp_ports t; test = tests.Plain }) p
-          ∙ ap (λ x. same && (with-sets f t p x (holds (udp_ports t).ranges p.dport) && true)) (just-holds 17 p.proto)
-          ∙ ap (λ x. same && (with-sets f t p m x && true)) (udp-holds t p.dport is.destination_port) in
+    ∙ ap (λ x. same && (with-sets f t p x (holds (udp_ports t).ranges p.dport) && true)) (just-holds 17 p.proto)
+    ∙ ap (λ x. same && (with-sets f t p m x && true)) (udp-holds t p.dport is.destination_port) in
     let protos : (n || m) ≡ has_protocol f t p.proto =
-          sym (tcp-or-udp f t p.proto n m refl refl only ∙ ap (λ x. (n && x) || (m && holds t.protos.ranges 17)) e
-          ∙ ap (λ x. (n && true) || (m && x)) d ∙ ap (λ x. x || (m && true)) (and-true n) ∙ ap (λ x. n || x) (and-true m)) in
+    sym (tcp-or-udp f t p.proto n m refl refl only ∙ ap (λ x. (n && x) || (m && holds t.protos.ranges 17)) e
+    ∙ ap (λ x. (n && true) || (m && x)) d ∙ ap (λ x. x || (m && true)) (and-true n) ∙ ap (λ x. n || x) (and-true m)) in
     ap (λ x. x || (rule_holds (rule_of kind f t (record { suffix = codes "-udp"; protos = only_protocol 17; dports = udp_ports t; test = tests.Plain })) p || false)) first
     ∙ ap (λ x. (same && (with-sets f t p n dp && ack)) || (x || false)) second
     ∙ halves same n m src dst sp dp ty ack u (not-both p.proto n m refl refl)
@@ -164,14 +163,14 @@ established-step kind f t p true true is only e d =
 established-step kind f t p true false is only e d =
     let n : Bool = p.proto == 6 in let m : Bool = p.proto == 17 in
     let h = tcp-or-udp f t p.proto n m refl refl only ∙ ap (λ x. (n && x) || (m && holds t.protos.ranges 17)) e
-          ∙ ap (λ x. (n && true) || (m && x)) d in
+    ∙ ap (λ x. (n && true) || (m && x)) d in
     whole-step kind f t tests.AckOrRst p (terms.passes options.Established Stateless t.dport_named p)
     (tcp-alone n m (has_protocol f t p.proto) (rules.passes tests.AckOrRst p) (t.dport_named || nat_le 1024 p.dport) h)
 established-step kind f t p false udp is only e d =
     let n : Bool = p.proto == 6 in let m : Bool = p.proto == 17 in
     let u : Bool = t.dport_named || nat_le 1024 p.dport in
     let h = tcp-or-udp f t p.proto n m refl refl only ∙ ap (λ x. (n && x) || (m && holds t.protos.ranges 17)) e
-          ∙ ap (λ x. (n && false) || (m && x)) d in
+    ∙ ap (λ x. (n && false) || (m && x)) d in
     single kind f t (record { suffix = []; protos = protocols_in f t; dports = udp_ports t; test = tests.Plain }) p u
     (terms.passes options.Established Stateless t.dport_named p) (protocol-holds f t p.proto)
     (udp-holds t p.dport is.destination_port)

@@ -1,24 +1,23 @@
 -- What the sets of a rule hold.
-use Rattle.std.proofs.Common.{◌≡◌, ℕ, ◌+◌, ◌-◌, ◌^◌, ◌<◌, ◌≤◌, Bool, true, false, cond, not, ◌&&◌, ◌||◌, ◌==◌, nat_le, List, [], ◌∷◌, refl, ap, sym, ◌∙◌, arith}
+use Rattle.std.proofs.Common.{◌≡◌, ℕ, ◌+◌, ◌^◌, ◌<◌, ◌≤◌, Bool, true, false, cond, not, ◌&&◌, ◌||◌, ◌==◌, nat_le, [], ◌∷◌, refl, ap, sym, ◌∙◌, arith}
 use Rattle.std.specs.List.{AllByRecursion}
-use Rattle.std.proofs.lemmas.Bool.{and_from, and_parts, and_left, or_from, both_ways, false_from_ne_true, eqb-true, eq-eqb, leb-true, le-leb, cases_lt}
+use Rattle.std.proofs.lemmas.Bool.{and_left, or_from, both_ways, false_from_ne_true, eqb-true, eq-eqb, le-leb}
 use Rattle.acl_packet.specs.declared.addresses.Family.{Family}
 use Rattle.acl_packet.specs.declared.addresses.Family.TheVariants.{V4, V6}
 use Rattle.acl_packet.specs.Addresses.{top_address, width_of}
-use Rattle.acl_sets.specs.declared.sets.Range.{Range}
 use Rattle.acl_sets.specs.ComputableLeastLists.{halved_space}
 use Rattle.acl_sets.specs.ComputableSets.{cut_all, is_all}
 use Rattle.acl_sets.specs.LeastLists.{any_has}
 use Rattle.acl_sets.specs.Ranges.{IsNormal, IsRange, Numbers, Only, holds}
 use Rattle.acl_sets.proofs.ComputableLeastListLaws.{halved_space-least}
-use Rattle.acl_sets.proofs.ComputableSetLaws.{covers-holds, cut_all-holds, cut_all-normal}
+use Rattle.acl_sets.proofs.ComputableSetLaws.{covers-holds, cut_all-holds}
 use Rattle.acl_sets.proofs.LeastListLaws.{least_list-holds, normal-addresses}
 use Rattle.acl_sets.proofs.RangeLaws.{in_range, ends_of}
 use Rattle.acl_terms.specs.declared.terms.Term.{Term}
 use Rattle.acl_terms.specs.Matching.{foreign_of}
 use Rattle.acl_terms.specs.Resolved.{destination_in, has_protocol, source_in}
 use Rattle.acl_terms.specs.Slips.{is_tcp_or_udp}
-use Rattle.acl_expand.specs.TermRules.{client_ports, just, least_list, only_protocol, protocols_in, udp_ports}
+use Rattle.acl_expand.specs.TermRules.{client_ports, just, least_list, protocols_in, udp_ports}
 
 -- ---- tests
 
@@ -67,7 +66,7 @@ just-holds n x = or-false (nat_le n x && nat_le x n) ∙ inside-just n x (x == n
 
 -- ---- protocols
 
-just-range : (n : ℕ) → AllByRecursion (λ r. IsRange n r) (just n ∷ [])
+pub just-range : (n : ℕ) → AllByRecursion (λ r. IsRange n r) (just n ∷ [])
 just-range n = ((omega arith, omega arith), tt)
 
 all-or-not : (f : Family) (t : Term) (n : ℕ) (b : Bool) → is_all t.protos ≡ b
@@ -111,7 +110,7 @@ client-holds x h =
     let within : nat_le x 65535 ≡ true = le-leb x 65535 (omega arith) in
     or-false (nat_le 1024 x && nat_le x 65535) ∙ ap (λ b. nat_le 1024 x && b) within ∙ and-true (nat_le 1024 x)
 
-all-held : (s : Numbers) (x : ℕ) → is_all s ≡ true → x ≤ s.top → holds s.ranges x ≡ true
+pub all-held : (s : Numbers) (x : ℕ) → is_all s ≡ true → x ≤ s.top → holds s.ranges x ≡ true
 all-held s x e h = covers-holds s.ranges 0 s.top x e (omega arith) h
 
 ports-named : (t : Term) (x : ℕ) (b : Bool) → t.dport_named ≡ b → x < 65536

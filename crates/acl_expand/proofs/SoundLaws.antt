@@ -1,12 +1,11 @@
 -- The rules of terms are sound rules of the target's filter.
-use Rattle.std.proofs.Common.{◌≡◌, ◌≢◌, ◌⊎◌, ℕ, ◌+◌, ◌-◌, ◌^◌, ◌<◌, ◌≤◌, Bool, true, false, cond, not, ◌&&◌, ◌||◌, ◌==◌, nat_le, List, [], ◌∷◌, ◌++◌, length, map, flat_map, codes, Option, None, Some, inl, inr, refl, ap, sym, subst, ◌∙◌, append-nil, arith}
+use Rattle.std.proofs.Common.{◌≡◌, ◌≢◌, ℕ, ◌≤◌, Bool, true, false, cond, not, ◌&&◌, ◌||◌, ◌==◌, List, [], ◌∷◌, ◌++◌, map, codes, Option, None, Some, inl, inr, refl, ap, sym, subst, ◌∙◌, append-nil, arith}
 use Rattle.std.specs.List.{AllByRecursion}
 use Rattle.std.proofs.Math.Path.{fun_ext}
-use Rattle.std.proofs.lemmas.Bool.{and_from, and_parts, or_cases, or_from, or_left, both_ways, false_from_ne_true, eqb-true, eq-eqb}
+use Rattle.std.proofs.lemmas.Bool.{and_from, and_parts, or_from, or_left, both_ways, false_from_ne_true, eqb-true}
 use Rattle.acl_packet.specs.declared.addresses.Families.{Families}
 use Rattle.acl_packet.specs.declared.addresses.Family.{Family}
 use Rattle.acl_packet.specs.declared.addresses.Family.TheVariants.{V4, V6}
-use Rattle.acl_packet.specs.declared.addresses.Prefix.{Prefix}
 use Rattle.acl_packet.specs.declared.filtering.Verdict.{Verdict}
 use Rattle.acl_packet.specs.declared.filtering.Verdict.TheVariants.{Accept, Deny, Reject, Reset, Left}
 use Rattle.acl_packet.specs.Addresses.{covers, top_address}
@@ -19,27 +18,23 @@ use Rattle.acl_sets.proofs.ComputableLeastListLaws.{halved_space-least}
 use Rattle.acl_sets.proofs.ComputableSetLaws.{cut_all-normal}
 use Rattle.acl_target.specs.declared.targets.Kind.{Kind}
 use Rattle.acl_target.specs.declared.targets.Kind.TheVariants.{Cisco, Juniper, Iptables, Nftables}
-use Rattle.acl_target.specs.declared.targets.Target.{Target}
-use Rattle.acl_target.specs.TargetData.{FitsPlatform}
 use Rattle.acl_text.specs.Names.{is_name}
 use Rattle.acl_terms.specs.declared.options.Mode.{Mode}
 use Rattle.acl_terms.specs.declared.options.Mode.TheVariants.{Stateful, Stateless}
 use Rattle.acl_terms.specs.declared.options.Opt.{Opt}
 use Rattle.acl_terms.specs.declared.options.Opt.TheVariants as options
 use Rattle.acl_terms.specs.declared.terms.Term.{Term}
-use Rattle.acl_terms.specs.Matching.{foreign_of, is_number}
-use Rattle.acl_terms.specs.Outcomes.{denied}
+use Rattle.acl_terms.specs.Matching.{foreign_of}
 use Rattle.acl_terms.specs.Resolved.{destination_in, has_protocol, is_empty_in, source_in}
 use Rattle.acl_terms.specs.Slips.{is_tcp_or_udp}
 use Rattle.acl_terms.specs.Soundness.{is_established, is_left, is_reset, needs_tcp}
 use Rattle.acl_terms.proofs.EmptyLaws.{destination-normal, empty-law, source-normal}
-use Rattle.acl_platform.specs.declared.rules.Rule.{Rule}
 use Rattle.acl_platform.specs.declared.rules.Test.{Test}
 use Rattle.acl_platform.specs.declared.rules.Test.TheVariants as tests
 use Rattle.acl_platform.specs.SoundFilters.{has_test, has_verdict, IsFull, IsFullList, IsRuleName, IsSoundRule, is_named_protocol, is_tcp, tests_flags}
 use Rattle.acl_expand.specs.declared.conditions.Conditions.{Conditions}
 use Rattle.acl_expand.specs.ExpansionSlips.{extension_headers, first_that, header_named}
-use Rattle.acl_expand.specs.TermRules.{client_ports, conditions_by, established_conditions, just, least_list, only_protocol, protocols_in, rule_of, tcp_half, udp_alone, udp_half, udp_ports, verdict_on, whole}
+use Rattle.acl_expand.specs.TermRules.{client_ports, conditions_by, established_conditions, just, least_list, only_protocol, protocols_in, rule_of, verdict_on, whole}
 use Rattle.acl_expand.proofs.SetForms.{all-held, destination-top, just-holds, just-range, least-holds, protocol-holds, source-top, tcp-or-udp}
 
 -- ---- lists of prefixes
@@ -381,30 +376,38 @@ established-fit kind f t true true some known plain only e d =
         flags = λ _ x h. only-one 6 x h;
         known = known;
       },
-      (record {
-        name = udp-name kind t known;
-        protos = q;
+      (
+        record {
+          name = udp-name kind t known;
+          protos = q;
+          dports = udp-normal t t.dport_named;
+          dports_fit = λ _. fewer f t (only_protocol 17) has_ports q (with-ports t only);
+          flags = λ n. absurd (both_ways false refl n);
+          known = plain;
+        },
+        tt,
+      ),
+    )
+established-fit kind f t true false some known plain only e d = (
+  whole-fits kind f t tests.AckOrRst some known (λ _ x h.
+      tcp-left (has_protocol f t x) (x == 6) (x == 17)
+      (tcp-or-udp f t x (x == 6) (x == 17) refl refl only ∙ ap (λ y. ((x == 6) && y) || ((x == 17) && holds t.protos.ranges 17)) e
+      ∙ ap (λ y. ((x == 6) && true) || ((x == 17) && y)) d)
+      ((family-protocols f t some).held x h)),
+  tt,
+)
+established-fit kind f t false udp some known plain only e d =
+    let p = family-protocols f t some in (
+      record {
+        name = plain-name kind t;
+        protos = p;
         dports = udp-normal t t.dport_named;
-        dports_fit = λ _. fewer f t (only_protocol 17) has_ports q (with-ports t only);
+        dports_fit = λ _. fewer f t (protocols_in f t) has_ports p (with-ports t only);
         flags = λ n. absurd (both_ways false refl n);
         known = plain;
-      }, tt),
+      },
+      tt,
     )
-established-fit kind f t true false some known plain only e d =
-    (whole-fits kind f t tests.AckOrRst some known (λ _ x h.
-    tcp-left (has_protocol f t x) (x == 6) (x == 17)
-    (tcp-or-udp f t x (x == 6) (x == 17) refl refl only ∙ ap (λ y. ((x == 6) && y) || ((x == 17) && holds t.protos.ranges 17)) e
-    ∙ ap (λ y. ((x == 6) && true) || ((x == 17) && y)) d)
-    ((family-protocols f t some).held x h)), tt)
-established-fit kind f t false udp some known plain only e d =
-    let p = family-protocols f t some in (record {
-      name = plain-name kind t;
-      protos = p;
-      dports = udp-normal t t.dport_named;
-      dports_fit = λ _. fewer f t (protocols_in f t) has_ports p (with-ports t only);
-      flags = λ n. absurd (both_ways false refl n);
-      known = plain;
-    }, tt)
 
 -- ---- any option
 

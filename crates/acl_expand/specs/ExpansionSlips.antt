@@ -1,5 +1,5 @@
 -- The first slip of terms on a target: the first of the questions on them that has an answer.
-use Rattle.std.specs.Prelude.{◌≡◌, ℕ, ◌+◌, ◌<◌, Bool, true, false, not, ◌&&◌, nat_le, if◌then◌else◌, List, [], ◌∷◌, length, sum_by, decimal, Option, None, Some}
+use Rattle.std.specs.Prelude.{ℕ, ◌+◌, Bool, not, ◌&&◌, nat_le, if◌then◌else◌, List, [], ◌∷◌, length, sum_by, decimal, Option, None, Some}
 use Rattle.acl_packet.specs.declared.addresses.Family.TheVariants.{V6}
 use Rattle.acl_packet.specs.Addresses.{covers}
 use Rattle.acl_text.specs.declared.faults.Code.TheVariants.{ExtensionHeader, TooManyPrefixes}

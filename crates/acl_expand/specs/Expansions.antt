@@ -1,5 +1,5 @@
 -- The filter that terms become on a target, and what it decides.
-use Rattle.std.specs.Prelude.{◌≡◌, true, List, codes}
+use Rattle.std.specs.Prelude.{◌≡◌, true, List}
 use Rattle.std.specs.List.{AllZip}
 use Rattle.acl_packet.specs.declared.filtering.Outcome.{Outcome}
 use Rattle.acl_packet.specs.declared.packets.Packet.{Packet}

@@ -2,7 +2,15 @@ ghost use Rattle.std.specs.Prelude.{◌≡◌, ◌+◌, ◌^◌, ◌≤◌, [], 
 ghost use Rattle.acl_packet.specs.Addresses.{top_address};
 ghost use Rattle.acl_terms.specs.Matching.{foreign_of};
 ghost use Rattle.acl_expand.specs.TermRules.{
-  client_ports, just, only_protocol, protocols_in, tcp_half, udp_alone, udp_half, udp_ports, whole,
+  client_ports,
+  just,
+  only_protocol,
+  protocols_in,
+  tcp_half,
+  udp_alone,
+  udp_half,
+  udp_ports,
+  whole,
 };
 
 use acl_packet::Family;
@@ -23,6 +31,7 @@ pub(crate) struct Conditions {
 }
 
 const TOP_PROTOCOL: u128 = 255;
+
 const TOP_PORT: u128 = 65535;
 
 fn only_protocol(alloc: Global, number: u8) -> Result<RangeSet, Memory>

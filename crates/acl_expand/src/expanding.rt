@@ -38,12 +38,7 @@ fn add_term(
 
 // The rules of the terms, or their first slip.
 #[tactic(auto, unfolding(crate::specs::ExpansionSlips::first_slip))]
-fn rules_of(
-    alloc: Global,
-    terms: &[Term],
-    target: &Target,
-    today: Day,
-) -> Result<Rules, Refusal>
+fn rules_of(alloc: Global, terms: &[Term], target: &Target, today: Day) -> Result<Rules, Refusal>
     ensures judged { Judges result (first_slip target.now today terms.now) }
     ensures rules { IfOk result (λ rules. rules ≡ rules_of target.now today terms.now) }
 {
@@ -78,12 +73,7 @@ fn filter_with(alloc: Global, target: &Target, rules: Rules) -> Result<Filter, M
 /// where its option asks different things of TCP and of UDP. Slips, term by term: `ExtensionHeader`, the least
 /// number of an extension header that a term for IPv6 names, and `TooManyPrefixes`, the name of the term with
 /// whose rules the filter's lists have more than 200,000 prefixes.
-pub fn expand(
-    alloc: Global,
-    terms: &[Term],
-    target: &Target,
-    today: Day,
-) -> Result<Filter, Refusal>
+pub fn expand(alloc: Global, terms: &[Term], target: &Target, today: Day) -> Result<Filter, Refusal>
     requires { IsTarget target.now }
     ensures slip { Judges result (first_slip target.now today terms.now) }
     ensures filter { IfOk result (λ f. f ≡ filter_of target.now today terms.now) }

@@ -4,8 +4,18 @@ ghost use Rattle.acl_sets.specs.Ranges.{holds};
 ghost use Rattle.acl_terms.specs.Outcomes.{denied, mode_of};
 ghost use Rattle.acl_terms.specs.Resolved.{destination_in, is_term_live, source_in};
 ghost use Rattle.acl_expand.specs.TermRules.{
-  conditions_by, established_conditions, family_rules, least_list, members, rule_of, tcp_half, term_rules,
-  udp_alone, udp_half, verdict_on, whole,
+  conditions_by,
+  established_conditions,
+  family_rules,
+  least_list,
+  members,
+  rule_of,
+  tcp_half,
+  term_rules,
+  udp_alone,
+  udp_half,
+  verdict_on,
+  whole,
 };
 
 use crate::conditions::{Conditions, tcp_half, udp_alone, udp_half, whole};
@@ -220,7 +230,12 @@ fn push_family(
 }
 
 // Adds the rules of the term in each family of the target.
-fn push_families(alloc: Global, rules: &mut Rules, target: &Target, term: &Term) -> Result<(), Memory>
+fn push_families(
+    alloc: Global,
+    rules: &mut Rules,
+    target: &Target,
+    term: &Term,
+) -> Result<(), Memory>
     ensures { OnOk result (rules.new ≡ rules.old
         ++ flat_map (family_rules target.now term.now) (members target.now.families)) }
 {

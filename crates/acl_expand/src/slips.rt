@@ -3,8 +3,16 @@ ghost use Rattle.acl_naming.specs.Checking.{IsRefusal};
 ghost use Rattle.acl_terms.specs.Slips.{Judges};
 ghost use Rattle.acl_sets.specs.Ranges.{holds};
 ghost use Rattle.acl_expand.specs.ExpansionSlips.{
-  extension_headers, first_that, header_at, header_named, header_slip, is_for_ipv6, most_prefixes, prefix_slip,
-  prefixes_of, rule_prefixes,
+  extension_headers,
+  first_that,
+  header_at,
+  header_named,
+  header_slip,
+  is_for_ipv6,
+  most_prefixes,
+  prefix_slip,
+  prefixes_of,
+  rule_prefixes,
 };
 
 use acl_host::Day;

@@ -1,5 +1,5 @@
 -- None of the numbers that the loop has seen is in the set.
-use Rattle.std.proofs.Common.{◌≡◌, ℕ, drop}
+use Rattle.std.proofs.Common.{◌≡◌, drop}
 use Rattle.acl_sets.specs.Ranges.{holds}
 use Rattle.acl_expand.specs.ExpansionSlips.{first_that}
 use Rattle.acl_expand.proofs.slips.first_held.Given as goal
