@@ -1,6 +1,6 @@
 -- The rules of terms are sound rules of the target's filter.
 use Rattle.std.proofs.Common.{◌≡◌, ◌≢◌, ℕ, ◌≤◌, Bool, true, false, cond, not, ◌&&◌, ◌||◌, ◌==◌, List, [], ◌∷◌, ◌++◌, map, codes, Option, None, Some, inl, inr, refl, ap, sym, subst, ◌∙◌, append-nil, arith}
-use Rattle.std.specs.List.{AllByRecursion}
+use Rattle.std.specs.List.{AllByRecursion, find}
 use Rattle.std.proofs.Math.Path.{fun_ext}
 use Rattle.std.proofs.lemmas.Bool.{and_from, and_parts, or_from, or_left, both_ways, false_from_ne_true, eqb-true}
 use Rattle.acl_packet.specs.declared.addresses.Families.{Families}
@@ -33,7 +33,7 @@ use Rattle.acl_platform.specs.declared.rules.Test.{Test}
 use Rattle.acl_platform.specs.declared.rules.Test.TheVariants as tests
 use Rattle.acl_platform.specs.SoundFilters.{has_test, has_verdict, IsFull, IsFullList, IsRuleName, IsSoundRule, is_named_protocol, is_tcp, tests_flags}
 use Rattle.acl_expand.specs.declared.conditions.Conditions.{Conditions}
-use Rattle.acl_expand.specs.ExpansionSlips.{extension_headers, first_that, header_named}
+use Rattle.acl_expand.specs.ExpansionSlips.{extension_headers, header_named}
 use Rattle.acl_expand.specs.TermRules.{client_ports, conditions_by, established_conditions, just, least_list, only_protocol, protocols_in, rule_of, verdict_on, whole}
 use Rattle.acl_expand.proofs.SetForms.{all-held, destination-top, just-holds, just-range, least-holds, protocol-holds, source-top, tcp-or-udp}
 
@@ -142,9 +142,9 @@ passed-by : (b : Bool) (n : ℕ) (rest : Option ℕ) → cond b (Some n) rest �
 passed-by true n rest e = absurd cc
 passed-by false n rest e = (refl, e)
 
-none-that : (test : ℕ → Bool) (ns : List ℕ) → first_that test ns ≡ None → AllByRecursion (λ n. test n ≡ false) ns
+none-that : (test : ℕ → Bool) (ns : List ℕ) → find test ns ≡ None → AllByRecursion (λ n. test n ≡ false) ns
 none-that test [] h = tt
-none-that test (n ∷ ns) h = let p = passed-by (test n) n (first_that test ns) h in (p.0, none-that test ns p.1)
+none-that test (n ∷ ns) h = let p = passed-by (test n) n (find test ns) h in (p.0, none-that test ns p.1)
 
 -- A term for IPv6 names no extension header.
 abbrev pub NoHeader : Family → Term → Type 0
@@ -152,7 +152,7 @@ NoHeader V4 t = Unit {0}
 NoHeader V6 t = header_named t ≡ None
 
 headers-lack : (t : Term) (b : Bool) → is_all t.protos ≡ b → b ≡ false
-    → cond b None (first_that (λ n. holds t.protos.ranges n) extension_headers) ≡ None
+    → cond b None (find (λ n. holds t.protos.ranges n) extension_headers) ≡ None
     → AllByRecursion (λ n. holds t.protos.ranges n ≡ false) extension_headers
 headers-lack t true e n h = absurd (both_ways true n refl)
 headers-lack t false e n h = none-that (λ n. holds t.protos.ranges n) extension_headers h

@@ -1,5 +1,6 @@
 -- The first slip of terms on a target: the first of the questions on them that has an answer.
 use Rattle.std.specs.Prelude.{ℕ, ◌+◌, Bool, not, ◌&&◌, nat_le, if◌then◌else◌, List, [], ◌∷◌, length, sum_by, decimal, Option, None, Some}
+use Rattle.std.specs.List.{find}
 use Rattle.acl_packet.specs.declared.addresses.Family.TheVariants.{V6}
 use Rattle.acl_packet.specs.Addresses.{covers}
 use Rattle.acl_text.specs.declared.faults.Code.TheVariants.{ExtensionHeader, TooManyPrefixes}
@@ -21,14 +22,10 @@ use Rattle.acl_expand.specs.TermRules.{term_rules}
 abbrev pub extension_headers : List ℕ
 extension_headers = 43 ∷ 44 ∷ 51 ∷ 59 ∷ 60 ∷ 135 ∷ 139 ∷ 140 ∷ []
 
-abbrev pub first_that : (ℕ → Bool) → List ℕ → Option ℕ
-first_that test [] = None
-first_that test (n ∷ ns) = if test n then Some n else first_that test ns
-
 -- The least of these numbers that the term names.
 abbrev pub header_named : Term → Option ℕ
 header_named t =
-    if is_all t.protos then None else first_that (λ n. holds t.protos.ranges n) extension_headers
+    if is_all t.protos then None else find (λ n. holds t.protos.ranges n) extension_headers
 
 -- The term has rules for IPv6 on the target.
 abbrev pub is_for_ipv6 : Target → Day → Term → Bool

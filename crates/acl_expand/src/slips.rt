@@ -1,10 +1,10 @@
 ghost use Rattle.std.specs.Prelude.{◌≡◌, ◌+◌, ◌-◌, ◌≤◌, ◌^◌, min, IfOk, decimal};
+ghost use Rattle.std.specs.List.{find};
 ghost use Rattle.acl_naming.specs.Checking.{IsRefusal};
 ghost use Rattle.acl_terms.specs.Slips.{Judges};
 ghost use Rattle.acl_sets.specs.Ranges.{holds};
 ghost use Rattle.acl_expand.specs.ExpansionSlips.{
   extension_headers,
-  first_that,
   header_at,
   header_named,
   header_slip,
@@ -31,14 +31,12 @@ pub(crate) const MOST_PREFIXES: u64 = 200_000;
 
 // The first of the numbers that is in the set.
 fn first_held(protos: &RangeSet, numbers: &[u8]) -> Option<u8>
-    ensures { result ≡ first_that (holds protos.now.ranges) numbers.now }
+    ensures { result ≡ find (λ n. holds protos.now.ranges n) numbers.now }
 {
-    for number in numbers {
-        if protos.contains(u128::from(*number)) {
-            return Some(*number);
-        }
-    }
-    None
+    numbers
+        .iter()
+        .copied()
+        .find(|n| protos.contains(u128::from(*n)))
 }
 
 fn header_named(term: &Term) -> Option<u8>
