@@ -115,7 +115,7 @@ pub fn put_fault<O: Out>(out: &mut O, fault: &Fault) -> Result<(), PutFault>
             only_if(has_line, number),
             b": ",
             code_text(fault.code).as_bytes(),
-            only_if(!word.is_empty(), b" "),
+            only_if(!fault.word.as_slice().is_empty(), b" "),
             &shown[..word.len()],
             b"\n",
         ],

@@ -10,6 +10,8 @@ mod policy_loading;
 mod policy_texts;
 mod slips;
 #[cfg(test)]
+mod policy_tests;
+#[cfg(test)]
 mod tests;
 
 pub use fault_lines::put_fault;

@@ -109,7 +109,8 @@ fn resolve_blocks(
 {
     let mut lists = Items::new(alloc);
     for block in blocks {
-        lists.push(resolve_terms(alloc, definitions, block.terms.as_slice())?)?;
+        let terms = resolve_terms(alloc, definitions, block.terms.as_slice())?;
+        lists.push(terms)?;
     }
     Ok(lists)
 }
@@ -122,7 +123,8 @@ fn resolve_terms(alloc: Global, definitions: &Checked, raws: &[RawTerm]) -> Resu
 {
     let mut terms = Items::new(alloc);
     for raw in raws {
-        terms.push(resolve(alloc, definitions, raw)?)?;
+        let term = resolve(alloc, definitions, raw)?;
+        terms.push(term)?;
     }
     Ok(terms)
 }
