@@ -180,9 +180,9 @@ computed-sets n t from into =
     }
 
 -- The sets of a term are those that are computed.
-pub sets-computed : (n : Naming) (t : RawTerm) (s : Sets) → AreSetsOf n t s → s ≡ sets_of n t
+pub sets_computed : (n : Naming) (t : RawTerm) (s : Sets) → AreSetsOf n t s → s ≡ sets_of n t
 unfolding sets_of
-sets-computed n t s h =
+sets_computed n t s h =
     let qs = protocols_of t.protocols in
     let from = same-ranges (IsPort n qs t.source_ports) top_port s.sports (port_set n qs t.source_ports)
           h.ports.0 (port-is n qs t.source_ports) in
