@@ -26,13 +26,10 @@ six a b c d e f = sym (
     ∙ append_assoc a b (c ++ (d ++ (e ++ f)))
     ∙ ap (λ z. a ++ (b ++ (c ++ (d ++ (e ++ z))))) (sym (append-nil f)))
 
-abbrev pub pieces_of : Fault → List ℕ → List ℕ → List (List ℕ)
-pieces_of fault number shown =
-    fault.label ∷ only_if (not (fault.line == 0)) (codes ":") ∷ only_if (not (fault.line == 0)) number
-    ∷ codes ": " ∷ code_text fault.code ∷ space_before fault.word ∷ shown ∷ codes "\n" ∷ []
-
 pieces-are : (fault : Fault)
-    → joined (pieces_of fault (decimal fault.line) (map visible (take 64 fault.word))) ≡ fault_line fault
+    → joined (fault.label ∷ only_if (not (fault.line == 0)) (codes ":")
+    ∷ only_if (not (fault.line == 0)) (decimal fault.line) ∷ codes ": " ∷ code_text fault.code
+    ∷ space_before fault.word ∷ map visible (take 64 fault.word) ∷ codes "\n" ∷ []) ≡ fault_line fault
 unfolding fault_line
 pieces-are fault =
     let code_rest : List ℕ → List ℕ = λ z. codes ": " ++ (code_text fault.code ++ z) in
@@ -41,8 +38,9 @@ pieces-are fault =
     ∙ ap (λ z. fault.label ++ (line_text fault.line ++ code_rest z)) (word-marked fault.word (codes "\n" ++ []))
     ∙ six fault.label (line_text fault.line) (codes ": ") (code_text fault.code) (word_text fault.word) (codes "\n")
 
-pub fault-pieces : (fault : Fault) (number shown : List ℕ) → number ≡ decimal fault.line
-    → shown ≡ map visible (take 64 fault.word) → joined (pieces_of fault number shown) ≡ fault_line fault
-fault-pieces fault number shown is sees =
-    ap (λ n. joined (pieces_of fault n shown)) is
-    ∙ ap (λ s. joined (pieces_of fault (decimal fault.line) s)) sees ∙ pieces-are fault
+pub parts-are : (fault : Fault) (label colon number code space shown : List ℕ) → label ≡ fault.label
+    → colon ≡ only_if (not (fault.line == 0)) (codes ":")
+    → number ≡ only_if (not (fault.line == 0)) (decimal fault.line) → code ≡ code_text fault.code
+    → space ≡ space_before fault.word → shown ≡ map visible (take 64 fault.word)
+    → joined (label ∷ colon ∷ number ∷ codes ": " ∷ code ∷ space ∷ shown ∷ codes "\n" ∷ []) ≡ fault_line fault
+parts-are fault label colon number code space shown e f g h k l = rw (e, f, g, h, k, l) (pieces-are fault)
