@@ -1,2 +1,5 @@
+pub mod FaultLineSteps
+pub mod FaultLines
 pub mod LoadFaults
+pub mod LoadedPolicies
 pub mod Loading
