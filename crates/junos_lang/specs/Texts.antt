@@ -126,18 +126,19 @@ term_rows family t = note_rows t.note ++ (term_row t.name
 
 -- A section begins with a comment that names its target. The filter takes the place of an older one
 -- of its name.
-unfoldable pub head_rows : Family → List ℕ → List Row
+unfoldable pub head_rows : List ℕ → List ℕ → List Row
 head_rows family name =
-    row 0 (codes "/*" ∷ codes "juniper" ∷ name ∷ family_word family ∷ codes "*/" ∷ [])
+    row 0 (codes "/*" ∷ codes "juniper" ∷ name ∷ family ∷ codes "*/" ∷ [])
     ∷ row 0 (codes "firewall" ∷ codes "{" ∷ [])
-    ∷ row 4 (codes "family" ∷ family_word family ∷ codes "{" ∷ [])
+    ∷ row 4 (codes "family" ∷ family ∷ codes "{" ∷ [])
     ∷ row 8 (codes "replace:" ∷ codes "filter" ∷ name ∷ codes "{" ∷ []) ∷ []
 
 abbrev pub end_rows : List Row
 end_rows = closing 8 ∷ closing 4 ∷ closing 0 ∷ []
 
 unfoldable pub section_rows : Section → List Row
-section_rows s = head_rows s.family s.name ++ (flat_map (term_rows s.family) s.terms ++ end_rows)
+section_rows s = head_rows (family_word s.family) s.name
+    ++ (flat_map (term_rows s.family) s.terms ++ end_rows)
 
 -- The text of a document is its sections, one behind another.
 abbrev pub text_of : List Section → List ℕ

@@ -52,15 +52,6 @@ impl Rows for Closing {
     }
 }
 
-fn family_word(family: Family) -> &'static [u8]
-    ensures { result.now ≡ family_word family }
-{
-    match family {
-        Family::V4 => b"inet",
-        Family::V6 => b"inet6",
-    }
-}
-
 /// The rows that begin a section.
 #[derive(Drop)]
 pub struct SectionHead<'a> {
@@ -69,33 +60,43 @@ pub struct SectionHead<'a> {
 }
 
 impl<'a> Rows for SectionHead<'a> {
-    ghost rows = { λ h. head_rows h.family h.name.now };
+    ghost rows = { λ h. head_rows (family_word h.family) h.name.now };
 
-    #[tactic(auto, unfolding(crate::specs::Texts::head_rows))]
     fn put_rows<O: Out>(&self, out: &mut O) -> Result<(), PutFault> {
-        let family = family_word(self.family);
-        let comment = Line {
-            indent: 0,
-            first: b"/*",
-            rest: &[b"juniper", self.name, family, b"*/"],
-        };
-        let firewall = Line {
-            indent: 0,
-            first: b"firewall",
-            rest: &[b"{"],
-        };
-        let of_family = Line {
-            indent: 4,
-            first: b"family",
-            rest: &[family, b"{"],
-        };
-        let filter = Line {
-            indent: 8,
-            first: b"replace:",
-            rest: &[b"filter", self.name, b"{"],
-        };
-        (comment, (firewall, (of_family, filter))).put_rows(out)
+        match self.family {
+            Family::V4 => put_head(b"inet", self.name, out),
+            Family::V6 => put_head(b"inet6", self.name, out),
+        }
     }
+}
+
+#[tactic(auto, unfolding(crate::specs::Texts::head_rows))]
+fn put_head<'a, O: Out>(family: &'a [u8], name: &'a [u8], out: &mut O) -> Result<(), PutFault>
+    requires { IsTrue (O.is_open out.old) }
+    ensures { Puts O.told O.faults O.refusals O.is_open O.keeps_rest out.old out.new
+        (text_of_rows (head_rows family.now name.now)) result }
+{
+    let comment = Line {
+        indent: 0,
+        first: b"/*",
+        rest: &[b"juniper", name, family, b"*/"],
+    };
+    let firewall = Line {
+        indent: 0,
+        first: b"firewall",
+        rest: &[b"{"],
+    };
+    let of_family = Line {
+        indent: 4,
+        first: b"family",
+        rest: &[family, b"{"],
+    };
+    let filter = Line {
+        indent: 8,
+        first: b"replace:",
+        rest: &[b"filter", name, b"{"],
+    };
+    (comment, (firewall, (of_family, filter))).put_rows(out)
 }
 
 /// The rows that end a section.

@@ -165,7 +165,13 @@ fn ports_fit(term: &JTerm) -> bool
 fn has_ports(protos: &[u8]) -> bool
     ensures { result ≡ has_ports protos.now }
 {
-    !protos.is_empty() && protos.iter().all(|proto| *proto == 6 || *proto == 17)
+    !protos.is_empty() && all_have_ports(protos)
+}
+
+fn all_have_ports(protos: &[u8]) -> bool
+    ensures { result ≡ list_all (λ n. n == 6 || n == 17) protos.now }
+{
+    protos.iter().all(|proto| *proto == 6 || *proto == 17)
 }
 
 fn types_fit(family: Family, term: &JTerm) -> bool

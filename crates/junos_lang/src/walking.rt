@@ -1,4 +1,6 @@
-ghost use Rattle.std.specs.Prelude.{◌≡◌, length};
+ghost use Rattle.std.specs.Prelude.{◌≡◌, ◌==◌, ◌&&◌, length, nat_le};
+ghost use Rattle.std.specs.List.{list_any};
+ghost use Rattle.acl_packet.specs.Addresses.{has_address};
 ghost use Rattle.acl_packet.specs.Packets.{IsPacket};
 ghost use Rattle.junos_lang.specs.Walks.{address_holds, number_holds, port_holds, test_holds, addresses_hold, ports_hold, headers_hold, term_holds, decided_by, walk, section_outcome, outcome_of};
 
@@ -88,19 +90,37 @@ fn headers_hold(term: &JTerm, packet: &Packet) -> bool
 fn address_holds(prefixes: &[Prefix], address: u128) -> bool
     ensures { result ≡ address_holds prefixes.now address }
 {
-    prefixes.is_empty() || prefixes.iter().any(|prefix| prefix.contains(address))
+    prefixes.is_empty() || have_address(prefixes, address)
+}
+
+fn have_address(prefixes: &[Prefix], address: u128) -> bool
+    ensures { result ≡ list_any (λ p. has_address p address) prefixes.now }
+{
+    prefixes.iter().any(|prefix| prefix.contains(address))
 }
 
 fn number_holds(numbers: &[u8], number: u8) -> bool
     ensures { result ≡ number_holds numbers.now number }
 {
-    numbers.is_empty() || numbers.iter().any(|wanted| *wanted == number)
+    numbers.is_empty() || have_number(numbers, number)
+}
+
+fn have_number(numbers: &[u8], number: u8) -> bool
+    ensures { result ≡ list_any (λ n. n == number) numbers.now }
+{
+    numbers.iter().any(|wanted| *wanted == number)
 }
 
 fn port_holds(ranges: &[(u16, u16)], port: u16) -> bool
     ensures { result ≡ port_holds ranges.now port }
 {
-    ranges.is_empty() || ranges.iter().any(|range| range.0 <= port && port <= range.1)
+    ranges.is_empty() || have_port(ranges, port)
+}
+
+fn have_port(ranges: &[(u16, u16)], port: u16) -> bool
+    ensures { result ≡ list_any (λ r. nat_le r.0 port && nat_le port r.1) ranges.now }
+{
+    ranges.iter().any(|range| range.0 <= port && port <= range.1)
 }
 
 fn test_holds(test: Option<JTest>, flags: u8) -> bool
