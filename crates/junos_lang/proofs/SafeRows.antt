@@ -173,9 +173,11 @@ term_safe : (f : Family) (t : JTerm) → IsTerm f t → AreRows (term_rows f t)
 unfolding term_rows
 term_safe f t h =
     let head : IsRow (term_row t.name) = record { start = refl; words = (word (codes "term") refl refl, (plain_word t.name h.named, (brace, tt))) } in
-    all_append IsRow (note_rows t.note) _ (note_safe t.note h.noted)
-    (head, all_append IsRow (from_rows (condition_rows f t)) _ (from_safe (condition_rows f t) (conditions_safe f t h))
-    (all_append IsRow (then_rows t.syslog t.verdict) _ (then_safe t.syslog t.verdict) (closing_safe 12, tt)))
+    all_append IsRow (note_rows t.note) _ (note_safe t.note h.noted) (
+      head,
+      all_append IsRow (from_rows (condition_rows f t)) _ (from_safe (condition_rows f t) (conditions_safe f t h))
+          (all_append IsRow (then_rows t.syslog t.verdict) _ (then_safe t.syslog t.verdict) (closing_safe 12, tt)),
+    )
 
 -- ---- sections
 

@@ -17,8 +17,8 @@ mod walking;
 pub use conditions::{Condition, Side};
 pub use documents::{Doc, JTerm, JTest, Section};
 pub use filter_rows::{
-    AddressRows, FromEnd, FromHead, ListRow, NoteRow, PortRange, SectionEnd, SectionHead, TermEnd, TermHead,
-    TestRow, ThenRows,
+    AddressRows, FromEnd, FromHead, ListRow, NoteRow, PortRange, SectionEnd, SectionHead, TermEnd,
+    TermHead, TestRow, ThenRows,
 };
 pub use laws::{
     a_document_has_one_text, a_text_has_one_document, joined_documents_have_joined_names,

@@ -120,7 +120,9 @@ fn port_holds(ranges: &[(u16, u16)], port: u16) -> bool
 fn have_port(ranges: &[(u16, u16)], port: u16) -> bool
     ensures { result ≡ list_any (λ r. nat_le r.0 port && nat_le port r.1) ranges.now }
 {
-    ranges.iter().any(|range| range.0 <= port && port <= range.1)
+    ranges
+        .iter()
+        .any(|range| range.0 <= port && port <= range.1)
 }
 
 fn test_holds(test: Option<JTest>, flags: u8) -> bool
