@@ -1,4 +1,4 @@
-ghost use Rattle.std.specs.Prelude.{◌≡◌, ◌∷◌, List, ℕ, IsTrue, flat_map, map};
+ghost use Rattle.std.specs.Prelude.{◌∷◌, List, ℕ, IsTrue, map};
 ghost use Rattle.acl_text.specs.Output.{Puts};
 ghost use Rattle.acl_grammar.specs.Rows.{spaced};
 

@@ -1,3 +1,7 @@
+ghost use Rattle.std.specs.Prelude.{◌≡◌};
+
+use acl_packet::Family;
+
 /// Where packets come from, or where they go to.
 #[derive(Clone, Copy, Debug, PartialEq, Eq)]
 pub enum Side {
@@ -5,7 +9,7 @@ pub enum Side {
     Destination,
 }
 
-/// A match condition whose values stand in one line.
+/// A match condition whose values stand in one row.
 #[derive(Clone, Copy, Debug, PartialEq, Eq)]
 pub enum Condition {
     /// The protocol, in a filter for IPv4.
@@ -15,4 +19,18 @@ pub enum Condition {
     SourcePort,
     DestinationPort,
     IcmpType,
+}
+
+impl Condition {
+    ghost use Rattle.junos_lang.specs.Texts.{protocol_of};
+
+    /// The condition on the protocol in a filter for the family.
+    pub fn protocol_of(family: Family) -> Condition
+        ensures { result ≡ protocol_of family }
+    {
+        match family {
+            Family::V4 => Condition::Protocol,
+            Family::V6 => Condition::NextHeader,
+        }
+    }
 }

@@ -1,5 +1,5 @@
 ghost use Rattle.std.specs.Prelude.{◌≡◌, ◌&&◌, decimal, map};
-ghost use Rattle.junos_lang.specs.Texts.{condition_rows, from_rows, list_rows, note_rows, protocol_of, range_word, section_rows, term_rows, test_rows};
+ghost use Rattle.junos_lang.specs.Texts.{condition_rows, from_rows, list_rows, note_rows, range_word, section_rows, term_rows, test_rows};
 ghost use Rattle.junos_lang.specs.Documents.{is_empty};
 ghost use Rattle.junos_lang.specs.WritingSteps.{has_no_conditions};
 
@@ -145,7 +145,7 @@ impl<'a> Rows for Conditions<'a> {
             prefixes: self.term.dst.as_slice(),
         };
         let protocols = NumberRows {
-            condition: protocol_of(self.family),
+            condition: Condition::protocol_of(self.family),
             numbers: self.term.protos.as_slice(),
         };
         let source_ports = PortRows {
@@ -165,15 +165,6 @@ impl<'a> Rows for Conditions<'a> {
         };
         let ports = (source_ports, (destination_ports, (types, test)));
         (sources, (destinations, (protocols, ports))).put_rows(out)
-    }
-}
-
-fn protocol_of(family: Family) -> Condition
-    ensures { result ≡ protocol_of family }
-{
-    match family {
-        Family::V4 => Condition::Protocol,
-        Family::V6 => Condition::NextHeader,
     }
 }
 

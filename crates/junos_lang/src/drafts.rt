@@ -1,4 +1,4 @@
-ghost use Rattle.std.specs.Prelude.{◌≡◌, ◌∷◌, [], OnOk, IfOk, Some, option_map};
+ghost use Rattle.std.specs.Prelude.{◌≡◌, ◌∷◌, [], OnOk, IfOk, Some};
 ghost use Rattle.acl_text.specs.Cuts.{views};
 ghost use Rattle.junos_lang.specs.ReadingSteps.{no_term, no_section, no_draft, numbers_in, ranges_in, listed_prefix_in, note_in, with_prefix, with_list, with_word, with_pair, side_in, end_term, end_section, take_outer, family_in, take_family, take_filter, take_head, take_term, take_part, take_address, take_row};
 

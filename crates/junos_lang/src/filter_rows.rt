@@ -1,16 +1,15 @@
-ghost use Rattle.std.specs.Prelude.{◌≡◌, ◌∷◌, [], ◌++◌, codes, decimal, map, IsTrue, List, ℕ};
+ghost use Rattle.std.specs.Prelude.{◌≡◌, ◌∷◌, [], codes, IsTrue};
 ghost use Rattle.acl_text.specs.Cuts.{views};
 ghost use Rattle.acl_text.specs.Output.{Puts};
-ghost use Rattle.acl_text.specs.AddressTexts.{prefix_text};
 ghost use Rattle.acl_grammar.specs.Rows.{row, text_of_rows};
-ghost use Rattle.junos_lang.specs.Documents.{family_word, is_empty};
-ghost use Rattle.junos_lang.specs.Texts.{address_rows, closing, condition_rows, condition_word, end_rows, from_rows, head_rows, list_row, list_rows, note_row, note_rows, prefix_row, protocol_of, range_word, section_rows, side_word, syslog_rows, term_row, term_rows, test_rows, test_words, then_rows, verdict_words};
+ghost use Rattle.junos_lang.specs.Documents.{family_word};
+ghost use Rattle.junos_lang.specs.Texts.{address_rows, closing, condition_word, end_rows, head_rows, list_row, note_row, prefix_row, range_word, side_word, syslog_rows, term_row, test_words, then_rows, verdict_words};
 
 use crate::conditions::{Condition, Side};
-use crate::documents::{JTerm, JTest, Section};
+use crate::documents::JTest;
 use acl_grammar::{Each, Form, FreeText, Number, Piece, Row, Rows, Word, Words};
 use acl_packet::{Family, Prefix, Verdict};
-use acl_text::{Bytes, Out, PutFault};
+use acl_text::{Out, PutFault};
 
 // A line of words that are as they are.
 #[derive(Drop)]

@@ -1,7 +1,6 @@
-ghost use Rattle.std.specs.Prelude.{◌≡◌, ◌↔◌, ◌&&◌, ◌==◌, ◌||◌, IsTrue, nat_le, nat_lt};
+ghost use Rattle.std.specs.Prelude.{◌≡◌, ◌↔◌, ◌==◌, ◌||◌, IsTrue, nat_le, nat_lt};
 ghost use Rattle.std.specs.List.{list_all};
-ghost use Rattle.acl_grammar.specs.NamingSteps.{are_distinct};
-ghost use Rattle.junos_lang.specs.Documents.{IsDocument, has_ports, is_alone, is_empty, name_of, names_of, parts_fit, ports_fit, term_names, test_fits, types_fit, verdict_fits};
+ghost use Rattle.junos_lang.specs.Documents.{IsDocument, has_ports, is_alone, name_of, parts_fit, ports_fit, test_fits, types_fit, verdict_fits};
 ghost use Rattle.junos_lang.specs.ValiditySteps.{are_addresses, are_named, are_numbers, are_ports, is_document, is_listed, is_note, is_port_range, is_section, is_term};
 
 use crate::documents::{JTerm, Section};
