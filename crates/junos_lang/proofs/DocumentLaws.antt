@@ -1,5 +1,5 @@
 -- What is written of a document is read again.
-use Rattle.std.proofs.Common.{◌≡◌, ℕ, ◌+◌, ◌-◌, ◌^◌, ◌<◌, ◌≤◌, Bool, true, false, cond, ◌==◌, List, [], ◌∷◌, ◌++◌, length, take, map, flat_map, codes, Option, None, Some, inl, inr, refl, ap, sym, subst, ◌∙◌, append_assoc, append-nil, arith}
+use Rattle.std.proofs.Common.{◌≡◌, ℕ, ◌-◌, ◌^◌, ◌<◌, ◌≤◌, Bool, true, false, cond, ◌==◌, List, [], ◌∷◌, ◌++◌, length, take, map, flat_map, codes, Option, None, Some, inl, inr, refl, ap, sym, subst, ◌∙◌, append_assoc, append-nil, arith}
 use Rattle.std.specs.Fmt.{decimal}
 use Rattle.std.specs.List.{fold, join_with_byte, AllByRecursion}
 use Rattle.std.proofs.Math.Seq.{take-append_seam}
@@ -13,7 +13,6 @@ use Rattle.acl_packet.specs.declared.addresses.Prefix.{Prefix}
 use Rattle.acl_packet.specs.declared.filtering.Verdict.{Verdict}
 use Rattle.acl_packet.specs.declared.filtering.Verdict.TheVariants.{Accept, Deny, Reject, Reset, Left}
 use Rattle.acl_packet.specs.Decimals.{number_in, digits_in}
-use Rattle.acl_packet.specs.Packets.{icmp_of}
 use Rattle.acl_packet.proofs.DecimalLaws.{decimal-number, number-again}
 use Rattle.acl_text.specs.AddressTexts.{prefix_text, spelled_prefix_in}
 use Rattle.acl_text.specs.OptionSteps.{◌>>=◌}
@@ -34,7 +33,7 @@ use Rattle.junos_lang.specs.declared.conditions.Side.TheVariants.{Source, Destin
 use Rattle.junos_lang.specs.declared.conditions.Condition.TheVariants.{SourcePort, DestinationPort, IcmpType}
 use Rattle.junos_lang.specs.declared.drafts.DocumentDraft.{DocumentDraft}
 use Rattle.junos_lang.specs.Documents.{IsListed, IsPortRange, IsTerm, IsSection, ports_fit, types_fit, test_fits, verdict_fits, family_word}
-use Rattle.junos_lang.specs.Texts.{closing, prefix_row, address_rows, protocol_of, list_row, list_rows, range_word, test_rows, condition_rows, from_rows, verdict_words, syslog_rows, then_rows, note_row, note_rows, term_row, term_rows, head_rows, end_rows, section_rows, Spells}
+use Rattle.junos_lang.specs.Texts.{closing, prefix_row, address_rows, protocol_of, list_row, list_rows, range_word, test_rows, condition_rows, from_rows, then_rows, note_row, note_rows, term_row, term_rows, head_rows, end_rows, section_rows, Spells}
 use Rattle.junos_lang.specs.ReadingSteps.{one_or_none, numbers_in, ranges_in, listed_prefix_in, note_in, no_term, with_prefix, with_list, with_word, with_pair, side_in, no_section, no_draft, take_outer, family_in, take_head, take_row, document_in}
 use Rattle.junos_lang.proofs.SafeRows.{sections_safe}
 

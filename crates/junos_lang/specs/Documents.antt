@@ -2,7 +2,7 @@
 -- Source: Juniper, Routing Policies, Firewall Filters, and Traffic Policers User Guide, "Firewall
 -- Filter Match Conditions for IPv4 Traffic", "Firewall Filter Match Conditions for IPv6 Traffic" and
 -- "Firewall Filter Terminating Actions".
-use Rattle.std.specs.Prelude.{◌≡◌, ℕ, ◌<◌, ◌≤◌, Bool, true, false, not, ◌&&◌, ◌||◌, ◌==◌, List, [], ◌∷◌, ◌++◌, map, codes, Option, IfSome, is_none}
+use Rattle.std.specs.Prelude.{◌≡◌, ℕ, ◌<◌, ◌≤◌, Bool, true, false, not, ◌&&◌, ◌||◌, ◌==◌, List, [], ◌∷◌, ◌++◌, map, codes, IfSome, is_none}
 use Rattle.std.specs.List.{list_all, AllByRecursion, IsDistinct}
 use Rattle.std.specs.Str.{bytes_eq}
 use Rattle.acl_packet.specs.declared.addresses.Family.{Family}

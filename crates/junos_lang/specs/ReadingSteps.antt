@@ -1,11 +1,10 @@
 -- Reading leniently: a draft that rows change, and that nothing refuses.
-use Rattle.std.specs.Prelude.{ℕ, ◌-◌, Bool, true, false, ◌==◌, if◌then◌else◌, List, [], ◌∷◌, ◌++◌, length, take, drop, flat_map, codes, Option, None, Some}
+use Rattle.std.specs.Prelude.{ℕ, ◌-◌, true, false, ◌==◌, if◌then◌else◌, List, [], ◌∷◌, ◌++◌, length, take, drop, flat_map, codes, Option, None, Some}
 use Rattle.std.specs.List.{fold, join_with_byte}
 use Rattle.std.specs.Str.{bytes_eq}
 use Rattle.acl_packet.specs.declared.addresses.Family.{Family}
 use Rattle.acl_packet.specs.declared.addresses.Family.TheVariants.{V4, V6}
 use Rattle.acl_packet.specs.declared.addresses.Prefix.{Prefix}
-use Rattle.acl_packet.specs.declared.filtering.Verdict.{Verdict}
 use Rattle.acl_packet.specs.declared.filtering.Verdict.TheVariants.{Accept, Deny, Reject, Reset}
 use Rattle.acl_packet.specs.Decimals.{number_in}
 use Rattle.acl_text.specs.AddressTexts.{spelled_prefix_in}
@@ -16,7 +15,6 @@ use Rattle.acl_grammar.specs.Rows.{Row}
 use Rattle.acl_grammar.specs.RowSteps.{rows_in}
 use Rattle.junos_lang.specs.declared.documents.Section.{Section}
 use Rattle.junos_lang.specs.declared.documents.JTerm.{JTerm}
-use Rattle.junos_lang.specs.declared.documents.JTest.{JTest}
 use Rattle.junos_lang.specs.declared.documents.JTest.TheVariants.{Established, Initial, Rst}
 use Rattle.junos_lang.specs.declared.conditions.Side.{Side}
 use Rattle.junos_lang.specs.declared.conditions.Side.TheVariants.{Source, Destination}

@@ -5,7 +5,6 @@
 -- "Firewall Filter Match Conditions Based on Bit-Field Values" (`tcp-established`, `tcp-initial`).
 use Rattle.std.specs.Prelude.{ℕ, Bool, true, not, ◌&&◌, ◌||◌, ◌==◌, nat_le, if◌then◌else◌, List, [], ◌∷◌, Option, None, Some, slice_get, option_and_then}
 use Rattle.std.specs.List.{list_any}
-use Rattle.acl_packet.specs.declared.addresses.Family.{Family}
 use Rattle.acl_packet.specs.declared.addresses.Prefix.{Prefix}
 use Rattle.acl_packet.specs.declared.packets.Packet.{Packet}
 use Rattle.acl_packet.specs.declared.filtering.Outcome.{Outcome}
