@@ -1,4 +1,5 @@
 pub mod DecisionLaws
+pub mod EachWordLaws
 pub mod ListLaws
 pub mod NamingLaws
 pub mod PutLaws

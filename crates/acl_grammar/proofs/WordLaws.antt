@@ -10,7 +10,7 @@ use Rattle.acl_packet.specs.Addresses.{width_of, IsPrefix}
 use Rattle.acl_packet.proofs.PrefixLaws.{mask_fits}
 use Rattle.acl_text.specs.AddressTexts.{address_text, prefix_text, wildcard_text}
 use Rattle.acl_text.specs.Cuts.{has_byte}
-use Rattle.acl_text.specs.Names.{is_letter, is_name_byte, is_filter_name, is_safe_byte, is_safe_text, single_spaced}
+use Rattle.acl_text.specs.Names.{is_letter, is_name_byte, is_name, is_filter_name, is_safe_byte, is_safe_text, single_spaced}
 use Rattle.acl_text.proofs.AddressLaws.{address-lacks, prefix-lacks}
 use Rattle.acl_text.proofs.CutLaws.{has-not}
 use Rattle.acl_text.proofs.DigitLaws.{decimal-lacks}
@@ -46,6 +46,13 @@ name_word [] h = word [] refl refl
 name_word (b ∷ bs) h =
     let rest = and_parts (is_letter b) (nat_le (length (b ∷ bs)) 64 && list_all is_name_byte (b ∷ bs)) h in
     let bytes = (and_parts (nat_le (length (b ∷ bs)) 64) (list_all is_name_byte (b ∷ bs)) rest.1).1 in
+    word (b ∷ bs) (has-not is_name_byte 32 (b ∷ bs) bytes refl) (has-not is_name_byte 10 (b ∷ bs) bytes refl)
+
+-- of a name with any first byte
+pub plain_word : (name : List ℕ) → is_name name ≡ true → IsWord name
+plain_word [] h = word [] refl refl
+plain_word (b ∷ bs) h =
+    let bytes = (and_parts (nat_le (length (b ∷ bs)) 128) (list_all is_name_byte (b ∷ bs)) h).1 in
     word (b ∷ bs) (has-not is_name_byte 32 (b ∷ bs) bytes refl) (has-not is_name_byte 10 (b ∷ bs) bytes refl)
 
 -- the words of a text without a line feed

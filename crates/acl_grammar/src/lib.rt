@@ -4,6 +4,8 @@
 
 mod comparing;
 mod drafts;
+mod each_word;
+mod named;
 mod naming;
 mod pieces;
 mod prefix_checks;
@@ -14,6 +16,8 @@ mod tests;
 
 pub use comparing::is_text_of;
 pub use drafts::{Draft, read_rows};
+pub use each_word::{EachWord, WordForm};
+pub use named::{Named, have_distinct_names};
 pub use naming::are_distinct;
 pub use pieces::{Address, FreeText, Number, Piece, Wildcard, Word, Words, put_words};
 pub use prefix_checks::is_prefix_of;

@@ -1,8 +1,8 @@
 ghost use Rattle.std.specs.Prelude.{max};
 
 use crate::{
-    Address, Draft, Each, Form, FreeText, Number, Row, Rows, Wildcard, Word, are_distinct,
-    is_prefix_of, is_text_of, join_words, read_rows,
+    Address, Draft, Each, EachWord, Form, FreeText, Named, Number, Piece, Row, Rows, Wildcard, Word,
+    WordForm, are_distinct, have_distinct_names, is_prefix_of, is_text_of, join_words, read_rows,
 };
 use acl_packet::{Family, Prefix};
 use acl_text::{Memory, Out, PutFault};
@@ -29,6 +29,34 @@ impl Form<u8> for Numbered {
             rest: Word { piece: number },
         };
         row.put_rows(out)
+    }
+}
+
+// Numbers, a word each.
+#[derive(Clone, Copy)]
+struct InDecimal;
+
+impl WordForm<u8> for InDecimal {
+    ghost use Rattle.std.specs.Prelude.{decimal};
+
+    ghost item_text = { λ f n. decimal n };
+
+    fn put_item_into<O: Out>(&self, item: &u8, out: &mut O) -> Result<(), PutFault> {
+        let number = u128::from(*item);
+        Number { number }.put_into(out)
+    }
+}
+
+#[derive(Drop)]
+struct Titled<'a> {
+    title: &'a [u8],
+}
+
+impl<'a> Named for Titled<'a> {
+    ghost name = { λ t. t.title.now };
+
+    fn has_name_of(&self, other: &Titled<'a>) -> bool {
+        self.title == other.title
     }
 }
 
@@ -147,4 +175,23 @@ fn tells_names_and_prefixes(rt: HostRuntime) {
         len: 0,
     };
     assert_eq!(rt; is_prefix_of(Family::V6, &four), false);
+}
+
+#[test]
+fn writes_words_and_tells_items(rt: HostRuntime) {
+    let numbers: &[u8] = &[7, 10];
+    let row = Row {
+        indent: 0,
+        first: b"numbers".as_slice(),
+        rest: EachWord {
+            items: numbers,
+            form: InDecimal,
+        },
+    };
+    assert_eq!(rt; is_text_of(b"numbers 7 10\n", &row), true);
+    assert_eq!(rt; is_text_of(b"numbers 7\n", &row), false);
+    let a = Titled { title: b"a" };
+    let items = [Titled { title: b"a" }, Titled { title: b"ab" }];
+    assert_eq!(rt; have_distinct_names(&items), true);
+    assert_eq!(rt; have_distinct_names(&[a, Titled { title: b"a" }]), false);
 }

@@ -1,0 +1,209 @@
+-- Each row of a document can be found again in its text.
+use Rattle.std.proofs.Common.{◌≡◌, ℕ, ◌<◌, ◌≤◌, Bool, true, false, cond, ◌==◌, List, [], ◌∷◌, ◌++◌, map, flat_map, codes, Option, None, Some, IfSome, refl, arith}
+use Rattle.std.specs.Fmt.{decimal}
+use Rattle.std.specs.List.{AllByRecursion}
+use Rattle.acl_packet.specs.declared.addresses.Family.{Family}
+use Rattle.acl_packet.specs.declared.addresses.Family.TheVariants.{V4, V6}
+use Rattle.acl_packet.specs.declared.addresses.Prefix.{Prefix}
+use Rattle.acl_packet.specs.declared.filtering.Verdict.{Verdict}
+use Rattle.acl_packet.specs.declared.filtering.Verdict.TheVariants.{Accept, Deny, Reject, Reset, Left}
+use Rattle.acl_text.specs.AddressTexts.{prefix_text}
+use Rattle.acl_text.specs.Names.{is_safe_text}
+use Rattle.acl_text.proofs.CutLaws.{has-append}
+use Rattle.acl_grammar.specs.Rows.{Row, words_in}
+use Rattle.acl_grammar.specs.RowSteps.{begins, IsRow, IsWord}
+use Rattle.acl_grammar.proofs.ListLaws.{all_append, all_flat}
+use Rattle.acl_grammar.proofs.WordLaws.{word, decimal_word, prefix_word, name_word, plain_word, text_words}
+use Rattle.junos_lang.specs.declared.documents.Section.{Section}
+use Rattle.junos_lang.specs.declared.documents.JTerm.{JTerm}
+use Rattle.junos_lang.specs.declared.documents.JTest.{JTest}
+use Rattle.junos_lang.specs.declared.documents.JTest.TheVariants.{Established, Initial, Rst}
+use Rattle.junos_lang.specs.declared.conditions.Side.{Side}
+use Rattle.junos_lang.specs.declared.conditions.Side.TheVariants.{Source, Destination}
+use Rattle.junos_lang.specs.declared.conditions.Condition.{Condition}
+use Rattle.junos_lang.specs.declared.conditions.Condition.TheVariants.{Protocol, NextHeader, SourcePort, DestinationPort, IcmpType}
+use Rattle.junos_lang.specs.Documents.{IsListed, IsPortRange, IsTerm, IsSection, family_word}
+use Rattle.junos_lang.specs.Texts.{closing, side_word, prefix_row, address_rows, condition_word, protocol_of, list_row, list_rows, range_word, test_rows, condition_rows, from_rows, verdict_words, syslog_rows, then_rows, note_row, note_rows, term_row, term_rows, head_rows, end_rows, section_rows}
+
+abbrev AreWords : List (List ℕ) → Type 0
+AreWords words = AllByRecursion IsWord words
+
+abbrev AreRows : List Row → Type 0
+AreRows rows = AllByRecursion IsRow rows
+
+brace : IsWord (codes "{")
+brace = word (codes "{") refl refl
+
+closing_safe : (n : ℕ) → IsRow (closing n)
+closing_safe n = record { start = refl; words = (word (codes "}") refl refl, tt) }
+
+-- ---- conditions
+
+side_safe : (s : Side) → IsWord (side_word s) × (begins (side_word s ∷ codes "{" ∷ []) ≡ true)
+side_safe Source = (word (codes "source-address") refl refl, refl)
+side_safe Destination = (word (codes "destination-address") refl refl, refl)
+
+begins-append : (w v : List ℕ) (words : List (List ℕ)) → begins (v ∷ words) ≡ true → begins ((w ++ v) ∷ words) ≡ true
+begins-append [] v words h = h
+begins-append (b ∷ bs) v words h = refl
+
+prefix_safe : (f : Family) (p : Prefix) → IsListed f p → IsRow (prefix_row p)
+prefix_safe f p h =
+    let w = prefix_word p h.0.1 in
+    record {
+      start = begins-append (prefix_text p) (codes ";") [] refl;
+      words = (word (prefix_text p ++ codes ";") (has-append 32 (prefix_text p) (codes ";") w.no_space refl) (has-append 10 (prefix_text p) (codes ";") w.no_feed refl), tt);
+    }
+
+prefixes_safe : (f : Family) (ps : List Prefix) → AllByRecursion (IsListed f) ps → AreRows (map prefix_row ps)
+prefixes_safe f [] h = tt
+prefixes_safe f (p ∷ ps) h = (prefix_safe f p h.0, prefixes_safe f ps h.1)
+
+addresses_safe : (f : Family) (s : Side) (ps : List Prefix) → AllByRecursion (IsListed f) ps → AreRows (address_rows s ps)
+unfolding address_rows
+addresses_safe f s [] h = tt
+addresses_safe f s (p ∷ ps) h = (
+  record { start = (side_safe s).1; words = ((side_safe s).0, (brace, tt)) },
+  all_append IsRow (map prefix_row (p ∷ ps)) (closing 20 ∷ []) (prefixes_safe f (p ∷ ps) h) (closing_safe 20, tt),
+)
+
+condition_safe : (c : Condition) (words : List (List ℕ)) → IsWord (condition_word c) × (begins (condition_word c ∷ words) ≡ true)
+condition_safe Protocol words = (word (codes "protocol") refl refl, refl)
+condition_safe NextHeader words = (word (codes "next-header") refl refl, refl)
+condition_safe SourcePort words = (word (codes "source-port") refl refl, refl)
+condition_safe DestinationPort words = (word (codes "destination-port") refl refl, refl)
+condition_safe IcmpType words = (word (codes "icmp-type") refl refl, refl)
+
+row_safe : (c : Condition) (values : List (List ℕ)) → AreWords values → IsRow (list_row c values)
+unfolding list_row
+row_safe c values h =
+    let rest = codes "[" ∷ (values ++ codes "];" ∷ []) in
+    record {
+      start = (condition_safe c rest).1;
+      words = ((condition_safe c rest).0, (word (codes "[") refl refl, all_append IsWord values (codes "];" ∷ []) h (word (codes "];") refl refl, tt)));
+    }
+
+list_safe : (c : Condition) (values : List (List ℕ)) → AreWords values → AreRows (list_rows c values)
+unfolding list_rows
+list_safe c [] h = tt
+list_safe c (v ∷ values) h = (row_safe c (v ∷ values) h, tt)
+
+all_words : {A : Type 0} (write : A → List ℕ) (P : A → Type 0) → ((x : A) → P x → IsWord (write x)) → (xs : List A) → AllByRecursion P xs → AreWords (map write xs)
+all_words write P each [] h = tt
+all_words write P each (x ∷ xs) h = (each x h.0, all_words write P each xs h.1)
+
+range_safe : (r : ℕ × ℕ) → IsPortRange r → IsWord (range_word r)
+unfolding range_word
+range_safe r h = range_cases (r.0 == r.1) where
+  low : IsWord (decimal r.0)
+  low = decimal_word r.0 (omega (arith, h.0, h.1))
+
+  high : IsWord (decimal r.1)
+  high = decimal_word r.1 (omega (arith, h.1))
+
+  range_cases : (a : Bool) → IsWord (cond a (decimal r.0) (decimal r.0 ++ 45 ∷ decimal r.1))
+  range_cases true = low
+  range_cases false =
+      word (decimal r.0 ++ 45 ∷ decimal r.1) (has-append 32 (decimal r.0) (45 ∷ decimal r.1) low.no_space high.no_space)
+      (has-append 10 (decimal r.0) (45 ∷ decimal r.1) low.no_feed high.no_feed)
+
+test_safe : (o : Option JTest) → AreRows (test_rows o)
+unfolding test_rows
+test_safe None = tt
+test_safe (Some Established) = (record { start = refl; words = (word (codes "tcp-established;") refl refl, tt) }, tt)
+test_safe (Some Initial) = (record { start = refl; words = (word (codes "tcp-initial;") refl refl, tt) }, tt)
+test_safe (Some Rst) = (record { start = refl; words = (word (codes "tcp-flags") refl refl, (word (codes "\"rst\";") refl refl, tt)) }, tt)
+
+conditions_safe : (f : Family) (t : JTerm) → IsTerm f t → AreRows (condition_rows f t)
+unfolding condition_rows
+conditions_safe f t h =
+    let byte = λ (n : ℕ) (k : n < 256). decimal_word n (omega (arith, k)) in
+    let type = λ (n : ℕ) (k : n ≤ 254). decimal_word n (omega (arith, k)) in
+    let protos = list_safe (protocol_of f) (map decimal t.protos) (all_words decimal (λ n. n < 256) byte t.protos h.protocols) in
+    let sports = list_safe SourcePort (map range_word t.sports) (all_words range_word IsPortRange range_safe t.sports h.source_ports) in
+    let dports = list_safe DestinationPort (map range_word t.dports) (all_words range_word IsPortRange range_safe t.dports h.destination_ports) in
+    let types = list_safe IcmpType (map decimal t.itypes) (all_words decimal (λ n. n ≤ 254) type t.itypes h.icmp_types) in
+    all_append IsRow (address_rows Source t.src) _ (addresses_safe f Source t.src h.sources)
+    (all_append IsRow (address_rows Destination t.dst) _ (addresses_safe f Destination t.dst h.destinations)
+    (all_append IsRow (list_rows (protocol_of f) (map decimal t.protos)) _ protos
+    (all_append IsRow (list_rows SourcePort (map range_word t.sports)) _ sports
+    (all_append IsRow (list_rows DestinationPort (map range_word t.dports)) _ dports
+    (all_append IsRow (list_rows IcmpType (map decimal t.itypes)) (test_rows t.test) types (test_safe t.test))))))
+
+from_safe : (rows : List Row) → AreRows rows → AreRows (from_rows rows)
+unfolding from_rows
+from_safe [] h = tt
+from_safe (r ∷ rows) h = (
+  record { start = refl; words = (word (codes "from") refl refl, (brace, tt)) },
+  all_append IsRow (r ∷ rows) (closing 16 ∷ []) h (closing_safe 16, tt),
+)
+
+-- ---- terms
+
+verdict_safe : (v : Verdict) → AreWords (verdict_words v) × (begins (verdict_words v) ≡ true)
+verdict_safe Accept = ((word (codes "accept;") refl refl, tt), refl)
+verdict_safe Deny = ((word (codes "discard;") refl refl, tt), refl)
+verdict_safe Reject = ((word (codes "reject;") refl refl, tt), refl)
+verdict_safe Reset = ((word (codes "reject") refl refl, (word (codes "tcp-reset;") refl refl, tt)), refl)
+verdict_safe Left = ((word (codes "discard;") refl refl, tt), refl)
+
+syslog_safe : (b : Bool) → AreRows (syslog_rows b)
+syslog_safe true = (record { start = refl; words = (word (codes "syslog;") refl refl, tt) }, tt)
+syslog_safe false = tt
+
+then_safe : (b : Bool) (v : Verdict) → AreRows (then_rows b v)
+unfolding then_rows
+then_safe b v = (
+  record { start = refl; words = (word (codes "then") refl refl, (brace, tt)) },
+  all_append IsRow (syslog_rows b) _ (syslog_safe b) (record { start = (verdict_safe v).1; words = (verdict_safe v).0 }, (closing_safe 16, tt)),
+)
+
+note_safe : (o : Option (List ℕ)) → IfSome o (λ text. is_safe_text text ≡ true) → AreRows (note_rows o)
+unfolding note_row
+note_safe None h = tt
+note_safe (Some text) h = (
+  record {
+    start = refl;
+    words = (word (codes "/*") refl refl, all_append IsWord (words_in text) (codes "*/" ∷ []) (text_words text h) (word (codes "*/") refl refl, tt));
+  },
+  tt,
+)
+
+term_safe : (f : Family) (t : JTerm) → IsTerm f t → AreRows (term_rows f t)
+unfolding term_rows
+term_safe f t h =
+    let head : IsRow (term_row t.name) = record { start = refl; words = (word (codes "term") refl refl, (plain_word t.name h.named, (brace, tt))) } in
+    all_append IsRow (note_rows t.note) _ (note_safe t.note h.noted) (
+      head,
+      all_append IsRow (from_rows (condition_rows f t)) _ (from_safe (condition_rows f t) (conditions_safe f t h))
+          (all_append IsRow (then_rows t.syslog t.verdict) _ (then_safe t.syslog t.verdict) (closing_safe 12, tt)),
+    )
+
+-- ---- sections
+
+family_safe : (f : Family) → IsWord (family_word f)
+family_safe V4 = word (codes "inet") refl refl
+family_safe V6 = word (codes "inet6") refl refl
+
+head_safe : (family name : List ℕ) → IsWord family → IsWord name → AreRows (head_rows family name)
+unfolding head_rows
+head_safe family name h k = (
+  record { start = refl; words = (word (codes "/*") refl refl, (word (codes "juniper") refl refl, (k, (h, (word (codes "*/") refl refl, tt))))) },
+  (
+    record { start = refl; words = (word (codes "firewall") refl refl, (brace, tt)) },
+    (
+      record { start = refl; words = (word (codes "family") refl refl, (h, (brace, tt))) },
+      (record { start = refl; words = (word (codes "replace:") refl refl, (word (codes "filter") refl refl, (k, (brace, tt)))) }, tt),
+    ),
+  ),
+)
+
+section_safe : (s : Section) → IsSection s → AreRows (section_rows s)
+unfolding section_rows
+section_safe s h =
+    let terms = all_flat (IsTerm s.family) IsRow (term_rows s.family) (term_safe s.family) s.terms h.terms in
+    all_append IsRow (head_rows (family_word s.family) s.name) _ (head_safe (family_word s.family) s.name (family_safe s.family) (name_word s.name h.named))
+    (all_append IsRow (flat_map (term_rows s.family) s.terms) end_rows terms (closing_safe 8, (closing_safe 4, (closing_safe 0, tt))))
+
+pub sections_safe : (doc : List Section) → AllByRecursion IsSection doc → AllByRecursion IsRow (flat_map section_rows doc)
+sections_safe doc h = all_flat IsSection IsRow section_rows section_safe doc h

@@ -1,0 +1,93 @@
+-- The tests of a document say what a valid one is.
+use Rattle.std.proofs.Common.{◌≡◌, ℕ, ◌<◌, ◌≤◌, Bool, true, false, not, ◌&&◌, nat_le, nat_lt, List, [], ◌∷◌, ◌++◌, Option, None, Some, IfSome, refl}
+use Rattle.std.specs.Bool.{Decides}
+use Rattle.std.specs.List.{list_all}
+use Rattle.std.specs.Str.{bytes_eq}
+use Rattle.std.proofs.lemmas.Bool.{false≢true}
+use Rattle.std.proofs.lemmas.Bool.Decides.{Decides-and, Decides-like, Decides-ltb}
+use Rattle.acl_packet.specs.declared.addresses.Family.{Family}
+use Rattle.acl_packet.specs.declared.addresses.Family.TheVariants.{V4, V6}
+use Rattle.acl_packet.specs.declared.addresses.Prefix.{Prefix}
+use Rattle.acl_packet.specs.Addresses.{same_family}
+use Rattle.acl_text.specs.Names.{is_name, is_filter_name, is_safe_text}
+use Rattle.acl_grammar.specs.NamingSteps.{are_distinct}
+use Rattle.acl_grammar.specs.PrefixCheckSteps.{is_prefix_of}
+use Rattle.acl_grammar.proofs.DecisionLaws.{le_decides, prefix_decides, all_decides}
+use Rattle.acl_grammar.proofs.NamingLaws.{distinct_decides}
+use Rattle.junos_lang.specs.declared.documents.Section.{Section}
+use Rattle.junos_lang.specs.declared.documents.JTerm.{JTerm}
+use Rattle.junos_lang.specs.Documents.{is_empty, parts_fit, IsListed, IsPortRange, IsTerm, term_names, IsSection, family_word, names_of, IsDocument}
+use Rattle.junos_lang.specs.ValiditySteps.{is_note, is_listed, is_port_range, are_named, are_addresses, are_ports, are_numbers, is_term, is_section, is_document}
+
+-- two names are the same where family and filter's name are
+pub same_names : (f g : Family) (a b : List ℕ) → (same_family f g && bytes_eq a b) ≡ bytes_eq (family_word f ++ 32 ∷ a) (family_word g ++ 32 ∷ b)
+same_names V4 V4 a b = refl
+same_names V4 V6 a b = refl
+same_names V6 V4 a b = refl
+same_names V6 V6 a b = refl
+
+-- ---- terms
+
+holds : (b : Bool) → Decides b (b ≡ true)
+holds b = (λ h. h, λ h. h)
+
+note_decides : (o : Option (List ℕ)) → Decides (is_note o) (IfSome o (λ text. is_safe_text text ≡ true))
+note_decides None = (λ h. tt, λ h. refl)
+note_decides (Some text) = holds (is_safe_text text)
+
+listed_decides : (f : Family) (p : Prefix) → Decides (is_listed f p) (IsListed f p)
+listed_decides f p = Decides-and (is_prefix_of f p) (nat_le 1 p.len) (prefix_decides f p) (le_decides 1 p.len)
+
+range_decides : (ports : ℕ × ℕ) → Decides (is_port_range ports) (IsPortRange ports)
+range_decides ports = Decides-and (nat_le ports.0 ports.1) (nat_lt ports.1 65536) (le_decides ports.0 ports.1) (Decides-ltb ports.1 65536)
+
+term_decides : (f : Family) (t : JTerm) → Decides (is_term f t) (IsTerm f t)
+term_decides f t =
+    let names = Decides-and (is_note t.note) (is_name t.name) (note_decides t.note) (holds (is_name t.name)) in
+    let listed = all_decides (is_listed f) (IsListed f) (listed_decides f) in
+    let addresses = Decides-and (list_all (is_listed f) t.src) (list_all (is_listed f) t.dst) (listed t.src) (listed t.dst) in
+    let ranges = all_decides is_port_range IsPortRange range_decides in
+    let ports = Decides-and (list_all is_port_range t.sports) (list_all is_port_range t.dports) (ranges t.sports) (ranges t.dports) in
+    let byte : ℕ → Bool = λ n. nat_lt n 256 in
+    let type : ℕ → Bool = λ n. nat_le n 254 in
+    let protos = all_decides byte (λ n. n < 256) (λ n. Decides-ltb n 256) t.protos in
+    let types = all_decides type (λ n. n ≤ 254) (λ n. le_decides n 254) t.itypes in
+    let numbers = Decides-and (list_all byte t.protos) (list_all type t.itypes) protos types in
+    let rest = Decides-and (are_numbers t) (parts_fit f t) numbers (holds (parts_fit f t)) in
+    Decides-like (is_term f t)
+    (λ h. record {
+      noted = h.0.0.0;
+      named = h.0.0.1;
+      sources = h.0.1.0;
+      destinations = h.0.1.1;
+      protocols = h.1.1.0.0;
+      source_ports = h.1.0.0;
+      destination_ports = h.1.0.1;
+      icmp_types = h.1.1.0.1;
+      fit = h.1.1.1;
+    })
+    (λ h. (((h.noted, h.named), (h.sources, h.destinations)), ((h.source_ports, h.destination_ports), ((h.protocols, h.icmp_types), h.fit))))
+    (Decides-and (are_named t && are_addresses f t) (are_ports t && (are_numbers t && parts_fit f t))
+    (Decides-and (are_named t) (are_addresses f t) names addresses)
+    (Decides-and (are_ports t) (are_numbers t && parts_fit f t) ports rest))
+
+-- ---- sections and documents
+
+some_decides : {A : Type 0} (xs : List A) → Decides (not (is_empty xs)) (is_empty xs ≡ false)
+some_decides [] = (λ h. absurd (false≢true h), λ h. absurd cc)
+some_decides (x ∷ xs) = (λ h. refl, λ h. refl)
+
+section_decides : (s : Section) → Decides (is_section s) (IsSection s)
+section_decides s =
+    let terms = all_decides (is_term s.family) (IsTerm s.family) (term_decides s.family) s.terms in
+    let heads = Decides-and (is_filter_name s.name) (not (is_empty s.terms)) (holds (is_filter_name s.name)) (some_decides s.terms) in
+    let body = Decides-and (list_all (is_term s.family) s.terms) (are_distinct (term_names s.terms)) terms (distinct_decides (term_names s.terms)) in
+    Decides-like (is_section s)
+    (λ h. record { named = h.0.0; has_terms = h.0.1; terms = h.1.0; terms_differ = h.1.1 })
+    (λ h. ((h.named, h.has_terms), (h.terms, h.terms_differ)))
+    (Decides-and (is_filter_name s.name && not (is_empty s.terms)) (list_all (is_term s.family) s.terms && are_distinct (term_names s.terms)) heads body)
+
+pub document_decides : (doc : List Section) → Decides (is_document doc) (IsDocument doc)
+document_decides doc =
+    Decides-like (is_document doc) (λ h. record { sections = h.0; names_differ = h.1 }) (λ h. (h.sections, h.names_differ))
+    (Decides-and (list_all is_section doc) (are_distinct (names_of doc)) (all_decides is_section IsSection section_decides doc) (distinct_decides (names_of doc)))

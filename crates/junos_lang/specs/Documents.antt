@@ -1,0 +1,98 @@
+-- Documents of Junos firewall filters, and which of them are valid.
+-- Source: Juniper, Routing Policies, Firewall Filters, and Traffic Policers User Guide, "Firewall
+-- Filter Match Conditions for IPv4 Traffic", "Firewall Filter Match Conditions for IPv6 Traffic" and
+-- "Firewall Filter Terminating Actions".
+use Rattle.std.specs.Prelude.{◌≡◌, ℕ, ◌<◌, ◌≤◌, Bool, true, false, not, ◌&&◌, ◌||◌, ◌==◌, List, [], ◌∷◌, ◌++◌, map, codes, IfSome, is_none}
+use Rattle.std.specs.List.{list_all, AllByRecursion, IsDistinct}
+use Rattle.std.specs.Str.{bytes_eq}
+use Rattle.acl_packet.specs.declared.addresses.Family.{Family}
+use Rattle.acl_packet.specs.declared.addresses.Family.TheVariants.{V4, V6}
+use Rattle.acl_packet.specs.declared.addresses.Prefix.{Prefix}
+use Rattle.acl_packet.specs.declared.filtering.Verdict.{Verdict}
+use Rattle.acl_packet.specs.declared.filtering.Verdict.TheVariants.{Reset, Left}
+use Rattle.acl_packet.specs.Addresses.{IsPrefixOf}
+use Rattle.acl_packet.specs.Packets.{icmp_of}
+use Rattle.acl_text.specs.Names.{is_name, is_filter_name, is_safe_text}
+use Rattle.junos_lang.specs.declared.documents.Section.{Section}
+use Rattle.junos_lang.specs.declared.documents.JTerm.{JTerm}
+
+abbrev pub is_empty : {A : Type 0} → List A → Bool
+is_empty [] = true
+is_empty (x ∷ xs) = false
+
+-- The list has that one number.
+abbrev pub is_alone : List ℕ → ℕ → Bool
+is_alone [] number = false
+is_alone (n ∷ []) number = n == number
+is_alone (n ∷ m ∷ numbers) number = false
+
+-- Protocols are named, and all of them are TCP or UDP.
+abbrev pub has_ports : List ℕ → Bool
+has_ports protos = not (is_empty protos) && list_all (λ n. n == 6 || n == 17) protos
+
+-- Ports belong to TCP and UDP, types to the family's ICMP alone, a test of flags and a reset to TCP
+-- alone. No term leaves a packet to what stands behind the filter.
+abbrev pub ports_fit : JTerm → Bool
+ports_fit t = is_empty t.sports && is_empty t.dports || has_ports t.protos
+
+abbrev pub types_fit : Family → JTerm → Bool
+types_fit family t = is_empty t.itypes || is_alone t.protos (icmp_of family)
+
+abbrev pub test_fits : JTerm → Bool
+test_fits t = is_none t.test || is_alone t.protos 6
+
+abbrev pub verdict_fits : Verdict → List ℕ → Bool
+verdict_fits Reset protos = is_alone protos 6
+verdict_fits Left protos = false
+verdict_fits verdict protos = true
+
+abbrev pub parts_fit : Family → JTerm → Bool
+parts_fit family t =
+    ports_fit t && (types_fit family t && (test_fits t && verdict_fits t.verdict t.protos))
+
+-- A prefix that a term lists is one of the family; all addresses are no condition.
+abbrev pub IsListed : Family → Prefix → Type 0
+IsListed family p = IsPrefixOf family p × (1 ≤ p.len)
+
+-- A range of ports, from the low one to the high one.
+abbrev pub IsPortRange : ℕ × ℕ → Type 0
+IsPortRange ports = (ports.0 ≤ ports.1) × (ports.1 < 65536)
+
+-- A term of a filter of the family. The type 255 has no number here.
+pub record IsTerm (family : Family) (t : JTerm) : Type 0 where
+  pub noted : IfSome t.note (λ text. is_safe_text text ≡ true)
+  pub named : is_name t.name ≡ true
+  pub sources : AllByRecursion (IsListed family) t.src
+  pub destinations : AllByRecursion (IsListed family) t.dst
+  pub protocols : AllByRecursion (λ n. n < 256) t.protos
+  pub source_ports : AllByRecursion IsPortRange t.sports
+  pub destination_ports : AllByRecursion IsPortRange t.dports
+  pub icmp_types : AllByRecursion (λ n. n ≤ 254) t.itypes
+  pub fit : parts_fit family t ≡ true
+
+abbrev pub term_names : List JTerm → List (List ℕ)
+term_names terms = map (λ t. t.name) terms
+
+-- A filter has a term, and no two of its terms have the same name.
+pub record IsSection (s : Section) : Type 0 where
+  pub named : is_filter_name s.name ≡ true
+  pub has_terms : is_empty s.terms ≡ false
+  pub terms : AllByRecursion (IsTerm s.family) s.terms
+  pub terms_differ : IsDistinct bytes_eq (term_names s.terms)
+
+abbrev pub family_word : Family → List ℕ
+family_word V4 = codes "inet"
+family_word V6 = codes "inet6"
+
+-- The name of a section in its document: the family's word, a space and the filter's name. Filters
+-- of two families may have one name.
+abbrev pub name_of : Section → List ℕ
+name_of s = family_word s.family ++ 32 ∷ s.name
+
+abbrev pub names_of : List Section → List (List ℕ)
+names_of doc = map name_of doc
+
+-- A document is its sections, no two of which have the same family and name.
+pub record IsDocument (doc : List Section) : Type 0 where
+  pub sections : AllByRecursion IsSection doc
+  pub names_differ : IsDistinct bytes_eq (names_of doc)

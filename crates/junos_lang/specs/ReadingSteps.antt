@@ -1,0 +1,161 @@
+-- Reading leniently: a draft that rows change, and that nothing refuses.
+use Rattle.std.specs.Prelude.{ℕ, ◌-◌, true, false, ◌==◌, if◌then◌else◌, List, [], ◌∷◌, ◌++◌, length, take, drop, flat_map, codes, Option, None, Some}
+use Rattle.std.specs.List.{fold, join_with_byte}
+use Rattle.std.specs.Str.{bytes_eq}
+use Rattle.acl_packet.specs.declared.addresses.Family.{Family}
+use Rattle.acl_packet.specs.declared.addresses.Family.TheVariants.{V4, V6}
+use Rattle.acl_packet.specs.declared.addresses.Prefix.{Prefix}
+use Rattle.acl_packet.specs.declared.filtering.Verdict.TheVariants.{Accept, Deny, Reject, Reset}
+use Rattle.acl_packet.specs.Decimals.{number_in}
+use Rattle.acl_text.specs.AddressTexts.{spelled_prefix_in}
+use Rattle.acl_text.specs.Cuts.{cut_at}
+use Rattle.acl_text.specs.OptionSteps.{◌>>=◌}
+use Rattle.acl_text.specs.PortRanges.{ports_in}
+use Rattle.acl_grammar.specs.Rows.{Row}
+use Rattle.acl_grammar.specs.RowSteps.{rows_in}
+use Rattle.junos_lang.specs.declared.documents.Section.{Section}
+use Rattle.junos_lang.specs.declared.documents.JTerm.{JTerm}
+use Rattle.junos_lang.specs.declared.documents.JTest.TheVariants.{Established, Initial, Rst}
+use Rattle.junos_lang.specs.declared.conditions.Side.{Side}
+use Rattle.junos_lang.specs.declared.conditions.Side.TheVariants.{Source, Destination}
+use Rattle.junos_lang.specs.declared.drafts.DocumentDraft.{DocumentDraft}
+
+-- ---- elements of lists
+
+abbrev pub one_or_none : {A : Type 0} → Option A → List A
+one_or_none None = []
+one_or_none (Some a) = a ∷ []
+
+-- The numbers and the ranges among the words.
+unfoldable pub numbers_in : List (List ℕ) → List ℕ
+numbers_in words = flat_map (λ w. one_or_none (number_in 255 w)) words
+
+unfoldable pub ranges_in : List (List ℕ) → List (ℕ × ℕ)
+ranges_in words = flat_map (λ w. one_or_none (ports_in 45 w)) words
+
+-- The prefix before a `;`.
+unfoldable pub listed_prefix_in : Family → List ℕ → Option Prefix
+listed_prefix_in family w = cut_at 59 w >>= (λ p. spelled_prefix_in family p.0)
+
+-- The text between the words that begin and end a comment.
+unfoldable pub note_in : List (List ℕ) → List ℕ
+note_in words = join_with_byte 32 (take (length words - 2) (drop 1 words))
+
+-- ---- the parts of a term
+
+abbrev pub no_term : JTerm
+no_term = record {
+  note = None;
+  name = [];
+  src = [];
+  dst = [];
+  protos = [];
+  sports = [];
+  dports = [];
+  itypes = [];
+  test = None;
+  syslog = false;
+  verdict = Accept;
+}
+
+abbrev pub with_prefix : JTerm → Side → Option Prefix → JTerm
+with_prefix t side None = t
+with_prefix t Source (Some p) = record t { src = t.src ++ p ∷ [] }
+with_prefix t Destination (Some p) = record t { dst = t.dst ++ p ∷ [] }
+
+unfoldable pub with_list : JTerm → List ℕ → List (List ℕ) → JTerm
+with_list t w words =
+    if bytes_eq w (codes "source-port") then record t { sports = ranges_in words }
+    else if bytes_eq w (codes "destination-port") then record t { dports = ranges_in words }
+    else if bytes_eq w (codes "icmp-type") then record t { itypes = numbers_in words }
+    else record t { protos = numbers_in words }
+
+unfoldable pub with_word : JTerm → List ℕ → JTerm
+with_word t w =
+    if bytes_eq w (codes "accept;") then record t { verdict = Accept }
+    else if bytes_eq w (codes "discard;") then record t { verdict = Deny }
+    else if bytes_eq w (codes "reject;") then record t { verdict = Reject }
+    else if bytes_eq w (codes "syslog;") then record t { syslog = true }
+    else if bytes_eq w (codes "tcp-established;") then record t { test = Some Established }
+    else if bytes_eq w (codes "tcp-initial;") then record t { test = Some Initial }
+    else t
+
+unfoldable pub with_pair : JTerm → List ℕ → JTerm
+with_pair t w =
+    if bytes_eq w (codes "reject") then record t { verdict = Reset }
+    else if bytes_eq w (codes "tcp-flags") then record t { test = Some Rst }
+    else t
+
+-- A block of addresses is of destinations until it ends, where it begins so.
+unfoldable pub side_in : List ℕ → Side
+side_in w = if bytes_eq w (codes "destination-address") then Destination else Source
+
+-- ---- the rows of a document
+
+abbrev pub no_section : Section
+no_section = record { family = V4; name = []; terms = [] }
+
+abbrev pub no_draft : DocumentDraft
+no_draft = record { sections = []; section = no_section; term = no_term; side = Source }
+
+abbrev pub end_term : DocumentDraft → DocumentDraft
+end_term d = record d {
+  section = record d.section { terms = d.section.terms ++ d.term ∷ [] };
+  term = no_term;
+}
+
+abbrev pub end_section : DocumentDraft → DocumentDraft
+end_section d = record d { sections = d.sections ++ d.section ∷ []; section = no_section }
+
+unfoldable pub take_outer : DocumentDraft → List (List ℕ) → DocumentDraft
+take_outer d (w ∷ []) = if bytes_eq w (codes "}") then end_section d else d
+take_outer d words = d
+
+unfoldable pub family_in : List ℕ → Family
+family_in w = if bytes_eq w (codes "inet6") then V6 else V4
+
+abbrev pub take_family : DocumentDraft → List (List ℕ) → DocumentDraft
+take_family d (w ∷ family ∷ brace ∷ []) =
+    record d { section = record d.section { family = family_in family } }
+take_family d words = d
+
+abbrev pub take_filter : DocumentDraft → List (List ℕ) → DocumentDraft
+take_filter d (w ∷ v ∷ name ∷ brace ∷ []) =
+    record d { section = record d.section { name = name } }
+take_filter d words = d
+
+-- The row of a comment, of a term's name, or of a term's end.
+unfoldable pub take_head : DocumentDraft → List ℕ → List ℕ → List (List ℕ) → DocumentDraft
+take_head d w name words =
+    if bytes_eq w (codes "/*") then record d { term = record d.term { note = Some (note_in words) } }
+    else record d { term = record d.term { name = name } }
+
+abbrev pub take_term : DocumentDraft → List (List ℕ) → DocumentDraft
+take_term d [] = d
+take_term d (w ∷ []) = end_term d
+take_term d (w ∷ name ∷ words) = take_head d w name (w ∷ name ∷ words)
+
+abbrev pub take_part : DocumentDraft → List (List ℕ) → DocumentDraft
+take_part d [] = d
+take_part d (w ∷ []) = record d { term = with_word d.term w; side = Source }
+take_part d (w ∷ v ∷ []) = record d { term = with_pair d.term w; side = side_in w }
+take_part d (w ∷ v ∷ x ∷ words) = record d { term = with_list d.term w (w ∷ v ∷ x ∷ words) }
+
+abbrev pub take_address : DocumentDraft → List (List ℕ) → DocumentDraft
+take_address d (w ∷ []) =
+    record d { term = with_prefix d.term d.side (listed_prefix_in d.section.family w) }
+take_address d words = d
+
+unfoldable pub take_row : DocumentDraft → Row → DocumentDraft
+take_row d r =
+    if r.indent == 0 then take_outer d r.words
+    else if r.indent == 4 then take_family d r.words
+    else if r.indent == 8 then take_filter d r.words
+    else if r.indent == 12 then take_term d r.words
+    else if r.indent == 20 then take_part d r.words
+    else if r.indent == 24 then take_address d r.words
+    else d
+
+-- What the bytes say, whatever they are.
+unfoldable pub document_in : List ℕ → List Section
+document_in bytes = (fold take_row no_draft (rows_in bytes)).sections

@@ -1,0 +1,44 @@
+-- Whether a document is valid, test by test.
+use Rattle.std.specs.Prelude.{ℕ, Bool, true, not, ◌&&◌, nat_le, nat_lt, List, Option, None, Some}
+use Rattle.std.specs.List.{list_all}
+use Rattle.acl_packet.specs.declared.addresses.Family.{Family}
+use Rattle.acl_packet.specs.declared.addresses.Prefix.{Prefix}
+use Rattle.acl_text.specs.Names.{is_name, is_filter_name, is_safe_text}
+use Rattle.acl_grammar.specs.NamingSteps.{are_distinct}
+use Rattle.acl_grammar.specs.PrefixCheckSteps.{is_prefix_of}
+use Rattle.junos_lang.specs.declared.documents.Section.{Section}
+use Rattle.junos_lang.specs.declared.documents.JTerm.{JTerm}
+use Rattle.junos_lang.specs.Documents.{is_empty, parts_fit, term_names, names_of}
+
+abbrev pub is_note : Option (List ℕ) → Bool
+is_note None = true
+is_note (Some text) = is_safe_text text
+
+abbrev pub is_listed : Family → Prefix → Bool
+is_listed family p = is_prefix_of family p && nat_le 1 p.len
+
+abbrev pub is_port_range : ℕ × ℕ → Bool
+is_port_range ports = nat_le ports.0 ports.1 && nat_lt ports.1 65536
+
+abbrev pub are_named : JTerm → Bool
+are_named t = is_note t.note && is_name t.name
+
+abbrev pub are_addresses : Family → JTerm → Bool
+are_addresses family t = list_all (is_listed family) t.src && list_all (is_listed family) t.dst
+
+abbrev pub are_ports : JTerm → Bool
+are_ports t = list_all is_port_range t.sports && list_all is_port_range t.dports
+
+abbrev pub are_numbers : JTerm → Bool
+are_numbers t = list_all (λ n. nat_lt n 256) t.protos && list_all (λ n. nat_le n 254) t.itypes
+
+abbrev pub is_term : Family → JTerm → Bool
+is_term family t = (are_named t && are_addresses family t)
+    && (are_ports t && (are_numbers t && parts_fit family t))
+
+abbrev pub is_section : Section → Bool
+is_section s = (is_filter_name s.name && not (is_empty s.terms))
+    && (list_all (is_term s.family) s.terms && are_distinct (term_names s.terms))
+
+abbrev pub is_document : List Section → Bool
+is_document doc = list_all is_section doc && are_distinct (names_of doc)

@@ -1,0 +1,69 @@
+-- What the filters of a document do to a packet.
+-- Source: Juniper, Routing Policies, Firewall Filters, and Traffic Policers User Guide, "How Standard
+-- Firewall Filters Evaluate Packets" (terms in order, the first whose conditions all hold decides; a
+-- term without a `from` part holds every packet; the implicit discard at the end of a filter) and
+-- "Firewall Filter Match Conditions Based on Bit-Field Values" (`tcp-established`, `tcp-initial`).
+use Rattle.std.specs.Prelude.{ℕ, Bool, true, not, ◌&&◌, ◌||◌, ◌==◌, nat_le, if◌then◌else◌, List, [], ◌∷◌, Option, None, Some, slice_get, option_and_then}
+use Rattle.std.specs.List.{list_any}
+use Rattle.acl_packet.specs.declared.addresses.Prefix.{Prefix}
+use Rattle.acl_packet.specs.declared.packets.Packet.{Packet}
+use Rattle.acl_packet.specs.declared.filtering.Outcome.{Outcome}
+use Rattle.acl_packet.specs.declared.filtering.Verdict.TheVariants.{Deny}
+use Rattle.acl_packet.specs.Addresses.{has_address, same_family}
+use Rattle.acl_packet.specs.Outcomes.{unlogged}
+use Rattle.acl_packet.specs.Packets.{has_flag}
+use Rattle.junos_lang.specs.declared.documents.Section.{Section}
+use Rattle.junos_lang.specs.declared.documents.JTerm.{JTerm}
+use Rattle.junos_lang.specs.declared.documents.JTest.{JTest}
+use Rattle.junos_lang.specs.declared.documents.JTest.TheVariants.{Established, Initial, Rst}
+use Rattle.junos_lang.specs.Documents.{is_empty}
+
+-- A condition holds where one of its values does. No values are no condition.
+abbrev pub address_holds : List Prefix → ℕ → Bool
+address_holds prefixes address = is_empty prefixes || list_any (λ p. has_address p address) prefixes
+
+abbrev pub number_holds : List ℕ → ℕ → Bool
+number_holds numbers number = is_empty numbers || list_any (λ n. n == number) numbers
+
+abbrev pub port_holds : List (ℕ × ℕ) → ℕ → Bool
+port_holds ranges port =
+    is_empty ranges || list_any (λ r. nat_le r.0 port && nat_le port r.1) ranges
+
+-- SYN is 2, RST 4 and ACK 16 (RFC 9293 section 3.1). `tcp-established` wants ACK or RST,
+-- `tcp-initial` SYN without ACK.
+abbrev pub test_holds : Option JTest → ℕ → Bool
+test_holds None flags = true
+test_holds (Some Established) flags = has_flag flags 16 || has_flag flags 4
+test_holds (Some Initial) flags = has_flag flags 2 && not (has_flag flags 16)
+test_holds (Some Rst) flags = has_flag flags 4
+
+-- A term holds a packet where each of its conditions does.
+abbrev pub addresses_hold : JTerm → Packet → Bool
+addresses_hold t p = address_holds t.src p.src && address_holds t.dst p.dst
+
+abbrev pub ports_hold : JTerm → Packet → Bool
+ports_hold t p = port_holds t.sports p.sport && port_holds t.dports p.dport
+
+abbrev pub headers_hold : JTerm → Packet → Bool
+headers_hold t p = number_holds t.protos p.proto
+    && (number_holds t.itypes p.itype && test_holds t.test p.flags)
+
+abbrev pub term_holds : JTerm → Packet → Bool
+term_holds t p = addresses_hold t p && (ports_hold t p && headers_hold t p)
+
+-- What a term decides, with its log.
+abbrev pub decided_by : JTerm → Outcome
+decided_by t = record { verdict = t.verdict; logged = t.syslog }
+
+-- The first term that holds the packet decides; at the end it is discarded.
+unfoldable pub walk : List JTerm → Packet → Outcome
+walk [] p = unlogged Deny
+walk (t ∷ terms) p = if term_holds t p then decided_by t else walk terms p
+
+-- What a section does, where the packet is of its family.
+abbrev pub section_outcome : Section → Packet → Option Outcome
+section_outcome s p = if same_family s.family p.family then Some (walk s.terms p) else None
+
+-- What the section at that place does; nothing where there is none.
+abbrev pub outcome_of : List Section → ℕ → Packet → Option Outcome
+outcome_of doc which p = option_and_then (λ s. section_outcome s p) (slice_get doc which)

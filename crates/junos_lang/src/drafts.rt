@@ -1,0 +1,323 @@
+ghost use Rattle.std.specs.Prelude.{◌≡◌, ◌∷◌, [], OnOk, IfOk, Some};
+ghost use Rattle.acl_text.specs.Cuts.{views};
+ghost use Rattle.junos_lang.specs.ReadingSteps.{no_term, no_section, no_draft, numbers_in, ranges_in, listed_prefix_in, note_in, with_prefix, with_list, with_word, with_pair, side_in, end_term, end_section, take_outer, family_in, take_family, take_filter, take_head, take_term, take_part, take_address, take_row};
+
+use crate::conditions::Side;
+use crate::documents::{Doc, JTerm, JTest, Section};
+use acl_grammar::{Draft, join_words};
+use acl_packet::{Family, Prefix, Verdict};
+use acl_text::{Bytes, Items, Memory, read_ports, read_spelled_prefix, read_u8, split_at_byte};
+use std::alloc::Global;
+use std::mem;
+
+/// What has been read of a document's rows: the sections that have ended, the next one without its
+/// next term, that term, and whose addresses come.
+#[derive(Drop)]
+pub(crate) struct DocumentDraft {
+    pub(crate) sections: Doc,
+    section: Section,
+    term: JTerm,
+    side: Side,
+}
+
+impl Draft for DocumentDraft {
+    ghost step = { take_row };
+
+    #[tactic(auto, unfolding(crate::specs::ReadingSteps::take_row))]
+    fn take_row(&mut self, alloc: Global, indent: usize, words: &[&[u8]]) -> Result<(), Memory> {
+        match indent {
+            0 => self.take_outer(alloc, words),
+            4 => {
+                self.take_family(words);
+                Ok(())
+            }
+            8 => self.take_filter(alloc, words),
+            12 => self.take_term(alloc, words),
+            20 => self.take_part(alloc, words),
+            24 => self.take_address(words),
+            _ => Ok(()),
+        }
+    }
+}
+
+impl DocumentDraft {
+    /// Nothing has been read.
+    pub(crate) fn new(alloc: Global) -> DocumentDraft
+        ensures { result ≡ no_draft }
+    {
+        DocumentDraft {
+            sections: Items::new(alloc),
+            section: no_section(alloc),
+            term: no_term(alloc),
+            side: Side::Source,
+        }
+    }
+
+    #[tactic(auto, unfolding(crate::specs::ReadingSteps::take_outer))]
+    fn take_outer(&mut self, alloc: Global, words: &[&[u8]]) -> Result<(), Memory>
+        ensures { OnOk result (self.new ≡ take_outer self.old (views words.now)) }
+    {
+        match words {
+            [word] => self.take_brace(alloc, word),
+            _ => Ok(()),
+        }
+    }
+
+    #[tactic(auto, unfolding(crate::specs::ReadingSteps::take_outer))]
+    fn take_brace(&mut self, alloc: Global, word: &[u8]) -> Result<(), Memory>
+        ensures { OnOk result (self.new ≡ take_outer self.old (word.now ∷ [])) }
+    {
+        if word == b"}".as_slice() {
+            self.end_section(alloc)
+        } else {
+            Ok(())
+        }
+    }
+
+    fn end_section(&mut self, alloc: Global) -> Result<(), Memory>
+        ensures { OnOk result (self.new ≡ end_section self.old) }
+    {
+        let section = mem::replace(&mut self.section, no_section(alloc));
+        self.sections.push(section)
+    }
+
+    fn take_family(&mut self, words: &[&[u8]])
+        ensures { self.new ≡ take_family self.old (views words.now) }
+    {
+        if let [_, family, _] = words {
+            self.section.family = family_of(family);
+        }
+    }
+
+    fn take_filter(&mut self, alloc: Global, words: &[&[u8]]) -> Result<(), Memory>
+        ensures { OnOk result (self.new ≡ take_filter self.old (views words.now)) }
+    {
+        if let [_, _, name, _] = words {
+            self.section.name = Bytes::from_slice(alloc, name)?;
+        }
+        Ok(())
+    }
+
+    fn take_term(&mut self, alloc: Global, words: &[&[u8]]) -> Result<(), Memory>
+        ensures { OnOk result (self.new ≡ take_term self.old (views words.now)) }
+    {
+        match words {
+            [] => Ok(()),
+            [_] => self.end_term(alloc),
+            [word, name, ..] => self.take_head(alloc, word, name, words),
+        }
+    }
+
+    fn end_term(&mut self, alloc: Global) -> Result<(), Memory>
+        ensures { OnOk result (self.new ≡ end_term self.old) }
+    {
+        let term = mem::replace(&mut self.term, no_term(alloc));
+        self.section.terms.push(term)
+    }
+
+    #[tactic(auto, unfolding(crate::specs::ReadingSteps::take_head))]
+    fn take_head(
+        &mut self,
+        alloc: Global,
+        word: &[u8],
+        name: &[u8],
+        words: &[&[u8]],
+    ) -> Result<(), Memory>
+        ensures { OnOk result (self.new
+            ≡ take_head self.old word.now name.now (views words.now)) }
+    {
+        if word == b"/*".as_slice() {
+            self.term.note = Some(note_of(alloc, words)?);
+        } else {
+            self.term.name = Bytes::from_slice(alloc, name)?;
+        }
+        Ok(())
+    }
+
+    fn take_part(&mut self, alloc: Global, words: &[&[u8]]) -> Result<(), Memory>
+        ensures { OnOk result (self.new ≡ take_part self.old (views words.now)) }
+    {
+        match words {
+            [] => Ok(()),
+            [word] => {
+                self.term.take_word(word);
+                self.side = Side::Source;
+                Ok(())
+            }
+            [word, _] => {
+                self.term.take_pair(word);
+                self.side = side_of(word);
+                Ok(())
+            }
+            [word, ..] => self.term.take_list(alloc, word, words),
+        }
+    }
+
+    fn take_address(&mut self, words: &[&[u8]]) -> Result<(), Memory>
+        ensures { OnOk result (self.new ≡ take_address self.old (views words.now)) }
+    {
+        match words {
+            [word] => {
+                let prefix = listed_prefix(self.section.family, word);
+                self.term.take_prefix(self.side, prefix)
+            }
+            _ => Ok(()),
+        }
+    }
+}
+
+impl JTerm {
+    #[tactic(auto, unfolding(crate::specs::ReadingSteps::with_word))]
+    fn take_word(&mut self, word: &[u8])
+        ensures { self.new ≡ with_word self.old word.now }
+    {
+        if word == b"accept;".as_slice() {
+            self.verdict = Verdict::Accept;
+        } else if word == b"discard;".as_slice() {
+            self.verdict = Verdict::Deny;
+        } else if word == b"reject;".as_slice() {
+            self.verdict = Verdict::Reject;
+        } else if word == b"syslog;".as_slice() {
+            self.syslog = true;
+        } else if word == b"tcp-established;".as_slice() {
+            self.test = Some(JTest::Established);
+        } else if word == b"tcp-initial;".as_slice() {
+            self.test = Some(JTest::Initial);
+        }
+    }
+
+    #[tactic(auto, unfolding(crate::specs::ReadingSteps::with_pair))]
+    fn take_pair(&mut self, word: &[u8])
+        ensures { self.new ≡ with_pair self.old word.now }
+    {
+        if word == b"reject".as_slice() {
+            self.verdict = Verdict::Reset;
+        } else if word == b"tcp-flags".as_slice() {
+            self.test = Some(JTest::Rst);
+        }
+    }
+
+    #[tactic(auto, unfolding(crate::specs::ReadingSteps::with_list))]
+    fn take_list(&mut self, alloc: Global, word: &[u8], words: &[&[u8]]) -> Result<(), Memory>
+        ensures { OnOk result (self.new ≡ with_list self.old word.now (views words.now)) }
+    {
+        if word == b"source-port".as_slice() {
+            self.sports = ranges_of(alloc, words)?;
+        } else if word == b"destination-port".as_slice() {
+            self.dports = ranges_of(alloc, words)?;
+        } else if word == b"icmp-type".as_slice() {
+            self.itypes = numbers_of(alloc, words)?;
+        } else {
+            self.protos = numbers_of(alloc, words)?;
+        }
+        Ok(())
+    }
+
+    fn take_prefix(&mut self, side: Side, prefix: Option<Prefix>) -> Result<(), Memory>
+        ensures { OnOk result (self.new ≡ with_prefix self.old side prefix) }
+    {
+        match (side, prefix) {
+            (_, None) => Ok(()),
+            (Side::Source, Some(prefix)) => self.src.push(prefix),
+            (Side::Destination, Some(prefix)) => self.dst.push(prefix),
+        }
+    }
+}
+
+fn no_term(alloc: Global) -> JTerm
+    ensures { result ≡ no_term }
+{
+    JTerm {
+        note: None,
+        name: Bytes::new(alloc),
+        src: Items::new(alloc),
+        dst: Items::new(alloc),
+        protos: Items::new(alloc),
+        sports: Items::new(alloc),
+        dports: Items::new(alloc),
+        itypes: Items::new(alloc),
+        test: None,
+        syslog: false,
+        verdict: Verdict::Accept,
+    }
+}
+
+fn no_section(alloc: Global) -> Section
+    ensures { result ≡ no_section }
+{
+    Section {
+        family: Family::V4,
+        name: Bytes::new(alloc),
+        terms: Items::new(alloc),
+    }
+}
+
+#[tactic(auto, unfolding(crate::specs::ReadingSteps::family_in))]
+fn family_of(word: &[u8]) -> Family
+    ensures { result ≡ family_in word.now }
+{
+    if word == b"inet6".as_slice() {
+        Family::V6
+    } else {
+        Family::V4
+    }
+}
+
+#[tactic(auto, unfolding(crate::specs::ReadingSteps::side_in))]
+fn side_of(word: &[u8]) -> Side
+    ensures { result ≡ side_in word.now }
+{
+    if word == b"destination-address".as_slice() {
+        Side::Destination
+    } else {
+        Side::Source
+    }
+}
+
+// The prefix before a `;`.
+#[tactic(auto, unfolding(crate::specs::ReadingSteps::listed_prefix_in))]
+fn listed_prefix(family: Family, word: &[u8]) -> Option<Prefix>
+    ensures { result ≡ listed_prefix_in family word.now }
+{
+    let (prefix, _) = split_at_byte(word, b';')?;
+    read_spelled_prefix(family, prefix)
+}
+
+// The text between the first and the last word.
+#[tactic(auto, unfolding(crate::specs::ReadingSteps::note_in))]
+fn note_of(alloc: Global, words: &[&[u8]]) -> Result<Bytes, Memory>
+    ensures { IfOk result (λ text. text ≡ note_in (views words.now)) }
+{
+    match words {
+        [_, text @ .., _] => join_words(alloc, text),
+        _ => Ok(Bytes::new(alloc)),
+    }
+}
+
+// The numbers among the words.
+#[tactic(auto, unfolding(crate::specs::ReadingSteps::numbers_in))]
+fn numbers_of(alloc: Global, words: &[&[u8]]) -> Result<Items<u8>, Memory>
+    ensures { IfOk result (λ numbers. numbers ≡ numbers_in (views words.now)) }
+{
+    let mut numbers = Items::new(alloc);
+    for word in words {
+        if let Some(number) = read_u8(word, 255) {
+            numbers.push(number)?;
+        }
+    }
+    Ok(numbers)
+}
+
+// The ranges of ports among the words.
+#[tactic(auto, unfolding(crate::specs::ReadingSteps::ranges_in))]
+fn ranges_of(alloc: Global, words: &[&[u8]]) -> Result<Items<(u16, u16)>, Memory>
+    ensures { IfOk result (λ ranges. ranges ≡ ranges_in (views words.now)) }
+{
+    let mut ranges = Items::new(alloc);
+    for word in words {
+        if let Some(ports) = read_ports(word, b'-') {
+            ranges.push(ports)?;
+        }
+    }
+    Ok(ranges)
+}

@@ -1,0 +1,419 @@
+ghost use Rattle.std.specs.Prelude.{◌≡◌, ◌∷◌, [], codes, IsTrue};
+ghost use Rattle.acl_text.specs.Cuts.{views};
+ghost use Rattle.acl_text.specs.Output.{Puts};
+ghost use Rattle.acl_grammar.specs.Rows.{row, text_of_rows};
+ghost use Rattle.junos_lang.specs.Documents.{family_word};
+ghost use Rattle.junos_lang.specs.Texts.{address_rows, closing, condition_word, end_rows, head_rows, list_row, note_row, prefix_row, range_word, side_word, syslog_rows, term_row, test_words, then_rows, verdict_words};
+
+use crate::conditions::{Condition, Side};
+use crate::documents::JTest;
+use acl_grammar::{Each, Form, FreeText, Number, Piece, Row, Rows, Word, Words};
+use acl_packet::{Family, Prefix, Verdict};
+use acl_text::{Out, PutFault};
+
+// A line of words that are as they are.
+#[derive(Drop)]
+struct Line<'a> {
+    indent: usize,
+    first: &'a [u8],
+    rest: &'a [&'a [u8]],
+}
+
+impl<'a> Rows for Line<'a> {
+    ghost rows = { λ l. row l.indent (l.first.now ∷ views l.rest.now) ∷ [] };
+
+    fn put_rows<O: Out>(&self, out: &mut O) -> Result<(), PutFault> {
+        let row = Row {
+            indent: self.indent,
+            first: self.first,
+            rest: self.rest,
+        };
+        row.put_rows(out)
+    }
+}
+
+// The row that ends a block.
+#[derive(Drop)]
+struct Closing {
+    indent: usize,
+}
+
+impl Rows for Closing {
+    ghost rows = { λ c. closing c.indent ∷ [] };
+
+    fn put_rows<O: Out>(&self, out: &mut O) -> Result<(), PutFault> {
+        let line = Line {
+            indent: self.indent,
+            first: b"}",
+            rest: &[],
+        };
+        line.put_rows(out)
+    }
+}
+
+/// The rows that begin a section.
+#[derive(Drop)]
+pub struct SectionHead<'a> {
+    pub family: Family,
+    pub name: &'a [u8],
+}
+
+impl<'a> Rows for SectionHead<'a> {
+    ghost rows = { λ h. head_rows (family_word h.family) h.name.now };
+
+    fn put_rows<O: Out>(&self, out: &mut O) -> Result<(), PutFault> {
+        match self.family {
+            Family::V4 => put_head(b"inet", self.name, out),
+            Family::V6 => put_head(b"inet6", self.name, out),
+        }
+    }
+}
+
+#[tactic(auto, unfolding(crate::specs::Texts::head_rows))]
+fn put_head<'a, O: Out>(family: &'a [u8], name: &'a [u8], out: &mut O) -> Result<(), PutFault>
+    requires { IsTrue (O.is_open out.old) }
+    ensures { Puts O.told O.faults O.refusals O.is_open O.keeps_rest out.old out.new
+        (text_of_rows (head_rows family.now name.now)) result }
+{
+    let comment = Line {
+        indent: 0,
+        first: b"/*",
+        rest: &[b"juniper", name, family, b"*/"],
+    };
+    let firewall = Line {
+        indent: 0,
+        first: b"firewall",
+        rest: &[b"{"],
+    };
+    let of_family = Line {
+        indent: 4,
+        first: b"family",
+        rest: &[family, b"{"],
+    };
+    let filter = Line {
+        indent: 8,
+        first: b"replace:",
+        rest: &[b"filter", name, b"{"],
+    };
+    (comment, (firewall, (of_family, filter))).put_rows(out)
+}
+
+/// The rows that end a section.
+#[derive(Drop)]
+pub struct SectionEnd;
+
+impl Rows for SectionEnd {
+    ghost rows = { λ e. end_rows };
+
+    fn put_rows<O: Out>(&self, out: &mut O) -> Result<(), PutFault> {
+        let outer = (Closing { indent: 4 }, Closing { indent: 0 });
+        (Closing { indent: 8 }, outer).put_rows(out)
+    }
+}
+
+/// The row of a comment before a term.
+#[derive(Drop)]
+pub struct NoteRow<'a> {
+    pub text: &'a [u8],
+}
+
+impl<'a> Rows for NoteRow<'a> {
+    ghost rows = { λ n. note_row n.text.now ∷ [] };
+
+    #[tactic(auto, unfolding(crate::specs::Texts::note_row))]
+    fn put_rows<O: Out>(&self, out: &mut O) -> Result<(), PutFault> {
+        let end = Word {
+            piece: b"*/".as_slice(),
+        };
+        let row = Row {
+            indent: 12,
+            first: b"/*".as_slice(),
+            rest: (FreeText { text: self.text }, end),
+        };
+        row.put_rows(out)
+    }
+}
+
+/// The row that begins a term.
+#[derive(Drop)]
+pub struct TermHead<'a> {
+    pub name: &'a [u8],
+}
+
+impl<'a> Rows for TermHead<'a> {
+    ghost rows = { λ h. term_row h.name.now ∷ [] };
+
+    fn put_rows<O: Out>(&self, out: &mut O) -> Result<(), PutFault> {
+        let line = Line {
+            indent: 12,
+            first: b"term",
+            rest: &[self.name, b"{"],
+        };
+        line.put_rows(out)
+    }
+}
+
+/// The row that ends a term.
+#[derive(Drop)]
+pub struct TermEnd;
+
+impl Rows for TermEnd {
+    ghost rows = { λ e. closing 12 ∷ [] };
+
+    fn put_rows<O: Out>(&self, out: &mut O) -> Result<(), PutFault> {
+        Closing { indent: 12 }.put_rows(out)
+    }
+}
+
+/// The row that begins the conditions of a term.
+#[derive(Drop)]
+pub struct FromHead;
+
+impl Rows for FromHead {
+    ghost rows = { λ h. row 16 (codes "from" ∷ codes "{" ∷ []) ∷ [] };
+
+    fn put_rows<O: Out>(&self, out: &mut O) -> Result<(), PutFault> {
+        let line = Line {
+            indent: 16,
+            first: b"from",
+            rest: &[b"{"],
+        };
+        line.put_rows(out)
+    }
+}
+
+/// The row that ends the conditions of a term.
+#[derive(Drop)]
+pub struct FromEnd;
+
+impl Rows for FromEnd {
+    ghost rows = { λ e. closing 16 ∷ [] };
+
+    fn put_rows<O: Out>(&self, out: &mut O) -> Result<(), PutFault> {
+        Closing { indent: 16 }.put_rows(out)
+    }
+}
+
+/// The rows of the addresses of a side. None where there are no addresses.
+#[derive(Drop)]
+pub struct AddressRows<'a> {
+    pub side: Side,
+    pub prefixes: &'a [Prefix],
+}
+
+impl<'a> Rows for AddressRows<'a> {
+    ghost rows = { λ a. address_rows a.side a.prefixes.now };
+
+    #[tactic(auto, unfolding(crate::specs::Texts::address_rows))]
+    fn put_rows<O: Out>(&self, out: &mut O) -> Result<(), PutFault> {
+        if self.prefixes.is_empty() {
+            return Ok(());
+        }
+        let head = Line {
+            indent: 20,
+            first: side_word(self.side),
+            rest: &[b"{"],
+        };
+        let prefixes = Each {
+            items: self.prefixes,
+            form: InBlock,
+        };
+        (head, (prefixes, Closing { indent: 20 })).put_rows(out)
+    }
+}
+
+fn side_word(side: Side) -> &'static [u8]
+    ensures { result.now ≡ side_word side }
+{
+    match side {
+        Side::Source => b"source-address",
+        Side::Destination => b"destination-address",
+    }
+}
+
+// The prefixes of a block, a row each.
+#[derive(Drop)]
+struct InBlock;
+
+impl Form<Prefix> for InBlock {
+    ghost item_rows = { λ f p. prefix_row p ∷ [] };
+
+    fn put_item<O: Out>(&self, prefix: &Prefix, out: &mut O) -> Result<(), PutFault> {
+        let none: &[&[u8]] = &[];
+        let row = Row {
+            indent: 24,
+            first: (*prefix, b";".as_slice()),
+            rest: none,
+        };
+        row.put_rows(out)
+    }
+}
+
+/// The row of a condition and its values.
+#[derive(Drop)]
+pub struct ListRow<W> {
+    pub condition: Condition,
+    pub values: W,
+}
+
+impl<W: Words + Copy> Rows for ListRow<W> {
+    ghost rows = { λ l. list_row l.condition (W.words l.values) ∷ [] };
+
+    #[tactic(auto, unfolding(crate::specs::Texts::list_row))]
+    fn put_rows<O: Out>(&self, out: &mut O) -> Result<(), PutFault> {
+        let open = Word {
+            piece: b"[".as_slice(),
+        };
+        let close = Word {
+            piece: b"];".as_slice(),
+        };
+        let row = Row {
+            indent: 20,
+            first: condition_word(self.condition),
+            rest: (open, (self.values, close)),
+        };
+        row.put_rows(out)
+    }
+}
+
+fn condition_word(condition: Condition) -> &'static [u8]
+    ensures { result.now ≡ condition_word condition }
+{
+    match condition {
+        Condition::Protocol => b"protocol",
+        Condition::NextHeader => b"next-header",
+        Condition::SourcePort => b"source-port",
+        Condition::DestinationPort => b"destination-port",
+        Condition::IcmpType => b"icmp-type",
+    }
+}
+
+/// Ports from a low one to a high one: the one port where the two are the same.
+#[derive(Clone, Copy)]
+pub struct PortRange {
+    pub low: u128,
+    pub high: u128,
+}
+
+impl Piece for PortRange {
+    ghost text = { λ r. range_word (r.low, r.high) };
+
+    #[tactic(auto, unfolding(crate::specs::Texts::range_word))]
+    fn put_into<O: Out>(&self, out: &mut O) -> Result<(), PutFault> {
+        let low = Number { number: self.low };
+        if self.low == self.high {
+            low.put_into(out)
+        } else {
+            let high = Number { number: self.high };
+            (low, (b"-".as_slice(), high)).put_into(out)
+        }
+    }
+}
+
+/// The row of a test of flags.
+#[derive(Drop)]
+pub struct TestRow {
+    pub test: JTest,
+}
+
+impl Rows for TestRow {
+    ghost rows = { λ t. row 20 (test_words t.test) ∷ [] };
+
+    fn put_rows<O: Out>(&self, out: &mut O) -> Result<(), PutFault> {
+        match self.test {
+            JTest::Established => put_word(b"tcp-established;", out),
+            JTest::Initial => put_word(b"tcp-initial;", out),
+            JTest::Rst => {
+                let line = Line {
+                    indent: 20,
+                    first: b"tcp-flags",
+                    rest: &[b"\"rst\";"],
+                };
+                line.put_rows(out)
+            }
+        }
+    }
+}
+
+// Puts the row of one word of a part of a term.
+fn put_word<O: Out>(word: &[u8], out: &mut O) -> Result<(), PutFault>
+    requires { IsTrue (O.is_open out.old) }
+    ensures { Puts O.told O.faults O.refusals O.is_open O.keeps_rest out.old out.new
+        (text_of_rows (row 20 (word.now ∷ []) ∷ [])) result }
+{
+    let line = Line {
+        indent: 20,
+        first: word,
+        rest: &[],
+    };
+    line.put_rows(out)
+}
+
+/// The rows of what a term does.
+#[derive(Drop)]
+pub struct ThenRows {
+    pub syslog: bool,
+    pub verdict: Verdict,
+}
+
+impl Rows for ThenRows {
+    ghost rows = { λ t. then_rows t.syslog t.verdict };
+
+    #[tactic(auto, unfolding(crate::specs::Texts::then_rows))]
+    fn put_rows<O: Out>(&self, out: &mut O) -> Result<(), PutFault> {
+        let head = Line {
+            indent: 16,
+            first: b"then",
+            rest: &[b"{"],
+        };
+        let syslog = SyslogRow {
+            syslog: self.syslog,
+        };
+        let verdict = VerdictRow {
+            verdict: self.verdict,
+        };
+        (head, (syslog, (verdict, Closing { indent: 16 }))).put_rows(out)
+    }
+}
+
+#[derive(Drop)]
+struct SyslogRow {
+    syslog: bool,
+}
+
+impl Rows for SyslogRow {
+    ghost rows = { λ s. syslog_rows s.syslog };
+
+    fn put_rows<O: Out>(&self, out: &mut O) -> Result<(), PutFault> {
+        if self.syslog {
+            put_word(b"syslog;", out)
+        } else {
+            Ok(())
+        }
+    }
+}
+
+#[derive(Drop)]
+struct VerdictRow {
+    verdict: Verdict,
+}
+
+impl Rows for VerdictRow {
+    ghost rows = { λ v. row 20 (verdict_words v.verdict) ∷ [] };
+
+    fn put_rows<O: Out>(&self, out: &mut O) -> Result<(), PutFault> {
+        match self.verdict {
+            Verdict::Accept => put_word(b"accept;", out),
+            Verdict::Deny | Verdict::Left => put_word(b"discard;", out),
+            Verdict::Reject => put_word(b"reject;", out),
+            Verdict::Reset => {
+                let line = Line {
+                    indent: 20,
+                    first: b"reject",
+                    rest: &[b"tcp-reset;"],
+                };
+                line.put_rows(out)
+            }
+        }
+    }
+}

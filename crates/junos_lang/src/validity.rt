@@ -1,0 +1,205 @@
+ghost use Rattle.std.specs.Prelude.{◌≡◌, ◌↔◌, ◌==◌, ◌||◌, IsTrue, nat_le, nat_lt};
+ghost use Rattle.std.specs.List.{list_all};
+ghost use Rattle.junos_lang.specs.Documents.{IsDocument, has_ports, is_alone, name_of, parts_fit, ports_fit, test_fits, types_fit, verdict_fits};
+ghost use Rattle.junos_lang.specs.ValiditySteps.{are_addresses, are_named, are_numbers, are_ports, is_document, is_listed, is_note, is_port_range, is_section, is_term};
+
+use crate::documents::{JTerm, Section};
+use acl_grammar::{Named, have_distinct_names, is_prefix_of};
+use acl_packet::{Family, Prefix, Verdict};
+use acl_text::{Bytes, is_filter_name, is_name, is_safe_text};
+
+/// Whether the document is valid.
+#[tactic(auto, using(crate::proofs::ValidityLaws::document_decides))]
+pub(crate) fn is_document(sections: &[Section]) -> bool
+    ensures { IsTrue result ↔ IsDocument sections.now }
+{
+    are_valid(sections)
+}
+
+fn are_valid(sections: &[Section]) -> bool
+    ensures { result ≡ is_document sections.now }
+{
+    are_sections(sections) && have_distinct_names(sections)
+}
+
+impl Named for Section {
+    ghost name = { name_of };
+
+    #[tactic(auto, using(crate::proofs::ValidityLaws::same_names))]
+    fn has_name_of(&self, other: &Section) -> bool {
+        self.family == other.family && self.name.as_slice() == other.name.as_slice()
+    }
+}
+
+impl Named for JTerm {
+    ghost name = { λ t. t.name };
+
+    fn has_name_of(&self, other: &JTerm) -> bool {
+        self.name.as_slice() == other.name.as_slice()
+    }
+}
+
+fn are_sections(sections: &[Section]) -> bool
+    ensures { result ≡ list_all is_section sections.now }
+{
+    sections.iter().all(|section| is_section(section))
+}
+
+fn is_section(section: &Section) -> bool
+    ensures { result ≡ is_section section.now }
+{
+    let terms = section.terms.as_slice();
+    if !is_filter_name(section.name.as_slice()) || terms.is_empty() {
+        return false;
+    }
+    are_terms(section.family, terms) && have_distinct_names(terms)
+}
+
+fn are_terms(family: Family, terms: &[JTerm]) -> bool
+    ensures { result ≡ list_all (is_term family) terms.now }
+{
+    terms.iter().all(|term| is_term(family, term))
+}
+
+fn is_term(family: Family, term: &JTerm) -> bool
+    ensures { result ≡ is_term family term.now }
+{
+    if !are_named(term) || !are_addresses(family, term) {
+        return false;
+    }
+    are_ports(term) && are_numbers(term) && parts_fit(family, term)
+}
+
+fn are_named(term: &JTerm) -> bool
+    ensures { result ≡ are_named term.now }
+{
+    is_note(&term.note) && is_name(term.name.as_slice())
+}
+
+fn is_note(note: &Option<Bytes>) -> bool
+    ensures { result ≡ is_note note.now }
+{
+    match note {
+        Some(text) => is_safe_text(text.as_slice()),
+        None => true,
+    }
+}
+
+fn are_addresses(family: Family, term: &JTerm) -> bool
+    ensures { result ≡ are_addresses family term.now }
+{
+    are_listed(family, term.src.as_slice()) && are_listed(family, term.dst.as_slice())
+}
+
+fn are_listed(family: Family, prefixes: &[Prefix]) -> bool
+    ensures { result ≡ list_all (is_listed family) prefixes.now }
+{
+    prefixes.iter().all(|prefix| is_listed(family, prefix))
+}
+
+fn is_listed(family: Family, prefix: &Prefix) -> bool
+    ensures { result ≡ is_listed family prefix.now }
+{
+    is_prefix_of(family, prefix) && 1 <= prefix.len
+}
+
+fn are_ports(term: &JTerm) -> bool
+    ensures { result ≡ are_ports term.now }
+{
+    are_ranges(term.sports.as_slice()) && are_ranges(term.dports.as_slice())
+}
+
+fn are_ranges(ranges: &[(u16, u16)]) -> bool
+    ensures { result ≡ list_all is_port_range ranges.now }
+{
+    ranges.iter().all(|ports| is_port_range(*ports))
+}
+
+fn is_port_range(ports: (u16, u16)) -> bool
+    ensures { result ≡ is_port_range ports }
+{
+    ports.0 <= ports.1
+}
+
+fn are_numbers(term: &JTerm) -> bool
+    ensures { result ≡ are_numbers term.now }
+{
+    are_bytes(term.protos.as_slice()) && are_types(term.itypes.as_slice())
+}
+
+fn are_bytes(numbers: &[u8]) -> bool
+    ensures { result ≡ list_all (λ n. nat_lt n 256) numbers.now }
+{
+    numbers.iter().all(|number| is_byte(*number))
+}
+
+fn is_byte(number: u8) -> bool
+    ensures { result ≡ nat_lt number 256 }
+{
+    number <= u8::MAX
+}
+
+fn are_types(numbers: &[u8]) -> bool
+    ensures { result ≡ list_all (λ n. nat_le n 254) numbers.now }
+{
+    numbers.iter().all(|number| *number <= 254)
+}
+
+fn parts_fit(family: Family, term: &JTerm) -> bool
+    ensures { result ≡ parts_fit family term.now }
+{
+    ports_fit(term)
+        && types_fit(family, term)
+        && test_fits(term)
+        && verdict_fits(term.verdict, term.protos.as_slice())
+}
+
+fn ports_fit(term: &JTerm) -> bool
+    ensures { result ≡ ports_fit term.now }
+{
+    term.sports.as_slice().is_empty() && term.dports.as_slice().is_empty()
+        || has_ports(term.protos.as_slice())
+}
+
+fn has_ports(protos: &[u8]) -> bool
+    ensures { result ≡ has_ports protos.now }
+{
+    !protos.is_empty() && all_have_ports(protos)
+}
+
+fn all_have_ports(protos: &[u8]) -> bool
+    ensures { result ≡ list_all (λ n. n == 6 || n == 17) protos.now }
+{
+    protos.iter().all(|proto| *proto == 6 || *proto == 17)
+}
+
+fn types_fit(family: Family, term: &JTerm) -> bool
+    ensures { result ≡ types_fit family term.now }
+{
+    term.itypes.as_slice().is_empty() || is_alone(term.protos.as_slice(), family.icmp_number())
+}
+
+fn test_fits(term: &JTerm) -> bool
+    ensures { result ≡ test_fits term.now }
+{
+    term.test.is_none() || is_alone(term.protos.as_slice(), 6)
+}
+
+fn verdict_fits(verdict: Verdict, protos: &[u8]) -> bool
+    ensures { result ≡ verdict_fits verdict protos.now }
+{
+    match verdict {
+        Verdict::Reset => is_alone(protos, 6),
+        Verdict::Left => false,
+        _ => true,
+    }
+}
+
+fn is_alone(numbers: &[u8], number: u8) -> bool
+    ensures { result ≡ is_alone numbers.now number }
+{
+    match numbers {
+        [alone] => *alone == number,
+        _ => false,
+    }
+}
