@@ -1,0 +1,224 @@
+ghost use Rattle.std.specs.Prelude.{◌≡◌, ◌&&◌, ◌==◌, ◌↔◌, Bool, IsTrue, nat_eq, nat_le};
+ghost use Rattle.std.specs.List.{list_all, list_any};
+ghost use Rattle.nft_lang.specs.Documents.{IsDocument, flags_fit, has_port_proto, is_empty, is_proto, parts_fit, ports_fit, ports_overlap, prefixes_overlap, types_fit, verdict_fits};
+ghost use Rattle.nft_lang.specs.ValiditySteps.{are_addresses, are_apart, are_ports, are_sections, are_types, has_sets, is_addresses, is_document, is_item, is_port_range, is_protocol, is_rule, is_section, same_table};
+
+use crate::documents::{Item, Rule, Section};
+use acl_grammar::is_prefix_of;
+use acl_packet::{Families, Family, Prefix, Verdict};
+use acl_text::is_safe_text;
+
+/// Whether the document is valid.
+#[tactic(auto, using(crate::proofs::ValidityLaws::document_decides))]
+pub(crate) fn is_document(sections: &[Section]) -> bool
+    ensures { IsTrue result ↔ IsDocument sections.now }
+{
+    passes(sections)
+}
+
+fn passes(sections: &[Section]) -> bool
+    ensures { result ≡ is_document sections.now }
+{
+    are_sections(sections) && are_apart(sections)
+}
+
+fn are_sections(sections: &[Section]) -> bool
+    ensures { result ≡ are_sections sections.now }
+{
+    sections.iter().all(|section| is_section(section))
+}
+
+fn is_section(section: &Section) -> bool
+    ensures { result ≡ is_section section.now }
+{
+    are_items(section.families, section.items.as_slice())
+}
+
+fn are_items(families: Families, items: &[Item]) -> bool
+    ensures { result ≡ list_all (is_item families) items.now }
+{
+    items.iter().all(|item| is_item(families, item))
+}
+
+fn is_item(families: Families, item: &Item) -> bool
+    ensures { result ≡ is_item families item.now }
+{
+    match item {
+        Item::Remark(text) => is_safe_text(text.as_slice()),
+        Item::Rule(rule) => is_rule(families, rule),
+    }
+}
+
+fn is_rule(families: Families, rule: &Rule) -> bool
+    ensures { result ≡ is_rule families rule.now }
+{
+    families.covers(rule.family) && is_protocol(rule.proto) && has_sets(rule) && parts_fit(rule)
+}
+
+fn is_protocol(proto: Option<u8>) -> bool
+    ensures { result ≡ is_protocol proto }
+{
+    proto != Some(0)
+}
+
+fn has_sets(rule: &Rule) -> bool
+    ensures { result ≡ has_sets rule.now }
+{
+    are_addresses(rule.family, rule.src.as_slice())
+        && are_addresses(rule.family, rule.dst.as_slice())
+        && are_ports(rule.sports.as_slice())
+        && are_ports(rule.dports.as_slice())
+        && are_types(rule.itypes.as_slice())
+}
+
+fn are_addresses(family: Family, prefixes: &[Prefix]) -> bool
+    ensures { result ≡ are_addresses family prefixes.now }
+{
+    prefixes.iter().all(|prefix| is_addresses(family, prefix)) && are_apart(prefixes)
+}
+
+fn is_addresses(family: Family, prefix: &Prefix) -> bool
+    ensures { result ≡ is_addresses family prefix.now }
+{
+    is_prefix_of(family, prefix) && 1 <= prefix.len
+}
+
+fn are_ports(ranges: &[(u16, u16)]) -> bool
+    ensures { result ≡ are_ports ranges.now }
+{
+    ranges.iter().all(|range| is_port_range(*range)) && are_apart(ranges)
+}
+
+fn is_port_range(range: (u16, u16)) -> bool
+    ensures { result ≡ is_port_range range }
+{
+    range.0 <= range.1
+}
+
+fn are_types(types: &[u8]) -> bool
+    ensures { result ≡ are_types types.now }
+{
+    types.iter().all(|number| *number <= 254) && are_apart(types)
+}
+
+fn parts_fit(rule: &Rule) -> bool
+    ensures { result ≡ parts_fit rule.now }
+{
+    ports_fit(rule) && types_fit(rule) && flags_fit(rule) && verdict_fits(rule.proto, rule.verdict)
+}
+
+fn ports_fit(rule: &Rule) -> bool
+    ensures { result ≡ ports_fit rule.now }
+{
+    is_empty(rule.sports.as_slice()) && is_empty(rule.dports.as_slice())
+        || has_port_proto(rule.proto)
+}
+
+fn has_port_proto(proto: Option<u8>) -> bool
+    ensures { result ≡ has_port_proto proto }
+{
+    is_proto(proto, 6) || is_proto(proto, 17) || is_proto(proto, 132)
+}
+
+fn types_fit(rule: &Rule) -> bool
+    ensures { result ≡ types_fit rule.now }
+{
+    is_empty(rule.itypes.as_slice()) || is_proto(rule.proto, rule.family.icmp_number())
+}
+
+fn flags_fit(rule: &Rule) -> bool
+    ensures { result ≡ flags_fit rule.now }
+{
+    rule.flags.is_none() || is_proto(rule.proto, 6)
+}
+
+fn verdict_fits(proto: Option<u8>, verdict: Verdict) -> bool
+    ensures { result ≡ verdict_fits proto verdict }
+{
+    match verdict {
+        Verdict::Reset => is_proto(proto, 6),
+        Verdict::Left => false,
+        Verdict::Accept | Verdict::Deny | Verdict::Reject => true,
+    }
+}
+
+fn is_proto(proto: Option<u8>, number: u8) -> bool
+    ensures { result ≡ is_proto proto number }
+{
+    match proto {
+        Some(proto) => proto == number,
+        None => false,
+    }
+}
+
+// Items that may overlap, as the elements of a set and the tables of a document.
+trait Overlap {
+    ghost overlap: { Self → Self → Bool };
+
+    fn overlaps(&self, other: &Self) -> bool
+        ensures { result ≡ overlap self.now other.now };
+}
+
+impl Overlap for Prefix {
+    ghost overlap = { prefixes_overlap };
+
+    fn overlaps(&self, other: &Prefix) -> bool {
+        self.contains(other.first) || other.contains(self.first)
+    }
+}
+
+impl Overlap for (u16, u16) {
+    ghost overlap = { ports_overlap };
+
+    fn overlaps(&self, other: &(u16, u16)) -> bool {
+        self.0 <= other.1 && other.0 <= self.1
+    }
+}
+
+impl Overlap for u8 {
+    ghost overlap = { nat_eq };
+
+    fn overlaps(&self, other: &u8) -> bool {
+        *self == *other
+    }
+}
+
+impl Overlap for Section {
+    ghost overlap = { same_table };
+
+    fn overlaps(&self, other: &Section) -> bool {
+        self.number == other.number
+    }
+}
+
+#[tactic(auto, unfolding(crate::specs::ValiditySteps::are_apart))]
+fn are_apart<T: Overlap>(items: &[T]) -> bool
+    ensures { result ≡ are_apart T.overlap items.now }
+{
+    for (i, item) in items.iter().enumerate() {
+        if overlaps_any(item, &items[i + 1..]) {
+            return false;
+        }
+    }
+    true
+}
+
+fn overlaps_any<T: Overlap>(item: &T, others: &[T]) -> bool
+    ensures { result ≡ list_any (λ other. T.overlap item.now other) others.now }
+{
+    for other in others {
+        if item.overlaps(other) {
+            return true;
+        }
+    }
+    false
+}
+
+fn is_empty<T>(items: &[T]) -> bool
+    ensures { result ≡ is_empty items.now }
+{
+    match items {
+        [] => true,
+        [_, ..] => false,
+    }
+}
