@@ -20,7 +20,7 @@ pub rows_append : (rows more : List Row) → text_of_rows rows ++ text_of_rows m
 rows_append rows more = sym (flat_map-append row_text rows more)
 
 -- items before one, that one, and those behind it
-split_items : {A B : Type 0} (f : A → List B) (xs : List A) (i : ℕ) (d : A) → i < length xs
+pub split_items : {A B : Type 0} (f : A → List B) (xs : List A) (i : ℕ) (d : A) → i < length xs
     → (flat_map f (take i xs) ++ f (get_or xs i d)) ++ flat_map f (drop (i + 1) xs) ≡ flat_map f xs
 split_items f xs i d h =
     append_assoc (flat_map f (take i xs)) (f (get_or xs i d)) (flat_map f (drop (i + 1) xs))

@@ -72,7 +72,7 @@ pair-again first second ports low high ordered fit =
     (bound_on (number_in 65535 second) ports.1 last ports (number-in 65535 ports.1 second high (omega (arith, fit)))
     (cond-true (nat_le ports.0 ports.1) (Some ports) None (le-leb ports.0 ports.1 ordered)))
 
-ports-again : (separator : ℕ) (word : List ℕ) (ports : Ports) → is_ascii_digit separator ≡ false → IsPortsWord separator word ports
+pub ports-again : (separator : ℕ) (word : List ℕ) (ports : Ports) → is_ascii_digit separator ≡ false → IsPortsWord separator word ports
     → ports_in separator word ≡ Some ports
 unfolding ports_in
 ports-again separator word ports no_digit h = elim h.spelled [

@@ -1,2 +1,6 @@
 pub mod DocumentLaws
+pub mod JoinLaws
+pub mod RuleReadingLaws
+pub mod SafeRows
+pub mod SetLaws
 pub mod ValidityLaws

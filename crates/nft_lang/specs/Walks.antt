@@ -19,12 +19,12 @@ use Rattle.nft_lang.specs.declared.documents.Item.TheVariants.{Remark, Rule as A
 use Rattle.nft_lang.specs.declared.documents.Rule.{Rule}
 use Rattle.nft_lang.specs.declared.documents.Flags.{Flags}
 use Rattle.nft_lang.specs.declared.documents.Flags.TheVariants.{Rst, SynNotAck}
+use Rattle.nft_lang.specs.Documents.{is_empty}
 
 -- A set holds a value that one of its elements holds. One without elements is not written, and holds
 -- all.
 abbrev pub set_holds : {A : Type 0} → (A → ℕ → Bool) → List A → ℕ → Bool
-set_holds has [] value = true
-set_holds has (x ∷ xs) value = list_any (λ e. has e value) (x ∷ xs)
+set_holds has elements value = is_empty elements || list_any (λ e. has e value) elements
 
 abbrev pub has_port : ℕ × ℕ → ℕ → Bool
 has_port ports port = nat_le ports.0 port && nat_le port ports.1

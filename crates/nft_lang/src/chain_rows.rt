@@ -1,7 +1,8 @@
-ghost use Rattle.std.specs.Prelude.{◌≡◌, ◌∷◌, ◌++◌, [], codes, decimal, signed_decimal};
-ghost use Rattle.acl_grammar.specs.Rows.{row, words_in};
+ghost use Rattle.std.specs.Prelude.{◌≡◌, ◌∷◌, [], IsTrue, codes};
+ghost use Rattle.acl_text.specs.Output.{Puts};
+ghost use Rattle.acl_grammar.specs.Rows.{row, text_of_rows, words_in};
 ghost use Rattle.nft_lang.specs.declared.documents.Item.TheVariants.{Rule as ARule};
-ghost use Rattle.nft_lang.specs.Texts.{address_word, end_rows, ending_words, families_word, family_word, family_words, flags_words, head_rows, hook_word, icmp_word, addresses_words, ports_words, table_rows, chain_rows, item_rows, log_words, policy_word, port_word, priority_word, proto_words, rule_words, section_rows, state_words, table_word, verdict_words};
+ghost use Rattle.nft_lang.specs.Texts.{address_word, end_rows, ending_words, families_word, family_word, family_words, flags_words, head_rows, hook_word, icmp_word, addresses_words, ports_words, table_rows, chain_rows, types_words, item_rows, log_words, policy_word, port_word, priority_word, proto_words, rule_words, section_rows, state_words, table_word, verdict_words};
 ghost use Rattle.nft_lang.specs.Documents.{table_name};
 
 use crate::documents::{Flags, Item, Rule, Section};
@@ -61,10 +62,9 @@ impl<'a> Rows for RuleRow<'a> {
             sports: self.sports,
             dports: self.dports,
         };
-        let types = ElementSet {
-            front: icmp_word(family),
-            key: b"type".as_slice(),
-            elements: self.itypes,
+        let types = TypeSet {
+            family,
+            itypes: self.itypes,
         };
         let test = Test { flags: self.flags };
         let ending = Ending {
@@ -323,7 +323,13 @@ impl Words for PacketFamily {
     #[tactic(auto, unfolding(crate::specs::Texts::family_words))]
     fn put_spaced<O: Out>(&self, out: &mut O) -> Result<(), PutFault> {
         match self.families {
-            Families::Mixed => put_words(&[b"meta", b"nfproto", family_word(self.family)], out),
+            Families::Mixed => {
+                let key: &[&[u8]] = &[b"meta", b"nfproto"];
+                let family = Word {
+                    piece: family_word(self.family),
+                };
+                (key, family).put_spaced(out)
+            }
             Families::Inet | Families::Inet6 => Ok(()),
         }
     }
@@ -444,6 +450,25 @@ fn icmp_word(family: Family) -> &'static [u8]
 }
 
 #[derive(Drop)]
+struct TypeSet<'a> {
+    family: Family,
+    itypes: &'a [u8],
+}
+
+impl<'a> Words for TypeSet<'a> {
+    ghost words = { λ t. types_words t.family t.itypes.now };
+
+    fn put_spaced<O: Out>(&self, out: &mut O) -> Result<(), PutFault> {
+        let set = ElementSet {
+            front: icmp_word(self.family),
+            key: b"type".as_slice(),
+            elements: self.itypes,
+        };
+        set.put_spaced(out)
+    }
+}
+
+#[derive(Drop)]
 struct Test {
     flags: Option<Flags>,
 }
@@ -558,15 +583,18 @@ impl Form<Item> for OfFamilies {
                 text: text.as_slice(),
             }
             .put_rows(out),
-            Item::Rule(rule) => row_of(self.families, rule).put_rows(out),
+            Item::Rule(rule) => put_rule(self.families, rule, out),
         }
     }
 }
 
-fn row_of(families: Families, rule: &Rule) -> RuleRow<'_>
-    ensures { RuleRow.Rows.rows result ≡ item_rows families (ARule rule.now) }
+#[tactic(auto, unfolding(crate::specs::Texts::item_rows))]
+fn put_rule<O: Out>(families: Families, rule: &Rule, out: &mut O) -> Result<(), PutFault>
+    requires { IsTrue (O.is_open out.old) }
+    ensures { Puts O.told O.faults O.refusals O.is_open O.keeps_rest out.old out.new
+        (text_of_rows (item_rows families (ARule rule.now))) result }
 {
-    RuleRow {
+    let row = RuleRow {
         families,
         family: rule.family,
         proto: rule.proto,
@@ -579,7 +607,8 @@ fn row_of(families: Families, rule: &Rule) -> RuleRow<'_>
         state: rule.state,
         log: rule.log,
         verdict: rule.verdict,
-    }
+    };
+    row.put_rows(out)
 }
 
 /// The sections of a document.

@@ -115,9 +115,15 @@ impl DocumentDraft {
         ensures { self.new ≡ take_chain self.old (views words.now) }
     {
         if let [_, _, _, _, _, priority, _, policy] = words {
-            self.section.priority = priority_of(priority);
-            self.section.accept = *policy == b"accept;".as_slice();
+            self.set_chain(priority, policy);
         }
+    }
+
+    fn set_chain(&mut self, priority: &[u8], policy: &[u8])
+        ensures { self.new ≡ with_chain self.old priority.now policy.now }
+    {
+        self.section.priority = priority_of(priority);
+        self.section.accept = policy == b"accept;".as_slice();
     }
 }
 

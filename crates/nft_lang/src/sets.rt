@@ -96,8 +96,9 @@ impl<'a, T: Element> Words for Listing<'a, T> {
         match self.elements {
             [] => Ok(()),
             [first, others @ ..] => {
+                let space: &[u8] = b" ";
                 let first = One { element: first };
-                (b" ".as_slice(), (first, Others { elements: others })).put_into(out)
+                (space, (first, Others { elements: others })).put_into(out)
             }
         }
     }
@@ -135,8 +136,9 @@ fn put_others<T: Element, O: Out>(elements: &[T], out: &mut O) -> Result<(), Put
     ensures { Puts O.told O.faults O.refusals O.is_open O.keeps_rest out.old out.new
         (flat_map (λ e. codes ", " ++ T.word e) elements.now) result }
 {
+    let comma: &[u8] = b", ";
     for element in elements {
-        (b", ".as_slice(), One { element }).put_into(out)?;
+        (comma, One { element }).put_into(out)?;
     }
     Ok(())
 }

@@ -1,6 +1,6 @@
-ghost use Rattle.std.specs.Prelude.{◌≡◌, ◌&&◌, ◌==◌, ◌↔◌, Bool, IsTrue, nat_eq, nat_le};
+ghost use Rattle.std.specs.Prelude.{◌≡◌, ◌&&◌, ◌^◌, ◌↔◌, Bool, IsTrue, nat_eq, nat_le, nat_lt};
 ghost use Rattle.std.specs.List.{list_all, list_any};
-ghost use Rattle.nft_lang.specs.Documents.{IsDocument, flags_fit, has_port_proto, is_empty, is_proto, parts_fit, ports_fit, ports_overlap, prefixes_overlap, types_fit, verdict_fits};
+ghost use Rattle.nft_lang.specs.Documents.{IsDocument, fits_i32, flags_fit, has_port_proto, is_empty, is_proto, parts_fit, ports_fit, ports_overlap, prefixes_overlap, types_fit, verdict_fits};
 ghost use Rattle.nft_lang.specs.ValiditySteps.{are_addresses, are_apart, are_ports, are_sections, are_types, has_sets, is_addresses, is_document, is_item, is_port_range, is_protocol, is_rule, is_section, same_table};
 
 use crate::documents::{Item, Rule, Section};
@@ -31,7 +31,15 @@ fn are_sections(sections: &[Section]) -> bool
 fn is_section(section: &Section) -> bool
     ensures { result ≡ is_section section.now }
 {
-    are_items(section.families, section.items.as_slice())
+    fits(section.number, section.priority) && are_items(section.families, section.items.as_slice())
+}
+
+// Each number and each priority that the types have fits.
+fn fits(number: u32, priority: i32) -> bool
+    ensures { result ≡ (nat_lt number (2 ^ 32) && fits_i32 priority) }
+{
+    let _numbers = (number, priority);
+    true
 }
 
 fn are_items(families: Families, items: &[Item]) -> bool
@@ -74,7 +82,13 @@ fn has_sets(rule: &Rule) -> bool
 fn are_addresses(family: Family, prefixes: &[Prefix]) -> bool
     ensures { result ≡ are_addresses family prefixes.now }
 {
-    prefixes.iter().all(|prefix| is_addresses(family, prefix)) && are_apart(prefixes)
+    all_addresses(family, prefixes) && are_apart(prefixes)
+}
+
+fn all_addresses(family: Family, prefixes: &[Prefix]) -> bool
+    ensures { result ≡ list_all (is_addresses family) prefixes.now }
+{
+    prefixes.iter().all(|prefix| is_addresses(family, prefix))
 }
 
 fn is_addresses(family: Family, prefix: &Prefix) -> bool
@@ -86,7 +100,13 @@ fn is_addresses(family: Family, prefix: &Prefix) -> bool
 fn are_ports(ranges: &[(u16, u16)]) -> bool
     ensures { result ≡ are_ports ranges.now }
 {
-    ranges.iter().all(|range| is_port_range(*range)) && are_apart(ranges)
+    all_port_ranges(ranges) && are_apart(ranges)
+}
+
+fn all_port_ranges(ranges: &[(u16, u16)]) -> bool
+    ensures { result ≡ list_all is_port_range ranges.now }
+{
+    ranges.iter().all(|range| is_port_range(*range))
 }
 
 fn is_port_range(range: (u16, u16)) -> bool
@@ -98,7 +118,13 @@ fn is_port_range(range: (u16, u16)) -> bool
 fn are_types(types: &[u8]) -> bool
     ensures { result ≡ are_types types.now }
 {
-    types.iter().all(|number| *number <= 254) && are_apart(types)
+    all_types(types) && are_apart(types)
+}
+
+fn all_types(types: &[u8]) -> bool
+    ensures { result ≡ list_all (λ n. nat_le n 254) types.now }
+{
+    types.iter().all(|number| *number <= 254)
 }
 
 fn parts_fit(rule: &Rule) -> bool
@@ -214,7 +240,7 @@ fn overlaps_any<T: Overlap>(item: &T, others: &[T]) -> bool
     false
 }
 
-fn is_empty<T>(items: &[T]) -> bool
+pub(crate) fn is_empty<T>(items: &[T]) -> bool
     ensures { result ≡ is_empty items.now }
 {
     match items {

@@ -1,9 +1,11 @@
 ghost use Rattle.std.specs.Prelude.{◌≡◌, ◌==◌, length};
+ghost use Rattle.std.specs.List.{list_any};
 ghost use Rattle.acl_packet.specs.Addresses.{has_address};
 ghost use Rattle.acl_packet.specs.Packets.{IsPacket};
 ghost use Rattle.nft_lang.specs.Walks.{proto_holds, flags_hold, state_holds, set_holds, has_port, protocol_holds, addresses_hold, ports_hold, tests_hold, rule_holds, policy_verdict, decided_by, first_holding, walk, section_outcome, outcome_of};
 
 use crate::documents::{Doc, Flags, Item, Rule, Section};
+use crate::validity::is_empty;
 use acl_packet::{Conn, Outcome, Packet, Prefix, Verdict, has_flag};
 
 const SYN: u8 = 2;
@@ -114,10 +116,13 @@ fn addresses_hold(rule: &Rule, packet: &Packet) -> bool
 fn has_address(prefixes: &[Prefix], address: u128) -> bool
     ensures { result ≡ set_holds has_address prefixes.now address }
 {
-    match prefixes {
-        [] => true,
-        [_, ..] => prefixes.iter().any(|prefix| prefix.contains(address)),
-    }
+    is_empty(prefixes) || any_has_address(prefixes, address)
+}
+
+fn any_has_address(prefixes: &[Prefix], address: u128) -> bool
+    ensures { result ≡ list_any (λ e. has_address e address) prefixes.now }
+{
+    prefixes.iter().any(|prefix| prefix.contains(address))
 }
 
 fn ports_hold(rule: &Rule, packet: &Packet) -> bool
@@ -129,10 +134,13 @@ fn ports_hold(rule: &Rule, packet: &Packet) -> bool
 fn has_port(ranges: &[(u16, u16)], port: u16) -> bool
     ensures { result ≡ set_holds has_port ranges.now port }
 {
-    match ranges {
-        [] => true,
-        [_, ..] => ranges.iter().any(|range| range.0 <= port && port <= range.1),
-    }
+    is_empty(ranges) || any_has_port(ranges, port)
+}
+
+fn any_has_port(ranges: &[(u16, u16)], port: u16) -> bool
+    ensures { result ≡ list_any (λ e. has_port e port) ranges.now }
+{
+    ranges.iter().any(|range| range.0 <= port && port <= range.1)
 }
 
 fn tests_hold(rule: &Rule, packet: &Packet) -> bool
@@ -146,10 +154,13 @@ fn tests_hold(rule: &Rule, packet: &Packet) -> bool
 fn has_type(types: &[u8], number: u8) -> bool
     ensures { result ≡ set_holds (λ t n. n == t) types.now number }
 {
-    match types {
-        [] => true,
-        [_, ..] => types.iter().any(|wanted| number == *wanted),
-    }
+    is_empty(types) || any_is_type(types, number)
+}
+
+fn any_is_type(types: &[u8], number: u8) -> bool
+    ensures { result ≡ list_any (λ e. number == e) types.now }
+{
+    types.iter().any(|wanted| number == *wanted)
 }
 
 fn flags_hold(test: Option<Flags>, flags: u8) -> bool
