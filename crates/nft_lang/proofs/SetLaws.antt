@@ -1,5 +1,5 @@
 -- Sets as words: what is put of them, and the words that are theirs.
-use Rattle.std.proofs.Common.{◌≡◌, ℕ, ◌-◌, ◌≤◌, List, [], ◌∷◌, ◌++◌, length, take, drop, get_or, map, flat_map, codes, refl, ap, sym, ◌∙◌, append_assoc, append-nil, arith}
+use Rattle.std.proofs.Common.{◌≡◌, ℕ, ◌-◌, ◌<◌, ◌≤◌, List, [], ◌∷◌, ◌++◌, length, take, drop, get_or, map, flat_map, codes, refl, ap, sym, ◌∙◌, append_assoc, append-nil, arith}
 use Rattle.std.proofs.Math.Seq.{take-length}
 use Rattle.acl_grammar.specs.Rows.{spaced}
 use Rattle.nft_lang.specs.Texts.{with_commas}
@@ -25,3 +25,8 @@ commas_all word (x ∷ xs) first h e =
     ap (λ y. codes " " ++ (word y ++ flat_map (behind_comma word) (take (length (x ∷ xs) - 1) xs))) e
     ∙ ap (λ n. codes " " ++ (word x ++ flat_map (behind_comma word) (take n xs))) size
     ∙ ap (λ ys. codes " " ++ (word x ++ flat_map (behind_comma word) ys)) (take-length xs) ∙ commas_put word x xs
+
+pub no_elements : {A : Type 0} (word : A → List ℕ) (xs : List A) → length xs < 1 → [] ≡ spaced (with_commas (map word xs))
+unfolding with_commas
+no_elements word [] h = refl
+no_elements word (x ∷ xs) h = absurd (omega arith)

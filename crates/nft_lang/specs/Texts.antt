@@ -148,14 +148,24 @@ policy_word false = codes "drop;"
 abbrev pub priority_word : ℤ → List ℕ
 priority_word priority = signed_decimal priority ++ codes ";"
 
--- A section begins with a comment that names its target. The table is added, so that it can be
--- deleted, which takes an older table of its name away; then it is made.
-abbrev pub table_rows : Hook → Families → ℕ → List Row
-table_rows hook families number =
+-- A section begins with a comment that names its target.
+abbrev pub target_row : Hook → Families → Row
+target_row hook families =
     row 0 (codes "##" ∷ codes "nftables" ∷ hook_word hook ∷ families_word families ∷ [])
-    ∷ row 0 (codes "add" ∷ codes "table" ∷ table_word families ∷ table_name number ∷ [])
-    ∷ row 0 (codes "delete" ∷ codes "table" ∷ table_word families ∷ table_name number ∷ [])
-    ∷ row 0 (codes "table" ∷ table_word families ∷ table_name number ∷ codes "{" ∷ []) ∷ []
+
+abbrev pub table_row : List ℕ → Families → ℕ → Row
+table_row command families number =
+    row 0 (command ∷ codes "table" ∷ table_word families ∷ table_name number ∷ [])
+
+abbrev pub start_row : Families → ℕ → Row
+start_row families number =
+    row 0 (codes "table" ∷ table_word families ∷ table_name number ∷ codes "{" ∷ [])
+
+-- The table is added, so that it can be deleted, which takes an older table of its name away; then it
+-- is made.
+abbrev pub table_rows : Hook → Families → ℕ → List Row
+table_rows hook families number = target_row hook families ∷ table_row (codes "add") families number
+    ∷ table_row (codes "delete") families number ∷ start_row families number ∷ []
 
 -- Its one chain is a base chain, to which packets come at the hook.
 abbrev pub chain_rows : Hook → ℤ → Bool → List Row

@@ -2,7 +2,7 @@ ghost use Rattle.std.specs.Prelude.{◌≡◌, ◌∷◌, [], IsTrue, codes};
 ghost use Rattle.acl_text.specs.Output.{Puts};
 ghost use Rattle.acl_grammar.specs.Rows.{row, text_of_rows, words_in};
 ghost use Rattle.nft_lang.specs.declared.documents.Item.TheVariants.{Rule as ARule};
-ghost use Rattle.nft_lang.specs.Texts.{address_word, end_rows, ending_words, families_word, family_word, family_words, flags_words, head_rows, hook_word, icmp_word, addresses_words, ports_words, table_rows, chain_rows, types_words, item_rows, log_words, policy_word, port_word, priority_word, proto_words, rule_words, section_rows, state_words, table_word, verdict_words};
+ghost use Rattle.nft_lang.specs.Texts.{address_word, end_rows, ending_words, families_word, family_word, family_words, flags_words, head_rows, hook_word, icmp_word, addresses_words, ports_words, table_rows, target_row, table_row, start_row, chain_rows, types_words, item_rows, log_words, policy_word, port_word, priority_word, proto_words, rule_words, section_rows, state_words, table_word, verdict_words};
 ghost use Rattle.nft_lang.specs.Documents.{table_name};
 
 use crate::documents::{Flags, Item, Rule, Section};
@@ -73,9 +73,10 @@ impl<'a> Rows for RuleRow<'a> {
             verdict: self.verdict,
         };
         // The last space of the indent is the one that stands before the first word.
+        let nothing: &[u8] = b"";
         let row = Row {
             indent: 7,
-            first: b"".as_slice(),
+            first: nothing,
             rest: (
                 packet_family,
                 (protocol, (addresses, (ports, (types, (test, ending))))),
@@ -146,6 +147,89 @@ impl Rows for TableHead {
     ghost rows = { λ h. table_rows h.hook h.families h.number };
 
     fn put_rows<O: Out>(&self, out: &mut O) -> Result<(), PutFault> {
+        let add: &[u8] = b"add";
+        let delete: &[u8] = b"delete";
+        let families = self.families;
+        let number = self.number;
+        let target = TargetRow {
+            hook: self.hook,
+            families,
+        };
+        let addition = TableRow {
+            command: add,
+            families,
+            number,
+        };
+        let removal = TableRow {
+            command: delete,
+            families,
+            number,
+        };
+        (target, (addition, (removal, TableStart { families, number }))).put_rows(out)
+    }
+}
+
+#[derive(Drop)]
+struct TargetRow {
+    hook: Hook,
+    families: Families,
+}
+
+impl Rows for TargetRow {
+    ghost rows = { λ t. target_row t.hook t.families ∷ [] };
+
+    fn put_rows<O: Out>(&self, out: &mut O) -> Result<(), PutFault> {
+        let mark: &[u8] = b"##";
+        let target: &[&[u8]] = &[
+            b"nftables",
+            hook_word(self.hook),
+            families_word(self.families),
+        ];
+        let row = Row {
+            indent: 0,
+            first: mark,
+            rest: target,
+        };
+        row.put_rows(out)
+    }
+}
+
+#[derive(Drop)]
+struct TableRow<'a> {
+    command: &'a [u8],
+    families: Families,
+    number: u32,
+}
+
+impl<'a> Rows for TableRow<'a> {
+    ghost rows = { λ t. table_row t.command.now t.families t.number ∷ [] };
+
+    fn put_rows<O: Out>(&self, out: &mut O) -> Result<(), PutFault> {
+        let table: &[&[u8]] = &[b"table", table_word(self.families)];
+        let name = Word {
+            piece: TableName {
+                number: self.number,
+            },
+        };
+        let row = Row {
+            indent: 0,
+            first: self.command,
+            rest: (table, name),
+        };
+        row.put_rows(out)
+    }
+}
+
+#[derive(Drop)]
+struct TableStart {
+    families: Families,
+    number: u32,
+}
+
+impl Rows for TableStart {
+    ghost rows = { λ t. start_row t.families t.number ∷ [] };
+
+    fn put_rows<O: Out>(&self, out: &mut O) -> Result<(), PutFault> {
         let family = Word {
             piece: table_word(self.families),
         };
@@ -154,38 +238,15 @@ impl Rows for TableHead {
                 number: self.number,
             },
         };
-        let target: &[&[u8]] = &[
-            b"nftables",
-            hook_word(self.hook),
-            families_word(self.families),
-        ];
-        let table = Word {
-            piece: b"table".as_slice(),
-        };
         let brace = Word {
             piece: b"{".as_slice(),
         };
-        let comment = Row {
-            indent: 0,
-            first: b"##".as_slice(),
-            rest: target,
-        };
-        let addition = Row {
-            indent: 0,
-            first: b"add".as_slice(),
-            rest: (table, (family, name)),
-        };
-        let removal = Row {
-            indent: 0,
-            first: b"delete".as_slice(),
-            rest: (table, (family, name)),
-        };
-        let beginning = Row {
+        let row = Row {
             indent: 0,
             first: b"table".as_slice(),
             rest: (family, (name, brace)),
         };
-        (comment, (addition, (removal, beginning))).put_rows(out)
+        row.put_rows(out)
     }
 }
 

@@ -1,4 +1,0 @@
-use Rattle.nft_lang.proofs.chain_rows.TableHeadRows.put_rows.Goals as goal
-
-pub returns : goal.returns
-returns g c = rw (← c.hook_word.ensures, ← c.families_word.ensures, ← c.table_word.ensures) c.put_rows.ensures
