@@ -106,9 +106,9 @@ destination_opened : (r : Rule) → read (draft r Keyword) (address_word r.famil
 unfolding take_as take_address with_test with_verdict next_in
 destination_opened r =
     passed r.family ∙ ap (λ o. option_map_or {U = RuleDraft} (λ p. draft (with_address Destination p r) (Addresses Destination)) o (draft r (Addresses Destination))) (no_prefix r.family).0 where
-  passed : (f : Family) → read (draft r Keyword) (address_word f ∷ codes "daddr" ∷ codes "{" ∷ []) ≡ take_as r (Addresses Destination) (codes "{")
-  passed V4 = refl
-  passed V6 = refl
+      passed : (f : Family) → read (draft r Keyword) (address_word f ∷ codes "daddr" ∷ codes "{" ∷ []) ≡ take_as r (Addresses Destination) (codes "{")
+      passed V4 = refl
+      passed V6 = refl
 
 sources_read : (r : Rule) (ps : List Prefix) → r.src ≡ [] → AllByRecursion (IsAddresses r.family) ps
     → read (draft r Keyword) (set_words (address_word r.family) (codes "saddr") (map prefix_text ps)) ≡ draft (record r { src = ps }) Keyword

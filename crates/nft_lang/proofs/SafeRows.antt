@@ -138,8 +138,8 @@ unfolding item_rows row_text
 row_begun fs r =
     let b = rule_begins fs r in
     ap (λ ws. text_of_rows (row 7 ([] ∷ ws) ∷ [])) b.is ∙ shifted b.first b.rest ∙ ap (λ ws. text_of_rows (row 8 ws ∷ [])) (sym b.is) where
-  shifted : (w : List ℕ) (ws : List (List ℕ)) → text_of_rows (row 7 ([] ∷ w ∷ ws) ∷ []) ≡ text_of_rows (row 8 (w ∷ ws) ∷ [])
-  shifted w ws = refl
+      shifted : (w : List ℕ) (ws : List (List ℕ)) → text_of_rows (row 7 ([] ∷ w ∷ ws) ∷ []) ≡ text_of_rows (row 8 (w ∷ ws) ∷ [])
+      shifted w ws = refl
 
 -- ---- sets
 
@@ -329,15 +329,40 @@ head_safe s h =
     let table = word (codes "table") refl refl in
     let brace = word (codes "{") refl refl in (
       record { start = refl; words = (word (codes "##") refl refl, (word (codes "nftables") refl refl, (hook, (families_safe s.families, tt)))) },
-      (record { start = refl; words = (word (codes "add") refl refl, (table, (family, (name, tt)))) },
-      (record { start = refl; words = (word (codes "delete") refl refl, (table, (family, (name, tt)))) },
-      (record { start = refl; words = (table, (family, (name, (brace, tt)))) },
-      (record { start = refl; words = (word (codes "chain") refl refl, (hook, (brace, tt))) },
-      (record {
-        start = refl;
-        words = (word (codes "type") refl refl, (word (codes "filter") refl refl, (word (codes "hook") refl refl, (hook, (word (codes "priority") refl refl,
-        (priority_safe s.priority h.priority, (word (codes "policy") refl refl, (policy_safe s.accept, tt))))))));
-      }, tt))))),
+      (
+        record { start = refl; words = (word (codes "add") refl refl, (table, (family, (name, tt)))) },
+        (
+          record { start = refl; words = (word (codes "delete") refl refl, (table, (family, (name, tt)))) },
+          (
+            record { start = refl; words = (table, (family, (name, (brace, tt)))) },
+            (
+              record { start = refl; words = (word (codes "chain") refl refl, (hook, (brace, tt))) },
+              (
+                record {
+                  start = refl;
+                  words = (
+                    word (codes "type") refl refl,
+                    (
+                      word (codes "filter") refl refl,
+                      (
+                        word (codes "hook") refl refl,
+                        (
+                          hook,
+                          (
+                            word (codes "priority") refl refl,
+                            (priority_safe s.priority h.priority, (word (codes "policy") refl refl, (policy_safe s.accept, tt))),
+                          ),
+                        ),
+                      ),
+                    ),
+                  );
+                },
+                tt,
+              ),
+            ),
+          ),
+        ),
+      ),
     )
 
 end_safe : AreRows end_rows

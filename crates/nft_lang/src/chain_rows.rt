@@ -31,17 +31,17 @@ pub struct RuleRow<'a> {
 
 impl<'a> Rows for RuleRow<'a> {
     ghost rows = { λ r. item_rows r.families (ARule (record {
-        family = r.family;
-        proto = r.proto;
-        src = r.src.now;
-        dst = r.dst.now;
-        sports = r.sports.now;
-        dports = r.dports.now;
-        itypes = r.itypes.now;
-        flags = r.flags;
-        state = r.state;
-        log = r.log;
-        verdict = r.verdict;
+      family = r.family;
+      proto = r.proto;
+      src = r.src.now;
+      dst = r.dst.now;
+      sports = r.sports.now;
+      dports = r.dports.now;
+      itypes = r.itypes.now;
+      flags = r.flags;
+      state = r.state;
+      log = r.log;
+      verdict = r.verdict;
     })) };
 
     #[tactic(auto, unfolding(crate::specs::Texts::item_rows, crate::specs::Texts::rule_words))]
@@ -165,7 +165,11 @@ impl Rows for TableHead {
             families,
             number,
         };
-        (target, (addition, (removal, TableStart { families, number }))).put_rows(out)
+        (
+            target,
+            (addition, (removal, TableStart { families, number })),
+        )
+            .put_rows(out)
     }
 }
 
@@ -541,11 +545,11 @@ impl Words for Test {
     fn put_spaced<O: Out>(&self, out: &mut O) -> Result<(), PutFault> {
         match self.flags {
             None => Ok(()),
-            Some(Flags::Rst) => {
-                put_words(&[b"tcp", b"flags", b"&", b"rst", b"==", b"rst"], out)
-            }
+            Some(Flags::Rst) => { put_words(&[b"tcp", b"flags", b"&", b"rst", b"==", b"rst"], out) }
             Some(Flags::SynNotAck) => put_words(
-                &[b"tcp", b"flags", b"&", b"(syn", b"|", b"ack)", b"==", b"syn"],
+                &[
+                    b"tcp", b"flags", b"&", b"(syn", b"|", b"ack)", b"==", b"syn",
+                ],
                 out,
             ),
         }
@@ -584,7 +588,10 @@ impl Words for State {
     #[tactic(auto, unfolding(crate::specs::Texts::state_words))]
     fn put_spaced<O: Out>(&self, out: &mut O) -> Result<(), PutFault> {
         if self.state {
-            put_words(&[b"ct", b"state", b"{", b"established,", b"related", b"}"], out)
+            put_words(
+                &[b"ct", b"state", b"{", b"established,", b"related", b"}"],
+                out,
+            )
         } else {
             Ok(())
         }

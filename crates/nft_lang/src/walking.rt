@@ -140,7 +140,9 @@ fn has_port(ranges: &[(u16, u16)], port: u16) -> bool
 fn any_has_port(ranges: &[(u16, u16)], port: u16) -> bool
     ensures { result ≡ list_any (λ e. has_port e port) ranges.now }
 {
-    ranges.iter().any(|range| range.0 <= port && port <= range.1)
+    ranges
+        .iter()
+        .any(|range| range.0 <= port && port <= range.1)
 }
 
 fn tests_hold(rule: &Rule, packet: &Packet) -> bool
