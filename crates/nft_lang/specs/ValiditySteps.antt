@@ -4,7 +4,7 @@ use Rattle.std.specs.List.{list_all, list_any}
 use Rattle.acl_packet.specs.declared.addresses.Family.{Family}
 use Rattle.acl_packet.specs.declared.addresses.Families.{Families}
 use Rattle.acl_packet.specs.declared.addresses.Prefix.{Prefix}
-use Rattle.acl_packet.specs.Addresses.{covers}
+use Rattle.acl_packet.specs.Addresses.{covers, has_address}
 use Rattle.acl_text.specs.Names.{is_safe_text}
 use Rattle.acl_grammar.specs.PrefixCheckSteps.{is_prefix_of}
 use Rattle.nft_lang.specs.declared.documents.Section.{Section}
@@ -17,6 +17,23 @@ use Rattle.nft_lang.specs.Documents.{fits_i32, parts_fit, ports_overlap, prefixe
 unfoldable pub are_apart : {A : Type 0} → (A → A → Bool) → List A → Bool
 are_apart overlap [] = true
 are_apart overlap (x ∷ xs) = not (list_any (λ y. overlap x y) xs) && are_apart overlap xs
+
+-- One prefix or range is below another. Then the two do not overlap, and what the other is
+-- below does not overlap the one either.
+abbrev pub prefix_below : Prefix → Prefix → Bool
+prefix_below p q = nat_lt p.first q.first && not (has_address p q.first)
+
+abbrev pub ports_below : ℕ × ℕ → ℕ × ℕ → Bool
+ports_below a b = nat_lt a.1 b.0 && nat_le b.0 b.1
+
+abbrev pub is_below_first : {A : Type 0} → (A → A → Bool) → A → List A → Bool
+is_below_first below x [] = true
+is_below_first below x (y ∷ xs) = below x y
+
+-- Each is below the next one.
+unfoldable pub are_rising : {A : Type 0} → (A → A → Bool) → List A → Bool
+are_rising below [] = true
+are_rising below (x ∷ xs) = is_below_first below x xs && are_rising below xs
 
 abbrev pub is_addresses : Family → Prefix → Bool
 is_addresses family p = is_prefix_of family p && nat_le 1 p.len

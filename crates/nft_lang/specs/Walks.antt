@@ -39,14 +39,15 @@ flags_hold None flags = true
 flags_hold (Some Rst) flags = has_flag flags 4
 flags_hold (Some SynNotAck) flags = has_flag flags 2 && not (has_flag flags 16)
 
-abbrev pub is_known : Conn → Bool
-is_known Established = true
-is_known Related = true
-is_known New = false
-is_known Invalid = false
+-- The connection is known already, or such a one asked for it.
+abbrev pub is_tracked : Conn → Bool
+is_tracked Established = true
+is_tracked Related = true
+is_tracked New = false
+is_tracked Invalid = false
 
 abbrev pub state_holds : Bool → Conn → Bool
-state_holds true conn = is_known conn
+state_holds true conn = is_tracked conn
 state_holds false conn = true
 
 -- A rule holds a packet where each of its parts does: family and protocol, addresses, ports, types,

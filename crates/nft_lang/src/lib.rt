@@ -6,6 +6,7 @@ mod chain_rows;
 mod document_drafts;
 mod documents;
 mod laws;
+mod overlaps;
 mod reading;
 mod rule_drafts;
 mod sets;

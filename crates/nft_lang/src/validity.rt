@@ -1,9 +1,10 @@
-ghost use Rattle.std.specs.Prelude.{◌≡◌, ◌&&◌, ◌^◌, ◌↔◌, Bool, IsTrue, nat_eq, nat_le, nat_lt};
-ghost use Rattle.std.specs.List.{list_all, list_any};
-ghost use Rattle.nft_lang.specs.Documents.{IsDocument, fits_i32, flags_fit, has_port_proto, is_empty, is_proto, parts_fit, ports_fit, ports_overlap, prefixes_overlap, types_fit, verdict_fits};
-ghost use Rattle.nft_lang.specs.ValiditySteps.{are_addresses, are_apart, are_ports, are_sections, are_types, has_sets, is_addresses, is_document, is_item, is_port_range, is_protocol, is_rule, is_section, same_table};
+ghost use Rattle.std.specs.Prelude.{◌≡◌, ◌&&◌, ◌^◌, ◌↔◌, IsTrue, nat_le, nat_lt};
+ghost use Rattle.std.specs.List.{list_all};
+ghost use Rattle.nft_lang.specs.Documents.{IsDocument, fits_i32, flags_fit, has_port_proto, is_empty, is_proto, parts_fit, ports_fit, types_fit, verdict_fits};
+ghost use Rattle.nft_lang.specs.ValiditySteps.{are_addresses, are_ports, are_sections, are_types, has_sets, is_addresses, is_document, is_item, is_port_range, is_protocol, is_rule, is_section};
 
 use crate::documents::{Item, Rule, Section};
+use crate::overlaps::{are_apart, are_ports_apart, are_prefixes_apart};
 use acl_grammar::is_prefix_of;
 use acl_packet::{Families, Family, Prefix, Verdict};
 use acl_text::is_safe_text;
@@ -82,7 +83,7 @@ fn has_sets(rule: &Rule) -> bool
 fn are_addresses(family: Family, prefixes: &[Prefix]) -> bool
     ensures { result ≡ are_addresses family prefixes.now }
 {
-    all_addresses(family, prefixes) && are_apart(prefixes)
+    all_addresses(family, prefixes) && are_prefixes_apart(prefixes)
 }
 
 fn all_addresses(family: Family, prefixes: &[Prefix]) -> bool
@@ -100,7 +101,7 @@ fn is_addresses(family: Family, prefix: &Prefix) -> bool
 fn are_ports(ranges: &[(u16, u16)]) -> bool
     ensures { result ≡ are_ports ranges.now }
 {
-    all_port_ranges(ranges) && are_apart(ranges)
+    all_port_ranges(ranges) && are_ports_apart(ranges)
 }
 
 fn all_port_ranges(ranges: &[(u16, u16)]) -> bool
@@ -175,69 +176,6 @@ fn is_proto(proto: Option<u8>, number: u8) -> bool
         Some(proto) => proto == number,
         None => false,
     }
-}
-
-// Items that may overlap, as the elements of a set and the tables of a document.
-trait Overlap {
-    ghost overlap: { Self → Self → Bool };
-
-    fn overlaps(&self, other: &Self) -> bool
-        ensures { result ≡ overlap self.now other.now };
-}
-
-impl Overlap for Prefix {
-    ghost overlap = { prefixes_overlap };
-
-    fn overlaps(&self, other: &Prefix) -> bool {
-        self.contains(other.first) || other.contains(self.first)
-    }
-}
-
-impl Overlap for (u16, u16) {
-    ghost overlap = { ports_overlap };
-
-    fn overlaps(&self, other: &(u16, u16)) -> bool {
-        self.0 <= other.1 && other.0 <= self.1
-    }
-}
-
-impl Overlap for u8 {
-    ghost overlap = { nat_eq };
-
-    fn overlaps(&self, other: &u8) -> bool {
-        *self == *other
-    }
-}
-
-impl Overlap for Section {
-    ghost overlap = { same_table };
-
-    fn overlaps(&self, other: &Section) -> bool {
-        self.number == other.number
-    }
-}
-
-#[tactic(auto, unfolding(crate::specs::ValiditySteps::are_apart))]
-fn are_apart<T: Overlap>(items: &[T]) -> bool
-    ensures { result ≡ are_apart T.overlap items.now }
-{
-    for (i, item) in items.iter().enumerate() {
-        if overlaps_any(item, &items[i + 1..]) {
-            return false;
-        }
-    }
-    true
-}
-
-fn overlaps_any<T: Overlap>(item: &T, others: &[T]) -> bool
-    ensures { result ≡ list_any (λ other. T.overlap item.now other) others.now }
-{
-    for other in others {
-        if item.overlaps(other) {
-            return true;
-        }
-    }
-    false
 }
 
 pub(crate) fn is_empty<T>(items: &[T]) -> bool

@@ -1,6 +1,6 @@
 use Rattle.std.proofs.Common.{◌≡◌, drop}
 use Rattle.std.specs.List.{list_any}
-use Rattle.nft_lang.proofs.validity.overlaps_any.Given as goal
+use Rattle.nft_lang.proofs.overlaps.overlaps_any.Given as goal
 
 abbrev pub invariant-loop-other : goal.invariant-loop-other
 invariant-loop-other g l =
