@@ -20,15 +20,15 @@ use Rattle.nft_lang.specs.declared.documents.Rule.{Rule}
 -- ---- sets
 
 -- Two elements overlap where they have a value in common: an address, a port, or the type. One of two
--- such prefixes has the first address of the other. nft refuses a set with two elements that overlap
--- ("conflicting intervals specified").
+-- such prefixes has the first address of the other.
 abbrev pub prefixes_overlap : Prefix → Prefix → Bool
 prefixes_overlap p q = has_address p q.first || has_address q p.first
 
 abbrev pub ports_overlap : ℕ × ℕ → ℕ × ℕ → Bool
 ports_overlap a b = nat_le a.0 b.1 && nat_le b.0 a.1
 
--- A set has elements of its kind, no two of which overlap. One without elements is not written.
+-- A set has elements of its kind, no two of which overlap, so that each value stands there once. One
+-- without elements is not written.
 pub record IsSet {A : Type 0} (IsElement : A → Type 0) (overlap : A → A → Bool) (elements : List A)
     : Type 0 where
   pub each : AllByRecursion IsElement elements

@@ -128,6 +128,10 @@ fn refuses_other_rules(rt: HostRuntime) -> Result<(), Fail> {
             false,
         ),
         (
+            "meta nfproto ipv4 meta l4proto 17 udp dport { 68-67 } accept",
+            false,
+        ),
+        (
             "meta nfproto ipv4 meta l4proto 17 udp dport { 67, 60-70 } accept",
             false,
         ),
@@ -209,6 +213,19 @@ fn refuses_other_sections(rt: HostRuntime) -> Result<(), Fail> {
         (ip, "hook input priority +0; policy drop;", ends, false),
         (ip, "hook input priority 01; policy drop;", ends, false),
         (ip, "hook output priority 0; policy drop;", ends, false),
+        (ip, drop, "        drop\n    }\n}\n", true),
+        (
+            ip,
+            drop,
+            "        meta nfproto ipv4 drop\n    }\n}\n",
+            false,
+        ),
+        (
+            ip,
+            drop,
+            "        ip6 saddr { ::1/128 } drop\n    }\n}\n",
+            false,
+        ),
         ("ip aclgen_4294967295", drop, ends, true),
         ("ip aclgen_4294967296", drop, ends, false),
         ("ip6 aclgen_1", drop, ends, false),
