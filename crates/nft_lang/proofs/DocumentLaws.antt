@@ -1,0 +1,186 @@
+-- What is written of a document is read again.
+use Rattle.std.proofs.Common.{◌≡◌, ℕ, suc, ◌-◌, ◌^◌, ◌<◌, Bool, true, false, cond, not, ◌==◌, ◌&&◌, ℤ, pos, negsuc, List, [], ◌∷◌, ◌++◌, flat_map, codes, Option, None, Some, option_map, option_and_then, unwrap_or, refl, ap, sym, subst, ◌∙◌, append_assoc, append-nil, arith}
+use Rattle.std.specs.Fmt.{decimal, signed_decimal}
+use Rattle.std.specs.List.{fold, AllByRecursion, join_with_byte}
+use Rattle.std.specs.Option.{option_map_or}
+use Rattle.std.specs.Str.{bytes_eq}
+use Rattle.std.proofs.lemmas.Bool.{and_parts, or_parts, ltb-true, ne_eqb, false≢true}
+use Rattle.std.proofs.lemmas.List.Splits.{join_with_byte-slice_split}
+use Rattle.std.proofs.lemmas.List.Sums.{fold-append}
+use Rattle.acl_packet.specs.declared.addresses.Families.{Families}
+use Rattle.acl_packet.specs.declared.addresses.Families.TheVariants.{Inet, Inet6, Mixed}
+use Rattle.acl_packet.specs.declared.filtering.Hook.{Hook}
+use Rattle.acl_packet.specs.declared.filtering.Hook.TheVariants.{Input, Output, Forward}
+use Rattle.acl_packet.specs.Decimals.{number_in}
+use Rattle.acl_packet.proofs.DecimalLaws.{number-again}
+use Rattle.acl_text.specs.Cuts.{behind, has_byte}
+use Rattle.acl_text.specs.SignedNumbers.{negative, below_zero_in, from_zero_in, signed_in}
+use Rattle.acl_text.proofs.CutLaws.{behind-again}
+use Rattle.acl_text.proofs.DigitLaws.{decimal-lacks}
+use Rattle.acl_grammar.specs.Rows.{Row}
+use Rattle.acl_grammar.specs.RowSteps.{row_in, rows_in}
+use Rattle.acl_grammar.proofs.RowLaws.{fold-again}
+use Rattle.nft_lang.specs.declared.documents.Section.{Section}
+use Rattle.nft_lang.specs.declared.documents.Item.{Item}
+use Rattle.nft_lang.specs.declared.documents.Item.TheVariants.{Remark, Rule as ARule}
+use Rattle.nft_lang.specs.declared.document_drafts.DocumentDraft.{DocumentDraft}
+use Rattle.nft_lang.specs.Documents.{IsItem, IsSection, fits_i32, table_name}
+use Rattle.nft_lang.specs.Texts.{hook_word, families_word, policy_word, priority_word, rule_words, item_rows, head_rows, end_rows, section_rows, Spells}
+use Rattle.nft_lang.specs.ReadingSteps.{no_section, no_draft, up_to, hook_in, families_in, table_in, priority_in, rule_in, item_in, with_item, take_four, take_outer, take_chain, take_inner, take_row, document_in}
+use Rattle.nft_lang.proofs.RuleReadingLaws.{rule_again, up_to_there}
+use Rattle.nft_lang.proofs.SafeRows.{plain_word, BeginsRule, rule_begins, signed_lacks, sections_safe}
+
+abbrev at : List Section → Section → DocumentDraft
+at ss s = record { sections = ss; section = s }
+
+abbrev read : DocumentDraft → List Row → DocumentDraft
+read d rows = fold take_row d rows
+
+then : (d m e : DocumentDraft) (xs ys : List Row) → read d xs ≡ m → read m ys ≡ e → read d (xs ++ ys) ≡ e
+then d m e xs ys h k = fold-append take_row d xs ys ∙ ap (λ s. read s ys) h ∙ k
+
+-- ---- items
+
+abbrev more : Section → Item → Section
+more s i = record s { items = s.items ++ i ∷ [] }
+
+not_true : (a : Bool) → not a ≡ true → a ≡ false
+not_true true h = absurd (false≢true h)
+not_true false h = refl
+
+plain_parts : (w : List ℕ) → plain_word w ≡ true → (bytes_eq w (codes "#") ≡ false) × (bytes_eq w (codes "type") ≡ false)
+plain_parts [] h = absurd (false≢true h)
+plain_parts (b ∷ bs) h =
+    let p = and_parts (not (bytes_eq (b ∷ bs) (codes "#"))) (not (bytes_eq (b ∷ bs) (codes "type"))) h in
+    (not_true (bytes_eq (b ∷ bs) (codes "#")) p.0, not_true (bytes_eq (b ∷ bs) (codes "type")) p.1)
+
+-- a row that begins as a rule is taken as a rule
+rule_taken : (d : DocumentDraft) (words : List (List ℕ)) → BeginsRule words → take_inner d words ≡ with_item d (ARule (rule_in d.section.families words))
+unfolding take_inner item_in
+rule_taken d words h =
+    let w = h.first in
+    let ws = h.rest in
+    let parts = plain_parts w h.plain in
+    ap (take_inner d) h.is ∙ ap (λ b. cond b (take_chain d (w ∷ ws)) (with_item d (item_in d.section.families (w ∷ ws)))) parts.1
+    ∙ ap (λ b. with_item d (cond b (Remark (join_with_byte 32 ws)) (ARule (rule_in d.section.families (w ∷ ws))))) parts.0
+    ∙ ap (λ v. with_item d (ARule (rule_in d.section.families v))) (sym h.is)
+
+item_read : (ss : List Section) (s : Section) (i : Item) → IsItem s.families i → read (at ss s) (item_rows s.families i) ≡ at ss (more s i)
+unfolding item_rows take_row take_inner item_in
+item_read ss s (Remark text) h = ap (λ t. at ss (more s (Remark t))) (join_with_byte-slice_split 32 text)
+item_read ss s (ARule r) h =
+    rule_taken (at ss s) (rule_words s.families r) (rule_begins s.families r) ∙ ap (λ x. at ss (more s (ARule x))) (rule_again s.families r h)
+
+items_read : (ss : List Section) (s : Section) (items : List Item) → AllByRecursion (IsItem s.families) items
+    → read (at ss s) (flat_map (item_rows s.families) items) ≡ at ss (record s { items = s.items ++ items })
+items_read ss s [] h = ap (λ t. at ss (record s { items = t })) (sym (append-nil s.items))
+items_read ss s (i ∷ items) h =
+    then (at ss s) (at ss (more s i)) (at ss (record s { items = s.items ++ i ∷ items })) (item_rows s.families i) (flat_map (item_rows s.families) items)
+    (item_read ss s i h.0)
+    (items_read ss (more s i) items h.1 ∙ ap (λ t. at ss (record s { items = t })) (append_assoc s.items (i ∷ []) items))
+
+-- ---- heads
+
+hook_again : (h : Hook) → hook_in (hook_word h) ≡ h
+unfolding hook_in
+hook_again Input = refl
+hook_again Output = refl
+hook_again Forward = refl
+
+families_again : (fs : Families) → families_in (families_word fs) ≡ fs
+unfolding families_in
+families_again Inet = refl
+families_again Inet6 = refl
+families_again Mixed = refl
+
+policy_again : (b : Bool) → bytes_eq (policy_word b) (codes "accept;") ≡ b
+policy_again true = refl
+policy_again false = refl
+
+number_again : (n : ℕ) → n < 2 ^ 32 → table_in (table_name n) ≡ n
+unfolding table_in
+number_again n h =
+    ap (λ o. option_map_or {U = ℕ} (λ digits. unwrap_or (number_in (2 ^ 32 - 1) digits) 0) o 0) (behind-again (codes "aclgen_") (decimal n))
+    ∙ ap (λ o. unwrap_or o 0) (number-again (2 ^ 32 - 1) n (omega (arith, h)) (omega (arith, h)))
+
+from_digits : (below above : ℕ) (w : List ℕ) → has_byte 45 w ≡ false → signed_in below above w ≡ from_zero_in above w
+unfolding number_in
+from_digits below above [] h = refl
+from_digits below above (b ∷ bs) h =
+    let first = (or_parts (b == 45) (has_byte 45 bs) h).0 in
+    ap (λ t. cond t (below_zero_in below bs) (from_zero_in above (b ∷ bs))) first
+
+signed_again : (p : ℤ) → fits_i32 p ≡ true → signed_in (2 ^ 31) (2 ^ 31 - 1) (signed_decimal p) ≡ Some p
+signed_again (pos n) h =
+    let small = ltb-true n (2 ^ 31) h in
+    from_digits (2 ^ 31) (2 ^ 31 - 1) (decimal n) (decimal-lacks 45 n (omega (arith, small)) refl)
+    ∙ ap (option_map (λ m. pos m)) (number-again (2 ^ 31 - 1) n (omega (arith, small)) (omega (arith, small)))
+signed_again (negsuc n) h =
+    let small = ltb-true n (2 ^ 31) h in
+    let same : suc n - 1 ≡ n = omega arith in
+    ap (option_and_then negative) (number-again (2 ^ 31) (suc n) (omega (arith, small)) (omega (arith, small)))
+    ∙ ap (λ b. cond b None (Some (negsuc (suc n - 1)))) (ne_eqb (suc n) 0 (λ e. absurd (omega arith))) ∙ ap (λ m. Some (negsuc m)) same
+
+priority_again : (p : ℤ) → fits_i32 p ≡ true → priority_in (priority_word p) ≡ p
+unfolding priority_in
+priority_again p h =
+    ap (λ w. unwrap_or (signed_in (2 ^ 31) (2 ^ 31 - 1) w) (pos 0)) (up_to_there 59 (signed_decimal p) (signed_lacks 59 p h refl refl))
+    ∙ ap (λ o. unwrap_or o (pos 0)) (signed_again p h)
+
+abbrev section : Hook → Families → ℕ → ℤ → Bool → Section
+section hook families number priority accept =
+    record { hook = hook; families = families; number = number; priority = priority; accept = accept; items = [] }
+
+head_read : (ss : List Section) (t : Section) (h : Hook) (fs : Families) (n : ℕ) (p : ℤ) (b : Bool) → n < 2 ^ 32 → fits_i32 p ≡ true
+    → read (at ss t) (head_rows h fs n p b) ≡ at ss (section h fs n p b)
+unfolding head_rows take_row take_outer take_four take_inner take_chain
+head_read ss t h fs n p b small fits =
+    ap (λ x. at ss (section x (families_in (families_word fs)) (table_in (table_name n)) (priority_in (priority_word p)) (bytes_eq (policy_word b) (codes "accept;")))) (hook_again h)
+    ∙ ap (λ x. at ss (section h x (table_in (table_name n)) (priority_in (priority_word p)) (bytes_eq (policy_word b) (codes "accept;")))) (families_again fs)
+    ∙ ap (λ x. at ss (section h fs x (priority_in (priority_word p)) (bytes_eq (policy_word b) (codes "accept;")))) (number_again n small)
+    ∙ ap (λ x. at ss (section h fs n x (bytes_eq (policy_word b) (codes "accept;")))) (priority_again p fits)
+    ∙ ap (λ x. at ss (section h fs n p x)) (policy_again b)
+
+-- ---- sections
+
+end_read : (ss : List Section) (s : Section) → read (at ss s) end_rows ≡ at (ss ++ s ∷ []) no_section
+unfolding take_row take_outer
+end_read ss s = refl
+
+section_read : (ss : List Section) (t s : Section) → IsSection s → read (at ss t) (section_rows s) ≡ at (ss ++ s ∷ []) no_section
+unfolding section_rows
+section_read ss t s h =
+    let empty : Section = record s { items = [] } in
+    let head = head_rows s.hook s.families s.number s.priority s.accept in
+    let items = flat_map (item_rows s.families) s.items in
+    let end = at (ss ++ s ∷ []) no_section in
+    then (at ss t) (at ss empty) end head (items ++ end_rows) (head_read ss t s.hook s.families s.number s.priority s.accept h.number h.priority)
+    (then (at ss empty) (at ss s) end items end_rows (items_read ss empty s.items h.items) (end_read ss s))
+
+sections_read : (ss doc : List Section) → AllByRecursion IsSection doc → read (at ss no_section) (flat_map section_rows doc) ≡ at (ss ++ doc) no_section
+sections_read ss [] h = ap (λ t. at t no_section) (sym (append-nil ss))
+sections_read ss (s ∷ doc) h =
+    then (at ss no_section) (at (ss ++ s ∷ []) no_section) (at (ss ++ s ∷ doc) no_section) (section_rows s) (flat_map section_rows doc)
+    (section_read ss no_section s h.0) (sections_read (ss ++ s ∷ []) doc h.1 ∙ ap (λ t. at t no_section) (append_assoc ss (s ∷ []) doc))
+
+-- ---- documents
+
+empty_row : (d : DocumentDraft) → take_row d (row_in []) ≡ d
+unfolding row_in take_row take_outer
+empty_row d = refl
+
+pub document_again : (bytes : List ℕ) (doc : List Section) → Spells bytes doc → document_in bytes ≡ doc
+unfolding document_in
+document_again bytes doc h =
+    let end = at doc no_section in
+    ap (λ t. (read no_draft (rows_in t)).sections) h.written
+    ∙ ap (λ d. d.sections) (fold-again take_row no_draft end (flat_map section_rows doc) (sections_safe doc h.valid.sections) (sections_read [] doc h.valid.sections) (empty_row end))
+
+pub read_all : (bytes : List ℕ) (draft doc : List Section) → draft ≡ document_in bytes → Spells bytes doc → Some draft ≡ Some doc
+read_all bytes draft doc e h = ap Some (e ∙ document_again bytes doc h)
+
+pub read_other : (bytes : List ℕ) (draft doc : List Section) → draft ≡ document_in bytes → (Spells bytes draft → ⊥) → Spells bytes doc → ⊥
+read_other bytes draft doc e n h = n (subst (Spells bytes) (sym (e ∙ document_again bytes doc h)) h)
+
+pub one_document : (bytes : List ℕ) (a b : List Section) → Spells bytes a → Spells bytes b → a ≡ b
+one_document bytes a b h k = sym (document_again bytes a h) ∙ document_again bytes b k

@@ -1,0 +1,7 @@
+pub mod DocumentLaws
+pub mod JoinLaws
+pub mod OverlapLaws
+pub mod RuleReadingLaws
+pub mod SafeRows
+pub mod SetLaws
+pub mod ValidityLaws

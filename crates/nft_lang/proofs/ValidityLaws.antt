@@ -1,0 +1,152 @@
+-- The tests of a document say what a valid one is.
+use Rattle.std.proofs.Common.{◌≡◌, ℕ, ◌^◌, ◌<◌, ◌≤◌, Bool, true, false, not, ◌||◌, ◌&&◌, ◌==◌, nat_eq, nat_le, nat_lt, List, [], ◌∷◌, ◌++◌, map, codes, Option, None, Some, IfSome, refl, ap, sym, ◌∙◌, arith}
+use Rattle.std.specs.Bool.{Decides}
+use Rattle.std.specs.Fmt.{decimal}
+use Rattle.std.specs.List.{list_all, list_any, AllByRecursion, IsDistinct}
+use Rattle.std.specs.Str.{bytes_eq}
+use Rattle.std.proofs.lemmas.Bool.{and_parts, or_parts, or_from, false≢true}
+use Rattle.std.proofs.lemmas.Bool.Decides.{same_from_decides, Decides-and, Decides-like, Decides-eqb, Decides-ltb}
+use Rattle.std.proofs.lemmas.Fmt.{decimal_injective}
+use Rattle.std.proofs.lemmas.List.{append_cancel_left}
+use Rattle.std.proofs.lemmas.Slice.Eq.{bytes_eq-Decides}
+use Rattle.acl_packet.specs.declared.addresses.Family.{Family}
+use Rattle.acl_packet.specs.declared.addresses.Families.{Families}
+use Rattle.acl_packet.specs.declared.addresses.Prefix.{Prefix}
+use Rattle.acl_packet.specs.Addresses.{covers}
+use Rattle.acl_grammar.specs.PrefixCheckSteps.{is_prefix_of}
+use Rattle.acl_grammar.proofs.DecisionLaws.{le_decides, prefix_decides, all_decides}
+use Rattle.nft_lang.specs.declared.documents.Section.{Section}
+use Rattle.nft_lang.specs.declared.documents.Item.{Item}
+use Rattle.nft_lang.specs.declared.documents.Item.TheVariants.{Remark, Rule as ARule}
+use Rattle.nft_lang.specs.declared.documents.Rule.{Rule}
+use Rattle.nft_lang.specs.Documents.{IsSet, IsAddresses, IsPortRange, IsType, IsRule, IsItem, IsSection, IsDocument, prefixes_overlap, ports_overlap, parts_fit, fits_i32, table_name, names_of}
+use Rattle.nft_lang.specs.ValiditySteps.{are_apart, is_addresses, are_addresses, is_port_range, are_ports, are_types, is_protocol, has_sets, is_rule, is_item, is_section, are_sections, same_table, is_document}
+
+-- ---- sets
+
+not_false : (a : Bool) → not a ≡ true → a ≡ false
+not_false true h = absurd (false≢true h)
+not_false false h = refl
+
+abbrev Apart : {A : Type 0} → (A → A → Bool) → A → List A → Type 0
+Apart overlap x xs = AllByRecursion (λ y. overlap x y ≡ false) xs
+
+none_overlaps : {A : Type 0} (overlap : A → A → Bool) (x : A) (xs : List A) → list_any (λ y. overlap x y) xs ≡ false → Apart overlap x xs
+none_overlaps overlap x [] h = tt
+none_overlaps overlap x (y ∷ xs) h =
+    let p = or_parts (overlap x y) (list_any (λ z. overlap x z) xs) h in (p.0, none_overlaps overlap x xs p.1)
+
+no_overlap : {A : Type 0} (overlap : A → A → Bool) (x : A) (xs : List A) → Apart overlap x xs → list_any (λ y. overlap x y) xs ≡ false
+no_overlap overlap x [] h = refl
+no_overlap overlap x (y ∷ xs) h = or_from (overlap x y) (list_any (λ z. overlap x z) xs) h.0 (no_overlap overlap x xs h.1)
+
+apart_decides : {A : Type 0} (overlap : A → A → Bool) (xs : List A) → Decides (are_apart overlap xs) (IsDistinct overlap xs)
+unfolding are_apart IsDistinct
+apart_decides overlap [] = (λ h. tt, λ h. refl)
+apart_decides overlap (x ∷ xs) =
+    let here = list_any (λ y. overlap x y) xs in
+    Decides-and (not here) (are_apart overlap xs) (λ h. none_overlaps overlap x xs (not_false here h), λ h. ap not (no_overlap overlap x xs h)) (apart_decides overlap xs)
+
+set_decides : {A : Type 0} (test : A → Bool) (P : A → Type 0) (overlap : A → A → Bool) → ((x : A) → Decides (test x) (P x))
+    → (xs : List A) → Decides (list_all test xs && are_apart overlap xs) (IsSet P overlap xs)
+set_decides test P overlap each xs =
+    Decides-like (list_all test xs && are_apart overlap xs) (λ h. record { each = h.0; apart = h.1 }) (λ h. (h.each, h.apart))
+    (Decides-and (list_all test xs) (are_apart overlap xs) (all_decides test P each xs) (apart_decides overlap xs))
+
+addresses_decide : (f : Family) (p : Prefix) → Decides (is_addresses f p) (IsAddresses f p)
+addresses_decide f p =
+    Decides-like (is_addresses f p) (λ h. record { of_family = h.0; some_bits = h.1 }) (λ h. (h.of_family, h.some_bits))
+    (Decides-and (is_prefix_of f p) (nat_le 1 p.len) (prefix_decides f p) (le_decides 1 p.len))
+
+range_decides : (ports : ℕ × ℕ) → Decides (is_port_range ports) (IsPortRange ports)
+range_decides ports = Decides-and (nat_le ports.0 ports.1) (nat_lt ports.1 65536) (le_decides ports.0 ports.1) (Decides-ltb ports.1 65536)
+
+-- ---- rules
+
+protocol_decides : (o : Option ℕ) → Decides (is_protocol o) (IfSome o (λ n. (1 ≤ n) × (n ≤ 255)))
+protocol_decides None = (λ h. tt, λ h. refl)
+protocol_decides (Some n) = Decides-and (nat_le 1 n) (nat_le n 255) (le_decides 1 n) (le_decides n 255)
+
+is_itself : (b : Bool) → Decides b (b ≡ true)
+is_itself b = (λ h. h, λ h. h)
+
+rule_decides : (fs : Families) (r : Rule) → Decides (is_rule fs r) (IsRule fs r)
+rule_decides fs r =
+    let address = set_decides (is_addresses r.family) (IsAddresses r.family) prefixes_overlap (addresses_decide r.family) in
+    let port = set_decides is_port_range IsPortRange ports_overlap range_decides in
+    let types = set_decides (λ n. nat_le n 254) IsType nat_eq (λ n. le_decides n 254) r.itypes in
+    let addresses = Decides-and (are_addresses r.family r.src) (are_addresses r.family r.dst) (address r.src) (address r.dst) in
+    let ports = Decides-and (are_ports r.sports) (are_ports r.dports) (port r.sports) (port r.dports) in
+    let sets = Decides-and (are_addresses r.family r.src && are_addresses r.family r.dst) ((are_ports r.sports && are_ports r.dports) && are_types r.itypes) addresses
+    (Decides-and (are_ports r.sports && are_ports r.dports) (are_types r.itypes) ports types) in
+    let kind = Decides-and (covers fs r.family) (is_protocol r.proto) (is_itself (covers fs r.family)) (protocol_decides r.proto) in
+    Decides-like (is_rule fs r)
+    (λ h. record {
+      family = h.0.0;
+      protocol = h.0.1;
+      sources = h.1.0.0.0;
+      destinations = h.1.0.0.1;
+      source_ports = h.1.0.1.0.0;
+      destination_ports = h.1.0.1.0.1;
+      icmp_types = h.1.0.1.1;
+      fit = h.1.1;
+    })
+    (λ h. ((h.family, h.protocol), (((h.sources, h.destinations), ((h.source_ports, h.destination_ports), h.icmp_types)), h.fit)))
+    (Decides-and (covers fs r.family && is_protocol r.proto) (has_sets r && parts_fit r) kind (Decides-and (has_sets r) (parts_fit r) sets (is_itself (parts_fit r))))
+
+item_decides : (fs : Families) (i : Item) → Decides (is_item fs i) (IsItem fs i)
+item_decides fs (Remark text) = (λ h. h, λ h. h)
+item_decides fs (ARule r) = rule_decides fs r
+
+-- ---- sections
+
+section_decides : (s : Section) → Decides (is_section s) (IsSection s)
+section_decides s =
+    let items = all_decides (is_item s.families) (IsItem s.families) (item_decides s.families) s.items in
+    Decides-like (is_section s) (λ h. record { number = h.0.0; priority = h.0.1; items = h.1 }) (λ h. ((h.number, h.priority), h.items))
+    (Decides-and (nat_lt s.number (2 ^ 32) && fits_i32 s.priority) (list_all (is_item s.families) s.items)
+    (Decides-and (nat_lt s.number (2 ^ 32)) (fits_i32 s.priority) (Decides-ltb s.number (2 ^ 32)) (is_itself (fits_i32 s.priority))) items)
+
+sections_decide : (doc : List Section) → Decides (are_sections doc) (AllByRecursion IsSection doc)
+sections_decide doc = all_decides is_section IsSection section_decides doc
+
+-- ---- names
+
+-- two tables have one name where they have one number
+same_names : (s t : Section) → IsSection s → IsSection t → bytes_eq (table_name s.number) (table_name t.number) ≡ same_table s t
+same_names s t h k =
+    let m = s.number in
+    let n = t.number in
+    let small = h.number in
+    let other = k.number in
+    same_from_decides (bytes_eq (table_name m) (table_name n)) (m == n)
+    (Decides-like (bytes_eq (table_name m) (table_name n))
+    (λ e. decimal_injective m n (omega arith) (omega arith) (append_cancel_left (codes "aclgen_") (decimal m) (decimal n) e)) (λ e. ap table_name e)
+    (bytes_eq-Decides (table_name m) (table_name n)))
+    (Decides-eqb m n)
+
+names_apart : (s : Section) (doc : List Section) → IsSection s → AllByRecursion IsSection doc → Apart same_table s doc → Apart bytes_eq (table_name s.number) (names_of doc)
+names_apart s [] h k a = tt
+names_apart s (t ∷ doc) h k a = (same_names s t h k.0 ∙ a.0, names_apart s doc h k.1 a.1)
+
+tables_apart : (s : Section) (doc : List Section) → IsSection s → AllByRecursion IsSection doc → Apart bytes_eq (table_name s.number) (names_of doc) → Apart same_table s doc
+tables_apart s [] h k a = tt
+tables_apart s (t ∷ doc) h k a = (sym (same_names s t h k.0) ∙ a.0, tables_apart s doc h k.1 a.1)
+
+names_differ : (doc : List Section) → AllByRecursion IsSection doc → IsDistinct same_table doc → IsDistinct bytes_eq (names_of doc)
+unfolding IsDistinct
+names_differ [] k d = tt
+names_differ (s ∷ doc) k d = (names_apart s doc k.0 k.1 d.0, names_differ doc k.1 d.1)
+
+tables_differ : (doc : List Section) → AllByRecursion IsSection doc → IsDistinct bytes_eq (names_of doc) → IsDistinct same_table doc
+unfolding IsDistinct
+tables_differ [] k d = tt
+tables_differ (s ∷ doc) k d = (tables_apart s doc k.0 k.1 d.0, tables_differ doc k.1 d.1)
+
+-- ---- documents
+
+pub document_decides : (doc : List Section) → Decides (is_document doc) (IsDocument doc)
+document_decides doc =
+    Decides-like (is_document doc) (λ h. record { sections = h.0; names_differ = names_differ doc h.0 h.1 })
+    (λ h. (h.sections, tables_differ doc h.sections h.names_differ))
+    (Decides-and (are_sections doc) (are_apart same_table doc) (sections_decide doc) (apart_decides same_table doc))

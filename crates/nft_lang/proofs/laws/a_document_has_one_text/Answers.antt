@@ -1,0 +1,5 @@
+use Rattle.nft_lang.proofs.JoinLaws.{one_text}
+use Rattle.nft_lang.proofs.laws.a_document_has_one_text.Goals as goal
+
+pub returns : goal.returns
+returns c = one_text

@@ -1,0 +1,79 @@
+-- Whether a document is valid, test by test.
+use Rattle.std.specs.Prelude.{ℕ, ◌^◌, Bool, true, false, not, ◌&&◌, ◌||◌, ◌==◌, nat_eq, nat_le, nat_lt, List, [], ◌∷◌, Option, None, Some}
+use Rattle.std.specs.List.{list_all, list_any}
+use Rattle.acl_packet.specs.declared.addresses.Family.{Family}
+use Rattle.acl_packet.specs.declared.addresses.Families.{Families}
+use Rattle.acl_packet.specs.declared.addresses.Prefix.{Prefix}
+use Rattle.acl_packet.specs.Addresses.{covers, has_address}
+use Rattle.acl_text.specs.Names.{is_safe_text}
+use Rattle.acl_grammar.specs.PrefixCheckSteps.{is_prefix_of}
+use Rattle.nft_lang.specs.declared.documents.Section.{Section}
+use Rattle.nft_lang.specs.declared.documents.Item.{Item}
+use Rattle.nft_lang.specs.declared.documents.Item.TheVariants.{Remark, Rule as ARule}
+use Rattle.nft_lang.specs.declared.documents.Rule.{Rule}
+use Rattle.nft_lang.specs.Documents.{fits_i32, parts_fit, ports_overlap, prefixes_overlap}
+
+-- No two overlap, each against those behind it.
+unfoldable pub are_apart : {A : Type 0} → (A → A → Bool) → List A → Bool
+are_apart overlap [] = true
+are_apart overlap (x ∷ xs) = not (list_any (λ y. overlap x y) xs) && are_apart overlap xs
+
+-- One prefix or range is below another. Then the two do not overlap, and what the other is
+-- below does not overlap the one either.
+abbrev pub prefix_below : Prefix → Prefix → Bool
+prefix_below p q = nat_lt p.first q.first && not (has_address p q.first)
+
+abbrev pub ports_below : ℕ × ℕ → ℕ × ℕ → Bool
+ports_below a b = nat_lt a.1 b.0 && nat_le b.0 b.1
+
+abbrev pub is_below_first : {A : Type 0} → (A → A → Bool) → A → List A → Bool
+is_below_first below x [] = true
+is_below_first below x (y ∷ xs) = below x y
+
+-- Each is below the next one.
+unfoldable pub are_rising : {A : Type 0} → (A → A → Bool) → List A → Bool
+are_rising below [] = true
+are_rising below (x ∷ xs) = is_below_first below x xs && are_rising below xs
+
+abbrev pub is_addresses : Family → Prefix → Bool
+is_addresses family p = is_prefix_of family p && nat_le 1 p.len
+
+abbrev pub are_addresses : Family → List Prefix → Bool
+are_addresses family ps = list_all (is_addresses family) ps && are_apart prefixes_overlap ps
+
+abbrev pub is_port_range : ℕ × ℕ → Bool
+is_port_range ports = nat_le ports.0 ports.1 && nat_lt ports.1 65536
+
+abbrev pub are_ports : List (ℕ × ℕ) → Bool
+are_ports ranges = list_all is_port_range ranges && are_apart ports_overlap ranges
+
+abbrev pub are_types : List ℕ → Bool
+are_types numbers = list_all (λ n. nat_le n 254) numbers && are_apart nat_eq numbers
+
+abbrev pub is_protocol : Option ℕ → Bool
+is_protocol None = true
+is_protocol (Some n) = nat_le 1 n && nat_le n 255
+
+abbrev pub has_sets : Rule → Bool
+has_sets r = (are_addresses r.family r.src && are_addresses r.family r.dst)
+    && ((are_ports r.sports && are_ports r.dports) && are_types r.itypes)
+
+abbrev pub is_rule : Families → Rule → Bool
+is_rule families r = (covers families r.family && is_protocol r.proto) && (has_sets r && parts_fit r)
+
+abbrev pub is_item : Families → Item → Bool
+is_item families (Remark text) = is_safe_text text
+is_item families (ARule r) = is_rule families r
+
+abbrev pub is_section : Section → Bool
+is_section s = (nat_lt s.number (2 ^ 32) && fits_i32 s.priority) && list_all (is_item s.families) s.items
+
+abbrev pub are_sections : List Section → Bool
+are_sections doc = list_all is_section doc
+
+-- Two tables of one name have one number.
+abbrev pub same_table : Section → Section → Bool
+same_table s t = s.number == t.number
+
+abbrev pub is_document : List Section → Bool
+is_document doc = are_sections doc && are_apart same_table doc

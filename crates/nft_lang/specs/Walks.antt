@@ -1,0 +1,97 @@
+-- What the chains of a document do to a packet.
+-- Sources: nft(8), "CHAINS" (the policy of a base chain), "STATEMENTS" (verdicts end the walk over a
+-- chain's rules, `log` does not), "CONNTRACK EXPRESSIONS" (states); RFC 9293 section 3.1 for flags.
+use Rattle.std.specs.Prelude.{◌≡◌, ℕ, Bool, true, false, not, ◌&&◌, ◌||◌, ◌==◌, nat_le, if◌then◌else◌, List, [], ◌∷◌, Option, None, Some, slice_get, unwrap_or, option_and_then}
+use Rattle.std.specs.List.{list_any}
+use Rattle.acl_packet.specs.declared.packets.Conn.{Conn}
+use Rattle.acl_packet.specs.declared.packets.Conn.TheVariants.{New, Established, Related, Invalid}
+use Rattle.acl_packet.specs.declared.packets.Packet.{Packet}
+use Rattle.acl_packet.specs.declared.addresses.Prefix.{Prefix}
+use Rattle.acl_packet.specs.declared.filtering.Outcome.{Outcome}
+use Rattle.acl_packet.specs.declared.filtering.Verdict.{Verdict}
+use Rattle.acl_packet.specs.declared.filtering.Verdict.TheVariants.{Accept, Deny}
+use Rattle.acl_packet.specs.Addresses.{covers, has_address, same_family}
+use Rattle.acl_packet.specs.Outcomes.{unlogged}
+use Rattle.acl_packet.specs.Packets.{has_flag}
+use Rattle.nft_lang.specs.declared.documents.Section.{Section}
+use Rattle.nft_lang.specs.declared.documents.Item.{Item}
+use Rattle.nft_lang.specs.declared.documents.Item.TheVariants.{Remark, Rule as ARule}
+use Rattle.nft_lang.specs.declared.documents.Rule.{Rule}
+use Rattle.nft_lang.specs.declared.documents.Flags.{Flags}
+use Rattle.nft_lang.specs.declared.documents.Flags.TheVariants.{Rst, SynNotAck}
+use Rattle.nft_lang.specs.Documents.{is_empty}
+
+-- A set holds a value that one of its elements holds. One without elements is not written, and holds
+-- all.
+abbrev pub set_holds : {A : Type 0} → (A → ℕ → Bool) → List A → ℕ → Bool
+set_holds has elements value = is_empty elements || list_any (λ e. has e value) elements
+
+abbrev pub has_port : ℕ × ℕ → ℕ → Bool
+has_port ports port = nat_le ports.0 port && nat_le port ports.1
+
+abbrev pub proto_holds : Option ℕ → ℕ → Bool
+proto_holds None proto = true
+proto_holds (Some wanted) proto = proto == wanted
+
+-- SYN is 2, RST 4 and ACK 16.
+abbrev pub flags_hold : Option Flags → ℕ → Bool
+flags_hold None flags = true
+flags_hold (Some Rst) flags = has_flag flags 4
+flags_hold (Some SynNotAck) flags = has_flag flags 2 && not (has_flag flags 16)
+
+-- The connection is known already, or such a one asked for it.
+abbrev pub is_tracked : Conn → Bool
+is_tracked Established = true
+is_tracked Related = true
+is_tracked New = false
+is_tracked Invalid = false
+
+abbrev pub state_holds : Bool → Conn → Bool
+state_holds true conn = is_tracked conn
+state_holds false conn = true
+
+-- A rule holds a packet where each of its parts does: family and protocol, addresses, ports, types,
+-- flags and state.
+abbrev pub protocol_holds : Rule → Packet → Bool
+protocol_holds r p = same_family r.family p.family && proto_holds r.proto p.proto
+
+abbrev pub addresses_hold : Rule → Packet → Bool
+addresses_hold r p = set_holds has_address r.src p.src && set_holds has_address r.dst p.dst
+
+abbrev pub ports_hold : Rule → Packet → Bool
+ports_hold r p = set_holds has_port r.sports p.sport && set_holds has_port r.dports p.dport
+
+abbrev pub tests_hold : Rule → Packet → Bool
+tests_hold r p = set_holds (λ t n. n == t) r.itypes p.itype
+    && (flags_hold r.flags p.flags && state_holds r.state p.conn)
+
+abbrev pub rule_holds : Rule → Packet → Bool
+rule_holds r p =
+    protocol_holds r p && (addresses_hold r p && (ports_hold r p && tests_hold r p))
+
+-- What a rule decides, with its log.
+abbrev pub decided_by : Rule → Outcome
+decided_by r = record { verdict = r.verdict; logged = r.log }
+
+-- The first rule that holds the packet decides.
+unfoldable pub first_holding : List Item → Packet → Option Outcome
+first_holding [] p = None
+first_holding (Remark text ∷ items) p = first_holding items p
+first_holding (ARule r ∷ items) p =
+    if rule_holds r p then Some (decided_by r) else first_holding items p
+
+-- Where none does, the chain's policy decides.
+abbrev pub policy_verdict : Bool → Verdict
+policy_verdict accept = if accept then Accept else Deny
+
+abbrev pub walk : Bool → List Item → Packet → Outcome
+walk accept items p = unwrap_or (first_holding items p) (unlogged (policy_verdict accept))
+
+-- What a section does, where the packet is of one of its families.
+unfoldable pub section_outcome : Section → Packet → Option Outcome
+section_outcome s p =
+    if covers s.families p.family then Some (walk s.accept s.items p) else None
+
+-- What the section at that place does; nothing where there is none.
+abbrev pub outcome_of : List Section → ℕ → Packet → Option Outcome
+outcome_of doc which p = option_and_then (λ s. section_outcome s p) (slice_get doc which)

@@ -1,0 +1,706 @@
+ghost use Rattle.std.specs.Prelude.{◌≡◌, ◌∷◌, [], IsTrue, codes};
+ghost use Rattle.acl_text.specs.Output.{Puts};
+ghost use Rattle.acl_grammar.specs.Rows.{row, text_of_rows, words_in};
+ghost use Rattle.nft_lang.specs.declared.documents.Item.TheVariants.{Rule as ARule};
+ghost use Rattle.nft_lang.specs.Texts.{address_word, end_rows, ending_words, families_word, family_word, family_words, flags_words, head_rows, hook_word, icmp_word, addresses_words, ports_words, table_rows, target_row, table_row, start_row, chain_rows, types_words, item_rows, log_words, policy_word, port_word, priority_word, proto_words, rule_words, section_rows, state_words, table_word, verdict_words};
+ghost use Rattle.nft_lang.specs.Documents.{table_name};
+
+use crate::documents::{Flags, Item, Rule, Section};
+use crate::sets::ElementSet;
+use acl_grammar::{Each, Form, FreeText, Number, Piece, Row, Rows, Word, Words, put_words};
+use acl_packet::{Families, Family, Hook, Prefix, Verdict};
+use acl_text::{Out, PutFault};
+use itoa::Buffer;
+
+/// The row of a rule of a table of the families. A set without elements is not written.
+#[derive(Drop)]
+pub struct RuleRow<'a> {
+    pub families: Families,
+    pub family: Family,
+    pub proto: Option<u8>,
+    pub src: &'a [Prefix],
+    pub dst: &'a [Prefix],
+    pub sports: &'a [(u16, u16)],
+    pub dports: &'a [(u16, u16)],
+    pub itypes: &'a [u8],
+    pub flags: Option<Flags>,
+    pub state: bool,
+    pub log: bool,
+    pub verdict: Verdict,
+}
+
+impl<'a> Rows for RuleRow<'a> {
+    ghost rows = { λ r. item_rows r.families (ARule (record {
+      family = r.family;
+      proto = r.proto;
+      src = r.src.now;
+      dst = r.dst.now;
+      sports = r.sports.now;
+      dports = r.dports.now;
+      itypes = r.itypes.now;
+      flags = r.flags;
+      state = r.state;
+      log = r.log;
+      verdict = r.verdict;
+    })) };
+
+    #[tactic(auto, unfolding(crate::specs::Texts::item_rows, crate::specs::Texts::rule_words))]
+    fn put_rows<O: Out>(&self, out: &mut O) -> Result<(), PutFault> {
+        let family = self.family;
+        let packet_family = PacketFamily {
+            families: self.families,
+            family,
+        };
+        let protocol = Protocol { number: self.proto };
+        let addresses = AddressSets {
+            family,
+            src: self.src,
+            dst: self.dst,
+        };
+        let ports = PortSets {
+            proto: self.proto,
+            sports: self.sports,
+            dports: self.dports,
+        };
+        let types = TypeSet {
+            family,
+            itypes: self.itypes,
+        };
+        let test = Test { flags: self.flags };
+        let ending = Ending {
+            state: self.state,
+            log: self.log,
+            verdict: self.verdict,
+        };
+        // The last space of the indent is the one that stands before the first word.
+        let nothing: &[u8] = b"";
+        let row = Row {
+            indent: 7,
+            first: nothing,
+            rest: (
+                packet_family,
+                (protocol, (addresses, (ports, (types, (test, ending))))),
+            ),
+        };
+        row.put_rows(out)
+    }
+}
+
+/// The row of a remark.
+#[derive(Drop)]
+pub struct RemarkRow<'a> {
+    pub text: &'a [u8],
+}
+
+impl<'a> Rows for RemarkRow<'a> {
+    ghost rows = { λ r. row 8 (codes "#" ∷ words_in r.text.now) ∷ [] };
+
+    fn put_rows<O: Out>(&self, out: &mut O) -> Result<(), PutFault> {
+        let row = Row {
+            indent: 8,
+            first: b"#".as_slice(),
+            rest: FreeText { text: self.text },
+        };
+        row.put_rows(out)
+    }
+}
+
+/// The rows that begin a section: its target, its table, which takes an older one of its name away,
+/// and its chain.
+#[derive(Drop)]
+pub struct SectionHead {
+    pub hook: Hook,
+    pub families: Families,
+    pub number: u32,
+    pub priority: i32,
+    /// Whether the chain's policy is to accept; else it is to drop.
+    pub accept: bool,
+}
+
+impl Rows for SectionHead {
+    ghost rows = { λ h. head_rows h.hook h.families h.number h.priority h.accept };
+
+    #[tactic(auto, unfolding(crate::specs::Texts::head_rows))]
+    fn put_rows<O: Out>(&self, out: &mut O) -> Result<(), PutFault> {
+        let table = TableHead {
+            hook: self.hook,
+            families: self.families,
+            number: self.number,
+        };
+        let chain = ChainHead {
+            hook: self.hook,
+            priority: self.priority,
+            accept: self.accept,
+        };
+        (table, chain).put_rows(out)
+    }
+}
+
+#[derive(Drop)]
+struct TableHead {
+    hook: Hook,
+    families: Families,
+    number: u32,
+}
+
+impl Rows for TableHead {
+    ghost rows = { λ h. table_rows h.hook h.families h.number };
+
+    fn put_rows<O: Out>(&self, out: &mut O) -> Result<(), PutFault> {
+        let add: &[u8] = b"add";
+        let delete: &[u8] = b"delete";
+        let families = self.families;
+        let number = self.number;
+        let target = TargetRow {
+            hook: self.hook,
+            families,
+        };
+        let addition = TableRow {
+            command: add,
+            families,
+            number,
+        };
+        let removal = TableRow {
+            command: delete,
+            families,
+            number,
+        };
+        (
+            target,
+            (addition, (removal, TableStart { families, number })),
+        )
+            .put_rows(out)
+    }
+}
+
+#[derive(Drop)]
+struct TargetRow {
+    hook: Hook,
+    families: Families,
+}
+
+impl Rows for TargetRow {
+    ghost rows = { λ t. target_row t.hook t.families ∷ [] };
+
+    fn put_rows<O: Out>(&self, out: &mut O) -> Result<(), PutFault> {
+        let mark: &[u8] = b"##";
+        let target: &[&[u8]] = &[
+            b"nftables",
+            hook_word(self.hook),
+            families_word(self.families),
+        ];
+        let row = Row {
+            indent: 0,
+            first: mark,
+            rest: target,
+        };
+        row.put_rows(out)
+    }
+}
+
+#[derive(Drop)]
+struct TableRow<'a> {
+    command: &'a [u8],
+    families: Families,
+    number: u32,
+}
+
+impl<'a> Rows for TableRow<'a> {
+    ghost rows = { λ t. table_row t.command.now t.families t.number ∷ [] };
+
+    fn put_rows<O: Out>(&self, out: &mut O) -> Result<(), PutFault> {
+        let table: &[&[u8]] = &[b"table", table_word(self.families)];
+        let name = Word {
+            piece: TableName {
+                number: self.number,
+            },
+        };
+        let row = Row {
+            indent: 0,
+            first: self.command,
+            rest: (table, name),
+        };
+        row.put_rows(out)
+    }
+}
+
+#[derive(Drop)]
+struct TableStart {
+    families: Families,
+    number: u32,
+}
+
+impl Rows for TableStart {
+    ghost rows = { λ t. start_row t.families t.number ∷ [] };
+
+    fn put_rows<O: Out>(&self, out: &mut O) -> Result<(), PutFault> {
+        let family = Word {
+            piece: table_word(self.families),
+        };
+        let name = Word {
+            piece: TableName {
+                number: self.number,
+            },
+        };
+        let brace = Word {
+            piece: b"{".as_slice(),
+        };
+        let row = Row {
+            indent: 0,
+            first: b"table".as_slice(),
+            rest: (family, (name, brace)),
+        };
+        row.put_rows(out)
+    }
+}
+
+#[derive(Drop)]
+struct ChainHead {
+    hook: Hook,
+    priority: i32,
+    accept: bool,
+}
+
+impl Rows for ChainHead {
+    ghost rows = { λ h. chain_rows h.hook h.priority h.accept };
+
+    fn put_rows<O: Out>(&self, out: &mut O) -> Result<(), PutFault> {
+        let hook = hook_word(self.hook);
+        let opening: &[&[u8]] = &[hook, b"{"];
+        let kind: &[&[u8]] = &[b"filter", b"hook", hook, b"priority"];
+        let policy: &[&[u8]] = &[b"policy", policy_word(self.accept)];
+        let priority = Word {
+            piece: Priority {
+                priority: self.priority,
+            },
+        };
+        let beginning = Row {
+            indent: 4,
+            first: b"chain".as_slice(),
+            rest: opening,
+        };
+        let base = Row {
+            indent: 8,
+            first: b"type".as_slice(),
+            rest: (kind, (priority, policy)),
+        };
+        (beginning, base).put_rows(out)
+    }
+}
+
+/// The rows that end a section.
+#[derive(Drop)]
+pub struct SectionEnd;
+
+impl Rows for SectionEnd {
+    ghost rows = { λ e. end_rows };
+
+    fn put_rows<O: Out>(&self, out: &mut O) -> Result<(), PutFault> {
+        let none: &[&[u8]] = &[];
+        let chain = Row {
+            indent: 4,
+            first: b"}".as_slice(),
+            rest: none,
+        };
+        let table = Row {
+            indent: 0,
+            first: b"}".as_slice(),
+            rest: none,
+        };
+        (chain, table).put_rows(out)
+    }
+}
+
+fn hook_word(hook: Hook) -> &'static [u8]
+    ensures { result.now ≡ hook_word hook }
+{
+    match hook {
+        Hook::Input => b"input",
+        Hook::Output => b"output",
+        Hook::Forward => b"forward",
+    }
+}
+
+fn families_word(families: Families) -> &'static [u8]
+    ensures { result.now ≡ families_word families }
+{
+    match families {
+        Families::Inet => b"inet",
+        Families::Inet6 => b"inet6",
+        Families::Mixed => b"mixed",
+    }
+}
+
+fn table_word(families: Families) -> &'static [u8]
+    ensures { result.now ≡ table_word families }
+{
+    match families {
+        Families::Inet => b"ip",
+        Families::Inet6 => b"ip6",
+        Families::Mixed => b"inet",
+    }
+}
+
+fn policy_word(accept: bool) -> &'static [u8]
+    ensures { result.now ≡ policy_word accept }
+{
+    if accept { b"accept;" } else { b"drop;" }
+}
+
+#[derive(Clone, Copy)]
+struct TableName {
+    number: u32,
+}
+
+impl Piece for TableName {
+    ghost text = { λ n. table_name n.number };
+
+    fn put_into<O: Out>(&self, out: &mut O) -> Result<(), PutFault> {
+        let number = u128::from(self.number);
+        (b"aclgen_".as_slice(), Number { number }).put_into(out)
+    }
+}
+
+#[derive(Drop)]
+struct Priority {
+    priority: i32,
+}
+
+impl Piece for Priority {
+    ghost text = { λ p. priority_word p.priority };
+
+    fn put_into<O: Out>(&self, out: &mut O) -> Result<(), PutFault> {
+        let mut buffer = Buffer::new();
+        let number = buffer.format(self.priority).as_bytes();
+        (number, b";".as_slice()).put_into(out)
+    }
+}
+
+#[derive(Drop)]
+struct PacketFamily {
+    families: Families,
+    family: Family,
+}
+
+impl Words for PacketFamily {
+    ghost words = { λ p. family_words p.families p.family };
+
+    #[tactic(auto, unfolding(crate::specs::Texts::family_words))]
+    fn put_spaced<O: Out>(&self, out: &mut O) -> Result<(), PutFault> {
+        match self.families {
+            Families::Mixed => {
+                let key: &[&[u8]] = &[b"meta", b"nfproto"];
+                let family = Word {
+                    piece: family_word(self.family),
+                };
+                (key, family).put_spaced(out)
+            }
+            Families::Inet | Families::Inet6 => Ok(()),
+        }
+    }
+}
+
+fn family_word(family: Family) -> &'static [u8]
+    ensures { result.now ≡ family_word family }
+{
+    match family {
+        Family::V4 => b"ipv4",
+        Family::V6 => b"ipv6",
+    }
+}
+
+#[derive(Drop)]
+struct Protocol {
+    number: Option<u8>,
+}
+
+impl Words for Protocol {
+    ghost words = { λ p. proto_words p.number };
+
+    #[tactic(auto, unfolding(crate::specs::Texts::proto_words))]
+    fn put_spaced<O: Out>(&self, out: &mut O) -> Result<(), PutFault> {
+        match self.number {
+            None => Ok(()),
+            Some(number) => {
+                let key: &[&[u8]] = &[b"meta", b"l4proto"];
+                let number = u128::from(number);
+                let number = Word {
+                    piece: Number { number },
+                };
+                (key, number).put_spaced(out)
+            }
+        }
+    }
+}
+
+#[derive(Drop)]
+struct AddressSets<'a> {
+    family: Family,
+    src: &'a [Prefix],
+    dst: &'a [Prefix],
+}
+
+impl<'a> Words for AddressSets<'a> {
+    ghost words = { λ a. addresses_words a.family a.src.now a.dst.now };
+
+    #[tactic(auto, unfolding(crate::specs::Texts::addresses_words))]
+    fn put_spaced<O: Out>(&self, out: &mut O) -> Result<(), PutFault> {
+        let source = ElementSet {
+            front: address_word(self.family),
+            key: b"saddr".as_slice(),
+            elements: self.src,
+        };
+        let destination = ElementSet {
+            front: address_word(self.family),
+            key: b"daddr".as_slice(),
+            elements: self.dst,
+        };
+        (source, destination).put_spaced(out)
+    }
+}
+
+fn address_word(family: Family) -> &'static [u8]
+    ensures { result.now ≡ address_word family }
+{
+    match family {
+        Family::V4 => b"ip",
+        Family::V6 => b"ip6",
+    }
+}
+
+#[derive(Drop)]
+struct PortSets<'a> {
+    proto: Option<u8>,
+    sports: &'a [(u16, u16)],
+    dports: &'a [(u16, u16)],
+}
+
+impl<'a> Words for PortSets<'a> {
+    ghost words = { λ p. ports_words p.proto p.sports.now p.dports.now };
+
+    #[tactic(auto, unfolding(crate::specs::Texts::ports_words))]
+    fn put_spaced<O: Out>(&self, out: &mut O) -> Result<(), PutFault> {
+        let source = ElementSet {
+            front: port_word(self.proto),
+            key: b"sport".as_slice(),
+            elements: self.sports,
+        };
+        let destination = ElementSet {
+            front: port_word(self.proto),
+            key: b"dport".as_slice(),
+            elements: self.dports,
+        };
+        (source, destination).put_spaced(out)
+    }
+}
+
+#[tactic(auto, unfolding(crate::specs::Texts::port_word))]
+fn port_word(proto: Option<u8>) -> &'static [u8]
+    ensures { result.now ≡ port_word proto }
+{
+    match proto {
+        Some(17) => b"udp",
+        Some(132) => b"sctp",
+        _ => b"tcp",
+    }
+}
+
+fn icmp_word(family: Family) -> &'static [u8]
+    ensures { result.now ≡ icmp_word family }
+{
+    match family {
+        Family::V4 => b"icmp",
+        Family::V6 => b"icmpv6",
+    }
+}
+
+#[derive(Drop)]
+struct TypeSet<'a> {
+    family: Family,
+    itypes: &'a [u8],
+}
+
+impl<'a> Words for TypeSet<'a> {
+    ghost words = { λ t. types_words t.family t.itypes.now };
+
+    fn put_spaced<O: Out>(&self, out: &mut O) -> Result<(), PutFault> {
+        let set = ElementSet {
+            front: icmp_word(self.family),
+            key: b"type".as_slice(),
+            elements: self.itypes,
+        };
+        set.put_spaced(out)
+    }
+}
+
+#[derive(Drop)]
+struct Test {
+    flags: Option<Flags>,
+}
+
+impl Words for Test {
+    ghost words = { λ t. flags_words t.flags };
+
+    #[tactic(auto, unfolding(crate::specs::Texts::flags_words))]
+    fn put_spaced<O: Out>(&self, out: &mut O) -> Result<(), PutFault> {
+        match self.flags {
+            None => Ok(()),
+            Some(Flags::Rst) => { put_words(&[b"tcp", b"flags", b"&", b"rst", b"==", b"rst"], out) }
+            Some(Flags::SynNotAck) => put_words(
+                &[
+                    b"tcp", b"flags", b"&", b"(syn", b"|", b"ack)", b"==", b"syn",
+                ],
+                out,
+            ),
+        }
+    }
+}
+
+#[derive(Drop)]
+struct Ending {
+    state: bool,
+    log: bool,
+    verdict: Verdict,
+}
+
+impl Words for Ending {
+    ghost words = { λ e. ending_words e.state e.log e.verdict };
+
+    #[tactic(auto, unfolding(crate::specs::Texts::ending_words))]
+    fn put_spaced<O: Out>(&self, out: &mut O) -> Result<(), PutFault> {
+        let state = State { state: self.state };
+        let log = Log { log: self.log };
+        let decision = Decision {
+            verdict: self.verdict,
+        };
+        (state, (log, decision)).put_spaced(out)
+    }
+}
+
+#[derive(Drop)]
+struct State {
+    state: bool,
+}
+
+impl Words for State {
+    ghost words = { λ s. state_words s.state };
+
+    #[tactic(auto, unfolding(crate::specs::Texts::state_words))]
+    fn put_spaced<O: Out>(&self, out: &mut O) -> Result<(), PutFault> {
+        if self.state {
+            put_words(
+                &[b"ct", b"state", b"{", b"established,", b"related", b"}"],
+                out,
+            )
+        } else {
+            Ok(())
+        }
+    }
+}
+
+#[derive(Drop)]
+struct Log {
+    log: bool,
+}
+
+impl Words for Log {
+    ghost words = { λ l. log_words l.log };
+
+    #[tactic(auto, unfolding(crate::specs::Texts::log_words))]
+    fn put_spaced<O: Out>(&self, out: &mut O) -> Result<(), PutFault> {
+        if self.log {
+            put_words(&[b"log"], out)
+        } else {
+            Ok(())
+        }
+    }
+}
+
+#[derive(Drop)]
+struct Decision {
+    verdict: Verdict,
+}
+
+impl Words for Decision {
+    ghost words = { λ d. verdict_words d.verdict };
+
+    #[tactic(auto, unfolding(crate::specs::Texts::verdict_words))]
+    fn put_spaced<O: Out>(&self, out: &mut O) -> Result<(), PutFault> {
+        match self.verdict {
+            Verdict::Accept => put_words(&[b"accept"], out),
+            Verdict::Deny | Verdict::Left => put_words(&[b"drop"], out),
+            Verdict::Reject => put_words(&[b"reject"], out),
+            Verdict::Reset => put_words(&[b"reject", b"with", b"tcp", b"reset"], out),
+        }
+    }
+}
+
+// The items of a chain in a table of the families.
+#[derive(Drop)]
+struct OfFamilies {
+    families: Families,
+}
+
+impl Form<Item> for OfFamilies {
+    ghost item_rows = { λ f i. item_rows f.families i };
+
+    #[tactic(auto, unfolding(crate::specs::Texts::item_rows))]
+    fn put_item<O: Out>(&self, item: &Item, out: &mut O) -> Result<(), PutFault> {
+        match item {
+            Item::Remark(text) => RemarkRow {
+                text: text.as_slice(),
+            }
+            .put_rows(out),
+            Item::Rule(rule) => put_rule(self.families, rule, out),
+        }
+    }
+}
+
+#[tactic(auto, unfolding(crate::specs::Texts::item_rows))]
+fn put_rule<O: Out>(families: Families, rule: &Rule, out: &mut O) -> Result<(), PutFault>
+    requires { IsTrue (O.is_open out.old) }
+    ensures { Puts O.told O.faults O.refusals O.is_open O.keeps_rest out.old out.new
+        (text_of_rows (item_rows families (ARule rule.now))) result }
+{
+    let row = RuleRow {
+        families,
+        family: rule.family,
+        proto: rule.proto,
+        src: rule.src.as_slice(),
+        dst: rule.dst.as_slice(),
+        sports: rule.sports.as_slice(),
+        dports: rule.dports.as_slice(),
+        itypes: rule.itypes.as_slice(),
+        flags: rule.flags,
+        state: rule.state,
+        log: rule.log,
+        verdict: rule.verdict,
+    };
+    row.put_rows(out)
+}
+
+/// The sections of a document.
+#[derive(Drop)]
+pub(crate) struct Sections;
+
+impl Form<Section> for Sections {
+    ghost item_rows = { λ f s. section_rows s };
+
+    #[tactic(auto, unfolding(crate::specs::Texts::section_rows))]
+    fn put_item<O: Out>(&self, section: &Section, out: &mut O) -> Result<(), PutFault> {
+        let head = SectionHead {
+            hook: section.hook,
+            families: section.families,
+            number: section.number,
+            priority: section.priority,
+            accept: section.accept,
+        };
+        let items = Each {
+            items: section.items.as_slice(),
+            form: OfFamilies {
+                families: section.families,
+            },
+        };
+        (head, (items, SectionEnd)).put_rows(out)
+    }
+}
