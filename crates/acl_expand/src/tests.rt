@@ -17,7 +17,8 @@ use std::alloc::Global;
 use std::str;
 use std::test::Fail;
 
-const NETWORKS: &[u8] = b"LOW = 10.0.0.0/25\nHIGH = 10.0.0.128/25\nONE = 10.0.1.0/24\nTWO = 10.0.2.0/24\nWEB = 192.0.2.10\nSIX = ::/1\nPAIR = ::1 ::3\nFIRSTS = :: 2000:: 4000:: 6000:: 8000:: a000:: c000:: e000::\nSECONDS = ::1 2000::1\nTHIRD = 4000::1\n";
+const NETWORKS: &[u8] =
+    b"LOW = 10.0.0.0/25\nHIGH = 10.0.0.128/25\nONE = 10.0.1.0/24\nTWO = 10.0.2.0/24\nWEB = 192.0.2.10\nSIX = ::/1\nPAIR = ::1 ::3\nFIRSTS = :: 2000:: 4000:: 6000:: 8000:: a000:: c000:: e000::\nSECONDS = ::1 2000::1\nTHIRD = 4000::1\n";
 
 const SERVICES: &[u8] = b"DNS = 53/tcp 53/udp\n";
 
@@ -116,7 +117,10 @@ fn shown_rule(alloc: Global, rule: &Rule) -> Result<String, Memory> {
     let protos = shown_set(alloc, &rule.protos)?;
     let dports = shown_set(alloc, &rule.dports)?;
     let src = shown_list(alloc, rule.src.as_slice())?;
-    Ok(format!(in alloc; "{name} {:?} {:?} {:?};{protos};{dports};{src}\n", rule.family, rule.verdict, rule.test)?)
+    Ok(format!(in alloc;
+        "{name} {:?} {:?} {:?};{protos};{dports};{src}\n",
+        rule.family, rule.verdict, rule.test
+    )?)
 }
 
 fn shown_rules(alloc: Global, rules: &[Rule]) -> Result<String, Memory> {
@@ -147,7 +151,10 @@ const CISCO: &str = "cisco e extended";
 #[test]
 fn sets_of_addresses_become_least_lists(rt: HostRuntime) -> Result<(), Fail> {
     let table = [
-        ("term a {\n source-address:: LOW HIGH\n action:: deny\n}", "a V4 Deny Plain;;; 167772160/24\n"),
+        (
+            "term a {\n source-address:: LOW HIGH\n action:: deny\n}",
+            "a V4 Deny Plain;;; 167772160/24\n",
+        ),
         (
             "term a {\n source-address:: ONE TWO\n action:: reject\n}",
             "a V4 Deny Plain;;; 167772416/24 167772672/24\n",
@@ -161,7 +168,11 @@ fn sets_of_addresses_become_least_lists(rt: HostRuntime) -> Result<(), Fail> {
     ];
     let base = definitions(rt.alloc())?;
     for (terms, rules) in table {
-        assert_eq!(rt; shown(rt.alloc(), &base, CISCO, terms)?.as_str(), rules, "at {terms}");
+        assert_eq!(rt;
+            shown(rt.alloc(), &base, CISCO, terms)?.as_str(),
+            rules,
+            "at {terms}"
+        );
     }
     Ok(())
 }
@@ -198,7 +209,11 @@ fn established_becomes_rules_by_protocol(rt: HostRuntime) -> Result<(), Fail> {
     ];
     let base = definitions(rt.alloc())?;
     for (target, terms, rules) in table {
-        assert_eq!(rt; shown(rt.alloc(), &base, target, terms)?.as_str(), rules, "at {target} {terms}");
+        assert_eq!(rt;
+            shown(rt.alloc(), &base, target, terms)?.as_str(),
+            rules,
+            "at {target} {terms}"
+        );
     }
     Ok(())
 }
@@ -206,16 +221,29 @@ fn established_becomes_rules_by_protocol(rt: HostRuntime) -> Result<(), Fail> {
 #[test]
 fn other_options_keep_one_rule(rt: HostRuntime) -> Result<(), Fail> {
     let table = [
-        ("iptables INPUT DROP", "tcp-established", "o V4 Accept State; 6-6;; 0/0\n"),
-        (CISCO, "tcp-established", "o V4 Accept AckOrRst; 6-6;; 0/0\n"),
+        (
+            "iptables INPUT DROP",
+            "tcp-established",
+            "o V4 Accept State; 6-6;; 0/0\n",
+        ),
+        (
+            CISCO,
+            "tcp-established",
+            "o V4 Accept AckOrRst; 6-6;; 0/0\n",
+        ),
         (CISCO, "tcp-initial", "o V4 Accept SynNotAck; 6-6;; 0/0\n"),
         ("iptables INPUT DROP", "rst", "o V4 Accept Rst; 6-6;; 0/0\n"),
     ];
     let base = definitions(rt.alloc())?;
     for (target, option, rules) in table {
-        let terms =
-            format!(in rt.alloc(); "term o {{\n protocol:: tcp\n option:: {option}\n action:: accept\n}}")?;
-        assert_eq!(rt; shown(rt.alloc(), &base, target, &terms)?.as_str(), rules, "at {target} {option}");
+        let terms = format!(in rt.alloc();
+            "term o {{\n protocol:: tcp\n option:: {option}\n action:: accept\n}}"
+        )?;
+        assert_eq!(rt;
+            shown(rt.alloc(), &base, target, &terms)?.as_str(),
+            rules,
+            "at {target} {option}"
+        );
     }
     Ok(())
 }
@@ -227,8 +255,16 @@ fn extension_headers_are_slips_in_ipv6(rt: HostRuntime) -> Result<(), Fail> {
         ("cisco e inet6", ah, "4 ExtensionHeader 51"),
         ("cisco e mixed", ah, "4 ExtensionHeader 51"),
         (CISCO, ah, "a V4 Deny Plain; 51-51 60-60;; 0/0\n"),
-        ("cisco e inet6", "term a {\n protocol:: ah\n source-address:: WEB\n action:: deny\n}", ""),
-        ("cisco e inet6", "term a {\n protocol:: ah\n platform:: juniper\n action:: deny\n}", ""),
+        (
+            "cisco e inet6",
+            "term a {\n protocol:: ah\n source-address:: WEB\n action:: deny\n}",
+            "",
+        ),
+        (
+            "cisco e inet6",
+            "term a {\n protocol:: ah\n platform:: juniper\n action:: deny\n}",
+            "",
+        ),
         (
             "cisco e inet6",
             "term a {\n protocol:: esp\n source-address:: SIX\n action:: deny\n}",
@@ -237,7 +273,11 @@ fn extension_headers_are_slips_in_ipv6(rt: HostRuntime) -> Result<(), Fail> {
     ];
     let base = definitions(rt.alloc())?;
     for (target, terms, answer) in table {
-        assert_eq!(rt; shown(rt.alloc(), &base, target, terms)?.as_str(), answer, "at {target} {terms}");
+        assert_eq!(rt;
+            shown(rt.alloc(), &base, target, terms)?.as_str(),
+            answer,
+            "at {target} {terms}"
+        );
     }
     Ok(())
 }
@@ -245,9 +285,14 @@ fn extension_headers_are_slips_in_ipv6(rt: HostRuntime) -> Result<(), Fail> {
 // So many terms of 5 lines, behind one of 3 prefixes in 4 lines. FIRSTS has the first address of each of 8 blocks of
 // IPv6: what is left of a block is 125 prefixes, of the lengths 4 to 128, and of all 1,000.
 fn holed_terms(alloc: Global, count: u32, last: &str) -> Result<String, Memory> {
-    let mut out = String::from_str(alloc, "term o {\n source-address:: PAIR\n action:: deny\n}\n")?;
+    let mut out = String::from_str(
+        alloc,
+        "term o {\n source-address:: PAIR\n action:: deny\n}\n",
+    )?;
     for i in 0..count {
-        let term = format!(in alloc; "term t{i} {{\n source-exclude:: FIRSTS\n destination-exclude:: FIRSTS\n action:: deny\n}}\n")?;
+        let term = format!(in alloc;
+            "term t{i} {{\n source-exclude:: FIRSTS\n destination-exclude:: FIRSTS\n action:: deny\n}}\n"
+        )?;
         out.push_str(&term)?;
     }
     out.push_str(last)?;
@@ -258,10 +303,14 @@ fn holed_terms(alloc: Global, count: u32, last: &str) -> Result<String, Memory> 
 // prefix less.
 #[test]
 fn prefixes_of_a_filter_are_counted(rt: HostRuntime) -> Result<(), Fail> {
-    let less = "term less {\n source-exclude:: FIRSTS SECONDS\n destination-exclude:: FIRSTS THIRD\n action:: deny\n}\n";
-    let last = "term last {\n source-exclude:: FIRSTS SECONDS\n destination-exclude:: FIRSTS\n action:: deny\n}\n";
-    let header = "term last {\n source-exclude:: FIRSTS SECONDS\n destination-exclude:: FIRSTS\n protocol:: ah\n action:: deny\n}\n";
-    let both = "term last {\n source-exclude:: FIRSTS SECONDS\n destination-exclude:: FIRSTS\n action:: deny\n}\nterm h {\n protocol:: ah\n action:: deny\n}\n";
+    let less =
+        "term less {\n source-exclude:: FIRSTS SECONDS\n destination-exclude:: FIRSTS THIRD\n action:: deny\n}\n";
+    let last =
+        "term last {\n source-exclude:: FIRSTS SECONDS\n destination-exclude:: FIRSTS\n action:: deny\n}\n";
+    let header =
+        "term last {\n source-exclude:: FIRSTS SECONDS\n destination-exclude:: FIRSTS\n protocol:: ah\n action:: deny\n}\n";
+    let both =
+        "term last {\n source-exclude:: FIRSTS SECONDS\n destination-exclude:: FIRSTS\n action:: deny\n}\nterm h {\n protocol:: ah\n action:: deny\n}\n";
     let table = [
         (last, "503 TooManyPrefixes last"),
         (both, "503 TooManyPrefixes last"),
@@ -270,7 +319,10 @@ fn prefixes_of_a_filter_are_counted(rt: HostRuntime) -> Result<(), Fail> {
     let base = definitions(rt.alloc())?;
     for (last, slip) in table {
         let terms = holed_terms(rt.alloc(), 99, last)?;
-        assert_eq!(rt; shown(rt.alloc(), &base, "cisco e inet6", &terms)?.as_str(), slip);
+        assert_eq!(rt;
+            shown(rt.alloc(), &base, "cisco e inet6", &terms)?.as_str(),
+            slip
+        );
     }
     let terms = holed_terms(rt.alloc(), 99, less)?;
     let filter = filter_of(rt.alloc(), &base, "cisco e inet6", &terms)?;
