@@ -80,15 +80,21 @@ fn tree_of(alloc: Global, files: Files) -> Result<MemTree, Memory> {
     Ok(tree)
 }
 
+fn put_refusal(line: &mut Whole, refusal: &LoadFault) -> Result<(), PutFault> {
+    match refusal {
+        LoadFault::Fault(fault) => put_fault(line, fault),
+        LoadFault::List => line.put(b"list"),
+        LoadFault::Read => line.put(b"read"),
+        LoadFault::Memory => line.put(b"memory"),
+    }
+}
+
 // The line of the fault that is told, or what else is answered.
 fn line_of(alloc: Global, tree: &mut MemTree) -> Result<Whole, PutFault> {
     let mut line = Whole::new(alloc);
     match load(alloc, tree, "def", "pol/a.pol") {
         Ok(_) => line.put(b"loaded")?,
-        Err(LoadFault::Fault(fault)) => put_fault(&mut line, &fault)?,
-        Err(LoadFault::List) => line.put(b"list")?,
-        Err(LoadFault::Read) => line.put(b"read")?,
-        Err(LoadFault::Memory) => line.put(b"memory")?,
+        Err(refusal) => put_refusal(&mut line, &refusal)?,
     }
     Ok(line)
 }
