@@ -46,11 +46,7 @@ fn put_each_word<T, F: WordForm<T>, O: Out>(
     Ok(())
 }
 
-fn put_word_of<T, F: WordForm<T>, O: Out>(
-    item: &T,
-    form: &F,
-    out: &mut O,
-) -> Result<(), PutFault>
+fn put_word_of<T, F: WordForm<T>, O: Out>(item: &T, form: &F, out: &mut O) -> Result<(), PutFault>
     requires { IsTrue (O.is_open out.old) }
     ensures { Puts O.told O.faults O.refusals O.is_open O.keeps_rest out.old out.new
         (32 ∷ F.item_text form.now item.now) result }

@@ -1,8 +1,9 @@
 ghost use Rattle.std.specs.Prelude.{max};
 
 use crate::{
-    Address, Draft, Each, EachWord, Form, FreeText, Named, Number, Piece, Row, Rows, Wildcard, Word,
-    WordForm, are_distinct, have_distinct_names, is_prefix_of, is_text_of, join_words, read_rows,
+    Address, Draft, Each, EachWord, Form, FreeText, Named, Number, Piece, Row, Rows, Wildcard,
+    Word, WordForm, are_distinct, have_distinct_names, is_prefix_of, is_text_of, join_words,
+    read_rows,
 };
 use acl_packet::{Family, Prefix};
 use acl_text::{Memory, Out, PutFault};

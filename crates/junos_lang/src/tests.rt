@@ -337,6 +337,7 @@ fn reads_whole_texts_and_refuses_others(rt: HostRuntime) -> Result<(), Fail> {
     let cases = [
         ("            /* a b */\n", true),
         ("            /* a  b */\n", false),
+        ("            /*\ta */\n", false),
         ("            /* */\n", false),
         (
             "            /* a */ } term x { then accept; } /* */\n",
@@ -355,6 +356,9 @@ fn reads_whole_texts_and_refuses_others(rt: HostRuntime) -> Result<(), Fail> {
         assert_eq!(rt; open.is_empty(), false);
         assert_eq!(rt; is_read(rt.alloc(), open)?, false, "at {front}");
     }
+    let unended = EDGE.strip_suffix("\n").unwrap_or("");
+    assert_eq!(rt; unended.is_empty(), false);
+    assert_eq!(rt; is_read(rt.alloc(), unended)?, false);
     let none = filter(rt.alloc(), "")?;
     assert_eq!(rt; is_read(rt.alloc(), none.as_str())?, false);
     let twice = format!(in rt.alloc(); "{EDGE}{WHOLE}")?;
