@@ -1,9 +1,9 @@
 -- How many entries a section has.
-use Rattle.std.proofs.Common.{◌≡◌, ℕ, ◌+◌, ◌<◌, ◌≤◌, min, Bool, true, false, ◌||◌, cond, nat_lt, List, [], ◌∷◌, ◌++◌, length, map, flat_map, count_by, drop, get_or, Option, None, Some, inl, inr, refl, ap, sym, ◌∙◌, append-nil, arith}
+use Rattle.std.proofs.Common.{◌≡◌, ℕ, ◌+◌, ◌<◌, ◌≤◌, min, Bool, true, false, ◌||◌, cond, List, [], ◌∷◌, ◌++◌, length, map, flat_map, count_by, drop, get_or, Option, None, Some, is_some, inl, inr, refl, ap, sym, ◌∙◌, append-nil, arith}
 use Rattle.std.specs.List.{list_any}
 use Rattle.std.specs.Option.{option_or}
 use Rattle.std.proofs.lemmas.Bool.{cases_lt, lt-ltb, or_parts, true≢false}
-use Rattle.std.proofs.lemmas.List.{drop_all, drop_more, length-map}
+use Rattle.std.proofs.lemmas.List.{drop_all, drop_more}
 use Rattle.std.proofs.lemmas.List.Sums.{sum_by-append, sum_by-cons}
 use Rattle.acl_packet.specs.declared.addresses.Families.{Families}
 use Rattle.acl_packet.specs.declared.addresses.Families.TheVariants.{Inet, Inet6, Mixed}
@@ -24,7 +24,7 @@ use Rattle.cisco_lang.specs.Documents.{heads_of}
 use Rattle.cisco_lang.specs.Walks.{is_entry}
 use Rattle.gen_cisco.specs.CountSteps.{closing_count, combinations_in, rule_count}
 use Rattle.gen_cisco.specs.Limits.{count_limit, first_limit, limit_of, rule_limit}
-use Rattle.gen_cisco.specs.Sections.{closed, closing_entries, entry_count, entry_of, items_in, list_items, list_of, notes, remarks, rule_items}
+use Rattle.gen_cisco.specs.Sections.{closed, closing_entries, entry_count, entry_of, items_in, list_items, list_of, remarks, rule_items}
 
 abbrev pub entries : List Item → ℕ
 entries items = count_by is_entry items
@@ -108,12 +108,15 @@ pub closing-list : (family : Family) (rules : List Rule) → list_any (λ r. sam
     → entries (list_items family rules) ≡ closing_count family
 closing-list family rules h = ap entries (closing-items family rules h) ∙ closing-entries family
 
+pub closing-min : (family : Family) → closing_count family ≡ min (closing_count family) COUNT_END
+closing-min V4 = omega arith
+closing-min V6 = omega arith
+
 pub rule-list : (family : Family) (rules : List Rule) → list_any (λ r. same_family r.family family) rules ≡ true
     → entries (list_items family rules) ≡ combinations_in family rules
 rule-list family rules h = ap entries (same-items family rules h) ∙ entries-in family rules
 
 -- ---- a section
-
 
 abbrev pub lists-count : Families → List Rule → List ℕ → ℕ
 lists-count fs rules name = entries (flat_map (λ l. l.items) (map (list_of rules) (heads_of fs name)))
@@ -128,6 +131,9 @@ pub mixed-count : (rules : List Rule) (name : List ℕ) → lists-count Mixed ru
 mixed-count rules name =
     entries-append (list_items V4 rules) (list_items V6 rules ++ [])
     ∙ ap (λ items. entries (list_items V4 rules) + entries items) (append-nil (list_items V6 rules))
+
+pub sum-min : (m n : ℕ) → min (min m COUNT_END + min n COUNT_END) COUNT_END ≡ min (m + n) COUNT_END
+sum-min m n = omega arith
 
 -- ---- steps of the loops
 
@@ -144,7 +150,7 @@ count-on family count here more whole rules i r within is size plus before =
 
 pub none-left : (family : Family) (rules : List Rule) (i : ℕ) → length rules ≤ i → combinations_in family (drop i rules) ≡ 0
 unfolding combinations_in
-none-left family rules i h = ap (combinations_in family) (drop_all rules i h)
+none-left family rules i h = ap (combinations_in family) (drop_all i rules h)
 
 -- ---- the limit of the number
 
@@ -155,8 +161,8 @@ judged-many count h = ap (λ b. judged (cond b (Some TooManyEntries) None) count
 pub judged-same : (count : ℕ) → judged (count_limit (min count COUNT_END)) (min count COUNT_END) ≡ judged (count_limit count) count
 judged-same count = elim (cases_lt COUNT_END count) [
   | inl h ↦ let e : min count COUNT_END ≡ COUNT_END = omega (arith, h) in
-    let k : 100000 < count = omega (arith, h) in
-    ap (λ n. judged (count_limit n) n) e ∙ judged-many COUNT_END (omega arith) ∙ sym (judged-many count k)
+      let k : 100000 < count = omega (arith, h) in
+      ap (λ n. judged (count_limit n) n) e ∙ judged-many COUNT_END (omega arith) ∙ sym (judged-many count k)
   | inr h ↦ let e : min count COUNT_END ≡ count = omega (arith, h) in ap (λ n. judged (count_limit n) n) e
 ]
 
@@ -175,4 +181,12 @@ passed-rule rules i r o within is limit =
     ap (first_limit i) (drop_more rules i r within) ∙ ap (λ q. option_or (rule_limit i q) rest) (sym is) ∙ ap (λ p. option_or p rest) (sym limit)
 
 pub past-rules : (rules : List Rule) (i : ℕ) → length rules ≤ i → first_limit i (drop i rules) ≡ None
-past-rules rules i h = ap (first_limit i) (drop_all rules i h)
+past-rules rules i h = ap (first_limit i) (drop_all i rules h)
+
+pub found : (o rest : Option Limit) → is_some o ≡ true → option_or o rest ≡ o
+found None rest h = absurd (true≢false (sym h))
+found (Some l) rest h = refl
+
+pub not-found : (o rest : Option Limit) → is_some o ≡ false → option_or o rest ≡ rest
+not-found None rest h = refl
+not-found (Some l) rest h = absurd (true≢false h)

@@ -1,6 +1,6 @@
 -- A section's first line, and the names of the lists of targets that do not clash.
-use Rattle.std.proofs.Common.{◌≡◌, ℕ, Bool, true, false, ◌&&◌, ◌||◌, List, [], ◌∷◌, ◌++◌, map, flat_map, codes, refl, append-nil, append_assoc, ap, sym, ◌∙◌}
-use Rattle.std.specs.List.{AllByRecursion, IsDistinct, list_any}
+use Rattle.std.proofs.Common.{◌≡◌, ℕ, Bool, false, ◌&&◌, List, [], ◌∷◌, ◌++◌, map, flat_map, codes, refl, append-nil, append_assoc, ap, sym, ◌∙◌}
+use Rattle.std.specs.List.{AllByRecursion, IsDistinct}
 use Rattle.std.specs.Set.{is_member}
 use Rattle.std.specs.Str.{bytes_eq}
 use Rattle.std.proofs.lemmas.Bool.{or_from, or_parts}
@@ -13,14 +13,13 @@ use Rattle.acl_grammar.specs.Rows.{Row, row_text, text_of_rows}
 use Rattle.acl_grammar.proofs.NamingLaws.{distinct-append}
 use Rattle.acl_target.specs.declared.targets.Kind.{Kind}
 use Rattle.acl_target.specs.declared.targets.Kind.TheVariants.{Cisco}
-use Rattle.acl_target.specs.declared.targets.Target.{Target}
 use Rattle.acl_target.specs.Clashes.{clash, clash_on, is_mixed, list_names as target_lists, same_kind, share_lists}
 use Rattle.acl_target.specs.TargetTexts.{families_text, kind_text, target_text}
 use Rattle.acl_platform.specs.declared.filters.Filter.{Filter}
 use Rattle.acl_platform.specs.declared.rules.Rule.{Rule}
 use Rattle.acl_platform.specs.SoundFilters.{target_of}
 use Rattle.cisco_lang.specs.Documents.{heads_of}
-use Rattle.cisco_lang.specs.Texts.{list_rows, section_row, section_rows, text_of}
+use Rattle.cisco_lang.specs.Texts.{list_rows, section_row, section_rows}
 use Rattle.gen_cisco.specs.SectionLaws.{lists-differ}
 use Rattle.gen_cisco.specs.SectionNames.{FirstLine, ListsDiffer}
 use Rattle.gen_cisco.specs.Sections.{list_names, list_of, section_of}

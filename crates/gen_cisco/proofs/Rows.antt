@@ -1,25 +1,25 @@
 -- The rows of a section as they are put.
-use Rattle.std.proofs.Common.{◌≡◌, ℕ, Bool, true, false, ◌==◌, List, [], ◌∷◌, ◌++◌, length, map, flat_map, codes, refl, append-nil, append_assoc, ap, sym, ◌∙◌, inl, inr, arith}
+use Rattle.std.proofs.Common.{◌≡◌, ℕ, Bool, true, false, cond, List, [], ◌∷◌, ◌++◌, map, flat_map, codes, refl, append-nil, ap, sym, ◌∙◌}
 use Rattle.std.specs.List.{list_any}
+use Rattle.std.proofs.lemmas.Bool.{false≢true}
 use Rattle.std.proofs.lemmas.List.Folds.{flat_map-map}
 use Rattle.std.proofs.lemmas.Grind.{flat_map-append}
 use Rattle.acl_packet.specs.declared.addresses.Families.{Families}
-use Rattle.acl_packet.specs.declared.addresses.Families.TheVariants.{Inet, Inet6, Mixed}
+use Rattle.acl_packet.specs.declared.addresses.Families.TheVariants.{Mixed}
 use Rattle.acl_packet.specs.declared.addresses.Family.{Family}
 use Rattle.acl_packet.specs.declared.addresses.Family.TheVariants.{V4, V6}
 use Rattle.acl_packet.specs.Addresses.{same_family}
 use Rattle.acl_grammar.specs.Rows.{Row, text_of_rows}
+use Rattle.acl_grammar.proofs.DecisionLaws.{family_decides}
 use Rattle.acl_grammar.proofs.ListLaws.{flat_twice}
-use Rattle.acl_platform.specs.declared.combinations.Combination.{Combination}
 use Rattle.acl_platform.specs.declared.rules.Rule.{Rule}
 use Rattle.acl_platform.specs.Combinations.{combinations}
-use Rattle.cisco_lang.specs.declared.documents.Item.{Item}
 use Rattle.cisco_lang.specs.declared.documents.Item.TheVariants.{Remark, Entry as AnEntry}
 use Rattle.cisco_lang.specs.Documents.{heads_of}
-use Rattle.cisco_lang.specs.Texts.{end_rows, head_rows, item_rows, list_rows, section_row, section_rows, text_of}
+use Rattle.cisco_lang.specs.Texts.{head_rows, item_rows, list_rows, section_row, section_rows, text_of}
 use Rattle.gen_cisco.specs.RowSteps.{items_rows, list_body, remark_row}
 use Rattle.gen_cisco.specs.Sections.{entry_of, items_in, list_items, list_of, notes, remarks, rule_items}
-use Rattle.gen_cisco.proofs.EntryCounts.{closing-items, same-items}
+use Rattle.gen_cisco.proofs.EntryCounts.{same-items}
 
 remark-rows : (family : Family) (texts : List (List ℕ)) → map remark_row texts ≡ items_rows family (map (λ text. Remark text) texts)
 unfolding item_rows
@@ -36,6 +36,16 @@ rule-rows r =
     ap (λ rows. map remark_row (remarks r) ++ rows) (sym (flat_map-map (item_rows r.family) (λ c. AnEntry (entry_of r c)) (combinations r)))
     ∙ ap (λ rows. rows ++ items_rows r.family entries) (remark-rows r.family (remarks r))
     ∙ sym (flat_map-append (item_rows r.family) texts entries)
+
+own-by : (family : Family) (r : Rule) (b : Bool) → same_family r.family family ≡ b → b ≡ true
+    → items_rows r.family (rule_items r) ≡ items_rows family (cond b (rule_items r) [])
+own-by family r true e h = ap (λ f. items_rows f (rule_items r)) ((family_decides r.family family).0 e)
+own-by family r false e h = absurd (false≢true h)
+
+pub own-rule : (family : Family) (r : Rule) → same_family r.family family ≡ true
+    → remark_row r.name ∷ [] ++ (map remark_row (notes r.note) ++ flat_map (λ c. item_rows r.family (AnEntry (entry_of r c))) (combinations r))
+    ≡ items_rows family (items_in family r)
+own-rule family r e = rule-rows r ∙ own-by family r (same_family r.family family) refl e
 
 pub own-rows : (family : Family) (rules : List Rule) → list_any (λ r. same_family r.family family) rules ≡ true
     → flat_map (λ r. items_rows family (items_in family r)) rules ≡ items_rows family (list_items family rules)

@@ -1,9 +1,9 @@
 -- The section of an accepted filter decides packets as the filter does: proved here, and need not
 -- be believed.
-use Rattle.std.proofs.Common.{◌≡◌, ◌≢◌, ℕ, ◌+◌, ◌-◌, ◌^◌, ◌<◌, ◌≤◌, Bool, true, false, ◌&&◌, ◌||◌, ◌==◌, cond, nat_le, nat_lt, unwrap_or, List, [], ◌∷◌, ◌++◌, ◌⊎◌, map, flat_map, Option, None, Some, inl, inr, refl, ap, sym, subst, ◌∙◌, append_assoc, arith}
+use Rattle.std.proofs.Common.{◌≡◌, ◌≢◌, ℕ, ◌+◌, ◌-◌, ◌^◌, ◌<◌, Bool, true, false, ◌&&◌, ◌||◌, ◌==◌, cond, nat_le, nat_lt, unwrap_or, List, [], ◌∷◌, ◌++◌, ◌⊎◌, map, flat_map, Option, None, Some, inl, inr, refl, ap, sym, subst, ◌∙◌, append_assoc, arith}
 use Rattle.std.specs.List.{AllByRecursion, list_any}
 use Rattle.std.proofs.lemmas.Bool.{and_from, false≢true, lt-ltb}
-use Rattle.std.proofs.lemmas.List.Folds.{flat_map-map, list_any-append}
+use Rattle.std.proofs.lemmas.List.Folds.{list_any-append}
 use Rattle.acl_packet.specs.declared.addresses.Families.{Families}
 use Rattle.acl_packet.specs.declared.addresses.Families.TheVariants.{Inet, Inet6, Mixed}
 use Rattle.acl_packet.specs.declared.addresses.Family.{Family}
@@ -15,7 +15,7 @@ use Rattle.acl_packet.specs.declared.packets.Packet.{Packet}
 use Rattle.acl_packet.specs.Addresses.{covers, has_address, same_family, width_of}
 use Rattle.acl_packet.specs.Outcomes.{unlogged}
 use Rattle.acl_packet.specs.Packets.{IsPacket}
-use Rattle.acl_grammar.proofs.DecisionLaws.{family_decides, le_decides}
+use Rattle.acl_grammar.proofs.DecisionLaws.{le_decides}
 use Rattle.acl_target.specs.declared.targets.Ending.{Ending}
 use Rattle.acl_target.specs.declared.targets.Ending.TheVariants.{Neighbours}
 use Rattle.acl_target.specs.declared.targets.Kind.TheVariants.{Cisco}
@@ -35,7 +35,7 @@ use Rattle.acl_platform.proofs.EntryLaws.{over-entries}
 use Rattle.cisco_lang.specs.declared.documents.Item.{Item}
 use Rattle.cisco_lang.specs.declared.documents.Item.TheVariants.{Remark, Entry as AnEntry}
 use Rattle.cisco_lang.specs.Documents.{heads_of}
-use Rattle.cisco_lang.specs.Walks.{decided_by as entry_decides, ending, entry_holds, first_holding, flags_hold, has_entries, is_entry, items_of, port_holds, proto_holds, section_outcome, verdict_of, walk}
+use Rattle.cisco_lang.specs.Walks.{ending, entry_holds, first_holding, flags_hold, has_entries, is_entry, items_of, port_holds, proto_holds, section_outcome, verdict_of, walk}
 use Rattle.gen_cisco.specs.Limits.{is_for_cisco, limit_of}
 use Rattle.gen_cisco.specs.SectionLaws.{device-is, rules-are}
 use Rattle.gen_cisco.specs.Sections.{closed, closing_entries, entry_of, everywhere, flags_of, items_in, list_items, list_of, permits, remarks, rule_items, section_of, wide_entry}
@@ -86,11 +86,11 @@ verdict-same Reject h = absurd (false≢true h)
 verdict-same Reset h = absurd (false≢true h)
 verdict-same Left h = absurd (false≢true h)
 
-decision-same : (v : Verdict) (log : Bool) → has_verdict Cisco v ≡ true
-    → (record { verdict = verdict_of (permits v); logged = log } : Outcome) ≡ record { verdict = v; logged = log }
-decision-same v log h =
-    let out : Verdict → Outcome = λ w. record { verdict = w; logged = log } in
-    ap out (verdict-same v h)
+abbrev with_log : Bool → Verdict → Outcome
+with_log log v = record { verdict = v; logged = log }
+
+decision-same : (v : Verdict) (log : Bool) → has_verdict Cisco v ≡ true → with_log log (verdict_of (permits v)) ≡ with_log log v
+decision-same v log h = ap (with_log log) (verdict-same v h)
 
 -- ---- a rule
 
@@ -189,7 +189,8 @@ over-rules families (r ∷ rules) p h k =
 
 from-everywhere : (f : Family) (a : ℕ) → a < 2 ^ width_of f → has_address (everywhere f) a ≡ true
 from-everywhere f a h =
-    let whole : 0 + 2 ^ (width_of f - 0) ≡ 2 ^ width_of f = omega arith in
+    let width : width_of f - 0 ≡ width_of f = omega arith in
+    let whole = ap (λ n. 2 ^ n) width in
     and_from (nat_le 0 a) (nat_lt a (0 + 2 ^ (width_of f - 0))) ((le_decides 0 a).1 (omega arith)) (lt-ltb a (0 + 2 ^ (width_of f - 0)) (omega (arith, h, whole)))
 
 denied : (b : Bool) (o : Outcome) → o ≡ unlogged Deny → unwrap_or (cond b (Some (unlogged Deny)) None) o ≡ o

@@ -1,7 +1,7 @@
 -- The entries of a rule that has no limit are entries of a list: proved here, and need not be
 -- believed.
-use Rattle.std.proofs.Common.{◌≡◌, ℕ, zero, suc, ◌<◌, ◌≤◌, Bool, true, false, not, ◌&&◌, ◌||◌, ◌==◌, List, [], ◌∷◌, Option, None, Some, IfSome, is_none, inl, inr, refl, ap, sym, subst, ◌∙◌, arith}
-use Rattle.std.proofs.lemmas.Bool.{and_from, cases_lt, eqb-true, false_from_ne_true, false≢true, or_left, or_parts, or_right}
+use Rattle.std.proofs.Common.{◌≡◌, ℕ, zero, suc, ◌≤◌, Bool, true, false, not, ◌&&◌, ◌||◌, ◌==◌, Option, None, Some, IfSome, is_none, inl, inr, refl, ap, sym, ◌∙◌, arith}
+use Rattle.std.proofs.lemmas.Bool.{and_from, cases_lt, eqb-true, false_from_ne_true, false≢true, or_parts}
 use Rattle.acl_packet.specs.declared.addresses.Families.{Families}
 use Rattle.acl_packet.specs.declared.addresses.Family.{Family}
 use Rattle.acl_packet.specs.declared.addresses.Family.TheVariants.{V4, V6}
@@ -54,7 +54,7 @@ type-is families r (Some n) h k =
     elim (cases_lt n 255) [
       | inl below ↦ omega (arith, below)
       | inr above ↦ let e : n ≡ 255 = omega (arith, most, above) in
-        absurd (false≢true (sym (h.types_named k.0) ∙ ap (holds r.itypes.ranges) (sym e) ∙ k.1))
+          absurd (false≢true (sym (h.types_named k.0) ∙ ap (holds r.itypes.ranges) (sym e) ∙ k.1))
     ]
 
 no-icmp : (f : Family) → is_icmp f 0 ≡ false

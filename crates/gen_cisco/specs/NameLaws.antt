@@ -1,12 +1,12 @@
 -- Names of rules and notes are free texts: proved here, and need not be believed.
-use Rattle.std.proofs.Common.{◌≡◌, ℕ, ◌≤◌, Bool, true, false, ◌&&◌, ◌||◌, ◌==◌, not, nat_le, List, [], ◌∷◌, ◌++◌, ◌⊎◌, inl, inr, length, codes, refl, ap, sym, subst, ◌∙◌, arith}
+use Rattle.std.proofs.Common.{◌≡◌, ℕ, ◌≤◌, Bool, true, false, ◌&&◌, ◌||◌, ◌==◌, not, nat_le, List, [], ◌∷◌, ◌++◌, inl, inr, length, codes, refl, ap, sym, subst, ◌∙◌, arith}
 use Rattle.std.specs.List.{list_all, AllByRecursion}
 use Rattle.std.proofs.lemmas.Bool.{and_from, and_parts, eqb-true, false≢true, or_left}
 use Rattle.acl_text.specs.Names.{is_name, is_name_byte, is_safe_byte, is_safe_text, single_spaced}
 use Rattle.acl_text.specs.Notes.{is_note}
 use Rattle.acl_grammar.proofs.DecisionLaws.{le_decides}
 use Rattle.acl_target.specs.declared.targets.Kind.TheVariants.{Cisco}
-use Rattle.acl_platform.specs.SoundFilters.{IsRuleName, IsSplitName}
+use Rattle.acl_platform.specs.SoundFilters.{IsRuleName}
 use Rattle.gen_cisco.specs.Sections.{notes}
 
 not_space : (b : ℕ) → is_name_byte b ≡ true → (b == 32) ≡ false

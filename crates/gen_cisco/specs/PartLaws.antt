@@ -1,5 +1,5 @@
 -- What each part of a rule's combinations is: proved here, and need not be believed.
-use Rattle.std.proofs.Common.{◌≡◌, ℕ, zero, suc, ◌+◌, ◌-◌, ◌<◌, ◌≤◌, Bool, true, false, cond, nat_le, ◌&&◌, List, [], ◌∷◌, ◌++◌, map, Option, None, Some, refl, ap, ◌∙◌, arith}
+use Rattle.std.proofs.Common.{◌≡◌, ℕ, zero, suc, ◌+◌, ◌-◌, ◌<◌, ◌≤◌, Bool, true, false, cond, nat_le, List, [], ◌∷◌, map, Option, None, Some, refl, arith}
 use Rattle.std.specs.List.{AllByRecursion, range_with_len}
 use Rattle.std.proofs.lemmas.Bool.{and_from, or_left, or_right}
 use Rattle.std.proofs.lemmas.List.Elements.{recursion_from_All}
@@ -18,7 +18,7 @@ use Rattle.acl_platform.specs.declared.combinations.Combination.{Combination}
 use Rattle.acl_platform.specs.declared.rules.Rule.{Rule}
 use Rattle.acl_platform.specs.Choices.{number_choices, numbers_in, numbers_of, pairs, range_choices}
 use Rattle.acl_platform.specs.Combinations.{combination_of, combinations, Parts, parts_of}
-use Rattle.acl_platform.specs.SoundFilters.{IsFull, IsFullList, IsSoundRule}
+use Rattle.acl_platform.specs.SoundFilters.{IsFullList, IsSoundRule}
 use Rattle.acl_platform.proofs.PairLaws.{all-pairs}
 
 -- No number where the set is all, else one that it holds.
@@ -51,9 +51,10 @@ all-map P f (x ∷ xs) h = (h.0, all-map P f xs h.1)
 
 row-held : (r : Range) (rs : List Range) (a n : ℕ) → r.low ≤ a → a + n ≤ r.high + 1 → AllByRecursion (λ m. holds (r ∷ rs) m ≡ true) (range_with_len a n)
 row-held r rs a zero h k = tt
-row-held r rs a (suc n) h k =
-    (or_left (inside r a) (holds rs a) (and_from (nat_le r.low a) (nat_le a r.high) ((le_decides r.low a).1 h) ((le_decides a r.high).1 (omega (arith, k)))),
-    row-held r rs (a + 1) n (omega (arith, h)) (omega (arith, k)))
+row-held r rs a (suc n) h k = (
+  or_left (inside r a) (holds rs a) (and_from (nat_le r.low a) (nat_le a r.high) ((le_decides r.low a).1 h) ((le_decides a r.high).1 (omega (arith, k)))),
+  row-held r rs (a + 1) n (omega (arith, h)) (omega (arith, k)),
+)
 
 numbers-held : (floor top : ℕ) (rs : List Range) → IsNormal floor top rs → AllByRecursion (λ m. holds rs m ≡ true) (numbers_of rs)
 numbers-held floor top [] h = tt

@@ -1,5 +1,5 @@
 -- The rows of a list's items, and those behind its head.
-use Rattle.std.specs.Prelude.{ℕ, List, [], ◌∷◌, ◌++◌, flat_map, codes}
+use Rattle.std.specs.Prelude.{ℕ, List, ◌∷◌, ◌++◌, flat_map, codes}
 use Rattle.acl_packet.specs.declared.addresses.Family.{Family}
 use Rattle.acl_platform.specs.declared.rules.Rule.{Rule}
 use Rattle.acl_grammar.specs.Rows.{Row, row, words_in}

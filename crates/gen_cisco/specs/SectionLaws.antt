@@ -1,5 +1,5 @@
 -- The section of an accepted filter is a document: proved here, and need not be believed.
-use Rattle.std.proofs.Common.{◌≡◌, ℕ, ◌+◌, ◌<◌, ◌≤◌, Bool, true, false, cond, ◌&&◌, nat_lt, List, [], ◌∷◌, ◌++◌, length, map, flat_map, codes, Option, None, Some, inl, inr, refl, ap, sym, subst, append-nil, ◌∙◌, arith}
+use Rattle.std.proofs.Common.{◌≡◌, ℕ, ◌+◌, ◌≤◌, Bool, true, false, cond, nat_lt, List, [], ◌∷◌, ◌++◌, length, map, flat_map, codes, Option, None, Some, inl, inr, refl, ap, sym, subst, append-nil, ◌∙◌, arith}
 use Rattle.std.specs.List.{AllByRecursion, IsDistinct}
 use Rattle.std.specs.Option.{option_or}
 use Rattle.std.specs.Str.{bytes_eq}
@@ -12,7 +12,6 @@ use Rattle.acl_packet.specs.declared.addresses.Family.{Family}
 use Rattle.acl_packet.specs.declared.addresses.Family.TheVariants.{V4, V6}
 use Rattle.acl_packet.specs.Addresses.{same_family}
 use Rattle.acl_packet.proofs.PrefixLaws.{everywhere_is}
-use Rattle.acl_text.specs.Names.{is_filter_name, is_safe_text}
 use Rattle.acl_grammar.proofs.DecisionLaws.{family_decides}
 use Rattle.acl_grammar.proofs.ListLaws.{all_append}
 use Rattle.acl_target.specs.declared.targets.Ending.TheVariants.{Neighbours}
@@ -28,16 +27,15 @@ use Rattle.acl_platform.specs.declared.rules.Rule.{Rule}
 use Rattle.acl_platform.specs.Combinations.{combinations}
 use Rattle.acl_platform.specs.Platforms.{IsAccepted}
 use Rattle.acl_platform.specs.SoundFilters.{IsSoundRule, target_of}
-use Rattle.cisco_lang.specs.declared.documents.AccessList.{AccessList}
 use Rattle.cisco_lang.specs.declared.documents.Item.{Item}
 use Rattle.cisco_lang.specs.declared.documents.Item.TheVariants.{Remark, Entry as AnEntry}
-use Rattle.cisco_lang.specs.Documents.{heads_of, IsDocument, IsEntry, IsItem, IsList, names_of}
+use Rattle.cisco_lang.specs.Documents.{heads_of, IsEntry, IsItem, IsList}
 use Rattle.cisco_lang.specs.Texts.{Spells, text_of}
 use Rattle.gen_cisco.specs.EntryLaws.{entry-is}
 use Rattle.gen_cisco.specs.Limits.{count_limit, first_limit, is_for_cisco, is_unsupported, limit_of, rule_limit}
 use Rattle.gen_cisco.specs.NameLaws.{notes-safe, rule-name-safe}
 use Rattle.gen_cisco.specs.PartLaws.{all-map, all-weaker, IsOf, parts-are}
-use Rattle.gen_cisco.specs.Sections.{closed, closing_entries, entry_of, entry_count, everywhere, items_in, list_items, list_of, notes, remarks, rule_items, section_of, wide_entry}
+use Rattle.gen_cisco.specs.Sections.{closed, entry_of, entry_count, items_in, list_of, remarks, rule_items, section_of, wide_entry}
 
 -- ---- an accepted filter
 
@@ -84,9 +82,10 @@ no-other-limit false true l m h = cc
 no-other-limit false false l m h = refl
 
 rule-within : (place : ℕ) (r : Rule) → rule_limit place r ≡ None → IsWithin r
-rule-within place r h =
-    (no-name-limit (length r.name) (NameLength place) (cond (is_unsupported r) (Some (Unsupported place)) None) h,
-    no-other-limit (nat_lt 64 (length r.name)) (is_unsupported r) (NameLength place) (Unsupported place) h)
+rule-within place r h = (
+  no-name-limit (length r.name) (NameLength place) (cond (is_unsupported r) (Some (Unsupported place)) None) h,
+  no-other-limit (nat_lt 64 (length r.name)) (is_unsupported r) (NameLength place) (Unsupported place) h,
+)
 
 all-within : (place : ℕ) (rules : List Rule) → first_limit place rules ≡ None → AllByRecursion IsWithin rules
 all-within place [] h = tt

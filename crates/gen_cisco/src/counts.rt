@@ -44,6 +44,13 @@ pub(crate) fn has_rule(family: Family, rules: &[Rule]) -> bool
     rules.iter().any(|rule| rule.family == family)
 }
 
+/// Whether the rule is of the family.
+pub(crate) fn is_of(family: Family, rule: &Rule) -> bool
+    ensures { result ≡ same_family rule.now.family family }
+{
+    rule.family == family
+}
+
 fn closing_count(family: Family) -> u64
     ensures { result ≡ closing_count family }
 {
@@ -68,7 +75,7 @@ fn rule_count(family: Family, rule: &Rule) -> u64
     requires { IsSized rule.now }
     ensures { result ≡ min (rule_count family rule.now) COUNT_END }
 {
-    if rule.family == family {
+    if is_of(family, rule) {
         count_combinations(rule)
     } else {
         0

@@ -7,7 +7,7 @@ ghost use Rattle.acl_platform.specs.Combinations.{IsSized, combinations};
 ghost use Rattle.cisco_lang.specs.declared.documents.Flags.{Flags};
 ghost use Rattle.cisco_lang.specs.declared.documents.Item.TheVariants.{Entry as AnEntry};
 ghost use Rattle.cisco_lang.specs.Texts.{end_rows, head_rows, item_rows, text_of};
-ghost use Rattle.gen_cisco.specs.RowSteps.{items_rows, list_body, remark_row};
+ghost use Rattle.gen_cisco.specs.RowSteps.{items_rows, remark_row};
 ghost use Rattle.gen_cisco.specs.Sections.{
   closing_entries,
   entry_of,
@@ -21,7 +21,7 @@ ghost use Rattle.gen_cisco.specs.Sections.{
   wide_entry,
 };
 
-use crate::counts::has_rule;
+use crate::counts::{has_rule, is_of};
 use acl_grammar::{Form, Row, Rows, Word};
 use acl_packet::{Families, Family, Prefix, Verdict};
 use acl_platform::{Combination, Filter, Rule, RuleForm, Test, put_combinations, put_rules};
@@ -41,30 +41,38 @@ pub(crate) fn put_section<O: Out>(filter: &Filter, out: &mut O) -> Result<(), Pu
         name,
         families: filter.families,
     };
-    let v4 = (
-        ListHead {
-            family: Family::V4,
-            name,
-        },
-        ListBody {
-            family: Family::V4,
-            rules,
-        },
-    );
-    let v6 = ListBody {
+    let v4 = ListItems {
+        family: Family::V4,
+        rules,
+    };
+    let v6 = ListItems {
         family: Family::V6,
         rules,
     };
     match filter.families {
-        Families::Inet => (section, v4).put_rows(out),
+        Families::Inet => {
+            let head = ListHead {
+                family: Family::V4,
+                name,
+            };
+            (section, (head, (v4, ListEnd))).put_rows(out)
+        }
         Families::Inet6 => {
             let head = ListHead {
                 family: Family::V6,
                 name,
             };
-            (section, (head, v6)).put_rows(out)
+            (section, (head, (v6, ListEnd))).put_rows(out)
         }
-        Families::Mixed => (section, (v4, (MixedHead { name }, v6))).put_rows(out),
+        Families::Mixed => {
+            let head = ListHead {
+                family: Family::V4,
+                name,
+            };
+            let first = (head, (v4, ListEnd));
+            let second = (MixedHead { name }, (v6, ListEnd));
+            (section, (first, second)).put_rows(out)
+        }
     }
 }
 
@@ -101,27 +109,24 @@ impl<'a> Rows for MixedHead<'a> {
     }
 }
 
-// The items of the list of a family, and its end.
+// The items of the list of a family.
 #[derive(Drop)]
-struct ListBody<'a> {
+struct ListItems<'a> {
     family: Family,
     rules: &'a [Rule],
     ghost sized: { All IsSized rules.now },
 }
 
-impl<'a> Rows for ListBody<'a> {
-    ghost rows = { λ b. list_body b.family b.rules.now };
+impl<'a> Rows for ListItems<'a> {
+    ghost rows = { λ l. items_rows l.family (list_items l.family l.rules.now) };
 
     fn put_rows<O: Out>(&self, out: &mut O) -> Result<(), PutFault> {
-        let form = InFamily {
-            family: self.family,
-        };
-        if has_rule(self.family, self.rules) {
-            put_rules(self.rules, &form, out)?;
+        let family = self.family;
+        if has_rule(family, self.rules) {
+            put_rules(self.rules, &InFamily { family }, out)
         } else {
-            put_closing(self.family, out)?;
+            put_closing(family, out)
         }
-        ListEnd.put_rows(out)
     }
 }
 
@@ -183,16 +188,17 @@ impl RuleForm for InFamily {
     ghost rule_rows = { λ f rule. items_rows f.family (items_in f.family rule) };
 
     fn put_rule<O: Out>(&self, rule: &Rule, out: &mut O) -> Result<(), PutFault> {
-        if rule.family != self.family {
-            return Ok(());
+        if is_of(self.family, rule) {
+            let name = RemarkRow {
+                text: rule.name.as_slice(),
+            };
+            let note = NoteRow {
+                text: rule.note.as_slice(),
+            };
+            (name, (note, Entries { rule })).put_rows(out)
+        } else {
+            Ok(())
         }
-        let name = RemarkRow {
-            text: rule.name.as_slice(),
-        };
-        let note = NoteRow {
-            text: rule.note.as_slice(),
-        };
-        (name, (note, Entries { rule })).put_rows(out)
     }
 }
 
