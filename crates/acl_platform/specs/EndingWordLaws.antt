@@ -1,8 +1,8 @@
 -- The laws of the toy language: they are proved here, and need not be believed.
-use Rattle.std.proofs.Common.{◌≡◌, ℕ, Bool, true, false, ◌==◌, List, [], ◌∷◌, ◌++◌, length, flat_map, codes, Option, None, Some, refl, append-nil, ap, sym, subst, ◌∙◌, arith}
+use Rattle.std.proofs.Common.{◌≡◌, ℕ, false, true, ◌==◌, List, [], ◌∷◌, ◌++◌, length, flat_map, None, Some, refl, append-nil, ap, sym, subst, ◌∙◌}
 use Rattle.std.specs.List.{IsDistinct}
 use Rattle.std.specs.Str.{bytes_eq}
-use Rattle.std.proofs.lemmas.Bool.{eqb-true, false≢true}
+use Rattle.std.proofs.lemmas.Bool.{false≢true}
 use Rattle.std.proofs.lemmas.Bool.Decides.{Decides-eqb}
 use Rattle.std.proofs.lemmas.List.{append_cancel_left}
 use Rattle.std.proofs.lemmas.Grind.{flat_map-append}
@@ -13,11 +13,10 @@ use Rattle.acl_target.specs.FilterEndings.{ending_outcome}
 use Rattle.acl_grammar.specs.Naming.{in_common}
 use Rattle.acl_grammar.proofs.NamingLaws.{distinct-append}
 use Rattle.acl_platform.specs.declared.filters.Filter.{Filter}
-use Rattle.acl_platform.specs.declared.filters.Limit.{Limit}
 use Rattle.acl_platform.specs.declared.rules.Rule.{Rule}
 use Rattle.acl_platform.specs.EndingWords.{ending_line, EndingsSpell, has_no_rule, outcome_of_ending, words_of}
 use Rattle.acl_platform.specs.Platforms.{DecidesAs, IsAccepted}
-use Rattle.acl_platform.specs.Rules.{filter_outcome, rules_outcome}
+use Rattle.acl_platform.specs.Rules.{rules_outcome}
 
 -- the byte that a text begins with
 begins : List ℕ → ℕ
@@ -82,11 +81,11 @@ pub section_is_spelled : (f : Filter) → IsAccepted has_no_rule (λ g. None) f 
 unfolding IsDistinct
 section_is_spelled f h = record { differ = (tt, tt); written = sym (append-nil (ending_line f.ending)) }
 
-without_rules : (ending : Ending) (rules : List Rule) (p : Packet) → length rules ≡ 0
+without_rules : (ending : Ending) (rules : List Rule) (p : Packet) → (length rules == 0) ≡ true
     → ending_outcome ending p ≡ rules_outcome ending rules p
 unfolding rules_outcome
 without_rules ending [] p h = refl
-without_rules ending (r ∷ rules) p h = absurd (omega (arith, h))
+without_rules ending (r ∷ rules) p h = absurd (false≢true h)
 
 pub section_decides : (f : Filter) → IsAccepted has_no_rule (λ g. None) f → DecidesAs f (outcome_of_ending f.ending)
-section_decides f h = λ p packet family. ap Some (without_rules f.ending f.rules p (eqb-true (length f.rules) 0 h.handled))
+section_decides f h = λ p packet family. ap Some (without_rules f.ending f.rules p h.handled)
