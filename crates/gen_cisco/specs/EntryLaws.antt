@@ -17,9 +17,9 @@ use Rattle.acl_platform.specs.declared.rules.Rule.{Rule}
 use Rattle.acl_platform.specs.declared.rules.Test.{Test}
 use Rattle.acl_platform.specs.declared.rules.Test.TheVariants.{Plain, AckOrRst, SynNotAck, Rst, State}
 use Rattle.acl_platform.specs.SoundFilters.{is_named_protocol, is_tcp, IsSoundRule, tests_flags}
+use Rattle.acl_platform.proofs.CombinationFacts.{IsCombinationOf, OfNumbers, OfRanges}
 use Rattle.cisco_lang.specs.Documents.{flags_fit, IsEntry, IsPortRange, is_proto, match_all_fits, ports_fit, type_fits}
 use Rattle.gen_cisco.specs.Limits.{asks_initial, is_unsupported, names_ports}
-use Rattle.gen_cisco.specs.PartLaws.{IsOf, OfNumbers, OfRanges}
 use Rattle.gen_cisco.specs.Sections.{entry_of, flags_of}
 
 -- ---- the protocol
@@ -112,9 +112,9 @@ ports-fit families r proto None (Some q) h u p k l =
     tcp-or-udp r.protos proto p (h.destination_ports_fit l.0)
     (no-destination (holds r.protos.ranges 132) (is_all r.sports) (is_all r.dports) sctp l.0)
 
-range-is : (s : Numbers) (o : Option (ℕ × ℕ)) → OfRanges s o → IfSome o IsPortRange
-range-is s None h = tt
-range-is s (Some q) h = h.1
+range-is : (s : Numbers) (o : Option (ℕ × ℕ)) → s.top ≡ 65535 → OfRanges s o → IfSome o IsPortRange
+range-is s None e h = tt
+range-is s (Some q) e h = let high = h.1.1 in (h.1.0, omega (arith, e, high))
 
 -- ---- flags
 
@@ -141,7 +141,7 @@ only-tcp s proto p only =
 
 -- ---- the entry
 
-pub entry-is : (families : Families) (r : Rule) (c : Combination) → IsSoundRule Cisco families r → is_unsupported r ≡ false → IsOf r c
+pub entry-is : (families : Families) (r : Rule) (c : Combination) → IsSoundRule Cisco families r → is_unsupported r ≡ false → IsCombinationOf r c
     → IsEntry r.family (entry_of r c)
 entry-is families r c h u k =
     let e = entry_of r c in
@@ -149,13 +149,13 @@ entry-is families r c h u k =
     record {
       protocol = protocol-is families r c.proto h k.protocol;
       source = k.source;
-      source_ports = range-is r.sports c.sport k.source_ports;
+      source_ports = range-is r.sports c.sport h.source_ports.top_is k.source_ports;
       destination = k.destination;
-      destination_ports = range-is r.dports c.dport k.destination_ports;
-      icmp_type = type-is families r c.itype h k.icmp_type;
+      destination_ports = range-is r.dports c.dport h.destination_ports.top_is k.destination_ports;
+      icmp_type = type-is families r c.itype h k.type_of_icmp;
       fit = and_from (ports_fit e) (type_fits r.family e && flags_fit r.family e)
           (ports-fit families r c.proto c.sport c.dport h u k.protocol k.source_ports k.destination_ports)
-          (and_from (type_fits r.family e) (flags_fit r.family e) (types-fit families r c.proto c.itype h k.protocol k.icmp_type)
+          (and_from (type_fits r.family e) (flags_fit r.family e) (types-fit families r c.proto c.itype h k.protocol k.type_of_icmp)
           (and_from (is_none e.flags || is_proto e.proto 6) (match_all_fits r.family e.flags)
           (of-tcp r.test c.proto (λ t. only-tcp r.protos c.proto k.protocol (h.flags_fit t)))
           (match-all r.family r.test initial)));

@@ -34,7 +34,6 @@ use Rattle.cisco_lang.specs.Texts.{Spells, text_of}
 use Rattle.gen_cisco.specs.EntryLaws.{entry-is}
 use Rattle.gen_cisco.specs.Limits.{count_limit, first_limit, is_for_cisco, is_unsupported, limit_of, rule_limit}
 use Rattle.gen_cisco.specs.NameLaws.{notes-safe, rule-name-safe}
-use Rattle.gen_cisco.specs.PartLaws.{all-map, all-weaker, IsOf, parts-are}
 use Rattle.gen_cisco.specs.Sections.{closed, entry_of, entry_count, items_in, list_of, remarks, rule_items, section_of, wide_entry}
 
 -- ---- an accepted filter
@@ -105,8 +104,8 @@ rule-valid families r h w =
     all_append (IsItem r.family) texts entries
     (all-map (IsItem r.family) (λ text. Remark text) (remarks r) (rule-name-safe r.name h.name w.0, notes-safe r.note h.note))
     (all-map (IsItem r.family) (λ c. AnEntry (entry_of r c)) (combinations r)
-    (all-weaker (IsOf r) (λ (c : Combination). IsEntry r.family (entry_of r c)) (λ c k. entry-is families r c h w.1 k) (combinations r)
-    (parts-are Cisco families r h)))
+    (all-weaker {P = IsCombinationOf r} {Q = λ c. IsEntry r.family (entry_of r c)} (λ c k. entry-is families r c h w.1 k) (combinations r)
+    (combination-facts Cisco families r h)))
 
 valid-by : (families : Families) (family : Family) (r : Rule) (b : Bool) → same_family r.family family ≡ b → IsSoundRule Cisco families r → IsWithin r
     → AllByRecursion (IsItem family) (cond b (rule_items r) [])
