@@ -1,7 +1,8 @@
 -- The entries of a rule that has no limit are entries of a list: proved here, and need not be
 -- believed.
-use Rattle.std.proofs.Common.{◌≡◌, ℕ, zero, suc, ◌≤◌, Bool, true, false, not, ◌&&◌, ◌||◌, ◌==◌, Option, None, Some, IfSome, is_none, inl, inr, refl, ap, sym, ◌∙◌, arith}
+use Rattle.std.proofs.Common.{zero-le, subst, ◌≡◌, ℕ, zero, suc, ◌≤◌, Bool, true, false, not, ◌&&◌, ◌||◌, ◌==◌, Option, None, Some, IfSome, is_none, inl, inr, refl, ap, sym, ◌∙◌, arith}
 use Rattle.std.proofs.lemmas.Bool.{and_from, cases_lt, eqb-true, false_from_ne_true, false≢true, or_parts}
+use Rattle.std.proofs.Math.Nat.{le_antisymm, le_of_suc-le-suc, suc-le-suc_iff}
 use Rattle.acl_packet.specs.declared.addresses.Families.{Families}
 use Rattle.acl_packet.specs.declared.addresses.Family.{Family}
 use Rattle.acl_packet.specs.declared.addresses.Family.TheVariants.{V4, V6}
@@ -27,7 +28,7 @@ use Rattle.gen_cisco.specs.Sections.{entry_of, flags_of}
 positive : (f : Family) (n : ℕ) → is_named_protocol f n ≡ true → 1 ≤ n
 positive V4 zero h = absurd (false≢true h)
 positive V6 zero h = absurd (false≢true h)
-positive f (suc n) h = omega arith
+positive f (suc n) h = suc-le-suc_iff.1 zero-le
 
 protocol-is : (families : Families) (r : Rule) (o : Option ℕ) → IsSoundRule Cisco families r → OfNumbers r.protos o
     → IfSome o (λ n. (1 ≤ n) × (n ≤ 255))
@@ -41,7 +42,7 @@ Named test s o = (n : ℕ) × ((o ≡ Some n) × ((holds s.ranges n ≡ true) ×
 
 named : (test : ℕ → Bool) (s : Numbers) (o : Option ℕ) → OfNumbers s o → test 0 ≡ false → Only test s → Named test s o
 named test s None h none only =
-    absurd (false≢true (sym none ∙ only 0 (covers-holds s.ranges 0 s.top 0 h (omega arith) (omega arith))))
+    absurd (false≢true (sym none ∙ only 0 (covers-holds s.ranges 0 s.top 0 h zero-le zero-le)))
 named test s (Some n) h none only = (n, (refl, (h.1, only n h.1)))
 
 -- ---- the type
@@ -52,8 +53,8 @@ type-is families r None h k = tt
 type-is families r (Some n) h k =
     let most = at_top 0 255 r.itypes.ranges n h.types.normal k.1 in
     elim (cases_lt n 255) [
-      | inl below ↦ omega (arith, below)
-      | inr above ↦ let e : n ≡ 255 = omega (arith, most, above) in
+      | inl below ↦ le_of_suc-le-suc below
+      | inr above ↦ let e : n ≡ 255 = le_antisymm most above in
           absurd (false≢true (sym (h.types_named k.0) ∙ ap (holds r.itypes.ranges) (sym e) ∙ k.1))
     ]
 
@@ -114,7 +115,7 @@ ports-fit families r proto None (Some q) h u p k l =
 
 range-is : (s : Numbers) (o : Option (ℕ × ℕ)) → s.top ≡ 65535 → OfRanges s o → IfSome o IsPortRange
 range-is s None e h = tt
-range-is s (Some q) e h = let high = h.1.1 in (h.1.0, omega (arith, e, high))
+range-is s (Some q) e h = (h.1.0, suc-le-suc_iff.1 (subst (λ t. q.1 ≤ t) e h.1.1))
 
 -- ---- flags
 
