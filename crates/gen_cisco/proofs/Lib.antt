@@ -1,4 +1,4 @@
-pub mod ClosedFilters
 pub mod EntryCounts
 pub mod ListNames
 pub mod Rows
+pub mod TwoSections

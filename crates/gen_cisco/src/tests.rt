@@ -1,4 +1,4 @@
-ghost use Rattle.std.specs.Prelude.{◌≡◌, ◌≤◌, ◌∷◌, [], IfOk, None, Unit, true};
+ghost use Rattle.std.specs.Prelude.{◌≡◌, ◌≤◌, ◌∷◌, [], IfOk, None, true};
 ghost use Rattle.std.specs.List.{All, AllByRecursion};
 ghost use Rattle.acl_text.specs.Names.{is_filter_name};
 ghost use Rattle.acl_sets.specs.Ranges.{IsRange};
