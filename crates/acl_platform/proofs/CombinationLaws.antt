@@ -1,0 +1,72 @@
+-- The combinations of a rule hold what its sets hold, and a sound rule has one.
+use Rattle.std.proofs.Common.{◌≡◌, ◌≢◌, ℕ, ◌≤◌, Bool, ◌&&◌, ◌||◌, List, [], ◌∷◌, length, map, flat_map, Option, refl, ap, ◌∙◌, arith}
+use Rattle.std.specs.List.{list_any}
+use Rattle.std.proofs.lemmas.List.{length-map}
+use Rattle.std.proofs.lemmas.List.Folds.{flat_map-map}
+use Rattle.acl_packet.specs.declared.addresses.Prefix.{Prefix}
+use Rattle.acl_packet.specs.Addresses.{has_address}
+use Rattle.acl_sets.specs.Ranges.{holds}
+use Rattle.acl_sets.specs.LeastLists.{any_has}
+use Rattle.acl_platform.specs.declared.combinations.Combination.{Combination}
+use Rattle.acl_platform.specs.declared.rules.Rule.{Rule}
+use Rattle.acl_platform.specs.Choices.{in_range, is_chosen, number_choices, pairs, range_choices}
+use Rattle.acl_platform.specs.Combinations.{combination_holds, combination_of, combinations, CombinationsHold, parts_of, Parts, SomeCombination}
+use Rattle.acl_platform.proofs.ChoiceLaws.{any-number, any-range, some-number, some-range}
+use Rattle.acl_platform.proofs.PairLaws.{any-pairs, some-pair}
+
+any-map : {A B : Type 0} (test : B → Bool) (f : A → B) (xs : List A) → list_any test (map f xs) ≡ list_any (λ x. test (f x)) xs
+any-map test f [] = refl
+any-map test f (x ∷ xs) = ap (λ t. test (f x) || t) (any-map test f xs)
+
+four-same : {a d e f : Bool} (b c : Bool) {w x y z : Bool} → a ≡ w → d ≡ x → e ≡ y → f ≡ z
+    → a && (b && (c && (d && (e && f)))) ≡ w && (b && (c && (x && (y && z))))
+four-same {a = a} {d = d} {e = e} {f = f} b c {w = w} {x = x} {y = y} {z = z} p q r s =
+    ap (λ t. t && (b && (c && (d && (e && f))))) p ∙ ap (λ t. w && (b && (c && (t && (e && f))))) q
+    ∙ ap (λ t. w && (b && (c && (x && (t && f))))) r ∙ ap (λ t. w && (b && (c && (x && (y && t))))) s
+
+pub any-combination : CombinationsHold
+any-combination kind families r p h k =
+    let proto : Option ℕ → Bool = λ o. is_chosen o p.proto in
+    let src : Prefix → Bool = λ q. has_address q p.src in
+    let dst : Prefix → Bool = λ q. has_address q p.dst in
+    let from : Option (ℕ × ℕ) → Bool = λ o. in_range o p.sport in
+    let into : Option (ℕ × ℕ) → Bool = λ o. in_range o p.dport in
+    let type_ : Option ℕ → Bool = λ o. is_chosen o p.itype in
+    let last : Option (ℕ × ℕ) × Option ℕ → Bool = λ c. into c.0 && type_ c.1 in
+    let ports : Option (ℕ × ℕ) × (Option (ℕ × ℕ) × Option ℕ) → Bool = λ c. from c.0 && last c.1 in
+    let third : Prefix × (Option (ℕ × ℕ) × (Option (ℕ × ℕ) × Option ℕ)) → Bool = λ c. dst c.0 && ports c.1 in
+    let second : Prefix × (Prefix × (Option (ℕ × ℕ) × (Option (ℕ × ℕ) × Option ℕ))) → Bool = λ c. src c.0 && third c.1 in
+    let types = number_choices r.itypes in
+    let dports = range_choices r.dports in
+    let sports = range_choices r.sports in
+    let protos = number_choices r.protos in
+    let protocol : p.proto ≤ r.protos.top = let top = h.protocols.top_is in let n = k.protocol in omega (arith, top, n) in
+    let sport : p.sport ≤ r.sports.top = let top = h.source_ports.top_is in let n = k.source_port in omega (arith, top, n) in
+    let dport : p.dport ≤ r.dports.top = let top = h.destination_ports.top_is in let n = k.destination_port in omega (arith, top, n) in
+    let itype : p.itype ≤ r.itypes.top = let top = h.types.top_is in let n = k.type_fits in omega (arith, top, n) in
+    any-map (combination_holds p) combination_of (parts_of r)
+    ∙ any-pairs proto second protos (pairs r.src (pairs r.dst (pairs sports (pairs dports types))))
+    ∙ ap (λ t. list_any proto protos && t) (any-pairs src third r.src (pairs r.dst (pairs sports (pairs dports types)))
+    ∙ ap (λ t. any_has r.src p.src && t) (any-pairs dst ports r.dst (pairs sports (pairs dports types))
+    ∙ ap (λ t. any_has r.dst p.dst && t) (any-pairs from last sports (pairs dports types)
+    ∙ ap (λ t. list_any from sports && t) (any-pairs into type_ dports types))))
+    ∙ four-same (any_has r.src p.src) (any_has r.dst p.dst) (any-number r.protos p.proto protocol) (any-range r.sports p.sport sport)
+    (any-range r.dports p.dport dport) (any-number r.itypes p.itype itype)
+
+some-map : {A B : Type 0} (f : A → B) (xs : List A) → xs ≢ [] → map f xs ≢ []
+some-map f [] h = absurd (h refl)
+some-map f (x ∷ xs) h = λ e. cc
+
+pub some-combination : SomeCombination
+some-combination kind families r h =
+    let types = number_choices r.itypes in
+    let dports = range_choices r.dports in
+    let sports = range_choices r.sports in
+    let protos = number_choices r.protos in
+    some-map combination_of (parts_of r) (some-pair protos (pairs r.src (pairs r.dst (pairs sports (pairs dports types))))
+    (some-number 0 255 r.protos h.protocols.normal h.protocols.some)
+    (some-pair r.src (pairs r.dst (pairs sports (pairs dports types))) h.sources.some
+    (some-pair r.dst (pairs sports (pairs dports types)) h.destinations.some
+    (some-pair sports (pairs dports types) (some-range r.sports h.source_ports.some)
+    (some-pair dports types (some-range r.dports h.destination_ports.some)
+    (some-number 0 255 r.itypes h.types.normal h.types.some))))))

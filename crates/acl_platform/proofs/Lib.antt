@@ -1,0 +1,8 @@
+pub mod ChoiceLaws
+pub mod CombinationLaws
+pub mod EntryLaws
+pub mod PairLaws
+mod RuleOutcomes
+mod Sections
+pub mod SoundRules
+pub mod TextFronts

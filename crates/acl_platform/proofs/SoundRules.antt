@@ -1,0 +1,30 @@
+-- What follows from a rule's soundness.
+use Rattle.std.proofs.Common.{ℕ, ◌≤◌, List, [], ◌∷◌, arith}
+use Rattle.std.specs.List.{All, AllByRecursion}
+use Rattle.std.proofs.lemmas.List.Elements.{All-from_recursion}
+use Rattle.acl_packet.specs.declared.addresses.Families.{Families}
+use Rattle.acl_sets.specs.Ranges.{Numbers}
+use Rattle.acl_target.specs.declared.targets.Kind.{Kind}
+use Rattle.acl_platform.specs.declared.rules.Rule.{Rule}
+use Rattle.acl_platform.specs.Combinations.{IsSized}
+use Rattle.acl_platform.specs.SoundFilters.{IsFull, IsSoundRule}
+
+below : (top : ℕ) (s : Numbers) → IsFull top s → s.top ≤ top
+below top s h = let e = h.top_is in omega (arith, e)
+
+pub sized : (kind : Kind) (families : Families) (r : Rule) → IsSoundRule kind families r → IsSized r
+sized kind families r h = record {
+  protocols = below 255 r.protos h.protocols;
+  source_ports = below 65535 r.sports h.source_ports;
+  destination_ports = below 65535 r.dports h.destination_ports;
+  types = below 255 r.itypes h.types;
+}
+
+each-sized : (kind : Kind) (families : Families) (rules : List Rule) → AllByRecursion (IsSoundRule kind families) rules
+    → AllByRecursion IsSized rules
+each-sized kind families [] h = tt
+each-sized kind families (r ∷ rules) h = (sized kind families r h.0, each-sized kind families rules h.1)
+
+pub all-sized : (kind : Kind) (families : Families) (rules : List Rule) → AllByRecursion (IsSoundRule kind families) rules
+    → All IsSized rules
+all-sized kind families rules h = All-from_recursion IsSized rules (each-sized kind families rules h)

@@ -1,0 +1,59 @@
+-- The combinations of a rule: an entry takes one choice of each of its parts.
+use Rattle.std.specs.Prelude.{◌≡◌, ◌≢◌, ℕ, ◌≤◌, Bool, ◌&&◌, List, [], Option, map}
+use Rattle.std.specs.List.{list_any}
+use Rattle.acl_packet.specs.declared.addresses.Families.{Families}
+use Rattle.acl_packet.specs.declared.addresses.Prefix.{Prefix}
+use Rattle.acl_packet.specs.declared.packets.Packet.{Packet}
+use Rattle.acl_packet.specs.Addresses.{has_address}
+use Rattle.acl_packet.specs.Packets.{IsPacket}
+use Rattle.acl_target.specs.declared.targets.Kind.{Kind}
+use Rattle.acl_platform.specs.declared.combinations.Combination.{Combination}
+use Rattle.acl_platform.specs.declared.rules.Rule.{Rule}
+use Rattle.acl_platform.specs.Choices.{in_range, is_chosen, number_choices, pairs, range_choices}
+use Rattle.acl_platform.specs.Rules.{sets_hold}
+use Rattle.acl_platform.specs.SoundFilters.{IsSoundRule}
+
+-- Protocol, source, destination, source ports, destination ports, and type, the protocol outermost.
+abbrev pub Parts : Type 0
+Parts = Option ℕ × (Prefix × (Prefix × (Option (ℕ × ℕ) × (Option (ℕ × ℕ) × Option ℕ))))
+
+abbrev pub combination_of : Parts → Combination
+combination_of c = record {
+  proto = c.0;
+  src = c.1.0;
+  dst = c.1.1.0;
+  sport = c.1.1.1.0;
+  dport = c.1.1.1.1.0;
+  itype = c.1.1.1.1.1;
+}
+
+-- The tops of a rule's sets: protocols and types are numbers below 256, ports below 65,536.
+pub record IsSized (r : Rule) : Type 0 where
+  pub protocols : r.protos.top ≤ 255
+  pub source_ports : r.sports.top ≤ 65535
+  pub destination_ports : r.dports.top ≤ 65535
+  pub types : r.itypes.top ≤ 255
+
+abbrev pub parts_of : Rule → List Parts
+parts_of r = pairs (number_choices r.protos) (pairs r.src (pairs r.dst
+    (pairs (range_choices r.sports) (pairs (range_choices r.dports) (number_choices r.itypes)))))
+
+abbrev pub combinations : Rule → List Combination
+combinations r = map combination_of (parts_of r)
+
+-- A combination holds a packet where each of its parts does.
+abbrev pub combination_holds : Packet → Combination → Bool
+combination_holds p c = is_chosen c.proto p.proto && (has_address c.src p.src
+    && (has_address c.dst p.dst && (in_range c.sport p.sport && (in_range c.dport p.dport
+    && is_chosen c.itype p.itype))))
+
+-- Some combination of a rule holds a packet exactly where each of its sets does.
+abbrev pub CombinationsHold : Type 0
+CombinationsHold = (kind : Kind) (families : Families) (r : Rule) (p : Packet)
+    → IsSoundRule kind families r → IsPacket p
+    → list_any (combination_holds p) (combinations r) ≡ sets_hold r p
+
+-- A sound rule has a combination.
+abbrev pub SomeCombination : Type 0
+SomeCombination = (kind : Kind) (families : Families) (r : Rule) → IsSoundRule kind families r
+    → combinations r ≢ []

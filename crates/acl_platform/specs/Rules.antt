@@ -1,0 +1,54 @@
+-- Rules of a filter, and what the filter does to a packet, with nothing said of any device.
+use Rattle.std.specs.Prelude.{◌≡◌, ℕ, Bool, true, false, not, ◌&&◌, ◌||◌, if◌then◌else◌, List, [], ◌∷◌}
+use Rattle.acl_packet.specs.declared.packets.Conn.{Conn}
+use Rattle.acl_packet.specs.declared.packets.Conn.TheVariants.{New, Established, Related, Invalid}
+use Rattle.acl_packet.specs.declared.packets.Packet.{Packet}
+use Rattle.acl_packet.specs.declared.filtering.Outcome.{Outcome}
+use Rattle.acl_packet.specs.Addresses.{same_family}
+use Rattle.acl_packet.specs.Packets.{has_flag}
+use Rattle.acl_sets.specs.LeastLists.{any_has}
+use Rattle.acl_sets.specs.Ranges.{holds}
+use Rattle.acl_target.specs.declared.targets.Ending.{Ending}
+use Rattle.acl_target.specs.FilterEndings.{ending_outcome}
+use Rattle.acl_platform.specs.declared.filters.Filter.{Filter}
+use Rattle.acl_platform.specs.declared.rules.Rule.{Rule}
+use Rattle.acl_platform.specs.declared.rules.Test.{Test}
+use Rattle.acl_platform.specs.declared.rules.Test.TheVariants.{Plain, AckOrRst, SynNotAck, Rst, State}
+
+-- A connection that a host follows already, or one that such a one brought about (nftables(8),
+-- "ct state"; iptables-extensions(8), "conntrack").
+abbrev pub is_tracked : Conn → Bool
+is_tracked New = false
+is_tracked Established = true
+is_tracked Related = true
+is_tracked Invalid = false
+
+-- SYN is 2, RST 4 and ACK 16 (RFC 9293 section 3.1).
+abbrev pub passes : Test → Packet → Bool
+passes Plain p = true
+passes AckOrRst p = has_flag p.flags 16 || has_flag p.flags 4
+passes SynNotAck p = has_flag p.flags 2 && not (has_flag p.flags 16)
+passes Rst p = has_flag p.flags 4
+passes State p = is_tracked p.conn
+
+-- Each set of a rule holds its part of the packet: protocol, addresses, ports, and type.
+abbrev pub sets_hold : Rule → Packet → Bool
+sets_hold r p = holds r.protos.ranges p.proto && (any_has r.src p.src && (any_has r.dst p.dst
+    && (holds r.sports.ranges p.sport && (holds r.dports.ranges p.dport
+    && holds r.itypes.ranges p.itype))))
+
+-- A rule holds a packet of its family where its sets and its test do.
+abbrev pub rule_holds : Rule → Packet → Bool
+rule_holds r p = same_family r.family p.family && (sets_hold r p && passes r.test p)
+
+abbrev pub decided_by : Rule → Outcome
+decided_by r = record { verdict = r.verdict; logged = r.log }
+
+-- The first rule that holds the packet decides, else the ending, which is not logged.
+unfoldable pub rules_outcome : Ending → List Rule → Packet → Outcome
+rules_outcome ending [] p = ending_outcome ending p
+rules_outcome ending (r ∷ rules) p =
+    if rule_holds r p then decided_by r else rules_outcome ending rules p
+
+abbrev pub filter_outcome : Filter → Packet → Outcome
+filter_outcome f p = rules_outcome f.ending f.rules p

@@ -1,0 +1,257 @@
+ghost use Rattle.std.specs.Prelude.{◌≡◌, ◌≤◌, ℕ, List, IsTrue, Some, min, length, flat_map};
+ghost use Rattle.std.specs.List.{All};
+ghost use Rattle.acl_text.specs.Output.{COUNT_END, Puts};
+ghost use Rattle.acl_grammar.specs.Rows.{text_of_rows};
+ghost use Rattle.acl_sets.specs.Ranges.{IsRange};
+ghost use Rattle.acl_platform.specs.ChoiceSteps.{number_rows, range_rows};
+ghost use Rattle.acl_platform.specs.Choices.{
+  number_choices,
+  numbers_in,
+  numbers_of,
+  pairs,
+  range_choices,
+};
+
+use acl_grammar::Form;
+use acl_sets::{Range, RangeSet};
+use acl_text::{Out, PutFault};
+
+/// A list of choices that is gone through and never made: each choice is put as a form writes it.
+///
+/// A pair gives each choice of the first with each of the second, the first outermost.
+pub trait Choices {
+    type Item: Copy;
+
+    ghost items: { Self → List Self.Item };
+
+    /// Puts the lines of each choice, in order.
+    fn put_each<F: Form<Self::Item>, O: Out>(&self, form: &F, out: &mut O) -> Result<(), PutFault>
+        requires { IsTrue (O.is_open out.old) }
+        ensures { Puts O.told O.faults O.refusals O.is_open O.keeps_rest out.old out.new
+            (text_of_rows (flat_map (F.item_rows form.now) (items self.now))) result };
+
+    /// How many choices there are; a number that does not fit stands at the greatest one that does.
+    fn count(&self) -> u64
+        ensures { result ≡ min (length (items self.now)) COUNT_END };
+}
+
+/// The members of a list.
+impl<'a, T: Copy> Choices for &'a [T] {
+    type Item = T;
+
+    ghost items = { λ s. s.now };
+
+    fn put_each<F: Form<T>, O: Out>(&self, form: &F, out: &mut O) -> Result<(), PutFault> {
+        put_items(self, form, out)
+    }
+
+    fn count(&self) -> u64 {
+        self.len() as u64
+    }
+}
+
+fn put_items<T, F: Form<T>, O: Out>(items: &[T], form: &F, out: &mut O) -> Result<(), PutFault>
+    requires { IsTrue (O.is_open out.old) }
+    ensures { Puts O.told O.faults O.refusals O.is_open O.keeps_rest out.old out.new
+        (text_of_rows (flat_map (F.item_rows form.now) items.now)) result }
+{
+    for item in items {
+        form.put_item(item, out)?;
+    }
+    Ok(())
+}
+
+/// The numbers of a set of numbers below 256, or no condition where it has all up to its top.
+#[derive(Clone, Copy)]
+pub struct NumberChoices<'a> {
+    pub set: &'a RangeSet,
+    pub ghost small: { set.now.top ≤ 255 },
+}
+
+impl<'a> Choices for NumberChoices<'a> {
+    type Item = Option<u8>;
+
+    ghost items = { λ s. number_choices s.set.now };
+
+    fn put_each<F: Form<Option<u8>>, O: Out>(&self, form: &F, out: &mut O) -> Result<(), PutFault> {
+        if self.set.is_all() {
+            form.put_item(&None, out)
+        } else {
+            put_numbers(self.set.ranges(), form, out)
+        }
+    }
+
+    fn count(&self) -> u64 {
+        if self.set.is_all() {
+            1
+        } else {
+            count_numbers(self.set.ranges())
+        }
+    }
+}
+
+fn put_numbers<F: Form<Option<u8>>, O: Out>(
+    ranges: &[Range],
+    form: &F,
+    out: &mut O,
+) -> Result<(), PutFault>
+    requires open { IsTrue (O.is_open out.old) }
+    requires ranges { All (λ r. IsRange 255 r) ranges.now }
+    ensures { Puts O.told O.faults O.refusals O.is_open O.keeps_rest out.old out.new
+        (text_of_rows (flat_map (number_rows (F.item_rows form.now)) ranges.now)) result }
+{
+    for range in ranges {
+        put_range(range, form, out)?;
+    }
+    Ok(())
+}
+
+fn put_range<F: Form<Option<u8>>, O: Out>(
+    range: &Range,
+    form: &F,
+    out: &mut O,
+) -> Result<(), PutFault>
+    requires open { IsTrue (O.is_open out.old) }
+    requires range { IsRange 255 range.now }
+    ensures { Puts O.told O.faults O.refusals O.is_open O.keeps_rest out.old out.new
+        (text_of_rows (number_rows (F.item_rows form.now) range.now)) result }
+{
+    let first = range.low as u16;
+    let end = range.high as u16 + 1;
+    for number in first..end {
+        form.put_item(&Some(number as u8), out)?;
+    }
+    Ok(())
+}
+
+fn count_numbers(ranges: &[Range]) -> u64
+    requires { All (λ r. IsRange 255 r) ranges.now }
+    ensures { result ≡ min (length (numbers_of ranges.now)) COUNT_END }
+{
+    let mut count: u64 = 0;
+    for range in ranges {
+        count = count.saturating_add(range_size(range));
+    }
+    count
+}
+
+fn range_size(range: &Range) -> u64
+    requires { IsRange 255 range.now }
+    ensures { result ≡ length (numbers_in range.now) }
+{
+    range.high as u64 + 1 - range.low as u64
+}
+
+/// The ranges of a set of numbers below 65,536, or no condition where it has all up to its top.
+#[derive(Clone, Copy)]
+pub struct RangeChoices<'a> {
+    pub set: &'a RangeSet,
+    pub ghost small: { set.now.top ≤ 65535 },
+}
+
+impl<'a> Choices for RangeChoices<'a> {
+    type Item = Option<(u16, u16)>;
+
+    ghost items = { λ s. range_choices s.set.now };
+
+    fn put_each<F: Form<Option<(u16, u16)>>, O: Out>(
+        &self,
+        form: &F,
+        out: &mut O,
+    ) -> Result<(), PutFault> {
+        if self.set.is_all() {
+            form.put_item(&None, out)
+        } else {
+            put_ranges(self.set.ranges(), form, out)
+        }
+    }
+
+    fn count(&self) -> u64 {
+        if self.set.is_all() {
+            1
+        } else {
+            self.set.ranges().len() as u64
+        }
+    }
+}
+
+fn put_ranges<F: Form<Option<(u16, u16)>>, O: Out>(
+    ranges: &[Range],
+    form: &F,
+    out: &mut O,
+) -> Result<(), PutFault>
+    requires open { IsTrue (O.is_open out.old) }
+    requires ranges { All (λ r. IsRange 65535 r) ranges.now }
+    ensures { Puts O.told O.faults O.refusals O.is_open O.keeps_rest out.old out.new
+        (text_of_rows (flat_map (range_rows (F.item_rows form.now)) ranges.now)) result }
+{
+    for range in ranges {
+        form.put_item(&Some(ends_of(range)), out)?;
+    }
+    Ok(())
+}
+
+fn ends_of(range: &Range) -> (u16, u16)
+    requires { IsRange 65535 range.now }
+    ensures { result ≡ (range.now.low, range.now.high) }
+{
+    (range.low as u16, range.high as u16)
+}
+
+/// Each choice of the first with each of the second, the first outermost.
+impl<A: Choices, B: Choices> Choices for (A, B) {
+    type Item = (A::Item, B::Item);
+
+    ghost items = { λ p. pairs (A.items p.0) (B.items p.1) };
+
+    fn put_each<F: Form<(A::Item, B::Item)>, O: Out>(
+        &self,
+        form: &F,
+        out: &mut O,
+    ) -> Result<(), PutFault> {
+        let each = WithSeconds {
+            seconds: &self.1,
+            form,
+        };
+        self.0.put_each(&each, out)
+    }
+
+    fn count(&self) -> u64 {
+        self.0.count().saturating_mul(self.1.count())
+    }
+}
+
+// A first choice, written with each second one.
+#[derive_where(Clone, Copy)]
+struct WithSeconds<'a, B, F> {
+    seconds: &'a B,
+    form: &'a F,
+}
+
+impl<'a, A: Copy, B: Choices, F: Form<(A, B::Item)>> Form<A> for WithSeconds<'a, B, F> {
+    ghost item_rows = { λ w first.
+        flat_map (λ second. F.item_rows w.form.now (first, second)) (B.items w.seconds.now) };
+
+    fn put_item<O: Out>(&self, item: &A, out: &mut O) -> Result<(), PutFault> {
+        let each = WithFirst {
+            first: *item,
+            form: self.form,
+        };
+        self.seconds.put_each(&each, out)
+    }
+}
+
+// A second choice, written with the first one.
+#[derive_where(Clone, Copy; A)]
+struct WithFirst<'a, A, F> {
+    first: A,
+    form: &'a F,
+}
+
+impl<'a, A: Copy, B: Copy, F: Form<(A, B)>> Form<B> for WithFirst<'a, A, F> {
+    ghost item_rows = { λ w second. F.item_rows w.form.now (w.first, second) };
+
+    fn put_item<O: Out>(&self, item: &B, out: &mut O) -> Result<(), PutFault> {
+        self.form.put_item(&(self.first, *item), out)
+    }
+}

@@ -1,0 +1,108 @@
+ghost use Rattle.std.specs.Prelude.{◌≡◌, IsTrue, min, length, flat_map};
+ghost use Rattle.acl_text.specs.Output.{COUNT_END, Puts};
+ghost use Rattle.acl_grammar.specs.Rows.{text_of_rows};
+ghost use Rattle.acl_platform.specs.Combinations.{IsSized, combination_of, combinations, parts_of};
+
+use crate::choices::{Choices, NumberChoices, RangeChoices};
+use crate::rules::Rule;
+use acl_grammar::Form;
+use acl_packet::Prefix;
+use acl_text::{Out, PutFault};
+
+/// A choice of each part of a rule; `None` is no condition.
+#[derive(Clone, Copy, Debug, PartialEq, Eq)]
+pub struct Combination {
+    pub proto: Option<u8>,
+    pub src: Prefix,
+    pub dst: Prefix,
+    /// From the low port to the high one.
+    pub sport: Option<(u16, u16)>,
+    pub dport: Option<(u16, u16)>,
+    pub itype: Option<u8>,
+}
+
+/// Puts the lines of each combination of the rule in the form, the protocol outermost.
+pub fn put_combinations<F: Form<Combination>, O: Out>(
+    rule: &Rule,
+    form: &F,
+    out: &mut O,
+) -> Result<(), PutFault>
+    requires open { IsTrue (O.is_open out.old) }
+    requires sized { IsSized rule.now }
+    ensures { Puts O.told O.faults O.refusals O.is_open O.keeps_rest out.old out.new
+        (text_of_rows (flat_map (F.item_rows form.now) (combinations rule.now))) result }
+{
+    choices_of(rule).put_each(&InParts { form }, out)
+}
+
+/// The number of combinations of the rule; a number that does not fit stands at the greatest one
+/// that does.
+pub fn count_combinations(rule: &Rule) -> u64
+    requires { IsSized rule.now }
+    ensures { result ≡ min (length (combinations rule.now)) COUNT_END }
+{
+    choices_of(rule).count()
+}
+
+// Protocol, source, destination, source ports, destination ports, and type.
+type Parts = (
+    Option<u8>,
+    (
+        Prefix,
+        (
+            Prefix,
+            (Option<(u16, u16)>, (Option<(u16, u16)>, Option<u8>)),
+        ),
+    ),
+);
+
+type PartChoices<'a> = (
+    NumberChoices<'a>,
+    (
+        &'a [Prefix],
+        (
+            &'a [Prefix],
+            (RangeChoices<'a>, (RangeChoices<'a>, NumberChoices<'a>)),
+        ),
+    ),
+);
+
+fn choices_of(rule: &Rule) -> PartChoices<'_>
+    requires { IsSized rule.now }
+    ensures { ⟦<PartChoices<'static> as Choices>⟧.items result ≡ parts_of rule.now }
+{
+    let itypes = NumberChoices { set: &rule.itypes };
+    let dports = RangeChoices { set: &rule.dports };
+    let sports = RangeChoices { set: &rule.sports };
+    let protos = NumberChoices { set: &rule.protos };
+    let ports = (sports, (dports, itypes));
+    (protos, (rule.src.as_slice(), (rule.dst.as_slice(), ports)))
+}
+
+// Parts, written as the combination that they are.
+#[derive_where(Clone, Copy)]
+struct InParts<'a, F> {
+    form: &'a F,
+}
+
+impl<'a, F: Form<Combination>> Form<Parts> for InParts<'a, F> {
+    ghost item_rows = { λ f parts. F.item_rows f.form.now (combination_of parts) };
+
+    fn put_item<O: Out>(&self, item: &Parts, out: &mut O) -> Result<(), PutFault> {
+        self.form.put_item(&combination_of(*item), out)
+    }
+}
+
+fn combination_of(parts: Parts) -> Combination
+    ensures { result ≡ combination_of parts }
+{
+    let (proto, (src, (dst, (sport, (dport, itype))))) = parts;
+    Combination {
+        proto,
+        src,
+        dst,
+        sport,
+        dport,
+        itype,
+    }
+}

@@ -1,0 +1,101 @@
+ghost use Rattle.std.specs.Prelude.{◌≡◌};
+ghost use Rattle.std.specs.List.{list_any};
+ghost use Rattle.acl_packet.specs.Outcomes.{unlogged};
+ghost use Rattle.acl_target.specs.FilterEndings.{ending_verdict, is_neighbour_discovery};
+ghost use Rattle.acl_sets.specs.LeastLists.{any_has};
+ghost use Rattle.acl_platform.specs.Rules.{
+  decided_by,
+  filter_outcome,
+  is_tracked,
+  passes,
+  rule_holds,
+  sets_hold,
+};
+
+use crate::filters::Filter;
+use crate::rules::{Rule, Test};
+use acl_packet::{Conn, Family, Outcome, Packet, Prefix, Verdict, has_flag};
+use acl_target::Ending;
+
+/// What the filter does with the packet: the first rule that holds it decides, else the ending,
+/// without a log.
+pub fn filter_outcome(filter: &Filter, packet: &Packet) -> Outcome
+    ensures { result ≡ filter_outcome filter.now packet.now }
+{
+    for rule in filter.rules.as_slice() {
+        if rule_holds(rule, packet) {
+            return decided_by(rule);
+        }
+    }
+    Outcome::unlogged(ending_verdict(filter.ending, packet))
+}
+
+fn rule_holds(rule: &Rule, packet: &Packet) -> bool
+    ensures { result ≡ rule_holds rule.now packet.now }
+{
+    rule.family == packet.family && sets_hold(rule, packet) && passes(rule.test, packet)
+}
+
+fn sets_hold(rule: &Rule, packet: &Packet) -> bool
+    ensures { result ≡ sets_hold rule.now packet.now }
+{
+    rule.protos.contains(u128::from(packet.proto))
+        && any_has(rule.src.as_slice(), packet.src)
+        && any_has(rule.dst.as_slice(), packet.dst)
+        && rule.sports.contains(u128::from(packet.sport))
+        && rule.dports.contains(u128::from(packet.dport))
+        && rule.itypes.contains(u128::from(packet.itype))
+}
+
+fn any_has(prefixes: &[Prefix], address: u128) -> bool
+    ensures { result ≡ any_has prefixes.now address }
+{
+    prefixes.iter().any(|prefix| prefix.contains(address))
+}
+
+fn passes(test: Test, packet: &Packet) -> bool
+    ensures { result ≡ passes test packet.now }
+{
+    match test {
+        Test::Plain => true,
+        Test::AckOrRst => has_flag(packet.flags, 16) || has_flag(packet.flags, 4),
+        Test::SynNotAck => has_flag(packet.flags, 2) && !has_flag(packet.flags, 16),
+        Test::Rst => has_flag(packet.flags, 4),
+        Test::State => is_tracked(packet.conn),
+    }
+}
+
+fn is_tracked(conn: Conn) -> bool
+    ensures { result ≡ is_tracked conn }
+{
+    matches!(conn, Conn::Established | Conn::Related)
+}
+
+fn decided_by(rule: &Rule) -> Outcome
+    ensures { result ≡ decided_by rule.now }
+{
+    Outcome {
+        verdict: rule.verdict,
+        logged: rule.log,
+    }
+}
+
+fn ending_verdict(ending: Ending, packet: &Packet) -> Verdict
+    ensures { result ≡ ending_verdict ending packet.now }
+{
+    match ending {
+        Ending::Accept => Verdict::Accept,
+        Ending::Deny => Verdict::Deny,
+        Ending::Left => Verdict::Left,
+        Ending::Neighbours if is_neighbour_discovery(packet) => Verdict::Accept,
+        Ending::Neighbours => Verdict::Deny,
+    }
+}
+
+fn is_neighbour_discovery(packet: &Packet) -> bool
+    ensures { result ≡ is_neighbour_discovery packet.now }
+{
+    packet.family == Family::V6
+        && packet.proto == 58
+        && (packet.itype == 135 || packet.itype == 136)
+}

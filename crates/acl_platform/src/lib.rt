@@ -1,0 +1,25 @@
+//! The rules of a filter and what they do to a packet, the trait of platforms, and what the
+//! generators of texts share.
+#![tactic(auto)]
+
+mod choices;
+mod combinations;
+mod filtering;
+mod filters;
+mod laws;
+mod platforms;
+mod rule_rows;
+mod rules;
+#[cfg(test)]
+mod tests;
+mod writing;
+
+pub use choices::{Choices, NumberChoices, RangeChoices};
+pub use combinations::{Combination, count_combinations, put_combinations};
+pub use filtering::filter_outcome;
+pub use filters::{Filter, Limit};
+pub use laws::{combinations_hold_what_the_sets_hold, sound_rules_have_combinations};
+pub use platforms::Platform;
+pub use rule_rows::{RuleForm, put_rules};
+pub use rules::{Rule, Rules, Test};
+pub use writing::write_all;

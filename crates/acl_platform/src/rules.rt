@@ -1,0 +1,42 @@
+use acl_packet::{Family, Verdict};
+use acl_sets::{Prefixes, RangeSet};
+use acl_text::{Bytes, Items, Place};
+
+/// What a rule asks of a packet besides its sets.
+#[derive(Clone, Copy, Debug, PartialEq, Eq)]
+pub enum Test {
+    /// Nothing.
+    Plain,
+    /// ACK or RST is set.
+    AckOrRst,
+    /// SYN is set and ACK is clear.
+    SynNotAck,
+    /// RST is set.
+    Rst,
+    /// The connection is established or related.
+    State,
+}
+
+/// A rule of a filter: which packets of a family it holds, and what it does with them.
+///
+/// It holds a packet where each of its sets and its test does. `place` is that of the term that it
+/// comes from, whose comments the note has.
+#[derive(Debug, Drop)]
+pub struct Rule {
+    pub name: Bytes,
+    pub place: Place,
+    pub note: Bytes,
+    pub family: Family,
+    pub src: Prefixes,
+    pub dst: Prefixes,
+    pub protos: RangeSet,
+    pub sports: RangeSet,
+    pub dports: RangeSet,
+    pub itypes: RangeSet,
+    pub test: Test,
+    pub verdict: Verdict,
+    pub log: bool,
+}
+
+/// The rules of a filter, in order.
+pub type Rules = Items<Rule>;
