@@ -1,0 +1,12 @@
+pub mod ComputedLaws
+pub mod EmptyLaws
+pub mod LifeLaws
+pub mod MatchLaws
+pub mod NumberLaws
+pub mod PolicyLaws
+pub mod PortLaws
+pub mod SetLaws
+pub mod SlipLaws
+pub mod SoundLaws
+pub mod TermLaws
+pub mod WordLaws

@@ -1,0 +1,109 @@
+-- A resolved term matches as the written one does.
+use Rattle.std.proofs.Common.{◌≡◌, ◌⊎◌, ◌↔◌, ℕ, ◌+◌, ◌-◌, ◌*◌, ◌^◌, ◌<◌, ◌≤◌, Bool, true, false, not, ◌&&◌, ◌||◌, ◌==◌, List, [], ◌∷◌, Some, inl, inr, refl, ap, sym, ◌∙◌, subst, arith}
+use Rattle.std.proofs.lemmas.Bool.{and_from, and_parts, or_cases, or_left, or_right, both_ways, false_from_ne_true}
+use Rattle.acl_packet.specs.declared.addresses.Family.{Family}
+use Rattle.acl_packet.specs.declared.addresses.Family.TheVariants.{V4, V6}
+use Rattle.acl_packet.specs.declared.packets.Packet.{Packet}
+use Rattle.acl_packet.specs.Addresses.{width_of}
+use Rattle.acl_packet.specs.NumberWords.{protocol_in}
+use Rattle.acl_packet.specs.Packets.{IsPacket}
+use Rattle.acl_sets.specs.Ranges.{Numbers, holds}
+use Rattle.acl_sets.proofs.ComputableSetLaws.{covers-holds}
+use Rattle.acl_policy.specs.declared.raw_terms.Word.{Word}
+use Rattle.acl_policy.specs.declared.raw_terms.RawTerm.{RawTerm}
+use Rattle.acl_naming.specs.Definitions.{Naming}
+use Rattle.acl_terms.specs.declared.options.Mode.{Mode}
+use Rattle.acl_terms.specs.declared.terms.Term.{Term}
+use Rattle.acl_terms.specs.Matching.{Admits, IsAddress, IsPort, IsProtocol, IsProtocolIn, IsType, Matches, foreign_of, icmp_family, is_written, protocols_of}
+use Rattle.acl_terms.specs.Options.{option_of, passes}
+use Rattle.acl_terms.specs.Resolved.{IsResolved, destination_in, ends_match, has_protocol, matches, ports_match, sets_in, source_in}
+use Rattle.acl_terms.specs.Sets.{AreSetsOf, IsSetOf}
+use Rattle.acl_terms.specs.Soundness.{is_all}
+use Rattle.acl_terms.proofs.SoundLaws.{named-number, no-zero, whole}
+use Rattle.acl_terms.proofs.WordLaws.{none-more}
+
+both : {P Q : Type 0} (a b : Bool) → (a ≡ true) ↔ P → (b ≡ true) ↔ Q → ((a && b) ≡ true) ↔ (P × Q)
+both a b p q = (
+  λ h. let r = and_parts a b h in (p.0 r.0, q.0 r.1),
+  λ r. and_from a b (p.1 r.0) (q.1 r.1),
+)
+
+source-is : (n : Naming) (raw : RawTerm) (t : Term) (f : Family) (x : ℕ) → AreSetsOf n raw (sets_in t)
+    → x < 2 ^ width_of f → (holds (source_in f t).ranges x ≡ true) ↔ IsAddress n f raw.sources raw.source_excludes x
+source-is n raw t V4 x are l = are.ipv4.0.exact x (omega arith)
+source-is n raw t V6 x are l = are.ipv6.0.exact x (omega arith)
+
+destination-is : (n : Naming) (raw : RawTerm) (t : Term) (f : Family) (x : ℕ) → AreSetsOf n raw (sets_in t)
+    → x < 2 ^ width_of f
+    → (holds (destination_in f t).ranges x ≡ true) ↔ IsAddress n f raw.destinations raw.destination_excludes x
+destination-is n raw t V4 x are l = are.ipv4.1.exact x (omega arith)
+destination-is n raw t V6 x are l = are.ipv6.1.exact x (omega arith)
+
+-- Named protocols are never all: none of them is 0.
+not-all : (ws : List Word) (w : Word) (s : Numbers) → IsSetOf (IsProtocol (w ∷ ws)) 255 s → is_all s ≡ false
+not-all ws w s h = false_from_ne_true (is_all s)
+    (λ t. no-zero (w ∷ ws) (named-number (λ n v. protocol_in v.text ≡ Some n) 255 (w ∷ ws) s 0 h (none-more w ws)
+    (covers-holds s.ranges 0 s.top 0 t (omega arith) (omega arith))))
+
+not-is : (e : Bool) (a : Bool) → a ≡ false → ((a || not e) ≡ true) ↔ (e ≡ false)
+not-is true true h = absurd (both_ways true h refl)
+not-is false true h = absurd (both_ways true h refl)
+not-is true false h = (λ k. absurd (both_ways false refl k), λ k. absurd (both_ways true k refl))
+not-is false false h = (λ _. refl, λ _. refl)
+
+protocol-is : (ws : List Word) (f : Family) (s : Numbers) (x : ℕ) → IsSetOf (IsProtocol ws) 255 s → x ≤ 255
+    → ((holds s.ranges x && (is_all s || not (x == foreign_of f))) ≡ true) ↔ IsProtocolIn f ws x
+protocol-is [] f s x h l =
+    let e = h.exact x l in (
+      λ _. tt,
+      λ _. and_from (holds s.ranges x) (is_all s || not (x == foreign_of f)) (e.1 tt)
+          (or_left (is_all s) (not (x == foreign_of f)) (whole 255 s h)),
+    )
+protocol-is (w ∷ ws) f s x h l =
+    both (holds s.ranges x) (is_all s || not (x == foreign_of f)) (h.exact x l)
+    (not-is (x == foreign_of f) (is_all s) (not-all ws w s h))
+
+option-is : (n : Naming) (raw : RawTerm) (t : Term) (mode : Mode) (p : Packet) → IsResolved n raw t
+    → passes t.option mode t.dport_named p ≡ passes (option_of raw.options) mode (is_written raw.destination_ports) p
+option-is n raw t mode p is =
+    ap (λ o. passes o mode t.dport_named p) is.fields.option
+    ∙ ap (λ b. passes (option_of raw.options) mode b p) is.fields.dport_named
+
+pub match-as-written : (n : Naming) (raw : RawTerm) (t : Term) (mode : Mode) (p : Packet) → IsPacket p
+    → IsResolved n raw t → (matches mode t p ≡ true) ↔ Matches n raw mode p
+unfolding matches
+match-as-written n raw t mode p fits is =
+    let are = is.sets in
+    let qs = protocols_of raw.protocols in
+    let f = p.family in
+    let s = fits.source in
+    let d = fits.destination in
+    let proto = protocol-is raw.protocols f t.protos p.proto are.protos_are (let l = fits.protocol in omega arith) in
+    let source = source-is n raw t f p.src are s in
+    let destination = destination-is n raw t f p.dst are d in
+    let sport = are.ports.0.exact p.sport (let l = fits.source_port in omega arith) in
+    let dport = are.ports.1.exact p.dport (let l = fits.destination_port in omega arith) in
+    let itype = are.itypes_are.exact p.itype (let l = fits.type_fits in omega arith) in
+    let same = option-is n raw t mode p is in
+    let option : (passes t.option mode t.dport_named p ≡ true)
+          ↔ (passes (option_of raw.options) mode (is_written raw.destination_ports) p ≡ true) =
+          (λ h. sym same ∙ h, λ h. same ∙ h) in
+    let ends = both (has_protocol f t p.proto)
+          (holds (source_in f t).ranges p.src && holds (destination_in f t).ranges p.dst) proto
+          (both (holds (source_in f t).ranges p.src) (holds (destination_in f t).ranges p.dst) source destination) in
+    let ports = both (holds t.sports.ranges p.sport) (holds t.dports.ranges p.dport) sport dport in
+    let last = both (holds t.itypes.ranges p.itype) (passes t.option mode t.dport_named p) itype option in
+    let law = both (ends_match f t p) (ports_match t p
+          && (holds t.itypes.ranges p.itype && passes t.option mode t.dport_named p)) ends
+          (both (ports_match t p) (holds t.itypes.ranges p.itype && passes t.option mode t.dport_named p) ports last) in (
+      λ h. let r = law.0 h in record {
+        source = r.0.1.0;
+        destination = r.0.1.1;
+        protocol = r.0.0;
+        source_port = r.1.0.0;
+        destination_port = r.1.0.1;
+        icmp_type = r.1.1.0;
+        option = r.1.1.1;
+      },
+      λ m. law.1 ((m.protocol, (m.source, m.destination)), ((m.source_port, m.destination_port), (m.icmp_type, m.option))),
+    )

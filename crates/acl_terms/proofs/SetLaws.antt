@@ -1,0 +1,136 @@
+-- Sets that hold exactly the numbers of which a fact holds: union, difference, nothing and all.
+use Rattle.std.proofs.Common.{◌≡◌, ◌≢◌, ◌↔◌, ◌⊎◌, ℕ, ◌+◌, ◌<◌, ◌≤◌, Bool, true, false, not, ◌&&◌, ◌||◌, nat_le, List, [], ◌∷◌, ◌++◌, length, take, get_or, inl, inr, refl, ap, sym, ◌∙◌, arith}
+use Rattle.std.proofs.lemmas.Bool.{and_from, and_parts, or_cases, or_left, or_right, both_ways, false_from_ne_true, le-leb}
+use Rattle.std.proofs.lemmas.List.{take_more}
+use Rattle.acl_sets.specs.declared.sets.Range.{Range}
+use Rattle.acl_sets.specs.Ranges.{Numbers, IsNormal, holds, inside}
+use Rattle.acl_sets.proofs.RangeLaws.{in_range}
+use Rattle.acl_terms.specs.Matching.{AnyOf}
+use Rattle.acl_terms.specs.Sets.{IsSetOf}
+
+-- ---- some of a list
+
+pub any-join : {A : Type 0} (P : A → Type 0) (xs ys : List A)
+    → AnyOf P (xs ++ ys) ↔ (AnyOf P xs ⊎ AnyOf P ys)
+any-join P [] ys = (λ a. inr a, λ e. elim e [ inl a ↦ absurd a | inr b ↦ b ])
+any-join P (x ∷ xs) ys =
+    let rest = any-join P xs ys in (
+      λ a. elim a [
+        | inl h ↦ inl (inl h)
+        | inr t ↦ elim (rest.0 t) [ inl b ↦ inl (inr b) | inr b ↦ inr b ]
+      ],
+      λ e. elim e [
+        | inl a ↦ elim a [ inl h ↦ inl h | inr t ↦ inr (rest.1 (inl t)) ]
+        | inr b ↦ inr (rest.1 (inr b))
+      ],
+    )
+
+pub any-more : {A : Type 0} (P : A → Type 0) (xs : List A) (i : ℕ) (a d : A) → i < length xs
+    → a ≡ get_or xs i d → AnyOf P (take (i + 1) xs) ↔ (AnyOf P (take i xs) ⊎ P a)
+any-more P xs i a d h is =
+    let j = any-join P (take i xs) (get_or xs i d ∷ []) in
+    rw (take_more xs i d h, is) (
+      λ s. elim (j.0 s) [
+        | inl l ↦ inl l
+        | inr r ↦ elim r [ inl p ↦ inr p | inr b ↦ absurd b ]
+      ],
+      λ e. elim e [ inl l ↦ j.1 (inl l) | inr p ↦ j.1 (inr (inl p)) ],
+    )
+
+-- ---- sets
+
+pub same-set : (P Q : ℕ → Type 0) (top : ℕ) (s : Numbers) → ((x : ℕ) → P x ↔ Q x)
+    → IsSetOf P top s → IsSetOf Q top s
+same-set P Q top s same h = record {
+  top_is = h.top_is;
+  normal = h.normal;
+  exact = λ x le. let e = h.exact x le in let q = same x in (λ a. q.0 (e.0 a), λ b. e.1 (q.1 b));
+}
+
+pub joined-set : (P Q : ℕ → Type 0) (top : ℕ) (s m u : Numbers) → IsSetOf P top s
+    → IsSetOf Q top m → u.top ≡ s.top → IsNormal 0 u.top u.ranges
+    → ((x : ℕ) → holds u.ranges x ≡ (holds s.ranges x || holds m.ranges x))
+    → IsSetOf (λ x. P x ⊎ Q x) top u
+joined-set P Q top s m u hs hm t n e = record {
+  top_is = t ∙ hs.top_is;
+  normal = n;
+  exact = λ x le. let a = hs.exact x le in let b = hm.exact x le in (
+    λ h. elim (or_cases (holds s.ranges x) (holds m.ranges x) (sym (e x) ∙ h)) [
+      | inl l ↦ inl (a.0 l)
+      | inr r ↦ inr (b.0 r)
+    ],
+    λ w. elim w [
+      | inl p ↦ e x ∙ or_left (holds s.ranges x) (holds m.ranges x) (a.1 p)
+      | inr q ↦ e x ∙ or_right (holds s.ranges x) (holds m.ranges x) (b.1 q)
+    ],
+  );
+}
+
+not-held : (b : Bool) → (b ≡ true → ⊥) → not b ≡ true
+not-held true h = absurd (h refl)
+not-held false h = refl
+
+held-not : (b : Bool) → not b ≡ true → b ≡ true → ⊥
+held-not true h e = absurd (both_ways false refl h)
+held-not false h e = absurd (both_ways false refl e)
+
+pub less-set : (P Q : ℕ → Type 0) (top : ℕ) (s m u : Numbers) → IsSetOf P top s
+    → IsSetOf Q top m → u.top ≡ s.top → IsNormal 0 u.top u.ranges
+    → ((x : ℕ) → holds u.ranges x ≡ (holds s.ranges x && not (holds m.ranges x)))
+    → IsSetOf (λ x. P x × (Q x → ⊥)) top u
+less-set P Q top s m u hs hm t n e = record {
+  top_is = t ∙ hs.top_is;
+  normal = n;
+  exact = λ x le. let a = hs.exact x le in let b = hm.exact x le in (
+    λ h. let p = and_parts (holds s.ranges x) (not (holds m.ranges x)) (sym (e x) ∙ h) in
+        (a.0 p.0, λ q. held-not (holds m.ranges x) p.1 (b.1 q)),
+    λ w. e x ∙ and_from (holds s.ranges x) (not (holds m.ranges x)) (a.1 w.0)
+        (not-held (holds m.ranges x) (λ h. w.1 (b.0 h))),
+  );
+}
+
+pub none-set : (top : ℕ) (s : Numbers) → s.top ≡ top → IsNormal 0 s.top s.ranges
+    → ((x : ℕ) → holds s.ranges x ≡ false) → IsSetOf (λ x. ⊥) top s
+none-set top s t n e = record {
+  top_is = t;
+  normal = n;
+  exact = λ x le. (λ h. both_ways (holds s.ranges x) (e x) h, λ b. absurd b);
+}
+
+pub all-set : (top : ℕ) (s : Numbers) → s.top ≡ top → IsNormal 0 s.top s.ranges
+    → ((x : ℕ) → holds s.ranges x ≡ nat_le x top) → IsSetOf (λ x. Unit {0}) top s
+all-set top s t n e = record {
+  top_is = t;
+  normal = n;
+  exact = λ x le. (λ h. tt, λ u. e x ∙ le-leb x top le);
+}
+
+-- The union with the set of the next item of a list.
+pub more-set : {A : Type 0} (P : ℕ → A → Type 0) (top : ℕ) (xs : List A) (i : ℕ) (a d : A)
+    (s m u : Numbers) → i < length xs → a ≡ get_or xs i d
+    → IsSetOf (λ x. AnyOf (P x) (take i xs)) top s → IsSetOf (λ x. P x a) top m → u.top ≡ s.top
+    → IsNormal 0 u.top u.ranges
+    → ((x : ℕ) → holds u.ranges x ≡ (holds s.ranges x || holds m.ranges x))
+    → IsSetOf (λ x. AnyOf (P x) (take (i + 1) xs)) top u
+more-set P top xs i a d s m u within is hs hm t n e =
+    same-set (λ x. AnyOf (P x) (take i xs) ⊎ P x a) (λ x. AnyOf (P x) (take (i + 1) xs)) top u
+    (λ x. let q = any-more (P x) xs i a d within is in (q.1, q.0))
+    (joined-set (λ x. AnyOf (P x) (take i xs)) (λ x. P x a) top s m u hs hm t n e)
+
+-- A list in normal form that is not empty holds a number up to its top.
+pub holds-some : (top : ℕ) (rs : List Range) → IsNormal 0 top rs → rs ≢ []
+    → (x : ℕ) × (x ≤ top) × (holds rs x ≡ true)
+holds-some top [] n some = absurd (some refl)
+holds-some top (r ∷ rs) n some =
+    let first : r.low ≤ r.high = n.1 in
+    let last : r.high ≤ top = n.2 in
+    (r.low, omega arith, or_left (inside r r.low) (holds rs r.low)
+    (in_range r.low r.high r.low (omega arith) first))
+
+-- The union with a set that is not empty is not empty.
+pub more-some : (top : ℕ) (s m u : Numbers) → IsNormal 0 m.top m.ranges → m.ranges ≢ []
+    → ((x : ℕ) → holds u.ranges x ≡ (holds s.ranges x || holds m.ranges x)) → u.ranges ≢ []
+more-some top s m u normal some e = λ none.
+    let p = holds-some m.top m.ranges normal some in
+    both_ways false refl (sym (ap (λ rs. holds rs p.0) none) ∙ e p.0
+    ∙ or_right (holds s.ranges p.0) (holds m.ranges p.0) p.2)

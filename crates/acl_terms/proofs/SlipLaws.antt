@@ -1,0 +1,82 @@
+-- First answers of lists.
+use Rattle.std.proofs.Common.{◌≡◌, ℕ, ◌+◌, ◌<◌, ◌≤◌, Bool, true, false, not, ◌&&◌, ◌||◌, List, [], ◌∷◌, ◌++◌, length, drop, get_or, Option, None, Some, inl, inr, refl, ap, sym, ◌∙◌, subst, arith}
+use Rattle.std.proofs.lemmas.List.{drop_more}
+use Rattle.std.specs.Prelude.{is_some, ◌≢◌, Result, Ok, Err}
+use Rattle.std.proofs.lemmas.Bool.{both_ways}
+use Rattle.acl_text.specs.declared.faults.Code.{Code}
+use Rattle.acl_text.specs.declared.faults.Slip.{Slip}
+use Rattle.acl_text.specs.declared.faults.Refusal.{Refusal}
+use Rattle.acl_text.specs.declared.faults.Refusal.TheVariants as refusals
+use Rattle.acl_policy.specs.declared.raw_terms.Word.{Word}
+use Rattle.acl_policy.specs.declared.raw_terms.RawTerm.{RawTerm}
+use Rattle.acl_naming.specs.Definitions.{Definition}
+use Rattle.acl_naming.specs.Checking.{first_of, IsRefusal}
+use Rattle.acl_terms.specs.Matching.{only}
+use Rattle.acl_terms.specs.SetSteps.{ends_slip, both_ports_slip}
+use Rattle.acl_terms.specs.Slips.{Judges, first_in, first_unless, network_slip, networks_slip, service_slip, services_slip, slip_at, unless}
+use Rattle.acl_terms.proofs.WordLaws.{first-passed, some-only}
+
+pub first-of-assoc : {X : Type 0} (a b c : Option X) → first_of (first_of a b) c ≡ first_of a (first_of b c)
+first-of-assoc None b c = refl
+first-of-assoc (Some x) b c = refl
+
+pub first-in-append : {A : Type 0} (question : A → Option Slip) (xs ys : List A)
+    → first_in question (xs ++ ys) ≡ first_of (first_in question xs) (first_in question ys)
+first-in-append question [] ys = refl
+first-in-append question (x ∷ xs) ys =
+    ap (λ o. first_of (question x) o) (first-in-append question xs ys)
+    ∙ sym (first-of-assoc (question x) (first_in question xs) (first_in question ys))
+
+pub slip-more : {A : Type 0} (question : A → Option Slip) (xs : List A) (i : ℕ) (x d : A)
+    → i < length xs → x ≡ get_or xs i d → question x ≡ None
+    → first_in question (drop i xs) ≡ first_in question xs
+    → first_in question (drop (i + 1) xs) ≡ first_in question xs
+slip-more question xs i x d within is none had =
+    sym (ap (λ o. first_of o (first_in question (drop (i + 1) xs))) (sym (ap question is) ∙ none))
+    ∙ sym (ap (first_in question) (drop_more xs i d within)) ∙ had
+
+pub networks_by_ends : (networks : List Definition) (t : RawTerm) → networks_slip networks t ≡ ends_slip networks t
+networks_by_ends networks t =
+    let q : Word → Option Slip = network_slip networks in
+    first-in-append q (t.sources ++ t.source_excludes) (t.destinations ++ t.destination_excludes)
+    ∙ ap (λ o. first_of o (first_in q (t.destinations ++ t.destination_excludes)))
+    (first-in-append q t.sources t.source_excludes)
+    ∙ ap (λ o. first_of (first_of (first_in q t.sources) (first_in q t.source_excludes)) o)
+    (first-in-append q t.destinations t.destination_excludes)
+
+pub services_by_ends : (services : List Definition) (protos : List ℕ) (t : RawTerm)
+    → services_slip services protos t ≡ both_ports_slip services protos t
+services_by_ends services protos t =
+    first-in-append (service_slip services protos) t.source_ports t.destination_ports
+
+-- ---- answers of one word
+
+pub refused-is : (X : Type 0) (r : Refusal) (s : Slip) (o : Option Slip) → IsRefusal s r → o ≡ Some s
+    → Judges {X = X} (Err r) o
+refused-is X (refusals.Slip t) s o h e = e ∙ ap (λ x. Some x) (sym h)
+refused-is X refusals.Memory s o h e = tt
+
+pub some-is : (o : Option ℕ) → (o ≡ None → ⊥) → is_some o ≡ true
+some-is None h = absurd (h refl)
+some-is (Some n) h = refl
+
+pub unless-passed : (b : Bool) (code : Code) (w : Word) → b ≡ true → unless b code w ≡ None
+unless-passed true code w h = refl
+unless-passed false code w h = absurd (both_ways false refl h)
+
+pub unless-failed : (b : Bool) (code : Code) (w : Word) → b ≡ false → unless b code w ≡ Some (slip_at code w)
+unless-failed true code w h = absurd (both_ways true h refl)
+unless-failed false code w h = refl
+
+pub both-passed : (a b : Bool) (c d : Code) (w : Word) → a ≡ true → b ≡ true
+    → first_of (unless a c w) (unless b d w) ≡ None
+both-passed a b c d w h k = ap (λ o. first_of o (unless b d w)) (unless-passed a c w h) ∙ unless-passed b d w k
+
+pub second-failed : (a b : Bool) (c d : Code) (w : Word) → a ≡ true → b ≡ false
+    → first_of (unless a c w) (unless b d w) ≡ Some (slip_at d w)
+second-failed a b c d w h k = ap (λ o. first_of o (unless b d w)) (unless-passed a c w h) ∙ unless-failed b d w k
+
+-- Ports are named only where protocols are.
+pub ports-some : (qs : List ℕ) (test : ℕ → Bool) (code : Code) (ws : List Word)
+    → first_unless (only test qs) code ws ≡ None → ws ≢ [] → qs ≢ []
+ports-some qs test code ws h some = some-only test qs (first-passed (only test qs) code ws h some)

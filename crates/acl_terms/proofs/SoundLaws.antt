@@ -1,0 +1,265 @@
+-- The sets of a term without a slip fulfil what every term does.
+use Rattle.std.proofs.Common.{◌≡◌, ◌≢◌, ◌⊎◌, ◌↔◌, ℕ, ◌+◌, ◌<◌, ◌≤◌, Bool, true, false, cond, ◌&&◌, ◌||◌, ◌==◌, List, [], ◌∷◌, ◌++◌, Option, None, Some, inl, inr, refl, ap, sym, ◌∙◌, subst, arith}
+use Rattle.std.specs.Prelude.{flat_map, option_to_list, is_some, codes as codes_of}
+use Rattle.std.specs.Str.{bytes_eq}
+use Rattle.std.specs.List.{list_all}
+use Rattle.std.proofs.lemmas.Bool.{both_ways, false_from_ne_true, cases_Bool}
+use Rattle.std.proofs.lemmas.Option.{none-some, same_Some}
+use Rattle.acl_packet.specs.declared.addresses.Family.{Family}
+use Rattle.acl_packet.specs.declared.addresses.Family.TheVariants.{V4, V6}
+use Rattle.acl_packet.specs.declared.filtering.Verdict.{Verdict}
+use Rattle.acl_packet.specs.declared.filtering.Verdict.TheVariants as verdicts
+use Rattle.acl_packet.specs.NumberWords.{protocol_in}
+use Rattle.acl_packet.specs.Packets.{has_ports}
+use Rattle.acl_text.specs.declared.faults.Code.{Code}
+use Rattle.acl_text.specs.declared.faults.Code.TheVariants as codes
+use Rattle.acl_text.specs.Names.{is_name}
+use Rattle.acl_sets.specs.declared.sets.Range.{Range}
+use Rattle.acl_sets.specs.Ranges.{Numbers, IsNormal, holds}
+use Rattle.acl_sets.proofs.RangeLaws.{at_top}
+use Rattle.acl_sets.proofs.ComputableSetLaws.{holds-covers}
+use Rattle.acl_policy.specs.declared.raw_terms.Word.{Word}
+use Rattle.acl_policy.specs.declared.raw_terms.RawTerm.{RawTerm}
+use Rattle.acl_naming.specs.Definitions.{Naming}
+use Rattle.acl_naming.specs.Ports.{top_port}
+use Rattle.acl_terms.specs.declared.options.Opt.{Opt}
+use Rattle.acl_terms.specs.declared.options.Opt.TheVariants.{Plain, Established, TcpEstablished, TcpInitial, Rst}
+use Rattle.acl_terms.specs.Matching.{AnyOf, Admits, IsProtocol, IsType, NamesPort, only, is_number, icmp_family, type_in, protocols_of, is_written}
+use Rattle.acl_terms.specs.Options.{option_of, verdict_of}
+use Rattle.acl_terms.specs.Sets.{IsSetOf, Sets, AreSetsOf}
+use Rattle.acl_terms.specs.Slips.{unless, first_unless, first_in, slip_of, questions, first_some, type_slip, option_fits, verdict_fits, is_tcp_or_udp, port_words, networks_slip, port_protocol_slip, services_slip, words_slips, types_slip, clash_slip, option_slip, reset_slip}
+use Rattle.acl_terms.specs.Soundness.{IsSound, is_all, Only, is_established, needs_tcp, is_reset, is_left}
+use Rattle.acl_text.specs.Notes.{is_note, note_of}
+use Rattle.acl_terms.proofs.WordLaws.{protocol-within, type-within, parts, passed, first-passed, none-more, left-some, right-some, some-only, only-all, any-passes, any-number}
+
+-- ---- all numbers
+
+pub whole : (top : ℕ) (s : Numbers) → IsSetOf (λ x. Unit {0}) top s → is_all s ≡ true
+whole top s h =
+    let t : s.top ≡ top = h.top_is in
+    holds-covers 0 s.top s.ranges 0 s.top h.normal (omega arith)
+    (λ x a b. let e = h.exact x (omega arith) in e.1 tt)
+
+-- Where a set is not all, words are written.
+pub not-whole : (P : ℕ → Word → Type 0) (top : ℕ) (ws : List Word) (s : Numbers)
+    → IsSetOf (λ x. Admits (P x) ws) top s → is_all s ≡ false → ws ≢ []
+not-whole P top [] s h e = λ _. both_ways (is_all s) e (whole top s h)
+not-whole P top (w ∷ ws) s h e = none-more w ws
+
+-- A number of a set that is not all is one of the words'.
+pub named-number : (P : ℕ → Word → Type 0) (top : ℕ) (ws : List Word) (s : Numbers) (x : ℕ)
+    → IsSetOf (λ n. Admits (P n) ws) top s → ws ≢ [] → holds s.ranges x ≡ true → AnyOf (P x) ws
+named-number P top [] s x h some e = absurd (some refl)
+named-number P top (w ∷ ws) s x h some e =
+    let t : s.top ≡ top = h.top_is in
+    let l : x ≤ s.top = at_top 0 s.top s.ranges x h.normal e in
+    let law = h.exact x (omega arith) in law.0 e
+
+-- ---- protocols
+
+pub only-held : (test : ℕ → Bool) (ws : List Word) (s : Numbers) → IsSetOf (IsProtocol ws) 255 s
+    → only test (protocols_of ws) ≡ true → Only test s
+only-held test [] s h o x e = absurd (both_ways false refl o)
+only-held test (w ∷ ws) s h o x e =
+    any-passes test (λ v. protocol_in v.text) (w ∷ ws) x (only-all test (protocols_of (w ∷ ws)) o)
+    (named-number (λ n v. protocol_in v.text ≡ Some n) 255 (w ∷ ws) s x h (none-more w ws) e)
+
+pub no-zero : (ws : List Word) → AnyOf (λ w. protocol_in w.text ≡ Some 0) ws → ⊥
+no-zero ws a =
+    let l : 1 ≤ 0 = any-number (λ w. protocol_in w.text) (λ n. 1 ≤ n) ws 0
+          (λ w e. (protocol-within 0 w.text e).0) a in
+    absurd (omega arith)
+
+lack-zero : (ws : List Word) (s : Numbers) → IsSetOf (IsProtocol ws) 255 s → is_all s ≡ false
+    → holds s.ranges 0 ≡ false
+lack-zero ws s h e = false_from_ne_true (holds s.ranges 0)
+    (λ t. no-zero ws (named-number (λ n v. protocol_in v.text ≡ Some n) 255 ws s 0 h
+    (not-whole (λ n v. protocol_in v.text ≡ Some n) 255 ws s h e) t))
+
+-- ---- ports
+
+ports-fit : (n : Naming) (P : ℕ → Word → Type 0) (top : ℕ) (ws : List Word) (s : Numbers) (b : Bool) (code : Code) (all : List Word)
+    → IsSetOf (λ x. Admits (P x) ws) top s → (ws ≢ [] → all ≢ []) → first_unless b code all ≡ None
+    → is_all s ≡ false → b ≡ true
+ports-fit n P top ws s b code all h more none e =
+    first-passed b code all none (more (not-whole P top ws s h e))
+
+-- ---- types
+
+pub some-range : (rs : List Range) (x : ℕ) → holds rs x ≡ true → rs ≢ []
+some-range [] x e = absurd (both_ways false refl e)
+some-range (r ∷ rs) x e = none-more r rs
+
+whole-some : (s : Numbers) → is_all s ≡ true → s.ranges ≢ []
+whole-some s e = λ h. both_ways false refl (sym (ap (λ rs. is_all (record { top = s.top; ranges = rs })) h) ∙ e)
+
+some-there : (o : Option ℕ) → is_some o ≡ true → (n : ℕ) × (o ≡ Some n)
+some-there None h = absurd (both_ways false refl h)
+some-there (Some n) h = (n, refl)
+
+some-type : (f : Option Family) (w : Word) → type_slip f w ≡ None
+    → (n : ℕ) × (type_in f w.text ≡ Some n)
+some-type f w none = some-there (type_in f w.text) (passed (is_some (type_in f w.text)) codes.IcmpProtocol w none)
+
+types-some : (f : Option Family) (ws : List Word) (s : Numbers) → IsSetOf (IsType f ws) 255 s
+    → first_in (type_slip f) ws ≡ None → s.ranges ≢ []
+types-some f [] s h none = whole-some s (whole 255 s h)
+types-some f (w ∷ ws) s h none =
+    let t = some-type f w (parts (type_slip f w) (first_in (type_slip f) ws) none).0 in
+    let l : t.0 ≤ 254 = type-within f t.0 w.text t.1 in
+    let law = h.exact t.0 (omega arith) in
+    some-range s.ranges t.0 (law.1 (inl t.1))
+
+lack-255 : (f : Option Family) (ws : List Word) (s : Numbers) → IsSetOf (IsType f ws) 255 s
+    → is_all s ≡ false → holds s.ranges 255 ≡ false
+lack-255 f ws s h e = false_from_ne_true (holds s.ranges 255)
+    (λ t. let a = named-number (λ n v. type_in f v.text ≡ Some n) 255 ws s 255 h
+            (not-whole (λ n v. type_in f v.text ≡ Some n) 255 ws s h e) t in
+      let l : 255 ≤ 254 = any-number (λ w. type_in f w.text) (λ n. n ≤ 254) ws 255
+            (λ w q. type-within f 255 w.text q) a in
+      absurd (omega arith))
+
+is-family : (f : Option Family) (ws : List Word) → ws ≢ [] → first_in (type_slip f) ws ≡ None → f ≢ None
+is-family f [] some none = absurd (some refl)
+is-family f (w ∷ ws) some none =
+    let t = some-type f w (parts (type_slip f w) (first_in (type_slip f) ws) none).0 in
+    λ e. none-some t.0 (sym (ap (λ g. type_in g w.text) e) ∙ t.1)
+
+one-icmp : (a b : Bool) → cond a (Some V4) (cond b (Some V6) None) ≢ None → (a ≡ true → ⊥) → b ≡ true
+one-icmp true b h other = absurd (other refl)
+one-icmp false true h other = refl
+one-icmp false false h other = absurd (h refl)
+
+-- ---- options and verdicts
+
+established-only : (o : Opt) (qs : List ℕ) → option_fits o qs ≡ true → is_established o ≡ true
+    → only is_tcp_or_udp qs ≡ true
+established-only Plain qs h e = absurd (both_ways false refl e)
+established-only Established qs h e = h
+established-only TcpEstablished qs h e = absurd (both_ways false refl e)
+established-only TcpInitial qs h e = absurd (both_ways false refl e)
+established-only Rst qs h e = absurd (both_ways false refl e)
+
+flags-only : (o : Opt) (qs : List ℕ) → option_fits o qs ≡ true → needs_tcp o ≡ true
+    → only (is_number 6) qs ≡ true
+flags-only Plain qs h e = absurd (both_ways false refl e)
+flags-only Established qs h e = absurd (both_ways false refl e)
+flags-only TcpEstablished qs h e = h
+flags-only TcpInitial qs h e = h
+flags-only Rst qs h e = h
+
+option-fitting : (qs : List ℕ) (ws : List Word)
+    → first_unless (option_fits (option_of ws) qs) codes.OptionProtocol ws ≡ None → option_fits (option_of ws) qs ≡ true
+option-fitting qs [] h = refl
+option-fitting qs (w ∷ ws) h = passed (option_fits (option_of (w ∷ ws)) qs) codes.OptionProtocol w h
+
+reset-only : (v : Verdict) (qs : List ℕ) → verdict_fits v qs ≡ true → is_reset v ≡ true
+    → only (is_number 6) qs ≡ true
+reset-only verdicts.Accept qs h e = absurd (both_ways false refl e)
+reset-only verdicts.Deny qs h e = absurd (both_ways false refl e)
+reset-only verdicts.Reject qs h e = absurd (both_ways false refl e)
+reset-only verdicts.Reset qs h e = h
+reset-only verdicts.Left qs h e = absurd (both_ways false refl e)
+
+never-left : (a b c : Bool) → is_left (cond a verdicts.Accept (cond b verdicts.Deny (cond c verdicts.Reject verdicts.Reset))) ≡ false
+never-left true b c = refl
+never-left false true c = refl
+never-left false false true = refl
+never-left false false false = refl
+
+-- ---- the whole term
+
+-- What a term without a slip passes.
+pub record Passed (n : Naming) (t : RawTerm) : Type 0 where
+  pub ports : first_unless (only has_ports (protocols_of t.protocols)) codes.PortProtocol (port_words t) ≡ None
+  pub services : services_slip n.services (protocols_of t.protocols) t ≡ None
+  pub types : first_in (type_slip (icmp_family (protocols_of t.protocols))) t.icmp_types ≡ None
+  pub option : option_fits (option_of t.options) (protocols_of t.protocols) ≡ true
+  pub verdict : verdict_fits (verdict_of t.action.text) (protocols_of t.protocols) ≡ true
+
+pub passes-all : (n : Naming) (t : RawTerm) → slip_of n t ≡ None → Passed n t
+unfolding slip_of
+passes-all n t h =
+    let qs = protocols_of t.protocols in
+    let a = parts (networks_slip n.networks t) (first_some (port_protocol_slip qs t ∷ services_slip n.services qs t ∷ words_slips qs t)) h in
+    let b = parts (port_protocol_slip qs t) (first_some (services_slip n.services qs t ∷ words_slips qs t)) a.1 in
+    let c = parts (services_slip n.services qs t) (first_some (words_slips qs t)) b.1 in
+    let d = parts (types_slip qs t) (first_some (clash_slip t.options ∷ option_slip qs t.options ∷ reset_slip qs t.action ∷ [])) c.1 in
+    let e = parts (clash_slip t.options) (first_some (option_slip qs t.options ∷ reset_slip qs t.action ∷ [])) d.1 in
+    let f = parts (option_slip qs t.options) (first_some (reset_slip qs t.action ∷ [])) e.1 in
+    let g = parts (reset_slip qs t.action) None f.1 in
+    record {
+      ports = b.0;
+      services = c.0;
+      types = d.0;
+      option = option-fitting qs t.options f.0;
+      verdict = passed (verdict_fits (verdict_of t.action.text) qs) codes.ResetProtocol t.action g.0;
+    }
+
+not-written : (ws : List Word) (P : ℕ → Word → Type 0) (top : ℕ) (s : Numbers) → IsSetOf (λ x. Admits (P x) ws) top s
+    → is_written ws ≡ false → is_all s ≡ true
+not-written [] P top s h e = whole top s h
+not-written (w ∷ ws) P top s h e = absurd (both_ways true e refl)
+
+pub sound : (n : Naming) (t : RawTerm) (s : Sets) → is_name t.name.text ≡ true
+    → is_note (note_of t.comments) ≡ true → slip_of n t ≡ None → AreSetsOf n t s
+    → IsSound t.name.text (note_of t.comments) s.src4 s.src6 s.dst4 s.dst6 s.protos s.sports s.dports
+    (is_written t.destination_ports) s.itypes (option_of t.options) (verdict_of t.action.text)
+sound n t s name note clean are =
+    let qs = protocols_of t.protocols in
+    let p = passes-all n t clean in
+    let named = NamesPort n qs in
+    record {
+      name_is = name;
+      note_is = note;
+      src4_top = are.ipv4.0.top_is;
+      src4_normal = are.ipv4.0.normal;
+      src6_top = are.ipv6.0.top_is;
+      src6_normal = are.ipv6.0.normal;
+      dst4_top = are.ipv4.1.top_is;
+      dst4_normal = are.ipv4.1.normal;
+      dst6_top = are.ipv6.1.top_is;
+      dst6_normal = are.ipv6.1.normal;
+      protos_top = are.protos_are.top_is;
+      protos_normal = are.protos_are.normal;
+      protos_lack_0 = lack-zero t.protocols s.protos are.protos_are;
+      sports_top = are.ports.0.top_is;
+      sports_normal = are.ports.0.normal;
+      sports_some = are.ports.2;
+      sports_fit = λ e. only-held has_ports t.protocols s.protos are.protos_are
+          (ports-fit n (NamesPort n qs) top_port t.source_ports s.sports (only has_ports qs) codes.PortProtocol (port_words t)
+          are.ports.0 (left-some t.source_ports t.destination_ports) p.ports e);
+      dports_top = are.ports.1.top_is;
+      dports_normal = are.ports.1.normal;
+      dports_some = are.ports.3;
+      dports_fit = λ e. only-held has_ports t.protocols s.protos are.protos_are
+          (ports-fit n (NamesPort n qs) top_port t.destination_ports s.dports (only has_ports qs) codes.PortProtocol (port_words t)
+          are.ports.1 (right-some t.source_ports t.destination_ports) p.ports e);
+      dports_named = not-written t.destination_ports (NamesPort n qs) top_port s.dports are.ports.1;
+      itypes_top = are.itypes_are.top_is;
+      itypes_normal = are.itypes_are.normal;
+      itypes_some = types-some (icmp_family qs) t.icmp_types s.itypes are.itypes_are p.types;
+      itypes_lack_255 = lack-255 (icmp_family qs) t.icmp_types s.itypes are.itypes_are;
+      itypes_fit = λ e none. only-held (is_number 58) t.protocols s.protos are.protos_are
+          (one-icmp (only (is_number 1) qs) (only (is_number 58) qs)
+          (is-family (icmp_family qs) t.icmp_types
+          (not-whole (λ x w. type_in (icmp_family qs) w.text ≡ Some x) 255 t.icmp_types s.itypes are.itypes_are e) p.types)
+          (λ o. none (only-held (is_number 1) t.protocols s.protos are.protos_are o)));
+      established_fits = λ e. only-held is_tcp_or_udp t.protocols s.protos are.protos_are
+          (established-only (option_of t.options) qs p.option e);
+      flags_fit = λ e. only-held (is_number 6) t.protocols s.protos are.protos_are
+          (flags-only (option_of t.options) qs p.option e);
+      reset_fits = λ e. only-held (is_number 6) t.protocols s.protos are.protos_are
+          (reset-only (verdict_of t.action.text) qs p.verdict e);
+      verdict_is = never-left (bytes_eq t.action.text (codes_of "accept")) (bytes_eq t.action.text (codes_of "deny"))
+          (bytes_eq t.action.text (codes_of "reject"));
+    }
+
+-- The same for fields that equal those.
+pub sound-fields : (n : Naming) (t : RawTerm) (s : Sets) (name note : List ℕ) (named : Bool) (option : Opt) (verdict : Verdict)
+    → name ≡ t.name.text → note ≡ note_of t.comments → named ≡ is_written t.destination_ports
+    → option ≡ option_of t.options → verdict ≡ verdict_of t.action.text
+    → is_name t.name.text ≡ true → is_note note ≡ true → slip_of n t ≡ None → AreSetsOf n t s
+    → IsSound name note s.src4 s.src6 s.dst4 s.dst6 s.protos s.sports s.dports named s.itypes option verdict
+sound-fields n t s name note named option verdict e1 e2 e3 e4 e5 is safe clean are =
+    rw (e1, e2, e3, e4, e5) (sound n t s is (sym (ap is_note e2) ∙ safe) clean are)

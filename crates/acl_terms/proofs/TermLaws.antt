@@ -1,0 +1,207 @@
+-- A written term is resolved in one way, and in some way where it has no slip.
+use Rattle.std.proofs.Common.{◌≡◌, ◌≢◌, ℕ, ◌≤◌, Bool, true, ◌&&◌, List, [], ◌∷◌, ◌++◌, Option, None, inl, inr, refl, ap, sym, ◌∙◌, subst}
+use Rattle.std.proofs.Props.{props}
+use Rattle.std.specs.List.{list_all}
+use Rattle.std.proofs.lemmas.Bool.{and_parts}
+use Rattle.acl_packet.specs.declared.filtering.Verdict.{Verdict}
+use Rattle.acl_packet.specs.Packets.{has_ports}
+use Rattle.acl_text.specs.declared.faults.Code.TheVariants as codes
+use Rattle.acl_text.specs.declared.faults.Place.{Place}
+use Rattle.acl_text.proofs.NoteLaws.{note_is_safe}
+use Rattle.acl_text.specs.Notes.{note_of}
+use Rattle.acl_host.specs.declared.clocks.Day.{Day}
+use Rattle.acl_sets.specs.Ranges.{holds}
+use Rattle.acl_policy.specs.declared.raw_terms.RawTerm.{RawTerm}
+use Rattle.acl_policy.specs.declared.raw_terms.Word.{Word}
+use Rattle.acl_policy.specs.Conditions.{IsRawTerm}
+use Rattle.acl_naming.specs.Definitions.{Naming}
+use Rattle.acl_naming.specs.Ports.{top_port}
+use Rattle.acl_naming.specs.ComputableReach.{ports_reached}
+use Rattle.acl_naming.proofs.ComputedReachLaws.{ports_computed}
+use Rattle.acl_terms.specs.declared.options.Opt.{Opt}
+use Rattle.acl_terms.specs.declared.terms.Platforms.{Platforms}
+use Rattle.acl_terms.specs.declared.terms.Term.{Term}
+use Rattle.acl_terms.specs.ComputableTerms.{PortsAreSome, port_set, sets_of}
+use Rattle.acl_terms.specs.Living.{platforms_of, some_platforms}
+use Rattle.acl_terms.specs.Matching.{is_written, only, protocols_of}
+use Rattle.acl_terms.specs.Options.{option_of, verdict_of}
+use Rattle.acl_terms.specs.Resolved.{IsResolved, sets_in}
+use Rattle.acl_terms.specs.Sets.{AreSetsOf, Sets}
+use Rattle.acl_terms.specs.Slips.{first_in, first_unless, is_defined, port_words, reaches_protocol, service_slip, services_slip, slip_of, unless}
+use Rattle.acl_terms.specs.Soundness.{IsSound, normal-prop}
+use Rattle.acl_terms.proofs.ComputedLaws.{computed-sets, one-of-sets, port-is}
+use Rattle.acl_terms.proofs.PortLaws.{protocol-tested}
+use Rattle.acl_terms.proofs.SetLaws.{holds-some}
+use Rattle.acl_terms.proofs.SlipLaws.{first-in-append, ports-some}
+use Rattle.acl_terms.proofs.SoundLaws.{Passed, passes-all, some-range, sound}
+use Rattle.acl_terms.proofs.WordLaws.{left-some, none-more, parts, passed, right-some}
+
+-- ---- one term
+
+-- The fields of a term without its facts.
+record Fields : Type 0 where
+  name : List ℕ
+  place : Place
+  note : List ℕ
+  sets : Sets
+  dport_named : Bool
+  option : Opt
+  verdict : Verdict
+  log : Bool
+  expires : Option Day
+  «only» : Option Platforms
+  never : Platforms
+
+AreSound : Fields → Type 0
+AreSound f = IsSound f.name f.note f.sets.src4 f.sets.src6 f.sets.dst4 f.sets.dst6 f.sets.protos f.sets.sports
+    f.sets.dports f.dport_named f.sets.itypes f.option f.verdict
+
+fields-of : Term → Fields
+fields-of t = record {
+  name = t.name;
+  place = t.place;
+  note = t.note;
+  sets = sets_in t;
+  dport_named = t.dport_named;
+  option = t.option;
+  verdict = t.verdict;
+  log = t.log;
+  expires = t.expires;
+  «only» = t.only;
+  never = t.never;
+}
+
+term-of : (f : Fields) → AreSound f → Term
+unfolding AreSound
+term-of f sound = record {
+  name = f.name;
+  place = f.place;
+  note = f.note;
+  src4 = f.sets.src4;
+  src6 = f.sets.src6;
+  dst4 = f.sets.dst4;
+  dst6 = f.sets.dst6;
+  protos = f.sets.protos;
+  sports = f.sets.sports;
+  dports = f.sets.dports;
+  dport_named = f.dport_named;
+  itypes = f.sets.itypes;
+  option = f.option;
+  verdict = f.verdict;
+  log = f.log;
+  expires = f.expires;
+  «only» = f.only;
+  never = f.never;
+  sound = sound;
+}
+
+one-proof : (f : Fields) (p q : AreSound f) → p ≡ q
+unfolding AreSound
+one-proof f p q =
+    let prop : IsProp (IsSound f.name f.note f.sets.src4 f.sets.src6 f.sets.dst4 f.sets.dst6 f.sets.protos f.sets.sports
+          f.sets.dports f.dport_named f.sets.itypes f.option f.verdict) = hlevel (props, normal-prop) in prop p q
+
+same-term : (f g : Fields) → f ≡ g → (p : AreSound f) (q : AreSound g) → term-of f p ≡ term-of g q
+same-term f g e p =
+    subst (λ h. (q : AreSound h) → term-of f p ≡ term-of h q) e (λ q. ap (λ s. term-of f s) (one-proof f p q))
+
+same-fields : (n : Naming) (raw : RawTerm) (t u : Term) → IsResolved n raw t → IsResolved n raw u
+    → fields-of t ≡ fields-of u
+unfolding fields-of
+same-fields n raw t u h k =
+    let sets = one-of-sets n raw (sets_in t) (sets_in u) h.sets k.sets in
+    let a = h.fields in
+    let b = k.fields in
+    λ j. record {
+      name = (a.name ∙ sym b.name) j;
+      place = (a.place ∙ sym b.place) j;
+      note = (a.note ∙ sym b.note) j;
+      sets = sets j;
+      dport_named = (a.dport_named ∙ sym b.dport_named) j;
+      option = (a.option ∙ sym b.option) j;
+      verdict = (a.verdict ∙ sym b.verdict) j;
+      log = (a.log ∙ sym b.log) j;
+      expires = (a.expires ∙ sym b.expires) j;
+      «only» = (a.only ∙ sym b.only) j;
+      never = (a.never ∙ sym b.never) j;
+    }
+
+pub one-term : (n : Naming) (raw : RawTerm) (t u : Term) → IsResolved n raw t → IsResolved n raw u → t ≡ u
+unfolding fields-of AreSound term-of
+one-term n raw t u h k =
+    same-term (fields-of t) (fields-of u) (same-fields n raw t u h k) t.sound u.sound
+
+-- ---- some term
+
+-- The ports of words are some, where each word has ports of each protocol.
+port-some : (n : Naming) (qs : List ℕ) (words : List Word) → PortsAreSome n → (words ≢ [] → qs ≢ [])
+    → first_in (service_slip n.services qs) words ≡ None → (port_set n qs words).ranges ≢ []
+port-some n qs [] some more none = none-more _ _
+port-some n [] (w ∷ ws) some more none = absurd (more (none-more w ws) refl)
+port-some n (q ∷ qs) (w ∷ ws) some more none =
+    let services = n.services in
+    let here = parts (service_slip services (q ∷ qs) w) (first_in (service_slip services (q ∷ qs)) ws) none in
+    let both = parts (unless (is_defined services w.text) codes.UnknownName w)
+          (unless (list_all (reaches_protocol services w.text) (q ∷ qs)) codes.NoPortForProtocol w) here.0 in
+    let all = passed (list_all (reaches_protocol services w.text) (q ∷ qs)) codes.NoPortForProtocol w both.1 in
+    let first = and_parts (reaches_protocol services w.text q) (list_all (reaches_protocol services w.text) qs) all in
+    let reached = some q w.text ((protocol-tested services w.text q).0 first.0) in
+    let law = ports_computed services q w.text in
+    let x = holds-some top_port (ports_reached services q w.text) law.0 reached in
+    let port = (port-is n (q ∷ qs) (w ∷ ws)).exact x.0 x.1 in
+    some-range (port_set n (q ∷ qs) (w ∷ ws)).ranges x.0 (port.1 (inl (inl ((law.1 x.0 x.1).0 x.2))))
+
+sets-there : (n : Naming) (raw : RawTerm) → PortsAreSome n → slip_of n raw ≡ None → AreSetsOf n raw (sets_of n raw)
+unfolding sets_of
+sets-there n raw some clean =
+    let qs = protocols_of raw.protocols in
+    let p = passes-all n raw clean in
+    let question = service_slip n.services qs in
+    let both = parts (first_in question raw.source_ports) (first_in question raw.destination_ports)
+          (sym (first-in-append question raw.source_ports raw.destination_ports) ∙ p.services) in
+    let named = ports-some qs has_ports codes.PortProtocol (port_words raw) p.ports in
+    computed-sets n raw
+    (port-some n qs raw.source_ports some (λ h. named (left-some raw.source_ports raw.destination_ports h)) both.0)
+    (port-some n qs raw.destination_ports some (λ h. named (right-some raw.source_ports raw.destination_ports h)) both.1)
+
+pub term-there : (n : Naming) (raw : RawTerm) → PortsAreSome n → IsRawTerm raw → slip_of n raw ≡ None
+    → (t : Term) × IsResolved n raw t
+term-there n raw some fits clean =
+    let s = sets_of n raw in
+    let are = sets-there n raw some clean in
+    let t : Term = record {
+          name = raw.name.text;
+          place = raw.name.place;
+          note = note_of raw.comments;
+          src4 = s.src4;
+          src6 = s.src6;
+          dst4 = s.dst4;
+          dst6 = s.dst6;
+          protos = s.protos;
+          sports = s.sports;
+          dports = s.dports;
+          dport_named = is_written raw.destination_ports;
+          itypes = s.itypes;
+          option = option_of raw.options;
+          verdict = verdict_of raw.action.text;
+          log = raw.logging;
+          expires = raw.expires;
+          «only» = some_platforms raw.platforms;
+          never = platforms_of raw.not_platforms;
+          sound = sound n raw s fits.name_is (note_is_safe raw.comments) clean are;
+        } in
+    (t, record {
+      sets = are;
+      fields = record {
+        name = refl;
+        place = refl;
+        note = refl;
+        dport_named = refl;
+        option = refl;
+        verdict = refl;
+        log = refl;
+        expires = refl;
+        «only» = refl;
+        never = refl;
+      };
+    })

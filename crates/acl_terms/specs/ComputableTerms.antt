@@ -1,0 +1,82 @@
+-- The sets of a term as values that can be computed with. What is to be believed are the facts of Sets: a term has one
+-- such set for each, so a reader needs these values only where he states a function of a policy.
+use Rattle.std.specs.Prelude.{◌≡◌, ◌≢◌, ℕ, List, [], ◌∷◌, None, map, flat_map, option_to_list, Option}
+use Rattle.acl_packet.specs.declared.addresses.Family.{Family}
+use Rattle.acl_packet.specs.declared.addresses.Family.TheVariants.{V4, V6}
+use Rattle.acl_packet.specs.Addresses.{top_address}
+use Rattle.acl_packet.specs.NumberWords.{protocol_in}
+use Rattle.acl_sets.specs.declared.sets.Range.{Range}
+use Rattle.acl_sets.specs.Ranges.{Numbers}
+use Rattle.acl_sets.specs.ComputableSets.{cut_all, put_all}
+use Rattle.acl_policy.specs.declared.raw_terms.RawTerm.{RawTerm}
+use Rattle.acl_policy.specs.declared.raw_terms.Word.{Word}
+use Rattle.acl_policy.specs.Conditions.{IsRawTerm}
+use Rattle.acl_naming.specs.ComputableReach.{addresses_reached, ports_reached}
+use Rattle.acl_naming.specs.Definitions.{Naming}
+use Rattle.acl_naming.specs.Ports.{top_port}
+use Rattle.acl_naming.specs.Reach.{ReachesProtocol}
+use Rattle.acl_terms.specs.declared.terms.Term.{Term}
+use Rattle.acl_terms.specs.Matching.{icmp_family, protocols_of, type_in}
+use Rattle.acl_terms.specs.Resolved.{IsResolved}
+use Rattle.acl_terms.specs.Sets.{Sets}
+use Rattle.acl_terms.specs.SetSteps.{single}
+use Rattle.acl_terms.specs.Slips.{slip_of}
+
+-- The ranges of all items of a list, as one set; and all numbers up to the top where there is no item.
+abbrev pub named : {A : Type 0} → (A → List Range) → List A → List Range
+named f xs = put_all (flat_map f xs) []
+
+abbrev pub admitted : {A : Type 0} → ℕ → (A → List Range) → List A → List Range
+admitted top f [] = record { low = 0; high = top } ∷ []
+admitted top f (x ∷ xs) = named f (x ∷ xs)
+
+abbrev pub word_addresses : Naming → Family → Word → List Range
+word_addresses n f w = addresses_reached n.networks f w.text
+
+abbrev pub address_set : Naming → Family → List Word → List Word → Numbers
+address_set n f words excludes = record {
+  top = top_address f;
+  ranges = cut_all (named (word_addresses n f) excludes)
+      (admitted (top_address f) (word_addresses n f) words);
+}
+
+abbrev pub word_ports : Naming → List ℕ → Word → List Range
+word_ports n protos w = flat_map (λ q. ports_reached n.services q w.text) protos
+
+abbrev pub port_set : Naming → List ℕ → List Word → Numbers
+port_set n protos words = record {
+  top = top_port;
+  ranges = admitted top_port (word_ports n protos) words;
+}
+
+abbrev pub word_numbers : (Word → Option ℕ) → Word → List Range
+word_numbers number w = map single (option_to_list (number w))
+
+abbrev pub number_set : (Word → Option ℕ) → List Word → Numbers
+number_set number words = record { top = 255; ranges = admitted 255 (word_numbers number) words }
+
+unfoldable pub sets_of : Naming → RawTerm → Sets
+sets_of n t = record {
+  src4 = address_set n V4 t.sources t.source_excludes;
+  src6 = address_set n V6 t.sources t.source_excludes;
+  dst4 = address_set n V4 t.destinations t.destination_excludes;
+  dst6 = address_set n V6 t.destinations t.destination_excludes;
+  protos = number_set (λ w. protocol_in w.text) t.protocols;
+  sports = port_set n (protocols_of t.protocols) t.source_ports;
+  dports = port_set n (protocols_of t.protocols) t.destination_ports;
+  itypes = number_set (λ w. type_in (icmp_family (protocols_of t.protocols)) w.text) t.icmp_types;
+}
+
+-- A name that reaches ports of a protocol reaches some port: an item has its ports from a low to a high end.
+abbrev pub PortsAreSome : Naming → Type 0
+PortsAreSome n = (q : ℕ) (name : List ℕ) → ReachesProtocol n.services name q
+    → ports_reached n.services q name ≢ []
+
+-- A written term is resolved in one way.
+abbrev pub TermsAreOne : Type 0
+TermsAreOne = (n : Naming) (raw : RawTerm) (t u : Term) → IsResolved n raw t → IsResolved n raw u → t ≡ u
+
+-- A term without a slip is resolved in some way.
+abbrev pub TermsAreThere : Type 0
+TermsAreThere = (n : Naming) (raw : RawTerm) → PortsAreSome n → IsRawTerm raw → slip_of n raw ≡ None
+    → (t : Term) × IsResolved n raw t

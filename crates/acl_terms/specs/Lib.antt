@@ -1,0 +1,10 @@
+pub mod ComputableTerms
+pub mod Living
+pub mod Matching
+pub mod Options
+pub mod Outcomes
+pub mod Resolved
+pub mod SetSteps
+pub mod Sets
+pub mod Slips
+pub mod Soundness

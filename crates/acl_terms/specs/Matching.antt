@@ -1,0 +1,102 @@
+-- When a term, as it is written, matches a packet. Nothing is computed: names reach numbers by walks, and no set is
+-- made.
+use Rattle.std.specs.Prelude.{◌≡◌, ℕ, Bool, true, false, ◌==◌, ◌⊎◌, if◌then◌else◌, List, [], ◌∷◌, Option, None, Some, flat_map, option_to_list, is_some}
+use Rattle.std.specs.List.{list_all}
+use Rattle.acl_packet.specs.declared.addresses.Family.{Family}
+use Rattle.acl_packet.specs.declared.addresses.Family.TheVariants.{V4, V6}
+use Rattle.acl_packet.specs.declared.packets.Packet.{Packet}
+use Rattle.acl_packet.specs.NumberWords.{protocol_in, icmp_in}
+use Rattle.acl_policy.specs.declared.raw_terms.Word.{Word}
+use Rattle.acl_policy.specs.declared.raw_terms.RawTerm.{RawTerm}
+use Rattle.acl_naming.specs.Definitions.{Naming}
+use Rattle.acl_naming.specs.Reach.{ReachesAddress, ReachesPort}
+use Rattle.acl_terms.specs.declared.options.Mode.{Mode}
+use Rattle.acl_terms.specs.Options.{option_of, passes}
+
+-- The fact holds for one of the words at least.
+abbrev pub AnyOf : {A : Type 0} → (A → Type 0) → List A → Type 0
+AnyOf P [] = ⊥
+AnyOf P (x ∷ xs) = P x ⊎ AnyOf P xs
+
+-- Where no word is written nothing is asked; else the fact holds for one of them.
+abbrev pub Admits : {A : Type 0} → (A → Type 0) → List A → Type 0
+Admits P [] = Unit {0}
+Admits P (x ∷ xs) = AnyOf P (x ∷ xs)
+
+-- ---- addresses
+
+abbrev pub NamesAddress : Naming → Family → ℕ → Word → Type 0
+NamesAddress n f x w = ReachesAddress n.networks w.text f x
+
+-- One of the names reaches the address, where any is written, and none of the excluded ones does.
+abbrev pub IsAddress : Naming → Family → List Word → List Word → ℕ → Type 0
+IsAddress n f words excludes x =
+    Admits (NamesAddress n f x) words × (AnyOf (NamesAddress n f x) excludes → ⊥)
+
+-- ---- protocols and ports
+
+-- The numbers of the words of `protocol::`.
+abbrev pub protocols_of : List Word → List ℕ
+protocols_of words = flat_map (λ w. option_to_list (protocol_in w.text)) words
+
+abbrev pub IsProtocol : List Word → ℕ → Type 0
+IsProtocol words n = Admits (λ w. protocol_in w.text ≡ Some n) words
+
+-- The ICMP of the other family: 58 in IPv4, 1 in IPv6.
+abbrev pub foreign_of : Family → ℕ
+foreign_of V4 = 58
+foreign_of V6 = 1
+
+-- A packet of a family is not taken for one of the other family's ICMP, though that is named.
+abbrev pub IsProtocolIn : Family → List Word → ℕ → Type 0
+IsProtocolIn f [] n = Unit {0}
+IsProtocolIn f (w ∷ ws) n = IsProtocol (w ∷ ws) n × ((n == foreign_of f) ≡ false)
+
+-- A service has the port with one of the term's protocols. It need not be the packet's: `protocol:: tcp udp` with
+-- a service of 80/tcp and 53/udp takes TCP to 53.
+abbrev pub NamesPort : Naming → List ℕ → ℕ → Word → Type 0
+NamesPort n protos x w = AnyOf (λ q. ReachesPort n.services w.text q x) protos
+
+abbrev pub IsPort : Naming → List ℕ → List Word → ℕ → Type 0
+IsPort n protos words x = Admits (NamesPort n protos x) words
+
+-- ---- ICMP types
+
+-- Some protocol is named, and each that is passes the test.
+abbrev pub only : (ℕ → Bool) → List ℕ → Bool
+only test [] = false
+only test (q ∷ qs) = list_all test (q ∷ qs)
+
+abbrev pub is_number : ℕ → ℕ → Bool
+is_number k n = n == k
+
+-- The family whose ICMP is the one protocol that is named: 1 (RFC 792), or 58 (RFC 4443).
+abbrev pub icmp_family : List ℕ → Option Family
+icmp_family protos =
+    if only (is_number 1) protos then Some V4
+    else if only (is_number 58) protos then Some V6
+    else None
+
+-- The number of a word of `icmp-type::`, in that family.
+abbrev pub type_in : Option Family → List ℕ → Option ℕ
+type_in None text = None
+type_in (Some f) text = icmp_in f text
+
+abbrev pub IsType : Option Family → List Word → ℕ → Type 0
+IsType family words x = Admits (λ w. type_in family w.text ≡ Some x) words
+
+-- ---- the whole term
+
+abbrev pub is_written : List Word → Bool
+is_written [] = false
+is_written (w ∷ ws) = true
+
+-- The term matches the packet, where the connections of packets are known or not.
+pub record Matches (n : Naming) (t : RawTerm) (mode : Mode) (p : Packet) : Type 0 where
+  pub source : IsAddress n p.family t.sources t.source_excludes p.src
+  pub destination : IsAddress n p.family t.destinations t.destination_excludes p.dst
+  pub protocol : IsProtocolIn p.family t.protocols p.proto
+  pub source_port : IsPort n (protocols_of t.protocols) t.source_ports p.sport
+  pub destination_port : IsPort n (protocols_of t.protocols) t.destination_ports p.dport
+  pub icmp_type : IsType (icmp_family (protocols_of t.protocols)) t.icmp_types p.itype
+  pub option : passes (option_of t.options) mode (is_written t.destination_ports) p ≡ true

@@ -1,0 +1,126 @@
+-- A resolved term: its fields, when it matches, when it is empty in a family, and when it is live.
+use Rattle.std.specs.Prelude.{◌≡◌, ◌⊎◌, ℕ, ℤ, ◌<ℤ◌, Bool, true, false, not, ◌&&◌, ◌||◌, ◌==◌, List, [], ◌∷◌, length, Option, None, Some, Result, Ok, Err}
+use Rattle.std.specs.List.{list_all}
+use Rattle.std.specs.Int.Signed.{lt_z}
+use Rattle.acl_packet.specs.declared.addresses.Family.{Family}
+use Rattle.acl_packet.specs.declared.addresses.Family.TheVariants.{V4, V6}
+use Rattle.acl_packet.specs.declared.packets.Packet.{Packet}
+use Rattle.acl_text.specs.declared.faults.Refusal.{Refusal}
+use Rattle.acl_text.specs.declared.faults.Refusal.TheVariants as refusals
+use Rattle.acl_host.specs.declared.clocks.Day.{Day}
+use Rattle.acl_sets.specs.declared.sets.Range.{Range}
+use Rattle.acl_sets.specs.Ranges.{Numbers, holds}
+use Rattle.acl_target.specs.declared.targets.Kind.{Kind}
+use Rattle.acl_policy.specs.declared.raw_terms.RawTerm.{RawTerm}
+use Rattle.acl_naming.specs.Definitions.{Naming}
+use Rattle.acl_terms.specs.declared.options.Mode.{Mode}
+use Rattle.acl_terms.specs.declared.terms.Term.{Term}
+use Rattle.acl_terms.specs.Living.{IsUnexpired, allows, has_platform, platforms_of, some_platforms}
+use Rattle.acl_terms.specs.Matching.{foreign_of, is_written}
+use Rattle.acl_terms.specs.Options.{option_of, passes, verdict_of}
+use Rattle.acl_terms.specs.Sets.{AreSetsOf, Sets}
+use Rattle.acl_terms.specs.Soundness.{is_all}
+use Rattle.acl_text.specs.Notes.{note_of}
+
+abbrev pub sets_in : Term → Sets
+sets_in t = record {
+  src4 = t.src4;
+  src6 = t.src6;
+  dst4 = t.dst4;
+  dst6 = t.dst6;
+  protos = t.protos;
+  sports = t.sports;
+  dports = t.dports;
+  itypes = t.itypes;
+}
+
+-- The other fields are those of the term as it is written.
+pub record AreFieldsOf (raw : RawTerm) (t : Term) : Type 0 where
+  pub name : t.name ≡ raw.name.text
+  pub place : t.place ≡ raw.name.place
+  pub note : t.note ≡ note_of raw.comments
+  pub dport_named : t.dport_named ≡ is_written raw.destination_ports
+  pub option : t.option ≡ option_of raw.options
+  pub verdict : t.verdict ≡ verdict_of raw.action.text
+  pub log : t.log ≡ raw.logging
+  pub expires : t.expires ≡ raw.expires
+  pub «only» : t.only ≡ some_platforms raw.platforms
+  pub never : t.never ≡ platforms_of raw.not_platforms
+
+-- The term is the one that the written term stands for.
+pub record IsResolved (n : Naming) (raw : RawTerm) (t : Term) : Type 0 where
+  pub sets : AreSetsOf n raw (sets_in t)
+  pub fields : AreFieldsOf raw t
+
+-- The call gives a value, or wants memory.
+abbrev pub GivesValue : {X : Type 0} → Result X Refusal → Type 0
+GivesValue (Ok x) = Unit {0}
+GivesValue (Err (refusals.Slip s)) = ⊥
+GivesValue (Err refusals.Memory) = Unit {0}
+
+-- ---- match
+
+abbrev pub source_in : Family → Term → Numbers
+source_in V4 t = t.src4
+source_in V6 t = t.src6
+
+abbrev pub destination_in : Family → Term → Numbers
+destination_in V4 t = t.dst4
+destination_in V6 t = t.dst6
+
+-- The protocols of the family: where some are named, those without the other family's ICMP.
+abbrev pub has_protocol : Family → Term → ℕ → Bool
+has_protocol f t n = holds t.protos.ranges n && (is_all t.protos || not (n == foreign_of f))
+
+abbrev pub ends_match : Family → Term → Packet → Bool
+ends_match f t p = has_protocol f t p.proto
+    && (holds (source_in f t).ranges p.src && holds (destination_in f t).ranges p.dst)
+
+abbrev pub ports_match : Term → Packet → Bool
+ports_match t p = holds t.sports.ranges p.sport && holds t.dports.ranges p.dport
+
+-- The same with the family apart from the packet.
+abbrev pub matches_in : Family → Mode → Term → Packet → Bool
+matches_in f mode t p = ends_match f t p
+    && (ports_match t p && (holds t.itypes.ranges p.itype && passes t.option mode t.dport_named p))
+
+unfoldable pub matches : Mode → Term → Packet → Bool
+matches mode t p = matches_in p.family mode t p
+
+-- ---- emptiness
+
+-- The range is just the number.
+abbrev pub is_just : ℕ → Range → Bool
+is_just k r = r.low == k && r.high == k
+
+-- No protocol is left in the family.
+abbrev pub has_no_protocol : Family → Term → Bool
+has_no_protocol f t = not (is_all t.protos) && list_all (is_just (foreign_of f)) t.protos.ranges
+
+abbrev pub has_none : Numbers → Bool
+has_none s = length s.ranges == 0
+
+unfoldable pub is_empty_in : Family → Term → Bool
+is_empty_in f t = has_none (source_in f t) || has_none (destination_in f t) || has_no_protocol f t
+
+-- No address of the family is in the set, or no protocol is left there: the sets alone keep each packet of the family
+-- out.
+abbrev pub IsEmptyIn : Family → Term → Type 0
+IsEmptyIn f t = ((x : ℕ) → holds (source_in f t).ranges x ≡ false)
+    ⊎ (((x : ℕ) → holds (destination_in f t).ranges x ≡ false)
+    ⊎ ((x : ℕ) → has_protocol f t x ≡ false))
+
+-- ---- life
+
+pub record IsTermLive (t : Term) (kind : Kind) (today : Day) : Type 0 where
+  pub unexpired : IsUnexpired t.expires today
+  pub wanted : allows t.only kind ≡ true
+  pub not_excluded : has_platform t.never kind ≡ false
+
+abbrev pub is_unexpired : Option Day → Day → Bool
+is_unexpired None today = true
+is_unexpired (Some day) today = lt_z today.number day.number
+
+unfoldable pub is_term_live : Term → Kind → Day → Bool
+is_term_live t kind today =
+    is_unexpired t.expires today && allows t.only kind && not (has_platform t.never kind)

@@ -1,0 +1,38 @@
+-- What private functions give on the way to a term's sets.
+use Rattle.std.specs.Prelude.{◌≡◌, ℕ, List, Option, flat_map, option_to_list}
+use Rattle.acl_packet.specs.declared.addresses.Family.{Family}
+use Rattle.acl_sets.specs.declared.sets.Range.{Range}
+use Rattle.acl_text.specs.declared.faults.Code.TheVariants as codes
+use Rattle.acl_text.specs.declared.faults.Slip.{Slip}
+use Rattle.acl_policy.specs.declared.raw_terms.RawTerm.{RawTerm}
+use Rattle.acl_policy.specs.declared.raw_terms.Word.{Word}
+use Rattle.acl_naming.specs.Checking.{first_of}
+use Rattle.acl_naming.specs.Definitions.{Definition}
+use Rattle.acl_terms.specs.Matching.{type_in}
+use Rattle.acl_terms.specs.Slips.{first_in, is_defined, network_slip, reaches_protocol, service_slip, unless}
+
+-- The numbers of the words of `icmp-type::`.
+abbrev pub types_of : Option Family → List Word → List ℕ
+types_of family words = flat_map (λ w. option_to_list (type_in family w.text)) words
+
+abbrev pub single : ℕ → Range
+single n = record { low = n; high = n }
+
+-- The questions on a word of ports, with one protocol.
+abbrev pub protocol_slip : List Definition → ℕ → Word → Option Slip
+protocol_slip services q w =
+    first_of (unless (is_defined services w.text) codes.UnknownName w)
+    (unless (reaches_protocol services w.text q) codes.NoPortForProtocol w)
+
+-- The questions on names, end by end.
+abbrev pub ends_slip : List Definition → RawTerm → Option Slip
+ends_slip networks t =
+    first_of (first_of (first_in (network_slip networks) t.sources)
+        (first_in (network_slip networks) t.source_excludes))
+    (first_of (first_in (network_slip networks) t.destinations)
+        (first_in (network_slip networks) t.destination_excludes))
+
+abbrev pub both_ports_slip : List Definition → List ℕ → RawTerm → Option Slip
+both_ports_slip services protos t =
+    first_of (first_in (service_slip services protos) t.source_ports)
+    (first_in (service_slip services protos) t.destination_ports)

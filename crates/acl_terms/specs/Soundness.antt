@@ -1,0 +1,85 @@
+-- What every resolved term fulfils, whatever it was made from.
+use Rattle.std.specs.Prelude.{◌≡◌, ◌≢◌, ℕ, ◌≤◌, ◌+◌, Bool, true, false, ◌||◌, ◌==◌, List, [], ◌∷◌}
+use Rattle.std.proofs.Math.Bridge.{le_prop}
+use Rattle.acl_packet.specs.declared.addresses.Family.TheVariants.{V4, V6}
+use Rattle.acl_packet.specs.declared.filtering.Verdict.{Verdict}
+use Rattle.acl_packet.specs.declared.filtering.Verdict.TheVariants as verdicts
+use Rattle.acl_packet.specs.Addresses.{top_address}
+use Rattle.acl_packet.specs.Packets.{has_ports}
+use Rattle.acl_text.specs.Names.{is_name}
+use Rattle.acl_sets.specs.declared.sets.Range.{Range}
+use Rattle.acl_sets.specs.Ranges.{Numbers, IsNormal, holds}
+use Rattle.acl_sets.specs.ComputableSets.{covers}
+use Rattle.acl_naming.specs.Ports.{top_port}
+use Rattle.acl_terms.specs.declared.options.Opt.{Opt}
+use Rattle.acl_terms.specs.declared.options.Opt.TheVariants.{Plain, Established, TcpEstablished, TcpInitial, Rst}
+use Rattle.acl_terms.specs.Matching.{is_number}
+use Rattle.acl_terms.specs.Slips.{is_tcp_or_udp}
+use Rattle.acl_text.specs.Notes.{is_note}
+
+-- The set has all numbers up to its top: one range does.
+abbrev pub is_all : Numbers → Bool
+is_all s = covers s.ranges 0 s.top
+
+-- Each number of the set passes the test.
+abbrev pub Only : (ℕ → Bool) → Numbers → Type 0
+Only test s = (x : ℕ) → holds s.ranges x ≡ true → test x ≡ true
+
+abbrev pub is_established : Opt → Bool
+is_established Established = true
+is_established _ = false
+
+-- The options that ask for flags of TCP alone.
+abbrev pub needs_tcp : Opt → Bool
+needs_tcp Plain = false
+needs_tcp Established = false
+needs_tcp _ = true
+
+abbrev pub is_reset : Verdict → Bool
+is_reset verdicts.Reset = true
+is_reset _ = false
+
+abbrev pub is_left : Verdict → Bool
+is_left verdicts.Left = true
+is_left _ = false
+
+pub record IsSound (name note : List ℕ) (src4 src6 dst4 dst6 protos sports dports : Numbers)
+    (dport_named : Bool) (itypes : Numbers) (option : Opt) (verdict : Verdict) : Type 0 where
+  pub name_is : is_name name ≡ true
+  pub note_is : is_note note ≡ true
+  pub src4_top : src4.top ≡ top_address V4
+  pub src4_normal : IsNormal 0 src4.top src4.ranges
+  pub src6_top : src6.top ≡ top_address V6
+  pub src6_normal : IsNormal 0 src6.top src6.ranges
+  pub dst4_top : dst4.top ≡ top_address V4
+  pub dst4_normal : IsNormal 0 dst4.top dst4.ranges
+  pub dst6_top : dst6.top ≡ top_address V6
+  pub dst6_normal : IsNormal 0 dst6.top dst6.ranges
+  pub protos_top : protos.top ≡ 255
+  pub protos_normal : IsNormal 0 protos.top protos.ranges
+  pub protos_lack_0 : is_all protos ≡ false → holds protos.ranges 0 ≡ false
+  pub sports_top : sports.top ≡ top_port
+  pub sports_normal : IsNormal 0 sports.top sports.ranges
+  pub sports_some : sports.ranges ≢ []
+  pub sports_fit : is_all sports ≡ false → Only has_ports protos
+  pub dports_top : dports.top ≡ top_port
+  pub dports_normal : IsNormal 0 dports.top dports.ranges
+  pub dports_some : dports.ranges ≢ []
+  pub dports_fit : is_all dports ≡ false → Only has_ports protos
+  pub dports_named : dport_named ≡ false → is_all dports ≡ true
+  pub itypes_top : itypes.top ≡ 255
+  pub itypes_normal : IsNormal 0 itypes.top itypes.ranges
+  pub itypes_some : itypes.ranges ≢ []
+  pub itypes_lack_255 : is_all itypes ≡ false → holds itypes.ranges 255 ≡ false
+  -- ICMP of one family alone: 1 or 58
+  pub itypes_fit : is_all itypes ≡ false → (Only (is_number 1) protos → ⊥)
+      → Only (is_number 58) protos
+  pub established_fits : is_established option ≡ true → Only is_tcp_or_udp protos
+  pub flags_fit : needs_tcp option ≡ true → Only (is_number 6) protos
+  pub reset_fits : is_reset verdict ≡ true → Only (is_number 6) protos
+  pub verdict_is : is_left verdict ≡ false
+
+-- A list is in normal form in one way: the facts on its ranges are orders.
+pub normal-prop : (floor top : ℕ) (rs : List Range) → IsProp (IsNormal floor top rs)
+normal-prop floor top [] = hlevel []
+normal-prop floor top (r ∷ rs) = hlevel (le_prop, normal-prop (r.high + 2) top rs)

@@ -1,0 +1,262 @@
+ghost use Rattle.std.specs.Prelude.{◌≡◌, ◌++◌, is_some};
+ghost use Rattle.acl_text.specs.declared.faults.Code.TheVariants as codes;
+ghost use Rattle.std.specs.List.{list_all};
+ghost use Rattle.acl_packet.specs.Packets.{has_ports};
+ghost use Rattle.acl_naming.specs.Checking.{IsRefusal};
+ghost use Rattle.acl_terms.specs.Matching.{icmp_family, is_number, only, type_in};
+ghost use Rattle.acl_terms.specs.Options.{option_of, opt_named, verdict_of};
+ghost use Rattle.acl_terms.specs.Slips.{
+  Judges, clash_slip, first_in, first_some, first_unless, is_tcp_or_udp, option_fits, option_slip, port_protocol_slip,
+  reset_slip, same_slip, slip_at, type_slip, types_slip, unless, verdict_fits, words_slips,
+};
+
+use crate::options::Opt;
+use acl_packet::{Family, Verdict, icmp_number};
+use acl_policy::{RawTerm, Word};
+use acl_text::{Bytes, Code, Refusal, Slip};
+use std::alloc::Global;
+
+/// The slip at the word, or want of memory for its text.
+pub(crate) fn refusal_at(alloc: Global, code: Code, word: &Word) -> Refusal
+    ensures { IsRefusal (slip_at code word.now) result }
+{
+    match Bytes::from_slice(alloc, word.text.as_slice()) {
+        Ok(text) => Refusal::Slip(Slip {
+            code,
+            place: word.place,
+            word: text,
+        }),
+        Err(_) => Refusal::Memory,
+    }
+}
+
+fn check(alloc: Global, passed: bool, code: Code, word: &Word) -> Result<(), Refusal>
+    ensures { Judges result (unless passed code word.now) }
+{
+    if passed { Ok(()) } else { Err(refusal_at(alloc, code, word)) }
+}
+
+fn check_first(alloc: Global, passed: bool, code: Code, words: &[Word]) -> Result<(), Refusal>
+    ensures { Judges result (first_unless passed code words.now) }
+{
+    match words {
+        [] => Ok(()),
+        [first, ..] => check(alloc, passed, code, first),
+    }
+}
+
+// ---- tests on the protocols of a term
+
+fn has_ports(proto: u8) -> bool
+    ensures { result ≡ has_ports proto }
+{
+    proto == 6 || proto == 17 || proto == 132
+}
+
+fn all_have_ports(protos: &[u8]) -> bool
+    ensures { result ≡ list_all has_ports protos.now }
+{
+    protos.iter().all(|n| has_ports(*n))
+}
+
+fn only_ports(protos: &[u8]) -> bool
+    ensures { result ≡ only has_ports protos.now }
+{
+    match protos {
+        [] => false,
+        [_, ..] => all_have_ports(protos),
+    }
+}
+
+fn are_number(protos: &[u8], number: u8) -> bool
+    ensures { result ≡ list_all (is_number number) protos.now }
+{
+    protos.iter().all(|n| *n == number)
+}
+
+fn only_number(protos: &[u8], number: u8) -> bool
+    ensures { result ≡ only (is_number number) protos.now }
+{
+    match protos {
+        [] => false,
+        [_, ..] => are_number(protos, number),
+    }
+}
+
+fn are_tcp_or_udp(protos: &[u8]) -> bool
+    ensures { result ≡ list_all is_tcp_or_udp protos.now }
+{
+    protos.iter().all(|n| *n == 6 || *n == 17)
+}
+
+fn only_tcp_or_udp(protos: &[u8]) -> bool
+    ensures { result ≡ only is_tcp_or_udp protos.now }
+{
+    match protos {
+        [] => false,
+        [_, ..] => are_tcp_or_udp(protos),
+    }
+}
+
+/// The family whose ICMP is the one protocol that is named.
+pub(crate) fn icmp_family(protos: &[u8]) -> Option<Family>
+    ensures { result ≡ icmp_family protos.now }
+{
+    if only_number(protos, 1) {
+        Some(Family::V4)
+    } else if only_number(protos, 58) {
+        Some(Family::V6)
+    } else {
+        None
+    }
+}
+
+/// The number of a type's word in the family.
+pub(crate) fn type_in(family: Option<Family>, text: &[u8]) -> Option<u8>
+    ensures { result ≡ type_in family text.now }
+{
+    match family {
+        None => None,
+        Some(family) => icmp_number(family, text),
+    }
+}
+
+fn is_type_in(family: Option<Family>, text: &[u8]) -> bool
+    ensures { result ≡ is_some (type_in family text.now) }
+{
+    match type_in(family, text) {
+        None => false,
+        Some(_) => true,
+    }
+}
+
+// ---- words that stand for one thing
+
+fn opt_named(text: &[u8]) -> Opt
+    ensures { result ≡ opt_named text.now }
+{
+    if text == b"established".as_slice() {
+        Opt::Established
+    } else if text == b"tcp-established".as_slice() {
+        Opt::TcpEstablished
+    } else if text == b"tcp-initial".as_slice() {
+        Opt::TcpInitial
+    } else {
+        Opt::Rst
+    }
+}
+
+/// The option of the words of `option::`.
+pub(crate) fn option_of(words: &[Word]) -> Opt
+    ensures { result ≡ option_of words.now }
+{
+    match words {
+        [] => Opt::Plain,
+        [first, ..] => opt_named(first.text.as_slice()),
+    }
+}
+
+/// The verdict of the word of `action::`.
+pub(crate) fn verdict_of(text: &[u8]) -> Verdict
+    ensures { result ≡ verdict_of text.now }
+{
+    if text == b"accept".as_slice() {
+        Verdict::Accept
+    } else if text == b"deny".as_slice() {
+        Verdict::Deny
+    } else if text == b"reject".as_slice() {
+        Verdict::Reject
+    } else {
+        Verdict::Reset
+    }
+}
+
+// ---- the questions on words
+
+fn option_fits(option: Opt, protos: &[u8]) -> bool
+    ensures { result ≡ option_fits option protos.now }
+{
+    match option {
+        Opt::Plain => true,
+        Opt::Established => only_tcp_or_udp(protos),
+        Opt::TcpEstablished | Opt::TcpInitial | Opt::Rst => only_number(protos, 6),
+    }
+}
+
+fn verdict_fits(verdict: Verdict, protos: &[u8]) -> bool
+    ensures { result ≡ verdict_fits verdict protos.now }
+{
+    match verdict {
+        Verdict::Reset => only_number(protos, 6),
+        Verdict::Accept | Verdict::Deny | Verdict::Reject | Verdict::Left => true,
+    }
+}
+
+fn check_types(alloc: Global, family: Option<Family>, words: &[Word]) -> Result<(), Refusal>
+    ensures { Judges result (first_in (type_slip family) words.now) }
+{
+    for word in words {
+        let passed = is_type_in(family, word.text.as_slice());
+        check(alloc, passed, Code::IcmpProtocol, word)?;
+    }
+    Ok(())
+}
+
+fn check_same(alloc: Global, first: &Word, words: &[Word]) -> Result<(), Refusal>
+    ensures { Judges result (first_in (same_slip first.now) words.now) }
+{
+    for word in words {
+        let passed = word.text.as_slice() == first.text.as_slice();
+        check(alloc, passed, Code::OptionClash, word)?;
+    }
+    Ok(())
+}
+
+fn check_clash(alloc: Global, words: &[Word]) -> Result<(), Refusal>
+    ensures { Judges result (clash_slip words.now) }
+{
+    match words {
+        [] => Ok(()),
+        [first, rest @ ..] => check_same(alloc, first, rest),
+    }
+}
+
+fn check_option(alloc: Global, protos: &[u8], words: &[Word]) -> Result<(), Refusal>
+    ensures { Judges result (option_slip protos.now words.now) }
+{
+    check_first(alloc, option_fits(option_of(words), protos), Code::OptionProtocol, words)
+}
+
+fn check_reset(alloc: Global, protos: &[u8], word: &Word) -> Result<(), Refusal>
+    ensures { Judges result (reset_slip protos.now word.now) }
+{
+    let verdict = verdict_of(word.text.as_slice());
+    check(alloc, verdict_fits(verdict, protos), Code::ResetProtocol, word)
+}
+
+/// Whether ports stand only with TCP, UDP and SCTP. The slip is at the first word of ports.
+pub(crate) fn check_port_protocol(
+    alloc: Global,
+    protos: &[u8],
+    sources: &[Word],
+    destinations: &[Word],
+) -> Result<(), Refusal>
+    ensures { Judges result (first_unless (only has_ports protos.now) codes.PortProtocol
+        (sources.now ++ destinations.now)) }
+{
+    let passed = only_ports(protos);
+    match sources {
+        [] => check_first(alloc, passed, Code::PortProtocol, destinations),
+        [_, ..] => check_first(alloc, passed, Code::PortProtocol, sources),
+    }
+}
+
+/// The questions on words that are no names: ICMP types, options, the action.
+pub(crate) fn check_words(alloc: Global, protos: &[u8], raw: &RawTerm) -> Result<(), Refusal>
+    ensures { Judges result (first_some (words_slips protos.now raw.now)) }
+{
+    check_types(alloc, icmp_family(protos), raw.icmp_types.as_slice())?;
+    check_clash(alloc, raw.options.as_slice())?;
+    check_option(alloc, protos, raw.options.as_slice())?;
+    check_reset(alloc, protos, &raw.action)
+}

@@ -1,0 +1,25 @@
+//! Terms: what a term of a policy means for a packet, before any platform is asked.
+#![tactic(auto)]
+
+mod addresses;
+mod checks;
+mod laws;
+mod living;
+mod matching;
+mod options;
+mod ports;
+mod protocols;
+mod resolving;
+mod terms;
+#[cfg(test)]
+mod tests;
+
+pub use laws::{
+    policies_decide_as_written, terms_are_one, terms_are_there, terms_live_as_written,
+    terms_match_as_written,
+};
+pub use living::is_live;
+pub use matching::{is_empty_in, matches};
+pub use options::{Mode, Opt};
+pub use resolving::resolve;
+pub use terms::{Platforms, Term};

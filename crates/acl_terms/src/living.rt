@@ -1,0 +1,100 @@
+ghost use Rattle.std.specs.Prelude.{◌≡◌, ◌↔◌, IsTrue, map};
+ghost use Rattle.std.specs.List.{list_any};
+ghost use Rattle.std.specs.Str.{bytes_eq};
+ghost use Rattle.acl_terms.specs.Living.{allows, has_platform, names_platform, platform_name, platforms_of, some_platforms};
+ghost use Rattle.acl_terms.specs.Resolved.{IsTermLive, is_term_live, is_unexpired};
+
+use crate::terms::{Platforms, Term};
+use acl_host::Day;
+use acl_policy::Word;
+use acl_target::Kind;
+
+// ---- platforms by their words
+
+fn platform_name(kind: Kind) -> &'static [u8]
+    ensures { result.now ≡ platform_name kind }
+{
+    match kind {
+        Kind::Cisco => b"cisco",
+        Kind::Juniper => b"juniper",
+        Kind::Iptables => b"iptables",
+        Kind::Nftables => b"nftables",
+    }
+}
+
+fn names_platform(kind: Kind, words: &[Word]) -> bool
+    ensures { result ≡ names_platform kind words.now }
+{
+    let name = platform_name(kind);
+    words.iter().any(|w| w.text.as_slice() == name)
+}
+
+/// The platforms that the words name.
+pub(crate) fn platforms_of(words: &[Word]) -> Platforms
+    ensures { result ≡ platforms_of words.now }
+{
+    Platforms {
+        cisco: names_platform(Kind::Cisco, words),
+        juniper: names_platform(Kind::Juniper, words),
+        iptables: names_platform(Kind::Iptables, words),
+        nftables: names_platform(Kind::Nftables, words),
+    }
+}
+
+/// The same, or none where no word is written.
+pub(crate) fn some_platforms(words: &[Word]) -> Option<Platforms>
+    ensures { result ≡ some_platforms words.now }
+{
+    match words {
+        [] => None,
+        [_, ..] => Some(platforms_of(words)),
+    }
+}
+
+// ---- life
+
+fn has_platform(platforms: Platforms, kind: Kind) -> bool
+    ensures { result ≡ has_platform platforms kind }
+{
+    match kind {
+        Kind::Cisco => platforms.cisco,
+        Kind::Juniper => platforms.juniper,
+        Kind::Iptables => platforms.iptables,
+        Kind::Nftables => platforms.nftables,
+    }
+}
+
+fn allows(only: Option<Platforms>, kind: Kind) -> bool
+    ensures { result ≡ allows only kind }
+{
+    match only {
+        None => true,
+        Some(platforms) => has_platform(platforms, kind),
+    }
+}
+
+fn is_unexpired(expires: Option<Day>, today: Day) -> bool
+    ensures { result ≡ is_unexpired expires today }
+{
+    match expires {
+        None => true,
+        Some(day) => today.number < day.number,
+    }
+}
+
+#[tactic(auto, unfolding(crate::specs::Resolved::is_term_live))]
+fn is_term_live(term: &Term, kind: Kind, today: Day) -> bool
+    ensures { result ≡ is_term_live term.now kind today }
+{
+    is_unexpired(term.expires, today)
+        && allows(term.only, kind)
+        && !has_platform(term.never, kind)
+}
+
+/// Whether the term is live: it is for the platform, and `today` is before the day on which it expires.
+pub fn is_live(term: &Term, kind: Kind, today: Day) -> bool
+    ensures exact { IsTrue result ↔ IsTermLive term.now kind today }
+    ensures computed { result ≡ is_term_live term.now kind today }
+{
+    is_term_live(term, kind, today)
+}

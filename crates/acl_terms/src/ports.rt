@@ -1,0 +1,143 @@
+ghost use Rattle.std.specs.Prelude.{◌≡◌, ◌≢◌, [], IfOk};
+ghost use Rattle.acl_naming.specs.Ports.{top_port};
+ghost use Rattle.acl_naming.specs.Reach.{ReachesPort};
+ghost use Rattle.acl_terms.specs.Matching.{Admits, AnyOf, IsPort, NamesPort};
+ghost use Rattle.acl_terms.specs.Sets.{IsSetOf};
+ghost use Rattle.acl_terms.specs.SetSteps.{both_ports_slip, protocol_slip};
+ghost use Rattle.acl_terms.specs.Slips.{Judges, first_in, port_words, service_slip, services_slip};
+
+use crate::checks::refusal_at;
+use acl_naming::{Checked, Lookup, ports_of};
+use acl_policy::{RawTerm, Word};
+use acl_sets::RangeSet;
+use acl_text::{Code, Refusal};
+use std::alloc::Global;
+
+// The highest port.
+const TOP: u128 = 65535;
+
+/// The ports of a term, from which and to which.
+#[derive(Drop)]
+pub(crate) struct TermPorts {
+    pub(crate) sports: RangeSet,
+    pub(crate) dports: RangeSet,
+}
+
+// The ports that the word's name reaches with the protocol.
+fn ports_at(
+    alloc: Global,
+    base: &Checked,
+    proto: u8,
+    word: &Word,
+) -> Result<RangeSet, Refusal>
+    ensures judged { Judges result (protocol_slip base.now.services proto word.now) }
+    ensures set { IfOk result (λ s. IsSetOf (ReachesPort base.now.services word.now.text proto) top_port s) }
+    ensures some { IfOk result (λ s. s.ranges ≢ []) }
+{
+    match ports_of(alloc, base, proto, word.text.as_slice()) {
+        Ok(set) => Ok(set),
+        Err(Lookup::Unknown) => Err(refusal_at(alloc, Code::UnknownName, word)),
+        Err(Lookup::NoPort) => Err(refusal_at(alloc, Code::NoPortForProtocol, word)),
+        Err(Lookup::Memory) => Err(Refusal::Memory),
+    }
+}
+
+// The ports that it reaches with some of the protocols.
+fn ports_by(
+    alloc: Global,
+    base: &Checked,
+    protos: &[u8],
+    word: &Word,
+) -> Result<RangeSet, Refusal>
+    requires { protos.now ≢ [] }
+    ensures judged { Judges result (service_slip base.now.services protos.now word.now) }
+    ensures set { IfOk result (λ s. IsSetOf (λ x. NamesPort base.now protos.now x word.now) top_port s) }
+    ensures some { IfOk result (λ s. s.ranges ≢ []) }
+{
+    let mut out = RangeSet::empty(alloc, TOP);
+    for proto in protos {
+        let more = ports_at(alloc, base, *proto, word)?;
+        out = out.union(alloc, &more)?;
+    }
+    Ok(out)
+}
+
+// The ports that some of the words reach.
+fn named(
+    alloc: Global,
+    base: &Checked,
+    protos: &[u8],
+    words: &[Word],
+) -> Result<RangeSet, Refusal>
+    requires { protos.now ≢ [] }
+    ensures judged { Judges result (first_in (service_slip base.now.services protos.now) words.now) }
+    ensures set { IfOk result (λ s. IsSetOf (λ x. AnyOf (NamesPort base.now protos.now x) words.now) top_port s) }
+    ensures some { IfOk result (λ s. words.now ≢ [] → s.ranges ≢ []) }
+{
+    let mut out = RangeSet::empty(alloc, TOP);
+    for word in words {
+        let more = ports_by(alloc, base, protos, word)?;
+        out = out.union(alloc, &more)?;
+    }
+    Ok(out)
+}
+
+// The same, or all where no word is written.
+fn admitted(
+    alloc: Global,
+    base: &Checked,
+    protos: &[u8],
+    words: &[Word],
+) -> Result<RangeSet, Refusal>
+    requires { words.now ≢ [] → protos.now ≢ [] }
+    ensures judged { Judges result (first_in (service_slip base.now.services protos.now) words.now) }
+    ensures set { IfOk result (λ s. IsSetOf (IsPort base.now protos.now words.now) top_port s) }
+    ensures some { IfOk result (λ s. s.ranges ≢ []) }
+{
+    match words {
+        [] => Ok(RangeSet::all(alloc, TOP)?),
+        [_, ..] => named(alloc, base, protos, words),
+    }
+}
+
+// The ports of a term with its protocols, end by end.
+fn both_ports(
+    alloc: Global,
+    base: &Checked,
+    protos: &[u8],
+    raw: &RawTerm,
+) -> Result<TermPorts, Refusal>
+    requires { port_words raw.now ≢ [] → protos.now ≢ [] }
+    ensures judged { Judges result (both_ports_slip base.now.services protos.now raw.now) }
+    ensures sports { IfOk result (λ p.
+        IsSetOf (IsPort base.now protos.now raw.now.source_ports) top_port p.sports) }
+    ensures dports { IfOk result (λ p.
+        IsSetOf (IsPort base.now protos.now raw.now.destination_ports) top_port p.dports) }
+    ensures some_sports { IfOk result (λ p. p.sports.ranges ≢ []) }
+    ensures some_dports { IfOk result (λ p. p.dports.ranges ≢ []) }
+{
+    let sports = admitted(alloc, base, protos, raw.source_ports.as_slice())?;
+    let dports = admitted(alloc, base, protos, raw.destination_ports.as_slice())?;
+    Ok(TermPorts { sports, dports })
+}
+
+/// The ports of a term with its protocols, or the first slip at names of ports. Some protocol is named where
+/// ports are.
+#[tactic(auto, using(crate::proofs::SlipLaws::services_by_ends))]
+pub(crate) fn ports_of_term(
+    alloc: Global,
+    base: &Checked,
+    protos: &[u8],
+    raw: &RawTerm,
+) -> Result<TermPorts, Refusal>
+    requires { port_words raw.now ≢ [] → protos.now ≢ [] }
+    ensures judged { Judges result (services_slip base.now.services protos.now raw.now) }
+    ensures sports { IfOk result (λ p.
+        IsSetOf (IsPort base.now protos.now raw.now.source_ports) top_port p.sports) }
+    ensures dports { IfOk result (λ p.
+        IsSetOf (IsPort base.now protos.now raw.now.destination_ports) top_port p.dports) }
+    ensures some_sports { IfOk result (λ p. p.sports.ranges ≢ []) }
+    ensures some_dports { IfOk result (λ p. p.dports.ranges ≢ []) }
+{
+    both_ports(alloc, base, protos, raw)
+}

@@ -1,0 +1,101 @@
+ghost use Rattle.std.specs.Prelude.{◌≡◌, ◌++◌, OnOk, IfOk, option_to_list, map};
+ghost use Rattle.acl_sets.specs.Ranges.{IsRange};
+ghost use Rattle.std.specs.List.{All};
+ghost use Rattle.acl_terms.specs.Matching.{AnyOf, IsProtocol, IsType, protocols_of, type_in};
+ghost use Rattle.acl_terms.specs.Sets.{IsSetOf};
+ghost use Rattle.acl_terms.specs.SetSteps.{single, types_of};
+
+use crate::checks::type_in;
+use acl_packet::{Family, protocol_number};
+use acl_policy::Word;
+use acl_sets::{Range, RangeSet};
+use acl_text::Memory;
+use std::alloc::Global;
+
+// The greatest number of a protocol, and of a type.
+const TOP: u128 = 255;
+
+fn push_some(out: &mut Vec<u8>, number: Option<u8>) -> Result<(), Memory>
+    ensures { OnOk result (out.new.items ≡ out.old.items ++ option_to_list number) }
+{
+    if let Some(number) = number {
+        out.push(number)?;
+    }
+    Ok(())
+}
+
+/// The numbers of the words of `protocol::`.
+pub(crate) fn protocols_of(alloc: Global, words: &[Word]) -> Result<Vec<u8>, Memory>
+    ensures { IfOk result (λ v. v.items ≡ protocols_of words.now) }
+{
+    let mut out = Vec::new(alloc);
+    for word in words {
+        push_some(&mut out, protocol_number(word.text.as_slice()))?;
+    }
+    Ok(out)
+}
+
+fn types_of(alloc: Global, family: Option<Family>, words: &[Word]) -> Result<Vec<u8>, Memory>
+    ensures { IfOk result (λ v. v.items ≡ types_of family words.now) }
+{
+    let mut out = Vec::new(alloc);
+    for word in words {
+        push_some(&mut out, type_in(family, word.text.as_slice()))?;
+    }
+    Ok(out)
+}
+
+fn singles(alloc: Global, numbers: &[u8]) -> Result<Vec<Range>, Memory>
+    ensures same { IfOk result (λ v. v.items ≡ map single numbers.now) }
+    ensures fit { IfOk result (λ v. All (λ r. IsRange TOP r) v.items) }
+{
+    let mut out = Vec::new(alloc);
+    for number in numbers {
+        let number = u128::from(*number);
+        out.push(Range {
+            low: number,
+            high: number,
+        })?;
+    }
+    Ok(out)
+}
+
+// The set of the numbers.
+fn numbers_in(alloc: Global, numbers: &[u8]) -> Result<RangeSet, Memory>
+    ensures { IfOk result (λ s. IsSetOf (λ x. AnyOf (λ n. n ≡ x) numbers.now) TOP s) }
+{
+    let ranges = singles(alloc, numbers)?;
+    RangeSet::from_ranges(alloc, TOP, &ranges)
+}
+
+/// The protocols of a term: all where no word is written.
+pub(crate) fn admitted_protocols(
+    alloc: Global,
+    words: &[Word],
+    protos: &[u8],
+) -> Result<RangeSet, Memory>
+    requires { protos.now ≡ protocols_of words.now }
+    ensures { IfOk result (λ s. IsSetOf (IsProtocol words.now) TOP s) }
+{
+    match words {
+        [] => RangeSet::all(alloc, TOP),
+        [_, ..] => numbers_in(alloc, protos),
+    }
+}
+
+/// The ICMP types of a term: all where no word is written.
+pub(crate) fn admitted_types(
+    alloc: Global,
+    family: Option<Family>,
+    words: &[Word],
+) -> Result<RangeSet, Memory>
+    ensures { IfOk result (λ s. IsSetOf (IsType family words.now) TOP s) }
+{
+    match words {
+        [] => RangeSet::all(alloc, TOP),
+        [_, ..] => {
+            let numbers = types_of(alloc, family, words)?;
+            numbers_in(alloc, &numbers)
+        }
+    }
+}

@@ -1,0 +1,116 @@
+ghost use Rattle.std.specs.Prelude.{◌≡◌, None, IfOk};
+ghost use Rattle.acl_policy.specs.Conditions.{IsRawTerm};
+ghost use Rattle.acl_terms.specs.ComputableTerms.{sets_of};
+ghost use Rattle.acl_terms.specs.Matching.{is_written};
+ghost use Rattle.acl_terms.specs.Resolved.{AreFieldsOf, GivesValue, IsResolved, sets_in};
+ghost use Rattle.acl_terms.specs.Sets.{AreSetsOf};
+ghost use Rattle.acl_terms.specs.Slips.{Judges, slip_of};
+
+use crate::addresses::{Ends, ends_of};
+use crate::checks::{check_port_protocol, check_words, icmp_family, option_of, verdict_of};
+use crate::living::{platforms_of, some_platforms};
+use crate::ports::{TermPorts, ports_of_term};
+use crate::protocols::{admitted_protocols, admitted_types, protocols_of};
+use crate::terms::Term;
+use acl_naming::Checked;
+use acl_policy::{RawTerm, Word};
+use acl_sets::RangeSet;
+use acl_text::{Bytes, Refusal, note};
+use std::alloc::Global;
+
+// The sets of a term.
+#[derive(Drop)]
+struct Parts {
+    ends: Ends,
+    protos: RangeSet,
+    ports: TermPorts,
+    itypes: RangeSet,
+}
+
+// The sets of the term, or its first slip.
+#[tactic(auto, unfolding(crate::specs::Slips::slip_of))]
+fn parts_of(alloc: Global, base: &Checked, raw: &RawTerm) -> Result<Parts, Refusal>
+    ensures judged { Judges result (slip_of base.now raw.now) }
+    ensures sets { IfOk result (λ p. AreSetsOf base.now raw.now (record {
+      src4 = p.ends.src.v4;
+      src6 = p.ends.src.v6;
+      dst4 = p.ends.dst.v4;
+      dst6 = p.ends.dst.v6;
+      protos = p.protos;
+      sports = p.ports.sports;
+      dports = p.ports.dports;
+      itypes = p.itypes;
+    })) }
+{
+    let protos = protocols_of(alloc, raw.protocols.as_slice())?;
+    let ends = ends_of(alloc, base, raw)?;
+    check_port_protocol(
+        alloc,
+        &protos,
+        raw.source_ports.as_slice(),
+        raw.destination_ports.as_slice(),
+    )?;
+    let ports = ports_of_term(alloc, base, &protos, raw)?;
+    check_words(alloc, &protos, raw)?;
+    let family = icmp_family(&protos);
+    Ok(Parts {
+        ends,
+        protos: admitted_protocols(alloc, raw.protocols.as_slice(), &protos)?,
+        ports,
+        itypes: admitted_types(alloc, family, raw.icmp_types.as_slice())?,
+    })
+}
+
+fn is_written(words: &[Word]) -> bool
+    ensures { result ≡ is_written words.now }
+{
+    match words {
+        [] => false,
+        [_, ..] => true,
+    }
+}
+
+/// The term with its words read as numbers, or its first slip.
+///
+/// Slips, in this order: `UnknownName` at a name of addresses, `PortProtocol`, `UnknownName` and
+/// `NoPortForProtocol` at names of ports word by word, `IcmpProtocol`, `OptionClash`, `OptionProtocol`,
+/// `ResetProtocol`.
+pub fn resolve(alloc: Global, base: &Checked, raw: &RawTerm) -> Result<Term, Refusal>
+    requires { IsRawTerm raw.now }
+    ensures slip { Judges result (slip_of base.now raw.now) }
+    ensures complete { slip_of base.now raw.now ≡ None → GivesValue result }
+    ensures sets { IfOk result (λ t. AreSetsOf base.now raw.now (sets_in t)) }
+    ensures fields { IfOk result (AreFieldsOf raw.now) }
+    ensures computed { IfOk result (λ t. sets_in t ≡ sets_of base.now raw.now) }
+    ensures resolved { IfOk result (IsResolved base.now raw.now) }
+{
+    let parts = parts_of(alloc, base, raw)?;
+    let Parts {
+        ends: Ends { src, dst },
+        protos,
+        ports: TermPorts { sports, dports },
+        itypes,
+    } = parts;
+    let name = Bytes::from_slice(alloc, raw.name.text.as_slice())?;
+    let note = note(alloc, raw.comments.as_slice())?;
+    Ok(Term {
+        name,
+        place: raw.name.place,
+        note,
+        src4: src.v4,
+        src6: src.v6,
+        dst4: dst.v4,
+        dst6: dst.v6,
+        protos,
+        sports,
+        dports,
+        dport_named: is_written(raw.destination_ports.as_slice()),
+        itypes,
+        option: option_of(raw.options.as_slice()),
+        verdict: verdict_of(raw.action.text.as_slice()),
+        log: raw.logging,
+        expires: raw.expires,
+        only: some_platforms(raw.platforms.as_slice()),
+        never: platforms_of(raw.not_platforms.as_slice()),
+    })
+}

@@ -1,0 +1,46 @@
+use crate::options::Opt;
+use acl_host::Day;
+use acl_packet::Verdict;
+use acl_sets::RangeSet;
+use acl_text::{Bytes, Place};
+
+/// Some of the four platforms.
+#[derive(Clone, Copy, Debug, PartialEq, Eq)]
+pub struct Platforms {
+    pub cisco: bool,
+    pub juniper: bool,
+    pub iptables: bool,
+    pub nftables: bool,
+}
+
+ghost use Rattle.std.proofs.Props.{props};
+ghost use Rattle.acl_terms.specs.Soundness.{IsSound, normal-prop};
+
+/// A term whose words stand for numbers.
+///
+/// `src4` to `dst6` are the addresses of a family, less the excluded ones; `protos`, `sports`, `dports` and
+/// `itypes` are all numbers where none are named. `dport_named` says that `destination-port::` is written.
+/// `only` has the platforms of `platform::`, where it is written, and `never` those of `platform-exclude::`.
+#[derive(Debug, Drop)]
+pub struct Term {
+    pub name: Bytes,
+    pub place: Place,
+    pub note: Bytes,
+    pub src4: RangeSet,
+    pub src6: RangeSet,
+    pub dst4: RangeSet,
+    pub dst6: RangeSet,
+    pub protos: RangeSet,
+    pub sports: RangeSet,
+    pub dports: RangeSet,
+    pub dport_named: bool,
+    pub itypes: RangeSet,
+    pub option: Opt,
+    pub verdict: Verdict,
+    pub log: bool,
+    pub expires: Option<Day>,
+    pub only: Option<Platforms>,
+    pub never: Platforms,
+    pub ghost sound: { IsSound name note src4 src6 dst4 dst6 protos sports dports dport_named itypes option verdict }
+        by { Prim.hlevel (props, normal-prop) },
+}
