@@ -13,6 +13,7 @@ use Rattle.acl_sets.specs.Ranges.{Numbers, IsNormal, IsRange, holds, inside}
 use Rattle.acl_sets.specs.ComputableSets.{put_all, cut_all}
 use Rattle.acl_sets.proofs.ComputableSetLaws.{put_all-normal, put_all-holds, cut_all-normal, cut_all-holds}
 use Rattle.acl_sets.proofs.RangeLaws.{are_ranges, in_range, one_list, past_top}
+use Rattle.acl_text.proofs.ListLaws.{all_append}
 use Rattle.acl_policy.specs.declared.raw_terms.RawTerm.{RawTerm}
 use Rattle.acl_policy.specs.declared.raw_terms.Word.{Word}
 use Rattle.acl_naming.specs.Definitions.{Naming}
@@ -69,15 +70,10 @@ one-of-sets n t s u h k =
 
 -- ---- the ranges of many items
 
-all-append : {A : Type 0} (P : A → Type 0) (xs ys : List A) → AllByRecursion P xs → AllByRecursion P ys
-    → AllByRecursion P (xs ++ ys)
-all-append P [] ys h k = k
-all-append P (x ∷ xs) ys h k = (h.0, all-append P xs ys h.1 k)
-
 all-flat : {A : Type 0} (P : Range → Type 0) (f : A → List Range) (xs : List A)
     → ((a : A) → AllByRecursion P (f a)) → AllByRecursion P (flat_map f xs)
 all-flat P f [] h = tt
-all-flat P f (x ∷ xs) h = all-append P (f x) (flat_map f xs) (h x) (all-flat P f xs h)
+all-flat P f (x ∷ xs) h = all_append P (f x) (flat_map f xs) (h x) (all-flat P f xs h)
 
 flat-held : {A : Type 0} (P : ℕ → A → Type 0) (f : A → List Range) (xs : List A) (x : ℕ)
     → ((a : A) → (holds (f a) x ≡ true) ↔ P x a) → (holds (flat_map f xs) x ≡ true) ↔ AnyOf (P x) xs
@@ -180,9 +176,9 @@ computed-sets n t from into =
     }
 
 -- The sets of a term are those that are computed.
-pub sets-computed : (n : Naming) (t : RawTerm) (s : Sets) → AreSetsOf n t s → s ≡ sets_of n t
+pub sets_computed : (n : Naming) (t : RawTerm) (s : Sets) → AreSetsOf n t s → s ≡ sets_of n t
 unfolding sets_of
-sets-computed n t s h =
+sets_computed n t s h =
     let qs = protocols_of t.protocols in
     let from = same-ranges (IsPort n qs t.source_ports) top_port s.sports (port_set n qs t.source_ports)
           h.ports.0 (port-is n qs t.source_ports) in

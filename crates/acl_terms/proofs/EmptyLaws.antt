@@ -8,10 +8,11 @@ use Rattle.acl_sets.specs.declared.sets.Range.{Range}
 use Rattle.acl_sets.specs.Ranges.{Numbers, IsNormal, holds, inside}
 use Rattle.acl_sets.proofs.RangeLaws.{ends_of, in_range, first-holds, empty-holds, none-empty}
 use Rattle.acl_sets.proofs.ComputableSetLaws.{covers-holds}
+use Rattle.acl_terms.proofs.TestLaws.{true-not}
 use Rattle.acl_terms.specs.declared.terms.Term.{Term}
 use Rattle.acl_terms.specs.Matching.{foreign_of}
 use Rattle.acl_terms.specs.Resolved.{IsEmptyIn, destination_in, has_no_protocol, has_none, has_protocol, is_empty_in, is_just, source_in}
-use Rattle.acl_terms.specs.Soundness.{is_all}
+use Rattle.acl_sets.specs.ComputableSets.{is_all}
 
 just-held : (k : ℕ) (rs : List Range) (x : ℕ) → list_all (is_just k) rs ≡ true → holds rs x ≡ true → x ≡ k
 just-held k [] x a h = absurd (both_ways false refl h)
@@ -54,27 +55,19 @@ held true false true p q r = refl
 held true false false p q r = absurd (both_ways true p refl)
 held false a e p q r = absurd (both_ways false refl r)
 
-not-true : (b : Bool) → not b ≡ true → b ≡ false
-not-true true h = absurd (both_ways false refl h)
-not-true false h = refl
-
-true-not : (b : Bool) → b ≡ false → not b ≡ true
-true-not true h = absurd (both_ways true h refl)
-true-not false h = refl
-
 -- No protocol but one is in the set, and that one is not of the family.
 no-protocol : (k : ℕ) (s : Numbers) → IsNormal 0 s.top s.ranges
     → ((not (is_all s) && list_all (is_just k) s.ranges) ≡ true)
     ↔ ((x : ℕ) → (holds s.ranges x && (is_all s || not (x == k))) ≡ false)
 no-protocol k s normal = (
   λ h. let p = and_parts (not (is_all s)) (list_all (is_just k) s.ranges) h in
-      λ x. shut (holds s.ranges x) (is_all s) (x == k) (not-true (is_all s) p.0)
+      λ x. shut (holds s.ranges x) (is_all s) (x == k) ((true-not (is_all s)).0 p.0)
       (λ e. eq-eqb x k (just-held k s.ranges x p.1 e)),
   λ h. let part : is_all s ≡ false = false_from_ne_true (is_all s)
           (λ t. both_ways (holds s.ranges 0 && (is_all s || not (0 == k))) (h 0)
           (open-all (holds s.ranges 0) (is_all s) (0 == k)
           (covers-holds s.ranges 0 s.top 0 t (omega arith) (omega arith)) t)) in
-      and_from (not (is_all s)) (list_all (is_just k) s.ranges) (true-not (is_all s) part)
+      and_from (not (is_all s)) (list_all (is_just k) s.ranges) ((true-not (is_all s)).1 part)
       (all-just k 0 s.top s.ranges normal
       (λ x e. eqb-true x k (held (holds s.ranges x) (is_all s) (x == k) (h x) part e))),
 )

@@ -9,4 +9,5 @@ pub mod SetLaws
 pub mod SlipLaws
 pub mod SoundLaws
 pub mod TermLaws
+pub mod TestLaws
 pub mod WordLaws

@@ -9,6 +9,7 @@ use Rattle.acl_target.specs.declared.targets.Kind.TheVariants.{Cisco, Juniper, I
 use Rattle.acl_policy.specs.declared.raw_terms.RawTerm.{RawTerm}
 use Rattle.acl_policy.specs.declared.raw_terms.Word.{Word}
 use Rattle.acl_naming.specs.Definitions.{Naming}
+use Rattle.acl_terms.proofs.TestLaws.{true-not}
 use Rattle.acl_terms.specs.declared.terms.Term.{Term}
 use Rattle.acl_terms.specs.Living.{IsLive, IsUnexpired, allows, has_platform, is_wanted, names_platform, platforms_of, some_platforms}
 use Rattle.acl_terms.specs.Resolved.{IsResolved, IsTermLive, is_term_live, is_unexpired}
@@ -23,10 +24,6 @@ later a b false e = (
 unexpired-law : (expires : Option Day) (today : Day) → (is_unexpired expires today ≡ true) ↔ IsUnexpired expires today
 unexpired-law None today = (λ _. tt, λ _. refl)
 unexpired-law (Some day) today = later today.number day.number (lt_z today.number day.number) refl
-
-true-not : (b : Bool) → (not b ≡ true) ↔ (b ≡ false)
-true-not true = (λ h. absurd (both_ways false refl h), λ e. absurd (both_ways true e refl))
-true-not false = (λ _. refl, λ _. refl)
 
 pub live-law : (t : Term) (kind : Kind) (today : Day) → (is_term_live t kind today ≡ true) ↔ IsTermLive t kind today
 unfolding is_term_live

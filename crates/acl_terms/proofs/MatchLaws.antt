@@ -18,7 +18,7 @@ use Rattle.acl_terms.specs.Matching.{Admits, IsAddress, IsPort, IsProtocol, IsPr
 use Rattle.acl_terms.specs.Options.{option_of, passes}
 use Rattle.acl_terms.specs.Resolved.{IsResolved, destination_in, ends_match, has_protocol, matches, ports_match, sets_in, source_in}
 use Rattle.acl_terms.specs.Sets.{AreSetsOf, IsSetOf}
-use Rattle.acl_terms.specs.Soundness.{is_all}
+use Rattle.acl_sets.specs.ComputableSets.{is_all}
 use Rattle.acl_terms.proofs.SoundLaws.{named-number, no-zero, whole}
 use Rattle.acl_terms.proofs.WordLaws.{none-more}
 

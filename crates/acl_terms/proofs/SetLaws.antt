@@ -7,6 +7,7 @@ use Rattle.acl_sets.specs.Ranges.{Numbers, IsNormal, holds, inside}
 use Rattle.acl_sets.proofs.RangeLaws.{in_range}
 use Rattle.acl_terms.specs.Matching.{AnyOf}
 use Rattle.acl_terms.specs.Sets.{IsSetOf}
+use Rattle.acl_terms.proofs.TestLaws.{true-not}
 
 -- ---- some of a list
 
@@ -66,14 +67,6 @@ joined-set P Q top s m u hs hm t n e = record {
   );
 }
 
-not-held : (b : Bool) → (b ≡ true → ⊥) → not b ≡ true
-not-held true h = absurd (h refl)
-not-held false h = refl
-
-held-not : (b : Bool) → not b ≡ true → b ≡ true → ⊥
-held-not true h e = absurd (both_ways false refl h)
-held-not false h e = absurd (both_ways false refl e)
-
 pub less-set : (P Q : ℕ → Type 0) (top : ℕ) (s m u : Numbers) → IsSetOf P top s
     → IsSetOf Q top m → u.top ≡ s.top → IsNormal 0 u.top u.ranges
     → ((x : ℕ) → holds u.ranges x ≡ (holds s.ranges x && not (holds m.ranges x)))
@@ -83,9 +76,9 @@ less-set P Q top s m u hs hm t n e = record {
   normal = n;
   exact = λ x le. let a = hs.exact x le in let b = hm.exact x le in (
     λ h. let p = and_parts (holds s.ranges x) (not (holds m.ranges x)) (sym (e x) ∙ h) in
-        (a.0 p.0, λ q. held-not (holds m.ranges x) p.1 (b.1 q)),
+        (a.0 p.0, λ q. both_ways (holds m.ranges x) ((true-not (holds m.ranges x)).0 p.1) (b.1 q)),
     λ w. e x ∙ and_from (holds s.ranges x) (not (holds m.ranges x)) (a.1 w.0)
-        (not-held (holds m.ranges x) (λ h. w.1 (b.0 h))),
+        ((true-not (holds m.ranges x)).1 (false_from_ne_true (holds m.ranges x) (λ h. w.1 (b.0 h)))),
   );
 }
 

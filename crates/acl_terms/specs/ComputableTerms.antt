@@ -74,7 +74,8 @@ PortsAreSome n = (q : ℕ) (name : List ℕ) → ReachesProtocol n.services name
 
 -- A written term is resolved in one way.
 abbrev pub TermsAreOne : Type 0
-TermsAreOne = (n : Naming) (raw : RawTerm) (t u : Term) → IsResolved n raw t → IsResolved n raw u → t ≡ u
+TermsAreOne = (n : Naming) (raw : RawTerm) (t u : Term) → IsResolved n raw t → IsResolved n raw u
+    → t ≡ u
 
 -- A term without a slip is resolved in some way.
 abbrev pub TermsAreThere : Type 0

@@ -1,12 +1,10 @@
 -- The words of options and actions, and what an option asks of a packet.
-use Rattle.std.specs.Prelude.{ℕ, Bool, true, false, not, ◌&&◌, ◌||◌, ◌==◌, nat_le, if◌then◌else◌, List, [], ◌∷◌, codes}
+use Rattle.std.specs.Prelude.{ℕ, Bool, true, ◌||◌, ◌==◌, nat_le, if◌then◌else◌, List, [], ◌∷◌, codes}
 use Rattle.std.specs.Str.{bytes_eq}
 use Rattle.acl_packet.specs.declared.filtering.Verdict.{Verdict}
 use Rattle.acl_packet.specs.declared.filtering.Verdict.TheVariants.{Accept, Deny, Reject, Reset, Left}
-use Rattle.acl_packet.specs.declared.packets.Conn.{Conn}
-use Rattle.acl_packet.specs.declared.packets.Conn.TheVariants as conns
 use Rattle.acl_packet.specs.declared.packets.Packet.{Packet}
-use Rattle.acl_packet.specs.Packets.{has_flag}
+use Rattle.acl_packet.specs.Packets.{has_ack_or_rst, has_flag, is_initial, is_tracked}
 use Rattle.acl_policy.specs.declared.raw_terms.Word.{Word}
 use Rattle.acl_terms.specs.declared.options.Opt.{Opt}
 use Rattle.acl_terms.specs.declared.options.Opt.TheVariants.{Plain, Established, TcpEstablished, TcpInitial, Rst}
@@ -33,21 +31,6 @@ verdict_of text =
     else if bytes_eq text (codes "deny") then Deny
     else if bytes_eq text (codes "reject") then Reject
     else Reset
-
--- The packet belongs to a connection that is known, or to one that such a connection asked for.
-abbrev pub is_tracked : Conn → Bool
-is_tracked conns.New = false
-is_tracked conns.Established = true
-is_tracked conns.Related = true
-is_tracked conns.Invalid = false
-
--- ACK, 16, or RST, 4, is set: the packet does not open a connection of TCP (RFC 9293 section 3.5).
-abbrev pub has_ack_or_rst : Packet → Bool
-has_ack_or_rst p = has_flag p.flags 16 || has_flag p.flags 4
-
--- SYN, 2, is set and ACK is not: the packet opens one.
-abbrev pub is_initial : Packet → Bool
-is_initial p = has_flag p.flags 2 && not (has_flag p.flags 16)
 
 -- Whether a packet passes the option (Capirca, option keywords). Where connections are known, `established` and
 -- `tcp-established` ask for the packet's. Else they ask for the flags of TCP; and of UDP `established` asks, where

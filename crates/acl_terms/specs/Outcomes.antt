@@ -29,7 +29,8 @@ mode_of target = if target.stateful then Stateful else Stateless
 -- ---- of terms as they are written
 
 -- The term is live on the target that day, and matches the packet there.
-pub record Decides (n : Naming) (t : RawTerm) (target : Target) (today : Day) (p : Packet) : Type 0 where
+pub record Decides (n : Naming) (t : RawTerm) (target : Target) (today : Day)
+    (p : Packet) : Type 0 where
   pub live : IsLive t target.kind today
   pub matched : Matches n t (mode_of target) p
 
@@ -75,8 +76,8 @@ policy_outcome target today (t ∷ ts) p =
 
 -- A resolved term matches as the written one does.
 abbrev pub TermsMatchAsWritten : Type 0
-TermsMatchAsWritten = (n : Naming) (raw : RawTerm) (t : Term) (mode : Mode) (p : Packet) → IsPacket p
-    → IsResolved n raw t → (matches mode t p ≡ true) ↔ Matches n raw mode p
+TermsMatchAsWritten = (n : Naming) (raw : RawTerm) (t : Term) (mode : Mode) (p : Packet)
+    → IsPacket p → IsResolved n raw t → (matches mode t p ≡ true) ↔ Matches n raw mode p
 
 -- It is live where the written one is.
 abbrev pub TermsLiveAsWritten : Type 0
@@ -85,6 +86,6 @@ TermsLiveAsWritten = (n : Naming) (raw : RawTerm) (t : Term) (kind : Kind) (toda
 
 -- So the resolved terms of a block decide as the written ones do.
 abbrev pub PoliciesDecideAsWritten : Type 0
-PoliciesDecideAsWritten = (n : Naming) (target : Target) (today : Day) (raws : List RawTerm) (ts : List Term)
-    (p : Packet) → IsPacket p → AllZip (IsResolved n) raws ts
+PoliciesDecideAsWritten = (n : Naming) (target : Target) (today : Day) (raws : List RawTerm)
+    (ts : List Term) (p : Packet) → IsPacket p → AllZip (IsResolved n) raws ts
     → PolicyDecides n target today raws p (policy_outcome target today ts p)

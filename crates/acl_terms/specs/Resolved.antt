@@ -19,7 +19,7 @@ use Rattle.acl_terms.specs.Living.{IsUnexpired, allows, has_platform, platforms_
 use Rattle.acl_terms.specs.Matching.{foreign_of, is_written}
 use Rattle.acl_terms.specs.Options.{option_of, passes, verdict_of}
 use Rattle.acl_terms.specs.Sets.{AreSetsOf, Sets}
-use Rattle.acl_terms.specs.Soundness.{is_all}
+use Rattle.acl_sets.specs.ComputableSets.{is_all}
 use Rattle.acl_text.specs.Notes.{note_of}
 
 abbrev pub sets_in : Term → Sets

@@ -44,4 +44,5 @@ pub record AreSetsOf (n : Naming) (t : RawTerm) (s : Sets) : Type 0 where
   pub ipv6 : IsAddressSet n V6 t s.src6 s.dst6
   pub protos_are : IsSetOf (IsProtocol t.protocols) 255 s.protos
   pub ports : IsPortSet n t s.sports s.dports
-  pub itypes_are : IsSetOf (IsType (icmp_family (protocols_of t.protocols)) t.icmp_types) 255 s.itypes
+  pub itypes_are : IsSetOf (IsType (icmp_family (protocols_of t.protocols)) t.icmp_types) 255
+      s.itypes

@@ -108,7 +108,8 @@ option_fits Established protos = only is_tcp_or_udp protos
 option_fits option protos = only (is_number 6) protos
 
 abbrev pub option_slip : List ℕ → List Word → Option Slip
-option_slip protos words = first_unless (option_fits (option_of words) protos) codes.OptionProtocol words
+option_slip protos words =
+    first_unless (option_fits (option_of words) protos) codes.OptionProtocol words
 
 -- Is the action a reset of TCP, though TCP is not the only protocol?
 abbrev pub verdict_fits : Verdict → List ℕ → Bool

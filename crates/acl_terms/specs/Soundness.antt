@@ -8,22 +8,14 @@ use Rattle.acl_packet.specs.Addresses.{top_address}
 use Rattle.acl_packet.specs.Packets.{has_ports}
 use Rattle.acl_text.specs.Names.{is_name}
 use Rattle.acl_sets.specs.declared.sets.Range.{Range}
-use Rattle.acl_sets.specs.Ranges.{Numbers, IsNormal, holds}
-use Rattle.acl_sets.specs.ComputableSets.{covers}
+use Rattle.acl_sets.specs.Ranges.{IsNormal, Numbers, Only, holds}
+use Rattle.acl_sets.specs.ComputableSets.{is_all}
 use Rattle.acl_naming.specs.Ports.{top_port}
 use Rattle.acl_terms.specs.declared.options.Opt.{Opt}
 use Rattle.acl_terms.specs.declared.options.Opt.TheVariants.{Plain, Established, TcpEstablished, TcpInitial, Rst}
 use Rattle.acl_terms.specs.Matching.{is_number}
 use Rattle.acl_terms.specs.Slips.{is_tcp_or_udp}
 use Rattle.acl_text.specs.Notes.{is_note}
-
--- The set has all numbers up to its top: one range does.
-abbrev pub is_all : Numbers → Bool
-is_all s = covers s.ranges 0 s.top
-
--- Each number of the set passes the test.
-abbrev pub Only : (ℕ → Bool) → Numbers → Type 0
-Only test s = (x : ℕ) → holds s.ranges x ≡ true → test x ≡ true
 
 abbrev pub is_established : Opt → Bool
 is_established Established = true

@@ -31,7 +31,8 @@ fn ports_at(
     word: &Word,
 ) -> Result<RangeSet, Refusal>
     ensures judged { Judges result (protocol_slip base.now.services proto word.now) }
-    ensures set { IfOk result (λ s. IsSetOf (ReachesPort base.now.services word.now.text proto) top_port s) }
+    ensures set { IfOk result (λ s.
+        IsSetOf (ReachesPort base.now.services word.now.text proto) top_port s) }
     ensures some { IfOk result (λ s. s.ranges ≢ []) }
 {
     match ports_of(alloc, base, proto, word.text.as_slice()) {
@@ -51,7 +52,8 @@ fn ports_by(
 ) -> Result<RangeSet, Refusal>
     requires { protos.now ≢ [] }
     ensures judged { Judges result (service_slip base.now.services protos.now word.now) }
-    ensures set { IfOk result (λ s. IsSetOf (λ x. NamesPort base.now protos.now x word.now) top_port s) }
+    ensures set { IfOk result (λ s.
+        IsSetOf (λ x. NamesPort base.now protos.now x word.now) top_port s) }
     ensures some { IfOk result (λ s. s.ranges ≢ []) }
 {
     let mut out = RangeSet::empty(alloc, TOP);
@@ -70,8 +72,10 @@ fn named(
     words: &[Word],
 ) -> Result<RangeSet, Refusal>
     requires { protos.now ≢ [] }
-    ensures judged { Judges result (first_in (service_slip base.now.services protos.now) words.now) }
-    ensures set { IfOk result (λ s. IsSetOf (λ x. AnyOf (NamesPort base.now protos.now x) words.now) top_port s) }
+    ensures judged { Judges result
+        (first_in (service_slip base.now.services protos.now) words.now) }
+    ensures set { IfOk result (λ s.
+        IsSetOf (λ x. AnyOf (NamesPort base.now protos.now x) words.now) top_port s) }
     ensures some { IfOk result (λ s. words.now ≢ [] → s.ranges ≢ []) }
 {
     let mut out = RangeSet::empty(alloc, TOP);
@@ -90,7 +94,8 @@ fn admitted(
     words: &[Word],
 ) -> Result<RangeSet, Refusal>
     requires { words.now ≢ [] → protos.now ≢ [] }
-    ensures judged { Judges result (first_in (service_slip base.now.services protos.now) words.now) }
+    ensures judged { Judges result
+        (first_in (service_slip base.now.services protos.now) words.now) }
     ensures set { IfOk result (λ s. IsSetOf (IsPort base.now protos.now words.now) top_port s) }
     ensures some { IfOk result (λ s. s.ranges ≢ []) }
 {

@@ -41,6 +41,7 @@ pub struct Term {
     pub expires: Option<Day>,
     pub only: Option<Platforms>,
     pub never: Platforms,
-    pub ghost sound: { IsSound name note src4 src6 dst4 dst6 protos sports dports dport_named itypes option verdict }
+    pub ghost sound: { IsSound name note src4 src6 dst4 dst6 protos sports dports dport_named itypes
+        option verdict }
         by { Prim.hlevel (props, normal-prop) },
 }

@@ -2,6 +2,7 @@ use Rattle.std.proofs.Common.{ap, ◌∙◌}
 use Rattle.acl_terms.specs.Matching.{is_written}
 use Rattle.acl_terms.specs.Options.{option_of, verdict_of}
 use Rattle.acl_text.specs.Notes.{note_of}
+use Rattle.acl_terms.proofs.ComputedLaws.{sets_computed}
 use Rattle.acl_terms.proofs.SoundLaws.{sound-fields}
 use Rattle.acl_terms.proofs.resolving.resolve.Goals as goal
 
@@ -23,3 +24,17 @@ invariant_of-result c =
         (c.option_of.ensures ∙ ap option_of c.as_slice-4.ensures)
         (c.verdict_of.ensures ∙ ap verdict_of c.as_slice-5.ensures)
         c.requires.name_is c.in_ok-note.ensures.safe c.in_ok-parts.ensures.judged c.in_ok-parts.ensures.sets }
+
+pub returns-clause-computed : goal.returns-clause-computed
+returns-clause-computed c =
+    let p = c.in_ok-parts.parts in
+    sets_computed c.args.base.now c.args.raw.now (record {
+      src4 = p.ends.src.v4;
+      src6 = p.ends.src.v6;
+      dst4 = p.ends.dst.v4;
+      dst6 = p.ends.dst.v6;
+      protos = p.protos;
+      sports = p.ports.sports;
+      dports = p.ports.dports;
+      itypes = p.itypes;
+    }) c.in_ok-parts.ensures.sets
