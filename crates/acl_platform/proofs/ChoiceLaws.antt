@@ -1,5 +1,5 @@
 -- The choices of a set: which numbers some choice holds, what is written of them, and how many there are.
-use Rattle.std.proofs.Common.{◌≡◌, ◌≢◌, ℕ, zero, suc, ◌+◌, ◌-◌, ◌<◌, ◌≤◌, min, Bool, true, false, ◌&&◌, ◌||◌, ◌==◌, nat_le, cond, List, [], ◌∷◌, ◌++◌, length, map, flat_map, drop, get_or, Option, None, Some, inl, inr, refl, ap, sym, subst, ◌∙◌, append-nil, add-zero, zero-add, arith}
+use Rattle.std.proofs.Common.{◌≡◌, ◌≢◌, ℕ, zero, suc, ◌+◌, ◌-◌, ◌<◌, ◌≤◌, min, Bool, true, false, ◌||◌, ◌==◌, nat_le, cond, List, [], ◌∷◌, ◌++◌, length, map, flat_map, drop, get_or, Option, None, Some, inl, inr, refl, ap, sym, subst, ◌∙◌, append-nil, add-zero, zero-add, arith}
 use Rattle.std.specs.Bool.{Decides}
 use Rattle.std.specs.List.{All, AllByRecursion, list_any, range_with_len}
 use Rattle.std.proofs.lemmas.Bool.{cases_lt, eqb-true, false≢true, or_cases, or_left, or_right}
@@ -14,9 +14,10 @@ use Rattle.acl_grammar.proofs.ListLaws.{flat_twice}
 use Rattle.acl_grammar.proofs.PutLaws.{rows_append}
 use Rattle.acl_text.specs.Output.{COUNT_END}
 use Rattle.acl_sets.specs.declared.sets.Range.{Range}
+use Rattle.acl_sets.specs.ComputableSets.{is_all}
 use Rattle.acl_sets.specs.Ranges.{holds, inside, IsNormal, IsRange, Numbers}
 use Rattle.acl_sets.proofs.ComputableSetLaws.{covers-holds}
-use Rattle.acl_platform.specs.Choices.{in_range, is_all, is_chosen, number_choices, numbers_in, numbers_of, range_choices}
+use Rattle.acl_platform.specs.Choices.{in_range, is_chosen, number_choices, numbers_in, numbers_of, range_choices}
 use Rattle.acl_platform.specs.ChoiceSteps.{number_rows}
 
 -- ---- numbers in a row
@@ -85,7 +86,7 @@ ranges-written rows s e =
 
 -- ---- ranges of a set that has a top
 
-fit : (floor top most : ℕ) (rs : List Range) → IsNormal floor top rs → top ≤ most → AllByRecursion (λ r. IsRange most r) rs
+pub fit : (floor top most : ℕ) (rs : List Range) → IsNormal floor top rs → top ≤ most → AllByRecursion (λ r. IsRange most r) rs
 fit floor top most [] h k = tt
 fit floor top most (r ∷ rs) h k =
     let end = h.2 in ((h.1, omega (arith, end, k)), fit (r.high + 2) top most rs h.3 k)
@@ -139,7 +140,7 @@ number-any : (r : Range) (x : ℕ) → list_any (λ m. x == m) (numbers_in r) �
 number-any r x =
     same_from_decides (list_any (λ m. x == m) (numbers_in r)) (inside r x) (row-decides r.low (r.high + 1 - r.low) x) (inside-decides r x)
 
-numbers-any : (rs : List Range) (x : ℕ) → list_any (λ m. x == m) (numbers_of rs) ≡ holds rs x
+pub numbers-any : (rs : List Range) (x : ℕ) → list_any (λ m. x == m) (numbers_of rs) ≡ holds rs x
 numbers-any [] x = refl
 numbers-any (r ∷ rs) x =
     list_any-append (λ m. x == m) (numbers_in r) (numbers_of rs)

@@ -1,16 +1,11 @@
 -- The combinations of a rule hold what its sets hold, and a sound rule has one.
-use Rattle.std.proofs.Common.{◌≡◌, ◌≢◌, ℕ, ◌≤◌, Bool, ◌&&◌, ◌||◌, List, [], ◌∷◌, length, map, flat_map, Option, refl, ap, ◌∙◌, arith}
+use Rattle.std.proofs.Common.{◌≡◌, ◌≢◌, ℕ, ◌≤◌, Bool, ◌&&◌, ◌||◌, List, [], ◌∷◌, map, Option, refl, ap, ◌∙◌, arith}
 use Rattle.std.specs.List.{list_any}
-use Rattle.std.proofs.lemmas.List.{length-map}
-use Rattle.std.proofs.lemmas.List.Folds.{flat_map-map}
 use Rattle.acl_packet.specs.declared.addresses.Prefix.{Prefix}
 use Rattle.acl_packet.specs.Addresses.{has_address}
-use Rattle.acl_sets.specs.Ranges.{holds}
 use Rattle.acl_sets.specs.LeastLists.{any_has}
-use Rattle.acl_platform.specs.declared.combinations.Combination.{Combination}
-use Rattle.acl_platform.specs.declared.rules.Rule.{Rule}
 use Rattle.acl_platform.specs.Choices.{in_range, is_chosen, number_choices, pairs, range_choices}
-use Rattle.acl_platform.specs.Combinations.{combination_holds, combination_of, combinations, CombinationsHold, parts_of, Parts, SomeCombination}
+use Rattle.acl_platform.specs.Combinations.{combination_holds, combination_of, CombinationsHold, parts_of, SomeCombination}
 use Rattle.acl_platform.proofs.ChoiceLaws.{any-number, any-range, some-number, some-range}
 use Rattle.acl_platform.proofs.PairLaws.{any-pairs, some-pair}
 

@@ -1,4 +1,5 @@
 pub mod ChoiceLaws
+pub mod CombinationFacts
 pub mod CombinationLaws
 pub mod EntryLaws
 pub mod PairLaws

@@ -1,6 +1,6 @@
 -- The document of the sections of several filters.
-use Rattle.std.proofs.Common.{◌≡◌, ℕ, zero, suc, Bool, false, true, ◌||◌, List, [], ◌∷◌, ◌++◌, IfSome, Option, None, Some, map, flat_map, slice_get, refl, ap, sym, subst, ◌∙◌, append-nil}
-use Rattle.std.specs.List.{All, AllByRecursion, IsDistinct, list_any}
+use Rattle.std.proofs.Common.{◌≡◌, ℕ, zero, suc, false, List, [], ◌∷◌, ◌++◌, IfSome, Option, map, flat_map, slice_get, refl, ap, ◌∙◌, append-nil}
+use Rattle.std.specs.List.{AllByRecursion, IsDistinct}
 use Rattle.std.specs.Set.{is_member}
 use Rattle.std.specs.Str.{bytes_eq}
 use Rattle.std.proofs.lemmas.Bool.{or_from}

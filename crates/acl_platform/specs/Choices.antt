@@ -3,12 +3,8 @@
 use Rattle.std.specs.Prelude.{ℕ, ◌+◌, ◌-◌, Bool, true, ◌&&◌, ◌==◌, nat_le, if◌then◌else◌, List, [], ◌∷◌, Option, None, Some, map, flat_map}
 use Rattle.std.specs.List.{range_with_len}
 use Rattle.acl_sets.specs.declared.sets.Range.{Range}
-use Rattle.acl_sets.specs.ComputableSets.{covers}
+use Rattle.acl_sets.specs.ComputableSets.{is_all}
 use Rattle.acl_sets.specs.Ranges.{Numbers}
-
--- A set has all numbers up to its top: in normal form they are one range.
-abbrev pub is_all : Numbers → Bool
-is_all s = covers s.ranges 0 s.top
 
 -- Each member of the one list with each of the other, the one outermost.
 abbrev pub pairs : {A B : Type 0} → List A → List B → List (A × B)

@@ -1,5 +1,5 @@
 -- The laws of the toy language: they are proved here, and need not be believed.
-use Rattle.std.proofs.Common.{◌≡◌, ℕ, Bool, true, false, ◌==◌, List, [], ◌∷◌, ◌++◌, length, flat_map, codes, Option, None, Some, refl, append-nil, ap, sym, subst, ◌∙◌, arith}
+use Rattle.std.proofs.Common.{◌≡◌, ℕ, false, ◌==◌, List, [], ◌∷◌, ◌++◌, length, flat_map, None, Some, refl, append-nil, ap, sym, subst, ◌∙◌, arith}
 use Rattle.std.specs.List.{IsDistinct}
 use Rattle.std.specs.Str.{bytes_eq}
 use Rattle.std.proofs.lemmas.Bool.{eqb-true, false≢true}
@@ -13,11 +13,10 @@ use Rattle.acl_target.specs.FilterEndings.{ending_outcome}
 use Rattle.acl_grammar.specs.Naming.{in_common}
 use Rattle.acl_grammar.proofs.NamingLaws.{distinct-append}
 use Rattle.acl_platform.specs.declared.filters.Filter.{Filter}
-use Rattle.acl_platform.specs.declared.filters.Limit.{Limit}
 use Rattle.acl_platform.specs.declared.rules.Rule.{Rule}
 use Rattle.acl_platform.specs.EndingWords.{ending_line, EndingsSpell, has_no_rule, outcome_of_ending, words_of}
 use Rattle.acl_platform.specs.Platforms.{DecidesAs, IsAccepted}
-use Rattle.acl_platform.specs.Rules.{filter_outcome, rules_outcome}
+use Rattle.acl_platform.specs.Rules.{rules_outcome}
 
 -- the byte that a text begins with
 begins : List ℕ → ℕ

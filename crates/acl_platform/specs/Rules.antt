@@ -1,11 +1,9 @@
 -- Rules of a filter, and what the filter does to a packet, with nothing said of any device.
-use Rattle.std.specs.Prelude.{◌≡◌, ℕ, Bool, true, false, not, ◌&&◌, ◌||◌, if◌then◌else◌, List, [], ◌∷◌}
-use Rattle.acl_packet.specs.declared.packets.Conn.{Conn}
-use Rattle.acl_packet.specs.declared.packets.Conn.TheVariants.{New, Established, Related, Invalid}
+use Rattle.std.specs.Prelude.{Bool, true, ◌&&◌, if◌then◌else◌, List, [], ◌∷◌}
 use Rattle.acl_packet.specs.declared.packets.Packet.{Packet}
 use Rattle.acl_packet.specs.declared.filtering.Outcome.{Outcome}
 use Rattle.acl_packet.specs.Addresses.{same_family}
-use Rattle.acl_packet.specs.Packets.{has_flag}
+use Rattle.acl_packet.specs.Packets.{has_ack_or_rst, has_flag, is_initial, is_tracked}
 use Rattle.acl_sets.specs.LeastLists.{any_has}
 use Rattle.acl_sets.specs.Ranges.{holds}
 use Rattle.acl_target.specs.declared.targets.Ending.{Ending}
@@ -15,19 +13,12 @@ use Rattle.acl_platform.specs.declared.rules.Rule.{Rule}
 use Rattle.acl_platform.specs.declared.rules.Test.{Test}
 use Rattle.acl_platform.specs.declared.rules.Test.TheVariants.{Plain, AckOrRst, SynNotAck, Rst, State}
 
--- A connection that a host follows already, or one that such a one brought about (nftables(8),
--- "ct state"; iptables-extensions(8), "conntrack").
-abbrev pub is_tracked : Conn → Bool
-is_tracked New = false
-is_tracked Established = true
-is_tracked Related = true
-is_tracked Invalid = false
-
--- SYN is 2, RST 4 and ACK 16 (RFC 9293 section 3.1).
+-- What a rule asks of the flags of TCP, of which RST is 4 (RFC 9293 section 3.1), or of the
+-- connection.
 abbrev pub passes : Test → Packet → Bool
 passes Plain p = true
-passes AckOrRst p = has_flag p.flags 16 || has_flag p.flags 4
-passes SynNotAck p = has_flag p.flags 2 && not (has_flag p.flags 16)
+passes AckOrRst p = has_ack_or_rst p
+passes SynNotAck p = is_initial p
 passes Rst p = has_flag p.flags 4
 passes State p = is_tracked p.conn
 

@@ -1,19 +1,20 @@
 -- What a sound filter is: its data are such as a target of its kind has, and each rule is one that
 -- its platform can be asked to say. Generators take sound filters alone.
-use Rattle.std.specs.Prelude.{◌≡◌, ◌≢◌, ℕ, ◌++◌, Bool, true, false, not, ◌&&◌, ◌||◌, ◌==◌, List, [], ◌∷◌, ◌⊎◌, codes}
+use Rattle.std.specs.Prelude.{◌≡◌, ◌≢◌, ℕ, ◌++◌, Bool, true, false, not, ◌&&◌, ◌==◌, List, [], ◌⊎◌, codes}
 use Rattle.std.specs.List.{AllByRecursion}
 use Rattle.acl_packet.specs.declared.addresses.Families.{Families}
 use Rattle.acl_packet.specs.declared.addresses.Family.{Family}
 use Rattle.acl_packet.specs.declared.addresses.Family.TheVariants.{V4, V6}
 use Rattle.acl_packet.specs.declared.addresses.Prefix.{Prefix}
 use Rattle.acl_packet.specs.declared.filtering.Verdict.{Verdict}
-use Rattle.acl_packet.specs.declared.filtering.Verdict.TheVariants.{Accept, Deny, Reject, Reset, Left}
+use Rattle.acl_packet.specs.declared.filtering.Verdict.TheVariants.{Accept, Deny, Reset, Left}
 use Rattle.acl_packet.specs.Addresses.{covers}
 use Rattle.acl_packet.specs.Packets.{has_ports, is_extension_header, is_icmp}
 use Rattle.acl_text.specs.Names.{is_name}
 use Rattle.acl_text.specs.Notes.{is_note}
+use Rattle.acl_sets.specs.ComputableSets.{is_all}
 use Rattle.acl_sets.specs.LeastLists.{any_has, IsLeastList}
-use Rattle.acl_sets.specs.Ranges.{holds, IsNormal, Numbers}
+use Rattle.acl_sets.specs.Ranges.{holds, IsNormal, Numbers, Only}
 use Rattle.acl_target.specs.declared.targets.Kind.{Kind}
 use Rattle.acl_target.specs.declared.targets.Kind.TheVariants.{Cisco, Juniper, Iptables, Nftables}
 use Rattle.acl_target.specs.declared.targets.Target.{Target}
@@ -21,7 +22,6 @@ use Rattle.acl_target.specs.TargetData.{IsTarget}
 use Rattle.acl_platform.specs.declared.filters.Filter.{Filter}
 use Rattle.acl_platform.specs.declared.rules.Rule.{Rule}
 use Rattle.acl_platform.specs.declared.rules.Test.{Test}
-use Rattle.acl_platform.specs.Choices.{is_all}
 use Rattle.acl_platform.specs.declared.rules.Test.TheVariants.{Plain, AckOrRst, SynNotAck, Rst, State}
 
 -- A set with a top and a number, in normal form.
@@ -34,10 +34,6 @@ pub record IsFull (top : ℕ) (s : Numbers) : Type 0 where
 pub record IsFullList (family : Family) (prefixes : List Prefix) : Type 0 where
   pub least : IsLeastList family (any_has prefixes) prefixes
   pub some : prefixes ≢ []
-
--- A set has only numbers that pass a test.
-abbrev pub Only : (ℕ → Bool) → Numbers → Type 0
-Only test s = (x : ℕ) → holds s.ranges x ≡ true → test x ≡ true
 
 -- The protocols that a rule may name: not 0, not the ICMP of the other family, and in IPv6 no
 -- extension header.

@@ -1,12 +1,12 @@
 ghost use Rattle.std.specs.Prelude.{◌≡◌};
 ghost use Rattle.std.specs.List.{list_any};
 ghost use Rattle.acl_packet.specs.Outcomes.{unlogged};
+ghost use Rattle.acl_packet.specs.Packets.{is_tracked};
 ghost use Rattle.acl_target.specs.FilterEndings.{ending_verdict, is_neighbour_discovery};
 ghost use Rattle.acl_sets.specs.LeastLists.{any_has};
 ghost use Rattle.acl_platform.specs.Rules.{
   decided_by,
   filter_outcome,
-  is_tracked,
   passes,
   rule_holds,
   sets_hold,

@@ -1,4 +1,4 @@
-use Rattle.std.proofs.Common.{◌≡◌, ◌+◌, cond, drop, ap, sym, ◌∙◌}
+use Rattle.std.proofs.Common.{◌+◌, cond, drop, ap, sym, ◌∙◌}
 use Rattle.acl_packet.specs.Outcomes.{unlogged}
 use Rattle.acl_platform.specs.Rules.{decided_by, rules_outcome}
 use Rattle.acl_platform.proofs.RuleOutcomes.{no-rule, one-rule}

@@ -1,4 +1,4 @@
-use Rattle.std.proofs.Common.{◌≡◌, ℕ, List, ◌++◌, ◌+◌, drop, take, flat_map, refl, ap, ◌∙◌}
+use Rattle.std.proofs.Common.{ℕ, List, ◌++◌, ◌+◌, drop, take, flat_map, refl, ap, ◌∙◌}
 use Rattle.std.proofs.lemmas.Result.{err_from_is_err_and}
 use Rattle.std.proofs.lemmas.List.Elements.{recursion_from_All}
 use Rattle.acl_text.proofs.Putting.{goes_on, stops}
