@@ -1,1 +1,3 @@
+pub mod FaultLineLaws
 pub mod LoadLaws
+pub mod LoadedLaws

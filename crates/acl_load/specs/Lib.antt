@@ -1,2 +1,4 @@
+pub mod FaultLines
 pub mod LoadFaults
+pub mod LoadedPolicies
 pub mod Loading

@@ -49,8 +49,8 @@ fault_of paths slip = record {
   word = slip.word;
 }
 
-abbrev pub or_fault : List (List ℕ) → Result (List Definition) Slip → Result (List Definition) Fault
-or_fault paths (Ok definitions) = Ok definitions
+abbrev pub or_fault : {A : Type 0} → List (List ℕ) → Result A Slip → Result A Fault
+or_fault paths (Ok x) = Ok x
 or_fault paths (Err slip) = Err (fault_of paths slip)
 
 abbrev pub naming_file : List ℕ → List File → Result (List ℕ) Fault

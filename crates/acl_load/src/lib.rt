@@ -1,13 +1,20 @@
-//! Loading the naming files of a folder.
+//! Loading: the naming files of a folder, and a policy over them, from files to resolved terms or the first fault.
 #![tactic(auto)]
 
 mod adding;
+mod fault_lines;
 mod load_faults;
 mod loading;
 mod naming_paths;
+mod policy_loading;
+mod policy_texts;
 mod slips;
+#[cfg(test)]
+mod policy_tests;
 #[cfg(test)]
 mod tests;
 
+pub use fault_lines::put_fault;
 pub use load_faults::LoadFault;
 pub use loading::load_definitions;
+pub use policy_loading::{Loaded, TermLists, Terms, load};

@@ -1,0 +1,17 @@
+use Rattle.std.proofs.Common.{◌≡◌, Ok, List, Option, IfSome, sym, subst}
+use Rattle.acl_host.specs.Files.{File}
+use Rattle.acl_text.specs.Answers.{fault_told}
+use Rattle.acl_text.specs.declared.faults.Rejection.{Rejection}
+use Rattle.acl_load.specs.LoadedPolicies.{policy_at}
+use Rattle.acl_load.proofs.LoadedLaws.{loaded-told}
+use Rattle.acl_load.proofs.policy_loading.load.Goals as goal
+
+pub returns-clause-loads : goal.returns-clause-loads
+returns-clause-loads g c =
+    let told = g.T.Tree.files c.args.tree.now in
+    let path = c.args.path.now in
+    let Reads : Option (List File) → Type 0 = λ t. IfSome t (λ files. policy_at path files ≡ Ok c.in_ok-text.text) in
+    loaded-told {E = Rejection} fault_told told c.args.folder.now path c.in_ok-definitions.definitions c.in_ok-text.text
+    (Ok c.in_ok-resolve_policy.field-0) c.in_ok-definitions.ensures.loads
+    (subst Reads c.load_definitions.ensures.looks.only.looks.files_stay c.in_ok-text.ensures.gives)
+    c.in_ok-resolve_policy.ensures.resolves

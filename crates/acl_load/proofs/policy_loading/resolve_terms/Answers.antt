@@ -1,0 +1,20 @@
+use Rattle.std.proofs.Common.{◌<◌, length, arith}
+use Rattle.acl_terms.specs.Resolved.{IsResolved}
+use Rattle.acl_terms.specs.Slips.{slip_of}
+use Rattle.acl_terms.proofs.SlipLaws.{slip-more}
+use Rattle.acl_load.proofs.LoadedLaws.{zip-more}
+use Rattle.acl_load.proofs.policy_loading.resolve_terms.Goals as goal
+
+pub loop-raw-preserved : goal.loop-raw-preserved
+loop-raw-preserved c =
+    let definitions = c.args.definitions.now in
+    let raws = c.args.raws.now in
+    let i = c.loop-raw.raw-index in
+    let raw = c.raw-item.result in
+    let within : i < length raws = omega arith in
+    let had = c.loop-raw.invariant in
+    record {
+      slip = slip-more (slip_of definitions) raws i raw raw within c.raw-item.is c.in_ok-term.ensures.slip had.slip;
+      terms = zip-more (IsResolved definitions) raws i raw raw _ _ _ within c.raw-item.is c.push.ensures.ok
+          c.in_ok-term.ensures.resolved had.terms;
+    }
