@@ -1,7 +1,4 @@
-pub mod Jobs
 pub mod OneAnswer
-pub mod PlanLaws
-pub mod PolicyFacts
-pub mod RuleLaws
-pub mod RulesFollow
+pub mod Rows
 pub mod Telling
+pub mod FileListLaws
