@@ -1,0 +1,18 @@
+use Rattle.std.proofs.Common.{◌∙◌}
+use Rattle.aclgen_core.proofs.Rows.{usage-keeps, fault-keeps, planned-keeps, outside-keeps}
+use Rattle.aclgen_core.proofs.running.aclgen.Goals as goal
+
+pub returns-in-Usage : goal.returns-in-Usage
+returns-in-Usage g c = usage-keeps _ _ _ _ _ _ _ _ _ c.requires c.in-Usage.ensures.seen c.in-Usage.ensures.so
+    (c.as_bytes.ensures.value ∙ c.usage_line.ensures) c.refuse.ensures
+
+pub returns-in-Refused : goal.returns-in-Refused
+returns-in-Refused g c = fault-keeps _ _ _ _ _ _ _ _ _ _ c.requires c.in-Refused.ensures.seen c.in-Refused.ensures.so
+    (rw (← c.as_slice.ensures) c.refuse-in-Refused.ensures)
+
+pub returns-in-Planned : goal.returns-in-Planned
+returns-in-Planned g c = planned-keeps _ _ _ _ _ _ _ _ _ _ _ c.in-Planned.ensures.seen c.in-Planned.ensures.so c.carry_out.ensures
+
+pub returns-in-Outside : goal.returns-in-Outside
+returns-in-Outside g c = outside-keeps _ _ _ _ _ _ _ _ _ c.requires c.in-Outside.ensures.seen c.in-Outside.ensures.so.0 c.in-Outside.ensures.so.1
+    c.tell_outside.ensures.told c.tell_outside.ensures.ending
