@@ -82,7 +82,7 @@ flat-held P f (a ∷ xs) x h =
     let rest = flat-held P f xs x h in
     let here = h a in
     let join : holds (f a ++ flat_map f xs) x ≡ (holds (f a) x || holds (flat_map f xs) x) =
-          list_any-append (λ (r : Range). inside r x) (f a) (flat_map f xs) in (
+    list_any-append (λ (r : Range). inside r x) (f a) (flat_map f xs) in (
       λ e. elim (or_cases (holds (f a) x) (holds (flat_map f xs) x) (sym join ∙ e)) [
         | inl l ↦ inl (here.0 l)
         | inr r ↦ inr (rest.0 r)
@@ -113,8 +113,11 @@ admitted-set : {A : Type 0} (P : ℕ → A → Type 0) (top : ℕ) (f : A → Li
 admitted-set P top f [] fit exact = record {
   top_is = refl;
   normal = (omega arith, omega arith, omega arith, tt);
-  exact = λ x l. (λ _. tt, λ _. or_left (nat_le 0 x && nat_le x top) false
-      (in_range 0 top x (omega arith) l));
+  exact = λ x l. (
+    λ _. tt,
+    λ _. or_left (nat_le 0 x && nat_le x top) false
+        (in_range 0 top x (omega arith) l),
+  );
 }
 admitted-set P top f (a ∷ xs) fit exact = named-set P top f (a ∷ xs) fit exact
 
@@ -125,9 +128,9 @@ address-is : (n : Naming) (f : Family) (words excludes : List Word)
 address-is n f words excludes =
     let top = top_address f in
     let fit : (w : Word) → AllByRecursion (λ r. IsRange top r) (word_addresses n f w) =
-          λ w. are_ranges 0 top (word_addresses n f w) (addresses_computed n.networks f w.text).0 in
+    λ w. are_ranges 0 top (word_addresses n f w) (addresses_computed n.networks f w.text).0 in
     let exact : (w : Word) (x : ℕ) → x ≤ top → (holds (word_addresses n f w) x ≡ true) ↔ NamesAddress n f x w =
-          λ w x l. (addresses_computed n.networks f w.text).1 x l in
+    λ w x l. (addresses_computed n.networks f w.text).1 x l in
     let yes = admitted-set (NamesAddress n f) top (word_addresses n f) words fit exact in
     let out = named-set (NamesAddress n f) top (word_addresses n f) excludes fit exact in
     let some = admitted top (word_addresses n f) words in
@@ -181,7 +184,7 @@ unfolding sets_of
 sets_computed n t s h =
     let qs = protocols_of t.protocols in
     let from = same-ranges (IsPort n qs t.source_ports) top_port s.sports (port_set n qs t.source_ports)
-          h.ports.0 (port-is n qs t.source_ports) in
+    h.ports.0 (port-is n qs t.source_ports) in
     let into = same-ranges (IsPort n qs t.destination_ports) top_port s.dports (port_set n qs t.destination_ports)
-          h.ports.1 (port-is n qs t.destination_ports) in
+    h.ports.1 (port-is n qs t.destination_ports) in
     one-of-sets n t s (sets_of n t) h (computed-sets n t (λ e. h.ports.2 (from ∙ e)) (λ e. h.ports.3 (into ∙ e)))

@@ -33,7 +33,7 @@ all-just k f top [] n h = refl
 all-just k f top (r ∷ rs) n h =
     let low : r.low ≡ k = h r.low (first-holds f top r rs n) in
     let high : r.high ≡ k = h r.high (or_left (inside r r.high) (holds rs r.high)
-          (in_range r.low r.high r.high n.1 (omega arith))) in
+    (in_range r.low r.high r.high n.1 (omega arith))) in
     and_from (is_just k r) (list_all (is_just k) rs)
     (and_from (r.low == k) (r.high == k) (eq-eqb r.low k low) (eq-eqb r.high k high))
     (all-just k (r.high + 2) top rs n.3 (λ x e. h x (or_right (inside r x) (holds rs x) e)))
@@ -64,9 +64,9 @@ no-protocol k s normal = (
       λ x. shut (holds s.ranges x) (is_all s) (x == k) ((true-not (is_all s)).0 p.0)
       (λ e. eq-eqb x k (just-held k s.ranges x p.1 e)),
   λ h. let part : is_all s ≡ false = false_from_ne_true (is_all s)
-          (λ t. both_ways (holds s.ranges 0 && (is_all s || not (0 == k))) (h 0)
-          (open-all (holds s.ranges 0) (is_all s) (0 == k)
-          (covers-holds s.ranges 0 s.top 0 t (omega arith) (omega arith)) t)) in
+      (λ t. both_ways (holds s.ranges 0 && (is_all s || not (0 == k))) (h 0)
+      (open-all (holds s.ranges 0) (is_all s) (0 == k)
+      (covers-holds s.ranges 0 s.top 0 t (omega arith) (omega arith)) t)) in
       and_from (not (is_all s)) (list_all (is_just k) s.ranges) ((true-not (is_all s)).1 part)
       (all-just k 0 s.top s.ranges normal
       (λ x e. eqb-true x k (held (holds s.ranges x) (is_all s) (x == k) (h x) part e))),

@@ -54,9 +54,9 @@ pub live-as-written : (n : Naming) (raw : RawTerm) (t : Term) (kind : Kind) (tod
 live-as-written n raw t kind today is =
     let f = is.fields in
     let wanted : allows t.only kind ≡ is_wanted raw.platforms kind =
-          ap (λ o. allows o kind) f.only ∙ allowed-words raw.platforms kind in
+    ap (λ o. allows o kind) f.only ∙ allowed-words raw.platforms kind in
     let never : has_platform t.never kind ≡ names_platform kind raw.not_platforms =
-          ap (λ s. has_platform s kind) f.never ∙ platforms-have raw.not_platforms kind in (
+    ap (λ s. has_platform s kind) f.never ∙ platforms-have raw.not_platforms kind in (
       λ l. record {
         unexpired = subst (λ e. IsUnexpired e today) f.expires l.unexpired;
         wanted = sym wanted ∙ l.wanted;

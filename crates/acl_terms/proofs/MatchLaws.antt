@@ -86,16 +86,16 @@ match-as-written n raw t mode p fits is =
     let itype = are.itypes_are.exact p.itype (let l = fits.type_fits in omega arith) in
     let same = option-is n raw t mode p is in
     let option : (passes t.option mode t.dport_named p ≡ true)
-          ↔ (passes (option_of raw.options) mode (is_written raw.destination_ports) p ≡ true) =
-          (λ h. sym same ∙ h, λ h. same ∙ h) in
+    ↔ (passes (option_of raw.options) mode (is_written raw.destination_ports) p ≡ true) =
+    (λ h. sym same ∙ h, λ h. same ∙ h) in
     let ends = both (has_protocol f t p.proto)
-          (holds (source_in f t).ranges p.src && holds (destination_in f t).ranges p.dst) proto
-          (both (holds (source_in f t).ranges p.src) (holds (destination_in f t).ranges p.dst) source destination) in
+    (holds (source_in f t).ranges p.src && holds (destination_in f t).ranges p.dst) proto
+    (both (holds (source_in f t).ranges p.src) (holds (destination_in f t).ranges p.dst) source destination) in
     let ports = both (holds t.sports.ranges p.sport) (holds t.dports.ranges p.dport) sport dport in
     let last = both (holds t.itypes.ranges p.itype) (passes t.option mode t.dport_named p) itype option in
     let law = both (ends_match f t p) (ports_match t p
-          && (holds t.itypes.ranges p.itype && passes t.option mode t.dport_named p)) ends
-          (both (ports_match t p) (holds t.itypes.ranges p.itype && passes t.option mode t.dport_named p) ports last) in (
+    && (holds t.itypes.ranges p.itype && passes t.option mode t.dport_named p)) ends
+    (both (ports_match t p) (holds t.itypes.ranges p.itype && passes t.option mode t.dport_named p) ports last) in (
       λ h. let r = law.0 h in record {
         source = r.0.1.0;
         destination = r.0.1.1;

@@ -26,9 +26,10 @@ pub word-passed : (services : List Definition) (q : ℕ) (w : Word) → protocol
     → (is_defined services w.text ≡ true) × (reaches_protocol services w.text q ≡ true)
 word-passed services q w h =
     let p = parts (unless (is_defined services w.text) codes.UnknownName w)
-          (unless (reaches_protocol services w.text q) codes.NoPortForProtocol w) h in
-    (passed (is_defined services w.text) codes.UnknownName w p.0,
-     passed (reaches_protocol services w.text q) codes.NoPortForProtocol w p.1)
+    (unless (reaches_protocol services w.text q) codes.NoPortForProtocol w) h in (
+      passed (is_defined services w.text) codes.UnknownName w p.0,
+      passed (reaches_protocol services w.text q) codes.NoPortForProtocol w p.1,
+    )
 
 pub reached-more : (services : List Definition) (text : List ℕ) (qs : List ℕ) (i : ℕ) → i < length qs
     → reaches_protocol services text (get_or qs i 0) ≡ true
@@ -56,7 +57,7 @@ found services name q w e defined reaches =
     both-passed (is_defined services w.text) (reaches_protocol services w.text q) codes.UnknownName codes.NoPortForProtocol w
     (some-is (index_of services w.text) (λ h. defined (ap (index_of services) e ∙ h)))
     (let law = protocol-tested services w.text q in
-     law.1 (subst (λ t. ReachesProtocol services t q) e reaches))
+    law.1 (subst (λ t. ReachesProtocol services t q) e reaches))
 
 -- The slip of a word without ports of a protocol.
 abbrev pub word-slip : Word → Slip
@@ -70,4 +71,4 @@ not-found services name q w e defined no-port =
     (some-is (index_of services w.text) (λ h. defined (ap (index_of services) e ∙ h)))
     (false_from_ne_true (reaches_protocol services w.text q)
     (λ t. let law = protocol-tested services w.text q in
-      no-port (subst (λ u. ReachesProtocol services u q) (sym e) (law.0 t))))
+    no-port (subst (λ u. ReachesProtocol services u q) (sym e) (law.0 t))))

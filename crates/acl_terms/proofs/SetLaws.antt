@@ -116,9 +116,12 @@ pub holds-some : (top : ℕ) (rs : List Range) → IsNormal 0 top rs → rs ≢ 
 holds-some top [] n some = absurd (some refl)
 holds-some top (r ∷ rs) n some =
     let first : r.low ≤ r.high = n.1 in
-    let last : r.high ≤ top = n.2 in
-    (r.low, omega arith, or_left (inside r r.low) (holds rs r.low)
-    (in_range r.low r.high r.low (omega arith) first))
+    let last : r.high ≤ top = n.2 in (
+      r.low,
+      omega arith,
+      or_left (inside r r.low) (holds rs r.low)
+          (in_range r.low r.high r.low (omega arith) first),
+    )
 
 -- The union with a set that is not empty is not empty.
 pub more-some : (top : ℕ) (s m u : Numbers) → IsNormal 0 m.top m.ranges → m.ranges ≢ []

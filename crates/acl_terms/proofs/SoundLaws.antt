@@ -69,7 +69,7 @@ only-held test (w ∷ ws) s h o x e =
 pub no-zero : (ws : List Word) → AnyOf (λ w. protocol_in w.text ≡ Some 0) ws → ⊥
 no-zero ws a =
     let l : 1 ≤ 0 = any-number (λ w. protocol_in w.text) (λ n. 1 ≤ n) ws 0
-          (λ w e. (protocol-within 0 w.text e).0) a in
+    (λ w e. (protocol-within 0 w.text e).0) a in
     absurd (omega arith)
 
 lack-zero : (ws : List Word) (s : Numbers) → IsSetOf (IsProtocol ws) 255 s → is_all s ≡ false
@@ -116,10 +116,10 @@ lack-255 : (f : Option Family) (ws : List Word) (s : Numbers) → IsSetOf (IsTyp
     → is_all s ≡ false → holds s.ranges 255 ≡ false
 lack-255 f ws s h e = false_from_ne_true (holds s.ranges 255)
     (λ t. let a = named-number (λ n v. type_in f v.text ≡ Some n) 255 ws s 255 h
-            (not-whole (λ n v. type_in f v.text ≡ Some n) 255 ws s h e) t in
-      let l : 255 ≤ 254 = any-number (λ w. type_in f w.text) (λ n. n ≤ 254) ws 255
-            (λ w q. type-within f 255 w.text q) a in
-      absurd (omega arith))
+    (not-whole (λ n v. type_in f v.text ≡ Some n) 255 ws s h e) t in
+    let l : 255 ≤ 254 = any-number (λ w. type_in f w.text) (λ n. n ≤ 254) ws 255
+    (λ w q. type-within f 255 w.text q) a in
+    absurd (omega arith))
 
 is-family : (f : Option Family) (ws : List Word) → ws ≢ [] → first_in (type_slip f) ws ≡ None → f ≢ None
 is-family f [] some none = absurd (some refl)

@@ -99,7 +99,7 @@ one-proof : (f : Fields) (p q : AreSound f) → p ≡ q
 unfolding AreSound
 one-proof f p q =
     let prop : IsProp (IsSound f.name f.note f.sets.src4 f.sets.src6 f.sets.dst4 f.sets.dst6 f.sets.protos f.sets.sports
-          f.sets.dports f.dport_named f.sets.itypes f.option f.verdict) = hlevel (props, normal-prop) in prop p q
+    f.sets.dports f.dport_named f.sets.itypes f.option f.verdict) = hlevel (props, normal-prop) in prop p q
 
 same-term : (f g : Fields) → f ≡ g → (p : AreSound f) (q : AreSound g) → term-of f p ≡ term-of g q
 same-term f g e p =
@@ -142,7 +142,7 @@ port-some n (q ∷ qs) (w ∷ ws) some more none =
     let services = n.services in
     let here = parts (service_slip services (q ∷ qs) w) (first_in (service_slip services (q ∷ qs)) ws) none in
     let both = parts (unless (is_defined services w.text) codes.UnknownName w)
-          (unless (list_all (reaches_protocol services w.text) (q ∷ qs)) codes.NoPortForProtocol w) here.0 in
+    (unless (list_all (reaches_protocol services w.text) (q ∷ qs)) codes.NoPortForProtocol w) here.0 in
     let all = passed (list_all (reaches_protocol services w.text) (q ∷ qs)) codes.NoPortForProtocol w both.1 in
     let first = and_parts (reaches_protocol services w.text q) (list_all (reaches_protocol services w.text) qs) all in
     let reached = some q w.text ((protocol-tested services w.text q).0 first.0) in
@@ -158,7 +158,7 @@ sets-there n raw some clean =
     let p = passes-all n raw clean in
     let question = service_slip n.services qs in
     let both = parts (first_in question raw.source_ports) (first_in question raw.destination_ports)
-          (sym (first-in-append question raw.source_ports raw.destination_ports) ∙ p.services) in
+    (sym (first-in-append question raw.source_ports raw.destination_ports) ∙ p.services) in
     let named = ports-some qs has_ports codes.PortProtocol (port_words raw) p.ports in
     computed-sets n raw
     (port-some n qs raw.source_ports some (λ h. named (left-some raw.source_ports raw.destination_ports h)) both.0)
@@ -170,38 +170,40 @@ term-there n raw some fits clean =
     let s = sets_of n raw in
     let are = sets-there n raw some clean in
     let t : Term = record {
-          name = raw.name.text;
-          place = raw.name.place;
-          note = note_of raw.comments;
-          src4 = s.src4;
-          src6 = s.src6;
-          dst4 = s.dst4;
-          dst6 = s.dst6;
-          protos = s.protos;
-          sports = s.sports;
-          dports = s.dports;
-          dport_named = is_written raw.destination_ports;
-          itypes = s.itypes;
-          option = option_of raw.options;
-          verdict = verdict_of raw.action.text;
-          log = raw.logging;
-          expires = raw.expires;
-          «only» = some_platforms raw.platforms;
-          never = platforms_of raw.not_platforms;
-          sound = sound n raw s fits.name_is (note_is_safe raw.comments) clean are;
-        } in
-    (t, record {
-      sets = are;
-      fields = record {
-        name = refl;
-        place = refl;
-        note = refl;
-        dport_named = refl;
-        option = refl;
-        verdict = refl;
-        log = refl;
-        expires = refl;
-        «only» = refl;
-        never = refl;
-      };
-    })
+      name = raw.name.text;
+      place = raw.name.place;
+      note = note_of raw.comments;
+      src4 = s.src4;
+      src6 = s.src6;
+      dst4 = s.dst4;
+      dst6 = s.dst6;
+      protos = s.protos;
+      sports = s.sports;
+      dports = s.dports;
+      dport_named = is_written raw.destination_ports;
+      itypes = s.itypes;
+      option = option_of raw.options;
+      verdict = verdict_of raw.action.text;
+      log = raw.logging;
+      expires = raw.expires;
+      «only» = some_platforms raw.platforms;
+      never = platforms_of raw.not_platforms;
+      sound = sound n raw s fits.name_is (note_is_safe raw.comments) clean are;
+    } in (
+      t,
+      record {
+        sets = are;
+        fields = record {
+          name = refl;
+          place = refl;
+          note = refl;
+          dport_named = refl;
+          option = refl;
+          verdict = refl;
+          log = refl;
+          expires = refl;
+          «only» = refl;
+          never = refl;
+        };
+      },
+    )

@@ -34,7 +34,7 @@ within : (table : List Row) (least most n : ℕ) (word : List ℕ) → most < 2 
     → row_or_number table least most word ≡ Some n → (least ≤ n) × (n ≤ most)
 within table least most n word small h e = elim (word-some table least most word (Some n) small (sym e)) [
   | inl row ↦ let p = and_parts (nat_le least n) (nat_le n most)
-        (row-passes (λ k. nat_le least k && nat_le k most) table word n h row) in
+      (row-passes (λ k. nat_le least k && nat_le k most) table word n h row) in
       (leb-true least n p.0, leb-true n most p.1)
   | inr q ↦ (q.2, q.3)
 ]

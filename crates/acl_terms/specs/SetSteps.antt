@@ -28,9 +28,9 @@ protocol_slip services q w =
 abbrev pub ends_slip : List Definition → RawTerm → Option Slip
 ends_slip networks t =
     first_of (first_of (first_in (network_slip networks) t.sources)
-        (first_in (network_slip networks) t.source_excludes))
+    (first_in (network_slip networks) t.source_excludes))
     (first_of (first_in (network_slip networks) t.destinations)
-        (first_in (network_slip networks) t.destination_excludes))
+    (first_in (network_slip networks) t.destination_excludes))
 
 abbrev pub both_ports_slip : List Definition → List ℕ → RawTerm → Option Slip
 both_ports_slip services protos t =

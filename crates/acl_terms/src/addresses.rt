@@ -49,12 +49,7 @@ fn networks_at(
 }
 
 // The addresses that some of the words reach.
-fn named(
-    alloc: Global,
-    base: &Checked,
-    family: Family,
-    words: &[Word],
-) -> Result<RangeSet, Refusal>
+fn named(alloc: Global, base: &Checked, family: Family, words: &[Word]) -> Result<RangeSet, Refusal>
     ensures judged { Judges result (first_in (network_slip base.now.networks) words.now) }
     ensures set { IfOk result (λ s. IsSetOf (λ x. AnyOf (NamesAddress base.now family x) words.now)
         (top_address family) s) }
@@ -127,7 +122,12 @@ fn both_ends(alloc: Global, base: &Checked, raw: &RawTerm) -> Result<Ends, Refus
     ensures v4 { IfOk result (λ e. IsAddressSet base.now V4 raw.now e.src.v4 e.dst.v4) }
     ensures v6 { IfOk result (λ e. IsAddressSet base.now V6 raw.now e.src.v6 e.dst.v6) }
 {
-    let src = end_of(alloc, base, raw.sources.as_slice(), raw.source_excludes.as_slice())?;
+    let src = end_of(
+        alloc,
+        base,
+        raw.sources.as_slice(),
+        raw.source_excludes.as_slice(),
+    )?;
     let dst = end_of(
         alloc,
         base,

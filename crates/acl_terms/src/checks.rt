@@ -6,8 +6,23 @@ ghost use Rattle.acl_naming.specs.Checking.{IsRefusal};
 ghost use Rattle.acl_terms.specs.Matching.{icmp_family, is_number, only, type_in};
 ghost use Rattle.acl_terms.specs.Options.{option_of, opt_named, verdict_of};
 ghost use Rattle.acl_terms.specs.Slips.{
-  Judges, clash_slip, first_in, first_some, first_unless, is_tcp_or_udp, option_fits, option_slip, port_protocol_slip,
-  reset_slip, same_slip, slip_at, type_slip, types_slip, unless, verdict_fits, words_slips,
+  Judges,
+  clash_slip,
+  first_in,
+  first_some,
+  first_unless,
+  is_tcp_or_udp,
+  option_fits,
+  option_slip,
+  port_protocol_slip,
+  reset_slip,
+  same_slip,
+  slip_at,
+  type_slip,
+  types_slip,
+  unless,
+  verdict_fits,
+  words_slips,
 };
 
 use crate::options::Opt;
@@ -33,7 +48,11 @@ pub(crate) fn refusal_at(alloc: Global, code: Code, word: &Word) -> Refusal
 fn check(alloc: Global, passed: bool, code: Code, word: &Word) -> Result<(), Refusal>
     ensures { Judges result (unless passed code word.now) }
 {
-    if passed { Ok(()) } else { Err(refusal_at(alloc, code, word)) }
+    if passed {
+        Ok(())
+    } else {
+        Err(refusal_at(alloc, code, word))
+    }
 }
 
 fn check_first(alloc: Global, passed: bool, code: Code, words: &[Word]) -> Result<(), Refusal>
@@ -224,14 +243,24 @@ fn check_clash(alloc: Global, words: &[Word]) -> Result<(), Refusal>
 fn check_option(alloc: Global, protos: &[u8], words: &[Word]) -> Result<(), Refusal>
     ensures { Judges result (option_slip protos.now words.now) }
 {
-    check_first(alloc, option_fits(option_of(words), protos), Code::OptionProtocol, words)
+    check_first(
+        alloc,
+        option_fits(option_of(words), protos),
+        Code::OptionProtocol,
+        words,
+    )
 }
 
 fn check_reset(alloc: Global, protos: &[u8], word: &Word) -> Result<(), Refusal>
     ensures { Judges result (reset_slip protos.now word.now) }
 {
     let verdict = verdict_of(word.text.as_slice());
-    check(alloc, verdict_fits(verdict, protos), Code::ResetProtocol, word)
+    check(
+        alloc,
+        verdict_fits(verdict, protos),
+        Code::ResetProtocol,
+        word,
+    )
 }
 
 /// Whether ports stand only with TCP, UDP and SCTP. The slip is at the first word of ports.

@@ -86,9 +86,7 @@ fn is_unexpired(expires: Option<Day>, today: Day) -> bool
 fn is_term_live(term: &Term, kind: Kind, today: Day) -> bool
     ensures { result ≡ is_term_live term.now kind today }
 {
-    is_unexpired(term.expires, today)
-        && allows(term.only, kind)
-        && !has_platform(term.never, kind)
+    is_unexpired(term.expires, today) && allows(term.only, kind) && !has_platform(term.never, kind)
 }
 
 /// Whether the term is live: it is for the platform, and `today` is before the day on which it expires.

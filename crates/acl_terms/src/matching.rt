@@ -1,11 +1,19 @@
 ghost use Rattle.std.specs.Prelude.{◌≡◌, ◌↔◌, IsTrue};
 ghost use Rattle.std.specs.List.{list_all};
-
 ghost use Rattle.acl_terms.specs.Matching.{foreign_of};
 ghost use Rattle.acl_packet.specs.Packets.{has_ack_or_rst, is_initial, is_tracked};
 ghost use Rattle.acl_terms.specs.Options.{passes};
 ghost use Rattle.acl_terms.specs.Resolved.{
-  IsEmptyIn, destination_in, ends_match, has_no_protocol, has_protocol, is_empty_in, is_just, matches, ports_match, source_in,
+  IsEmptyIn,
+  destination_in,
+  ends_match,
+  has_no_protocol,
+  has_protocol,
+  is_empty_in,
+  is_just,
+  matches,
+  ports_match,
+  source_in,
 };
 
 use crate::options::{Mode, Opt};

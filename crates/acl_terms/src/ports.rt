@@ -24,12 +24,7 @@ pub(crate) struct TermPorts {
 }
 
 // The ports that the word's name reaches with the protocol.
-fn ports_at(
-    alloc: Global,
-    base: &Checked,
-    proto: u8,
-    word: &Word,
-) -> Result<RangeSet, Refusal>
+fn ports_at(alloc: Global, base: &Checked, proto: u8, word: &Word) -> Result<RangeSet, Refusal>
     ensures judged { Judges result (protocol_slip base.now.services proto word.now) }
     ensures set { IfOk result (λ s.
         IsSetOf (ReachesPort base.now.services word.now.text proto) top_port s) }
@@ -44,12 +39,7 @@ fn ports_at(
 }
 
 // The ports that it reaches with some of the protocols.
-fn ports_by(
-    alloc: Global,
-    base: &Checked,
-    protos: &[u8],
-    word: &Word,
-) -> Result<RangeSet, Refusal>
+fn ports_by(alloc: Global, base: &Checked, protos: &[u8], word: &Word) -> Result<RangeSet, Refusal>
     requires { protos.now ≢ [] }
     ensures judged { Judges result (service_slip base.now.services protos.now word.now) }
     ensures set { IfOk result (λ s.
@@ -65,12 +55,7 @@ fn ports_by(
 }
 
 // The ports that some of the words reach.
-fn named(
-    alloc: Global,
-    base: &Checked,
-    protos: &[u8],
-    words: &[Word],
-) -> Result<RangeSet, Refusal>
+fn named(alloc: Global, base: &Checked, protos: &[u8], words: &[Word]) -> Result<RangeSet, Refusal>
     requires { protos.now ≢ [] }
     ensures judged { Judges result
         (first_in (service_slip base.now.services protos.now) words.now) }

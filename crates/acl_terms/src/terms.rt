@@ -42,6 +42,5 @@ pub struct Term {
     pub only: Option<Platforms>,
     pub never: Platforms,
     pub ghost sound: { IsSound name note src4 src6 dst4 dst6 protos sports dports dport_named itypes
-        option verdict }
-        by { Prim.hlevel (props, normal-prop) },
+        option verdict } by { Prim.hlevel (props, normal-prop) },
 }

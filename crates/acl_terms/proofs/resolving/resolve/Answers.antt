@@ -9,21 +9,23 @@ use Rattle.acl_terms.proofs.resolving.resolve.Goals as goal
 pub invariant_of-result : goal.invariant_of-result
 invariant_of-result c =
     let p = c.in_ok-parts.parts in
-    record { sound = sound-fields c.args.base.now c.args.raw.now (record {
-          src4 = p.ends.src.v4;
-          src6 = p.ends.src.v6;
-          dst4 = p.ends.dst.v4;
-          dst6 = p.ends.dst.v6;
-          protos = p.protos;
-          sports = p.ports.sports;
-          dports = p.ports.dports;
-          itypes = p.itypes;
-        }) c.in_ok-name.name c.in_ok-note.note c.is_written.result c.option_of.result c.verdict_of.result
-        (c.in_ok-name.ensures ∙ c.as_slice.ensures) (c.in_ok-note.ensures.exact ∙ ap note_of c.as_slice-2.ensures)
-        (c.is_written.ensures ∙ ap is_written c.as_slice-3.ensures)
-        (c.option_of.ensures ∙ ap option_of c.as_slice-4.ensures)
-        (c.verdict_of.ensures ∙ ap verdict_of c.as_slice-5.ensures)
-        c.requires.name_is c.in_ok-note.ensures.safe c.in_ok-parts.ensures.judged c.in_ok-parts.ensures.sets }
+    record {
+      sound = sound-fields c.args.base.now c.args.raw.now (record {
+        src4 = p.ends.src.v4;
+        src6 = p.ends.src.v6;
+        dst4 = p.ends.dst.v4;
+        dst6 = p.ends.dst.v6;
+        protos = p.protos;
+        sports = p.ports.sports;
+        dports = p.ports.dports;
+        itypes = p.itypes;
+      }) c.in_ok-name.name c.in_ok-note.note c.is_written.result c.option_of.result c.verdict_of.result
+          (c.in_ok-name.ensures ∙ c.as_slice.ensures) (c.in_ok-note.ensures.exact ∙ ap note_of c.as_slice-2.ensures)
+          (c.is_written.ensures ∙ ap is_written c.as_slice-3.ensures)
+          (c.option_of.ensures ∙ ap option_of c.as_slice-4.ensures)
+          (c.verdict_of.ensures ∙ ap verdict_of c.as_slice-5.ensures)
+          c.requires.name_is c.in_ok-note.ensures.safe c.in_ok-parts.ensures.judged c.in_ok-parts.ensures.sets;
+    }
 
 pub returns-clause-computed : goal.returns-clause-computed
 returns-clause-computed c =
