@@ -1,9 +1,10 @@
 -- The laws of the toy language: they are proved here, and need not be believed.
-use Rattle.std.proofs.Common.{◌≡◌, ℕ, false, ◌==◌, List, [], ◌∷◌, ◌++◌, length, flat_map, None, Some, refl, append-nil, ap, sym, subst, ◌∙◌, arith}
+use Rattle.std.proofs.Common.{◌≡◌, ℕ, false, ◌==◌, List, [], ◌∷◌, ◌++◌, length, flat_map, None, Some, refl, append-nil, ap, sym, subst, ◌∙◌}
 use Rattle.std.specs.List.{IsDistinct}
 use Rattle.std.specs.Str.{bytes_eq}
 use Rattle.std.proofs.lemmas.Bool.{eqb-true, false≢true}
 use Rattle.std.proofs.lemmas.Bool.Decides.{Decides-eqb}
+use Rattle.std.proofs.Math.Nat.{suc-ne-zero}
 use Rattle.std.proofs.lemmas.List.{append_cancel_left}
 use Rattle.std.proofs.lemmas.Grind.{flat_map-append}
 use Rattle.acl_packet.specs.declared.packets.Packet.{Packet}
@@ -85,7 +86,7 @@ without_rules : (ending : Ending) (rules : List Rule) (p : Packet) → length ru
     → ending_outcome ending p ≡ rules_outcome ending rules p
 unfolding rules_outcome
 without_rules ending [] p h = refl
-without_rules ending (r ∷ rules) p h = absurd (omega (arith, h))
+without_rules ending (r ∷ rules) p h = absurd (suc-ne-zero (length rules) h)
 
 pub section_decides : (f : Filter) → IsAccepted has_no_rule (λ g. None) f → DecidesAs f (outcome_of_ending f.ending)
 section_decides f h = λ p packet family. ap Some (without_rules f.ending f.rules p (eqb-true (length f.rules) 0 h.handled))
