@@ -6,6 +6,9 @@ use Rattle.acl_text.specs.declared.faults.Fault.{Fault}
 use Rattle.acl_text.specs.Answers.{Answers}
 use Rattle.acl_host.specs.Files.{File}
 use Rattle.acl_naming.specs.Definitions.{Naming}
+use Rattle.acl_splice.specs.Splices.{Splice}
+use Rattle.acl_policy.specs.declared.blocks.Policy.{Policy}
+use Rattle.acl_policy.specs.PolicyPlaces.{PolicyStands}
 use Rattle.acl_load.specs.declared.policy_loading.Loaded.{Loaded}
 use Rattle.acl_load.specs.declared.policy_texts.PolicyText.{PolicyText}
 use Rattle.acl_load.specs.Loading.{Loads}
@@ -50,3 +53,7 @@ loaded-told told (Some files) folder path definitions text r loaded read resolve
     let Goes : Result Loaded Fault → Result PolicyText Fault → Type 0 = λ answer t. GoesOn (Resolves definitions) t answer in
     answers-more told (λ l. l) r (Resolves definitions text) (LoadsPolicy folder path files)
     (λ answer h. (Ok definitions, loaded, subst (Goes answer) (sym read) h)) resolved
+
+pub stand-there : (s t : Splice) (p q : Policy) → s ≡ t → p ≡ q → PolicyStands t.lines q → PolicyStands s.lines p
+stand-there s t p q e f h =
+    subst (λ (x : Splice). PolicyStands x.lines p) (sym e) (subst (λ (y : Policy). PolicyStands t.lines y) (sym f) h)

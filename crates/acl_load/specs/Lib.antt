@@ -1,3 +1,4 @@
+pub mod FaultLineSteps
 pub mod FaultLines
 pub mod LoadFaults
 pub mod LoadedPolicies

@@ -1,5 +1,5 @@
 -- A policy that is loaded: the naming files, the policy with its included files, its terms; or the first fault of them.
-use Rattle.std.specs.Prelude.{◌≡◌, ◌×◌, List, Option, None, Some, Result, Ok, Err}
+use Rattle.std.specs.Prelude.{◌≡◌, ℕ, List, Option, None, Some, Result, Ok, Err}
 use Rattle.std.specs.List.{AllZip}
 use Rattle.acl_text.specs.declared.faults.Fault.{Fault}
 use Rattle.acl_text.specs.declared.faults.Slip.{Slip}

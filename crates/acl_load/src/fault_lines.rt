@@ -1,5 +1,6 @@
-ghost use Rattle.std.specs.Prelude.{◌≡◌, ◌≤◌, ◌==◌, not, if◌then◌else◌, [], length, map, take, IsTrue};
-ghost use Rattle.acl_text.specs.Output.{Puts};
+ghost use Rattle.std.specs.Prelude.{◌≡◌, ◌≤◌, [], ◌∷◌, codes, length, map, take, IsTrue};
+ghost use Rattle.acl_text.specs.Output.{Puts, joined};
+ghost use Rattle.acl_load.specs.FaultLineSteps.{only_if, space_before};
 ghost use Rattle.acl_load.specs.FaultLines.{code_text, fault_line, visible};
 
 use acl_text::{Code, Fault, Out, PutFault, put_pieces};
@@ -61,16 +62,15 @@ fn visible(byte: u8) -> u8
     }
 }
 
-// The first bytes of the word, as many as are printed.
-fn front_of(word: &[u8]) -> &[u8]
-    ensures front { result.now ≡ take 64 word.now }
-    ensures short { length result.now ≤ 64 }
+// The first bytes, at most so many.
+fn front_of(bytes: &[u8], most: usize) -> &[u8]
+    ensures front { result.now ≡ take most bytes.now }
+    ensures short { length result.now ≤ most }
 {
-    if word.len() <= MOST_OF_WORD {
-        word
-    } else {
-        &word[..MOST_OF_WORD]
+    if bytes.len() <= most {
+        return bytes;
     }
+    &bytes[..most]
 }
 
 // The bytes as they are printed, and behind them spaces.
@@ -87,10 +87,41 @@ fn visible_bytes(bytes: &[u8]) -> [u8; MOST_OF_WORD]
 }
 
 // The text, or nothing.
-fn only_if<'a>(wanted: bool, text: &'a [u8]) -> &'a [u8]
-    ensures { result.now ≡ if wanted then text.now else [] }
+fn only_if(wanted: bool, text: &[u8]) -> &[u8]
+    ensures { result.now ≡ only_if wanted text.now }
 {
     if wanted { text } else { b"" }
+}
+
+// The space before a word that is there.
+fn space_before(word: &[u8]) -> &'static [u8]
+    ensures { result.now ≡ space_before word.now }
+{
+    match word {
+        [] => b"",
+        [_, ..] => b" ",
+    }
+}
+
+// Puts a line of these parts.
+fn put_parts<O: Out>(
+    out: &mut O,
+    label: &[u8],
+    colon: &[u8],
+    number: &[u8],
+    code: &[u8],
+    space: &[u8],
+    word: &[u8],
+) -> Result<(), PutFault>
+    requires { IsTrue (O.is_open out.old) }
+    ensures { Puts O.told O.faults O.refusals O.is_open O.keeps_rest out.old out.new
+        (joined (label.now ∷ colon.now ∷ number.now ∷ codes ": " ∷ code.now ∷ space.now
+        ∷ word.now ∷ codes "\n" ∷ [])) result }
+{
+    put_pieces(
+        out,
+        &[label, colon, number, b": ", code, space, word, b"\n"],
+    )
 }
 
 /// Puts the line that names a fault: its label and line, its code, and its word.
@@ -105,19 +136,15 @@ pub fn put_fault<O: Out>(out: &mut O, fault: &Fault) -> Result<(), PutFault>
     let mut buffer = Buffer::new();
     let number = buffer.format(fault.line).as_bytes();
     let has_line = fault.line != 0;
-    let word = front_of(fault.word.as_slice());
+    let word = front_of(fault.word.as_slice(), MOST_OF_WORD);
     let shown = visible_bytes(word);
-    put_pieces(
+    put_parts(
         out,
-        &[
-            fault.label.as_slice(),
-            only_if(has_line, b":"),
-            only_if(has_line, number),
-            b": ",
-            code_text(fault.code).as_bytes(),
-            only_if(!fault.word.as_slice().is_empty(), b" "),
-            &shown[..word.len()],
-            b"\n",
-        ],
+        fault.label.as_slice(),
+        only_if(has_line, b":"),
+        only_if(has_line, number),
+        code_text(fault.code).as_bytes(),
+        space_before(fault.word.as_slice()),
+        &shown[..word.len()],
     )
 }

@@ -7,10 +7,10 @@ mod load_faults;
 mod loading;
 mod naming_paths;
 mod policy_loading;
-mod policy_texts;
-mod slips;
 #[cfg(test)]
 mod policy_tests;
+mod policy_texts;
+mod slips;
 #[cfg(test)]
 mod tests;
 

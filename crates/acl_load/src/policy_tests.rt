@@ -13,7 +13,10 @@ const NETWORKS: (&str, &[u8]) = ("def/n.net", b"WEB = 192.0.2.10\n");
 // Files, and the line of the fault that is told of the policy `pol/a.pol` over the folder `def`.
 static FAULTS: [(Files, &[u8]); 8] = [
     // the naming files come before the policy
-    (&[("def/n.net", b"WEB = NOPE")], b"def/n.net:1: F17 Undefined NOPE\n"),
+    (
+        &[("def/n.net", b"WEB = NOPE")],
+        b"def/n.net:1: F17 Undefined NOPE\n",
+    ),
     (&[NETWORKS], b"pol/a.pol: F20 NoFile\n"),
     (
         &[NETWORKS, ("pol/a.pol", b"\n#include 'gone.inc'\n")],
@@ -23,13 +26,25 @@ static FAULTS: [(Files, &[u8]); 8] = [
     (
         &[
             NETWORKS,
-            ("pol/a.pol", b"header { target:: cisco e }\n#include 'b.inc'\n"),
-            ("pol/b.inc", b"term t {\n  source-address:: NOPE\n  verbatim:: x\n}\n"),
+            (
+                "pol/a.pol",
+                b"header { target:: cisco e }\n#include 'b.inc'\n",
+            ),
+            (
+                "pol/b.inc",
+                b"term t {\n  source-address:: NOPE\n  verbatim:: x\n}\n",
+            ),
         ],
         b"pol/b.inc:3: F24 Keyword verbatim::\n",
     ),
-    (&[NETWORKS, ("pol/a.pol", b"\x01")], b"pol/a.pol:1: F11 BadByte ?\n"),
-    (&[NETWORKS, ("pol/a.pol", b"")], b"pol/a.pol: F27 Missing header\n"),
+    (
+        &[NETWORKS, ("pol/a.pol", b"\x01")],
+        b"pol/a.pol:1: F11 BadByte ?\n",
+    ),
+    (
+        &[NETWORKS, ("pol/a.pol", b"")],
+        b"pol/a.pol: F27 Missing header\n",
+    ),
     (
         &[
             NETWORKS,
@@ -135,10 +150,19 @@ fn terms_are_loaded_by_blocks(rt: HostRuntime) -> Result<(), Fail> {
 fn failures_of_the_tree_are_told(rt: HostRuntime) -> Result<(), Fail> {
     let mut tree = tree_of(rt.alloc(), &TWO_BLOCKS)?;
     tree.fail(Op::List, 1)?;
-    assert_eq!(rt; line_of(rt.alloc(), &mut tree)?.as_slice(), b"list".as_slice());
+    assert_eq!(rt;
+        line_of(rt.alloc(), &mut tree)?.as_slice(),
+        b"list".as_slice()
+    );
     // the naming file is read, the policy, and then the included file
     tree.fail(Op::Read, 3)?;
-    assert_eq!(rt; line_of(rt.alloc(), &mut tree)?.as_slice(), b"read".as_slice());
-    assert_eq!(rt; line_of(rt.alloc(), &mut tree)?.as_slice(), b"loaded".as_slice());
+    assert_eq!(rt;
+        line_of(rt.alloc(), &mut tree)?.as_slice(),
+        b"read".as_slice()
+    );
+    assert_eq!(rt;
+        line_of(rt.alloc(), &mut tree)?.as_slice(),
+        b"loaded".as_slice()
+    );
     Ok(())
 }

@@ -1,9 +1,9 @@
-use Rattle.std.proofs.Common.{◌≡◌, Ok, List, Option, IfSome, sym, subst}
+use Rattle.std.proofs.Common.{◌≡◌, Ok, List, Option, IfSome, subst}
 use Rattle.acl_host.specs.Files.{File}
 use Rattle.acl_text.specs.Answers.{fault_told}
 use Rattle.acl_text.specs.declared.faults.Rejection.{Rejection}
 use Rattle.acl_load.specs.LoadedPolicies.{policy_at}
-use Rattle.acl_load.proofs.LoadedLaws.{loaded-told}
+use Rattle.acl_load.proofs.LoadedLaws.{loaded-told, stand-there}
 use Rattle.acl_load.proofs.policy_loading.load.Goals as goal
 
 pub returns-clause-loads : goal.returns-clause-loads
@@ -15,3 +15,8 @@ returns-clause-loads g c =
     (Ok c.in_ok-resolve_policy.field-0) c.in_ok-definitions.ensures.loads
     (subst Reads c.load_definitions.ensures.looks.only.looks.files_stay c.in_ok-text.ensures.gives)
     c.in_ok-resolve_policy.ensures.resolves
+
+pub returns-clause-places : goal.returns-clause-places
+returns-clause-places g c =
+    let loaded = c.in_ok-resolve_policy.ensures.loaded in
+    stand-there _ _ _ _ loaded.sources_are loaded.policy_is c.in_ok-text.ensures.places

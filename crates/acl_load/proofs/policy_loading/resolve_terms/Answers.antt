@@ -15,6 +15,7 @@ loop-raw-preserved c =
     let had = c.loop-raw.invariant in
     record {
       slip = slip-more (slip_of definitions) raws i raw raw within c.raw-item.is c.in_ok-term.ensures.slip had.slip;
-      terms = zip-more (IsResolved definitions) raws i raw raw _ _ _ within c.raw-item.is c.push.ensures.ok
+      terms = zip-more (IsResolved definitions) raws i raw raw c.loop-raw.terms c.push.new.self c.in_ok-term.term
+          within c.raw-item.is c.in_ok-push.ensures.ok
           c.in_ok-term.ensures.resolved had.terms;
     }
