@@ -1,0 +1,5 @@
+pub mod DecideLaws
+pub mod FilterLaws
+pub mod HoldLaws
+pub mod SetForms
+pub mod SoundLaws

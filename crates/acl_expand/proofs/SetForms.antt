@@ -1,0 +1,126 @@
+-- What the sets of a rule hold.
+use Rattle.std.proofs.Common.{◌≡◌, ℕ, ◌+◌, ◌^◌, ◌<◌, ◌≤◌, Bool, true, false, cond, not, ◌&&◌, ◌||◌, ◌==◌, nat_le, [], ◌∷◌, refl, ap, sym, ◌∙◌, arith}
+use Rattle.std.specs.List.{AllByRecursion}
+use Rattle.std.proofs.lemmas.Bool.{and_left, or_from, both_ways, false_from_ne_true, eqb-true, eq-eqb, le-leb}
+use Rattle.acl_packet.specs.declared.addresses.Family.{Family}
+use Rattle.acl_packet.specs.declared.addresses.Family.TheVariants.{V4, V6}
+use Rattle.acl_packet.specs.Addresses.{top_address, width_of}
+use Rattle.acl_sets.specs.ComputableLeastLists.{halved_space}
+use Rattle.acl_sets.specs.ComputableSets.{cut_all, is_all}
+use Rattle.acl_sets.specs.LeastLists.{any_has}
+use Rattle.acl_sets.specs.Ranges.{IsNormal, IsRange, Numbers, Only, holds}
+use Rattle.acl_sets.proofs.ComputableLeastListLaws.{halved_space-least}
+use Rattle.acl_sets.proofs.ComputableSetLaws.{covers-holds, cut_all-holds}
+use Rattle.acl_sets.proofs.LeastListLaws.{least_list-holds, normal-addresses}
+use Rattle.acl_sets.proofs.RangeLaws.{in_range, ends_of}
+use Rattle.acl_terms.specs.declared.terms.Term.{Term}
+use Rattle.acl_terms.specs.Matching.{foreign_of}
+use Rattle.acl_terms.specs.Resolved.{destination_in, has_protocol, source_in}
+use Rattle.acl_terms.specs.Slips.{is_tcp_or_udp}
+use Rattle.acl_expand.specs.TermRules.{client_ports, just, least_list, protocols_in, udp_ports}
+
+-- ---- tests
+
+pub and-true : (a : Bool) → (a && true) ≡ a
+and-true true = refl
+and-true false = refl
+
+pub or-true : (a : Bool) → (a || true) ≡ true
+or-true true = refl
+or-true false = refl
+
+pub or-false : (a : Bool) → (a || false) ≡ a
+or-false true = refl
+or-false false = refl
+
+-- ---- least lists
+
+end-of : (f : Family) (top : ℕ) → top ≡ top_address f → top + 1 ≡ 2 ^ width_of f
+end-of V4 top e = ap (λ n. n + 1) e
+end-of V6 top e = ap (λ n. n + 1) e
+
+pub least-holds : (f : Family) (s : Numbers) → s.top ≡ top_address f → IsNormal 0 s.top s.ranges → (a : ℕ)
+    → any_has (least_list f s) a ≡ holds s.ranges a
+least-holds f s e n a =
+    least_list-holds f (λ x. holds s.ranges x) (halved_space f s.ranges)
+    (normal-addresses f s.top s.ranges n (end-of f s.top e)) (halved_space-least f s.top s.ranges n) a
+
+pub source-top : (f : Family) (t : Term) → (source_in f t).top ≡ top_address f
+source-top V4 t = t.sound.src4_top
+source-top V6 t = t.sound.src6_top
+
+pub destination-top : (f : Family) (t : Term) → (destination_in f t).top ≡ top_address f
+destination-top V4 t = t.sound.dst4_top
+destination-top V6 t = t.sound.dst6_top
+
+-- ---- one number
+
+inside-just : (n x : ℕ) (b : Bool) → (x == n) ≡ b → (nat_le n x && nat_le x n) ≡ b
+inside-just n x true e = let s : x ≡ n = eqb-true x n e in in_range n n x (omega arith) (omega arith)
+inside-just n x false e =
+    false_from_ne_true (nat_le n x && nat_le x n) (λ h. let s = ends_of n n x h in
+    let q : x ≡ n = omega arith in both_ways (x == n) e (eq-eqb x n q))
+
+pub just-holds : (n x : ℕ) → holds (just n ∷ []) x ≡ (x == n)
+just-holds n x = or-false (nat_le n x && nat_le x n) ∙ inside-just n x (x == n) refl
+
+-- ---- protocols
+
+pub just-range : (n : ℕ) → AllByRecursion (λ r. IsRange n r) (just n ∷ [])
+just-range n = ((omega arith, omega arith), tt)
+
+all-or-not : (f : Family) (t : Term) (n : ℕ) (b : Bool) → is_all t.protos ≡ b
+    → holds (cond b t.protos (record { top = t.protos.top; ranges = cut_all (just (foreign_of f) ∷ []) t.protos.ranges })).ranges n
+    ≡ (holds t.protos.ranges n && (b || not (n == foreign_of f)))
+all-or-not f t n true e = sym (and-true (holds t.protos.ranges n))
+all-or-not f t n false e =
+    let k = foreign_of f in
+    cut_all-holds 0 t.protos.top k (just k ∷ []) t.protos.ranges n (just-range k) t.sound.protos_normal
+    ∙ ap (λ b. holds t.protos.ranges n && not b) (just-holds k n)
+
+pub protocol-holds : (f : Family) (t : Term) (n : ℕ) → holds (protocols_in f t).ranges n ≡ has_protocol f t n
+protocol-holds f t n = all-or-not f t n (is_all t.protos) refl
+
+held-6 : (f : Family) (t : Term) → has_protocol f t 6 ≡ holds t.protos.ranges 6
+held-6 V4 t = ap (λ b. holds t.protos.ranges 6 && b) (or-true (is_all t.protos)) ∙ and-true (holds t.protos.ranges 6)
+held-6 V6 t = ap (λ b. holds t.protos.ranges 6 && b) (or-true (is_all t.protos)) ∙ and-true (holds t.protos.ranges 6)
+
+held-17 : (f : Family) (t : Term) → has_protocol f t 17 ≡ holds t.protos.ranges 17
+held-17 V4 t = ap (λ b. holds t.protos.ranges 17 && b) (or-true (is_all t.protos)) ∙ and-true (holds t.protos.ranges 17)
+held-17 V6 t = ap (λ b. holds t.protos.ranges 17 && b) (or-true (is_all t.protos)) ∙ and-true (holds t.protos.ranges 17)
+
+-- Of TCP and UDP alone the family has what the term names.
+pub tcp-or-udp : (f : Family) (t : Term) (n : ℕ) (b c : Bool) → (n == 6) ≡ b → (n == 17) ≡ c
+    → Only is_tcp_or_udp t.protos
+    → has_protocol f t n ≡ ((b && holds t.protos.ranges 6) || (c && holds t.protos.ranges 17))
+tcp-or-udp f t n true true e d only =
+    let x : n ≡ 6 = eqb-true n 6 e in let y : n ≡ 17 = eqb-true n 17 d in absurd (omega arith)
+tcp-or-udp f t n true false e d only =
+    ap (λ x. has_protocol f t x) (eqb-true n 6 e) ∙ held-6 f t ∙ sym (or-false (holds t.protos.ranges 6))
+tcp-or-udp f t n false true e d only = ap (λ x. has_protocol f t x) (eqb-true n 17 d) ∙ held-17 f t
+tcp-or-udp f t n false false e d only =
+    and_left (holds t.protos.ranges n) (is_all t.protos || not (n == foreign_of f))
+    (false_from_ne_true (holds t.protos.ranges n) (λ h. both_ways (n == 6 || n == 17)
+    (or_from (n == 6) (n == 17) e d) (only n h)))
+
+-- ---- the ports of UDP
+
+client-holds : (x : ℕ) → x < 65536 → holds client_ports.ranges x ≡ nat_le 1024 x
+client-holds x h =
+    let within : nat_le x 65535 ≡ true = le-leb x 65535 (omega arith) in
+    or-false (nat_le 1024 x && nat_le x 65535) ∙ ap (λ b. nat_le 1024 x && b) within ∙ and-true (nat_le 1024 x)
+
+pub all-held : (s : Numbers) (x : ℕ) → is_all s ≡ true → x ≤ s.top → holds s.ranges x ≡ true
+all-held s x e h = covers-holds s.ranges 0 s.top x e (omega arith) h
+
+ports-named : (t : Term) (x : ℕ) (b : Bool) → t.dport_named ≡ b → x < 65536
+    → holds (cond b t.dports client_ports).ranges x ≡ (holds t.dports.ranges x && (b || nat_le 1024 x))
+ports-named t x true e h = sym (and-true (holds t.dports.ranges x))
+ports-named t x false e h =
+    let top = t.sound.dports_top in
+    client-holds x h ∙ sym (ap (λ b. b && nat_le 1024 x)
+    (all-held t.dports x (t.sound.dports_named e) (omega (arith, top))))
+
+pub udp-holds : (t : Term) (x : ℕ) → x < 65536
+    → holds (udp_ports t).ranges x ≡ (holds t.dports.ranges x && (t.dport_named || nat_le 1024 x))
+udp-holds t x h = ports-named t x t.dport_named refl h

@@ -1,0 +1,3 @@
+pub mod Expansions
+pub mod ExpansionSlips
+pub mod TermRules

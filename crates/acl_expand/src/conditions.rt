@@ -1,0 +1,140 @@
+ghost use Rattle.std.specs.Prelude.{◌≡◌, ◌+◌, ◌^◌, ◌≤◌, [], ◌∷◌, IfOk, codes};
+ghost use Rattle.acl_packet.specs.Addresses.{top_address};
+ghost use Rattle.acl_terms.specs.Matching.{foreign_of};
+ghost use Rattle.acl_expand.specs.TermRules.{
+  client_ports,
+  just,
+  only_protocol,
+  protocols_in,
+  tcp_half,
+  udp_alone,
+  udp_half,
+  udp_ports,
+  whole,
+};
+
+use acl_packet::Family;
+use acl_platform::Test;
+use acl_sets::{Range, RangeSet};
+use acl_terms::Term;
+use acl_text::{Bytes, Memory};
+use std::alloc::Global;
+
+/// What a rule has beside what its term gives it: the end of its name, its protocols, its destination ports and
+/// its test.
+#[derive(Drop)]
+pub(crate) struct Conditions {
+    pub suffix: Bytes,
+    pub protos: RangeSet,
+    pub dports: RangeSet,
+    pub test: Test,
+}
+
+const TOP_PROTOCOL: u128 = 255;
+
+const TOP_PORT: u128 = 65535;
+
+fn only_protocol(alloc: Global, number: u8) -> Result<RangeSet, Memory>
+    ensures { IfOk result (λ s. s ≡ only_protocol number) }
+{
+    let number = u128::from(number);
+    let range = Range {
+        low: number,
+        high: number,
+    };
+    RangeSet::from_ranges(alloc, TOP_PROTOCOL, &[range])
+}
+
+fn client_ports(alloc: Global) -> Result<RangeSet, Memory>
+    ensures { IfOk result (λ s. s ≡ client_ports) }
+{
+    let range = Range {
+        low: 1024,
+        high: TOP_PORT,
+    };
+    RangeSet::from_ranges(alloc, TOP_PORT, &[range])
+}
+
+// The number of the other family's ICMP.
+fn foreign_of(family: Family) -> u8
+    ensures { result ≡ foreign_of family }
+{
+    match family {
+        Family::V4 => 58,
+        Family::V6 => 1,
+    }
+}
+
+fn protocols_in(alloc: Global, family: Family, term: &Term) -> Result<RangeSet, Memory>
+    ensures { IfOk result (λ s. s ≡ protocols_in family term.now) }
+{
+    if term.protos.is_all() {
+        term.protos.copy(alloc)
+    } else {
+        let foreign = only_protocol(alloc, foreign_of(family))?;
+        term.protos.subtract(alloc, &foreign)
+    }
+}
+
+fn udp_ports(alloc: Global, term: &Term) -> Result<RangeSet, Memory>
+    ensures { IfOk result (λ s. s ≡ udp_ports term.now) }
+{
+    if term.dport_named {
+        term.dports.copy(alloc)
+    } else {
+        client_ports(alloc)
+    }
+}
+
+/// The term's own protocols and ports, with a test.
+pub(crate) fn whole(
+    alloc: Global,
+    family: Family,
+    term: &Term,
+    test: Test,
+) -> Result<Conditions, Memory>
+    ensures { IfOk result (λ c. c ≡ whole family term.now test) }
+{
+    Ok(Conditions {
+        suffix: Bytes::new(alloc),
+        protos: protocols_in(alloc, family, term)?,
+        dports: term.dports.copy(alloc)?,
+        test,
+    })
+}
+
+/// Those of `established` over UDP alone.
+pub(crate) fn udp_alone(alloc: Global, family: Family, term: &Term) -> Result<Conditions, Memory>
+    ensures { IfOk result (λ c. c ≡ udp_alone family term.now) }
+{
+    Ok(Conditions {
+        suffix: Bytes::new(alloc),
+        protos: protocols_in(alloc, family, term)?,
+        dports: udp_ports(alloc, term)?,
+        test: Test::Plain,
+    })
+}
+
+/// Those of `established` over TCP, where UDP has a rule of its own.
+pub(crate) fn tcp_half(alloc: Global, term: &Term) -> Result<Conditions, Memory>
+    ensures { IfOk result (λ c. c ≡ tcp_half term.now) }
+{
+    Ok(Conditions {
+        suffix: Bytes::from_slice(alloc, b"-tcp")?,
+        protos: only_protocol(alloc, 6)?,
+        dports: term.dports.copy(alloc)?,
+        test: Test::AckOrRst,
+    })
+}
+
+/// Those of `established` over UDP, where TCP has a rule of its own.
+pub(crate) fn udp_half(alloc: Global, term: &Term) -> Result<Conditions, Memory>
+    ensures { IfOk result (λ c. c ≡ udp_half term.now) }
+{
+    Ok(Conditions {
+        suffix: Bytes::from_slice(alloc, b"-udp")?,
+        protos: only_protocol(alloc, 17)?,
+        dports: udp_ports(alloc, term)?,
+        test: Test::Plain,
+    })
+}

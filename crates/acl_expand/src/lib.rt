@@ -1,0 +1,13 @@
+//! From the terms of a policy to the rules of a filter.
+#![tactic(auto)]
+
+mod conditions;
+mod expanding;
+mod laws;
+mod rule_making;
+mod slips;
+#[cfg(test)]
+mod tests;
+
+pub use expanding::expand;
+pub use laws::filters_decide_as_written;

@@ -1,0 +1,267 @@
+ghost use Rattle.std.specs.Prelude.{◌≡◌, ◌+◌, ◌^◌, ◌++◌, [], ◌∷◌, IfOk, OnOk, map, flat_map, false};
+ghost use Rattle.acl_packet.specs.Addresses.{width_of};
+ghost use Rattle.acl_sets.specs.Ranges.{holds};
+ghost use Rattle.acl_terms.specs.Outcomes.{denied, mode_of};
+ghost use Rattle.acl_terms.specs.Resolved.{destination_in, is_term_live, source_in};
+ghost use Rattle.acl_expand.specs.TermRules.{
+  conditions_by,
+  established_conditions,
+  family_rules,
+  least_list,
+  members,
+  rule_of,
+  tcp_half,
+  term_rules,
+  udp_alone,
+  udp_half,
+  verdict_on,
+  whole,
+};
+
+use crate::conditions::{Conditions, tcp_half, udp_alone, udp_half, whole};
+use acl_host::Day;
+use acl_packet::{Families, Family, Verdict};
+use acl_platform::{Rule, Rules, Test};
+use acl_sets::{Prefixes, least_prefixes};
+use acl_target::{Kind, Target};
+use acl_terms::{Mode, Opt, Term, is_empty_in, is_live};
+use acl_text::{Bytes, Memory};
+use std::alloc::Global;
+
+fn denied(verdict: Verdict) -> Verdict
+    ensures { result ≡ denied verdict }
+{
+    match verdict {
+        Verdict::Reject | Verdict::Reset => Verdict::Deny,
+        Verdict::Accept | Verdict::Deny | Verdict::Left => verdict,
+    }
+}
+
+fn verdict_on(kind: Kind, verdict: Verdict) -> Verdict
+    ensures { result ≡ verdict_on kind verdict }
+{
+    match kind {
+        Kind::Cisco => denied(verdict),
+        Kind::Juniper | Kind::Iptables | Kind::Nftables => verdict,
+    }
+}
+
+// The least list of the term's sources in the family.
+fn sources(alloc: Global, family: Family, term: &Term) -> Result<Prefixes, Memory>
+    ensures { IfOk result (λ ps. ps ≡ least_list family (source_in family term.now)) }
+{
+    match family {
+        Family::V4 => least_prefixes(alloc, &term.src4, Family::V4),
+        Family::V6 => least_prefixes(alloc, &term.src6, Family::V6),
+    }
+}
+
+// The least list of its destinations.
+fn destinations(alloc: Global, family: Family, term: &Term) -> Result<Prefixes, Memory>
+    ensures { IfOk result (λ ps. ps ≡ least_list family (destination_in family term.now)) }
+{
+    match family {
+        Family::V4 => least_prefixes(alloc, &term.dst4, Family::V4),
+        Family::V6 => least_prefixes(alloc, &term.dst6, Family::V6),
+    }
+}
+
+fn rule_name(alloc: Global, term: &Term, suffix: &Bytes) -> Result<Bytes, Memory>
+    ensures { IfOk result (λ b. b ≡ term.now.name ++ suffix.now) }
+{
+    let mut name = Bytes::from_slice(alloc, term.name.as_slice())?;
+    name.push_all(suffix.as_slice())?;
+    Ok(name)
+}
+
+fn rule_of(
+    alloc: Global,
+    kind: Kind,
+    family: Family,
+    term: &Term,
+    conditions: Conditions,
+) -> Result<Rule, Memory>
+    ensures { IfOk result (λ r. r ≡ rule_of kind family term.now conditions) }
+{
+    Ok(Rule {
+        name: rule_name(alloc, term, &conditions.suffix)?,
+        place: term.place,
+        note: Bytes::from_slice(alloc, term.note.as_slice())?,
+        family,
+        src: sources(alloc, family, term)?,
+        dst: destinations(alloc, family, term)?,
+        protos: conditions.protos,
+        sports: term.sports.copy(alloc)?,
+        dports: conditions.dports,
+        itypes: term.itypes.copy(alloc)?,
+        test: conditions.test,
+        verdict: verdict_on(kind, term.verdict),
+        log: term.log,
+    })
+}
+
+// Adds the rule of the term with the conditions at the end.
+fn push_rule(
+    alloc: Global,
+    rules: &mut Rules,
+    kind: Kind,
+    family: Family,
+    term: &Term,
+    conditions: Conditions,
+) -> Result<(), Memory>
+    ensures { OnOk result (rules.new ≡ rules.old ++ rule_of kind family term.now conditions ∷ []) }
+{
+    rules.push(rule_of(alloc, kind, family, term, conditions)?)
+}
+
+// The same with the term's own protocols and ports, and a test.
+fn push_whole(
+    alloc: Global,
+    rules: &mut Rules,
+    kind: Kind,
+    family: Family,
+    term: &Term,
+    test: Test,
+) -> Result<(), Memory>
+    ensures { OnOk result (rules.new ≡ rules.old ++ rule_of kind family term.now (whole family term.now test) ∷ []) }
+{
+    let conditions = whole(alloc, family, term, test)?;
+    push_rule(alloc, rules, kind, family, term, conditions)
+}
+
+// The two rules of `established` over TCP and UDP, where connections are not known.
+fn push_halves(
+    alloc: Global,
+    rules: &mut Rules,
+    kind: Kind,
+    family: Family,
+    term: &Term,
+) -> Result<(), Memory>
+    ensures { OnOk result (rules.new ≡ rules.old
+        ++ map (rule_of kind family term.now) (tcp_half term.now ∷ udp_half term.now ∷ [])) }
+{
+    let tcp = tcp_half(alloc, term)?;
+    push_rule(alloc, rules, kind, family, term, tcp)?;
+    let udp = udp_half(alloc, term)?;
+    push_rule(alloc, rules, kind, family, term, udp)
+}
+
+fn push_udp(
+    alloc: Global,
+    rules: &mut Rules,
+    kind: Kind,
+    family: Family,
+    term: &Term,
+) -> Result<(), Memory>
+    ensures { OnOk result (rules.new ≡ rules.old ++ rule_of kind family term.now (udp_alone family term.now) ∷ []) }
+{
+    let udp = udp_alone(alloc, family, term)?;
+    push_rule(alloc, rules, kind, family, term, udp)
+}
+
+// The rules of `established` where connections are not known.
+fn push_established(
+    alloc: Global,
+    rules: &mut Rules,
+    kind: Kind,
+    family: Family,
+    term: &Term,
+) -> Result<(), Memory>
+    ensures { OnOk result (rules.new ≡ rules.old ++ map (rule_of kind family term.now)
+        (conditions_by Opt.Established Mode.Stateless family term.now)) }
+{
+    match (term.protos.contains(6), term.protos.contains(17)) {
+        (true, true) => push_halves(alloc, rules, kind, family, term),
+        (true, false) => push_whole(alloc, rules, kind, family, term, Test::AckOrRst),
+        (false, _) => push_udp(alloc, rules, kind, family, term),
+    }
+}
+
+// The rules of the term in a family in which it is not empty.
+fn push_by_option(
+    alloc: Global,
+    rules: &mut Rules,
+    kind: Kind,
+    mode: Mode,
+    family: Family,
+    term: &Term,
+) -> Result<(), Memory>
+    ensures { OnOk result (rules.new ≡ rules.old
+        ++ map (rule_of kind family term.now) (conditions_by term.now.option mode family term.now)) }
+{
+    let test = match (term.option, mode) {
+        (Opt::Established, Mode::Stateless) => {
+            return push_established(alloc, rules, kind, family, term);
+        }
+        (Opt::Plain, _) => Test::Plain,
+        (Opt::Established | Opt::TcpEstablished, Mode::Stateful) => Test::State,
+        (Opt::TcpEstablished, Mode::Stateless) => Test::AckOrRst,
+        (Opt::TcpInitial, _) => Test::SynNotAck,
+        (Opt::Rst, _) => Test::Rst,
+    };
+    push_whole(alloc, rules, kind, family, term, test)
+}
+
+fn mode_of(target: &Target) -> Mode
+    ensures { result ≡ mode_of target.now }
+{
+    if target.stateful {
+        Mode::Stateful
+    } else {
+        Mode::Stateless
+    }
+}
+
+// Adds the rules of the term in the family.
+#[tactic(auto, unfolding(crate::specs::TermRules::family_rules))]
+fn push_family(
+    alloc: Global,
+    rules: &mut Rules,
+    target: &Target,
+    family: Family,
+    term: &Term,
+) -> Result<(), Memory>
+    ensures { OnOk result (rules.new ≡ rules.old ++ family_rules target.now term.now family) }
+{
+    if is_empty_in(term, family) {
+        return Ok(());
+    }
+    push_by_option(alloc, rules, target.kind, mode_of(target), family, term)
+}
+
+// Adds the rules of the term in each family of the target.
+fn push_families(
+    alloc: Global,
+    rules: &mut Rules,
+    target: &Target,
+    term: &Term,
+) -> Result<(), Memory>
+    ensures { OnOk result (rules.new ≡ rules.old
+        ++ flat_map (family_rules target.now term.now) (members target.now.families)) }
+{
+    match target.families {
+        Families::Inet => push_family(alloc, rules, target, Family::V4, term),
+        Families::Inet6 => push_family(alloc, rules, target, Family::V6, term),
+        Families::Mixed => {
+            push_family(alloc, rules, target, Family::V4, term)?;
+            push_family(alloc, rules, target, Family::V6, term)
+        }
+    }
+}
+
+/// Adds the rules of the term on the target, where it is live there that day.
+#[tactic(auto, unfolding(crate::specs::TermRules::term_rules))]
+pub(crate) fn push_term(
+    alloc: Global,
+    rules: &mut Rules,
+    target: &Target,
+    today: Day,
+    term: &Term,
+) -> Result<(), Memory>
+    ensures { OnOk result (rules.new ≡ rules.old ++ term_rules target.now today term.now) }
+{
+    if !is_live(term, target.kind, today) {
+        return Ok(());
+    }
+    push_families(alloc, rules, target, term)
+}

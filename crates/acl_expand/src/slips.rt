@@ -1,0 +1,127 @@
+ghost use Rattle.std.specs.Prelude.{◌≡◌, ◌+◌, ◌-◌, ◌≤◌, ◌^◌, min, IfOk, decimal};
+ghost use Rattle.std.specs.List.{find};
+ghost use Rattle.acl_naming.specs.Checking.{IsRefusal};
+ghost use Rattle.acl_terms.specs.Slips.{Judges};
+ghost use Rattle.acl_sets.specs.Ranges.{holds};
+ghost use Rattle.acl_expand.specs.ExpansionSlips.{
+  extension_headers,
+  header_at,
+  header_named,
+  header_slip,
+  is_for_ipv6,
+  most_prefixes,
+  prefix_slip,
+  prefixes_of,
+  rule_prefixes,
+};
+
+use acl_host::Day;
+use acl_packet::Family;
+use acl_platform::Rule;
+use acl_sets::RangeSet;
+use acl_target::Target;
+use acl_terms::{Term, is_empty_in, is_live};
+use acl_text::{Bytes, Code, Memory, Place, Refusal, Slip};
+use itoa::Buffer;
+use std::alloc::Global;
+
+const EXTENSION_HEADERS: [u8; 8] = [43, 44, 51, 59, 60, 135, 139, 140];
+
+pub(crate) const MOST_PREFIXES: u64 = 200_000;
+
+// The first of the numbers that is in the set.
+fn first_held(protos: &RangeSet, numbers: &[u8]) -> Option<u8>
+    ensures { result ≡ find (λ n. holds protos.now.ranges n) numbers.now }
+{
+    numbers
+        .iter()
+        .copied()
+        .find(|n| protos.contains(u128::from(*n)))
+}
+
+fn header_named(term: &Term) -> Option<u8>
+    ensures { result ≡ header_named term.now }
+{
+    if term.protos.is_all() {
+        return None;
+    }
+    first_held(&term.protos, &EXTENSION_HEADERS)
+}
+
+fn is_for_ipv6(target: &Target, today: Day, term: &Term) -> bool
+    ensures { result ≡ is_for_ipv6 target.now today term.now }
+{
+    is_live(term, target.kind, today)
+        && target.families.covers(Family::V6)
+        && !is_empty_in(term, Family::V6)
+}
+
+fn decimal(alloc: Global, number: u8) -> Result<Bytes, Memory>
+    ensures { IfOk result (λ b. b ≡ decimal number) }
+{
+    let mut buffer = Buffer::new();
+    Bytes::from_slice(alloc, buffer.format(number).as_bytes())
+}
+
+fn refusal_at(alloc: Global, code: Code, place: Place, word: &[u8]) -> Refusal
+    ensures { IsRefusal (record { code = code; place = place; word = word.now }) result }
+{
+    match Bytes::from_slice(alloc, word) {
+        Ok(word) => Refusal::Slip(Slip { code, place, word }),
+        Err(_) => Refusal::Memory,
+    }
+}
+
+fn check_no_header(alloc: Global, term: &Term) -> Result<(), Refusal>
+    ensures { Judges result (header_at term.now (header_named term.now)) }
+{
+    match header_named(term) {
+        None => Ok(()),
+        Some(number) => {
+            let word = decimal(alloc, number)?;
+            Err(refusal_at(alloc, Code::ExtensionHeader, term.place, word.as_slice()))
+        }
+    }
+}
+
+/// Whether the term has rules for IPv6 on the target and names no extension header, else the slip at the least one.
+#[tactic(auto, unfolding(crate::specs::ExpansionSlips::header_slip))]
+pub(crate) fn check_header(
+    alloc: Global,
+    target: &Target,
+    today: Day,
+    term: &Term,
+) -> Result<(), Refusal>
+    ensures { Judges result (header_slip target.now today term.now) }
+{
+    if is_for_ipv6(target, today, term) {
+        check_no_header(alloc, term)
+    } else {
+        Ok(())
+    }
+}
+
+/// The slip at the term where the filter has too many prefixes with its rules.
+pub(crate) fn check_prefixes(alloc: Global, term: &Term, prefixes: u64) -> Result<(), Refusal>
+    ensures { Judges result (prefix_slip term.now prefixes) }
+{
+    if prefixes <= MOST_PREFIXES {
+        Ok(())
+    } else {
+        let name = term.name.as_slice();
+        Err(refusal_at(alloc, Code::TooManyPrefixes, term.place, name))
+    }
+}
+
+/// The number of prefixes of the rules' lists, from a number on; it stands still at the end of its type.
+pub(crate) fn prefixes_behind(before: u64, rules: &[Rule]) -> u64
+    ensures { result ≡ min (before + prefixes_of rules.now) (2 ^ 64 - 1) }
+{
+    let mut count = before;
+    for rule in rules {
+        count = count
+            .saturating_add(rule.src.as_slice().len() as u64)
+            .saturating_add(rule.dst.as_slice().len() as u64);
+    }
+    count
+}
