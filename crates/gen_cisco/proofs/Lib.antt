@@ -1,5 +1,3 @@
-pub mod Counts
-pub mod Decides
-pub mod Names
-pub mod RowsOfItems
-pub mod Valid
+pub mod EntryCounts
+pub mod ListNames
+pub mod Rows

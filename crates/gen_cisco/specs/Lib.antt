@@ -1,3 +1,10 @@
-pub mod CountingSteps
-pub mod Rules
+pub mod CountSteps
+pub mod DecisionLaws
+pub mod EntryLaws
+pub mod Limits
+pub mod NameLaws
+pub mod PartLaws
+pub mod RowSteps
+pub mod SectionLaws
+pub mod SectionNames
 pub mod Sections

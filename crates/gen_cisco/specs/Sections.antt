@@ -1,64 +1,121 @@
--- The section of a Cisco document that a filter's rules become, and how many entries it has.
-use Rattle.std.specs.Prelude.{ℕ, Bool, false, List, [], ◌∷◌, map, flat_map, count_by, Option, None}
-use Rattle.acl_packet.specs.declared.addresses.Family.TheVariants.{V4}
-use Rattle.acl_packet.specs.declared.addresses.Families.TheVariants.{Inet}
+-- The section of a Cisco document that a filter becomes, and how many entries it has. The form of
+-- a section is aclgen's own; what its lines mean is said by the language.
+use Rattle.std.specs.Prelude.{ℕ, Bool, true, false, if◌then◌else◌, List, [], ◌∷◌, ◌++◌, map, flat_map, count_by, Option, None, Some}
+use Rattle.acl_packet.specs.declared.addresses.Family.{Family}
+use Rattle.acl_packet.specs.declared.addresses.Family.TheVariants.{V4, V6}
 use Rattle.acl_packet.specs.declared.addresses.Prefix.{Prefix}
+use Rattle.acl_packet.specs.declared.filtering.Verdict.{Verdict}
+use Rattle.acl_packet.specs.declared.filtering.Verdict.TheVariants.{Accept}
+use Rattle.acl_packet.specs.Addresses.{same_family}
+use Rattle.acl_platform.specs.declared.combinations.Combination.{Combination}
+use Rattle.acl_platform.specs.declared.filters.Filter.{Filter}
+use Rattle.acl_platform.specs.declared.rules.Rule.{Rule}
+use Rattle.acl_platform.specs.declared.rules.Test.{Test}
+use Rattle.acl_platform.specs.declared.rules.Test.TheVariants.{Plain, AckOrRst, SynNotAck, Rst, State}
+use Rattle.acl_platform.specs.Combinations.{combinations}
 use Rattle.cisco_lang.specs.declared.documents.Section.{Section}
+use Rattle.cisco_lang.specs.declared.documents.AccessList.{AccessList}
 use Rattle.cisco_lang.specs.declared.documents.Item.{Item}
 use Rattle.cisco_lang.specs.declared.documents.Item.TheVariants.{Remark, Entry as AnEntry}
 use Rattle.cisco_lang.specs.declared.documents.Entry.{Entry}
+use Rattle.cisco_lang.specs.declared.documents.Flags.{Flags}
+use Rattle.cisco_lang.specs.declared.documents.Flags.TheVariants as flags
+use Rattle.cisco_lang.specs.Documents.{heads_of}
 use Rattle.cisco_lang.specs.Walks.{is_entry}
-use Rattle.gen_cisco.specs.declared.rules.Rule.{Rule}
 
--- An entry without ports, type, flags and log.
-abbrev pub plain_entry : Bool → Option ℕ → Prefix → Prefix → Entry
-plain_entry permit proto src dst = record {
+-- The flags of an entry. A router follows no connection, so that no rule for it asks for one.
+abbrev pub flags_of : Test → Option Flags
+flags_of Plain = None
+flags_of AckOrRst = Some flags.Established
+flags_of SynNotAck = Some flags.SynNotAck
+flags_of Rst = Some flags.Rst
+flags_of State = None
+
+abbrev pub permits : Verdict → Bool
+permits Accept = true
+permits verdict = false
+
+-- The entry of a combination of a rule's parts.
+abbrev pub entry_of : Rule → Combination → Entry
+entry_of r c = record {
+  permit = permits r.verdict;
+  proto = c.proto;
+  src = c.src;
+  sport = c.sport;
+  dst = c.dst;
+  dport = c.dport;
+  itype = c.itype;
+  flags = flags_of r.test;
+  log = r.log;
+}
+
+-- A note that is empty is not written.
+abbrev pub notes : List ℕ → List (List ℕ)
+notes [] = []
+notes (b ∷ bs) = (b ∷ bs) ∷ []
+
+-- The remarks of a rule are its name and its note.
+abbrev pub remarks : Rule → List (List ℕ)
+remarks r = r.name ∷ notes r.note
+
+-- A rule is its remarks, and behind them an entry for each combination.
+abbrev pub rule_items : Rule → List Item
+rule_items r = map (λ text. Remark text) (remarks r)
+    ++ map (λ c. AnEntry (entry_of r c)) (combinations r)
+
+abbrev pub everywhere : Family → Prefix
+everywhere family = record { family = family; first = 0; len = 0 }
+
+-- An entry for a protocol or all of them, and a type or all of them, from everywhere to everywhere.
+abbrev pub wide_entry : Family → Bool → Option ℕ → Option ℕ → Entry
+wide_entry family permit proto itype = record {
   permit = permit;
   proto = proto;
-  src = src;
+  src = everywhere family;
   sport = None;
-  dst = dst;
+  dst = everywhere family;
   dport = None;
-  itype = None;
+  itype = itype;
   flags = None;
   log = false;
 }
 
--- From one source to each destination.
-abbrev pub source_entries : Rule → Prefix → List Item
-source_entries rule src = map (λ dst. AnEntry (plain_entry rule.permit rule.proto src dst)) rule.dst
+-- What the end of a list does, as entries: all is denied, in IPv6 behind neighbour advertisements,
+-- 136, and solicitations, 135 (RFC 4861 section 4), which are permitted.
+abbrev pub closing_entries : Family → List Entry
+closing_entries V4 = wide_entry V4 false None None ∷ []
+closing_entries V6 = wide_entry V6 true (Some 58) (Some 136) ∷ wide_entry V6 true (Some 58) (Some 135)
+    ∷ wide_entry V6 false None None ∷ []
 
--- One entry for each combination, the source outermost.
-abbrev pub rule_entries : Rule → List Item
-rule_entries rule = flat_map (source_entries rule) rule.src
+-- A list without an entry would accept all packets, so one without a rule has the closing entries.
+abbrev pub closed : Family → List Item → List Item
+closed family [] = map (λ e. AnEntry e) (closing_entries family)
+closed family (item ∷ items) = item ∷ items
 
--- The rule's name stands before its entries; a rule without entries is not written.
-abbrev pub with_remark : List ℕ → List Item → List Item
-with_remark name [] = []
-with_remark name (item ∷ items) = Remark name ∷ item ∷ items
+-- What a rule gives a list of the family.
+abbrev pub items_in : Family → Rule → List Item
+items_in family r = if same_family r.family family then rule_items r else []
 
-abbrev pub rule_items : Rule → List Item
-rule_items rule = with_remark rule.name (rule_entries rule)
+abbrev pub list_items : Family → List Rule → List Item
+list_items family rules = closed family (flat_map (items_in family) rules)
 
-abbrev pub everywhere : Prefix
-everywhere = record { family = V4; first = 0; len = 0 }
+-- The list of a family and a name.
+abbrev pub list_of : List Rule → Family × List ℕ → AccessList
+list_of rules head =
+    record { family = head.0; name = head.1; items = list_items head.0 rules }
 
--- A list without an entry would accept all packets, so one that denies all stands in it.
-abbrev pub closed : List Item → List Item
-closed [] = AnEntry (plain_entry false None everywhere everywhere) ∷ []
-closed (item ∷ items) = item ∷ items
-
-abbrev pub list_items : List Rule → List Item
-list_items rules = closed (flat_map rule_items rules)
-
--- The section: one IPv4 list, which has the filter's name.
-abbrev pub section_of : List ℕ → List Rule → Section
-section_of name rules = record {
-  name = name;
-  families = Inet;
-  lists = record { family = V4; name = name; items = list_items rules } ∷ [];
+-- The section has a list for each of the filter's families.
+abbrev pub section_of : Filter → Section
+section_of f = record {
+  name = f.name;
+  families = f.families;
+  lists = map (list_of f.rules) (heads_of f.families f.name);
 }
 
--- The number of its entries, the closing one included.
-abbrev pub entry_count : List Rule → ℕ
-entry_count rules = count_by is_entry (list_items rules)
+-- The names of a section's lists.
+abbrev pub list_names : Section → List (List ℕ)
+list_names s = map (λ l. l.name) s.lists
+
+-- The number of entries of all its lists, closing ones included.
+abbrev pub entry_count : Filter → ℕ
+entry_count f = count_by is_entry (flat_map (λ l. l.items) (section_of f).lists)

@@ -1,10 +1,13 @@
-//! Cisco IOS access lists from the rules of a filter.
+//! Cisco IOS access lists from filters.
 #![tactic(auto)]
 
-mod rules;
-mod sections;
+mod cisco;
+mod counts;
+mod laws;
+mod limits;
+mod section_rows;
 #[cfg(test)]
 mod tests;
 
-pub use rules::{Rule, Rules};
-pub use sections::{entry_count, put_section};
+pub use cisco::Cisco;
+pub use laws::{a_section_begins_with_its_target, targets_without_clash_have_different_lists};

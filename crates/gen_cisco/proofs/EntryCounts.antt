@@ -1,0 +1,192 @@
+-- How many entries a section has.
+use Rattle.std.proofs.Common.{◌≡◌, ℕ, ◌+◌, ◌<◌, ◌≤◌, min, Bool, true, false, ◌||◌, cond, List, [], ◌∷◌, ◌++◌, length, map, flat_map, count_by, drop, get_or, Option, None, Some, is_some, inl, inr, refl, ap, sym, ◌∙◌, append-nil, arith}
+use Rattle.std.specs.List.{list_any}
+use Rattle.std.specs.Option.{option_or}
+use Rattle.std.proofs.lemmas.Bool.{cases_lt, lt-ltb, or_parts, true≢false}
+use Rattle.std.proofs.lemmas.List.{drop_all, drop_more}
+use Rattle.std.proofs.lemmas.List.Sums.{sum_by-append, sum_by-cons}
+use Rattle.acl_packet.specs.declared.addresses.Families.{Families}
+use Rattle.acl_packet.specs.declared.addresses.Families.TheVariants.{Inet, Inet6, Mixed}
+use Rattle.acl_packet.specs.declared.addresses.Family.{Family}
+use Rattle.acl_packet.specs.declared.addresses.Family.TheVariants.{V4, V6}
+use Rattle.acl_packet.specs.Addresses.{same_family}
+use Rattle.acl_text.specs.Output.{COUNT_END}
+use Rattle.acl_platform.specs.declared.combinations.Combination.{Combination}
+use Rattle.acl_platform.specs.declared.filters.Filter.{Filter}
+use Rattle.acl_platform.specs.declared.filters.Limit.{Limit}
+use Rattle.acl_platform.specs.declared.filters.Limit.TheVariants.{TooManyEntries}
+use Rattle.acl_platform.specs.declared.rules.Rule.{Rule}
+use Rattle.acl_platform.specs.Combinations.{combinations}
+use Rattle.acl_platform.specs.Platforms.{judged}
+use Rattle.cisco_lang.specs.declared.documents.Item.{Item}
+use Rattle.cisco_lang.specs.declared.documents.Item.TheVariants.{Remark, Entry as AnEntry}
+use Rattle.cisco_lang.specs.Documents.{heads_of}
+use Rattle.cisco_lang.specs.Walks.{is_entry}
+use Rattle.gen_cisco.specs.CountSteps.{closing_count, combinations_in, rule_count}
+use Rattle.gen_cisco.specs.Limits.{count_limit, first_limit, limit_of, rule_limit}
+use Rattle.gen_cisco.specs.Sections.{closed, closing_entries, entry_count, entry_of, items_in, list_items, list_of, remarks, rule_items}
+
+abbrev pub entries : List Item → ℕ
+entries items = count_by is_entry items
+
+abbrev one : Item → ℕ
+one item = cond (is_entry item) 1 0
+
+entries-cons : (x : Item) (xs : List Item) → entries (x ∷ xs) ≡ cond (is_entry x) 1 0 + entries xs
+entries-cons x xs = sum_by-cons one x xs
+
+entries-append : (xs ys : List Item) → entries (xs ++ ys) ≡ entries xs + entries ys
+entries-append xs ys = sum_by-append one xs ys
+
+no-entry : (texts : List (List ℕ)) → entries (map (λ text. Remark text) texts) ≡ 0
+no-entry [] = refl
+no-entry (text ∷ texts) =
+    let step = entries-cons (Remark text) (map (λ t. Remark t) texts) in
+    let rest = no-entry texts in
+    omega (arith, step, rest)
+
+each-entry : (r : Rule) (cs : List Combination) → entries (map (λ c. AnEntry (entry_of r c)) cs) ≡ length cs
+each-entry r [] = refl
+each-entry r (c ∷ cs) =
+    let step = entries-cons (AnEntry (entry_of r c)) (map (λ d. AnEntry (entry_of r d)) cs) in
+    let rest = each-entry r cs in
+    omega (arith, step, rest)
+
+entries-of : (r : Rule) → entries (rule_items r) ≡ length (combinations r)
+entries-of r =
+    let both = entries-append (map (λ text. Remark text) (remarks r)) (map (λ c. AnEntry (entry_of r c)) (combinations r)) in
+    let none = no-entry (remarks r) in
+    let all = each-entry r (combinations r) in
+    omega (arith, both, none, all)
+
+entries-by : (r : Rule) (b : Bool) → entries (cond b (rule_items r) []) ≡ cond b (length (combinations r)) 0
+entries-by r true = entries-of r
+entries-by r false = refl
+
+entries-in : (family : Family) (rules : List Rule) → entries (flat_map (items_in family) rules) ≡ combinations_in family rules
+unfolding combinations_in
+entries-in family [] = refl
+entries-in family (r ∷ rules) =
+    let both = entries-append (items_in family r) (flat_map (items_in family) rules) in
+    let here = entries-by r (same_family r.family family) in
+    let rest = entries-in family rules in
+    omega (arith, both, here, rest)
+
+-- ---- the closing entries stand in a list without a rule alone
+
+no-items-by : (r : Rule) (b : Bool) (rest : List Item) → b ≡ false → cond b (rule_items r) [] ++ rest ≡ rest
+no-items-by r true rest h = absurd (true≢false h)
+no-items-by r false rest h = refl
+
+pub no-items : (family : Family) (rules : List Rule) → list_any (λ r. same_family r.family family) rules ≡ false → flat_map (items_in family) rules ≡ []
+no-items family [] h = refl
+no-items family (r ∷ rules) h =
+    let p = or_parts (same_family r.family family) (list_any (λ q. same_family q.family family) rules) h in
+    no-items-by r (same_family r.family family) (flat_map (items_in family) rules) p.0 ∙ no-items family rules p.1
+
+same-by : (family : Family) (r : Rule) (b : Bool) (later : Bool) (rest : List Item) → (b || later) ≡ true → (later ≡ true → closed family rest ≡ rest)
+    → closed family (cond b (rule_items r) [] ++ rest) ≡ cond b (rule_items r) [] ++ rest
+same-by family r true later rest h k = refl
+same-by family r false later rest h k = k h
+
+pub same-items : (family : Family) (rules : List Rule) → list_any (λ r. same_family r.family family) rules ≡ true
+    → list_items family rules ≡ flat_map (items_in family) rules
+same-items family [] h = absurd (true≢false (sym h))
+same-items family (r ∷ rules) h =
+    same-by family r (same_family r.family family) (list_any (λ q. same_family q.family family) rules) (flat_map (items_in family) rules) h
+    (same-items family rules)
+
+pub closing-items : (family : Family) (rules : List Rule) → list_any (λ r. same_family r.family family) rules ≡ false
+    → list_items family rules ≡ map (λ e. AnEntry e) (closing_entries family)
+closing-items family rules h = ap (closed family) (no-items family rules h)
+
+closing-entries : (family : Family) → entries (map (λ e. AnEntry e) (closing_entries family)) ≡ closing_count family
+closing-entries V4 = refl
+closing-entries V6 = refl
+
+pub closing-list : (family : Family) (rules : List Rule) → list_any (λ r. same_family r.family family) rules ≡ false
+    → entries (list_items family rules) ≡ closing_count family
+closing-list family rules h = ap entries (closing-items family rules h) ∙ closing-entries family
+
+pub closing-min : (family : Family) → closing_count family ≡ min (closing_count family) COUNT_END
+closing-min V4 = omega arith
+closing-min V6 = omega arith
+
+pub rule-list : (family : Family) (rules : List Rule) → list_any (λ r. same_family r.family family) rules ≡ true
+    → entries (list_items family rules) ≡ combinations_in family rules
+rule-list family rules h = ap entries (same-items family rules h) ∙ entries-in family rules
+
+-- ---- a section
+
+abbrev pub lists-count : Families → List Rule → List ℕ → ℕ
+lists-count fs rules name = entries (flat_map (λ l. l.items) (map (list_of rules) (heads_of fs name)))
+
+pub inet-count : (rules : List Rule) (name : List ℕ) → lists-count Inet rules name ≡ entries (list_items V4 rules)
+inet-count rules name = ap entries (append-nil (list_items V4 rules))
+
+pub inet6-count : (rules : List Rule) (name : List ℕ) → lists-count Inet6 rules name ≡ entries (list_items V6 rules)
+inet6-count rules name = ap entries (append-nil (list_items V6 rules))
+
+pub mixed-count : (rules : List Rule) (name : List ℕ) → lists-count Mixed rules name ≡ entries (list_items V4 rules) + entries (list_items V6 rules)
+mixed-count rules name =
+    entries-append (list_items V4 rules) (list_items V6 rules ++ [])
+    ∙ ap (λ items. entries (list_items V4 rules) + entries items) (append-nil (list_items V6 rules))
+
+pub sum-min : (m n : ℕ) → min (min m COUNT_END + min n COUNT_END) COUNT_END ≡ min (m + n) COUNT_END
+sum-min m n = omega arith
+
+-- ---- steps of the loops
+
+pub count-on : (family : Family) (count here more whole : ℕ) (rules : List Rule) (i : ℕ) (r : Rule)
+    → i < length rules → r ≡ get_or rules i r → here ≡ min (rule_count family r) COUNT_END → more ≡ min (count + here) COUNT_END
+    → min (count + combinations_in family (drop i rules)) COUNT_END ≡ whole
+    → min (more + combinations_in family (drop (i + 1) rules)) COUNT_END ≡ whole
+unfolding combinations_in
+count-on family count here more whole rules i r within is size plus before =
+    let rest = combinations_in family (drop (i + 1) rules) in
+    let step : combinations_in family (drop i rules) ≡ rule_count family r + rest =
+    ap (combinations_in family) (drop_more rules i r within) ∙ ap (λ (q : Rule). rule_count family q + rest) (sym is) in
+    omega (arith, step, size, plus, before)
+
+pub none-left : (family : Family) (rules : List Rule) (i : ℕ) → length rules ≤ i → combinations_in family (drop i rules) ≡ 0
+unfolding combinations_in
+none-left family rules i h = ap (combinations_in family) (drop_all i rules h)
+
+-- ---- the limit of the number
+
+judged-many : (count : ℕ) → 100000 < count → judged (count_limit count) count ≡ judged (Some TooManyEntries) count
+judged-many count h = ap (λ b. judged (cond b (Some TooManyEntries) None) count) (lt-ltb 100000 count h)
+
+-- a count that stands at its end is above the greatest number of entries
+pub judged-same : (count : ℕ) → judged (count_limit (min count COUNT_END)) (min count COUNT_END) ≡ judged (count_limit count) count
+judged-same count = elim (cases_lt COUNT_END count) [
+  | inl h ↦ let e : min count COUNT_END ≡ COUNT_END = omega (arith, h) in
+      let k : 100000 < count = omega (arith, h) in
+      ap (λ n. judged (count_limit n) n) e ∙ judged-many COUNT_END (omega arith) ∙ sym (judged-many count k)
+  | inr h ↦ let e : min count COUNT_END ≡ count = omega (arith, h) in ap (λ n. judged (count_limit n) n) e
+]
+
+pub limit-first : (f : Filter) (l : Limit) (count : ℕ) → Some l ≡ first_limit 0 f.rules → judged (Some l) count ≡ judged (limit_of f) count
+limit-first f l count e = ap (λ o. judged (option_or o (count_limit (entry_count f))) count) e
+
+pub limit-last : (f : Filter) (count : ℕ) → None ≡ first_limit 0 f.rules → judged (count_limit (entry_count f)) count ≡ judged (limit_of f) count
+limit-last f count e = ap (λ o. judged (option_or o (count_limit (entry_count f))) count) e
+
+-- ---- the first limit, from one rule on
+
+pub passed-rule : (rules : List Rule) (i : ℕ) (r : Rule) (o : Option Limit) → i < length rules → r ≡ get_or rules i r → o ≡ rule_limit i r
+    → first_limit i (drop i rules) ≡ option_or o (first_limit (i + 1) (drop (i + 1) rules))
+passed-rule rules i r o within is limit =
+    let rest = first_limit (i + 1) (drop (i + 1) rules) in
+    ap (first_limit i) (drop_more rules i r within) ∙ ap (λ q. option_or (rule_limit i q) rest) (sym is) ∙ ap (λ p. option_or p rest) (sym limit)
+
+pub past-rules : (rules : List Rule) (i : ℕ) → length rules ≤ i → first_limit i (drop i rules) ≡ None
+past-rules rules i h = ap (first_limit i) (drop_all i rules h)
+
+pub found : (o rest : Option Limit) → is_some o ≡ true → option_or o rest ≡ o
+found None rest h = absurd (true≢false (sym h))
+found (Some l) rest h = refl
+
+pub not-found : (o rest : Option Limit) → is_some o ≡ false → option_or o rest ≡ rest
+not-found None rest h = refl
+not-found (Some l) rest h = absurd (true≢false h)

@@ -1,0 +1,23 @@
+use Rattle.std.proofs.Common.{min, arith}
+use Rattle.acl_text.specs.Output.{COUNT_END}
+use Rattle.gen_cisco.specs.CountSteps.{combinations_in}
+use Rattle.gen_cisco.proofs.EntryCounts.{count-on, none-left}
+use Rattle.gen_cisco.proofs.counts.combinations_in.Goals as goal
+
+pub loop-rule-preserved : goal.loop-rule-preserved
+loop-rule-preserved c =
+    let family = c.args.family in
+    let rules = c.args.rules.now in
+    let plus = c.saturating_add-count.ensures in
+    record {
+      fits = omega (arith, plus);
+      whole = count-on family c.loop-rule.count c.rule_count.result c.saturating_add-count.result (min (combinations_in family rules) COUNT_END) rules
+          c.loop-rule.rule-index c.rule-item.result c.loop-rule-test.true c.rule-item.is c.rule_count.ensures plus c.loop-rule.invariant.whole;
+    }
+
+pub returns : goal.returns
+returns c =
+    let none = none-left c.args.family c.args.rules.now c.loop-rule.rule-index c.loop-rule-test.false in
+    let fits = c.loop-rule.invariant.fits in
+    let whole = c.loop-rule.invariant.whole in
+    omega (arith, none, fits, whole)

@@ -1,0 +1,34 @@
+use Rattle.std.proofs.Common.{ℕ, List, [], ◌∷◌, ◌++◌, codes, ap, sym, ◌∙◌}
+use Rattle.acl_packet.specs.declared.addresses.Family.TheVariants.{V4, V6}
+use Rattle.acl_grammar.specs.Rows.{text_of_rows}
+use Rattle.acl_grammar.proofs.PutLaws.{retold}
+use Rattle.acl_platform.specs.declared.rules.Rule.{Rule}
+use Rattle.cisco_lang.specs.Texts.{head_rows, section_row}
+use Rattle.gen_cisco.specs.RowSteps.{list_body}
+use Rattle.gen_cisco.proofs.Rows.{both-lists, lists_rows, one-list, section-text}
+use Rattle.gen_cisco.proofs.section_rows.put_section.Goals as goal
+
+pub returns-in-Inet : goal.returns-in-Inet
+returns-in-Inet g c =
+    let f = c.args.filter.now in
+    let text : List ℕ → List Rule → List ℕ = λ name rules. text_of_rows (section_row name f.families ∷ [] ++ (head_rows V4 name ++ list_body V4 rules)) in
+    retold (ap (λ name. text name c.as_slice-rules.result.now) c.as_slice-name.ensures ∙ ap (text f.name) c.as_slice-rules.ensures
+    ∙ section-text f.name f.families f.rules (head_rows V4 f.name ++ list_body V4 f.rules)
+    (one-list V4 f.name f.rules ∙ ap (λ fs. lists_rows fs f.rules f.name) (sym c.in-Inet.is))) c.put_rows.ensures
+
+pub returns-in-Inet6 : goal.returns-in-Inet6
+returns-in-Inet6 g c =
+    let f = c.args.filter.now in
+    let text : List ℕ → List Rule → List ℕ = λ name rules. text_of_rows (section_row name f.families ∷ [] ++ (head_rows V6 name ++ list_body V6 rules)) in
+    retold (ap (λ name. text name c.as_slice-rules.result.now) c.as_slice-name.ensures ∙ ap (text f.name) c.as_slice-rules.ensures
+    ∙ section-text f.name f.families f.rules (head_rows V6 f.name ++ list_body V6 f.rules)
+    (one-list V6 f.name f.rules ∙ ap (λ fs. lists_rows fs f.rules f.name) (sym c.in-Inet6.is))) c.put_rows-in-Inet6.ensures
+
+pub returns-in-Mixed : goal.returns-in-Mixed
+returns-in-Mixed g c =
+    let f = c.args.filter.now in
+    let text : List ℕ → List Rule → List ℕ = λ name rules. text_of_rows (section_row name f.families ∷ []
+    ++ ((head_rows V4 name ++ list_body V4 rules) ++ (head_rows V6 (codes "ipv6-" ++ name) ++ list_body V6 rules))) in
+    retold (ap (λ name. text name c.as_slice-rules.result.now) c.as_slice-name.ensures ∙ ap (text f.name) c.as_slice-rules.ensures
+    ∙ section-text f.name f.families f.rules ((head_rows V4 f.name ++ list_body V4 f.rules) ++ (head_rows V6 (codes "ipv6-" ++ f.name) ++ list_body V6 f.rules))
+    (both-lists f.name f.rules ∙ ap (λ fs. lists_rows fs f.rules f.name) (sym c.in-Mixed.is))) c.put_rows-in-Mixed.ensures

@@ -1,0 +1,209 @@
+-- The section of an accepted filter is a document: proved here, and need not be believed.
+use Rattle.std.proofs.Common.{◌≡◌, ℕ, ◌+◌, ◌≤◌, Bool, true, false, cond, nat_lt, List, [], ◌∷◌, ◌++◌, length, map, flat_map, codes, Option, None, Some, inl, inr, refl, ap, sym, subst, append-nil, ◌∙◌, arith}
+use Rattle.std.specs.List.{AllByRecursion, IsDistinct}
+use Rattle.std.specs.Option.{option_or}
+use Rattle.std.specs.Str.{bytes_eq}
+use Rattle.std.proofs.lemmas.Bool.{cases_lt, false_from_ne_true, false≢true, lt-ltb}
+use Rattle.std.proofs.lemmas.List.{length-append}
+use Rattle.std.proofs.lemmas.Slice.Eq.{bytes_eq-Decides}
+use Rattle.acl_packet.specs.declared.addresses.Families.{Families}
+use Rattle.acl_packet.specs.declared.addresses.Families.TheVariants.{Inet, Inet6, Mixed}
+use Rattle.acl_packet.specs.declared.addresses.Family.{Family}
+use Rattle.acl_packet.specs.declared.addresses.Family.TheVariants.{V4, V6}
+use Rattle.acl_packet.specs.Addresses.{same_family}
+use Rattle.acl_packet.proofs.PrefixLaws.{everywhere_is}
+use Rattle.acl_grammar.proofs.DecisionLaws.{family_decides}
+use Rattle.acl_grammar.proofs.ListLaws.{all_append}
+use Rattle.acl_target.specs.declared.targets.Ending.TheVariants.{Neighbours}
+use Rattle.acl_target.specs.declared.targets.Kind.{Kind}
+use Rattle.acl_target.specs.declared.targets.Kind.TheVariants.{Cisco, Juniper, Iptables, Nftables}
+use Rattle.acl_target.specs.Clashes.{same_kind}
+use Rattle.acl_target.specs.TargetData.{FitsPlatform, IsDevice}
+use Rattle.acl_platform.specs.declared.combinations.Combination.{Combination}
+use Rattle.acl_platform.specs.declared.filters.Filter.{Filter}
+use Rattle.acl_platform.specs.declared.filters.Limit.{Limit}
+use Rattle.acl_platform.specs.declared.filters.Limit.TheVariants.{NameLength, Unsupported}
+use Rattle.acl_platform.specs.declared.rules.Rule.{Rule}
+use Rattle.acl_platform.specs.Combinations.{combinations}
+use Rattle.acl_platform.specs.Platforms.{IsAccepted}
+use Rattle.acl_platform.specs.SoundFilters.{IsSoundRule, target_of}
+use Rattle.cisco_lang.specs.declared.documents.Item.{Item}
+use Rattle.cisco_lang.specs.declared.documents.Item.TheVariants.{Remark, Entry as AnEntry}
+use Rattle.cisco_lang.specs.Documents.{heads_of, IsEntry, IsItem, IsList}
+use Rattle.cisco_lang.specs.Texts.{Spells, text_of}
+use Rattle.gen_cisco.specs.EntryLaws.{entry-is}
+use Rattle.gen_cisco.specs.Limits.{count_limit, first_limit, is_for_cisco, is_unsupported, limit_of, rule_limit}
+use Rattle.gen_cisco.specs.NameLaws.{notes-safe, rule-name-safe}
+use Rattle.gen_cisco.specs.PartLaws.{all-map, all-weaker, IsOf, parts-are}
+use Rattle.gen_cisco.specs.Sections.{closed, entry_of, entry_count, items_in, list_of, remarks, rule_items, section_of, wide_entry}
+
+-- ---- an accepted filter
+
+is-cisco : (k : Kind) → same_kind k Cisco ≡ true → k ≡ Cisco
+is-cisco Cisco h = refl
+is-cisco Juniper h = absurd (false≢true h)
+is-cisco Iptables h = absurd (false≢true h)
+is-cisco Nftables h = absurd (false≢true h)
+
+pub kind-is : (f : Filter) → is_for_cisco f ≡ true → f.kind ≡ Cisco
+kind-is f h = is-cisco f.kind h
+
+pub device-is : (f : Filter) → IsAccepted is_for_cisco limit_of f → (stateful : Bool) × IsDevice Neighbours (target_of stateful f)
+device-is f h =
+    let t = h.sound.target in
+    let P : Kind → Type 0 = λ k. FitsPlatform k (target_of t.0 f) in
+    (t.0, subst P (kind-is f h.handled) t.1.platform)
+
+pub rules-are : (f : Filter) → IsAccepted is_for_cisco limit_of f → AllByRecursion (IsSoundRule Cisco f.families) f.rules
+rules-are f h =
+    let P : Kind → Type 0 = λ k. AllByRecursion (IsSoundRule k f.families) f.rules in
+    subst P (kind-is f h.handled) h.sound.rules
+
+-- A rule without a limit.
+abbrev pub IsWithin : Rule → Type 0
+IsWithin r = (length r.name ≤ 64) × (is_unsupported r ≡ false)
+
+both-none : (o p : Option Limit) → option_or o p ≡ None → (o ≡ None) × (p ≡ None)
+both-none None p h = (refl, h)
+both-none (Some l) p h = cc
+
+no-name-limit : (n : ℕ) (l : Limit) (o : Option Limit) → cond (nat_lt 64 n) (Some l) o ≡ None → n ≤ 64
+no-name-limit n l o h = elim (cases_lt 64 n) [
+  | inl long ↦ absurd (some-none l (sym (ap (λ b. cond b (Some l) o) (lt-ltb 64 n long)) ∙ h))
+  | inr short ↦ short
+]
+  where
+    some-none : (l : Limit) → Some l ≡ None → ⊥
+    some-none l e = cc
+
+no-other-limit : (long unsupported : Bool) (l m : Limit) → cond long (Some l) (cond unsupported (Some m) None) ≡ None → unsupported ≡ false
+no-other-limit true unsupported l m h = cc
+no-other-limit false true l m h = cc
+no-other-limit false false l m h = refl
+
+rule-within : (place : ℕ) (r : Rule) → rule_limit place r ≡ None → IsWithin r
+rule-within place r h = (
+  no-name-limit (length r.name) (NameLength place) (cond (is_unsupported r) (Some (Unsupported place)) None) h,
+  no-other-limit (nat_lt 64 (length r.name)) (is_unsupported r) (NameLength place) (Unsupported place) h,
+)
+
+all-within : (place : ℕ) (rules : List Rule) → first_limit place rules ≡ None → AllByRecursion IsWithin rules
+all-within place [] h = tt
+all-within place (r ∷ rules) h =
+    let p = both-none (rule_limit place r) (first_limit (place + 1) rules) h in
+    (rule-within place r p.0, all-within (place + 1) rules p.1)
+
+rules-within : (f : Filter) → limit_of f ≡ None → AllByRecursion IsWithin f.rules
+rules-within f h = all-within 0 f.rules (both-none (first_limit 0 f.rules) (count_limit (entry_count f)) h).0
+
+-- ---- items
+
+rule-valid : (families : Families) (r : Rule) → IsSoundRule Cisco families r → IsWithin r → AllByRecursion (IsItem r.family) (rule_items r)
+rule-valid families r h w =
+    let texts = map (λ text. Remark text) (remarks r) in
+    let entries = map (λ c. AnEntry (entry_of r c)) (combinations r) in
+    all_append (IsItem r.family) texts entries
+    (all-map (IsItem r.family) (λ text. Remark text) (remarks r) (rule-name-safe r.name h.name w.0, notes-safe r.note h.note))
+    (all-map (IsItem r.family) (λ c. AnEntry (entry_of r c)) (combinations r)
+    (all-weaker (IsOf r) (λ (c : Combination). IsEntry r.family (entry_of r c)) (λ c k. entry-is families r c h w.1 k) (combinations r)
+    (parts-are Cisco families r h)))
+
+valid-by : (families : Families) (family : Family) (r : Rule) (b : Bool) → same_family r.family family ≡ b → IsSoundRule Cisco families r → IsWithin r
+    → AllByRecursion (IsItem family) (cond b (rule_items r) [])
+valid-by families family r true e h w =
+    let P : Family → Type 0 = λ g. AllByRecursion (IsItem g) (rule_items r) in
+    subst P ((family_decides r.family family).0 e) (rule-valid families r h w)
+valid-by families family r false e h w = tt
+
+rules-valid : (families : Families) (family : Family) (rules : List Rule) → AllByRecursion (IsSoundRule Cisco families) rules → AllByRecursion IsWithin rules
+    → AllByRecursion (IsItem family) (flat_map (items_in family) rules)
+rules-valid families family [] h w = tt
+rules-valid families family (r ∷ rules) h w =
+    all_append (IsItem family) (items_in family r) (flat_map (items_in family) rules)
+    (valid-by families family r (same_family r.family family) refl h.0 w.0) (rules-valid families family rules h.1 w.1)
+
+denial-is : (family : Family) → IsEntry family (wide_entry family false None None)
+denial-is V4 = record {
+  protocol = tt;
+  source = everywhere_is V4;
+  source_ports = tt;
+  destination = everywhere_is V4;
+  destination_ports = tt;
+  icmp_type = tt;
+  fit = refl;
+}
+denial-is V6 = record {
+  protocol = tt;
+  source = everywhere_is V6;
+  source_ports = tt;
+  destination = everywhere_is V6;
+  destination_ports = tt;
+  icmp_type = tt;
+  fit = refl;
+}
+
+neighbours-are : (itype : ℕ) → itype ≤ 254 → IsEntry V6 (wide_entry V6 true (Some 58) (Some itype))
+neighbours-are itype h = record {
+  protocol = (omega arith, omega arith);
+  source = everywhere_is V6;
+  source_ports = tt;
+  destination = everywhere_is V6;
+  destination_ports = tt;
+  icmp_type = h;
+  fit = refl;
+}
+
+closed-valid : (family : Family) (items : List Item) → AllByRecursion (IsItem family) items → AllByRecursion (IsItem family) (closed family items)
+closed-valid V4 [] h = (denial-is V4, tt)
+closed-valid V6 [] h = (neighbours-are 136 (omega arith), (neighbours-are 135 (omega arith), (denial-is V6, tt)))
+closed-valid family (item ∷ items) h = h
+
+list-valid : (f : Filter) → IsAccepted is_for_cisco limit_of f → (family : Family) (name : List ℕ) → IsList (list_of f.rules (family, name))
+list-valid f h family name =
+    closed-valid family (flat_map (items_in family) f.rules)
+    (rules-valid f.families family f.rules (rules-are f h) (rules-within f h.within))
+
+-- ---- lists
+
+heads-same : (rules : List Rule) (fs : Families) (name : List ℕ) → map (λ l. (l.family, l.name)) (map (list_of rules) (heads_of fs name)) ≡ heads_of fs name
+heads-same rules Inet name = refl
+heads-same rules Inet6 name = refl
+heads-same rules Mixed name = refl
+
+lists-valid : (rules : List Rule) (fs : Families) (name : List ℕ) → ((family : Family) (n : List ℕ) → IsList (list_of rules (family, n)))
+    → AllByRecursion IsList (map (list_of rules) (heads_of fs name))
+lists-valid rules Inet name h = (h V4 name, tt)
+lists-valid rules Inet6 name h = (h V6 name, tt)
+lists-valid rules Mixed name h = (h V4 name, (h V6 (codes "ipv6-" ++ name), tt))
+
+longer : (name : List ℕ) → bytes_eq name (codes "ipv6-" ++ name) ≡ false
+longer name = false_from_ne_true (bytes_eq name (codes "ipv6-" ++ name)) (λ e.
+    let size = ap length ((bytes_eq-Decides name (codes "ipv6-" ++ name)).0 e) in
+    let both = length-append (codes "ipv6-") name in
+    absurd (omega (arith, size, both)))
+
+pub lists-differ : (rules : List Rule) (fs : Families) (name : List ℕ)
+    → IsDistinct bytes_eq (map (λ l. l.name) (map (list_of rules) (heads_of fs name)))
+unfolding IsDistinct
+lists-differ rules Inet name = (tt, tt)
+lists-differ rules Inet6 name = (tt, tt)
+lists-differ rules Mixed name = ((longer name, tt), (tt, tt))
+
+one-section : (names : List (List ℕ)) → IsDistinct bytes_eq names → IsDistinct bytes_eq (names ++ [])
+one-section names h = subst (IsDistinct bytes_eq) (sym (append-nil names)) h
+
+pub section_is_spelled : (f : Filter) → IsAccepted is_for_cisco limit_of f → Spells (text_of (section_of f ∷ [])) (section_of f ∷ [])
+section_is_spelled f h = record {
+  valid = record {
+    sections = (
+      record {
+        named = (device-is f h).1.name_is;
+        heads = heads-same f.rules f.families f.name;
+        lists = lists-valid f.rules f.families f.name (list-valid f h);
+      },
+      tt,
+    );
+    names_differ = one-section (map (λ l. l.name) (section_of f).lists) (lists-differ f.rules f.families f.name);
+  };
+  written = refl;
+}

@@ -1,0 +1,64 @@
+ghost use Rattle.std.specs.Prelude.{◌≡◌, ◌∷◌, []};
+ghost use Rattle.cisco_lang.specs.Texts.{Spells, text_of};
+ghost use Rattle.cisco_lang.specs.Walks.{section_outcome};
+ghost use Rattle.cisco_lang.proofs.DocumentLaws.{one_document};
+ghost use Rattle.cisco_lang.proofs.JoinLaws.{joined_documents, nothing_is_spelled};
+ghost use Rattle.gen_cisco.specs.DecisionLaws.{section_decides};
+ghost use Rattle.gen_cisco.specs.Limits.{is_for_cisco, limit_of};
+ghost use Rattle.gen_cisco.specs.SectionLaws.{section_is_spelled};
+ghost use Rattle.gen_cisco.specs.Sections.{entry_count, list_names, section_of};
+
+use crate::counts::entry_count;
+use crate::limits::{count_in_limit, first_limit};
+use crate::section_rows::put_section;
+use acl_platform::{Filter, Limit, Platform};
+use acl_text::{Out, PutFault};
+use cisco_lang::{Doc, Section};
+
+/// The platform of Cisco IOS extended access lists, of IPv4 and of IPv6.
+pub struct Cisco;
+
+impl Platform for Cisco {
+    type Doc = Doc;
+
+    type Section = Section;
+
+    ghost handles = { is_for_cisco };
+
+    ghost document = { λ sections. sections };
+
+    ghost spells = { λ bytes doc. Spells bytes doc };
+
+    ghost text = { λ section. text_of (section ∷ []) };
+
+    ghost outcome = { section_outcome };
+
+    ghost names = { list_names };
+
+    ghost section = { section_of };
+
+    ghost count = { entry_count };
+
+    ghost limit = { limit_of };
+
+    fn check(&self, filter: &Filter) -> Result<u64, Limit> {
+        match first_limit(filter.rules.as_slice()) {
+            Some(limit) => Err(limit),
+            None => count_in_limit(entry_count(filter)),
+        }
+    }
+
+    fn emit<O: Out>(&self, filter: &Filter, out: &mut O) -> Result<(), PutFault> {
+        put_section(filter, out)
+    }
+
+    ghost one_document = { one_document };
+
+    ghost nothing_is_spelled = { nothing_is_spelled };
+
+    ghost joined_are_spelled = { joined_documents };
+
+    ghost section_is_spelled = { section_is_spelled };
+
+    ghost section_decides = { section_decides };
+}

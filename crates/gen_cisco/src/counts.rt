@@ -1,0 +1,83 @@
+ghost use Rattle.std.specs.Prelude.{◌≡◌, count_by, min};
+ghost use Rattle.std.specs.List.{All, list_any};
+ghost use Rattle.acl_packet.specs.Addresses.{same_family};
+ghost use Rattle.acl_text.specs.Output.{COUNT_END};
+ghost use Rattle.acl_platform.specs.Combinations.{IsSized};
+ghost use Rattle.cisco_lang.specs.Walks.{is_entry};
+ghost use Rattle.gen_cisco.specs.CountSteps.{closing_count, combinations_in, rule_count};
+ghost use Rattle.gen_cisco.specs.Sections.{entry_count, list_items};
+
+use acl_packet::{Families, Family};
+use acl_platform::{Filter, Rule, count_combinations};
+
+/// The number of entries of the section that the filter becomes; a number that does not fit stands
+/// at the greatest one that does.
+pub(crate) fn entry_count(filter: &Filter) -> u64
+    requires { All IsSized filter.now.rules }
+    ensures { result ≡ min (entry_count filter.now) COUNT_END }
+{
+    let rules = filter.rules.as_slice();
+    match filter.families {
+        Families::Inet => list_count(Family::V4, rules),
+        Families::Inet6 => list_count(Family::V6, rules),
+        Families::Mixed => {
+            list_count(Family::V4, rules).saturating_add(list_count(Family::V6, rules))
+        }
+    }
+}
+
+fn list_count(family: Family, rules: &[Rule]) -> u64
+    requires { All IsSized rules.now }
+    ensures { result ≡ min (count_by is_entry (list_items family rules.now)) COUNT_END }
+{
+    if has_rule(family, rules) {
+        combinations_in(family, rules)
+    } else {
+        closing_count(family)
+    }
+}
+
+/// Whether the list of the family has a rule.
+pub(crate) fn has_rule(family: Family, rules: &[Rule]) -> bool
+    ensures { result ≡ list_any (λ r. same_family r.family family) rules.now }
+{
+    rules.iter().any(|rule| rule.family == family)
+}
+
+/// Whether the rule is of the family.
+pub(crate) fn is_of(family: Family, rule: &Rule) -> bool
+    ensures { result ≡ same_family rule.now.family family }
+{
+    rule.family == family
+}
+
+fn closing_count(family: Family) -> u64
+    ensures { result ≡ closing_count family }
+{
+    match family {
+        Family::V4 => 1,
+        Family::V6 => 3,
+    }
+}
+
+fn combinations_in(family: Family, rules: &[Rule]) -> u64
+    requires { All IsSized rules.now }
+    ensures { result ≡ min (combinations_in family rules.now) COUNT_END }
+{
+    let mut count: u64 = 0;
+    for rule in rules {
+        count = count.saturating_add(rule_count(family, rule));
+    }
+    count
+}
+
+fn rule_count(family: Family, rule: &Rule) -> u64
+    requires { IsSized rule.now }
+    ensures { result ≡ min (rule_count family rule.now) COUNT_END }
+{
+    if is_of(family, rule) {
+        count_combinations(rule)
+    } else {
+        0
+    }
+}

@@ -1,0 +1,290 @@
+ghost use Rattle.std.specs.Prelude.{◌≡◌, ◌++◌, ◌∷◌, [], codes, flat_map, map, IsTrue};
+ghost use Rattle.std.specs.List.{All};
+ghost use Rattle.acl_text.specs.Output.{Puts};
+ghost use Rattle.acl_grammar.specs.Rows.{row, text_of_rows, words_in};
+ghost use Rattle.acl_packet.specs.declared.addresses.Family.TheVariants.{V6};
+ghost use Rattle.acl_platform.specs.Combinations.{IsSized, combinations};
+ghost use Rattle.cisco_lang.specs.declared.documents.Flags.{Flags};
+ghost use Rattle.cisco_lang.specs.declared.documents.Item.TheVariants.{Entry as AnEntry};
+ghost use Rattle.cisco_lang.specs.Texts.{end_rows, head_rows, item_rows, text_of};
+ghost use Rattle.gen_cisco.specs.RowSteps.{items_rows, remark_row};
+ghost use Rattle.gen_cisco.specs.Sections.{
+  closing_entries,
+  entry_of,
+  everywhere,
+  flags_of,
+  items_in,
+  list_items,
+  notes,
+  permits,
+  section_of,
+  wide_entry,
+};
+
+use crate::counts::{has_rule, is_of};
+use acl_grammar::{Form, Row, Rows, Word};
+use acl_packet::{Families, Family, Prefix, Verdict};
+use acl_platform::{Combination, Filter, Rule, RuleForm, Test, put_combinations, put_rules};
+use acl_text::{Out, PutFault};
+use cisco_lang::{Entry, EntryRow, Flags, ListEnd, ListHead, RemarkRow, SectionHead};
+
+/// Puts the section that the filter becomes.
+pub(crate) fn put_section<O: Out>(filter: &Filter, out: &mut O) -> Result<(), PutFault>
+    requires open { IsTrue (O.is_open out.old) }
+    requires sized { All IsSized filter.now.rules }
+    ensures { Puts O.told O.faults O.refusals O.is_open O.keeps_rest out.old out.new
+        (text_of (section_of filter.now ∷ [])) result }
+{
+    let name = filter.name.as_slice();
+    let rules = filter.rules.as_slice();
+    let section = SectionHead {
+        name,
+        families: filter.families,
+    };
+    let v4 = ListItems {
+        family: Family::V4,
+        rules,
+    };
+    let v6 = ListItems {
+        family: Family::V6,
+        rules,
+    };
+    match filter.families {
+        Families::Inet => {
+            let head = ListHead {
+                family: Family::V4,
+                name,
+            };
+            (section, (head, (v4, ListEnd))).put_rows(out)
+        }
+        Families::Inet6 => {
+            let head = ListHead {
+                family: Family::V6,
+                name,
+            };
+            (section, (head, (v6, ListEnd))).put_rows(out)
+        }
+        Families::Mixed => {
+            let head = ListHead {
+                family: Family::V4,
+                name,
+            };
+            let first = (head, (v4, ListEnd));
+            let second = (MixedHead { name }, (v6, ListEnd));
+            (section, (first, second)).put_rows(out)
+        }
+    }
+}
+
+// The rows that begin the IPv6 list of a filter of both families.
+#[derive(Drop)]
+struct MixedHead<'a> {
+    name: &'a [u8],
+}
+
+impl<'a> Rows for MixedHead<'a> {
+    ghost rows = { λ h. head_rows V6 (codes "ipv6-" ++ h.name.now) };
+
+    fn put_rows<O: Out>(&self, out: &mut O) -> Result<(), PutFault> {
+        let list = Word {
+            piece: b"access-list".as_slice(),
+        };
+        let name = Word {
+            piece: (b"ipv6-".as_slice(), self.name),
+        };
+        let family = Word {
+            piece: b"ipv6".as_slice(),
+        };
+        let removal = Row {
+            indent: 0,
+            first: b"no".as_slice(),
+            rest: (family, (list, name)),
+        };
+        let head = Row {
+            indent: 0,
+            first: b"ipv6".as_slice(),
+            rest: (list, name),
+        };
+        (removal, head).put_rows(out)
+    }
+}
+
+// The items of the list of a family.
+#[derive(Drop)]
+struct ListItems<'a> {
+    family: Family,
+    rules: &'a [Rule],
+    ghost sized: { All IsSized rules.now },
+}
+
+impl<'a> Rows for ListItems<'a> {
+    ghost rows = { λ l. items_rows l.family (list_items l.family l.rules.now) };
+
+    fn put_rows<O: Out>(&self, out: &mut O) -> Result<(), PutFault> {
+        let family = self.family;
+        if has_rule(family, self.rules) {
+            put_rules(self.rules, &InFamily { family }, out)
+        } else {
+            put_closing(family, out)
+        }
+    }
+}
+
+fn put_closing<O: Out>(family: Family, out: &mut O) -> Result<(), PutFault>
+    requires { IsTrue (O.is_open out.old) }
+    ensures { Puts O.told O.faults O.refusals O.is_open O.keeps_rest out.old out.new
+        (text_of_rows (items_rows family (map (λ e. AnEntry e) (closing_entries family)))) result }
+{
+    let denial = wide_row(family, false, None, None);
+    match family {
+        Family::V4 => denial.put_rows(out),
+        Family::V6 => {
+            let advertisements = wide_row(family, true, Some(58), Some(136));
+            let solicitations = wide_row(family, true, Some(58), Some(135));
+            (advertisements, (solicitations, denial)).put_rows(out)
+        }
+    }
+}
+
+fn wide_row(family: Family, permit: bool, proto: Option<u8>, itype: Option<u8>) -> EntryRow
+    ensures { result ≡ record {
+      family = family;
+      entry = wide_entry family permit proto itype;
+    } }
+{
+    EntryRow {
+        family,
+        entry: Entry {
+            permit,
+            proto,
+            src: everywhere(family),
+            sport: None,
+            dst: everywhere(family),
+            dport: None,
+            itype,
+            flags: None,
+            log: false,
+        },
+    }
+}
+
+fn everywhere(family: Family) -> Prefix
+    ensures { result ≡ everywhere family }
+{
+    Prefix {
+        family,
+        first: 0,
+        len: 0,
+    }
+}
+
+// The items of the rules that are of the family.
+#[derive(Drop)]
+struct InFamily {
+    family: Family,
+}
+
+impl RuleForm for InFamily {
+    ghost rule_rows = { λ f rule. items_rows f.family (items_in f.family rule) };
+
+    fn put_rule<O: Out>(&self, rule: &Rule, out: &mut O) -> Result<(), PutFault> {
+        if is_of(self.family, rule) {
+            let name = RemarkRow {
+                text: rule.name.as_slice(),
+            };
+            let note = NoteRow {
+                text: rule.note.as_slice(),
+            };
+            (name, (note, Entries { rule })).put_rows(out)
+        } else {
+            Ok(())
+        }
+    }
+}
+
+// A remark where there is a note.
+#[derive(Drop)]
+struct NoteRow<'a> {
+    text: &'a [u8],
+}
+
+impl<'a> Rows for NoteRow<'a> {
+    ghost rows = { λ n. map remark_row (notes n.text.now) };
+
+    fn put_rows<O: Out>(&self, out: &mut O) -> Result<(), PutFault> {
+        if self.text.is_empty() {
+            Ok(())
+        } else {
+            RemarkRow { text: self.text }.put_rows(out)
+        }
+    }
+}
+
+// The entries of a rule, one for each combination.
+#[derive(Drop)]
+struct Entries<'a> {
+    rule: &'a Rule,
+    ghost sized: { IsSized rule.now },
+}
+
+impl<'a> Rows for Entries<'a> {
+    ghost rows = { λ e. flat_map
+        (λ c. item_rows e.rule.now.family (AnEntry (entry_of e.rule.now c)))
+        (combinations e.rule.now) };
+
+    fn put_rows<O: Out>(&self, out: &mut O) -> Result<(), PutFault> {
+        put_combinations(self.rule, &OfRule { rule: self.rule }, out)
+    }
+}
+
+// A combination, as an entry of its rule.
+#[derive(Drop)]
+struct OfRule<'a> {
+    rule: &'a Rule,
+}
+
+impl<'a> Form<Combination> for OfRule<'a> {
+    ghost item_rows = { λ f c. item_rows f.rule.now.family (AnEntry (entry_of f.rule.now c)) };
+
+    fn put_item<O: Out>(&self, item: &Combination, out: &mut O) -> Result<(), PutFault> {
+        let row = EntryRow {
+            family: self.rule.family,
+            entry: entry_of(self.rule, item),
+        };
+        row.put_rows(out)
+    }
+}
+
+fn entry_of(rule: &Rule, combination: &Combination) -> Entry
+    ensures { result ≡ entry_of rule.now combination.now }
+{
+    Entry {
+        permit: permits(rule.verdict),
+        proto: combination.proto,
+        src: combination.src,
+        sport: combination.sport,
+        dst: combination.dst,
+        dport: combination.dport,
+        itype: combination.itype,
+        flags: flags_of(rule.test),
+        log: rule.log,
+    }
+}
+
+fn permits(verdict: Verdict) -> bool
+    ensures { result ≡ permits verdict }
+{
+    matches!(verdict, Verdict::Accept)
+}
+
+fn flags_of(test: Test) -> Option<Flags>
+    ensures { result ≡ flags_of test }
+{
+    match test {
+        Test::Plain => None,
+        Test::AckOrRst => Some(Flags::Established),
+        Test::SynNotAck => Some(Flags::SynNotAck),
+        Test::Rst => Some(Flags::Rst),
+        Test::State => None,
+    }
+}
