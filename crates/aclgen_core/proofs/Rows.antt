@@ -10,7 +10,8 @@ use Rattle.acl_host.specs.Outside.{AddsFront}
 use Rattle.aclgen_core.specs.CommandLines.{Options, asks_clock, options_of}
 use Rattle.aclgen_core.specs.FaultLines.{outside_line, usage_line}
 use Rattle.aclgen_core.specs.FileLists.{HoldsTexts, Interrupted, PathsDiffer}
-use Rattle.aclgen_core.specs.Job.{Plan, IsJob, IsJobOf, fault_line, report_of, texts_of}
+use Rattle.aclgen_core.specs.Job.{Plan, IsJob, IsJobOf, report_of, texts_of}
+use Rattle.acl_load.specs.FaultLines.{fault_line}
 use Rattle.aclgen_core.specs.Endings.{WhereDay, WhereTold, Got, Tried, Untouched, IsFileOf, IsWritten, Headline, EndsDone, EndsUsage, EndsRejected, RoseAt, EndsLooking, EndsAsking, LeavesFiles, EndsWriting, LeavesReport, EndsReporting, IsRefusal, EndsTelling, EndsOutside, Leaves, EndsWanting, EndsSo, NoneRose, IsEnding, EndsAsAsked, OnlyAsked, Keeps}
 use Rattle.aclgen_core.specs.Worlds.{CountsGrow, Disk, DiskCountsGrow, Stream, StreamCountsGrow, Watch, World, world}
 use Rattle.aclgen_core.specs.DecidingSteps.{IsReady, OnlySeen, WhereSeen, RoseLooking, DecidesRefused, DecidesPlanned, DecidesSo, Decides, RefusesSo, Refuses, ActsDone, ActsWrite, ActsOut, ActsMemory, ActsSo, Acts, Tells, texts_in}

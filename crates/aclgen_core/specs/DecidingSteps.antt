@@ -9,7 +9,8 @@ use Rattle.acl_host.specs.Files.{File, BothTell}
 use Rattle.acl_host.specs.Outside.{AddsFront}
 use Rattle.aclgen_core.specs.CommandLines.{options_of}
 use Rattle.aclgen_core.specs.FileLists.{HoldsTexts, Interrupted, PathsDiffer}
-use Rattle.aclgen_core.specs.Job.{Plan, IsJob, fault_line, report_of, texts_of}
+use Rattle.aclgen_core.specs.Job.{Plan, IsJob, report_of, texts_of}
+use Rattle.acl_load.specs.FaultLines.{fault_line}
 use Rattle.aclgen_core.specs.Endings.{Got, IsFileOf, Tried}
 use Rattle.aclgen_core.specs.FaultLines.{outside_line}
 use Rattle.aclgen_core.specs.Worlds.{Disk, DiskCountsGrow, Stream, StreamCountsGrow}

@@ -11,13 +11,15 @@ use Rattle.acl_host.specs.declared.clocks.Day.{Day}
 use Rattle.acl_host.specs.Files.{File, BothTell}
 use Rattle.acl_host.specs.Outside.{AddsFront}
 use Rattle.acl_naming.specs.Definitions.{Naming}
+use Rattle.acl_terms.specs.Outcomes.{PolicyDecides, shown}
+use Rattle.acl_load.specs.FaultLines.{fault_line}
 use Rattle.cisco_lang.specs.Texts.{Spells, text_of}
 use Rattle.cisco_lang.specs.Walks.{outcome_of}
 use Rattle.aclgen_core.specs.CommandLines.{asks_clock, options_of}
 use Rattle.aclgen_core.specs.FaultLines.{usage_line, outside_line}
 use Rattle.aclgen_core.specs.FileLists.{HoldsTexts, Interrupted}
-use Rattle.acl_target.specs.declared.targets.Target.{Target}
-use Rattle.aclgen_core.specs.Job.{Plan, PlanFile, IsJob, fault_line, document_of, report_of, texts_of}
+use Rattle.aclgen_core.specs.FilterRequests.{FilterRequest}
+use Rattle.aclgen_core.specs.Job.{Plan, PlanFile, IsJob, document_of, report_of, texts_of}
 use Rattle.aclgen_core.specs.Worlds.{CountsGrow, Disk, Stream, Watch, World}
 use Rattle.aclgen_core.specs.declared.endings.Ended.{Ended}
 use Rattle.aclgen_core.specs.declared.endings.Ended.TheVariants as ended
@@ -55,10 +57,11 @@ pub record Untouched (old new : World) : Type 0 where
 
 -- What decides packets decides those of the target's families as its block of the policy does, as far as the platform
 -- can show it.
-abbrev pub DecidesAsPolicy : Naming → Day → Target → (Packet → Option Outcome) → Type 0
+abbrev pub DecidesAsPolicy : Naming → Day → FilterRequest → (Packet → Option Outcome) → Type 0
 DecidesAsPolicy naming today r outcome = (p : Packet) → IsPacket p
-    → covers r.families p.family ≡ true
-    → (o : Outcome) × (outcome p ≡ Some o)
+    → covers r.target.families p.family ≡ true
+    → (o : Outcome) × PolicyDecides naming r.target today r.written p o
+    × (outcome p ≡ Some (shown r.target.kind o))
 
 -- The file's text is one that the language of Cisco access lists accepts as one document, with one section for each
 -- target, in order; and each section decides as the policy does.

@@ -1,3 +1,4 @@
+pub mod CiscoStub
 pub mod CodeViews
 pub mod CommandLines
 pub mod DecidingSteps
@@ -5,6 +6,8 @@ pub mod Endings
 pub mod FaultLines
 pub mod FileLists
 pub mod FilterPaths
+pub mod FilterRequests
 pub mod Job
+pub mod PreparingSteps
 pub mod Statuses
 pub mod Worlds

@@ -5,8 +5,10 @@ ghost use Rattle.aclgen_core.specs.DecidingSteps.{Decides};
 
 use crate::command_line::options_of;
 use crate::endings::Which;
-use crate::planning::Work;
+use crate::fault_lines::fault_line;
+use crate::planning::{Work, make_work};
 use acl_host::{Tree, Whole};
+use acl_load::LoadFault;
 use acl_text::Fault;
 use std::alloc::Global;
 
@@ -31,8 +33,17 @@ pub fn decide<T: Tree>(alloc: Global, words: &[String], tree: &mut T) -> Decisio
         (disk T.files T.begun T.list_faults T.read_faults T.faults T.refusals tree.old)
         (disk T.files T.begun T.list_faults T.read_faults T.faults T.refusals tree.new) result }
 {
-    match options_of(words) {
-        None => Decision::Usage,
-        Some(_options) => Decision::Memory,
+    let Some(options) = options_of(words) else {
+        return Decision::Usage;
+    };
+    match make_work(alloc, &options, tree) {
+        Ok(work) => Decision::Planned(work),
+        Err(LoadFault::Fault(fault)) => match fault_line(alloc, &fault) {
+            Ok(line) => Decision::Refused(fault, line),
+            Err(_) => Decision::Memory,
+        },
+        Err(LoadFault::List) => Decision::Outside(Which::List),
+        Err(LoadFault::Read) => Decision::Outside(Which::Read),
+        Err(LoadFault::Memory) => Decision::Memory,
     }
 }

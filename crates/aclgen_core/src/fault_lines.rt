@@ -1,17 +1,22 @@
 ghost use Rattle.std.specs.Prelude.{◌≡◌, IfOk};
 ghost use Rattle.aclgen_core.specs.FaultLines.{outside_line, usage_line};
-ghost use Rattle.aclgen_core.specs.Job.{fault_line};
+ghost use Rattle.acl_load.specs.FaultLines.{fault_line};
 
 use crate::endings::Which;
 use acl_host::Whole;
+use acl_load::put_fault;
 use acl_text::{Fault, Memory};
 use std::alloc::Global;
 
 /// The line that names a fault.
-pub fn fault_line(_alloc: Global, fault: &Fault) -> Result<Whole, Memory>
+pub fn fault_line(alloc: Global, fault: &Fault) -> Result<Whole, Memory>
     ensures { IfOk result (λ line. line.bytes ≡ fault_line fault.now) }
 {
-    Err(Memory)
+    let mut line = Whole::new(alloc);
+    match put_fault(&mut line, fault) {
+        Ok(()) => Ok(line),
+        Err(_) => Err(Memory),
+    }
 }
 
 /// The line that says how the program is called.

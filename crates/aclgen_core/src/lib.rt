@@ -9,7 +9,10 @@ mod fault_lines;
 mod file_texts;
 mod filter_paths;
 mod planning;
+mod platforms;
+mod preparing;
 mod running;
+mod slips;
 
 pub use endings::{Ended, Which, status_of};
 pub use running::aclgen;
