@@ -18,7 +18,6 @@ use Rattle.acl_terms.specs.declared.terms.Term.{Term}
 use Rattle.acl_terms.specs.Resolved.{IsResolved}
 use Rattle.acl_terms.proofs.TermLaws.{one-term}
 use Rattle.acl_load.specs.declared.policy_loading.Loaded.{Loaded}
-use Rattle.acl_load.specs.declared.policy_texts.PolicyText.{PolicyText}
 use Rattle.acl_load.specs.Loading.{AnswersWith, definitions_of, naming_paths, fault_of}
 use Rattle.acl_load.specs.LoadedPolicies.{AreResolved, AreResolvedIn, GoesOn, IsLoadedFrom, LoadsPolicy, Resolves, ResolvesWith, blocks_slip, policy_at}
 use Rattle.aclgen_core.specs.CommandLines.{Options, options_of}
@@ -88,7 +87,7 @@ same-lists n (b ∷ bs) (t ∷ ts) [] p q = absurd q
 same-lists n (b ∷ bs) (t ∷ ts) (u ∷ us) p q =
     ap (λ (x : List Term). x ∷ ts) (same-terms n b.terms t u p.0 q.0) ∙ ap (λ (xs : List (List Term)). u ∷ xs) (same-lists n bs ts us p.1 q.1)
 
-same-loaded : (n : Naming) (text : PolicyText) (a b : Loaded) → IsLoadedFrom n text a → IsLoadedFrom n text b → a ≡ b
+same-loaded : (n : Naming) (text : _) (a b : Loaded) → IsLoadedFrom n text a → IsLoadedFrom n text b → a ≡ b
 same-loaded n text a b p q =
     let d = p.definitions_are ∙ sym q.definitions_are in
     let s = p.sources_are ∙ sym q.sources_are in
@@ -99,13 +98,13 @@ same-loaded n text a b p q =
     ∙ ap (λ v. record { definitions = b.definitions; sources = b.sources; policy = v; terms = a.terms }) y
     ∙ ap (λ v. record { definitions = b.definitions; sources = b.sources; policy = b.policy; terms = v }) t
 
-same-with : (u : Option Slip) (n : Naming) (text : PolicyText) (a b : Result Loaded Fault) → ResolvesWith u n text a → ResolvesWith u n text b → a ≡ b
+same-with : (u : Option Slip) (n : Naming) (text : _) (a b : Result Loaded Fault) → ResolvesWith u n text a → ResolvesWith u n text b → a ≡ b
 same-with (Some s) n text a b p q = p ∙ sym q
 same-with None n text (Err f) b p q = absurd p
 same-with None n text (Ok a) (Err g) p q = absurd q
 same-with None n text (Ok a) (Ok b) p q = ap Ok (same-loaded n text a b p q)
 
-same-text : (n : Naming) (r : Result PolicyText Fault) (a b : Result Loaded Fault) → GoesOn (Resolves n) r a → GoesOn (Resolves n) r b → a ≡ b
+same-text : (n : Naming) (r : Result _ Fault) (a b : Result Loaded Fault) → GoesOn (Resolves n) r a → GoesOn (Resolves n) r b → a ≡ b
 same-text n (Err f) a b p q = p ∙ sym q
 same-text n (Ok text) a b p q = same-with (blocks_slip n text.policy.blocks) n text a b p q
 

@@ -1,5 +1,9 @@
 -- STUB of gen_cisco
-use Rattle.std.specs.Prelude.{ℕ, Bool, true, List, [], ◌∷◌, map, Option, None}
+use Rattle.std.specs.Prelude.{◌≡◌, ℕ, Bool, true, List, [], ◌∷◌, map, flat_map, Option, None}
+use Rattle.std.specs.List.{AllByRecursion, IsDistinct}
+use Rattle.std.specs.Str.{bytes_eq}
+use Rattle.acl_target.specs.Clashes.{clash}
+use Rattle.acl_platform.specs.SoundFilters.{target_of}
 use Rattle.acl_target.specs.declared.targets.Kind.TheVariants.{Cisco}
 use Rattle.acl_target.specs.Clashes.{same_kind}
 use Rattle.acl_platform.specs.declared.filters.Filter.{Filter}
@@ -20,3 +24,9 @@ section_of f = record { name = f.name; families = f.families; lists = [] }
 
 abbrev pub list_names : Section → List (List ℕ)
 list_names s = map (λ l. l.name) s.lists
+
+abbrev pub ListsDiffer : Type 0
+ListsDiffer = (filters : List Filter) (stateful : Bool)
+    → AllByRecursion (λ f. f.kind ≡ Cisco) filters
+    → IsDistinct clash (map (target_of stateful) filters)
+    → IsDistinct bytes_eq (flat_map (λ f. list_names (section_of f)) filters)

@@ -77,7 +77,7 @@ Prepares path today loaded (Err refusals.Memory) = Unit {0}
 -- The work is one file, the text of the filters' sections, and the report.
 pub record IsWorkOf (path : List ℕ) (prepared : Prepared) (work : Work) : Type 0 where
   pub texts_are : texts_in work ≡ (path, text_of (map section_of prepared.filters)) ∷ []
-  pub report_is : work.report ≡ prepared.report
+  pub report_is : work.report.bytes ≡ prepared.report.bytes
   pub spelled : Spells (text_of (map section_of prepared.filters)) (map section_of prepared.filters)
   pub decides : (k : ℕ) → IfSome (slice_get prepared.filters k)
       (λ f. DecidesAs f (outcome_of (map section_of prepared.filters) k))

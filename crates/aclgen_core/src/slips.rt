@@ -1,10 +1,9 @@
 ghost use Rattle.std.specs.Prelude.{◌≡◌, [], IfOk, slice_get, slice_index_or};
 ghost use Rattle.acl_naming.specs.Checking.{IsRefusal};
 ghost use Rattle.acl_text.specs.declared.faults.Code.TheVariants.{Unsupported};
-ghost use Rattle.acl_terms.specs.Slips.{Judges};
+ghost use Rattle.acl_terms.specs.Slips.{first_in, Judges};
 ghost use Rattle.acl_load.specs.Loading.{fault_of};
 ghost use Rattle.aclgen_core.specs.FilterRequests.{
-  block_slip,
   limit_slip,
   name_word,
   platform_slip,
@@ -62,10 +61,10 @@ fn check_target(alloc: Global, target: &Target) -> Result<(), Refusal>
     }
 }
 
-fn check_block(alloc: Global, block: &Block) -> Result<(), Refusal>
-    ensures { Judges result (block_slip block.now) }
+fn check_targets(alloc: Global, targets: &[Target]) -> Result<(), Refusal>
+    ensures { Judges result (first_in target_slip targets.now) }
 {
-    for target in block.targets.as_slice() {
+    for target in targets {
         check_target(alloc, target)?;
     }
     Ok(())
@@ -76,7 +75,7 @@ pub fn check_platforms(alloc: Global, blocks: &[Block]) -> Result<(), Refusal>
     ensures { Judges result (platform_slip blocks.now) }
 {
     for block in blocks {
-        check_block(alloc, block)?;
+        check_targets(alloc, block.targets.as_slice())?;
     }
     Ok(())
 }

@@ -9,4 +9,4 @@ loop-block-preserved c =
     let i = c.loop-block.block-index in
     let block = c.block-item.result in
     let within : i < length blocks = omega arith in
-    record { slip = slip-more block_slip blocks i block block within c.block-item.is c.in_ok-check_block.ensures c.loop-block.invariant.slip }
+    record { slip = slip-more block_slip blocks i block block within c.block-item.is (rw c.as_slice.ensures at c.in_ok-check_targets.ensures) c.loop-block.invariant.slip }
