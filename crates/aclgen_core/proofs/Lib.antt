@@ -1,4 +1,6 @@
+pub mod FileListLaws
 pub mod OneAnswer
+pub mod PlanningLaws
+pub mod PreparingLaws
 pub mod Rows
 pub mod Telling
-pub mod FileListLaws

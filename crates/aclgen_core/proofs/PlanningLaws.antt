@@ -1,6 +1,6 @@
 -- What is to be written of a loaded policy, and of the files.
 use Rattle.std.proofs.Common.{◌≡◌, ℕ, Bool, true, false, ◌||◌, if◌then◌else◌, List, [], ◌∷◌, ◌++◌, map, Option, None, Some, Result, Ok, Err, IfSome, IsSome, is_some, refl, ap, sym, subst, ◌∙◌, append_assoc, append-nil}
-use Rattle.std.specs.Prelude.{flat_map, slice_get}
+use Rattle.std.specs.Prelude.{IsErrAnd, flat_map, slice_get}
 use Rattle.std.specs.List.{All, AllByRecursion, IsDistinct, list_any}
 use Rattle.std.specs.Str.{bytes_eq}
 use Rattle.std.proofs.lemmas.Bool.{false≢true}
@@ -185,11 +185,18 @@ pub makes-planned : (told : Option (List File)) (o : Options) (today : Day) (loa
 makes-planned None o today loaded work loads p = (tt, p.differ)
 makes-planned (Some files) o today loaded work loads p = ((plan_of o today loaded, (Ok loaded, loads, sym p.plan_is), p.ready), p.differ)
 
-pub makes-fault : (told : Option (List File)) (o : Options) (today : Day) (loaded : Loaded) (e : Rejection)
+makes-fault : (told : Option (List File)) (o : Options) (today : Day) (loaded : Loaded) (e : Rejection)
     → IfSome told (λ files. LoadsPolicy o.definitions o.policy files (Ok loaded)) → PlansLoaded o today loaded (Err e) → MakesWork o today told (Err (of_rejection e))
 makes-fault None o today loaded e loads p = tt
 makes-fault (Some files) o today loaded (rejections.Fault fault) loads p = (Ok loaded, loads, sym p)
 makes-fault (Some files) o today loaded rejections.Memory loads p = tt
+
+pub makes-rejected : (told : Option (List File)) (o : Options) (today : Day) (loaded : Loaded) (e : Rejection) (r : Result Work LoadFault)
+    → IfSome told (λ files. LoadsPolicy o.definitions o.policy files (Ok loaded)) → PlansLoaded o today loaded (Err e) → IsErrAnd r (λ x. x ≡ of_rejection e)
+    → MakesWork o today told r
+makes-rejected told o today loaded e (Ok work) loads p is = absurd is
+makes-rejected told o today loaded e (Err x) loads p is =
+    subst (λ (y : LoadFault). MakesWork o today told (Err y)) (sym is) (makes-fault told o today loaded e loads p)
 
 -- ---- the words
 

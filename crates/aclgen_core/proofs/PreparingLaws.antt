@@ -1,7 +1,7 @@
 -- The filters of a policy: lists that are added one behind the other.
 use Prim.Native.Nat.{zero, suc}
 use Rattle.std.proofs.Common.{◌≡◌, ℕ, ◌<◌, ◌≤◌, ◌-◌, Bool, true, false, ◌||◌, if◌then◌else◌, List, [], ◌∷◌, ◌++◌, map, take, drop, length, get_or, Option, None, Some, Result, Ok, Err, option_map, IfSome, refl, ap, sym, subst, ◌∙◌, append_assoc, append-nil, arith}
-use Rattle.std.specs.Prelude.{flat_map, slice_get}
+use Rattle.std.specs.Prelude.{IsErrAnd, flat_map, slice_get}
 use Rattle.std.specs.List.{All, AllByRecursion, AllZip, list_any}
 use Rattle.std.proofs.lemmas.Bool.{false≢true}
 use Rattle.std.proofs.lemmas.Grind.{flat_map-append}
@@ -112,11 +112,16 @@ adds-append path today xs ys p q s (Err (refusals.Slip e)) h k =
     first-in-append (request_slip today) xs ys ∙ ap (λ o. first_of o (requests_slip today ys)) h.slip_is ∙ k
 adds-append path today xs ys p q s (Err refusals.Memory) h k = tt
 
-pub adds-slip : {X Y : Type 0} (path : List ℕ) (today : Day) (xs ys : List FilterRequest) (p q s : Prepared) (e : Refusal)
-    → Adds {X = X} path today xs p q (Err e) → Adds {X = Y} path today (xs ++ ys) p s (Err e)
-adds-slip path today xs ys p q s (refusals.Slip e) h =
-    first-in-append (request_slip today) xs ys ∙ ap (λ o. first_of o (requests_slip today ys)) h
-adds-slip path today xs ys p q s refusals.Memory h = tt
+pub adds-slip : {X Y : Type 0} (path : List ℕ) (today : Day) (xs ys : List FilterRequest) (p s : Prepared) (e : Refusal) (q : Result X Refusal) (r : Result Y Refusal)
+    → q ≡ Err e → Adds path today xs p s q → IsErrAnd r (λ x. x ≡ e) → Adds path today (xs ++ ys) p s r
+adds-slip path today xs ys p s e q (Ok y) was h is = absurd is
+adds-slip path today xs ys p s e (Ok x) (Err f) was h is = absurd (cc)
+adds-slip path today xs ys p s e (Err (refusals.Slip a)) (Err (refusals.Slip b)) was h is =
+    let same : a ≡ b = cc in
+    first-in-append (request_slip today) xs ys ∙ ap (λ o. first_of o (requests_slip today ys)) h ∙ ap Some same
+adds-slip path today xs ys p s e (Err (refusals.Slip a)) (Err refusals.Memory) was h is = tt
+adds-slip path today xs ys p s e (Err refusals.Memory) (Err (refusals.Slip b)) was h is = absurd (cc)
+adds-slip path today xs ys p s e (Err refusals.Memory) (Err refusals.Memory) was h is = tt
 
 -- Nothing that is added says how the terms are written.
 pub adds-written : (path : List ℕ) (today : Day) (written : List RawTerm) (terms : List Term) (t : Target) (p q : Prepared)
