@@ -1,3 +1,4 @@
 pub mod EntryCounts
 pub mod ListNames
 pub mod Rows
+pub mod TwoSections

@@ -51,7 +51,7 @@ named-lists rules Inet name = refl
 named-lists rules Inet6 name = refl
 named-lists rules Mixed name = refl
 
-names-of : (f : Filter) → list_names (section_of f) ≡ target_lists (is_mixed f.families) f.name
+pub names-of : (f : Filter) → list_names (section_of f) ≡ target_lists (is_mixed f.families) f.name
 names-of f = named-lists f.rules f.families f.name
 
 none-of-none : (xs : List (List ℕ)) → in_common xs [] ≡ false

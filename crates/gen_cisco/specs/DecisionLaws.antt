@@ -1,6 +1,6 @@
 -- The section of an accepted filter decides packets as the filter does: proved here, and need not
 -- be believed.
-use Rattle.std.proofs.Common.{◌≡◌, ◌≢◌, ℕ, ◌+◌, ◌-◌, ◌^◌, ◌<◌, Bool, true, false, ◌&&◌, ◌||◌, ◌==◌, cond, nat_le, nat_lt, unwrap_or, List, [], ◌∷◌, ◌++◌, ◌⊎◌, map, flat_map, Option, None, Some, inl, inr, refl, ap, sym, subst, ◌∙◌, append_assoc, arith}
+use Rattle.std.proofs.Common.{zero-le, ◌≡◌, ◌≢◌, ℕ, ◌+◌, ◌-◌, ◌^◌, ◌<◌, Bool, true, false, ◌&&◌, ◌||◌, ◌==◌, cond, nat_le, nat_lt, unwrap_or, List, [], ◌∷◌, ◌++◌, ◌⊎◌, map, flat_map, Option, None, Some, inl, inr, refl, ap, sym, subst, ◌∙◌, append_assoc, arith}
 use Rattle.std.specs.List.{AllByRecursion, list_any}
 use Rattle.std.proofs.lemmas.Bool.{and_from, false≢true, lt-ltb}
 use Rattle.std.proofs.lemmas.List.Folds.{list_any-append}
@@ -188,10 +188,8 @@ over-rules families (r ∷ rules) p h k =
 -- ---- the closing entries
 
 from-everywhere : (f : Family) (a : ℕ) → a < 2 ^ width_of f → has_address (everywhere f) a ≡ true
-from-everywhere f a h =
-    let width : width_of f - 0 ≡ width_of f = omega arith in
-    let whole = ap (λ n. 2 ^ n) width in
-    and_from (nat_le 0 a) (nat_lt a (0 + 2 ^ (width_of f - 0))) ((le_decides 0 a).1 (omega arith)) (lt-ltb a (0 + 2 ^ (width_of f - 0)) (omega (arith, h, whole)))
+from-everywhere V4 a h = and_from (nat_le 0 a) (nat_lt a (2 ^ 32)) ((le_decides 0 a).1 zero-le) (lt-ltb a (2 ^ 32) h)
+from-everywhere V6 a h = and_from (nat_le 0 a) (nat_lt a (2 ^ 128)) ((le_decides 0 a).1 zero-le) (lt-ltb a (2 ^ 128) h)
 
 denied : (b : Bool) (o : Outcome) → o ≡ unlogged Deny → unwrap_or (cond b (Some (unlogged Deny)) None) o ≡ o
 denied true o e = sym e
@@ -250,10 +248,13 @@ full-rules families f [] h = inl refl
 full-rules families f (r ∷ rules) h =
     full-append (items_in f r) (flat_map (items_in f) rules) (full-by families r (same_family r.family f) h.0) (full-rules families f rules h.1)
 
+closing-has : (f : Family) → has_entries (closed f []) ≡ true
+closing-has V4 = refl
+closing-has V6 = refl
+
 has-closed : (f : Family) (items : List Item) → IsFull items → has_entries (closed f items) ≡ true
-has-closed V4 [] h = refl
-has-closed V6 [] h = refl
-has-closed f (item ∷ items) (inl e) = cc
+has-closed f items (inl e) = ap (λ l. has_entries (closed f l)) e ∙ closing-has f
+has-closed f [] (inr h) = absurd (false≢true h)
 has-closed f (item ∷ items) (inr h) = h
 
 -- ---- the section

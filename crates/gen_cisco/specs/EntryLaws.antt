@@ -1,7 +1,8 @@
 -- The entries of a rule that has no limit are entries of a list: proved here, and need not be
 -- believed.
-use Rattle.std.proofs.Common.{◌≡◌, ℕ, zero, suc, ◌≤◌, Bool, true, false, not, ◌&&◌, ◌||◌, ◌==◌, Option, None, Some, IfSome, is_none, inl, inr, refl, ap, sym, ◌∙◌, arith}
+use Rattle.std.proofs.Common.{zero-le, subst, ◌≡◌, ℕ, zero, suc, ◌≤◌, Bool, true, false, not, ◌&&◌, ◌||◌, ◌==◌, Option, None, Some, IfSome, is_none, inl, inr, refl, ap, sym, ◌∙◌, arith}
 use Rattle.std.proofs.lemmas.Bool.{and_from, cases_lt, eqb-true, false_from_ne_true, false≢true, or_parts}
+use Rattle.std.proofs.Math.Nat.{le_antisymm, le_of_suc-le-suc, suc-le-suc_iff}
 use Rattle.acl_packet.specs.declared.addresses.Families.{Families}
 use Rattle.acl_packet.specs.declared.addresses.Family.{Family}
 use Rattle.acl_packet.specs.declared.addresses.Family.TheVariants.{V4, V6}
@@ -17,9 +18,9 @@ use Rattle.acl_platform.specs.declared.rules.Rule.{Rule}
 use Rattle.acl_platform.specs.declared.rules.Test.{Test}
 use Rattle.acl_platform.specs.declared.rules.Test.TheVariants.{Plain, AckOrRst, SynNotAck, Rst, State}
 use Rattle.acl_platform.specs.SoundFilters.{is_named_protocol, is_tcp, IsSoundRule, tests_flags}
+use Rattle.acl_platform.proofs.CombinationFacts.{IsCombinationOf, OfNumbers, OfRanges}
 use Rattle.cisco_lang.specs.Documents.{flags_fit, IsEntry, IsPortRange, is_proto, match_all_fits, ports_fit, type_fits}
 use Rattle.gen_cisco.specs.Limits.{asks_initial, is_unsupported, names_ports}
-use Rattle.gen_cisco.specs.PartLaws.{IsOf, OfNumbers, OfRanges}
 use Rattle.gen_cisco.specs.Sections.{entry_of, flags_of}
 
 -- ---- the protocol
@@ -27,7 +28,7 @@ use Rattle.gen_cisco.specs.Sections.{entry_of, flags_of}
 positive : (f : Family) (n : ℕ) → is_named_protocol f n ≡ true → 1 ≤ n
 positive V4 zero h = absurd (false≢true h)
 positive V6 zero h = absurd (false≢true h)
-positive f (suc n) h = omega arith
+positive f (suc n) h = suc-le-suc_iff.1 zero-le
 
 protocol-is : (families : Families) (r : Rule) (o : Option ℕ) → IsSoundRule Cisco families r → OfNumbers r.protos o
     → IfSome o (λ n. (1 ≤ n) × (n ≤ 255))
@@ -41,7 +42,7 @@ Named test s o = (n : ℕ) × ((o ≡ Some n) × ((holds s.ranges n ≡ true) ×
 
 named : (test : ℕ → Bool) (s : Numbers) (o : Option ℕ) → OfNumbers s o → test 0 ≡ false → Only test s → Named test s o
 named test s None h none only =
-    absurd (false≢true (sym none ∙ only 0 (covers-holds s.ranges 0 s.top 0 h (omega arith) (omega arith))))
+    absurd (false≢true (sym none ∙ only 0 (covers-holds s.ranges 0 s.top 0 h zero-le zero-le)))
 named test s (Some n) h none only = (n, (refl, (h.1, only n h.1)))
 
 -- ---- the type
@@ -52,8 +53,8 @@ type-is families r None h k = tt
 type-is families r (Some n) h k =
     let most = at_top 0 255 r.itypes.ranges n h.types.normal k.1 in
     elim (cases_lt n 255) [
-      | inl below ↦ omega (arith, below)
-      | inr above ↦ let e : n ≡ 255 = omega (arith, most, above) in
+      | inl below ↦ le_of_suc-le-suc below
+      | inr above ↦ let e : n ≡ 255 = le_antisymm most above in
           absurd (false≢true (sym (h.types_named k.0) ∙ ap (holds r.itypes.ranges) (sym e) ∙ k.1))
     ]
 
@@ -112,9 +113,9 @@ ports-fit families r proto None (Some q) h u p k l =
     tcp-or-udp r.protos proto p (h.destination_ports_fit l.0)
     (no-destination (holds r.protos.ranges 132) (is_all r.sports) (is_all r.dports) sctp l.0)
 
-range-is : (s : Numbers) (o : Option (ℕ × ℕ)) → OfRanges s o → IfSome o IsPortRange
-range-is s None h = tt
-range-is s (Some q) h = h.1
+range-is : (s : Numbers) (o : Option (ℕ × ℕ)) → s.top ≡ 65535 → OfRanges s o → IfSome o IsPortRange
+range-is s None e h = tt
+range-is s (Some q) e h = (h.1.0, suc-le-suc_iff.1 (subst (λ t. q.1 ≤ t) e h.1.1))
 
 -- ---- flags
 
@@ -141,7 +142,7 @@ only-tcp s proto p only =
 
 -- ---- the entry
 
-pub entry-is : (families : Families) (r : Rule) (c : Combination) → IsSoundRule Cisco families r → is_unsupported r ≡ false → IsOf r c
+pub entry-is : (families : Families) (r : Rule) (c : Combination) → IsSoundRule Cisco families r → is_unsupported r ≡ false → IsCombinationOf r c
     → IsEntry r.family (entry_of r c)
 entry-is families r c h u k =
     let e = entry_of r c in
@@ -149,13 +150,13 @@ entry-is families r c h u k =
     record {
       protocol = protocol-is families r c.proto h k.protocol;
       source = k.source;
-      source_ports = range-is r.sports c.sport k.source_ports;
+      source_ports = range-is r.sports c.sport h.source_ports.top_is k.source_ports;
       destination = k.destination;
-      destination_ports = range-is r.dports c.dport k.destination_ports;
-      icmp_type = type-is families r c.itype h k.icmp_type;
+      destination_ports = range-is r.dports c.dport h.destination_ports.top_is k.destination_ports;
+      icmp_type = type-is families r c.itype h k.type_of_icmp;
       fit = and_from (ports_fit e) (type_fits r.family e && flags_fit r.family e)
           (ports-fit families r c.proto c.sport c.dport h u k.protocol k.source_ports k.destination_ports)
-          (and_from (type_fits r.family e) (flags_fit r.family e) (types-fit families r c.proto c.itype h k.protocol k.icmp_type)
+          (and_from (type_fits r.family e) (flags_fit r.family e) (types-fit families r c.proto c.itype h k.protocol k.type_of_icmp)
           (and_from (is_none e.flags || is_proto e.proto 6) (match_all_fits r.family e.flags)
           (of-tcp r.test c.proto (λ t. only-tcp r.protos c.proto k.protocol (h.flags_fit t)))
           (match-all r.family r.test initial)));

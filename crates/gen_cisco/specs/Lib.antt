@@ -3,7 +3,6 @@ pub mod DecisionLaws
 pub mod EntryLaws
 pub mod Limits
 pub mod NameLaws
-pub mod PartLaws
 pub mod RowSteps
 pub mod SectionLaws
 pub mod SectionNames

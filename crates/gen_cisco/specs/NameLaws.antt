@@ -1,7 +1,8 @@
 -- Names of rules and notes are free texts: proved here, and need not be believed.
-use Rattle.std.proofs.Common.{◌≡◌, ℕ, ◌≤◌, Bool, true, false, ◌&&◌, ◌||◌, ◌==◌, not, nat_le, List, [], ◌∷◌, ◌++◌, inl, inr, length, codes, refl, ap, sym, subst, ◌∙◌, arith}
+use Rattle.std.proofs.Common.{◌≡◌, ℕ, ◌≤◌, Bool, true, false, ◌&&◌, ◌||◌, ◌==◌, not, nat_le, List, [], ◌∷◌, ◌++◌, inl, inr, length, lit≤, codes, refl, ap, sym, subst, ◌∙◌, arith}
 use Rattle.std.specs.List.{list_all, AllByRecursion}
 use Rattle.std.proofs.lemmas.Bool.{and_from, and_parts, eqb-true, false≢true, or_left}
+use Rattle.std.proofs.Math.Nat.{le_trans}
 use Rattle.acl_text.specs.Names.{is_name, is_name_byte, is_safe_byte, is_safe_text, single_spaced}
 use Rattle.acl_text.specs.Notes.{is_note}
 use Rattle.acl_grammar.proofs.DecisionLaws.{le_decides}
@@ -58,7 +59,7 @@ split-safe (b ∷ bs) suffix name is h e short =
     let parts = and_parts (nat_le (length (b ∷ bs)) 128) (list_all is_name_byte (b ∷ bs)) is in
     let size = ap length e in
     subst (λ (n : List ℕ). is_safe_text n ≡ true) (sym e)
-    (bytes-safe b (bs ++ suffix) (omega (arith, size, short)) (all-bytes (b ∷ bs) suffix parts.1 h))
+    (bytes-safe b (bs ++ suffix) (le_trans (subst (λ n. n ≤ 64) size short) (lit≤ tt)) (all-bytes (b ∷ bs) suffix parts.1 h))
 
 name-safe : (name : List ℕ) → is_name name ≡ true → is_safe_text name ≡ true
 name-safe [] is = absurd (false≢true is)

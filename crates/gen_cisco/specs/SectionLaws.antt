@@ -1,10 +1,12 @@
 -- The section of an accepted filter is a document: proved here, and need not be believed.
-use Rattle.std.proofs.Common.{◌≡◌, ℕ, ◌+◌, ◌≤◌, Bool, true, false, cond, nat_lt, List, [], ◌∷◌, ◌++◌, length, map, flat_map, codes, Option, None, Some, inl, inr, refl, ap, sym, subst, append-nil, ◌∙◌, arith}
+use Rattle.std.proofs.Common.{◌≡◌, ℕ, suc, lit≤, ◌+◌, ◌≤◌, Bool, true, false, cond, nat_lt, List, [], ◌∷◌, ◌++◌, length, map, flat_map, codes, Option, None, Some, inl, inr, refl, ap, sym, subst, append-nil, ◌∙◌, arith}
 use Rattle.std.specs.List.{AllByRecursion, IsDistinct}
 use Rattle.std.specs.Option.{option_or}
 use Rattle.std.specs.Str.{bytes_eq}
 use Rattle.std.proofs.lemmas.Bool.{cases_lt, false_from_ne_true, false≢true, lt-ltb}
 use Rattle.std.proofs.lemmas.List.{length-append}
+use Rattle.std.proofs.Math.Nat.{le_refl, le_step, not-suc-le_self}
+use Rattle.std.proofs.lemmas.Option.{none-some}
 use Rattle.std.proofs.lemmas.Slice.Eq.{bytes_eq-Decides}
 use Rattle.acl_packet.specs.declared.addresses.Families.{Families}
 use Rattle.acl_packet.specs.declared.addresses.Families.TheVariants.{Inet, Inet6, Mixed}
@@ -24,6 +26,7 @@ use Rattle.acl_platform.specs.declared.filters.Filter.{Filter}
 use Rattle.acl_platform.specs.declared.filters.Limit.{Limit}
 use Rattle.acl_platform.specs.declared.filters.Limit.TheVariants.{NameLength, Unsupported}
 use Rattle.acl_platform.specs.declared.rules.Rule.{Rule}
+use Rattle.acl_platform.proofs.CombinationFacts.{all-map, all-weaker, combination-facts, IsCombinationOf}
 use Rattle.acl_platform.specs.Combinations.{combinations}
 use Rattle.acl_platform.specs.Platforms.{IsAccepted}
 use Rattle.acl_platform.specs.SoundFilters.{IsSoundRule, target_of}
@@ -34,7 +37,6 @@ use Rattle.cisco_lang.specs.Texts.{Spells, text_of}
 use Rattle.gen_cisco.specs.EntryLaws.{entry-is}
 use Rattle.gen_cisco.specs.Limits.{count_limit, first_limit, is_for_cisco, is_unsupported, limit_of, rule_limit}
 use Rattle.gen_cisco.specs.NameLaws.{notes-safe, rule-name-safe}
-use Rattle.gen_cisco.specs.PartLaws.{all-map, all-weaker, IsOf, parts-are}
 use Rattle.gen_cisco.specs.Sections.{closed, entry_of, entry_count, items_in, list_of, remarks, rule_items, section_of, wide_entry}
 
 -- ---- an accepted filter
@@ -65,20 +67,17 @@ IsWithin r = (length r.name ≤ 64) × (is_unsupported r ≡ false)
 
 both-none : (o p : Option Limit) → option_or o p ≡ None → (o ≡ None) × (p ≡ None)
 both-none None p h = (refl, h)
-both-none (Some l) p h = cc
+both-none (Some l) p h = absurd (none-some l (sym h))
 
 no-name-limit : (n : ℕ) (l : Limit) (o : Option Limit) → cond (nat_lt 64 n) (Some l) o ≡ None → n ≤ 64
 no-name-limit n l o h = elim (cases_lt 64 n) [
-  | inl long ↦ absurd (some-none l (sym (ap (λ b. cond b (Some l) o) (lt-ltb 64 n long)) ∙ h))
+  | inl long ↦ absurd (none-some l (sym h ∙ ap (λ b. cond b (Some l) o) (lt-ltb 64 n long)))
   | inr short ↦ short
 ]
-  where
-    some-none : (l : Limit) → Some l ≡ None → ⊥
-    some-none l e = cc
 
 no-other-limit : (long unsupported : Bool) (l m : Limit) → cond long (Some l) (cond unsupported (Some m) None) ≡ None → unsupported ≡ false
-no-other-limit true unsupported l m h = cc
-no-other-limit false true l m h = cc
+no-other-limit true unsupported l m h = absurd (none-some l (sym h))
+no-other-limit false true l m h = absurd (none-some m (sym h))
 no-other-limit false false l m h = refl
 
 rule-within : (place : ℕ) (r : Rule) → rule_limit place r ≡ None → IsWithin r
@@ -105,8 +104,8 @@ rule-valid families r h w =
     all_append (IsItem r.family) texts entries
     (all-map (IsItem r.family) (λ text. Remark text) (remarks r) (rule-name-safe r.name h.name w.0, notes-safe r.note h.note))
     (all-map (IsItem r.family) (λ c. AnEntry (entry_of r c)) (combinations r)
-    (all-weaker (IsOf r) (λ (c : Combination). IsEntry r.family (entry_of r c)) (λ c k. entry-is families r c h w.1 k) (combinations r)
-    (parts-are Cisco families r h)))
+    (all-weaker {P = IsCombinationOf r} {Q = λ c. IsEntry r.family (entry_of r c)} (λ c k. entry-is families r c h w.1 k) (combinations r)
+    (combination-facts Cisco families r h)))
 
 valid-by : (families : Families) (family : Family) (r : Rule) (b : Bool) → same_family r.family family ≡ b → IsSoundRule Cisco families r → IsWithin r
     → AllByRecursion (IsItem family) (cond b (rule_items r) [])
@@ -144,7 +143,7 @@ denial-is V6 = record {
 
 neighbours-are : (itype : ℕ) → itype ≤ 254 → IsEntry V6 (wide_entry V6 true (Some 58) (Some itype))
 neighbours-are itype h = record {
-  protocol = (omega arith, omega arith);
+  protocol = (lit≤ tt, lit≤ tt);
   source = everywhere_is V6;
   source_ports = tt;
   destination = everywhere_is V6;
@@ -155,7 +154,7 @@ neighbours-are itype h = record {
 
 closed-valid : (family : Family) (items : List Item) → AllByRecursion (IsItem family) items → AllByRecursion (IsItem family) (closed family items)
 closed-valid V4 [] h = (denial-is V4, tt)
-closed-valid V6 [] h = (neighbours-are 136 (omega arith), (neighbours-are 135 (omega arith), (denial-is V6, tt)))
+closed-valid V6 [] h = (neighbours-are 136 (lit≤ tt), (neighbours-are 135 (lit≤ tt), (denial-is V6, tt)))
 closed-valid family (item ∷ items) h = h
 
 list-valid : (f : Filter) → IsAccepted is_for_cisco limit_of f → (family : Family) (name : List ℕ) → IsList (list_of f.rules (family, name))
@@ -178,9 +177,10 @@ lists-valid rules Mixed name h = (h V4 name, (h V6 (codes "ipv6-" ++ name), tt))
 
 longer : (name : List ℕ) → bytes_eq name (codes "ipv6-" ++ name) ≡ false
 longer name = false_from_ne_true (bytes_eq name (codes "ipv6-" ++ name)) (λ e.
+    let n = length name in
     let size = ap length ((bytes_eq-Decides name (codes "ipv6-" ++ name)).0 e) in
-    let both = length-append (codes "ipv6-") name in
-    absurd (omega (arith, size, both)))
+    let above : suc n ≤ length (codes "ipv6-" ++ name) = le_step (le_step (le_step (le_step (le_refl (suc n))))) in
+    absurd (not-suc-le_self n (subst (λ m. suc n ≤ m) (sym size) above)))
 
 pub lists-differ : (rules : List Rule) (fs : Families) (name : List ℕ)
     → IsDistinct bytes_eq (map (λ l. l.name) (map (list_of rules) (heads_of fs name)))

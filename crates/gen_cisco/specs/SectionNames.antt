@@ -19,6 +19,7 @@ FirstLine = (f : Filter) (stateful : Bool) → f.kind ≡ Cisco
 
 -- Where no two targets clash, no two lists of all sections have the same name.
 abbrev pub ListsDiffer : Type 0
-ListsDiffer = (filters : List Filter) (stateful : Bool) → AllByRecursion (λ f. f.kind ≡ Cisco) filters
+ListsDiffer = (filters : List Filter) (stateful : Bool)
+    → AllByRecursion (λ f. f.kind ≡ Cisco) filters
     → IsDistinct clash (map (target_of stateful) filters)
     → IsDistinct bytes_eq (flat_map (λ f. list_names (section_of f)) filters)

@@ -84,8 +84,8 @@ wide_entry family permit proto itype = record {
 -- 136, and solicitations, 135 (RFC 4861 section 4), which are permitted.
 abbrev pub closing_entries : Family → List Entry
 closing_entries V4 = wide_entry V4 false None None ∷ []
-closing_entries V6 = wide_entry V6 true (Some 58) (Some 136) ∷ wide_entry V6 true (Some 58) (Some 135)
-    ∷ wide_entry V6 false None None ∷ []
+closing_entries V6 = wide_entry V6 true (Some 58) (Some 136)
+    ∷ wide_entry V6 true (Some 58) (Some 135) ∷ wide_entry V6 false None None ∷ []
 
 -- A list without an entry would accept all packets, so one without a rule has the closing entries.
 abbrev pub closed : Family → List Item → List Item
