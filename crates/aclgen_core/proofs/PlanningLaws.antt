@@ -33,7 +33,8 @@ use Rattle.acl_load.specs.LoadFaults.{of_rejection}
 use Rattle.acl_load.specs.LoadedPolicies.{AreResolvedIn, LoadsPolicy}
 use Rattle.cisco_lang.specs.Texts.{Spells, text_of}
 use Rattle.cisco_lang.specs.Walks.{outcome_of}
-use Rattle.aclgen_core.specs.CiscoStub.{ListsDiffer, list_names, section_of}
+use Rattle.gen_cisco.specs.SectionNames.{ListsDiffer}
+use Rattle.gen_cisco.specs.Sections.{list_names, section_of}
 use Rattle.aclgen_core.specs.CommandLines.{Options, options_of}
 use Rattle.aclgen_core.specs.DecidingSteps.{DecidesPlanned, IsReady, WhereSeen, texts_in}
 use Rattle.aclgen_core.specs.Endings.{IsFileOf}

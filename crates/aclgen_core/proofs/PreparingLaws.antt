@@ -30,7 +30,8 @@ use Rattle.acl_platform.specs.SoundFilters.{IsSound}
 use Rattle.acl_expand.specs.ExpansionSlips.{first_slip}
 use Rattle.acl_expand.proofs.DecideLaws.{decides-as-written}
 use Rattle.acl_load.specs.LoadedPolicies.{AreResolved, AreResolvedIn}
-use Rattle.aclgen_core.specs.CiscoStub.{entry_count, is_for_cisco, limit_of}
+use Rattle.gen_cisco.specs.Limits.{is_for_cisco, limit_of}
+use Rattle.gen_cisco.specs.Sections.{entry_count}
 use Rattle.aclgen_core.specs.Endings.{DecidesAsPolicy}
 use Rattle.aclgen_core.specs.FilterRequests.{FilterRequest, check_slip, block_requests, filter_for, is_cisco, limit_slip, request_of, request_slip, requests_in, requests_slip, target_slip}
 use Rattle.aclgen_core.specs.Job.{report_line}

@@ -21,7 +21,7 @@ use Rattle.acl_platform.specs.declared.rules.Test.TheVariants as tests
 use Rattle.acl_expand.specs.Expansions.{filter_of}
 use Rattle.acl_expand.specs.ExpansionSlips.{first_slip}
 use Rattle.acl_load.specs.declared.policy_loading.Loaded.{Loaded}
-use Rattle.aclgen_core.specs.CiscoStub.{limit_of}
+use Rattle.gen_cisco.specs.Limits.{limit_of}
 
 -- A target of a policy, and the terms of its block: as they are written, and with their words read as numbers.
 pub record FilterRequest : Type 0 where

@@ -13,7 +13,7 @@ use Rattle.acl_load.specs.Loading.{fault_of}
 use Rattle.cisco_lang.specs.declared.documents.Section.{Section}
 use Rattle.cisco_lang.specs.Texts.{text_of}
 use Rattle.acl_platform.specs.declared.filters.Filter.{Filter}
-use Rattle.aclgen_core.specs.CiscoStub.{entry_count, section_of}
+use Rattle.gen_cisco.specs.Sections.{entry_count, section_of}
 use Rattle.aclgen_core.specs.CommandLines.{Options, options_of}
 use Rattle.aclgen_core.specs.FilterPaths.{acl_path}
 use Rattle.aclgen_core.specs.FilterRequests.{FilterRequest, filter_for, loaded_slip, requests_of}

@@ -1,4 +1,3 @@
-pub mod CiscoStub
 pub mod CodeViews
 pub mod CommandLines
 pub mod DecidingSteps

@@ -16,7 +16,8 @@ use Rattle.acl_load.specs.declared.policy_loading.Loaded.{Loaded}
 use Rattle.acl_load.specs.LoadFaults.{load_told}
 use Rattle.cisco_lang.specs.Texts.{Spells, text_of}
 use Rattle.cisco_lang.specs.Walks.{outcome_of}
-use Rattle.aclgen_core.specs.CiscoStub.{entry_count, is_for_cisco, limit_of, section_of}
+use Rattle.gen_cisco.specs.Limits.{is_for_cisco, limit_of}
+use Rattle.gen_cisco.specs.Sections.{entry_count, section_of}
 use Rattle.aclgen_core.specs.CommandLines.{Options}
 use Rattle.aclgen_core.specs.DecidingSteps.{IsReady, texts_in}
 use Rattle.aclgen_core.specs.FileLists.{PathsDiffer}

@@ -6,7 +6,8 @@ ghost use Rattle.acl_platform.specs.Platforms.{IsAccepted};
 ghost use Rattle.acl_policy.specs.Conditions.{IsPolicy};
 ghost use Rattle.acl_load.specs.LoadedPolicies.{AreResolvedIn};
 ghost use Rattle.acl_load.specs.LoadFaults.{LoadsFiles};
-ghost use Rattle.aclgen_core.specs.CiscoStub.{is_for_cisco, limit_of, list_names, section_of};
+ghost use Rattle.gen_cisco.specs.Limits.{is_for_cisco, limit_of};
+ghost use Rattle.gen_cisco.specs.Sections.{list_names, section_of};
 ghost use Rattle.aclgen_core.specs.CodeViews.{options_view};
 ghost use Rattle.aclgen_core.specs.PreparingSteps.{IsWorkOf, MakesWork, PlansLoaded};
 

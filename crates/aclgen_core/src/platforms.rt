@@ -5,11 +5,13 @@ ghost use Rattle.acl_platform.specs.Platforms.{DecidesAs, IsAccepted, judged};
 ghost use Rattle.acl_platform.specs.SoundFilters.{IsSound};
 ghost use Rattle.cisco_lang.specs.Texts.{Spells};
 ghost use Rattle.cisco_lang.specs.Walks.{outcome_of};
-ghost use Rattle.aclgen_core.specs.CiscoStub.{entry_count, is_for_cisco, limit_of, list_names, section_of};
+ghost use Rattle.gen_cisco.specs.Limits.{is_for_cisco, limit_of};
+ghost use Rattle.gen_cisco.specs.Sections.{entry_count, list_names, section_of};
 
 use acl_host::Whole;
-use acl_platform::{Filter, Limit};
+use acl_platform::{Filter, Limit, Platform, write_all};
 use acl_text::Memory;
+use gen_cisco::Cisco;
 use std::alloc::Global;
 
 /// The number of entries of a Cisco filter, or the limit that it meets.
@@ -18,7 +20,7 @@ pub fn check_cisco(filter: &Filter) -> Result<u64, Limit>
     requires sound { IsSound filter.now }
     ensures { result ≡ judged (limit_of filter.now) (entry_count filter.now) }
 {
-    Ok(0)
+    Cisco.check(filter)
 }
 
 /// The text of the one document whose sections are those of the filters, in order.
@@ -31,5 +33,9 @@ pub fn cisco_text(alloc: Global, filters: &[Filter]) -> Result<Whole, Memory>
     ensures decides { IfOk result (λ _. (k : ℕ) → IfSome (slice_get filters.now k)
         (λ f. DecidesAs f (outcome_of (map section_of filters.now) k))) }
 {
-    Err(Memory)
+    let mut text = Whole::new(alloc);
+    match write_all(&Cisco, filters, &mut text) {
+        Ok(()) => Ok(text),
+        Err(_) => Err(Memory),
+    }
 }

@@ -1,9 +1,10 @@
 use Rattle.std.proofs.Common.{subst, sym, ◌∙◌}
 use Rattle.std.specs.List.{All}
 use Rattle.aclgen_core.specs.CodeViews.{options_view}
-use Rattle.aclgen_core.specs.CiscoStub.{is_for_cisco, limit_of}
+use Rattle.gen_cisco.specs.Limits.{is_for_cisco, limit_of}
 use Rattle.acl_platform.specs.Platforms.{IsAccepted}
 use Rattle.aclgen_core.specs.FilterRequests.{filter_for, platform_slip, requests_of, requests_slip}
+use Rattle.gen_cisco.proofs.ListNames.{all-differ}
 use Rattle.aclgen_core.proofs.PreparingLaws.{all-map, first-none}
 use Rattle.aclgen_core.proofs.PlanningLaws.{is-planned, names-differ}
 use Rattle.aclgen_core.proofs.planning.plan.Goals as goal
@@ -21,7 +22,7 @@ work_of-requires-clause-names_differ c =
     let today = c.args.options.now.date in
     let loaded = c.args.loaded.now in
     let parts = first-none (platform_slip loaded.policy.blocks) (requests_slip today (requests_of loaded)) prepared.slip_is in
-    names-differ ? today loaded.definitions loaded.policy loaded.terms c.in-Ok.prepared.filters c.requires.fits parts.0 c.requires.terms prepared.filters_are
+    names-differ all-differ today loaded.definitions loaded.policy loaded.terms c.in-Ok.prepared.filters c.requires.fits parts.0 c.requires.terms prepared.filters_are
 
 pub returns-in-Ok : goal.returns-in-Ok
 returns-in-Ok c = is-planned (options_view c.args.options.now) c.args.options.now.date c.args.loaded.now _ c.in-Ok.prepared _

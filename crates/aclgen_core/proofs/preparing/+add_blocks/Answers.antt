@@ -1,7 +1,10 @@
-use Rattle.std.proofs.Common.{◌≡◌, true, List, [], rules, sym, subst}
-use Rattle.aclgen_core.specs.FilterRequests.{FilterRequest, block_requests, requests_in}
+use Rattle.std.proofs.Common.{◌≡◌, true, List, [], rules, ap, sym, subst, ◌∙◌}
+use Rattle.std.specs.List.{All}
+use Rattle.std.proofs.lemmas.List.Elements.{All-tail}
+use Rattle.acl_policy.specs.Conditions.{IsBlock}
+use Rattle.aclgen_core.specs.FilterRequests.{FilterRequest, block_requests, block_slip, platform_slip}
 use Rattle.aclgen_core.specs.PreparingSteps.{Adds}
-use Rattle.aclgen_core.proofs.PreparingLaws.{adds-append, adds-slip, blocks-are, first-rest}
+use Rattle.aclgen_core.proofs.PreparingLaws.{adds-append, adds-slip, blocks-are, first-none, first-rest}
 use Rattle.aclgen_core.proofs.preparing.+add_blocks.Goals as goal
 
 pub returns-in_err-add_filters : goal.returns-in_err-add_filters
@@ -20,8 +23,12 @@ returns-in_err-add_filters t c =
 
 pub add_blocks-requires : goal.add_blocks-requires
 add_blocks-requires t c =
+    let block = c.block-item.result in
+    let e = first-rest c.args.blocks.now block c.in-len1-up.len_at_least c.block-item.is in
+    let sound = All-tail IsBlock block _ (subst (All IsBlock) e c.requires.sound) in
+    let handled = first-none (block_slip block) _ (sym (ap platform_slip e) ∙ c.requires.handled) in
     let opened : c.add_filters.new.prepared.report.is_open ≡ true = (c.in_ok-add_filters.ensures []).opened in
-    search rules
+    (search rules, (sound, (handled.1, opened)))
 
 pub returns : goal.returns
 returns t c =
