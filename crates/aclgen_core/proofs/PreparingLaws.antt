@@ -13,7 +13,7 @@ use Rattle.acl_text.specs.declared.faults.Refusal.{Refusal}
 use Rattle.acl_text.specs.declared.faults.Refusal.TheVariants as refusals
 use Rattle.acl_text.specs.declared.faults.Slip.{Slip}
 use Rattle.acl_host.specs.declared.clocks.Day.{Day}
-use Rattle.acl_naming.specs.Checking.{first_of}
+use Rattle.acl_naming.specs.Checking.{IsRefusal, first_of}
 use Rattle.acl_naming.specs.Definitions.{Naming}
 use Rattle.acl_target.specs.declared.targets.Kind.{Kind}
 use Rattle.acl_target.specs.declared.targets.Kind.TheVariants.{Cisco, Juniper, Iptables, Nftables}
@@ -35,7 +35,7 @@ use Rattle.gen_cisco.specs.Sections.{entry_count}
 use Rattle.aclgen_core.specs.Endings.{DecidesAsPolicy}
 use Rattle.aclgen_core.specs.FilterRequests.{FilterRequest, check_slip, block_requests, filter_for, is_cisco, limit_slip, request_of, request_slip, requests_in, requests_slip, target_slip}
 use Rattle.aclgen_core.specs.Job.{report_line}
-use Rattle.aclgen_core.specs.PreparingSteps.{Adds, AddsAll, ChecksFilter, IsTaken}
+use Rattle.aclgen_core.specs.PreparingSteps.{Adds, AddsAll, Checks, ChecksFilter, IsTaken}
 use Rattle.aclgen_core.specs.declared.preparing.Prepared.{Prepared}
 
 -- ---- lists
@@ -94,6 +94,21 @@ checks-filter today r f entries none is sound handled e =
         within = within;
       };
     }
+
+judged-err : (l : Option Limit) (n : ℕ) (m : Limit) → Err m ≡ judged l n → l ≡ Some m
+judged-err None n m e = absurd (cc)
+judged-err (Some l) n m e = cc
+
+check-some : (f : Filter) (limit : Limit) → limit_of f ≡ Some limit → check_slip f ≡ Some (limit_slip f limit)
+unfolding check_slip
+check-some f limit e = ap (option_map (limit_slip f)) e
+
+pub checks-limit : (today : Day) (r : FilterRequest) (f : Filter) (limit : Limit) (e : Refusal) → first_slip r.target today r.terms ≡ None → f ≡ filter_for today r
+    → Err limit ≡ judged (limit_of f) (entry_count f) → IsRefusal (limit_slip f limit) e → Checks today r (Err e)
+checks-limit today r f limit (refusals.Slip t) none is e h =
+    ap (λ o. first_of o (check_slip (filter_for today r))) none ∙ ap check_slip (sym is)
+    ∙ check-some f limit (judged-err (limit_of f) (entry_count f) limit e) ∙ ap Some (sym h)
+checks-limit today r f limit refusals.Memory none is e h = tt
 
 -- ---- several filters
 
