@@ -8,6 +8,7 @@ mod endings;
 mod fault_lines;
 mod file_texts;
 mod filter_paths;
+mod laws;
 mod planning;
 mod platforms;
 mod preparing;
@@ -15,4 +16,5 @@ mod running;
 mod slips;
 
 pub use endings::{Ended, Which, status_of};
+pub use laws::jobs_are_one;
 pub use running::aclgen;

@@ -1,4 +1,4 @@
-use Rattle.std.proofs.Common.{◌≡◌, true, List, [], rules, ap, sym, subst, ◌∙◌}
+use Rattle.std.proofs.Common.{◌≡◌, true, List, [], None, rules, ap, sym, subst, ◌∙◌}
 use Rattle.std.specs.List.{All}
 use Rattle.std.proofs.lemmas.List.Elements.{All-tail}
 use Rattle.acl_policy.specs.Conditions.{IsBlock}
@@ -25,8 +25,10 @@ pub add_blocks-requires : goal.add_blocks-requires
 add_blocks-requires t c =
     let block = c.block-item.result in
     let e = first-rest c.args.blocks.now block c.in-len1-up.len_at_least c.block-item.is in
-    let sound = All-tail IsBlock block _ (subst (All IsBlock) e c.requires.1.0) in
-    let handled = first-none (block_slip block) _ (sym (ap platform_slip e) ∙ c.requires.1.1.0) in
+    let all : All IsBlock c.args.blocks.now = assumption (c.requires) in
+    let none : platform_slip c.args.blocks.now ≡ None = assumption (c.requires) in
+    let sound = All-tail IsBlock block _ (subst (All IsBlock) e all) in
+    let handled = first-none (block_slip block) _ (sym (ap platform_slip e) ∙ none) in
     let opened : c.add_filters.new.prepared.report.is_open ≡ true = (c.in_ok-add_filters.ensures []).opened in
     (search rules, (sound, (handled.1, opened)))
 
