@@ -1,7 +1,6 @@
-pub mod Jobs
+pub mod FileListLaws
 pub mod OneAnswer
-pub mod PlanLaws
-pub mod PolicyFacts
-pub mod RuleLaws
-pub mod RulesFollow
+pub mod PlanningLaws
+pub mod PreparingLaws
+pub mod Rows
 pub mod Telling

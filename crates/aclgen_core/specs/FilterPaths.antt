@@ -1,8 +1,7 @@
--- The path of the file that a filter is written to.
-use Rattle.std.specs.Prelude.{ℕ, ◌-◌, ◌&&◌, ◌==◌, nat_lt, nat_eq, if◌then◌else◌, List, [], ◌++◌, length, take, codes, slice_index_or}
+-- The path of the file that a platform's filters are written to.
+use Rattle.std.specs.Prelude.{ℕ, ◌-◌, ◌&&◌, nat_lt, nat_eq, ◌==◌, if◌then◌else◌, List, [], ◌++◌, length, take, codes, slice_index_or}
 use Rattle.std.specs.List.{slice_split, ends_with}
 use Rattle.acl_host.specs.Files.{join_path}
-use Rattle.aclgen_core.specs.CommandLines.{Options}
 
 -- what stands between a path's slashes
 abbrev pub parts_of : List ℕ → List (List ℕ)
@@ -16,6 +15,6 @@ last_part path = slice_index_or (parts_of path) (length (parts_of path) - 1) []
 abbrev pub without_pol : List ℕ → List ℕ
 without_pol name = if ends_with nat_eq name (codes ".pol") && nat_lt 4 (length name) then take (length name - 4) name else name
 
--- In the output folder, under the policy's own name with `.acl`.
-unfoldable pub acl_path : Options → List ℕ
-acl_path o = join_path o.output (without_pol (last_part o.policy)) ++ codes ".acl"
+-- In the output folder, under the policy's own name with the ending of Cisco lists, `.acl`.
+unfoldable pub acl_path : List ℕ → List ℕ → List ℕ
+acl_path output policy = join_path output (without_pol (last_part policy)) ++ codes ".acl"

@@ -1,107 +1,99 @@
--- The whole job: from the options and the files to what is written, or to the first fault.
-use Rattle.std.specs.Prelude.{◌≡◌, ℕ, nat_lt, if◌then◌else◌, List, [], ◌∷◌, Option, None, Some, Result, Ok, Err}
-use Rattle.acl_text.specs.declared.faults.Code.TheVariants.{UnknownName, NotYet, TooManyEntries}
+-- The whole job: from the words, the day and the files to what is written, or to the first fault.
+use Rattle.std.specs.Prelude.{◌≡◌, ℕ, List, [], ◌∷◌, ◌++◌, map, flat_map, codes, decimal, Option, None, Some, Result, Ok, Err}
 use Rattle.acl_text.specs.declared.faults.Fault.{Fault}
+use Rattle.acl_text.specs.declared.faults.Slip.{Slip}
+use Rattle.acl_host.specs.declared.clocks.Day.{Day}
 use Rattle.acl_host.specs.Files.{File}
 use Rattle.acl_naming.specs.Definitions.{Naming}
-use Rattle.acl_text.specs.Steps.{◌>>=◌, or_err}
-use Rattle.acl_host.specs.WholeFiles.{fault_at, whole_file}
-use Rattle.acl_load.specs.Loading.{Loads}
+use Rattle.acl_target.specs.declared.targets.Target.{Target}
+use Rattle.acl_target.specs.TargetTexts.{target_text}
+use Rattle.acl_load.specs.declared.policy_loading.Loaded.{Loaded}
+use Rattle.acl_load.specs.LoadedPolicies.{GoesOn, LoadsPolicy}
+use Rattle.acl_load.specs.Loading.{fault_of}
 use Rattle.cisco_lang.specs.declared.documents.Section.{Section}
-use Rattle.gen_cisco.specs.declared.rules.Rule.{Rule}
-use Rattle.gen_cisco.specs.Sections.{section_of, entry_count}
+use Rattle.cisco_lang.specs.Texts.{text_of}
+use Rattle.acl_platform.specs.declared.filters.Filter.{Filter}
+use Rattle.gen_cisco.specs.Sections.{entry_count, section_of}
 use Rattle.aclgen_core.specs.CommandLines.{Options, options_of}
 use Rattle.aclgen_core.specs.FilterPaths.{acl_path}
-use Rattle.aclgen_core.specs.declared.narrow_policies.Word.{Word}
-use Rattle.aclgen_core.specs.declared.narrow_policies.Policy.{Policy}
-use Rattle.aclgen_core.specs.NarrowPolicies.{policy_from}
-use Rattle.aclgen_core.specs.Rendering.{AreRulesOf, first_unknown}
+use Rattle.aclgen_core.specs.FilterRequests.{FilterRequest, filter_for, loaded_slip, requests_of}
 
--- What a run writes: the definitions and the policy that it was read with, the rules that its terms become, and the
--- path.
+-- A file that a run writes: its path, and the filters that are asked for in it, in order.
+pub record PlanFile : Type 0 where
+  pub path : List ℕ
+  pub requests : List FilterRequest
+
+-- What a run writes: its files, over the definitions and the day for which they are made.
 pub record Plan : Type 0 where
   pub naming : Naming
-  pub policy : Policy
-  pub rules : List Rule
-  pub path : List ℕ
+  pub today : Day
+  pub files : List PlanFile
 
--- ---- the policy
-
--- A policy of this version has at most 65,536 bytes.
-abbrev pub MOST_BYTES : ℕ
-MOST_BYTES = 65536
-
--- The policy in the bytes of the file at the path; input beyond this version is a fault of the whole file.
-abbrev pub policy_in : List ℕ → List ℕ → Result Policy Fault
-policy_in path bytes = or_err (fault_at NotYet path) (policy_from bytes)
-
-unfoldable pub policy_read : Options → List File → Result Policy Fault
-policy_read o files = do
-  bytes ← whole_file MOST_BYTES NotYet o.policy files
-  policy_in o.policy bytes
-
--- ---- the rules
-
--- The greatest number of entries of a filter.
-abbrev pub MOST_ENTRIES : ℕ
-MOST_ENTRIES = 100000
-
-abbrev pub unknown_name : List ℕ → Word → Fault
-unknown_name path word =
-    record { code = UnknownName; label = path; line = word.line; word = word.text }
-
-abbrev pub too_many_entries : List ℕ → Policy → Fault
-too_many_entries path policy = record {
-  code = TooManyEntries;
-  label = path;
-  line = policy.target.line;
-  word = policy.target.name;
+-- Its options say where the filters go: those of Cisco into one file, in the order of the targets.
+abbrev pub plan_of : Options → Day → Loaded → Plan
+plan_of o today loaded = record {
+  naming = loaded.definitions;
+  today = today;
+  files = record { path = acl_path o.output o.policy; requests = requests_of loaded } ∷ [];
 }
 
--- What stands once the terms became these rules.
-abbrev pub planned : Options → Naming → Policy → List Rule → Result Plan Fault
-planned o naming policy rules =
-    if nat_lt MOST_ENTRIES (entry_count rules) then Err (too_many_entries o.policy policy)
-    else Ok (record { naming = naming; policy = policy; rules = rules; path = acl_path o })
+-- A slip is told with the label of its file.
+abbrev pub or_slip : List (List ℕ) → Option Slip → Plan → Result Plan Fault
+or_slip labels (Some slip) plan = Err (fault_of labels slip)
+or_slip labels None plan = Ok plan
 
-abbrev pub RendersWith : Option Word → Options → Naming → Policy → Result Plan Fault → Type 0
-RendersWith (Some word) o naming policy answer = answer ≡ Err (unknown_name o.policy word)
-RendersWith None o naming policy answer =
-    (rules : List Rule) × AreRulesOf naming.networks policy.terms rules
-    × (answer ≡ planned o naming policy rules)
+abbrev pub planned : Options → Day → Loaded → Result Plan Fault
+planned o today loaded =
+    or_slip loaded.sources.labels (loaded_slip today loaded) (plan_of o today loaded)
 
--- The policy's names are looked up first: one that no network has is a fault. Then each term becomes a rule, and
--- their entries are counted.
-abbrev pub Renders : Options → Naming → Policy → Result Plan Fault → Type 0
-Renders o naming policy answer =
-    RendersWith (first_unknown naming.networks policy.terms) o naming policy answer
+-- What is to be written, or the first fault: the naming files and the policy are loaded, and then each of its filters is
+-- judged, all of them before anything is written.
+abbrev pub Plans : Options → Day → List File → Result Plan Fault → Type 0
+Plans o today files answer = (loaded : Result Loaded Fault) × LoadsPolicy o.definitions o.policy files loaded
+    × GoesOn (λ l a. a ≡ planned o today l) loaded answer
 
--- ---- the whole
-
-abbrev pub GoesOnWithPolicy : Options → Naming → Result Policy Fault → Result Plan Fault → Type 0
-GoesOnWithPolicy o naming (Err fault) answer = answer ≡ Err fault
-GoesOnWithPolicy o naming (Ok policy) answer = Renders o naming policy answer
-
-abbrev pub GoesOn : Options → List File → Result Naming Fault → Result Plan Fault → Type 0
-GoesOn o files (Err fault) answer = answer ≡ Err fault
-GoesOn o files (Ok naming) answer = GoesOnWithPolicy o naming (policy_read o files) answer
-
--- What is to be written, or the first fault: the naming files come first, then the policy, and then its names and
--- the number of its entries.
-abbrev pub Plans : Options → List File → Result Plan Fault → Type 0
-Plans o files answer =
-    (loaded : Result Naming Fault) × Loads o.definitions files loaded × GoesOn o files loaded answer
+-- The day that the words name, else the clock's.
+abbrev pub or_day : Option Day → Day → Day
+or_day (Some date) day = date
+or_day None day = day
 
 -- The job of the words: none where they are no command line, else what is to be written or the first fault.
-abbrev pub IsJobOf : Option Options → List File → Option (Result Plan Fault) → Type 0
-IsJobOf None files None = Unit {0}
-IsJobOf None files (Some answer) = ⊥
-IsJobOf (Some o) files None = ⊥
-IsJobOf (Some o) files (Some answer) = Plans o files answer
+abbrev pub IsJobOf : Option Options → Day → List File → Option (Result Plan Fault) → Type 0
+IsJobOf None day files None = Unit {0}
+IsJobOf None day files (Some answer) = ⊥
+IsJobOf (Some o) day files None = ⊥
+IsJobOf (Some o) day files (Some answer) = Plans o (or_day o.date day) files answer
 
-abbrev pub IsJob : List (List ℕ) → List File → Option (Result Plan Fault) → Type 0
-IsJob words files job = IsJobOf (options_of words) files job
+-- `day` is the clock's.
+abbrev pub IsJob : List (List ℕ) → Day → List File → Option (Result Plan Fault) → Type 0
+IsJob words day files job = IsJobOf (options_of words) day files job
 
--- The document of the file: the section of the one target.
-abbrev pub document_of : Plan → List Section
-document_of plan = section_of plan.policy.target.name plan.rules ∷ []
+-- ---- what is written
+
+abbrev pub filters_of : Day → PlanFile → List Filter
+filters_of today f = map (filter_for today) f.requests
+
+-- One section for each filter, in order.
+abbrev pub document_of : Day → PlanFile → List Section
+document_of today f = map section_of (filters_of today f)
+
+abbrev pub file_of : Day → PlanFile → File
+file_of today f = (f.path, text_of (document_of today f))
+
+abbrev pub texts_of : Plan → List File
+texts_of plan = map (file_of plan.today) plan.files
+
+-- PATH: TARGET: entries COUNT
+unfoldable pub report_text : List ℕ → Target → ℕ → List ℕ
+report_text path target entries = path ++ codes ": " ++ target_text target ++ codes ": entries "
+    ++ decimal entries ++ codes "\n"
+
+abbrev pub report_line : List ℕ → Day → FilterRequest → List ℕ
+report_line path today r = report_text path r.target (entry_count (filter_for today r))
+
+abbrev pub file_report : Day → PlanFile → List ℕ
+file_report today f = flat_map (report_line f.path today) f.requests
+
+-- The report on standard output: a line for each filter of each file, in order.
+abbrev pub report_of : Plan → List ℕ
+report_of plan = flat_map (file_report plan.today) plan.files

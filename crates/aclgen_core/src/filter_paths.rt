@@ -3,9 +3,7 @@ ghost use Rattle.std.specs.List.{slice_split, ends_with};
 ghost use Rattle.std.specs.String.{string_bytes};
 ghost use Rattle.acl_host.specs.Files.{join_path};
 ghost use Rattle.aclgen_core.specs.FilterPaths.{parts_of, last_part, without_pol, acl_path};
-ghost use Rattle.aclgen_core.specs.CodeViews.{options_view};
 
-use crate::command_line::Options;
 use acl_host::join_path;
 use std::alloc::{AllocError, Global};
 
@@ -34,17 +32,13 @@ fn without_pol(name: &str) -> &str
     }
 }
 
-/// The path of the filter's file: in the output folder, under the policy's own name with `.acl`.
+/// The path of the file of Cisco filters: in the output folder, under the policy's own name with `.acl`.
 #[tactic(auto, unfolding(crate::specs::FilterPaths::acl_path))]
-pub fn acl_path(alloc: Global, options: &Options<'_>) -> Result<String, AllocError>
-    ensures { IfOk result (λ path. string_bytes path ≡ acl_path (options_view options.now)) }
+pub fn acl_path(alloc: Global, output: &str, policy: &str) -> Result<String, AllocError>
+    ensures { IfOk result (λ path. string_bytes path ≡ acl_path output.now policy.now) }
 {
-    let parts = parts_of(alloc, options.policy)?;
-    let mut path = join_path(
-        alloc,
-        options.output,
-        without_pol(last_of(parts.as_slice())),
-    )?;
+    let parts = parts_of(alloc, policy)?;
+    let mut path = join_path(alloc, output, without_pol(last_of(parts.as_slice())))?;
     path.push_str(".acl")?;
     Ok(path)
 }

@@ -1,20 +1,20 @@
 //! The whole job of aclgen: from the words of the command line to the filters and the report.
 #![tactic(auto)]
 
+mod acting;
 mod command_line;
+mod deciding;
 mod endings;
 mod fault_lines;
+mod file_texts;
 mod filter_paths;
-mod filter_texts;
-mod narrow_policies;
-mod narrow_reading;
+mod laws;
 mod planning;
-mod rendering;
-mod reports;
+mod platforms;
+mod preparing;
 mod running;
-#[cfg(test)]
-mod tests;
-mod word_fronts;
+mod slips;
 
 pub use endings::{Ended, Which, status_of};
+pub use laws::jobs_are_one;
 pub use running::aclgen;

@@ -1,0 +1,19 @@
+use Rattle.std.proofs.Common.{refl, sym}
+use Rattle.aclgen_core.specs.CodeViews.{options_view}
+use Rattle.aclgen_core.proofs.PlanningLaws.{decides-planned}
+use Rattle.aclgen_core.proofs.deciding.decide.Goals as goal
+
+pub returns-in-Ok : goal.returns-in-Ok
+returns-in-Ok g c =
+    let looks = c.make_work.ensures.looks.only in
+    record {
+      seen = record {
+        files_stay = looks.looks.files_stay;
+        begun_stays = looks.looks.begun_stays;
+        faults_stay = looks.looks.faults_stay;
+        refusals_stay = looks.looks.refusals_stay;
+        lists_grow = looks.lists_grow;
+        reads_grow = looks.reads_grow;
+      };
+      so = decides-planned _ (options_view c.in-Some.options) c.in-Some.options.date c.in-Ok.work _ (sym c.in-Some.ensures) refl c.in-Ok.ensures.makes;
+    }

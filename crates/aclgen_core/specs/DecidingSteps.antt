@@ -1,0 +1,141 @@
+-- What the private steps of a run give: deciding, which only looks, and acting.
+use Rattle.std.specs.Prelude.{◌≡◌, ℕ, ◌≤◌, ◌⊎◌, List, Option, None, Some, Result, Ok, Err, map, IfSome, IsSome}
+use Rattle.std.specs.List.{AllByRecursion}
+use Rattle.std.specs.String.{string_bytes}
+use Rattle.acl_text.specs.Output.{Rose}
+use Rattle.acl_text.specs.declared.faults.Fault.{Fault}
+use Rattle.acl_host.specs.declared.clocks.Day.{Day}
+use Rattle.acl_host.specs.Files.{File, BothTell}
+use Rattle.acl_host.specs.Outside.{AddsFront}
+use Rattle.aclgen_core.specs.CommandLines.{options_of}
+use Rattle.aclgen_core.specs.FileLists.{HoldsTexts, Interrupted, PathsDiffer}
+use Rattle.aclgen_core.specs.Job.{Plan, IsJob, report_of, texts_of}
+use Rattle.acl_load.specs.FaultLines.{fault_line}
+use Rattle.aclgen_core.specs.Endings.{Got, IsFileOf, Tried}
+use Rattle.aclgen_core.specs.FaultLines.{outside_line}
+use Rattle.aclgen_core.specs.Worlds.{Disk, DiskCountsGrow, Stream, StreamCountsGrow}
+use Rattle.aclgen_core.specs.declared.deciding.Decision.{Decision}
+use Rattle.aclgen_core.specs.declared.deciding.Decision.TheVariants as decided
+use Rattle.aclgen_core.specs.declared.endings.Ended.{Ended}
+use Rattle.aclgen_core.specs.declared.endings.Ended.TheVariants as ended
+use Rattle.aclgen_core.specs.declared.endings.Which.{Which}
+use Rattle.aclgen_core.specs.declared.endings.Which.TheVariants as which
+use Rattle.aclgen_core.specs.declared.file_texts.FileText.{FileText}
+use Rattle.aclgen_core.specs.declared.planning.Work.{Work}
+
+-- ---- deciding
+
+abbrev pub text_view : FileText → File
+text_view f = (string_bytes f.path, f.text.bytes)
+
+abbrev pub texts_in : Work → List File
+texts_in work = map text_view work.files.items
+
+-- The texts and the report are those of the plan, and each text is one that the headline speaks of.
+pub record IsReady (plan : Plan) (work : Work) : Type 0 where
+  pub texts_are : texts_in work ≡ texts_of plan
+  pub report_is : work.report.bytes ≡ report_of plan
+  pub each : AllByRecursion (IsFileOf plan.naming plan.today) plan.files
+
+-- Nothing but the counts of looking changed, and they did not fall.
+pub record OnlySeen (old new : Disk) : Type 0 where
+  pub files_stay : new.files ≡ old.files
+  pub begun_stays : new.begun ≡ old.begun
+  pub faults_stay : new.write_faults ≡ old.write_faults
+  pub refusals_stay : new.write_refusals ≡ old.write_refusals
+  pub lists_grow : old.list_faults ≤ new.list_faults
+  pub reads_grow : old.read_faults ≤ new.read_faults
+
+-- The tree tells its files; the clock is not asked, so that its day may be any.
+abbrev pub WhereSeen : Disk → (Day → List File → Type 0) → Type 0
+WhereSeen d P = IfSome d.files (λ files. (day : Day) → P day files)
+
+abbrev pub RoseLooking : Which → Disk → Disk → Type 0
+RoseLooking which.List old new = Rose old.list_faults new.list_faults
+RoseLooking which.Read old new = Rose old.read_faults new.read_faults
+RoseLooking which.Write old new = ⊥
+RoseLooking which.Out old new = ⊥
+RoseLooking which.Err old new = ⊥
+RoseLooking which.Clock old new = ⊥
+
+pub record DecidesRefused (words : List (List ℕ)) (fault : Fault) (line : List ℕ) (old : Disk)
+    : Type 0 where
+  pub accepted : IsSome (options_of words)
+  pub first : WhereSeen old (λ day files. IsJob words day files (Some (Err fault)))
+  pub line_is : line ≡ fault_line fault
+
+pub record DecidesPlanned (words : List (List ℕ)) (work : Work) (old : Disk) : Type 0 where
+  pub accepted : IsSome (options_of words)
+  pub planned : WhereSeen old (λ day files. (plan : Plan) × IsJob words day files (Some (Ok plan))
+      × IsReady plan work)
+  pub differ : PathsDiffer (texts_in work)
+
+abbrev pub DecidesSo : List (List ℕ) → Disk → Disk → Decision → Type 0
+DecidesSo words old new decided.Usage = options_of words ≡ None
+DecidesSo words old new (decided.Refused fault line) = DecidesRefused words fault line.bytes old
+DecidesSo words old new (decided.Planned work) = DecidesPlanned words work old
+DecidesSo words old new (decided.Outside w) = IsSome (options_of words) × RoseLooking w old new
+DecidesSo words old new decided.Memory = IsSome (options_of words)
+
+pub record Decides (words : List (List ℕ)) (old new : Disk) (decision : Decision) : Type 0 where
+  pub seen : OnlySeen old new
+  pub so : DecidesSo words old new decision
+
+-- ---- acting
+
+-- A line is written, and the ending is the one that is asked for; else what was written is a front of it.
+abbrev pub RefusesSo : List ℕ → Ended → Stream → Stream → Ended → Type 0
+RefusesSo line asked old new result = ((result ≡ asked) × Got line old.told new.told)
+    ⊎ (((result ≡ ended.Outside which.Err) × Rose old.faults new.faults
+    × BothTell old.told new.told (AddsFront line))
+    ⊎ ((result ≡ ended.Memory) × BothTell old.told new.told (AddsFront line)))
+
+pub record Refuses (line : List ℕ) (asked : Ended) (old new : Stream) (result : Ended) : Type 0 where
+  pub counts : StreamCountsGrow old new
+  pub so : RefusesSo line asked old new result
+
+pub record ActsDone (work : Work) (old new : Disk) (out out' err err' : Stream) : Type 0 where
+  pub written : BothTell old.files new.files (HoldsTexts (texts_in work))
+  pub report_got : Got work.report.bytes out.told out'.told
+  pub err_rests : err'.told ≡ err.told
+
+pub record ActsWrite (work : Work) (old new : Disk) (out out' err err' : Stream) : Type 0 where
+  pub cause : Rose old.write_faults new.write_faults
+  pub left : BothTell old.files new.files (Interrupted (texts_in work))
+  pub out_rests : out'.told ≡ out.told
+  pub line : Tried (outside_line which.Write) err err'
+
+pub record ActsOut (work : Work) (old new : Disk) (out out' err err' : Stream) : Type 0 where
+  pub cause : Rose out.faults out'.faults
+  pub written : BothTell old.files new.files (HoldsTexts (texts_in work))
+  pub report_front : BothTell out.told out'.told (AddsFront work.report.bytes)
+  pub line : Tried (outside_line which.Out) err err'
+
+pub record ActsMemory (work : Work) (old new : Disk) (out out' err err' : Stream) : Type 0 where
+  pub left : BothTell old.files new.files (Interrupted (texts_in work))
+  pub report_front : BothTell out.told out'.told (AddsFront work.report.bytes)
+  pub err_rests : err'.told ≡ err.told
+
+abbrev pub ActsSo : Work → Disk → Disk → Stream → Stream → Stream → Stream → Ended → Type 0
+ActsSo work d d' o o' e e' ended.Done = ActsDone work d d' o o' e e'
+ActsSo work d d' o o' e e' ended.Usage = ⊥
+ActsSo work d d' o o' e e' (ended.Rejected fault) = ⊥
+ActsSo work d d' o o' e e' (ended.Outside which.List) = ⊥
+ActsSo work d d' o o' e e' (ended.Outside which.Read) = ⊥
+ActsSo work d d' o o' e e' (ended.Outside which.Write) = ActsWrite work d d' o o' e e'
+ActsSo work d d' o o' e e' (ended.Outside which.Out) = ActsOut work d d' o o' e e'
+ActsSo work d d' o o' e e' (ended.Outside which.Err) = ⊥
+ActsSo work d d' o o' e e' (ended.Outside which.Clock) = ⊥
+ActsSo work d d' o o' e e' ended.Memory = ActsMemory work d d' o o' e e'
+
+pub record Acts (work : Work) (d d' : Disk) (o o' e e' : Stream) (result : Ended) : Type 0 where
+  pub none_begun : d'.begun ≡ None
+  pub disk_counts : DiskCountsGrow d d'
+  pub out_counts : StreamCountsGrow o o'
+  pub err_counts : StreamCountsGrow e e'
+  pub so : ActsSo work d d' o o' e e' result
+
+-- A line was tried on the stream, and its counts did not fall.
+pub record Tells (line : List ℕ) (old new : Stream) : Type 0 where
+  pub tried : Tried line old new
+  pub counts : StreamCountsGrow old new

@@ -1,0 +1,220 @@
+-- What each ending of a run means: a record for each.
+use Rattle.std.specs.Prelude.{◌≡◌, ℕ, ℤ, ◌++◌, ◌⊎◌, Bool, true, false, List, Option, None, Some, Result, Ok, Err, option_map, map, IfSome, IsSome, IsSomeAnd, slice_get}
+use Rattle.std.specs.List.{AllByRecursion}
+use Rattle.acl_packet.specs.declared.filtering.Outcome.{Outcome}
+use Rattle.acl_packet.specs.declared.packets.Packet.{Packet}
+use Rattle.acl_packet.specs.Addresses.{covers}
+use Rattle.acl_packet.specs.Packets.{IsPacket}
+use Rattle.acl_text.specs.declared.faults.Fault.{Fault}
+use Rattle.acl_text.specs.Output.{Rose}
+use Rattle.acl_host.specs.declared.clocks.Day.{Day}
+use Rattle.acl_host.specs.Files.{File, BothTell}
+use Rattle.acl_host.specs.Outside.{AddsFront}
+use Rattle.acl_naming.specs.Definitions.{Naming}
+use Rattle.acl_terms.specs.Outcomes.{PolicyDecides, shown}
+use Rattle.acl_load.specs.FaultLines.{fault_line}
+use Rattle.cisco_lang.specs.Texts.{Spells, text_of}
+use Rattle.cisco_lang.specs.Walks.{outcome_of}
+use Rattle.aclgen_core.specs.CommandLines.{asks_clock, options_of}
+use Rattle.aclgen_core.specs.FaultLines.{usage_line, outside_line}
+use Rattle.aclgen_core.specs.FileLists.{HoldsTexts, Interrupted}
+use Rattle.aclgen_core.specs.FilterRequests.{FilterRequest}
+use Rattle.aclgen_core.specs.Job.{Plan, PlanFile, IsJob, document_of, report_of, texts_of}
+use Rattle.aclgen_core.specs.Worlds.{CountsGrow, Disk, Stream, Watch, World}
+use Rattle.aclgen_core.specs.declared.endings.Ended.{Ended}
+use Rattle.aclgen_core.specs.declared.endings.Ended.TheVariants as ended
+use Rattle.aclgen_core.specs.declared.endings.Which.{Which}
+use Rattle.aclgen_core.specs.declared.endings.Which.TheVariants as which
+
+-- ---- what is told
+
+-- The clock's day, where it is asked; else whichever day.
+abbrev pub WhereDay : Bool → Option ℤ → (Day → Type 0) → Type 0
+WhereDay true told P = IfSome told (λ n. (day : Day) → day.number ≡ n → P day)
+WhereDay false told P = (day : Day) → P day
+
+-- The tree tells its files, and the clock, where it is asked, its day.
+abbrev pub WhereTold : List (List ℕ) → World → (Day → List File → Type 0) → Type 0
+WhereTold words w P =
+    IfSome w.disk.files (λ files. WhereDay (asks_clock words) w.clock.day (λ day. P day files))
+
+-- A stream got the text, and nothing else.
+abbrev pub Got : List ℕ → Option (List ℕ) → Option (List ℕ) → Type 0
+Got text old new = new ≡ option_map (λ (b : List ℕ). b ++ text) old
+
+-- A line was tried on a stream: a front of it stands there, and the whole where no count of the stream rose.
+pub record Tried (line : List ℕ) (old new : Stream) : Type 0 where
+  pub front : BothTell old.told new.told (AddsFront line)
+  pub whole : (Rose old.faults new.faults → ⊥) → (Rose old.refusals new.refusals → ⊥)
+      → Got line old.told new.told
+
+-- The files and standard output are as at entry.
+pub record Untouched (old new : World) : Type 0 where
+  pub same_files : new.disk.files ≡ old.disk.files
+  pub same_out : new.out.told ≡ old.out.told
+
+-- ---- the headline
+
+-- What decides packets decides those of the target's families as its block of the policy does, as far as the platform
+-- can show it.
+abbrev pub DecidesAsPolicy : Naming → Day → FilterRequest → (Packet → Option Outcome) → Type 0
+DecidesAsPolicy naming today r outcome = (p : Packet) → IsPacket p
+    → covers r.target.families p.family ≡ true
+    → (o : Outcome) × PolicyDecides naming r.target today r.written p o
+    × (outcome p ≡ Some (shown r.target.kind o))
+
+-- The file's text is one that the language of Cisco access lists accepts as one document, with one section for each
+-- target, in order; and each section decides as the policy does.
+pub record IsFileOf (naming : Naming) (today : Day) (f : PlanFile) : Type 0 where
+  pub spelled : Spells (text_of (document_of today f)) (document_of today f)
+  pub decides : (k : ℕ) → IfSome (slice_get f.requests k)
+      (λ r. DecidesAsPolicy naming today r (outcome_of (document_of today f) k))
+
+-- Each file of the plan is such a text, and every other file is as it was.
+pub record IsWritten (plan : Plan) (old new : List File) : Type 0 where
+  pub each : AllByRecursion (IsFileOf plan.naming plan.today) plan.files
+  pub holds : HoldsTexts (texts_of plan) old new
+
+abbrev pub Headline : List (List ℕ) → World → World → Day → List File → Type 0
+Headline words old new day files = (plan : Plan) × IsJob words day files (Some (Ok plan))
+    × IsSomeAnd new.disk.files (IsWritten plan files)
+    × Got (report_of plan) old.out.told new.out.told
+
+-- ---- the endings
+
+pub record EndsDone (words : List (List ℕ)) (old new : World) : Type 0 where
+  pub accepted : IsSome (options_of words)
+  pub written : WhereTold words old (Headline words old new)
+  pub report : (text : List ℕ) × Got text old.out.told new.out.told
+  pub nothing_on_err : new.err.told ≡ old.err.told
+
+pub record EndsUsage (words : List (List ℕ)) (old new : World) : Type 0 where
+  pub refused : options_of words ≡ None
+  pub untouched : Untouched old new
+  pub line : Got usage_line old.err.told new.err.told
+
+pub record EndsRejected (words : List (List ℕ)) (fault : Fault) (old new : World) : Type 0 where
+  pub accepted : IsSome (options_of words)
+  pub first : WhereTold words old (λ day files. IsJob words day files (Some (Err fault)))
+  pub untouched : Untouched old new
+  pub line : Got (fault_line fault) old.err.told new.err.told
+
+-- A count of faults rose.
+abbrev pub RoseAt : Which → World → World → Type 0
+RoseAt which.List old new = Rose old.disk.list_faults new.disk.list_faults
+RoseAt which.Read old new = Rose old.disk.read_faults new.disk.read_faults
+RoseAt which.Write old new = Rose old.disk.write_faults new.disk.write_faults
+RoseAt which.Out old new = Rose old.out.faults new.out.faults
+RoseAt which.Err old new = Rose old.err.faults new.err.faults
+RoseAt which.Clock old new = Rose old.clock.faults new.clock.faults
+
+-- A folder was not listed, a file not read, or the clock told no day.
+pub record EndsLooking (words : List (List ℕ)) (w : Which) (old new : World) : Type 0 where
+  pub cause : RoseAt w old new
+  pub accepted : IsSome (options_of words)
+  pub untouched : Untouched old new
+  pub line : Tried (outside_line w) old.err new.err
+
+-- Only a clock that is asked can fail.
+pub record EndsAsking (words : List (List ℕ)) (old new : World) : Type 0 where
+  pub asked : asks_clock words ≡ true
+  pub looking : EndsLooking words which.Clock old new
+
+-- What an interrupted writing leaves: the files before one are whole, that one holds anything, and every other file is
+-- as it was.
+abbrev pub LeavesFiles : List (List ℕ) → World → World → Day → List File → Type 0
+LeavesFiles words old new day files = (plan : Plan) × IsJob words day files (Some (Ok plan))
+    × IsSomeAnd new.disk.files (Interrupted (texts_of plan) files)
+
+pub record EndsWriting (words : List (List ℕ)) (old new : World) : Type 0 where
+  pub cause : RoseAt which.Write old new
+  pub accepted : IsSome (options_of words)
+  pub left : WhereTold words old (LeavesFiles words old new)
+  pub same_out : new.out.told ≡ old.out.told
+  pub line : Tried (outside_line which.Write) old.err new.err
+
+-- The files are written, and standard output got a front of the report.
+abbrev pub LeavesReport : List (List ℕ) → World → World → Day → List File → Type 0
+LeavesReport words old new day files = (plan : Plan) × IsJob words day files (Some (Ok plan))
+    × IsSomeAnd new.disk.files (IsWritten plan files)
+    × BothTell old.out.told new.out.told (AddsFront (report_of plan))
+
+pub record EndsReporting (words : List (List ℕ)) (old new : World) : Type 0 where
+  pub cause : RoseAt which.Out old new
+  pub accepted : IsSome (options_of words)
+  pub written : WhereTold words old (LeavesReport words old new)
+  pub report : (text : List ℕ) × BothTell old.out.told new.out.told (AddsFront text)
+  pub line : Tried (outside_line which.Out) old.err new.err
+
+-- The line on standard error of a run that is refused.
+abbrev pub IsRefusal : List (List ℕ) → World → List ℕ → Type 0
+IsRefusal words old line = ((options_of words ≡ None) × (line ≡ usage_line))
+    ⊎ (IsSome (options_of words) × ((fault : Fault) × (line ≡ fault_line fault)
+    × WhereTold words old (λ day files. IsJob words day files (Some (Err fault)))))
+
+-- The line of a refusal was not written whole.
+pub record EndsTelling (words : List (List ℕ)) (old new : World) : Type 0 where
+  pub cause : RoseAt which.Err old new
+  pub untouched : Untouched old new
+  pub line : (line : List ℕ) × IsRefusal words old line × BothTell old.err.told new.err.told (AddsFront line)
+
+abbrev pub EndsOutside : List (List ℕ) → World → World → Which → Type 0
+EndsOutside words old new which.List = EndsLooking words which.List old new
+EndsOutside words old new which.Read = EndsLooking words which.Read old new
+EndsOutside words old new which.Write = EndsWriting words old new
+EndsOutside words old new which.Out = EndsReporting words old new
+EndsOutside words old new which.Err = EndsTelling words old new
+EndsOutside words old new which.Clock = EndsAsking words old new
+
+-- What stands where memory was wanted: with a fault nothing was touched; with a plan its writing may have been
+-- interrupted, and a front of its report may stand on standard output.
+abbrev pub Leaves : Option (Result Plan Fault) → World → World → List File → Type 0
+Leaves None old new files = Untouched old new
+Leaves (Some (Err fault)) old new files = Untouched old new
+Leaves (Some (Ok plan)) old new files = IsSomeAnd new.disk.files (Interrupted (texts_of plan) files)
+    × BothTell old.out.told new.out.told (AddsFront (report_of plan))
+
+pub record EndsWanting (words : List (List ℕ)) (old new : World) : Type 0 where
+  pub words_untouched : options_of words ≡ None → Untouched old new
+  pub leaves : WhereTold words old (λ day files. (job : Option (Result Plan Fault))
+      → IsJob words day files job → Leaves job old new files)
+  pub line : (new.err.told ≡ old.err.told)
+      ⊎ ((line : List ℕ) × IsRefusal words old line × BothTell old.err.told new.err.told (AddsFront line))
+
+-- ---- the table
+
+abbrev pub EndsSo : List (List ℕ) → World → World → Ended → Type 0
+EndsSo words old new ended.Done = EndsDone words old new
+EndsSo words old new ended.Usage = EndsUsage words old new
+EndsSo words old new (ended.Rejected fault) = EndsRejected words fault old new
+EndsSo words old new (ended.Outside w) = EndsOutside words old new w
+EndsSo words old new ended.Memory = EndsWanting words old new
+
+abbrev pub NoneRose : World → World → Type 0
+NoneRose old new = (w : Which) → RoseAt w old new → ⊥
+
+-- The ending that a job asks for, unless memory was wanted.
+abbrev pub IsEnding : Option (Result Plan Fault) → Ended → Type 0
+IsEnding None result = (result ≡ ended.Usage) ⊎ (result ≡ ended.Memory)
+IsEnding (Some (Ok plan)) result = (result ≡ ended.Done) ⊎ (result ≡ ended.Memory)
+IsEnding (Some (Err fault)) result = (result ≡ ended.Rejected fault) ⊎ (result ≡ ended.Memory)
+
+-- The run ended as its words, and its job, ask.
+pub record EndsAsAsked (words : List (List ℕ)) (old : World) (result : Ended) : Type 0 where
+  pub usage : options_of words ≡ None → IsEnding None result
+  pub job : WhereTold words old (λ day files. (job : Option (Result Plan Fault))
+      → IsJob words day files job → IsEnding job result)
+
+-- The clock is as at entry where it is not asked, and its day stays.
+pub record OnlyAsked (words : List (List ℕ)) (old new : Watch) : Type 0 where
+  pub rests : asks_clock words ≡ false → new ≡ old
+  pub day_stays : new.day ≡ old.day
+
+-- What a run keeps, whatever its ending: no path is begun when it returns, the clock is asked only where it has to be, no
+-- count falls, the ending has its row, and where no count rose it is the one that is asked for.
+pub record Keeps (words : List (List ℕ)) (old new : World) (result : Ended) : Type 0 where
+  pub none_begun : new.disk.begun ≡ None
+  pub clock : OnlyAsked words old.clock new.clock
+  pub counts : CountsGrow old new
+  pub ending : EndsSo words old new result
+  pub complete : NoneRose old new → EndsAsAsked words old result

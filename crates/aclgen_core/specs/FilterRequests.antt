@@ -1,0 +1,120 @@
+-- The filters that a policy asks for, and the first slip of one of them.
+use Rattle.std.specs.Prelude.{ℕ, Bool, true, false, if◌then◌else◌, List, [], ◌∷◌, ◌++◌, map, slice_get, codes, Option, None, Some, option_map}
+use Rattle.acl_text.specs.declared.faults.Code.{Code}
+use Rattle.acl_text.specs.declared.faults.Code.TheVariants as codes_of
+use Rattle.acl_text.specs.declared.faults.Slip.{Slip}
+use Rattle.acl_host.specs.declared.clocks.Day.{Day}
+use Rattle.acl_naming.specs.Checking.{first_of}
+use Rattle.acl_target.specs.declared.targets.Kind.{Kind}
+use Rattle.acl_target.specs.declared.targets.Kind.TheVariants.{Cisco, Juniper, Iptables, Nftables}
+use Rattle.acl_target.specs.declared.targets.Target.{Target}
+use Rattle.acl_policy.specs.declared.blocks.Block.{Block}
+use Rattle.acl_policy.specs.declared.raw_terms.RawTerm.{RawTerm}
+use Rattle.acl_terms.specs.declared.terms.Term.{Term}
+use Rattle.acl_terms.specs.Slips.{first_in}
+use Rattle.acl_platform.specs.declared.filters.Filter.{Filter}
+use Rattle.acl_platform.specs.declared.filters.Limit.{Limit}
+use Rattle.acl_platform.specs.declared.filters.Limit.TheVariants as limits
+use Rattle.acl_platform.specs.declared.rules.Rule.{Rule}
+use Rattle.acl_platform.specs.declared.rules.Test.{Test}
+use Rattle.acl_platform.specs.declared.rules.Test.TheVariants as tests
+use Rattle.acl_expand.specs.Expansions.{filter_of}
+use Rattle.acl_expand.specs.ExpansionSlips.{first_slip}
+use Rattle.acl_load.specs.declared.policy_loading.Loaded.{Loaded}
+use Rattle.gen_cisco.specs.Limits.{limit_of}
+
+-- A target of a policy, and the terms of its block: as they are written, and with their words read as numbers.
+pub record FilterRequest : Type 0 where
+  pub target : Target
+  pub written : List RawTerm
+  pub terms : List Term
+
+-- Each target of a block asks for a filter of the block's terms.
+abbrev pub request_of : List RawTerm → List Term → Target → FilterRequest
+request_of written terms target =
+    record { target = target; written = written; terms = terms }
+
+abbrev pub block_requests : Block → List Term → List FilterRequest
+block_requests block terms = map (request_of block.terms terms) block.targets
+
+-- Block by block, each with its list of terms.
+abbrev pub requests_in : List Block → List (List Term) → List FilterRequest
+requests_in [] lists = []
+requests_in (block ∷ blocks) [] = []
+requests_in (block ∷ blocks) (terms ∷ lists) =
+    block_requests block terms ++ requests_in blocks lists
+
+abbrev pub requests_of : Loaded → List FilterRequest
+requests_of loaded = requests_in loaded.policy.blocks loaded.terms
+
+abbrev pub filter_for : Day → FilterRequest → Filter
+filter_for today r = filter_of r.target today r.terms
+
+-- ---- platforms that are still to come
+
+abbrev pub is_cisco : Kind → Bool
+is_cisco Cisco = true
+is_cisco Juniper = false
+is_cisco Iptables = false
+is_cisco Nftables = false
+
+-- A target of another platform than Cisco, at its keyword.
+abbrev pub target_slip : Target → Option Slip
+target_slip t =
+    if is_cisco t.kind then None else Some (record { code = codes_of.NotYet; place = t.place; word = [] })
+
+abbrev pub block_slip : Block → Option Slip
+block_slip block = first_in target_slip block.targets
+
+abbrev pub platform_slip : List Block → Option Slip
+platform_slip blocks = first_in block_slip blocks
+
+-- ---- limits of a platform
+
+abbrev pub asks_initial : Test → Bool
+asks_initial tests.Plain = false
+asks_initial tests.AckOrRst = false
+asks_initial tests.SynNotAck = true
+asks_initial tests.Rst = false
+asks_initial tests.State = false
+
+-- What the platform has no form for: the first packets of connections, else ports of SCTP.
+abbrev pub unsupported_word : Rule → List ℕ
+unsupported_word r = if asks_initial r.test then codes "tcp-initial" else codes "sctp"
+
+abbrev pub name_word : Rule → List ℕ
+name_word r = r.name
+
+-- The slip stands where the rule's term does.
+abbrev pub rule_slip : Code → (Rule → List ℕ) → Filter → Option Rule → Slip
+rule_slip code word f (Some r) = record { code = code; place = r.place; word = word r }
+rule_slip code word f None = record { code = code; place = f.place; word = [] }
+
+abbrev pub limit_slip : Filter → Limit → Slip
+limit_slip f (limits.NameLength i) =
+    rule_slip codes_of.NameLength name_word f (slice_get f.rules i)
+limit_slip f (limits.NameClash i) =
+    rule_slip codes_of.NameClash name_word f (slice_get f.rules i)
+limit_slip f (limits.Unsupported i) =
+    rule_slip codes_of.Unsupported unsupported_word f (slice_get f.rules i)
+limit_slip f limits.TooManyEntries =
+    record { code = codes_of.TooManyEntries; place = f.place; word = f.name }
+
+-- ---- the first slip
+
+-- The limit that a filter of Cisco meets.
+unfoldable pub check_slip : Filter → Option Slip
+check_slip f = option_map (limit_slip f) (limit_of f)
+
+-- The slip of the terms on the target, else the limit that their filter meets.
+abbrev pub request_slip : Day → FilterRequest → Option Slip
+request_slip today r = first_of (first_slip r.target today r.terms) (check_slip (filter_for today r))
+
+-- One filter after the other, in order.
+abbrev pub requests_slip : Day → List FilterRequest → Option Slip
+requests_slip today rs = first_in (request_slip today) rs
+
+-- Targets of platforms that are still to come are met before any filter is judged.
+abbrev pub loaded_slip : Day → Loaded → Option Slip
+loaded_slip today loaded =
+    first_of (platform_slip loaded.policy.blocks) (requests_slip today (requests_of loaded))

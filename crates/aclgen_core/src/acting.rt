@@ -1,0 +1,61 @@
+ghost use Rattle.std.specs.Prelude.{◌≡◌, None};
+ghost use Rattle.aclgen_core.specs.FaultLines.{outside_line};
+ghost use Rattle.aclgen_core.specs.FileLists.{PathsDiffer};
+ghost use Rattle.aclgen_core.specs.Worlds.{disk, stream};
+ghost use Rattle.aclgen_core.specs.DecidingSteps.{Acts, Refuses, Tells, texts_in};
+
+use crate::endings::{Ended, Which};
+use crate::fault_lines::outside_line;
+use crate::file_texts::write_files;
+use crate::planning::Work;
+use acl_host::{Sink, Tree, WriteFault};
+
+/// Writes the line of a refusal. The ending is the one that is asked for, unless the line was not written whole.
+pub fn refuse<E: Sink>(err: &mut E, line: &[u8], asked: Ended) -> Ended
+    ensures { Refuses line.now asked (stream E.told E.faults E.refusals err.old)
+        (stream E.told E.faults E.refusals err.new) result }
+{
+    match err.write(line) {
+        Ok(()) => asked,
+        Err(WriteFault::Failed) => Ended::Outside(Which::Err),
+        Err(WriteFault::Memory) => Ended::Memory,
+    }
+}
+
+/// Tries to write the line that says what failed. A refusal of it changes nothing in the ending.
+pub fn tell_outside<E: Sink>(err: &mut E, which: Which) -> Ended
+    ensures told { Tells (outside_line which) (stream E.told E.faults E.refusals err.old)
+        (stream E.told E.faults E.refusals err.new) }
+    ensures ending { result ≡ Ended.Outside which }
+{
+    let _ = err.write(outside_line(which).as_bytes());
+    Ended::Outside(which)
+}
+
+/// Writes the files, and then the report.
+pub fn carry_out<T: Tree, O: Sink, E: Sink>(
+    work: &Work,
+    tree: &mut T,
+    out: &mut O,
+    err: &mut E,
+) -> Ended
+    requires begun { T.begun tree.old ≡ None }
+    requires differ { PathsDiffer (texts_in work.now) }
+    ensures { Acts work.now
+        (disk T.files T.begun T.list_faults T.read_faults T.faults T.refusals tree.old)
+        (disk T.files T.begun T.list_faults T.read_faults T.faults T.refusals tree.new)
+        (stream O.told O.faults O.refusals out.old) (stream O.told O.faults O.refusals out.new)
+        (stream E.told E.faults E.refusals err.old) (stream E.told E.faults E.refusals err.new)
+        result }
+{
+    match write_files(tree, work.files.as_slice()) {
+        Ok(()) => {}
+        Err(WriteFault::Failed) => return tell_outside(err, Which::Write),
+        Err(WriteFault::Memory) => return Ended::Memory,
+    }
+    match out.write(work.report.as_slice()) {
+        Ok(()) => Ended::Done,
+        Err(WriteFault::Failed) => tell_outside(err, Which::Out),
+        Err(WriteFault::Memory) => Ended::Memory,
+    }
+}

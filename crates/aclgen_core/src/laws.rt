@@ -1,0 +1,12 @@
+ghost use Rattle.std.specs.Prelude.{◌≡◌, ℕ, List, Option, Result};
+ghost use Rattle.acl_text.specs.declared.faults.Fault.{Fault};
+ghost use Rattle.acl_host.specs.declared.clocks.Day.{Day};
+ghost use Rattle.acl_host.specs.Files.{File};
+ghost use Rattle.aclgen_core.specs.Job.{IsJob, Plan};
+
+/// A law: a job has one answer.
+pub fn jobs_are_one()
+    ensures { (words : List (List ℕ)) → (day : Day) → (files : List File)
+        → (a : Option (Result Plan Fault)) → (b : Option (Result Plan Fault))
+        → IsJob words day files a → IsJob words day files b → a ≡ b }
+{}

@@ -1,0 +1,125 @@
+ghost use Rattle.std.specs.Prelude.{◌≡◌, [], IfOk, slice_get, slice_index_or};
+ghost use Rattle.acl_naming.specs.Checking.{IsRefusal};
+ghost use Rattle.acl_text.specs.declared.faults.Code.TheVariants.{Unsupported};
+ghost use Rattle.acl_terms.specs.Slips.{first_in, Judges};
+ghost use Rattle.acl_load.specs.Loading.{fault_of};
+ghost use Rattle.aclgen_core.specs.FilterRequests.{
+  limit_slip,
+  name_word,
+  platform_slip,
+  rule_slip,
+  target_slip,
+  unsupported_word,
+};
+
+use acl_platform::{Filter, Limit, Rule, Test};
+use acl_policy::{Block, Kind, Sources, Target, label};
+use acl_text::{Bytes, Code, Fault, Memory, Place, Refusal, Slip};
+use std::alloc::Global;
+
+// The label of the file of this number.
+fn label_at(sources: &Sources, file: u32) -> &[u8]
+    ensures { result.now ≡ slice_index_or sources.now.labels file [] }
+{
+    match label(sources, file) {
+        Some(label) => label,
+        None => b"",
+    }
+}
+
+/// The fault of a slip: its label is that of the file in which it stands.
+pub fn fault_of(alloc: Global, sources: &Sources, slip: Slip) -> Result<Fault, Memory>
+    ensures { IfOk result (λ fault. fault ≡ fault_of sources.now.labels slip) }
+{
+    let Slip { code, place, word } = slip;
+    Ok(Fault {
+        code,
+        label: Bytes::from_slice(alloc, label_at(sources, place.file))?,
+        line: place.line,
+        word,
+    })
+}
+
+fn refusal_at(alloc: Global, code: Code, place: Place, word: &[u8]) -> Refusal
+    ensures { IsRefusal (record { code = code; place = place; word = word.now }) result }
+{
+    match Bytes::from_slice(alloc, word) {
+        Ok(word) => Refusal::Slip(Slip { code, place, word }),
+        Err(_) => Refusal::Memory,
+    }
+}
+
+// A target of another platform than Cisco is a slip.
+fn check_target(alloc: Global, target: &Target) -> Result<(), Refusal>
+    ensures { Judges result (target_slip target.now) }
+{
+    match target.kind {
+        Kind::Cisco => Ok(()),
+        Kind::Juniper | Kind::Iptables | Kind::Nftables => {
+            Err(refusal_at(alloc, Code::NotYet, target.place, b""))
+        }
+    }
+}
+
+fn check_targets(alloc: Global, targets: &[Target]) -> Result<(), Refusal>
+    ensures { Judges result (first_in target_slip targets.now) }
+{
+    for target in targets {
+        check_target(alloc, target)?;
+    }
+    Ok(())
+}
+
+/// Whether each target is one of Cisco, else the slip at the first that is not.
+pub fn check_platforms(alloc: Global, blocks: &[Block]) -> Result<(), Refusal>
+    ensures { Judges result (platform_slip blocks.now) }
+{
+    for block in blocks {
+        check_targets(alloc, block.targets.as_slice())?;
+    }
+    Ok(())
+}
+
+fn unsupported_word(rule: &Rule) -> &'static [u8]
+    ensures { result.now ≡ unsupported_word rule.now }
+{
+    match rule.test {
+        Test::SynNotAck => b"tcp-initial",
+        Test::Plain | Test::AckOrRst | Test::Rst | Test::State => b"sctp",
+    }
+}
+
+// The slip at the rule's term that has the rule's name as its word.
+fn name_refusal(alloc: Global, code: Code, filter: &Filter, place: usize) -> Refusal
+    ensures { IsRefusal (rule_slip code name_word filter.now (slice_get filter.now.rules place)) result }
+{
+    match filter.rules.as_slice().get(place) {
+        Some(rule) => refusal_at(alloc, code, rule.place, rule.name.as_slice()),
+        None => refusal_at(alloc, code, filter.place, b""),
+    }
+}
+
+fn unsupported_refusal(alloc: Global, filter: &Filter, place: usize) -> Refusal
+    ensures { IsRefusal (rule_slip Unsupported unsupported_word filter.now
+        (slice_get filter.now.rules place)) result }
+{
+    match filter.rules.as_slice().get(place) {
+        Some(rule) => refusal_at(alloc, Code::Unsupported, rule.place, unsupported_word(rule)),
+        None => refusal_at(alloc, Code::Unsupported, filter.place, b""),
+    }
+}
+
+/// The slip of a limit that the filter meets: at the term of the rule, or at the target.
+pub fn limit_refusal(alloc: Global, filter: &Filter, limit: Limit) -> Refusal
+    ensures { IsRefusal (limit_slip filter.now limit) result }
+{
+    match limit {
+        Limit::NameLength(place) => name_refusal(alloc, Code::NameLength, filter, place),
+        Limit::NameClash(place) => name_refusal(alloc, Code::NameClash, filter, place),
+        Limit::Unsupported(place) => unsupported_refusal(alloc, filter, place),
+        Limit::TooManyEntries => {
+            let name = filter.name.as_slice();
+            refusal_at(alloc, Code::TooManyEntries, filter.place, name)
+        }
+    }
+}
