@@ -41,7 +41,7 @@ fn filter(alloc: Global, name: &[u8], families: Families, rules: Rules) -> Resul
     })
 }
 
-// What of TCP goes from everywhere to an IPv4 or IPv6 prefix and some of its ports.
+// What of a protocol goes from everywhere to some ports of a prefix: permitted, and logged.
 fn rule(
     alloc: Global,
     name: &[u8],
