@@ -1,3 +1,5 @@
+pub mod DefinitionsThere
 pub mod FaultLineLaws
 pub mod LoadLaws
 pub mod LoadedLaws
+pub mod OneAnswer

@@ -80,3 +80,15 @@ abbrev pub LoadsPolicy : List ℕ → List ℕ → List File → Result Loaded F
 LoadsPolicy folder path files answer =
     (definitions : Result Naming Fault) × Loads folder files definitions
     × GoesOn (λ naming. GoesOn (Resolves naming) (policy_at path files)) definitions answer
+
+-- ---- laws
+
+-- There is at most one answer.
+abbrev pub AnswersAreOne : Type 0
+AnswersAreOne = (folder path : List ℕ) (files : List File) (a b : Result Loaded Fault)
+    → LoadsPolicy folder path files a → LoadsPolicy folder path files b → a ≡ b
+
+-- The naming files of a folder have an answer.
+abbrev pub DefinitionsAreThere : Type 0
+DefinitionsAreThere =
+    (folder : List ℕ) (files : List File) → (answer : Result Naming Fault) × Loads folder files answer

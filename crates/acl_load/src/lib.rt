@@ -3,6 +3,7 @@
 
 mod adding;
 mod fault_lines;
+mod laws;
 mod load_faults;
 mod loading;
 mod naming_paths;
@@ -15,6 +16,7 @@ mod slips;
 mod tests;
 
 pub use fault_lines::put_fault;
+pub use laws::{answers_are_one, definitions_are_there};
 pub use load_faults::LoadFault;
 pub use loading::load_definitions;
 pub use policy_loading::{Loaded, TermLists, Terms, load};

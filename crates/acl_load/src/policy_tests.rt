@@ -2,7 +2,7 @@ use crate::{LoadFault, Loaded, load, put_fault};
 use acl_host::{MemTree, Op, Whole};
 use acl_packet::Verdict;
 use acl_terms::Term;
-use acl_text::{Memory, Out, PutFault};
+use acl_text::{Fault, Memory, Out, PutFault};
 use std::alloc::Global;
 use std::test::Fail;
 
@@ -80,17 +80,33 @@ fn tree_of(alloc: Global, files: Files) -> Result<MemTree, Memory> {
     Ok(tree)
 }
 
+fn text_line(alloc: Global, text: &[u8]) -> Result<Whole, PutFault> {
+    let mut line = Whole::new(alloc);
+    line.put(text)?;
+    Ok(line)
+}
+
+fn fault_line(alloc: Global, fault: &Fault) -> Result<Whole, PutFault> {
+    let mut line = Whole::new(alloc);
+    put_fault(&mut line, fault)?;
+    Ok(line)
+}
+
+fn refusal_line(alloc: Global, refusal: &LoadFault) -> Result<Whole, PutFault> {
+    match refusal {
+        LoadFault::Fault(fault) => fault_line(alloc, fault),
+        LoadFault::List => text_line(alloc, b"list"),
+        LoadFault::Read => text_line(alloc, b"read"),
+        LoadFault::Memory => text_line(alloc, b"memory"),
+    }
+}
+
 // The line of the fault that is told, or what else is answered.
 fn line_of(alloc: Global, tree: &mut MemTree) -> Result<Whole, PutFault> {
-    let mut line = Whole::new(alloc);
     match load(alloc, tree, "def", "pol/a.pol") {
-        Ok(_) => line.put(b"loaded")?,
-        Err(LoadFault::Fault(fault)) => put_fault(&mut line, &fault)?,
-        Err(LoadFault::List) => line.put(b"list")?,
-        Err(LoadFault::Read) => line.put(b"read")?,
-        Err(LoadFault::Memory) => line.put(b"memory")?,
+        Ok(_) => text_line(alloc, b"loaded"),
+        Err(refusal) => refusal_line(alloc, &refusal),
     }
-    Ok(line)
 }
 
 #[test]

@@ -1,4 +1,4 @@
-use Rattle.std.proofs.Common.{ℕ, List, ◌<◌, length, get_or, sym, ap, arith}
+use Rattle.std.proofs.Common.{List, ◌<◌, length, arith}
 use Rattle.acl_policy.specs.declared.blocks.Block.{Block}
 use Rattle.acl_terms.specs.declared.terms.Term.{Term}
 use Rattle.acl_terms.proofs.SlipLaws.{slip-more}

@@ -1,0 +1,11 @@
+ghost use Rattle.acl_load.specs.LoadedPolicies.{AnswersAreOne, DefinitionsAreThere};
+
+/// A law: a folder of naming files and a policy have at most one answer.
+pub fn answers_are_one()
+    ensures { AnswersAreOne }
+{}
+
+/// A law: a folder of naming files has an answer, whatever the files hold.
+pub fn definitions_are_there()
+    ensures { DefinitionsAreThere }
+{}
