@@ -1,6 +1,6 @@
 -- The section of an accepted filter decides packets as the filter does: proved here, and need not
 -- be believed.
-use Rattle.std.proofs.Common.{zero-le, ◌≡◌, ◌≢◌, ℕ, ◌+◌, ◌-◌, ◌^◌, ◌<◌, Bool, true, false, ◌&&◌, ◌||◌, ◌==◌, cond, nat_le, nat_lt, unwrap_or, List, [], ◌∷◌, ◌++◌, ◌⊎◌, map, flat_map, Option, None, Some, inl, inr, refl, ap, sym, subst, ◌∙◌, append_assoc, arith}
+use Rattle.std.proofs.Common.{zero-le, ◌≡◌, ◌≢◌, ℕ, ◌^◌, ◌<◌, Bool, true, false, ◌&&◌, ◌||◌, ◌==◌, cond, nat_le, nat_lt, unwrap_or, List, [], ◌∷◌, ◌++◌, ◌⊎◌, map, flat_map, Option, None, Some, inl, inr, refl, ap, sym, subst, ◌∙◌, append_assoc}
 use Rattle.std.specs.List.{AllByRecursion, list_any}
 use Rattle.std.proofs.lemmas.Bool.{and_from, false≢true, lt-ltb}
 use Rattle.std.proofs.lemmas.List.Folds.{list_any-append}

@@ -1,6 +1,6 @@
 -- The entries of a rule that has no limit are entries of a list: proved here, and need not be
 -- believed.
-use Rattle.std.proofs.Common.{zero-le, subst, ◌≡◌, ℕ, zero, suc, ◌≤◌, Bool, true, false, not, ◌&&◌, ◌||◌, ◌==◌, Option, None, Some, IfSome, is_none, inl, inr, refl, ap, sym, ◌∙◌, arith}
+use Rattle.std.proofs.Common.{zero-le, subst, ◌≡◌, ℕ, zero, suc, ◌≤◌, Bool, true, false, not, ◌&&◌, ◌||◌, ◌==◌, Option, None, Some, IfSome, is_none, inl, inr, refl, ap, sym, ◌∙◌}
 use Rattle.std.proofs.lemmas.Bool.{and_from, cases_lt, eqb-true, false_from_ne_true, false≢true, or_parts}
 use Rattle.std.proofs.Math.Nat.{le_antisymm, le_of_suc-le-suc, suc-le-suc_iff}
 use Rattle.acl_packet.specs.declared.addresses.Families.{Families}

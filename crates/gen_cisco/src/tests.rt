@@ -20,12 +20,7 @@ use cisco_lang::{read, sections};
 use std::alloc::Global;
 use std::test::Fail;
 
-fn filter(
-    alloc: Global,
-    name: &[u8],
-    families: Families,
-    rules: Rules,
-) -> Result<Filter, Memory>
+fn filter(alloc: Global, name: &[u8], families: Families, rules: Rules) -> Result<Filter, Memory>
     requires { is_filter_name name.now ≡ true }
     ensures accepted { rules ≡ [] → IfOk result (IsAccepted is_for_cisco limit_of) }
     ensures name { IfOk result (λ f. f.name ≡ name.now) }
@@ -46,7 +41,7 @@ fn filter(
     })
 }
 
-// What of TCP goes from everywhere to an IPv4 or IPv6 prefix and some of its ports.
+// What of a protocol goes from everywhere to some ports of a prefix: permitted, and logged.
 fn rule(
     alloc: Global,
     name: &[u8],
@@ -97,7 +92,10 @@ fn ping(alloc: Global, dst: Prefix) -> Result<Rule, Memory>
         low: 128,
         high: 129,
     }];
-    let all = [Range { low: 0, high: 65535 }];
+    let all = [Range {
+        low: 0,
+        high: 65535,
+    }];
     let mut rule = rule(alloc, b"ping", dst, 58, &all, Test::Plain)?;
     rule.note = Bytes::new(alloc);
     rule.itypes = RangeSet::from_ranges(alloc, 255, &types)?;
@@ -191,7 +189,10 @@ fn judges_rules_in_order(rt: HostRuntime) -> Result<(), Fail> {
     let alloc = rt.alloc();
     let long = [b'a'; 65];
     let dns = [Range { low: 53, high: 53 }];
-    let all = [Range { low: 0, high: 65535 }];
+    let all = [Range {
+        low: 0,
+        high: 65535,
+    }];
     let mut rules = Rules::new(alloc);
     rules.push(rule(alloc, &long[1..], PAIR, 6, &dns, Test::SynNotAck)?)?;
     rules.push(rule(alloc, b"all", PAIR, 132, &all, Test::Plain)?)?;
