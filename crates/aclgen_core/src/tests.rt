@@ -79,13 +79,22 @@ fn leaves(
         err.fail(1)?;
     }
     let words = words(alloc, run.policy, run.date)?;
-    let ended = aclgen(alloc, words.as_slice(), &mut tree, &mut out, &mut err, &mut clock);
-    Ok(status_of(&ended) == status
-        && tree.file("out/a.acl") == file
-        && out.as_slice() == report
-        && err.as_slice() == line
-        && tree.file("def/n.net") == Some(NAMES)
-        && tree.file("pol/a.pol") == Some(policy))
+    let ended = aclgen(
+        alloc,
+        words.as_slice(),
+        &mut tree,
+        &mut out,
+        &mut err,
+        &mut clock,
+    );
+    Ok(
+        status_of(&ended) == status
+            && tree.file("out/a.acl") == file
+            && out.as_slice() == report
+            && err.as_slice() == line
+            && tree.file("def/n.net") == Some(NAMES)
+            && tree.file("pol/a.pol") == Some(policy),
+    )
 }
 
 const TWO_BLOCKS: &[u8] = b"header { target:: cisco edge mixed target:: cisco low extended }
@@ -133,9 +142,11 @@ fn a_policy_of_two_blocks_is_written_whole(rt: HostRuntime) -> Result<(), Fail> 
     Ok(())
 }
 
-const PLAIN_POLICY: &[u8] = b"header { target:: cisco edge extended }\nterm t { action:: accept }\n";
+const PLAIN_POLICY: &[u8] =
+    b"header { target:: cisco edge extended }\nterm t { action:: accept }\n";
 
-const USAGE: &[u8] = b"usage: aclgen --policy_file P --definitions_directory D --output_directory O [--date YYYY-MM-DD] [--exp_info N] [--shade_check]\n";
+const USAGE: &[u8] =
+    b"usage: aclgen --policy_file P --definitions_directory D --output_directory O [--date YYYY-MM-DD] [--exp_info N] [--shade_check]\n";
 
 #[test]
 fn refusals_leave_everything_as_it_was(rt: HostRuntime) -> Result<(), Fail> {
@@ -161,10 +172,26 @@ fn refusals_leave_everything_as_it_was(rt: HostRuntime) -> Result<(), Fail> {
     for (policy, line) in cases {
         assert!(rt; leaves(alloc, policy, PLAIN, 1, None, b"", line)?);
     }
-    let wrong = Run { date: "2026-02-30", ..PLAIN };
+    let wrong = Run {
+        date: "2026-02-30",
+        ..PLAIN
+    };
     assert!(rt; leaves(alloc, PLAIN_POLICY, wrong, 2, None, b"", USAGE)?);
-    let absent = Run { policy: "pol/b.pol", ..PLAIN };
-    assert!(rt; leaves(alloc, PLAIN_POLICY, absent, 1, None, b"", b"pol/b.pol: F20 NoFile\n")?);
+    let absent = Run {
+        policy: "pol/b.pol",
+        ..PLAIN
+    };
+    assert!(rt;
+        leaves(
+            alloc,
+            PLAIN_POLICY,
+            absent,
+            1,
+            None,
+            b"",
+            b"pol/b.pol: F20 NoFile\n"
+        )?
+    );
     Ok(())
 }
 
@@ -187,14 +214,35 @@ fn each_call_of_the_outside_fails_once(rt: HostRuntime) -> Result<(), Fail> {
         (Op::Finish, Some(LIST), b"aclgen: write failed\n"),
     ];
     for (op, file, line) in cases {
-        let run = Run { tree: Some(op), ..PLAIN };
+        let run = Run {
+            tree: Some(op),
+            ..PLAIN
+        };
         assert!(rt; leaves(alloc, PLAIN_POLICY, run, 3, file, b"", line)?);
     }
     let out = Run { out: true, ..PLAIN };
-    assert!(rt; leaves(alloc, PLAIN_POLICY, out, 3, Some(LIST), b"", b"aclgen: output failed\n")?);
-    let words = Run { date: "", err: true, ..PLAIN };
+    assert!(rt;
+        leaves(
+            alloc,
+            PLAIN_POLICY,
+            out,
+            3,
+            Some(LIST),
+            b"",
+            b"aclgen: output failed\n"
+        )?
+    );
+    let words = Run {
+        date: "",
+        err: true,
+        ..PLAIN
+    };
     assert!(rt; leaves(alloc, PLAIN_POLICY, words, 3, None, b"", b"")?);
-    let absent = Run { policy: "pol/b.pol", err: true, ..PLAIN };
+    let absent = Run {
+        policy: "pol/b.pol",
+        err: true,
+        ..PLAIN
+    };
     assert!(rt; leaves(alloc, PLAIN_POLICY, absent, 3, None, b"", b"")?);
     Ok(())
 }
