@@ -38,6 +38,7 @@ fn tree_of(alloc: Global, policy: &[u8]) -> Result<MemTree, Memory>
 }
 
 // The words, and which call of the outside fails in a run.
+#[derive(Clone, Copy)]
 struct Run<'a> {
     policy: &'a str,
     date: &'a str,
