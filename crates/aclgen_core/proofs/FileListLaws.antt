@@ -39,20 +39,25 @@ holds-cons t ts f0 f1 f2 apart first more = record {
 }
 
 stops-cons : (t : File) (ts f0 f1 f2 : List File) → IsApart t.0 ts → HoldsText t.0 t.1 f0 f1 → Interrupted ts f1 f2 → Interrupted (t ∷ ts) f0 f2
-stops-cons t ts f0 f1 f2 apart first more = (suc more.0, record {
-  held = (more.1.others t.0 (apart-take (suc more.0) t.0 ts apart) ∙ first.held, more.1.held);
-  others = λ q h. more.1.others q h.1 ∙ first.others q h.0;
-})
+stops-cons t ts f0 f1 f2 apart first more = (
+  suc more.0,
+  record {
+    held = (more.1.others t.0 (apart-take (suc more.0) t.0 ts apart) ∙ first.held, more.1.held);
+    others = λ q h. more.1.others q h.1 ∙ first.others q h.0;
+  },
+)
 
 -- Files that are all written were not interrupted before the end.
 pub whole-stops : (ts f0 f1 : List File) → HoldsTexts ts f0 f1 → Interrupted ts f0 f1
 whole-stops ts f0 f1 h =
     let all : take (length ts) ts ≡ ts = take_all (length ts) ts (omega arith) in
-    let past : take (suc (length ts)) ts ≡ ts = take_all (suc (length ts)) ts (omega arith) in
-    (length ts, record {
-      held = subst (λ xs. HoldsAll xs f1) (sym all) h.held;
-      others = subst (λ xs. SameButAt xs f0 f1) (sym past) h.others;
-    })
+    let past : take (suc (length ts)) ts ≡ ts = take_all (suc (length ts)) ts (omega arith) in (
+      length ts,
+      record {
+        held = subst (λ xs. HoldsAll xs f1) (sym all) h.held;
+        others = subst (λ xs. SameButAt xs f0 f1) (sym past) h.others;
+      },
+    )
 
 -- ---- calls
 

@@ -64,9 +64,10 @@ any-none p x (y ∷ xs) ys e = any-none p x xs ys (or-right (p y) (list_any p (x
 
 later : (e : Target) (xs ys ts : List Target) → Each StandsBehind (xs ++ e ∷ ys) ts → AllByRecursion (λ t. clash e t ≡ false) ts
 later e xs ys [] h = tt
-later e xs ys (t ∷ ts) h =
-    (any-none (λ o. clash o t) e xs ys h.0.clashes_not,
-    later e xs (ys ++ t ∷ []) ts (subst (λ b. Each StandsBehind b ts) (append_assoc xs (e ∷ ys) (t ∷ [])) h.1))
+later e xs ys (t ∷ ts) h = (
+  any-none (λ o. clash o t) e xs ys h.0.clashes_not,
+  later e xs (ys ++ t ∷ []) ts (subst (λ b. Each StandsBehind b ts) (append_assoc xs (e ∷ ys) (t ∷ [])) h.1),
+)
 
 no-clash : (before ts : List Target) → Each StandsBehind before ts → IsDistinct clash ts
 unfolding IsDistinct
@@ -166,8 +167,8 @@ pub is-planned : (o : Options) (today : Day) (loaded : Loaded) (path : List ℕ)
 is-planned o today loaded path prepared work p w e resolved =
     let file : PlanFile = record { path = acl_path o.output o.policy; requests = requests_of loaded } in
     let texts : texts_in work ≡ texts_of (plan_of o today loaded) =
-        w.texts_are ∙ ap (λ (fs : List Filter). (path, text_of (map section_of fs)) ∷ []) p.filters_are
-        ∙ ap (λ (q : List ℕ). (q, text_of (document_of today file)) ∷ []) e in
+    w.texts_are ∙ ap (λ (fs : List Filter). (path, text_of (map section_of fs)) ∷ []) p.filters_are
+    ∙ ap (λ (q : List ℕ). (q, text_of (document_of today file)) ∷ []) e in
     record {
       plan_is = ap (λ s. or_slip loaded.sources.labels s (plan_of o today loaded)) p.slip_is;
       ready = record {
@@ -205,9 +206,12 @@ seen-job : (told : Option (List File)) (words : List (List ℕ)) (o : Options) (
     → IfSome told (λ files. (plan : Plan) × Plans o today files (Ok plan) × IsReady plan work)
     → IfSome told (λ files. (day : Day) → (plan : Plan) × IsJob words day files (Some (Ok plan)) × IsReady plan work)
 seen-job None words o today work e f h = tt
-seen-job (Some files) words o today work e f h = λ day.
-    (h.0, subst (λ (w : Option Options). IsJobOf w day files (Some (Ok h.0))) (sym e)
-    (subst (λ (d : Option Day). Plans o (or_day d day) files (Ok h.0)) (sym f) h.1), h.2)
+seen-job (Some files) words o today work e f h = λ day. (
+  h.0,
+  subst (λ (w : Option Options). IsJobOf w day files (Some (Ok h.0))) (sym e)
+      (subst (λ (d : Option Day). Plans o (or_day d day) files (Ok h.0)) (sym f) h.1),
+  h.2,
+)
 
 pub decides-planned : (words : List (List ℕ)) (o : Options) (today : Day) (work : Work) (d : Disk) → options_of words ≡ Some o → o.date ≡ Some today
     → MakesWork o today d.files (Ok work) → DecidesPlanned words work d

@@ -133,7 +133,7 @@ untouched d d' o e e' c seen = record { same_files = seen.files_stay; same_out =
 
 refused-memory : (words : List (List ℕ)) (line : List ℕ) (d d' : Disk) (o e e' : Stream) (c : Watch) → OnlySeen d d' → IsRefusal words (world d o e c) line
     → (job_leaves : (day : Day) (files : List File) → d.files ≡ Some files → (job : Option (Result Plan Fault)) → IsJob words day files job
-        → Leaves job (world d o e c) (world d' o e' c) files)
+    → Leaves job (world d o e c) (world d' o e' c) files)
     → BothTell e.told e'.told (AddsFront line) → EndsWanting words (world d o e c) (world d' o e' c)
 refused-memory words line d d' o e e' c seen refusal job_leaves front = record {
   words_untouched = λ _. untouched d d' o e e' c seen;
@@ -144,14 +144,14 @@ refused-memory words line d d' o e e' c seen refusal job_leaves front = record {
 refused-so : (words : List (List ℕ)) (line : List ℕ) (asked result : Ended) (d d' : Disk) (o e e' : Stream) (c : Watch) → d.begun ≡ None → OnlySeen d d'
     → StreamCountsGrow e e' → IsRefusal words (world d o e c) line
     → ((day : Day) (files : List File) → d.files ≡ Some files → (job : Option (Result Plan Fault)) → IsJob words day files job
-        → Leaves job (world d o e c) (world d' o e' c) files)
+    → Leaves job (world d o e c) (world d' o e' c) files)
     → (Got line e.told e'.told → EndsSo words (world d o e c) (world d' o e' c) asked)
     → RefusesSo line asked e e' result → Keeps words (world d o e c) (world d' o e' c) result
 refused-so words line asked result d d' o e e' c none seen counts refusal job_leaves row (inl h) =
     looked words d d' o e e' c result none seen counts (subst (λ (r : Ended). EndsSo words (world d o e c) (world d' o e' c) r) (sym h.0) (row h.1))
 refused-so words line asked result d d' o e e' c none seen counts refusal job_leaves row (inr (inl h)) =
     let ends : EndsTelling words (world d o e c) (world d' o e' c) =
-        record { cause = h.1; untouched = untouched d d' o e e' c seen; line = (line, refusal, h.2) } in
+    record { cause = h.1; untouched = untouched d d' o e e' c seen; line = (line, refusal, h.2) } in
     looked words d d' o e e' c result none seen counts (subst (λ (r : Ended). EndsSo words (world d o e c) (world d' o e' c) r) (sym h.0) ends)
 refused-so words line asked result d d' o e e' c none seen counts refusal job_leaves row (inr (inr h)) =
     let ends = refused-memory words line d d' o e e' c seen refusal job_leaves h.1 in
@@ -268,8 +268,12 @@ done-row : (words : List (List ℕ)) (work : Work) (d d' : Disk) (o o' e e' : St
 done-row words work d d' o o' e e' c planned acts = record {
   accepted = planned.accepted;
   written = planned-leaves words work d (λ plan files. Unit {0}) (Headline words (world d o e c) (world d' o' e' c))
-      (λ day files is plan job ready. (plan, job, written-plan plan work d d' files is ready acts.written,
-      subst (λ t. Got t o.told o'.told) ready.report_is acts.report_got)) planned;
+      (λ day files is plan job ready. (
+        plan,
+        job,
+        written-plan plan work d d' files is ready acts.written,
+        subst (λ t. Got t o.told o'.told) ready.report_is acts.report_got,
+      )) planned;
   report = (work.report.bytes, acts.report_got);
   nothing_on_err = acts.err_rests;
 }
@@ -291,8 +295,12 @@ out-row words work d d' o o' e e' c planned acts = record {
   cause = acts.cause;
   accepted = planned.accepted;
   written = planned-leaves words work d (λ plan files. Unit {0}) (LeavesReport words (world d o e c) (world d' o' e' c))
-      (λ day files is plan job ready. (plan, job, written-plan plan work d d' files is ready acts.written,
-      subst (λ t. BothTell o.told o'.told (AddsFront t)) ready.report_is acts.report_front)) planned;
+      (λ day files is plan job ready. (
+        plan,
+        job,
+        written-plan plan work d d' files is ready acts.written,
+        subst (λ t. BothTell o.told o'.told (AddsFront t)) ready.report_is acts.report_front,
+      )) planned;
   report = (work.report.bytes, acts.report_front);
   line = acts.line;
 }

@@ -14,6 +14,8 @@ mod platforms;
 mod preparing;
 mod running;
 mod slips;
+#[cfg(test)]
+mod tests;
 
 pub use endings::{Ended, Which, status_of};
 pub use laws::jobs_are_one;

@@ -145,12 +145,7 @@ fn add_blocks(
 }
 
 /// The filters that the policy asks for that day, with their report under the path; or the first slip.
-pub fn prepare(
-    alloc: Global,
-    today: Day,
-    path: &str,
-    loaded: &Loaded,
-) -> Result<Prepared, Refusal>
+pub fn prepare(alloc: Global, today: Day, path: &str, loaded: &Loaded) -> Result<Prepared, Refusal>
     requires { All IsBlock loaded.now.policy.blocks }
     ensures { Prepares path.now today loaded.now result }
 {
@@ -160,6 +155,13 @@ pub fn prepare(
         filters: Items::new(alloc),
         report: Whole::new(alloc),
     };
-    add_blocks(alloc, today, path, blocks, loaded.terms.as_slice(), &mut prepared)?;
+    add_blocks(
+        alloc,
+        today,
+        path,
+        blocks,
+        loaded.terms.as_slice(),
+        &mut prepared,
+    )?;
     Ok(prepared)
 }

@@ -25,11 +25,11 @@ pub fn aclgen<T: Tree, O: Sink, E: Sink, C: Clock>(
     requires { T.begun tree.old ≡ None }
     ensures { Keeps (map string_bytes words.now)
         (world (disk T.files T.begun T.list_faults T.read_faults T.faults T.refusals tree.old)
-            (stream O.told O.faults O.refusals out.old) (stream E.told E.faults E.refusals err.old)
-            (watch C.day C.faults _clock.old))
+        (stream O.told O.faults O.refusals out.old) (stream E.told E.faults E.refusals err.old)
+        (watch C.day C.faults _clock.old))
         (world (disk T.files T.begun T.list_faults T.read_faults T.faults T.refusals tree.new)
-            (stream O.told O.faults O.refusals out.new) (stream E.told E.faults E.refusals err.new)
-            (watch C.day C.faults _clock.new)) result }
+        (stream O.told O.faults O.refusals out.new) (stream E.told E.faults E.refusals err.new)
+        (watch C.day C.faults _clock.new)) result }
 {
     match decide(alloc, words, tree) {
         Decision::Usage => refuse(err, usage_line().as_bytes(), Ended::Usage),

@@ -1,0 +1,249 @@
+ghost use Rattle.std.specs.Prelude.{◌≡◌, IfOk, None};
+ghost use Rattle.acl_host.specs.MemoryTrees.{contents};
+
+use crate::{aclgen, status_of};
+use acl_host::{Day, FixedClock, MemSink, MemTree, Op};
+use acl_text::Memory;
+use std::alloc::{AllocError, Global};
+use std::test::Fail;
+
+const NAMES: &[u8] = b"WEB = 192.0.2.10\nLOW = 10.0.0.0/25\nHIGH = 10.0.0.128/25\n";
+
+fn words(alloc: Global, policy: &str, date: &str) -> Result<Vec<String>, AllocError> {
+    let mut words = Vec::new(alloc);
+    let texts = [
+        "--policy_file",
+        policy,
+        "--definitions_directory",
+        "def",
+        "--output_directory",
+        "out",
+        "--date",
+        date,
+    ];
+    for text in texts {
+        words.push(String::from_str(alloc, text)?)?;
+    }
+    Ok(words)
+}
+
+// A tree of networks and a policy.
+fn tree_of(alloc: Global, policy: &[u8]) -> Result<MemTree, Memory>
+    ensures { IfOk result (λ t. (contents t).begun ≡ None) }
+{
+    let mut tree = MemTree::new(alloc);
+    tree.put_file("def/n.net", NAMES)?;
+    tree.put_file("pol/a.pol", policy)?;
+    Ok(tree)
+}
+
+// The words, and which call of the outside fails in a run.
+#[derive(Clone, Copy)]
+struct Run<'a> {
+    policy: &'a str,
+    date: &'a str,
+    tree: Option<Op>,
+    out: bool,
+    err: bool,
+}
+
+const PLAIN: Run<'static> = Run {
+    policy: "pol/a.pol",
+    date: "2026-01-15",
+    tree: None,
+    out: false,
+    err: false,
+};
+
+// Whether a run over the policy ends with the status and leaves these bytes: the filter's file where there
+// is one, and what was written on the two streams. The input files are as they were.
+fn leaves(
+    alloc: Global,
+    policy: &[u8],
+    run: Run<'_>,
+    status: u8,
+    file: Option<&[u8]>,
+    report: &[u8],
+    line: &[u8],
+) -> Result<bool, Memory> {
+    let mut tree = tree_of(alloc, policy)?;
+    let mut out = MemSink::new(alloc);
+    let mut err = MemSink::new(alloc);
+    let mut clock = FixedClock::new(Day { number: 20468 }, true);
+    if let Some(op) = run.tree {
+        tree.fail(op, 1)?;
+    }
+    if run.out {
+        out.fail(1)?;
+    }
+    if run.err {
+        err.fail(1)?;
+    }
+    let words = words(alloc, run.policy, run.date)?;
+    let ended = aclgen(
+        alloc,
+        words.as_slice(),
+        &mut tree,
+        &mut out,
+        &mut err,
+        &mut clock,
+    );
+    Ok(
+        status_of(&ended) == status
+            && tree.file("out/a.acl") == file
+            && out.as_slice() == report
+            && err.as_slice() == line
+            && tree.file("def/n.net") == Some(NAMES)
+            && tree.file("pol/a.pol") == Some(policy),
+    )
+}
+
+const TWO_BLOCKS: &[u8] = b"header { target:: cisco edge mixed target:: cisco low extended }
+term old { expiration:: 2026-01-15 action:: accept }
+term web { destination-address:: WEB protocol:: tcp action:: accept logging:: true }
+header { target:: cisco sums extended }
+term a { source-address:: LOW HIGH action:: reject }
+";
+
+const SECTIONS: &[u8] = b"! cisco edge mixed
+no ip access-list extended edge
+ip access-list extended edge
+ remark web
+ permit tcp any host 192.0.2.10 log
+exit
+no ipv6 access-list ipv6-edge
+ipv6 access-list ipv6-edge
+ permit icmp any any 136
+ permit icmp any any 135
+ deny ipv6 any any
+exit
+! cisco low extended
+no ip access-list extended low
+ip access-list extended low
+ remark web
+ permit tcp any host 192.0.2.10 log
+exit
+! cisco sums extended
+no ip access-list extended sums
+ip access-list extended sums
+ remark a
+ deny ip 10.0.0.0 0.0.0.255 any
+exit
+";
+
+const REPORT: &[u8] = b"out/a.acl: cisco edge mixed: entries 4
+out/a.acl: cisco low extended: entries 1
+out/a.acl: cisco sums extended: entries 1
+";
+
+#[test]
+fn a_policy_of_two_blocks_is_written_whole(rt: HostRuntime) -> Result<(), Fail> {
+    let alloc = rt.alloc();
+    assert!(rt; leaves(alloc, TWO_BLOCKS, PLAIN, 0, Some(SECTIONS), REPORT, b"")?);
+    Ok(())
+}
+
+const PLAIN_POLICY: &[u8] =
+    b"header { target:: cisco edge extended }\nterm t { action:: accept }\n";
+
+const USAGE: &[u8] =
+    b"usage: aclgen --policy_file P --definitions_directory D --output_directory O [--date YYYY-MM-DD] [--exp_info N] [--shade_check]\n";
+
+#[test]
+fn refusals_leave_everything_as_it_was(rt: HostRuntime) -> Result<(), Fail> {
+    let alloc = rt.alloc();
+    let cases: [(&[u8], &[u8]); 4] = [
+        (
+            b"header { target:: cisco edge extended }\nterm t { source-address:: NOWHERE action:: accept }",
+            b"pol/a.pol:2: F31 UnknownName NOWHERE\n",
+        ),
+        (
+            b"header { target:: cisco a extended target:: juniper b inet }\nterm t { action:: accept }",
+            b"pol/a.pol:1: F38 NotYet\n",
+        ),
+        (
+            b"header { target:: cisco a extended target:: cisco b inet6 }\nterm t { protocol:: tcp option:: tcp-initial action:: accept }",
+            b"pol/a.pol:2: F43 Unsupported tcp-initial\n",
+        ),
+        (
+            b"header { target:: cisco a inet6 }\nterm t { protocol:: esp action:: accept }\nterm u { protocol:: ah action:: accept }",
+            b"pol/a.pol:3: F40 ExtensionHeader 51\n",
+        ),
+    ];
+    for (policy, line) in cases {
+        assert!(rt; leaves(alloc, policy, PLAIN, 1, None, b"", line)?);
+    }
+    let wrong = Run {
+        date: "2026-02-30",
+        ..PLAIN
+    };
+    assert!(rt; leaves(alloc, PLAIN_POLICY, wrong, 2, None, b"", USAGE)?);
+    let absent = Run {
+        policy: "pol/b.pol",
+        ..PLAIN
+    };
+    assert!(rt;
+        leaves(
+            alloc,
+            PLAIN_POLICY,
+            absent,
+            1,
+            None,
+            b"",
+            b"pol/b.pol: F20 NoFile\n"
+        )?
+    );
+    Ok(())
+}
+
+const LIST: &[u8] = b"! cisco edge extended
+no ip access-list extended edge
+ip access-list extended edge
+ remark t
+ permit ip any any
+exit
+";
+
+#[test]
+fn each_call_of_the_outside_fails_once(rt: HostRuntime) -> Result<(), Fail> {
+    let alloc = rt.alloc();
+    let cases: [(Op, Option<&[u8]>, &[u8]); 5] = [
+        (Op::List, None, b"aclgen: list failed\n"),
+        (Op::Read, None, b"aclgen: read failed\n"),
+        (Op::Begin, None, b"aclgen: write failed\n"),
+        (Op::Append, Some(b""), b"aclgen: write failed\n"),
+        (Op::Finish, Some(LIST), b"aclgen: write failed\n"),
+    ];
+    for (op, file, line) in cases {
+        let run = Run {
+            tree: Some(op),
+            ..PLAIN
+        };
+        assert!(rt; leaves(alloc, PLAIN_POLICY, run, 3, file, b"", line)?);
+    }
+    let out = Run { out: true, ..PLAIN };
+    assert!(rt;
+        leaves(
+            alloc,
+            PLAIN_POLICY,
+            out,
+            3,
+            Some(LIST),
+            b"",
+            b"aclgen: output failed\n"
+        )?
+    );
+    let words = Run {
+        date: "",
+        err: true,
+        ..PLAIN
+    };
+    assert!(rt; leaves(alloc, PLAIN_POLICY, words, 3, None, b"", b"")?);
+    let absent = Run {
+        policy: "pol/b.pol",
+        err: true,
+        ..PLAIN
+    };
+    assert!(rt; leaves(alloc, PLAIN_POLICY, absent, 3, None, b"", b"")?);
+    Ok(())
+}
