@@ -1,0 +1,336 @@
+ghost use Rattle.std.specs.List.{All};
+ghost use Rattle.std.specs.Prelude.{IfOk};
+ghost use Rattle.acl_policy.specs.Conditions.{IsPolicy, IsRawTerm};
+ghost use Rattle.acl_target.specs.TargetData.{IsTarget};
+
+use crate::expand;
+use acl_host::{Day, MemTree, read_day};
+use acl_naming::{Base, Checked, check, read_networks, read_services};
+use acl_packet::Prefix;
+use acl_platform::{Filter, Rule};
+use acl_policy::{Policy, RawTerm, gather, parse};
+use acl_sets::RangeSet;
+use acl_target::Target;
+use acl_terms::{Term, resolve};
+use acl_text::{Items, Memory, Refusal, Slip};
+use std::alloc::Global;
+use std::str;
+use std::test::Fail;
+
+const V4_NETWORKS: &[u8] = b"LOW = 10.0.0.0/25\nHIGH = 10.0.0.128/25\nONE = 10.0.1.0/24\nTWO = 10.0.2.0/24\nWEB = 192.0.2.10\n";
+
+const V6_NETWORKS: &[u8] = b"SIX = ::/1\nPAIR = ::1 ::3\nTHIRD = 4000::1\nSECONDS = ::1 2000::1\n";
+
+const FIRSTS: &[u8] = b"FIRSTS = :: 2000:: 4000:: 6000:: 8000:: a000:: c000:: e000::\n";
+
+const SERVICES: &[u8] = b"DNS = 53/tcp 53/udp\n";
+
+fn definitions(alloc: Global) -> Result<Checked, Refusal> {
+    let base = read_networks(Base::new(alloc), 1, V4_NETWORKS)?;
+    let base = read_networks(base, 2, V6_NETWORKS)?;
+    let base = read_networks(base, 3, FIRSTS)?;
+    check(read_services(base, 4, SERVICES)?)
+}
+
+// A policy with one target, whose first term is in line 4.
+fn policy_of(alloc: Global, target: &str, terms: &str) -> Result<Policy, Refusal>
+    ensures { IfOk result IsPolicy }
+{
+    let text = format!(in alloc; "header {{\n target:: {target}\n}}\n{terms}\n")?;
+    let mut tree = MemTree::new(alloc);
+    tree.put_file("a.pol", text.as_bytes())?;
+    match gather(alloc, &mut tree, "a.pol") {
+        Ok(sources) => parse(alloc, &sources),
+        Err(_) => Err(Refusal::Memory),
+    }
+}
+
+fn terms_of(alloc: Global, base: &Checked, raws: &[RawTerm]) -> Result<Items<Term>, Refusal>
+    requires { All IsRawTerm raws.now }
+{
+    let mut terms = Items::new(alloc);
+    for raw in raws {
+        terms.push(resolve(alloc, base, raw)?)?;
+    }
+    Ok(terms)
+}
+
+fn expand_on_first(
+    alloc: Global,
+    terms: &[Term],
+    targets: &[Target],
+    today: Day,
+) -> Result<Filter, Refusal>
+    requires { All IsTarget targets.now }
+{
+    match targets {
+        [] => Err(Refusal::Memory),
+        [target, ..] => expand(alloc, terms, target, today),
+    }
+}
+
+fn day() -> Result<Day, Refusal> {
+    match read_day(b"2026-01-15") {
+        Some(day) => Ok(day),
+        None => Err(Refusal::Memory),
+    }
+}
+
+// The filter of the terms on the target, on 2026-01-15.
+fn filter_of(alloc: Global, base: &Checked, target: &str, terms: &str) -> Result<Filter, Refusal> {
+    let policy = policy_of(alloc, target, terms)?;
+    match policy.blocks.as_slice() {
+        [] => Err(Refusal::Memory),
+        [block, ..] => {
+            let terms = terms_of(alloc, base, block.terms.as_slice())?;
+            expand_on_first(alloc, terms.as_slice(), block.targets.as_slice(), day()?)
+        }
+    }
+}
+
+fn text(bytes: &[u8]) -> &str {
+    match str::from_utf8(bytes) {
+        Ok(text) => text,
+        Err(_) => "?",
+    }
+}
+
+// The ranges of a set, with nothing for a set that is all.
+fn shown_set(alloc: Global, set: &RangeSet) -> Result<String, Memory> {
+    let mut out = String::new(alloc);
+    if !set.is_all() {
+        for range in set.ranges() {
+            let piece = format!(in alloc; " {}-{}", range.low, range.high)?;
+            out.push_str(&piece)?;
+        }
+    }
+    Ok(out)
+}
+
+fn shown_list(alloc: Global, prefixes: &[Prefix]) -> Result<String, Memory> {
+    let mut out = String::new(alloc);
+    for prefix in prefixes {
+        let piece = format!(in alloc; " {}/{}", prefix.first, prefix.len)?;
+        out.push_str(&piece)?;
+    }
+    Ok(out)
+}
+
+// A rule in one line: name, family, verdict and test, then its protocols, destination ports and sources.
+fn shown_rule(alloc: Global, rule: &Rule) -> Result<String, Memory> {
+    let name = text(rule.name.as_slice());
+    let protos = shown_set(alloc, &rule.protos)?;
+    let dports = shown_set(alloc, &rule.dports)?;
+    let src = shown_list(alloc, rule.src.as_slice())?;
+    Ok(format!(in alloc;
+        "{name} {:?} {:?} {:?};{protos};{dports};{src}\n",
+        rule.family, rule.verdict, rule.test
+    )?)
+}
+
+fn shown_rules(alloc: Global, rules: &[Rule]) -> Result<String, Memory> {
+    let mut out = String::new(alloc);
+    for rule in rules {
+        let line = shown_rule(alloc, rule)?;
+        out.push_str(&line)?;
+    }
+    Ok(out)
+}
+
+fn shown_slip(alloc: Global, slip: &Slip) -> Result<String, Memory> {
+    let word = text(slip.word.as_slice());
+    Ok(format!(in alloc; "{} {:?} {word}", slip.place.line, slip.code)?)
+}
+
+// The rules of the terms on the target, or their slip.
+fn shown(alloc: Global, base: &Checked, target: &str, terms: &str) -> Result<String, Memory> {
+    match filter_of(alloc, base, target, terms) {
+        Ok(filter) => shown_rules(alloc, filter.rules.as_slice()),
+        Err(Refusal::Slip(slip)) => shown_slip(alloc, &slip),
+        Err(Refusal::Memory) => Err(Memory),
+    }
+}
+
+const CISCO: &str = "cisco e extended";
+
+#[test]
+fn sets_of_addresses_become_least_lists(rt: HostRuntime) -> Result<(), Fail> {
+    let table = [
+        (
+            "term a {\n source-address:: LOW HIGH\n action:: deny\n}",
+            "a V4 Deny Plain;;; 167772160/24\n",
+        ),
+        (
+            "term a {\n source-address:: ONE TWO\n action:: reject\n}",
+            "a V4 Deny Plain;;; 167772416/24 167772672/24\n",
+        ),
+        (
+            "term none {\n source-address:: WEB\n source-exclude:: WEB\n action:: accept\n}\nterm rest {\n protocol:: udp icmpv6\n action:: accept\n}",
+            "rest V4 Accept Plain; 17-17;; 0/0\n",
+        ),
+        ("term a {\n expiration:: 2026-01-15\n action:: deny\n}", ""),
+        ("term a {\n platform:: juniper\n action:: deny\n}", ""),
+    ];
+    let base = definitions(rt.alloc())?;
+    for (terms, rules) in table {
+        assert_eq!(rt;
+            shown(rt.alloc(), &base, CISCO, terms)?.as_str(),
+            rules,
+            "at {terms}"
+        );
+    }
+    Ok(())
+}
+
+#[test]
+fn established_becomes_rules_by_protocol(rt: HostRuntime) -> Result<(), Fail> {
+    let both = "term est {\n protocol:: tcp udp\n option:: established\n action:: accept\n}";
+    let table = [
+        (
+            "juniper e inet",
+            both,
+            "est-tcp V4 Accept AckOrRst; 6-6;; 0/0\nest-udp V4 Accept Plain; 17-17; 1024-65535; 0/0\n",
+        ),
+        (
+            "nftables mixed input",
+            both,
+            "est V4 Accept State; 6-6 17-17;; 0/0\nest V6 Accept State; 6-6 17-17;; 0/0\n",
+        ),
+        (
+            CISCO,
+            "term t {\n protocol:: tcp\n option:: established\n action:: accept\n}",
+            "t V4 Accept AckOrRst; 6-6;; 0/0\n",
+        ),
+        (
+            CISCO,
+            "term u {\n protocol:: udp\n option:: established\n action:: accept\n}",
+            "u V4 Accept Plain; 17-17; 1024-65535; 0/0\n",
+        ),
+        (
+            CISCO,
+            "term n {\n protocol:: udp\n option:: established\n destination-port:: DNS\n action:: accept\n}",
+            "n V4 Accept Plain; 17-17; 53-53; 0/0\n",
+        ),
+    ];
+    let base = definitions(rt.alloc())?;
+    for (target, terms, rules) in table {
+        assert_eq!(rt;
+            shown(rt.alloc(), &base, target, terms)?.as_str(),
+            rules,
+            "at {target} {terms}"
+        );
+    }
+    Ok(())
+}
+
+#[test]
+fn other_options_keep_one_rule(rt: HostRuntime) -> Result<(), Fail> {
+    let table = [
+        (
+            "iptables INPUT DROP",
+            "tcp-established",
+            "o V4 Accept State; 6-6;; 0/0\n",
+        ),
+        (
+            CISCO,
+            "tcp-established",
+            "o V4 Accept AckOrRst; 6-6;; 0/0\n",
+        ),
+        (CISCO, "tcp-initial", "o V4 Accept SynNotAck; 6-6;; 0/0\n"),
+        ("iptables INPUT DROP", "rst", "o V4 Accept Rst; 6-6;; 0/0\n"),
+    ];
+    let base = definitions(rt.alloc())?;
+    for (target, option, rules) in table {
+        let terms = format!(in rt.alloc();
+            "term o {{\n protocol:: tcp\n option:: {option}\n action:: accept\n}}"
+        )?;
+        assert_eq!(rt;
+            shown(rt.alloc(), &base, target, &terms)?.as_str(),
+            rules,
+            "at {target} {option}"
+        );
+    }
+    Ok(())
+}
+
+#[test]
+fn extension_headers_are_slips_in_ipv6(rt: HostRuntime) -> Result<(), Fail> {
+    let ah = "term a {\n protocol:: 60 ah\n action:: deny\n}";
+    let table = [
+        ("cisco e inet6", ah, "4 ExtensionHeader 51"),
+        ("cisco e mixed", ah, "4 ExtensionHeader 51"),
+        (CISCO, ah, "a V4 Deny Plain; 51-51 60-60;; 0/0\n"),
+        (
+            "cisco e inet6",
+            "term a {\n protocol:: ah\n source-address:: WEB\n action:: deny\n}",
+            "",
+        ),
+        (
+            "cisco e inet6",
+            "term a {\n protocol:: ah\n platform:: juniper\n action:: deny\n}",
+            "",
+        ),
+        (
+            "cisco e inet6",
+            "term a {\n protocol:: esp\n source-address:: SIX\n action:: deny\n}",
+            "a V6 Deny Plain; 50-50;; 0/1\n",
+        ),
+    ];
+    let base = definitions(rt.alloc())?;
+    for (target, terms, answer) in table {
+        assert_eq!(rt;
+            shown(rt.alloc(), &base, target, terms)?.as_str(),
+            answer,
+            "at {target} {terms}"
+        );
+    }
+    Ok(())
+}
+
+// So many terms of 5 lines, behind one of 3 prefixes in 4 lines. FIRSTS has the first address of each of 8 blocks of
+// IPv6: what is left of a block is 125 prefixes, of the lengths 4 to 128, and of all 1,000.
+fn holed_terms(alloc: Global, count: u32, last: &str) -> Result<String, Memory> {
+    let mut out = String::from_str(
+        alloc,
+        "term o {\n source-address:: PAIR\n action:: deny\n}\n",
+    )?;
+    for i in 0..count {
+        let term = format!(in alloc;
+            "term t{i} {{\n source-exclude:: FIRSTS\n destination-exclude:: FIRSTS\n action:: deny\n}}\n"
+        )?;
+        out.push_str(&term)?;
+    }
+    out.push_str(last)?;
+    Ok(out)
+}
+
+// Without the first two addresses, what is left of a block is 124 prefixes: `last` has 998 and 1,000, and `less` one
+// prefix less.
+#[test]
+fn prefixes_of_a_filter_are_counted(rt: HostRuntime) -> Result<(), Fail> {
+    let less =
+        "term less {\n source-exclude:: FIRSTS SECONDS\n destination-exclude:: FIRSTS THIRD\n action:: deny\n}\n";
+    let last =
+        "term last {\n source-exclude:: FIRSTS SECONDS\n destination-exclude:: FIRSTS\n action:: deny\n}\n";
+    let header =
+        "term last {\n source-exclude:: FIRSTS SECONDS\n destination-exclude:: FIRSTS\n protocol:: ah\n action:: deny\n}\n";
+    let both =
+        "term last {\n source-exclude:: FIRSTS SECONDS\n destination-exclude:: FIRSTS\n action:: deny\n}\nterm h {\n protocol:: ah\n action:: deny\n}\n";
+    let table = [
+        (last, "503 TooManyPrefixes last"),
+        (both, "503 TooManyPrefixes last"),
+        (header, "503 ExtensionHeader 51"),
+    ];
+    let base = definitions(rt.alloc())?;
+    for (last, slip) in table {
+        let terms = holed_terms(rt.alloc(), 99, last)?;
+        assert_eq!(rt;
+            shown(rt.alloc(), &base, "cisco e inet6", &terms)?.as_str(),
+            slip
+        );
+    }
+    let terms = holed_terms(rt.alloc(), 99, less)?;
+    let filter = filter_of(rt.alloc(), &base, "cisco e inet6", &terms)?;
+    assert_eq!(rt; filter.rules.as_slice().len(), 101);
+    Ok(())
+}
