@@ -17,7 +17,8 @@ use std::alloc::Global;
 use std::str;
 use std::test::Fail;
 
-const V4_NETWORKS: &[u8] = b"LOW = 10.0.0.0/25\nHIGH = 10.0.0.128/25\nONE = 10.0.1.0/24\nTWO = 10.0.2.0/24\nWEB = 192.0.2.10\n";
+const V4_NETWORKS: &[u8] =
+    b"LOW = 10.0.0.0/25\nHIGH = 10.0.0.128/25\nONE = 10.0.1.0/24\nTWO = 10.0.2.0/24\nWEB = 192.0.2.10\n";
 
 const V6_NETWORKS: &[u8] = b"SIX = ::/1\nPAIR = ::1 ::3\nTHIRD = 4000::1\nSECONDS = ::1 2000::1\n";
 
