@@ -1,54 +1,58 @@
 -- What is to be written of a loaded policy, and of the files.
-use Rattle.std.proofs.Common.{◌≡◌, ℕ, Bool, true, false, ◌||◌, if◌then◌else◌, List, [], ◌∷◌, ◌++◌, map, Option, None, Some, Result, Ok, Err, IfSome, IsSome, is_some, refl, ap, sym, subst, ◌∙◌, append_assoc, append-nil}
-use Rattle.std.specs.Prelude.{IsErrAnd, flat_map, slice_get}
+use Prim.Native.Nat.{zero, suc}
+use Rattle.std.proofs.Common.{◌≡◌, ◌≢◌, ℕ, ◌<◌, Bool, true, false, ◌||◌, ◌&&◌, ◌==◌, if◌then◌else◌, List, [], ◌∷◌, ◌++◌, map, Option, None, Some, Result, Ok, Err, IfSome, IsSome, is_some, refl, ap, sym, subst, ◌∙◌, append_assoc, append-nil, length, arith}
+use Rattle.std.specs.Prelude.{IsErrAnd, flat_map, slice_index_or}
 use Rattle.std.specs.List.{All, AllByRecursion, IsDistinct, list_any}
+use Rattle.std.specs.String.{string_bytes}
 use Rattle.std.specs.Str.{bytes_eq}
-use Rattle.std.proofs.lemmas.Bool.{false≢true}
-use Rattle.std.proofs.lemmas.List.{map-append}
-use Rattle.std.proofs.lemmas.List.Elements.{All-head, All-tail}
+use Rattle.std.proofs.lemmas.Bool.{and_parts, eqb-true, false_from_ne_true, false≢true}
+use Rattle.std.proofs.lemmas.List.{append_cancel_left, map-append}
+use Rattle.std.proofs.lemmas.List.Elements.{All-cons, All-nil}
+use Rattle.std.proofs.lemmas.Slice.Eq.{bytes_eq-Decides}
+use Rattle.acl_grammar.proofs.ListLaws.{flat_twice}
 use Rattle.acl_text.specs.declared.faults.Fault.{Fault}
 use Rattle.acl_text.specs.declared.faults.Rejection.{Rejection}
 use Rattle.acl_text.specs.declared.faults.Rejection.TheVariants as rejections
 use Rattle.acl_text.specs.declared.faults.Slip.{Slip}
 use Rattle.acl_host.specs.declared.clocks.Day.{Day}
-use Rattle.acl_host.specs.Files.{File}
+use Rattle.acl_host.specs.Files.{File, join_path}
 use Rattle.acl_naming.specs.Definitions.{Naming}
 use Rattle.acl_target.specs.declared.targets.Kind.{Kind}
 use Rattle.acl_target.specs.declared.targets.Kind.TheVariants.{Cisco, Juniper, Iptables, Nftables}
 use Rattle.acl_target.specs.declared.targets.Target.{Target}
-use Rattle.acl_target.specs.Clashes.{clash}
-use Rattle.acl_target.specs.TargetData.{FitsPlatform, IsTarget}
+use Rattle.acl_target.specs.Clashes.{clash, same_kind, share_lists}
 use Rattle.acl_policy.specs.declared.blocks.Block.{Block}
 use Rattle.acl_policy.specs.declared.blocks.Policy.{Policy}
 use Rattle.acl_policy.specs.declared.raw_terms.RawTerm.{RawTerm}
-use Rattle.acl_policy.specs.Conditions.{Each, IsBlock, IsPolicy, StandsBehind, targets_of}
+use Rattle.acl_policy.specs.Conditions.{Each, IsPolicy, NumbersDiffer, StandsBehind, targets_of}
 use Rattle.acl_terms.specs.declared.terms.Term.{Term}
-use Rattle.acl_terms.specs.Slips.{first_in}
 use Rattle.acl_platform.specs.declared.filters.Filter.{Filter}
 use Rattle.acl_platform.specs.Platforms.{DecidesAs}
 use Rattle.acl_platform.specs.SoundFilters.{target_of}
 use Rattle.acl_load.specs.declared.load_faults.LoadFault.{LoadFault}
 use Rattle.acl_load.specs.declared.policy_loading.Loaded.{Loaded}
+use Rattle.acl_load.specs.declared.load_faults.LoadFault.TheVariants as loads
+use Rattle.acl_load.specs.FaultLines.{fault_line}
 use Rattle.acl_load.specs.LoadFaults.{of_rejection}
-use Rattle.acl_load.specs.LoadedPolicies.{AreResolvedIn, LoadsPolicy}
-use Rattle.cisco_lang.specs.Texts.{Spells, text_of}
-use Rattle.cisco_lang.specs.Walks.{outcome_of}
-use Rattle.gen_cisco.specs.SectionNames.{ListsDiffer}
-use Rattle.gen_cisco.specs.Sections.{list_names, section_of}
+use Rattle.acl_text.specs.Output.{Rose}
+use Rattle.acl_load.specs.LoadedPolicies.{AreResolved, AreResolvedIn, LoadsPolicy}
+use Rattle.acl_render.specs.PlatformFiles.{AreApart, IsAccepted, IsTaken, is_rendered}
 use Rattle.aclgen_core.specs.CommandLines.{Options, options_of}
-use Rattle.aclgen_core.specs.DecidingSteps.{DecidesPlanned, IsReady, WhereSeen, texts_in}
-use Rattle.aclgen_core.specs.Endings.{IsFileOf}
-use Rattle.aclgen_core.specs.FileLists.{PathsDiffer}
-use Rattle.aclgen_core.specs.FilterPaths.{acl_path}
-use Rattle.aclgen_core.specs.FilterRequests.{FilterRequest, block_requests, block_slip, filter_for, is_cisco, platform_slip, request_of, requests_in, requests_of, requests_slip, target_slip}
-use Rattle.aclgen_core.specs.Job.{Plan, PlanFile, Plans, IsJob, IsJobOf, document_of, file_report, or_day, or_slip, plan_of, planned, report_line, texts_of}
-use Rattle.aclgen_core.specs.PreparingSteps.{IsPlanned, IsWorkOf, MakesWork, PlansLoaded, PreparesAll}
+use Rattle.aclgen_core.specs.DecidingSteps.{DecidesPlanned, DecidesSo, FollowsFrom, IsReady, RoseLooking, texts_in}
+use Rattle.aclgen_core.specs.declared.deciding.Decision.{Decision}
+use Rattle.aclgen_core.specs.declared.deciding.Decision.TheVariants as decided
+use Rattle.aclgen_core.specs.Endings.{DecidesAsPolicy, IsFileOf}
+use Rattle.aclgen_core.specs.FileLists.{IsApart, PathsDiffer}
+use Rattle.aclgen_core.specs.FilterPaths.{ending_of, last_part, path_of, without_pol}
+use Rattle.aclgen_core.specs.FilterRequests.{FilterRequest, block_requests, filter_for, request_of, requests_in, requests_of, requests_on}
+use Rattle.aclgen_core.specs.Job.{Plan, Plans, IsJob, IsJobOf, file_of, file_report, file_with, files_on, or_day, or_slip, plan_of, planned, platforms, report_line}
+use Rattle.aclgen_core.specs.PreparingSteps.{AreRendered, IsPlanned, IsTakenFor, IsWorkOf, MakesWork, PlansLoaded, PreparesAll, draft_on, text_with, texts_on}
 use Rattle.aclgen_core.specs.Worlds.{Disk}
 use Rattle.aclgen_core.specs.declared.planning.Work.{Work}
-use Rattle.aclgen_core.specs.declared.preparing.Prepared.{Prepared}
-use Rattle.aclgen_core.proofs.PreparingLaws.{cisco-kind, decides-at, first-none, resolved-requests}
+use Rattle.aclgen_core.specs.declared.preparing.FileDrafts.{FileDrafts}
+use Rattle.aclgen_core.proofs.PreparingLaws.{all-append, decides-at, resolved-requests}
 
--- ---- names that differ
+-- ---- targets that do not clash
 
 or-left : (a b : Bool) → (a || b) ≡ false → a ≡ false
 or-left true b e = absurd (false≢true (sym e))
@@ -74,110 +78,318 @@ unfolding IsDistinct
 no-clash before [] h = tt
 no-clash before (t ∷ ts) h = (later t before [] ts h.1, no-clash (before ++ t ∷ []) ts h.1)
 
--- ---- the target of a filter
+-- ---- the targets of requests
 
-stateless : (k : Kind) (t : Target) → FitsPlatform k t → k ≡ Cisco → t.stateful ≡ false
-stateless Cisco t h e = h.stateless
-stateless Juniper t h e = absurd (cc)
-stateless Iptables t h e = absurd (cc)
-stateless Nftables t h e = absurd (cc)
+block-targets : (written : List RawTerm) (terms : List Term) (ts : List Target) → map (λ (r : FilterRequest). r.target) (map (request_of written terms) ts) ≡ ts
+block-targets written terms [] = refl
+block-targets written terms (t ∷ ts) = ap (λ xs. t ∷ xs) (block-targets written terms ts)
 
-target-back : (today : Day) (r : FilterRequest) → IsTarget r.target → target_slip r.target ≡ None → target_of false (filter_for today r) ≡ r.target
-target-back today r is none =
-    let t = r.target in
-    ap (λ b. record {
-      place = t.place;
-      kind = t.kind;
-      name = t.name;
-      families = t.families;
-      hook = t.hook;
-      stateful = b;
-      ending = t.ending;
-      priority = t.priority;
-      verbose = t.verbose;
-      number = t.number;
-    }) (sym (stateless t.kind t is.platform (cisco-kind t none)))
+all-targets : (n : Naming) (blocks : List Block) (lists : List (List Term)) → AreResolvedIn n blocks lists
+    → map (λ (r : FilterRequest). r.target) (requests_in blocks lists) ≡ targets_of blocks
+all-targets n [] lists h = refl
+all-targets n (b ∷ bs) [] h = absurd h
+all-targets n (b ∷ bs) (ts ∷ tss) h =
+    map-append (λ (r : FilterRequest). r.target) (block_requests b ts) (requests_in bs tss)
+    ∙ ap (λ xs. xs ++ map (λ (r : FilterRequest). r.target) (requests_in bs tss)) (block-targets b.terms ts b.targets)
+    ∙ ap (λ xs. b.targets ++ xs) (all-targets n bs tss h.1)
 
--- The filters' targets, and that each is of Cisco.
-pub record HaveTargets (today : Day) (rs : List FilterRequest) (ts : List Target) : Type 0 where
-  pub targets_are : map (target_of false) (map (filter_for today) rs) ≡ ts
-  pub kinds_are : AllByRecursion (λ (f : Filter). f.kind ≡ Cisco) (map (filter_for today) rs)
+-- ---- the requests of one platform
 
-all-kinds : (fs gs : List Filter) → AllByRecursion (λ (f : Filter). f.kind ≡ Cisco) fs → AllByRecursion (λ (f : Filter). f.kind ≡ Cisco) gs
-    → AllByRecursion (λ (f : Filter). f.kind ≡ Cisco) (fs ++ gs)
-all-kinds [] gs h k = k
-all-kinds (f ∷ fs) gs h k = (h.0, all-kinds fs gs h.1 k)
+same-kinds : (a b : Kind) → same_kind a b ≡ true → a ≡ b
+same-kinds Cisco Cisco e = refl
+same-kinds Cisco Juniper e = absurd (false≢true e)
+same-kinds Cisco Iptables e = absurd (false≢true e)
+same-kinds Cisco Nftables e = absurd (false≢true e)
+same-kinds Juniper Cisco e = absurd (false≢true e)
+same-kinds Juniper Juniper e = refl
+same-kinds Juniper Iptables e = absurd (false≢true e)
+same-kinds Juniper Nftables e = absurd (false≢true e)
+same-kinds Iptables Cisco e = absurd (false≢true e)
+same-kinds Iptables Juniper e = absurd (false≢true e)
+same-kinds Iptables Iptables e = refl
+same-kinds Iptables Nftables e = absurd (false≢true e)
+same-kinds Nftables Cisco e = absurd (false≢true e)
+same-kinds Nftables Juniper e = absurd (false≢true e)
+same-kinds Nftables Iptables e = absurd (false≢true e)
+same-kinds Nftables Nftables e = refl
 
-targets-append : (today : Day) (rs ss : List FilterRequest) (ts us : List Target) → HaveTargets today rs ts → HaveTargets today ss us
-    → HaveTargets today (rs ++ ss) (ts ++ us)
-targets-append today rs ss ts us h k = record {
-  targets_are = ap (map (target_of false)) (map-append (filter_for today) rs ss)
-      ∙ map-append (target_of false) (map (filter_for today) rs) (map (filter_for today) ss)
-      ∙ ap (λ xs. xs ++ map (target_of false) (map (filter_for today) ss)) h.targets_are ∙ ap (λ xs. ts ++ xs) k.targets_are;
-  kinds_are = subst (AllByRecursion (λ (f : Filter). f.kind ≡ Cisco)) (sym (map-append (filter_for today) rs ss))
-      (all-kinds (map (filter_for today) rs) (map (filter_for today) ss) h.kinds_are k.kinds_are);
-}
+-- What holds of each request that is of the platform holds of each of the platform's requests.
+all-on : (kind : Kind) (P : FilterRequest → Type 0) (Q : FilterRequest → Type 0) → ((r : FilterRequest) → r.target.kind ≡ kind → P r → Q r)
+    → (rs : List FilterRequest) → AllByRecursion P rs → AllByRecursion Q (requests_on kind rs)
+all-on kind P Q f [] h = tt
+all-on kind P Q f (r ∷ rs) h = by (same_kind r.target.kind kind) refl
+  where
+    by : (b : Bool) → same_kind r.target.kind kind ≡ b → AllByRecursion Q (if b then r ∷ requests_on kind rs else requests_on kind rs)
+    by true e = (f r (same-kinds r.target.kind kind e) h.0, all-on kind P Q f rs h.1)
+    by false e = all-on kind P Q f rs h.1
 
-block-targets : (today : Day) (written : List RawTerm) (terms : List Term) (ts : List Target) → All IsTarget ts → first_in target_slip ts ≡ None
-    → HaveTargets today (map (request_of written terms) ts) ts
-block-targets today written terms [] h none = record { targets_are = refl; kinds_are = tt }
-block-targets today written terms (t ∷ ts) h none =
-    let parts = first-none (target_slip t) (first_in target_slip ts) none in
-    let more = block-targets today written terms ts (All-tail IsTarget t ts h) parts.1 in
+-- No two of a platform's requests are the same by a test, where no two of all are.
+distinct-on : (kind : Kind) (eq : FilterRequest → FilterRequest → Bool) (rs : List FilterRequest) → IsDistinct eq rs → IsDistinct eq (requests_on kind rs)
+unfolding IsDistinct
+distinct-on kind eq [] h = tt
+distinct-on kind eq (r ∷ rs) h = by (same_kind r.target.kind kind)
+  where
+    by : (b : Bool) → IsDistinct eq (if b then r ∷ requests_on kind rs else requests_on kind rs)
+    by true = (all-on kind (λ s. eq r s ≡ false) (λ s. eq r s ≡ false) (λ s _ e. e) rs h.0, distinct-on kind eq rs h.1)
+    by false = distinct-on kind eq rs h.1
+
+all-by : {A B : Type 0} (f : A → B) (P : A → Type 0) (Q : B → Type 0) → ((x : A) → P x → Q (f x)) → (xs : List A) → AllByRecursion P xs → AllByRecursion Q (map f xs)
+all-by f P Q g [] h = tt
+all-by f P Q g (x ∷ xs) h = (g x h.0, all-by f P Q g xs h.1)
+
+all-back : {A B : Type 0} (f : A → B) (P : A → Type 0) (Q : B → Type 0) → ((x : A) → Q (f x) → P x) → (xs : List A) → AllByRecursion Q (map f xs) → AllByRecursion P xs
+all-back f P Q g [] h = tt
+all-back f P Q g (x ∷ xs) h = (g x h.0, all-back f P Q g xs h.1)
+
+distinct-back : {A B : Type 0} (f : A → B) (eq : B → B → Bool) (xs : List A) → IsDistinct eq (map f xs) → IsDistinct (λ x y. eq (f x) (f y)) xs
+unfolding IsDistinct
+distinct-back f eq [] h = tt
+distinct-back f eq (x ∷ xs) h =
+    (all-back f (λ y. eq (f x) (f y) ≡ false) (λ y. eq (f x) y ≡ false) (λ y e. e) xs h.0, distinct-back f eq xs h.1)
+
+-- ---- targets that clash
+
+same-clash : (today : Day) (r s : FilterRequest) → clash r.target s.target ≡ false → clash (target_of false (filter_for today r)) (target_of false (filter_for today s)) ≡ false
+unfolding clash share_lists
+same-clash today r s e = e
+
+clash-not : (today : Day) (rs : List FilterRequest) → IsDistinct (λ (r : FilterRequest) (s : FilterRequest). clash r.target s.target) rs
+    → IsDistinct clash (map (target_of false) (map (filter_for today) rs))
+unfolding IsDistinct
+clash-not today [] h = tt
+clash-not today (r ∷ rs) h = (
+  all-by (target_of false) (λ f. clash (target_of false (filter_for today r)) (target_of false f) ≡ false)
+      (λ t. clash (target_of false (filter_for today r)) t ≡ false) (λ f e. e) (map (filter_for today) rs)
+      (all-by (filter_for today) (λ s. clash r.target s.target ≡ false) (λ f. clash (target_of false (filter_for today r)) (target_of false f) ≡ false)
+      (λ s e. same-clash today r s e) rs h.0),
+  clash-not today rs h.1,
+)
+
+-- ---- numbers
+
+-- Two targets of one platform with one number.
+same_number : Target → Target → Bool
+same_number a b = same_kind a.kind b.kind && a.number == b.number
+
+number-apart : (a b : Target) → (a.kind ≡ b.kind → a.number ≢ b.number) → same_number a b ≡ false
+number-apart a b h = false_from_ne_true (same_number a b) (λ e.
+    let p = and_parts (same_kind a.kind b.kind) (a.number == b.number) e in
+    h (same-kinds a.kind b.kind p.0) (eqb-true a.number b.number p.1))
+
+behind : {A : Type 0} (P : A → Type 0) (xs : List A) → ((j : ℕ) (d : A) → j < length xs → P (slice_index_or xs j d)) → AllByRecursion P xs
+behind P [] h = tt
+behind P (x ∷ xs) h = (h 0 x (omega arith), behind P xs (λ j d l. h (suc j) d (omega (arith, l))))
+
+pairs-distinct : (ts : List Target) → NumbersDiffer ts → IsDistinct same_number ts
+unfolding IsDistinct
+pairs-distinct [] h = tt
+pairs-distinct (t ∷ ts) h = (
+  behind (λ u. same_number t u ≡ false) ts (λ j d l. number-apart t (slice_index_or ts j d) (h 0 (suc j) d (omega arith) (omega (arith, l)))),
+  pairs-distinct ts (λ i j d l m. h (suc i) (suc j) d (omega (arith, l)) (omega (arith, m))),
+)
+
+same-there : (kind : Kind) (r s : FilterRequest) → r.target.kind ≡ kind → s.target.kind ≡ kind → same_number r.target s.target ≡ false
+    → (r.target.number == s.target.number) ≡ false
+same-there kind r s e f h =
+    let same : same_kind r.target.kind s.target.kind ≡ true = ap (λ k. same_kind k s.target.kind) e ∙ ap (λ k. same_kind kind k) f ∙ itself kind in
+    ap (λ b. b && r.target.number == s.target.number) (sym same) ∙ h
+  where
+    itself : (k : Kind) → same_kind k k ≡ true
+    itself Cisco = refl
+    itself Juniper = refl
+    itself Iptables = refl
+    itself Nftables = refl
+
+numbers-differ : (today : Day) (kind : Kind) (rs : List FilterRequest) → AllByRecursion (λ (r : FilterRequest). r.target.kind ≡ kind) rs
+    → IsDistinct (λ (r : FilterRequest) (s : FilterRequest). same_number r.target s.target) rs
+    → IsDistinct (λ (a : Filter) (b : Filter). a.number == b.number) (map (filter_for today) rs)
+unfolding IsDistinct
+numbers-differ today kind [] k h = tt
+numbers-differ today kind (r ∷ rs) k h = (
+  each rs k.1 h.0,
+  numbers-differ today kind rs k.1 h.1,
+)
+  where
+    each : (ss : List FilterRequest) → AllByRecursion (λ (s : FilterRequest). s.target.kind ≡ kind) ss
+        → AllByRecursion (λ (s : FilterRequest). same_number r.target s.target ≡ false) ss
+        → AllByRecursion (λ (f : Filter). ((filter_for today r).number == f.number) ≡ false) (map (filter_for today) ss)
+    each [] q d = tt
+    each (s ∷ ss) q d = (same-there kind r s k.0 q.0 d.0, each ss q.1 d.1)
+
+-- ---- what a platform's text wants
+
+apart-on : (today : Day) (n : Naming) (policy : Policy) (lists : List (List Term)) (kind : Kind) → IsPolicy policy → AreResolvedIn n policy.blocks lists
+    → AreApart (map (filter_for today) (requests_on kind (requests_in policy.blocks lists)))
+apart-on today n policy lists kind is resolved =
+    let rs = requests_in policy.blocks lists in
+    let targets = all-targets n policy.blocks lists resolved in
+    let clashes = distinct-back (λ (r : FilterRequest). r.target) clash rs (subst (IsDistinct clash) (sym targets) (no-clash [] (targets_of policy.blocks) is.targets_stand)) in
+    let numbers = distinct-back (λ (r : FilterRequest). r.target) same_number rs
+        (subst (IsDistinct same_number) (sym targets) (pairs-distinct (targets_of policy.blocks) is.numbers_differ)) in
     record {
-      targets_are = ap (λ x. x ∷ map (target_of false) (map (filter_for today) (map (request_of written terms) ts)))
-          (target-back today (request_of written terms t) (All-head IsTarget t ts h) parts.0) ∙ ap (λ xs. t ∷ xs) more.targets_are;
-      kinds_are = (cisco-kind t parts.0, more.kinds_are);
+      clash_not = clash-not today (requests_on kind rs) (distinct-on kind (λ r s. clash r.target s.target) rs clashes);
+      numbers_differ = numbers-differ today kind (requests_on kind rs) (all-on kind (λ r. Unit {0}) (λ r. r.target.kind ≡ kind) (λ r e _. e) rs (any rs))
+          (distinct-on kind (λ r s. same_number r.target s.target) rs numbers);
+    }
+  where
+    any : (xs : List FilterRequest) → AllByRecursion (λ (r : FilterRequest). Unit {0}) xs
+    any [] = tt
+    any (x ∷ xs) = (tt, any xs)
+
+taken-on : (today : Day) (kind : Kind) (rs : List FilterRequest) → AllByRecursion (IsTakenFor today) rs → AllByRecursion (λ (r : FilterRequest). (is_rendered kind ≡ true) × IsTaken kind (filter_for today r)) (requests_on kind rs)
+taken-on today kind rs h =
+    all-on kind (IsTakenFor today) (λ (r : FilterRequest). (is_rendered kind ≡ true) × IsTaken kind (filter_for today r))
+    (λ r e t. (ap is_rendered (sym e) ∙ t.rendered, subst (λ k. IsTaken k (filter_for today r)) e t.taken)) rs h
+
+some-rendered : (today : Day) (kind : Kind) (rs : List FilterRequest) → AllByRecursion (λ (r : FilterRequest). (is_rendered kind ≡ true) × IsTaken kind (filter_for today r)) rs
+    → map (filter_for today) rs ≢ [] → is_rendered kind ≡ true
+some-rendered today kind [] h some = absurd (some refl)
+some-rendered today kind (r ∷ rs) h some = h.0.0
+
+all-taken : (today : Day) (kind : Kind) (rs : List FilterRequest) → AllByRecursion (λ (r : FilterRequest). (is_rendered kind ≡ true) × IsTaken kind (filter_for today r)) rs
+    → All (IsTaken kind) (map (filter_for today) rs)
+all-taken today kind [] h = All-nil (IsTaken kind)
+all-taken today kind (r ∷ rs) h = All-cons (IsTaken kind) (filter_for today r) (map (filter_for today) rs) h.0.1 (all-taken today kind rs h.1)
+
+pub rendered-on : (output policy : List ℕ) (today : Day) (loaded : Loaded) (drafts : FileDrafts) → IsPolicy loaded.policy
+    → AreResolvedIn loaded.definitions loaded.policy.blocks loaded.terms → PreparesAll output policy today loaded drafts → AreRendered drafts
+rendered-on output policy today loaded drafts fits resolved p = λ kind.
+    let rs = requests_on kind (requests_of loaded) in
+    let taken = taken-on today kind (requests_of loaded) p.taken in
+    let is = sym (p.each kind).filters_are in
+    record {
+      rendered = subst (λ (fs : List Filter). fs ≢ [] → is_rendered kind ≡ true) is (some-rendered today kind rs taken);
+      taken = subst (All (IsTaken kind)) is (all-taken today kind rs taken);
+      apart = subst AreApart is (apart-on today loaded.definitions loaded.policy loaded.terms kind fits resolved);
     }
 
-all-targets : (today : Day) (n : Naming) (blocks : List Block) (lists : List (List Term)) → All IsBlock blocks → platform_slip blocks ≡ None → AreResolvedIn n blocks lists
-    → HaveTargets today (requests_in blocks lists) (targets_of blocks)
-all-targets today n [] lists h none resolved = record { targets_are = refl; kinds_are = tt }
-all-targets today n (b ∷ bs) [] h none resolved = absurd resolved
-all-targets today n (b ∷ bs) (ts ∷ tss) h none resolved =
-    let parts = first-none (block_slip b) (platform_slip bs) none in
-    targets-append today (block_requests b ts) (requests_in bs tss) b.targets (targets_of bs)
-    (block-targets today b.terms ts b.targets (All-head IsBlock b bs h).targets_are parts.0)
-    (all-targets today n bs tss (All-tail IsBlock b bs h) parts.1 resolved.1)
+-- ---- several files
 
-pub names-differ : (law : ListsDiffer) (today : Day) (n : Naming) (policy : Policy) (lists : List (List Term)) (filters : List Filter) → IsPolicy policy
-    → platform_slip policy.blocks ≡ None → AreResolvedIn n policy.blocks lists → filters ≡ map (filter_for today) (requests_in policy.blocks lists)
-    → IsDistinct bytes_eq (flat_map (λ f. list_names (section_of f)) filters)
-names-differ law today n policy lists filters is none resolved e =
-    let have = all-targets today n policy.blocks lists is.blocks_are none resolved in
-    subst (λ fs. IsDistinct bytes_eq (flat_map (λ f. list_names (section_of f)) fs)) (sym e)
-    (law (map (filter_for today) (requests_in policy.blocks lists)) false have.kinds_are
-    (subst (IsDistinct clash) (sym have.targets_are) (no-clash [] (targets_of policy.blocks) is.targets_stand)))
+flat-same : {A B : Type 0} (f g : A → List B) → ((x : A) → f x ≡ g x) → (xs : List A) → flat_map f xs ≡ flat_map g xs
+flat-same f g h [] = refl
+flat-same f g h (x ∷ xs) = ap (λ ys. ys ++ flat_map f xs) (h x) ∙ ap (λ ys. g x ++ ys) (flat-same f g h xs)
+
+map-flat : {A B C : Type 0} (g : B → C) (f : A → List B) (xs : List A) → map g (flat_map f xs) ≡ flat_map (λ x. map g (f x)) xs
+map-flat g f [] = refl
+map-flat g f (x ∷ xs) = map-append g (f x) (flat_map f xs) ∙ ap (λ ys. map g (f x) ++ ys) (map-flat g f xs)
+
+all-flat : {A B : Type 0} (Q : B → Type 0) (f : A → List B) → ((x : A) → AllByRecursion Q (f x)) → (xs : List A) → AllByRecursion Q (flat_map f xs)
+all-flat Q f each [] = tt
+all-flat Q f each (x ∷ xs) = all-append Q (f x) (flat_map f xs) (each x) (all-flat Q f each xs)
+
+one-text : (kind : Kind) (path : List ℕ) (today : Day) (rs : List FilterRequest) → text_with kind path (map (filter_for today) rs) ≡ map (file_of today) (file_with kind path rs)
+one-text kind path today [] = refl
+one-text kind path today (r ∷ rs) = refl
+
+one-report : (kind : Kind) (path : List ℕ) (today : Day) (rs : List FilterRequest) → flat_map (report_line path today) rs ≡ flat_map (file_report today) (file_with kind path rs)
+one-report kind path today [] = refl
+one-report kind path today (r ∷ rs) = sym (append-nil (flat_map (report_line path today) (r ∷ rs)))
+
+-- ---- paths that differ
+
+same-ending : (a b : Kind) → bytes_eq (ending_of a) (ending_of b) ≡ same_kind a b
+same-ending Cisco Cisco = refl
+same-ending Cisco Juniper = refl
+same-ending Cisco Iptables = refl
+same-ending Cisco Nftables = refl
+same-ending Juniper Cisco = refl
+same-ending Juniper Juniper = refl
+same-ending Juniper Iptables = refl
+same-ending Juniper Nftables = refl
+same-ending Iptables Cisco = refl
+same-ending Iptables Juniper = refl
+same-ending Iptables Iptables = refl
+same-ending Iptables Nftables = refl
+same-ending Nftables Cisco = refl
+same-ending Nftables Juniper = refl
+same-ending Nftables Iptables = refl
+same-ending Nftables Nftables = refl
+
+path-apart : (output policy : List ℕ) (a b : Kind) → same_kind a b ≡ false → path_of a output policy ≢ path_of b output policy
+unfolding path_of
+path-apart output policy a b apart e =
+    let base = join_path output (without_pol (last_part policy)) in
+    let same = append_cancel_left base (ending_of a) (ending_of b) e in
+    false≢true (sym apart ∙ sym (same-ending a b) ∙ (bytes_eq-Decides (ending_of a) (ending_of b)).1 same)
+
+text-apart : (q path : List ℕ) (kind : Kind) (fs : List Filter) → q ≢ path → IsApart q (text_with kind path fs)
+text-apart q path kind [] apart = tt
+text-apart q path kind (f ∷ fs) apart = (apart, tt)
+
+texts-apart : (q : List ℕ) (f : Kind → List File) (kinds : List Kind) → AllByRecursion (λ k. IsApart q (f k)) kinds → IsApart q (flat_map f kinds)
+texts-apart q f [] h = tt
+texts-apart q f (k ∷ ks) h = all-append (λ (t : File). q ≢ t.0) (f k) (flat_map f ks) h.0 (texts-apart q f ks h.1)
+
+one-more : (kind : Kind) (path : List ℕ) (fs : List Filter) (more : List File) → IsApart path more → PathsDiffer more → PathsDiffer (text_with kind path fs ++ more)
+one-more kind path [] more apart h = h
+one-more kind path (f ∷ fs) more apart h = (apart, h)
+
+-- Each file has its platform's path.
+abbrev HavePaths : List ℕ → List ℕ → FileDrafts → Type 0
+HavePaths output policy drafts = (kind : Kind) → string_bytes (draft_on kind drafts).path ≡ path_of kind output policy
+
+kind-apart : (output policy : List ℕ) (drafts : FileDrafts) → HavePaths output policy drafts → (a b : Kind) → same_kind a b ≡ false
+    → IsApart (string_bytes (draft_on a drafts).path) (texts_on drafts b)
+kind-apart output policy drafts paths a b apart =
+    text-apart (string_bytes (draft_on a drafts).path) (string_bytes (draft_on b drafts).path) b (draft_on b drafts).filters
+    (λ e. path-apart output policy a b apart (sym (paths a) ∙ e ∙ paths b))
+
+paths-differ : (output policy : List ℕ) (drafts : FileDrafts) → HavePaths output policy drafts → PathsDiffer (flat_map (texts_on drafts) platforms)
+paths-differ output policy drafts paths =
+    let apart = kind-apart output policy drafts paths in
+    let path : Kind → List ℕ = λ k. string_bytes (draft_on k drafts).path in
+    let rest : List Kind → List File = λ ks. flat_map (texts_on drafts) ks in
+    one-more Cisco (path Cisco) drafts.cisco.filters (rest (Juniper ∷ Iptables ∷ Nftables ∷ []))
+    (texts-apart (path Cisco) (texts_on drafts) (Juniper ∷ Iptables ∷ Nftables ∷ []) (apart Cisco Juniper refl, (apart Cisco Iptables refl, (apart Cisco Nftables refl, tt))))
+    (one-more Juniper (path Juniper) drafts.juniper.filters (rest (Iptables ∷ Nftables ∷ []))
+    (texts-apart (path Juniper) (texts_on drafts) (Iptables ∷ Nftables ∷ []) (apart Juniper Iptables refl, (apart Juniper Nftables refl, tt)))
+    (one-more Iptables (path Iptables) drafts.iptables.filters (rest (Nftables ∷ []))
+    (texts-apart (path Iptables) (texts_on drafts) (Nftables ∷ []) (apart Iptables Nftables refl, tt))
+    (one-more Nftables (path Nftables) drafts.nftables.filters [] tt tt)))
 
 -- ---- a loaded policy
 
-file-is : (o : Options) (today : Day) (loaded : Loaded) (path : List ℕ) (prepared : Prepared) (work : Work) → PreparesAll path today loaded prepared
-    → IsWorkOf path prepared work → path ≡ acl_path o.output o.policy → AreResolvedIn loaded.definitions loaded.policy.blocks loaded.terms
-    → IsFileOf loaded.definitions today (record { path = acl_path o.output o.policy; requests = requests_of loaded })
-file-is o today loaded path prepared work p w e resolved = record {
-  spelled = subst (λ (fs : List Filter). Spells (text_of (map section_of fs)) (map section_of fs)) p.filters_are w.spelled;
-  decides = λ k. decides-at loaded.definitions today (requests_of loaded) k (outcome_of (map section_of (map (filter_for today) (requests_of loaded))) k)
-      (resolved-requests loaded.definitions loaded.policy.blocks loaded.terms resolved)
-      (subst (λ (fs : List Filter). IfSome (slice_get fs k) (λ f. DecidesAs f (outcome_of (map section_of fs) k))) p.filters_are (w.decides k));
-}
+-- What is asked of the filters is what the policy asks of their sections.
+as-policy : (n : Naming) (today : Day) (kind : Kind) (rs : List FilterRequest) → AllByRecursion (λ (r : FilterRequest). AreResolved n r.written r.terms) rs
+    → IsAccepted kind DecidesAs (map (filter_for today) rs) (map (filter_for today) rs) → IsAccepted kind (DecidesAsPolicy n today) (map (filter_for today) rs) rs
+as-policy n today Cisco rs resolved h = record { spelled = h.spelled; decides = λ k. decides-at n today rs k _ resolved (h.decides k) }
+as-policy n today Juniper rs resolved h = h
+as-policy n today Iptables rs resolved h = h
+as-policy n today Nftables rs resolved h = h
 
-pub is-planned : (o : Options) (today : Day) (loaded : Loaded) (path : List ℕ) (prepared : Prepared) (work : Work) → PreparesAll path today loaded prepared
-    → IsWorkOf path prepared work → path ≡ acl_path o.output o.policy → AreResolvedIn loaded.definitions loaded.policy.blocks loaded.terms
-    → IsPlanned o today loaded work
-is-planned o today loaded path prepared work p w e resolved =
-    let file : PlanFile = record { path = acl_path o.output o.policy; requests = requests_of loaded } in
-    let texts : texts_in work ≡ texts_of (plan_of o today loaded) =
-    w.texts_are ∙ ap (λ (fs : List Filter). (path, text_of (map section_of fs)) ∷ []) p.filters_are
-    ∙ ap (λ (q : List ℕ). (q, text_of (document_of today file)) ∷ []) e in
+some-more : {A B : Type 0} (f : A → B) (x : A) (xs : List A) → map f (x ∷ xs) ≢ []
+some-more f x xs e = cc
+
+file-is : (n : Naming) (today : Day) (kind : Kind) (path : List ℕ) (rs : List FilterRequest) → AllByRecursion (λ (r : FilterRequest). AreResolved n r.written r.terms) rs
+    → (map (filter_for today) rs ≢ [] → IsAccepted kind DecidesAs (map (filter_for today) rs) (map (filter_for today) rs))
+    → AllByRecursion (IsFileOf n today) (file_with kind path rs)
+file-is n today kind path [] resolved h = tt
+file-is n today kind path (r ∷ rs) resolved h = (as-policy n today kind (r ∷ rs) resolved (h (some-more (filter_for today) r rs)), tt)
+
+pub is-planned : (o : Options) (today : Day) (loaded : Loaded) (drafts : FileDrafts) (work : Work) → PreparesAll o.output o.policy today loaded drafts
+    → IsWorkOf drafts work → AreResolvedIn loaded.definitions loaded.policy.blocks loaded.terms → IsPlanned o today loaded work
+is-planned o today loaded drafts work p w resolved =
+    let all = requests_of loaded in
+    let path : Kind → List ℕ = λ k. path_of k o.output o.policy in
+    let text : (k : Kind) → texts_on drafts k ≡ map (file_of today) (files_on o all k) = λ k.
+        ap (λ q. text_with k q (draft_on k drafts).filters) (p.each k).path_is
+        ∙ ap (text_with k (path k)) (p.each k).filters_are ∙ one-text k (path k) today (requests_on k all) in
+    let line : (k : Kind) → (draft_on k drafts).report.bytes ≡ flat_map (file_report today) (files_on o all k) = λ k.
+        (p.each k).report_is ∙ one-report k (path k) today (requests_on k all) in
+    let resolved-all = resolved-requests loaded.definitions loaded.policy.blocks loaded.terms resolved in
     record {
       plan_is = ap (λ s. or_slip loaded.sources.labels s (plan_of o today loaded)) p.slip_is;
       ready = record {
-        texts_are = texts;
-        report_is = w.report_is ∙ p.report_is ∙ ap (λ q. flat_map (report_line q today) (requests_of loaded)) e
-            ∙ sym (append-nil (file_report today file));
-        each = (file-is o today loaded path prepared work p w e resolved, tt);
+        texts_are = w.texts_are ∙ flat-same (texts_on drafts) (λ k. map (file_of today) (files_on o all k)) text platforms
+            ∙ sym (map-flat (file_of today) (files_on o all) platforms);
+        report_is = w.report_is ∙ flat-same (λ k. (draft_on k drafts).report.bytes) (λ k. flat_map (file_report today) (files_on o all k)) line platforms
+            ∙ flat_twice (file_report today) (files_on o all) platforms;
+        each = all-flat (IsFileOf loaded.definitions today) (files_on o all)
+            (λ k. file-is loaded.definitions today k (path k) (requests_on k all)
+            (all-on k (λ r. AreResolved loaded.definitions r.written r.terms) (λ r. AreResolved loaded.definitions r.written r.terms) (λ r _ x. x) all resolved-all)
+            (subst (λ (fs : List Filter). fs ≢ [] → IsAccepted k DecidesAs fs fs) (p.each k).filters_are (w.accepted k))) platforms;
       };
-      differ = subst PathsDiffer (sym w.texts_are) (tt, tt);
+      differ = subst PathsDiffer (sym w.texts_are) (paths-differ o.output o.policy drafts (λ k. (p.each k).path_is));
     }
 
 -- ---- the files
@@ -220,3 +432,40 @@ decides-planned words o today work d e f h = record {
   planned = seen-job d.files words o today work e f h.0;
   differ = h.1;
 }
+
+seen-fault : (told : Option (List File)) (words : List (List ℕ)) (o : Options) (today : Day) (fault other : Fault) → options_of words ≡ Some o → o.date ≡ Some today
+    → other ≡ fault → IfSome told (λ files. Plans o today files (Err fault)) → IfSome told (λ files. (day : Day) → IsJob words day files (Some (Err other)))
+seen-fault None words o today fault other e f g h = tt
+seen-fault (Some files) words o today fault other e f g h = λ day.
+    subst (λ (w : Option Options). IsJobOf w day files (Some (Err other))) (sym e)
+    (subst (λ (d : Option Day). Plans o (or_day d day) files (Err other)) (sym f) (subst (λ x. Plans o today files (Err x)) (sym g) h))
+
+pub decides-fault : (words : List (List ℕ)) (o : Options) (today : Day) (old new : Disk) (e : LoadFault) (d : Decision) → options_of words ≡ Some o → o.date ≡ Some today
+    → MakesWork o today old.files (Err e) → (e ≡ loads.List → Rose old.list_faults new.list_faults) → (e ≡ loads.Read → Rose old.read_faults new.read_faults)
+    → FollowsFrom e d → DecidesSo words old new d
+decides-fault words o today old new (loads.Fault fault) (decided.Refused told line) e f m list read h = record {
+  accepted = ap is_some e;
+  first = seen-fault old.files words o today fault told e f h.0 m;
+  line_is = h.1 ∙ ap fault_line (sym h.0);
+}
+decides-fault words o today old new (loads.Fault fault) decided.Memory e f m list read h = ap is_some e
+decides-fault words o today old new (loads.Fault fault) decided.Usage e f m list read h = absurd h
+decides-fault words o today old new (loads.Fault fault) (decided.Planned work) e f m list read h = absurd h
+decides-fault words o today old new (loads.Fault fault) (decided.Outside w) e f m list read h = absurd h
+decides-fault words o today old new loads.List (decided.Outside w) e f m list read h =
+    (ap is_some e, subst (λ x. RoseLooking x old new) (sym h) (list refl))
+decides-fault words o today old new loads.List decided.Memory e f m list read h = absurd h
+decides-fault words o today old new loads.List decided.Usage e f m list read h = absurd h
+decides-fault words o today old new loads.List (decided.Planned work) e f m list read h = absurd h
+decides-fault words o today old new loads.List (decided.Refused told line) e f m list read h = absurd h
+decides-fault words o today old new loads.Read (decided.Outside w) e f m list read h =
+    (ap is_some e, subst (λ x. RoseLooking x old new) (sym h) (read refl))
+decides-fault words o today old new loads.Read decided.Memory e f m list read h = absurd h
+decides-fault words o today old new loads.Read decided.Usage e f m list read h = absurd h
+decides-fault words o today old new loads.Read (decided.Planned work) e f m list read h = absurd h
+decides-fault words o today old new loads.Read (decided.Refused told line) e f m list read h = absurd h
+decides-fault words o today old new loads.Memory decided.Memory e f m list read h = ap is_some e
+decides-fault words o today old new loads.Memory decided.Usage e f m list read h = absurd h
+decides-fault words o today old new loads.Memory (decided.Planned work) e f m list read h = absurd h
+decides-fault words o today old new loads.Memory (decided.Refused told line) e f m list read h = absurd h
+decides-fault words o today old new loads.Memory (decided.Outside w) e f m list read h = absurd h

@@ -2,7 +2,8 @@
 use Prim.Native.Nat.{zero, suc}
 use Rattle.std.proofs.Common.{◌≡◌, ℕ, ◌<◌, ◌≤◌, ◌-◌, Bool, true, false, ◌||◌, if◌then◌else◌, List, [], ◌∷◌, ◌++◌, map, take, drop, length, get_or, Option, None, Some, Result, Ok, Err, option_map, IfSome, refl, ap, sym, subst, ◌∙◌, append_assoc, append-nil, arith}
 use Rattle.std.specs.Prelude.{IsErrAnd, flat_map, slice_get}
-use Rattle.std.specs.List.{All, AllByRecursion, AllZip, list_any}
+use Rattle.std.specs.List.{All, AllByRecursion, AllZip}
+use Rattle.std.specs.String.{string_bytes}
 use Rattle.std.proofs.lemmas.Bool.{false≢true}
 use Rattle.std.proofs.lemmas.Grind.{flat_map-append}
 use Rattle.std.proofs.lemmas.List.{map-append, take_rest}
@@ -25,18 +26,19 @@ use Rattle.acl_terms.specs.declared.terms.Term.{Term}
 use Rattle.acl_terms.proofs.SlipLaws.{first-in-append}
 use Rattle.acl_platform.specs.declared.filters.Filter.{Filter}
 use Rattle.acl_platform.specs.declared.filters.Limit.{Limit}
-use Rattle.acl_platform.specs.Platforms.{DecidesAs, IsAccepted, judged}
+use Rattle.acl_platform.specs.Platforms.{DecidesAs, judged}
 use Rattle.acl_platform.specs.SoundFilters.{IsSound}
 use Rattle.acl_expand.specs.ExpansionSlips.{first_slip}
 use Rattle.acl_expand.proofs.DecideLaws.{decides-as-written}
 use Rattle.acl_load.specs.LoadedPolicies.{AreResolved, AreResolvedIn}
-use Rattle.gen_cisco.specs.Limits.{is_for_cisco, limit_of}
-use Rattle.gen_cisco.specs.Sections.{entry_count}
+use Rattle.acl_load.specs.declared.policy_loading.Loaded.{Loaded}
+use Rattle.acl_render.specs.PlatformFiles.{IsTaken, count_of, is_rendered, limit_of, limit_on}
 use Rattle.aclgen_core.specs.Endings.{DecidesAsPolicy}
-use Rattle.aclgen_core.specs.FilterRequests.{FilterRequest, check_slip, block_requests, filter_for, is_cisco, limit_slip, request_of, request_slip, requests_in, requests_slip, target_slip}
-use Rattle.aclgen_core.specs.Job.{report_line}
-use Rattle.aclgen_core.specs.PreparingSteps.{Adds, AddsAll, Checks, ChecksFilter, IsTaken}
-use Rattle.aclgen_core.specs.declared.preparing.Prepared.{Prepared}
+use Rattle.aclgen_core.specs.FilterRequests.{FilterRequest, check_slip, block_requests, filter_for, limit_slip, platform_slip, request_of, request_slip, requests_in, requests_of, requests_on, requests_slip, target_slip}
+use Rattle.aclgen_core.specs.Job.{report_line, report_text}
+use Rattle.aclgen_core.specs.PreparingSteps.{Adds, AddsAll, AddsOne, AddsTo, AreEmptyDrafts, AreOpen, Checks, ChecksFilter, IsTakenFor, PreparesAll, draft_on}
+use Rattle.aclgen_core.specs.declared.preparing.FileDraft.{FileDraft}
+use Rattle.aclgen_core.specs.declared.preparing.FileDrafts.{FileDrafts}
 
 -- ---- lists
 
@@ -70,28 +72,29 @@ check-none : (f : Filter) → limit_of f ≡ None → check_slip f ≡ None
 unfolding check_slip
 check-none f e = ap (option_map (limit_slip f)) e
 
-pub kind-is : (k : Kind) (s : Slip) → (if is_cisco k then None else Some s) ≡ None → k ≡ Cisco
-kind-is Cisco s e = refl
-kind-is Juniper s e = absurd (cc)
-kind-is Iptables s e = absurd (cc)
-kind-is Nftables s e = absurd (cc)
+no-slip : (b : Bool) (s : Slip) → (if b then None else Some s) ≡ None → b ≡ true
+no-slip true s e = refl
+no-slip false s e = absurd (cc)
 
-pub cisco-kind : (t : Target) → target_slip t ≡ None → t.kind ≡ Cisco
-cisco-kind t e = kind-is t.kind _ e
+pub is-rendered : (t : Target) → target_slip t ≡ None → is_rendered t.kind ≡ true
+is-rendered t e = no-slip (is_rendered t.kind) _ e
+
+limit-there : (f : Filter) → limit_of f ≡ None → limit_on f.kind f ≡ None
+unfolding limit_of
+limit-there f e = e
 
 pub checks-filter : (today : Day) (r : FilterRequest) (f : Filter) (entries : ℕ) → first_slip r.target today r.terms ≡ None → f ≡ filter_for today r
-    → IsSound f → target_slip r.target ≡ None → Ok entries ≡ judged (limit_of f) (entry_count f) → ChecksFilter today r f entries
+    → IsSound f → target_slip r.target ≡ None → Ok entries ≡ judged (limit_of f) (count_of f) → ChecksFilter today r f entries
 checks-filter today r f entries none is sound handled e =
-    let j = judged-ok (limit_of f) (entry_count f) entries e in
+    let j = judged-ok (limit_of f) (count_of f) entries e in
     let within : limit_of (filter_for today r) ≡ None = sym (ap limit_of is) ∙ j.0 in
     record {
       slip_is = both-none (first_slip r.target today r.terms) (check_slip (filter_for today r)) none (check-none (filter_for today r) within);
       filter_is = is;
-      count_is = j.1 ∙ ap entry_count is;
+      count_is = j.1 ∙ ap count_of is;
       taken = record {
-        handled = ap (λ k. same_kind k Cisco) (cisco-kind r.target handled);
-        sound = subst IsSound is sound;
-        within = within;
+        rendered = is-rendered r.target handled;
+        taken = record { kind_is = refl; sound = subst IsSound is sound; within = limit-there (filter_for today r) within };
       };
     }
 
@@ -104,50 +107,192 @@ unfolding check_slip
 check-some f limit e = ap (option_map (limit_slip f)) e
 
 pub checks-limit : (today : Day) (r : FilterRequest) (f : Filter) (limit : Limit) (e : Refusal) → first_slip r.target today r.terms ≡ None → f ≡ filter_for today r
-    → Err limit ≡ judged (limit_of f) (entry_count f) → IsRefusal (limit_slip f limit) e → Checks today r (Err e)
+    → Err limit ≡ judged (limit_of f) (count_of f) → IsRefusal (limit_slip f limit) e → Checks today r (Err e)
 checks-limit today r f limit (refusals.Slip t) none is e h =
     ap (λ o. first_of o (check_slip (filter_for today r))) none ∙ ap check_slip (sym is)
-    ∙ check-some f limit (judged-err (limit_of f) (entry_count f) limit e) ∙ ap Some (sym h)
+    ∙ check-some f limit (judged-err (limit_of f) (count_of f) limit e) ∙ ap Some (sym h)
 checks-limit today r f limit refusals.Memory none is e h = tt
+
+-- ---- a filter goes into its platform's file
+
+-- The requests of a platform among one.
+on-it : (kind : Kind) (r : FilterRequest) → r.target.kind ≡ kind → requests_on kind (r ∷ []) ≡ r ∷ []
+on-it kind r e = by kind e
+  where
+    by : (kind : Kind) → r.target.kind ≡ kind → requests_on kind (r ∷ []) ≡ r ∷ []
+    by Cisco e = ap (λ k. if same_kind k Cisco then r ∷ [] else []) e
+    by Juniper e = ap (λ k. if same_kind k Juniper then r ∷ [] else []) e
+    by Iptables e = ap (λ k. if same_kind k Iptables then r ∷ [] else []) e
+    by Nftables e = ap (λ k. if same_kind k Nftables then r ∷ [] else []) e
+
+off-it : (here kind : Kind) (r : FilterRequest) → r.target.kind ≡ here → same_kind here kind ≡ false → requests_on kind (r ∷ []) ≡ []
+off-it here kind r e apart =
+    ap (λ k. if same_kind k kind then r ∷ [] else []) e ∙ ap (λ (b : Bool). if b then r ∷ [] else []) apart
+
+-- Nothing is added.
+stays : (today : Day) (here kind : Kind) (r : FilterRequest) (draft : FileDraft) → r.target.kind ≡ here → same_kind here kind ≡ false
+    → draft.report.is_open ≡ true → AddsTo today (requests_on kind (r ∷ [])) draft draft
+stays today here kind r draft e apart open =
+    subst (λ rs. AddsTo today rs draft draft) (sym (off-it here kind r e apart)) (record {
+      path_stays = refl;
+      filters_are = sym (append-nil draft.filters);
+      report_is = sym (append-nil draft.report.bytes);
+      opened = open;
+    })
+
+-- One is added.
+goes : (today : Day) (kind : Kind) (r : FilterRequest) (f : Filter) (entries : ℕ) (old new : FileDraft) → r.target.kind ≡ kind
+    → ChecksFilter today r f entries → AddsOne r.target f entries old new → AddsTo today (requests_on kind (r ∷ [])) old new
+goes today kind r f entries old new e checks adds =
+    subst (λ rs. AddsTo today rs old new) (sym (on-it kind r e)) (record {
+      path_stays = adds.path_stays;
+      filters_are = adds.filters_are ∙ ap (λ x. old.filters ++ x ∷ []) checks.filter_is;
+      report_is = adds.report_is ∙ ap (λ n. old.report.bytes ++ report_text (string_bytes old.path) r.target n) checks.count_is
+          ∙ ap (λ t. old.report.bytes ++ t) (sym (append-nil (report_line (string_bytes old.path) today r)));
+      opened = adds.opened;
+    })
+
+one-taken : (today : Day) (r : FilterRequest) (f : Filter) (entries : ℕ) (old new : FileDrafts) → ChecksFilter today r f entries
+    → ((kind : Kind) → AddsTo today (requests_on kind (r ∷ [])) (draft_on kind old) (draft_on kind new)) → AddsAll today (r ∷ []) old new
+one-taken today r f entries old new checks each =
+    record { slip_is = both-none (request_slip today r) None checks.slip_is refl; each = each; taken = (checks.taken, tt) }
+
+pub to-cisco : (today : Day) (r : FilterRequest) (f : Filter) (entries : ℕ) (old : FileDrafts) (new : FileDraft) → r.target.kind ≡ Cisco → AreOpen old
+    → ChecksFilter today r f entries → AddsOne r.target f entries old.cisco new → AddsAll today (r ∷ []) old (record old { cisco = new })
+to-cisco today r f entries old new e open checks adds = one-taken today r f entries old (record old { cisco = new }) checks each
+  where
+    each : (kind : Kind) → AddsTo today (requests_on kind (r ∷ [])) (draft_on kind old) (draft_on kind (record old { cisco = new }))
+    each Cisco = goes today Cisco r f entries old.cisco new e checks adds
+    each Juniper = stays today Cisco Juniper r old.juniper e refl (open Juniper)
+    each Iptables = stays today Cisco Iptables r old.iptables e refl (open Iptables)
+    each Nftables = stays today Cisco Nftables r old.nftables e refl (open Nftables)
+
+pub to-juniper : (today : Day) (r : FilterRequest) (f : Filter) (entries : ℕ) (old : FileDrafts) (new : FileDraft) → r.target.kind ≡ Juniper → AreOpen old
+    → ChecksFilter today r f entries → AddsOne r.target f entries old.juniper new → AddsAll today (r ∷ []) old (record old { juniper = new })
+to-juniper today r f entries old new e open checks adds = one-taken today r f entries old (record old { juniper = new }) checks each
+  where
+    each : (kind : Kind) → AddsTo today (requests_on kind (r ∷ [])) (draft_on kind old) (draft_on kind (record old { juniper = new }))
+    each Cisco = stays today Juniper Cisco r old.cisco e refl (open Cisco)
+    each Juniper = goes today Juniper r f entries old.juniper new e checks adds
+    each Iptables = stays today Juniper Iptables r old.iptables e refl (open Iptables)
+    each Nftables = stays today Juniper Nftables r old.nftables e refl (open Nftables)
+
+pub to-iptables : (today : Day) (r : FilterRequest) (f : Filter) (entries : ℕ) (old : FileDrafts) (new : FileDraft) → r.target.kind ≡ Iptables → AreOpen old
+    → ChecksFilter today r f entries → AddsOne r.target f entries old.iptables new → AddsAll today (r ∷ []) old (record old { iptables = new })
+to-iptables today r f entries old new e open checks adds = one-taken today r f entries old (record old { iptables = new }) checks each
+  where
+    each : (kind : Kind) → AddsTo today (requests_on kind (r ∷ [])) (draft_on kind old) (draft_on kind (record old { iptables = new }))
+    each Cisco = stays today Iptables Cisco r old.cisco e refl (open Cisco)
+    each Juniper = stays today Iptables Juniper r old.juniper e refl (open Juniper)
+    each Iptables = goes today Iptables r f entries old.iptables new e checks adds
+    each Nftables = stays today Iptables Nftables r old.nftables e refl (open Nftables)
+
+pub to-nftables : (today : Day) (r : FilterRequest) (f : Filter) (entries : ℕ) (old : FileDrafts) (new : FileDraft) → r.target.kind ≡ Nftables → AreOpen old
+    → ChecksFilter today r f entries → AddsOne r.target f entries old.nftables new → AddsAll today (r ∷ []) old (record old { nftables = new })
+to-nftables today r f entries old new e open checks adds = one-taken today r f entries old (record old { nftables = new }) checks each
+  where
+    each : (kind : Kind) → AddsTo today (requests_on kind (r ∷ [])) (draft_on kind old) (draft_on kind (record old { nftables = new }))
+    each Cisco = stays today Nftables Cisco r old.cisco e refl (open Cisco)
+    each Juniper = stays today Nftables Juniper r old.juniper e refl (open Juniper)
+    each Iptables = stays today Nftables Iptables r old.iptables e refl (open Iptables)
+    each Nftables = goes today Nftables r f entries old.nftables new e checks adds
 
 -- ---- several filters
 
-pub adds-append : {X : Type 0} (path : List ℕ) (today : Day) (xs ys : List FilterRequest) (p q s : Prepared) (r : Result X Refusal)
-    → AddsAll path today xs p q → Adds path today ys q s r → Adds path today (xs ++ ys) p s r
-adds-append path today xs ys p q s (Ok x) h k = record {
-  slip_is = first-in-append (request_slip today) xs ys ∙ both-none (requests_slip today xs) (requests_slip today ys) h.slip_is k.slip_is;
+no-filters : (today : Day) (draft : FileDraft) → draft.report.is_open ≡ true → AddsTo today [] draft draft
+no-filters today draft open = record {
+  path_stays = refl;
+  filters_are = sym (append-nil draft.filters);
+  report_is = sym (append-nil draft.report.bytes);
+  opened = open;
+}
+
+pub adds-none : {X : Type 0} (today : Day) (drafts : FileDrafts) (x : X) → AreOpen drafts → Adds {X} today [] drafts drafts (Ok x)
+adds-none today drafts x open = record { slip_is = refl; each = λ kind. no-filters today (draft_on kind drafts) (open kind); taken = tt }
+
+pub still-open : (today : Day) (rs : List FilterRequest) (old new : FileDrafts) → AddsAll today rs old new → AreOpen new
+still-open today rs old new h = λ kind. (h.each kind).opened
+
+-- A platform's requests among those of two lists.
+on-append : (kind : Kind) (xs ys : List FilterRequest) → requests_on kind (xs ++ ys) ≡ requests_on kind xs ++ requests_on kind ys
+on-append kind [] ys = refl
+on-append kind (x ∷ xs) ys = by (same_kind x.target.kind kind)
+  where
+    by : (b : Bool) → (if b then x ∷ requests_on kind (xs ++ ys) else requests_on kind (xs ++ ys))
+        ≡ (if b then x ∷ requests_on kind xs else requests_on kind xs) ++ requests_on kind ys
+    by true = ap (λ rs. x ∷ rs) (on-append kind xs ys)
+    by false = on-append kind xs ys
+
+to-append : (today : Day) (xs ys : List FilterRequest) (p q s : FileDraft) → AddsTo today xs p q → AddsTo today ys q s → AddsTo today (xs ++ ys) p s
+to-append today xs ys p q s h k = record {
+  path_stays = k.path_stays ∙ h.path_stays;
   filters_are = k.filters_are ∙ ap (λ fs. fs ++ map (filter_for today) ys) h.filters_are
       ∙ append_assoc p.filters (map (filter_for today) xs) (map (filter_for today) ys) ∙ ap (λ fs. p.filters ++ fs) (sym (map-append (filter_for today) xs ys));
-  report_is = k.report_is ∙ ap (λ t. t ++ flat_map (report_line path today) ys) h.report_is
-      ∙ append_assoc p.report.bytes (flat_map (report_line path today) xs) (flat_map (report_line path today) ys)
-      ∙ ap (λ t. p.report.bytes ++ t) (sym (flat_map-append (report_line path today) xs ys));
-  taken = all-append (IsTaken today) xs ys h.taken k.taken;
+  report_is = k.report_is ∙ ap (λ path. q.report.bytes ++ flat_map (report_line (string_bytes path) today) ys) h.path_stays
+      ∙ ap (λ t. t ++ flat_map (report_line (string_bytes p.path) today) ys) h.report_is
+      ∙ append_assoc p.report.bytes (flat_map (report_line (string_bytes p.path) today) xs) (flat_map (report_line (string_bytes p.path) today) ys)
+      ∙ ap (λ t. p.report.bytes ++ t) (sym (flat_map-append (report_line (string_bytes p.path) today) xs ys));
   opened = k.opened;
 }
-adds-append path today xs ys p q s (Err (refusals.Slip e)) h k =
-    first-in-append (request_slip today) xs ys ∙ ap (λ o. first_of o (requests_slip today ys)) h.slip_is ∙ k
-adds-append path today xs ys p q s (Err refusals.Memory) h k = tt
 
-pub adds-slip : {X Y : Type 0} (path : List ℕ) (today : Day) (xs ys : List FilterRequest) (p s : Prepared) (e : Refusal) (q : Result X Refusal) (r : Result Y Refusal)
-    → q ≡ Err e → Adds path today xs p s q → IsErrAnd r (λ x. x ≡ e) → Adds path today (xs ++ ys) p s r
-adds-slip path today xs ys p s e q (Ok y) was h is = absurd is
-adds-slip path today xs ys p s e (Ok x) (Err f) was h is = absurd (cc)
-adds-slip path today xs ys p s e (Err (refusals.Slip a)) (Err (refusals.Slip b)) was h is =
+pub adds-append : {X : Type 0} (today : Day) (xs ys : List FilterRequest) (p q s : FileDrafts) (r : Result X Refusal)
+    → AddsAll today xs p q → Adds today ys q s r → Adds today (xs ++ ys) p s r
+adds-append today xs ys p q s (Ok x) h k = record {
+  slip_is = first-in-append (request_slip today) xs ys ∙ both-none (requests_slip today xs) (requests_slip today ys) h.slip_is k.slip_is;
+  each = λ kind. subst (λ rs. AddsTo today rs (draft_on kind p) (draft_on kind s)) (sym (on-append kind xs ys))
+      (to-append today (requests_on kind xs) (requests_on kind ys) (draft_on kind p) (draft_on kind q) (draft_on kind s) (h.each kind) (k.each kind));
+  taken = all-append (IsTakenFor today) xs ys h.taken k.taken;
+}
+adds-append today xs ys p q s (Err (refusals.Slip e)) h k =
+    first-in-append (request_slip today) xs ys ∙ ap (λ o. first_of o (requests_slip today ys)) h.slip_is ∙ k
+adds-append today xs ys p q s (Err refusals.Memory) h k = tt
+
+pub adds-slip : {X Y : Type 0} (today : Day) (xs ys : List FilterRequest) (p s : FileDrafts) (e : Refusal) (q : Result X Refusal) (r : Result Y Refusal)
+    → q ≡ Err e → Adds today xs p s q → IsErrAnd r (λ x. x ≡ e) → Adds today (xs ++ ys) p s r
+adds-slip today xs ys p s e q (Ok y) was h is = absurd is
+adds-slip today xs ys p s e (Ok x) (Err f) was h is = absurd (cc)
+adds-slip today xs ys p s e (Err (refusals.Slip a)) (Err (refusals.Slip b)) was h is =
     let same : a ≡ b = cc in
     first-in-append (request_slip today) xs ys ∙ ap (λ o. first_of o (requests_slip today ys)) h ∙ ap Some same
-adds-slip path today xs ys p s e (Err (refusals.Slip a)) (Err refusals.Memory) was h is = tt
-adds-slip path today xs ys p s e (Err refusals.Memory) (Err (refusals.Slip b)) was h is = absurd (cc)
-adds-slip path today xs ys p s e (Err refusals.Memory) (Err refusals.Memory) was h is = tt
+adds-slip today xs ys p s e (Err (refusals.Slip a)) (Err refusals.Memory) was h is = tt
+adds-slip today xs ys p s e (Err refusals.Memory) (Err (refusals.Slip b)) was h is = absurd (cc)
+adds-slip today xs ys p s e (Err refusals.Memory) (Err refusals.Memory) was h is = tt
+
+same-file : (today : Day) (written : List RawTerm) (terms : List Term) (t : Target) (kind : Kind) (p q : FileDraft)
+    → AddsTo today (requests_on kind (request_of [] terms t ∷ [])) p q → AddsTo today (requests_on kind (request_of written terms t ∷ [])) p q
+same-file today written terms t kind p q h = by (same_kind t.kind kind) h
+  where
+    by : (b : Bool) → AddsTo today (if b then request_of [] terms t ∷ [] else []) p q → AddsTo today (if b then request_of written terms t ∷ [] else []) p q
+    by true h = record { path_stays = h.path_stays; filters_are = h.filters_are; report_is = h.report_is; opened = h.opened }
+    by false h = h
 
 -- Nothing that is added says how the terms are written.
-pub adds-written : (path : List ℕ) (today : Day) (written : List RawTerm) (terms : List Term) (t : Target) (p q : Prepared)
-    → AddsAll path today (request_of [] terms t ∷ []) p q → AddsAll path today (request_of written terms t ∷ []) p q
-adds-written path today written terms t p q h =
-    record { slip_is = h.slip_is; filters_are = h.filters_are; report_is = h.report_is; taken = h.taken; opened = h.opened }
+pub adds-written : (today : Day) (written : List RawTerm) (terms : List Term) (t : Target) (p q : FileDrafts)
+    → AddsAll today (request_of [] terms t ∷ []) p q → AddsAll today (request_of written terms t ∷ []) p q
+adds-written today written terms t p q h = record {
+  slip_is = h.slip_is;
+  each = λ kind. same-file today written terms t kind (draft_on kind p) (draft_on kind q) (h.each kind);
+  taken = (record { rendered = h.taken.0.rendered; taken = h.taken.0.taken }, tt);
+}
 
 pub blocks-are : (bs : List Block) (b : Block) (more : List Block) (ls : List (List Term)) (l : List Term) (others : List (List Term))
     → bs ≡ b ∷ more → ls ≡ l ∷ others → requests_in bs ls ≡ block_requests b l ++ requests_in more others
 blocks-are bs b more ls l others e f = ap (λ xs. requests_in xs ls) e ∙ ap (λ ys. requests_in (b ∷ more) ys) f
+
+-- ---- a whole policy
+
+pub prepared : (output policy : List ℕ) (today : Day) (loaded : Loaded) (old new : FileDrafts) → platform_slip loaded.policy.blocks ≡ None
+    → AreEmptyDrafts output policy old → AddsAll today (requests_of loaded) old new → PreparesAll output policy today loaded new
+prepared output policy today loaded old new none empty h = record {
+  slip_is = both-none (platform_slip loaded.policy.blocks) (requests_slip today (requests_of loaded)) none h.slip_is;
+  each = λ kind. let e = empty kind in let a = h.each kind in let rs = requests_on kind (requests_of loaded) in record {
+    path_is = ap string_bytes a.path_stays ∙ e.path_is;
+    filters_are = a.filters_are ∙ ap (λ fs. fs ++ map (filter_for today) rs) e.filters_are;
+    report_is = a.report_is ∙ ap (λ t. t ++ flat_map (report_line (string_bytes (draft_on kind old).path) today) rs) e.report_is
+        ∙ ap (λ path. flat_map (report_line path today) rs) e.path_is;
+  };
+  taken = h.taken;
+}
 
 -- ---- what they decide
 

@@ -132,10 +132,11 @@ untouched d d' o e e' c seen = record { same_files = seen.files_stay; same_out =
 -- ---- refusals
 
 refused-memory : (words : List (List ℕ)) (line : List ℕ) (d d' : Disk) (o e e' : Stream) (c : Watch) → OnlySeen d d' → IsRefusal words (world d o e c) line
-    → (job_leaves : (day : Day) (files : List File) → d.files ≡ Some files → (job : Option (Result Plan Fault)) → IsJob words day files job
+    → Rose e.refusals e'.refusals → (job_leaves : (day : Day) (files : List File) → d.files ≡ Some files → (job : Option (Result Plan Fault)) → IsJob words day files job
     → Leaves job (world d o e c) (world d' o e' c) files)
     → BothTell e.told e'.told (AddsFront line) → EndsWanting words (world d o e c) (world d' o e' c)
-refused-memory words line d d' o e e' c seen refusal job_leaves front = record {
+refused-memory words line d d' o e e' c seen refusal rose job_leaves front = record {
+  words_wanted = λ _. rose;
   words_untouched = λ _. untouched d d' o e e' c seen;
   leaves = told-given d.files (λ day files. (job : Option (Result Plan Fault)) → IsJob words day files job → Leaves job (world d o e c) (world d' o e' c) files) job_leaves;
   line = inr (line, refusal, front);
@@ -154,7 +155,7 @@ refused-so words line asked result d d' o e e' c none seen counts refusal job_le
     record { cause = h.1; untouched = untouched d d' o e e' c seen; line = (line, refusal, h.2) } in
     looked words d d' o e e' c result none seen counts (subst (λ (r : Ended). EndsSo words (world d o e c) (world d' o e' c) r) (sym h.0) ends)
 refused-so words line asked result d d' o e e' c none seen counts refusal job_leaves row (inr (inr h)) =
-    let ends = refused-memory words line d d' o e e' c seen refusal job_leaves h.1 in
+    let ends = refused-memory words line d d' o e e' c seen refusal h.1 job_leaves h.2 in
     looked words d d' o e e' c result none seen counts (subst (λ (r : Ended). EndsSo words (world d o e c) (world d' o e' c) r) (sym h.0) ends)
 
 leaves-none : (words : List (List ℕ)) (day : Day) (files : List File) (known job : Option (Result Plan Fault)) (old new : World)
@@ -225,10 +226,11 @@ leaves-nothing (Some (Err fault)) d d' o e c files seen is = untouched d d' o e 
 leaves-nothing (Some (Ok plan)) d d' o e c files seen is =
     (subst (λ t. IsSomeAnd t (Interrupted (texts_of plan) files)) (sym (seen.files_stay ∙ is)) (none-left (texts_of plan) files), no-front (report_of plan) o.told)
 
-pub memory-keeps : (words : List (List ℕ)) (d d' : Disk) (o e : Stream) (c : Watch) → d.begun ≡ None → OnlySeen d d'
+pub memory-keeps : (words : List (List ℕ)) (d d' : Disk) (o e : Stream) (c : Watch) → d.begun ≡ None → OnlySeen d d' → IsSome (options_of words)
     → Keeps words (world d o e c) (world d' o e c) ended.Memory
-memory-keeps words d d' o e c none seen =
+memory-keeps words d d' o e c none seen accepted =
     let ends : EndsWanting words (world d o e c) (world d' o e c) = record {
+      words_wanted = λ refused. absurd (no-options (options_of words) refused accepted);
       words_untouched = λ _. untouched d d' o e e c seen;
       leaves = told-given d.files (λ day files. (job : Option (Result Plan Fault)) → IsJob words day files job → Leaves job (world d o e c) (world d' o e c) files)
           (λ day files is job _. leaves-nothing job d d' o e c files seen is);
@@ -308,6 +310,7 @@ out-row words work d d' o o' e e' c planned acts = record {
 memory-row : (words : List (List ℕ)) (work : Work) (d d' : Disk) (o o' e e' : Stream) (c : Watch) → DecidesPlanned words work d → ActsMemory work d d' o o' e e'
     → EndsWanting words (world d o e c) (world d' o' e' c)
 memory-row words work d d' o o' e e' c planned acts = record {
+  words_wanted = λ none. absurd (no-options (options_of words) none planned.accepted);
   words_untouched = λ none. absurd (no-options (options_of words) none planned.accepted);
   leaves = planned-leaves words work d (λ plan files. Unit {0})
       (λ day files. (job : Option (Result Plan Fault)) → IsJob words day files job → Leaves job (world d o e c) (world d' o' e' c) files)

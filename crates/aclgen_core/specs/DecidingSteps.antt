@@ -10,6 +10,8 @@ use Rattle.acl_host.specs.Outside.{AddsFront}
 use Rattle.aclgen_core.specs.CommandLines.{options_of}
 use Rattle.aclgen_core.specs.FileLists.{HoldsTexts, Interrupted, PathsDiffer}
 use Rattle.aclgen_core.specs.Job.{Plan, IsJob, report_of, texts_of}
+use Rattle.acl_load.specs.declared.load_faults.LoadFault.{LoadFault}
+use Rattle.acl_load.specs.declared.load_faults.LoadFault.TheVariants as loads
 use Rattle.acl_load.specs.FaultLines.{fault_line}
 use Rattle.aclgen_core.specs.Endings.{Got, IsFileOf, Tried}
 use Rattle.aclgen_core.specs.FaultLines.{outside_line}
@@ -77,6 +79,16 @@ DecidesSo words old new (decided.Planned work) = DecidesPlanned words work old
 DecidesSo words old new (decided.Outside w) = IsSome (options_of words) × RoseLooking w old new
 DecidesSo words old new decided.Memory = IsSome (options_of words)
 
+-- What is to be done where there is nothing to write.
+abbrev pub FollowsFrom : LoadFault → Decision → Type 0
+FollowsFrom (loads.Fault fault) (decided.Refused told line) =
+    (told ≡ fault) × (line.bytes ≡ fault_line fault)
+FollowsFrom (loads.Fault fault) decided.Memory = Unit {0}
+FollowsFrom loads.List (decided.Outside w) = w ≡ which.List
+FollowsFrom loads.Read (decided.Outside w) = w ≡ which.Read
+FollowsFrom loads.Memory decided.Memory = Unit {0}
+FollowsFrom fault decision = ⊥
+
 pub record Decides (words : List (List ℕ)) (old new : Disk) (decision : Decision) : Type 0 where
   pub seen : OnlySeen old new
   pub so : DecidesSo words old new decision
@@ -88,7 +100,8 @@ abbrev pub RefusesSo : List ℕ → Ended → Stream → Stream → Ended → Ty
 RefusesSo line asked old new result = ((result ≡ asked) × Got line old.told new.told)
     ⊎ (((result ≡ ended.Outside which.Err) × Rose old.faults new.faults
     × BothTell old.told new.told (AddsFront line))
-    ⊎ ((result ≡ ended.Memory) × BothTell old.told new.told (AddsFront line)))
+    ⊎ ((result ≡ ended.Memory) × Rose old.refusals new.refusals
+    × BothTell old.told new.told (AddsFront line)))
 
 pub record Refuses (line : List ℕ) (asked : Ended) (old new : Stream) (result : Ended) : Type 0 where
   pub counts : StreamCountsGrow old new

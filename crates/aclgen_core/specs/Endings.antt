@@ -1,5 +1,5 @@
 -- What each ending of a run means: a record for each.
-use Rattle.std.specs.Prelude.{◌≡◌, ℕ, ℤ, ◌++◌, ◌⊎◌, Bool, true, false, List, Option, None, Some, Result, Ok, Err, option_map, map, IfSome, IsSome, IsSomeAnd, slice_get}
+use Rattle.std.specs.Prelude.{◌≡◌, ℕ, ℤ, ◌++◌, ◌⊎◌, Bool, true, false, List, Option, None, Some, Result, Ok, Err, option_map, map, IfSome, IsSome, IsSomeAnd}
 use Rattle.std.specs.List.{AllByRecursion}
 use Rattle.acl_packet.specs.declared.filtering.Outcome.{Outcome}
 use Rattle.acl_packet.specs.declared.packets.Packet.{Packet}
@@ -13,13 +13,12 @@ use Rattle.acl_host.specs.Outside.{AddsFront}
 use Rattle.acl_naming.specs.Definitions.{Naming}
 use Rattle.acl_terms.specs.Outcomes.{PolicyDecides, shown}
 use Rattle.acl_load.specs.FaultLines.{fault_line}
-use Rattle.cisco_lang.specs.Texts.{Spells, text_of}
-use Rattle.cisco_lang.specs.Walks.{outcome_of}
+use Rattle.acl_render.specs.PlatformFiles.{IsAccepted}
 use Rattle.aclgen_core.specs.CommandLines.{asks_clock, options_of}
 use Rattle.aclgen_core.specs.FaultLines.{usage_line, outside_line}
 use Rattle.aclgen_core.specs.FileLists.{HoldsTexts, Interrupted}
 use Rattle.aclgen_core.specs.FilterRequests.{FilterRequest}
-use Rattle.aclgen_core.specs.Job.{Plan, PlanFile, IsJob, document_of, report_of, texts_of}
+use Rattle.aclgen_core.specs.Job.{Plan, PlanFile, IsJob, filters_of, report_of, texts_of}
 use Rattle.aclgen_core.specs.Worlds.{CountsGrow, Disk, Stream, Watch, World}
 use Rattle.aclgen_core.specs.declared.endings.Ended.{Ended}
 use Rattle.aclgen_core.specs.declared.endings.Ended.TheVariants as ended
@@ -63,12 +62,11 @@ DecidesAsPolicy naming today r outcome = (p : Packet) → IsPacket p
     → (o : Outcome) × PolicyDecides naming r.target today r.written p o
     × (outcome p ≡ Some (shown r.target.kind o))
 
--- The file's text is one that the language of Cisco access lists accepts as one document, with one section for each
--- target, in order; and each section decides as the policy does.
-pub record IsFileOf (naming : Naming) (today : Day) (f : PlanFile) : Type 0 where
-  pub spelled : Spells (text_of (document_of today f)) (document_of today f)
-  pub decides : (k : ℕ) → IfSome (slice_get f.requests k)
-      (λ r. DecidesAsPolicy naming today r (outcome_of (document_of today f) k))
+-- The file's text is one that the language of its platform accepts as one document, with one section for each target,
+-- in order; and each section decides as the policy does.
+abbrev pub IsFileOf : Naming → Day → PlanFile → Type 0
+IsFileOf naming today f =
+    IsAccepted f.kind (DecidesAsPolicy naming today) (filters_of today f) f.requests
 
 -- Each file of the plan is such a text, and every other file is as it was.
 pub record IsWritten (plan : Plan) (old new : List File) : Type 0 where
@@ -174,7 +172,9 @@ Leaves (Some (Err fault)) old new files = Untouched old new
 Leaves (Some (Ok plan)) old new files = IsSomeAnd new.disk.files (Interrupted (texts_of plan) files)
     × BothTell old.out.told new.out.told (AddsFront (report_of plan))
 
+-- Where the words are no command line, only standard error can have wanted memory, and its count says so.
 pub record EndsWanting (words : List (List ℕ)) (old new : World) : Type 0 where
+  pub words_wanted : options_of words ≡ None → Rose old.err.refusals new.err.refusals
   pub words_untouched : options_of words ≡ None → Untouched old new
   pub leaves : WhereTold words old (λ day files. (job : Option (Result Plan Fault))
       → IsJob words day files job → Leaves job old new files)

@@ -1,13 +1,13 @@
 -- The filters that a policy asks for, and the first slip of one of them.
-use Rattle.std.specs.Prelude.{ℕ, Bool, true, false, if◌then◌else◌, List, [], ◌∷◌, ◌++◌, map, slice_get, codes, Option, None, Some, option_map}
+use Rattle.std.specs.Prelude.{Bool, true, false, if◌then◌else◌, List, [], ◌∷◌, ◌++◌, filter, map, slice_get, codes, Option, None, Some, option_map}
 use Rattle.acl_text.specs.declared.faults.Code.{Code}
 use Rattle.acl_text.specs.declared.faults.Code.TheVariants as codes_of
 use Rattle.acl_text.specs.declared.faults.Slip.{Slip}
 use Rattle.acl_host.specs.declared.clocks.Day.{Day}
 use Rattle.acl_naming.specs.Checking.{first_of}
 use Rattle.acl_target.specs.declared.targets.Kind.{Kind}
-use Rattle.acl_target.specs.declared.targets.Kind.TheVariants.{Cisco, Juniper, Iptables, Nftables}
 use Rattle.acl_target.specs.declared.targets.Target.{Target}
+use Rattle.acl_target.specs.Clashes.{same_kind}
 use Rattle.acl_policy.specs.declared.blocks.Block.{Block}
 use Rattle.acl_policy.specs.declared.raw_terms.RawTerm.{RawTerm}
 use Rattle.acl_terms.specs.declared.terms.Term.{Term}
@@ -21,7 +21,7 @@ use Rattle.acl_platform.specs.declared.rules.Test.TheVariants as tests
 use Rattle.acl_expand.specs.Expansions.{filter_of}
 use Rattle.acl_expand.specs.ExpansionSlips.{first_slip}
 use Rattle.acl_load.specs.declared.policy_loading.Loaded.{Loaded}
-use Rattle.gen_cisco.specs.Limits.{limit_of}
+use Rattle.acl_render.specs.PlatformFiles.{is_rendered, limit_of}
 
 -- A target of a policy, and the terms of its block: as they are written, and with their words read as numbers.
 pub record FilterRequest : Type 0 where
@@ -50,18 +50,16 @@ requests_of loaded = requests_in loaded.policy.blocks loaded.terms
 abbrev pub filter_for : Day → FilterRequest → Filter
 filter_for today r = filter_of r.target today r.terms
 
+-- The requests for filters of a platform, in order.
+abbrev pub requests_on : Kind → List FilterRequest → List FilterRequest
+requests_on kind rs = filter (λ r. same_kind r.target.kind kind) rs
+
 -- ---- platforms that are still to come
 
-abbrev pub is_cisco : Kind → Bool
-is_cisco Cisco = true
-is_cisco Juniper = false
-is_cisco Iptables = false
-is_cisco Nftables = false
-
--- A target of another platform than Cisco, at its keyword.
+-- A target of a platform whose files are not written yet, at its keyword.
 abbrev pub target_slip : Target → Option Slip
-target_slip t =
-    if is_cisco t.kind then None else Some (record { code = codes_of.NotYet; place = t.place; word = [] })
+target_slip t = if is_rendered t.kind then None
+    else Some (record { code = codes_of.NotYet; place = t.place; word = [] })
 
 abbrev pub block_slip : Block → Option Slip
 block_slip block = first_in target_slip block.targets
@@ -102,7 +100,7 @@ limit_slip f limits.TooManyEntries =
 
 -- ---- the first slip
 
--- The limit that a filter of Cisco meets.
+-- The limit that a filter meets on its platform.
 unfoldable pub check_slip : Filter → Option Slip
 check_slip f = option_map (limit_slip f) (limit_of f)
 

@@ -5,21 +5,22 @@ use Rattle.acl_text.specs.declared.faults.Slip.{Slip}
 use Rattle.acl_host.specs.declared.clocks.Day.{Day}
 use Rattle.acl_host.specs.Files.{File}
 use Rattle.acl_naming.specs.Definitions.{Naming}
+use Rattle.acl_target.specs.declared.targets.Kind.{Kind}
+use Rattle.acl_target.specs.declared.targets.Kind.TheVariants.{Cisco, Juniper, Iptables, Nftables}
 use Rattle.acl_target.specs.declared.targets.Target.{Target}
 use Rattle.acl_target.specs.TargetTexts.{target_text}
 use Rattle.acl_load.specs.declared.policy_loading.Loaded.{Loaded}
 use Rattle.acl_load.specs.LoadedPolicies.{GoesOn, LoadsPolicy}
 use Rattle.acl_load.specs.Loading.{fault_of}
-use Rattle.cisco_lang.specs.declared.documents.Section.{Section}
-use Rattle.cisco_lang.specs.Texts.{text_of}
 use Rattle.acl_platform.specs.declared.filters.Filter.{Filter}
-use Rattle.gen_cisco.specs.Sections.{entry_count, section_of}
+use Rattle.acl_render.specs.PlatformFiles.{count_of, text_on}
 use Rattle.aclgen_core.specs.CommandLines.{Options, options_of}
-use Rattle.aclgen_core.specs.FilterPaths.{acl_path}
-use Rattle.aclgen_core.specs.FilterRequests.{FilterRequest, filter_for, loaded_slip, requests_of}
+use Rattle.aclgen_core.specs.FilterPaths.{path_of}
+use Rattle.aclgen_core.specs.FilterRequests.{FilterRequest, filter_for, loaded_slip, requests_of, requests_on}
 
--- A file that a run writes: its path, and the filters that are asked for in it, in order.
+-- A file that a run writes: its platform, its path, and the filters that are asked for in it, in order.
 pub record PlanFile : Type 0 where
+  pub kind : Kind
   pub path : List ℕ
   pub requests : List FilterRequest
 
@@ -29,12 +30,23 @@ pub record Plan : Type 0 where
   pub today : Day
   pub files : List PlanFile
 
--- Its options say where the filters go: those of Cisco into one file, in the order of the targets.
+-- The platforms, in the order in which their files are written.
+abbrev pub platforms : List Kind
+platforms = Cisco ∷ Juniper ∷ Iptables ∷ Nftables ∷ []
+
+-- A platform has one file where some target names it, with its filters in the order of the targets.
+abbrev pub file_with : Kind → List ℕ → List FilterRequest → List PlanFile
+file_with kind path [] = []
+file_with kind path (r ∷ rs) = record { kind = kind; path = path; requests = r ∷ rs } ∷ []
+
+abbrev pub files_on : Options → List FilterRequest → Kind → List PlanFile
+files_on o rs kind = file_with kind (path_of kind o.output o.policy) (requests_on kind rs)
+
 abbrev pub plan_of : Options → Day → Loaded → Plan
 plan_of o today loaded = record {
   naming = loaded.definitions;
   today = today;
-  files = record { path = acl_path o.output o.policy; requests = requests_of loaded } ∷ [];
+  files = flat_map (files_on o (requests_of loaded)) platforms;
 }
 
 -- A slip is told with the label of its file.
@@ -73,12 +85,8 @@ IsJob words day files job = IsJobOf (options_of words) day files job
 abbrev pub filters_of : Day → PlanFile → List Filter
 filters_of today f = map (filter_for today) f.requests
 
--- One section for each filter, in order.
-abbrev pub document_of : Day → PlanFile → List Section
-document_of today f = map section_of (filters_of today f)
-
 abbrev pub file_of : Day → PlanFile → File
-file_of today f = (f.path, text_of (document_of today f))
+file_of today f = (f.path, text_on f.kind (filters_of today f))
 
 abbrev pub texts_of : Plan → List File
 texts_of plan = map (file_of plan.today) plan.files
@@ -89,7 +97,7 @@ report_text path target entries = path ++ codes ": " ++ target_text target ++ co
     ++ decimal entries ++ codes "\n"
 
 abbrev pub report_line : List ℕ → Day → FilterRequest → List ℕ
-report_line path today r = report_text path r.target (entry_count (filter_for today r))
+report_line path today r = report_text path r.target (count_of (filter_for today r))
 
 abbrev pub file_report : Day → PlanFile → List ℕ
 file_report today f = flat_map (report_line f.path today) f.requests

@@ -1,87 +1,156 @@
 -- What the private steps that make a policy's filters give.
-use Rattle.std.specs.Prelude.{◌≡◌, ℕ, true, List, [], ◌∷◌, ◌++◌, map, flat_map, slice_get, Option, None, Some, Result, Ok, Err, IfSome}
-use Rattle.std.specs.List.{AllByRecursion}
+use Rattle.std.specs.Prelude.{◌≡◌, ◌≢◌, ℕ, true, List, [], ◌∷◌, ◌++◌, map, flat_map, Option, None, Some, Result, Ok, Err, IfSome}
+use Rattle.std.specs.List.{All, AllByRecursion}
+use Rattle.std.specs.String.{string_bytes}
 use Rattle.acl_text.specs.declared.faults.Refusal.{Refusal}
 use Rattle.acl_text.specs.declared.faults.Refusal.TheVariants as refusals
 use Rattle.acl_text.specs.declared.faults.Rejection.{Rejection}
 use Rattle.acl_text.specs.declared.faults.Rejection.TheVariants as rejections
 use Rattle.acl_host.specs.declared.clocks.Day.{Day}
 use Rattle.acl_host.specs.Files.{File}
+use Rattle.acl_target.specs.declared.targets.Kind.{Kind}
+use Rattle.acl_target.specs.declared.targets.Kind.TheVariants.{Cisco, Juniper, Iptables, Nftables}
 use Rattle.acl_target.specs.declared.targets.Target.{Target}
-use Rattle.acl_terms.specs.declared.terms.Term.{Term}
 use Rattle.acl_platform.specs.declared.filters.Filter.{Filter}
-use Rattle.acl_platform.specs.Platforms.{DecidesAs, IsAccepted}
+use Rattle.acl_platform.specs.Platforms.{DecidesAs}
 use Rattle.acl_load.specs.declared.load_faults.LoadFault.{LoadFault}
 use Rattle.acl_load.specs.declared.policy_loading.Loaded.{Loaded}
 use Rattle.acl_load.specs.LoadFaults.{load_told}
-use Rattle.cisco_lang.specs.Texts.{Spells, text_of}
-use Rattle.cisco_lang.specs.Walks.{outcome_of}
-use Rattle.gen_cisco.specs.Limits.{is_for_cisco, limit_of}
-use Rattle.gen_cisco.specs.Sections.{entry_count, section_of}
+use Rattle.acl_render.specs.PlatformFiles.{AreApart, IsAccepted, IsTaken, count_of, is_rendered, text_on}
 use Rattle.aclgen_core.specs.CommandLines.{Options}
 use Rattle.aclgen_core.specs.DecidingSteps.{IsReady, texts_in}
 use Rattle.aclgen_core.specs.FileLists.{PathsDiffer}
-use Rattle.aclgen_core.specs.FilterRequests.{FilterRequest, filter_for, loaded_slip, request_of, request_slip, requests_of, requests_slip}
-use Rattle.aclgen_core.specs.Job.{Plan, Plans, plan_of, planned, report_line}
+use Rattle.aclgen_core.specs.FilterPaths.{path_of}
+use Rattle.aclgen_core.specs.FilterRequests.{FilterRequest, filter_for, loaded_slip, request_slip, requests_of, requests_on, requests_slip}
+use Rattle.aclgen_core.specs.Job.{Plan, Plans, plan_of, planned, platforms, report_line, report_text}
 use Rattle.aclgen_core.specs.declared.planning.Work.{Work}
-use Rattle.aclgen_core.specs.declared.preparing.Prepared.{Prepared}
+use Rattle.aclgen_core.specs.declared.preparing.FileDraft.{FileDraft}
+use Rattle.aclgen_core.specs.declared.preparing.FileDrafts.{FileDrafts}
 
 -- ---- one filter
 
--- A filter that the platform takes.
-abbrev pub IsTaken : Day → FilterRequest → Type 0
-IsTaken today r = IsAccepted is_for_cisco limit_of (filter_for today r)
+-- A filter that its platform takes, and whose file is written.
+pub record IsTakenFor (today : Day) (r : FilterRequest) : Type 0 where
+  pub rendered : is_rendered r.target.kind ≡ true
+  pub taken : IsTaken r.target.kind (filter_for today r)
 
 pub record ChecksFilter (today : Day) (r : FilterRequest) (f : Filter) (entries : ℕ) : Type 0 where
   pub slip_is : request_slip today r ≡ None
   pub filter_is : f ≡ filter_for today r
-  pub count_is : entries ≡ entry_count (filter_for today r)
-  pub taken : IsTaken today r
+  pub count_is : entries ≡ count_of (filter_for today r)
+  pub taken : IsTakenFor today r
 
 abbrev pub Checks : Day → FilterRequest → Result (Filter × ℕ) Refusal → Type 0
 Checks today r (Ok x) = ChecksFilter today r x.0 x.1
 Checks today r (Err (refusals.Slip s)) = request_slip today r ≡ Some s
 Checks today r (Err refusals.Memory) = Unit {0}
 
--- ---- filters
+-- ---- the files in the making
 
--- The filters and their lines in the report stand behind those that were there.
-pub record AddsAll (path : List ℕ) (today : Day) (rs : List FilterRequest) (old new : Prepared)
-    : Type 0 where
-  pub slip_is : requests_slip today rs ≡ None
-  pub filters_are : new.filters ≡ old.filters ++ map (filter_for today) rs
-  pub report_is : new.report.bytes ≡ old.report.bytes ++ flat_map (report_line path today) rs
-  pub taken : AllByRecursion (IsTaken today) rs
+abbrev pub draft_on : Kind → FileDrafts → FileDraft
+draft_on Cisco drafts = drafts.cisco
+draft_on Juniper drafts = drafts.juniper
+draft_on Iptables drafts = drafts.iptables
+draft_on Nftables drafts = drafts.nftables
+
+-- More can be put into each report.
+abbrev pub AreOpen : FileDrafts → Type 0
+AreOpen drafts = (kind : Kind) → (draft_on kind drafts).report.is_open ≡ true
+
+-- One filter and its line of the report stand behind those that were there.
+pub record AddsOne (target : Target) (f : Filter) (entries : ℕ) (old new : FileDraft) : Type 0 where
+  pub path_stays : new.path ≡ old.path
+  pub filters_are : new.filters ≡ old.filters ++ f ∷ []
+  pub report_is : new.report.bytes
+      ≡ old.report.bytes ++ report_text (string_bytes old.path) target entries
   pub opened : new.report.is_open ≡ true
 
+-- The filters and their lines of the report stand behind those that were there.
+pub record AddsTo (today : Day) (rs : List FilterRequest) (old new : FileDraft) : Type 0 where
+  pub path_stays : new.path ≡ old.path
+  pub filters_are : new.filters ≡ old.filters ++ map (filter_for today) rs
+  pub report_is : new.report.bytes
+      ≡ old.report.bytes ++ flat_map (report_line (string_bytes old.path) today) rs
+  pub opened : new.report.is_open ≡ true
+
+-- Each platform's filters are added to its file.
+pub record AddsAll (today : Day) (rs : List FilterRequest) (old new : FileDrafts) : Type 0 where
+  pub slip_is : requests_slip today rs ≡ None
+  pub each : (kind : Kind) → AddsTo today (requests_on kind rs) (draft_on kind old) (draft_on kind new)
+  pub taken : AllByRecursion (IsTakenFor today) rs
+
 -- All filters are added, or the first slip is given.
-abbrev pub Adds : {X : Type 0} → List ℕ → Day → List FilterRequest → Prepared → Prepared
+abbrev pub Adds : {X : Type 0} → Day → List FilterRequest → FileDrafts → FileDrafts
     → Result X Refusal → Type 0
-Adds path today rs old new (Ok x) = AddsAll path today rs old new
-Adds path today rs old new (Err (refusals.Slip s)) = requests_slip today rs ≡ Some s
-Adds path today rs old new (Err refusals.Memory) = Unit {0}
+Adds today rs old new (Ok x) = AddsAll today rs old new
+Adds today rs old new (Err (refusals.Slip s)) = requests_slip today rs ≡ Some s
+Adds today rs old new (Err refusals.Memory) = Unit {0}
 
 -- ---- a whole policy
 
-pub record PreparesAll (path : List ℕ) (today : Day) (loaded : Loaded) (prepared : Prepared)
+pub record IsEmptyDraft (path : List ℕ) (draft : FileDraft) : Type 0 where
+  pub path_is : string_bytes draft.path ≡ path
+  pub filters_are : draft.filters ≡ []
+  pub report_is : draft.report.bytes ≡ []
+  pub opened : draft.report.is_open ≡ true
+
+abbrev pub AreEmptyDrafts : List ℕ → List ℕ → FileDrafts → Type 0
+AreEmptyDrafts output policy drafts =
+    (kind : Kind) → IsEmptyDraft (path_of kind output policy) (draft_on kind drafts)
+
+-- A platform's filters stand in its file, in order, with their lines of the report.
+pub record IsDraftOf (path : List ℕ) (today : Day) (rs : List FilterRequest) (draft : FileDraft)
     : Type 0 where
+  pub path_is : string_bytes draft.path ≡ path
+  pub filters_are : draft.filters ≡ map (filter_for today) rs
+  pub report_is : draft.report.bytes ≡ flat_map (report_line path today) rs
+
+pub record PreparesAll (output policy : List ℕ) (today : Day) (loaded : Loaded)
+    (drafts : FileDrafts) : Type 0 where
   pub slip_is : loaded_slip today loaded ≡ None
-  pub filters_are : prepared.filters ≡ map (filter_for today) (requests_of loaded)
-  pub report_is : prepared.report.bytes ≡ flat_map (report_line path today) (requests_of loaded)
-  pub taken : AllByRecursion (IsTaken today) (requests_of loaded)
+  pub each : (kind : Kind) → IsDraftOf (path_of kind output policy) today
+      (requests_on kind (requests_of loaded)) (draft_on kind drafts)
+  pub taken : AllByRecursion (IsTakenFor today) (requests_of loaded)
 
-abbrev pub Prepares : List ℕ → Day → Loaded → Result Prepared Refusal → Type 0
-Prepares path today loaded (Ok prepared) = PreparesAll path today loaded prepared
-Prepares path today loaded (Err (refusals.Slip s)) = loaded_slip today loaded ≡ Some s
-Prepares path today loaded (Err refusals.Memory) = Unit {0}
+abbrev pub Prepares : List ℕ → List ℕ → Day → Loaded → Result FileDrafts Refusal → Type 0
+Prepares output policy today loaded (Ok drafts) = PreparesAll output policy today loaded drafts
+Prepares output policy today loaded (Err (refusals.Slip s)) = loaded_slip today loaded ≡ Some s
+Prepares output policy today loaded (Err refusals.Memory) = Unit {0}
 
--- The work is one file, the text of the filters' sections, and the report.
-pub record IsWorkOf (path : List ℕ) (prepared : Prepared) (work : Work) : Type 0 where
-  pub texts_are : texts_in work ≡ (path, text_of (map section_of prepared.filters)) ∷ []
-  pub report_is : work.report.bytes ≡ prepared.report.bytes
-  pub spelled : Spells (text_of (map section_of prepared.filters)) (map section_of prepared.filters)
-  pub decides : (k : ℕ) → IfSome (slice_get prepared.filters k)
-      (λ f. DecidesAs f (outcome_of (map section_of prepared.filters) k))
+-- ---- the texts
+
+-- The filters of a platform's file are such as its text wants.
+pub record IsRendered (kind : Kind) (draft : FileDraft) : Type 0 where
+  pub rendered : draft.filters ≢ [] → is_rendered kind ≡ true
+  pub taken : All (IsTaken kind) draft.filters
+  pub apart : AreApart draft.filters
+
+abbrev pub AreRendered : FileDrafts → Type 0
+AreRendered drafts = (kind : Kind) → IsRendered kind (draft_on kind drafts)
+
+-- The text of a platform's file, where it has filters.
+abbrev pub text_with : Kind → List ℕ → List Filter → List File
+text_with kind path [] = []
+text_with kind path (f ∷ fs) = (path, text_on kind (f ∷ fs)) ∷ []
+
+abbrev pub texts_on : FileDrafts → Kind → List File
+texts_on drafts kind =
+    text_with kind (string_bytes (draft_on kind drafts).path) (draft_on kind drafts).filters
+
+pub record AddsFile (kind : Kind) (draft : FileDraft) (old new : Work) : Type 0 where
+  pub texts_are : texts_in new
+      ≡ texts_in old ++ text_with kind (string_bytes draft.path) draft.filters
+  pub report_is : new.report.bytes ≡ old.report.bytes ++ draft.report.bytes
+  pub opened : new.report.is_open ≡ true
+  pub accepted : draft.filters ≢ [] → IsAccepted kind DecidesAs draft.filters draft.filters
+
+-- The work has the text of each platform's file and its report, in the order of the platforms.
+pub record IsWorkOf (drafts : FileDrafts) (work : Work) : Type 0 where
+  pub texts_are : texts_in work ≡ flat_map (texts_on drafts) platforms
+  pub report_is : work.report.bytes
+      ≡ flat_map (λ kind. (draft_on kind drafts).report.bytes) platforms
+  pub accepted : (kind : Kind) → (draft_on kind drafts).filters ≢ []
+      → IsAccepted kind DecidesAs (draft_on kind drafts).filters (draft_on kind drafts).filters
 
 -- What is to be written of a loaded policy.
 pub record IsPlanned (o : Options) (today : Day) (loaded : Loaded) (work : Work) : Type 0 where

@@ -1,7 +1,7 @@
 ghost use Rattle.std.specs.Prelude.{map};
 ghost use Rattle.std.specs.String.{string_bytes};
 ghost use Rattle.aclgen_core.specs.Worlds.{disk};
-ghost use Rattle.aclgen_core.specs.DecidingSteps.{Decides};
+ghost use Rattle.aclgen_core.specs.DecidingSteps.{Decides, FollowsFrom};
 
 use crate::command_line::options_of;
 use crate::endings::Which;
@@ -27,6 +27,21 @@ pub enum Decision {
     Memory,
 }
 
+// What a run is to do where there is nothing to write.
+fn decision_on(alloc: Global, fault: LoadFault) -> Decision
+    ensures { FollowsFrom fault result }
+{
+    match fault {
+        LoadFault::Fault(fault) => match fault_line(alloc, &fault) {
+            Ok(line) => Decision::Refused(fault, line),
+            Err(_) => Decision::Memory,
+        },
+        LoadFault::List => Decision::Outside(Which::List),
+        LoadFault::Read => Decision::Outside(Which::Read),
+        LoadFault::Memory => Decision::Memory,
+    }
+}
+
 /// Decides what the run is to do. It looks at the tree, and changes nothing.
 pub fn decide<T: Tree>(alloc: Global, words: &[String], tree: &mut T) -> Decision
     ensures { Decides (map string_bytes words.now)
@@ -38,12 +53,6 @@ pub fn decide<T: Tree>(alloc: Global, words: &[String], tree: &mut T) -> Decisio
     };
     match make_work(alloc, &options, tree) {
         Ok(work) => Decision::Planned(work),
-        Err(LoadFault::Fault(fault)) => match fault_line(alloc, &fault) {
-            Ok(line) => Decision::Refused(fault, line),
-            Err(_) => Decision::Memory,
-        },
-        Err(LoadFault::List) => Decision::Outside(Which::List),
-        Err(LoadFault::Read) => Decision::Outside(Which::Read),
-        Err(LoadFault::Memory) => Decision::Memory,
+        Err(fault) => decision_on(alloc, fault),
     }
 }

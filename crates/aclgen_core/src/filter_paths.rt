@@ -2,9 +2,10 @@ ghost use Rattle.std.specs.Prelude.{◌≡◌, ◌++◌, map, codes, IfOk, slice
 ghost use Rattle.std.specs.List.{slice_split, ends_with};
 ghost use Rattle.std.specs.String.{string_bytes};
 ghost use Rattle.acl_host.specs.Files.{join_path};
-ghost use Rattle.aclgen_core.specs.FilterPaths.{parts_of, last_part, without_pol, acl_path};
+ghost use Rattle.aclgen_core.specs.FilterPaths.{ending_of, parts_of, last_part, path_of, without_pol};
 
 use acl_host::join_path;
+use acl_policy::Kind;
 use std::alloc::{AllocError, Global};
 
 fn parts_of(alloc: Global, path: &str) -> Result<Vec<&str>, AllocError>
@@ -32,13 +33,30 @@ fn without_pol(name: &str) -> &str
     }
 }
 
-/// The path of the file of Cisco filters: in the output folder, under the policy's own name with `.acl`.
-#[tactic(auto, unfolding(crate::specs::FilterPaths::acl_path))]
-pub fn acl_path(alloc: Global, output: &str, policy: &str) -> Result<String, AllocError>
-    ensures { IfOk result (λ path. string_bytes path ≡ acl_path output.now policy.now) }
+fn ending_of(kind: Kind) -> &'static str
+    ensures { result.now ≡ ending_of kind }
+{
+    match kind {
+        Kind::Cisco => ".acl",
+        Kind::Juniper => ".jcl",
+        Kind::Iptables => ".ipt",
+        Kind::Nftables => ".nft",
+    }
+}
+
+/// The path of the file of the platform's filters: in the output folder, under the policy's own name with the
+/// platform's ending.
+#[tactic(auto, unfolding(crate::specs::FilterPaths::path_of))]
+pub fn path_of(
+    alloc: Global,
+    kind: Kind,
+    output: &str,
+    policy: &str,
+) -> Result<String, AllocError>
+    ensures { IfOk result (λ path. string_bytes path ≡ path_of kind output.now policy.now) }
 {
     let parts = parts_of(alloc, policy)?;
     let mut path = join_path(alloc, output, without_pol(last_of(parts.as_slice())))?;
-    path.push_str(".acl")?;
+    path.push_str(ending_of(kind))?;
     Ok(path)
 }

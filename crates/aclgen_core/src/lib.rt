@@ -10,7 +10,6 @@ mod file_texts;
 mod filter_paths;
 mod laws;
 mod planning;
-mod platforms;
 mod preparing;
 mod running;
 mod slips;

@@ -1,25 +1,29 @@
-ghost use Rattle.std.specs.Prelude.{◌≡◌, map, flat_map, IfOk};
-ghost use Rattle.std.specs.List.{All, IsDistinct};
-ghost use Rattle.std.specs.Str.{bytes_eq};
-ghost use Rattle.std.specs.String.{string_bytes};
-ghost use Rattle.acl_platform.specs.Platforms.{IsAccepted};
+ghost use Rattle.std.specs.Prelude.{◌≡◌, ◌≢◌, true, [], IfOk, OnOk};
+ghost use Rattle.std.specs.List.{All};
+ghost use Rattle.acl_platform.specs.Platforms.{DecidesAs};
 ghost use Rattle.acl_policy.specs.Conditions.{IsPolicy};
 ghost use Rattle.acl_load.specs.LoadedPolicies.{AreResolvedIn};
 ghost use Rattle.acl_load.specs.LoadFaults.{LoadsFiles};
-ghost use Rattle.gen_cisco.specs.Limits.{is_for_cisco, limit_of};
-ghost use Rattle.gen_cisco.specs.Sections.{list_names, section_of};
+ghost use Rattle.acl_render.specs.PlatformFiles.{AreApart, IsAccepted, IsTaken, is_rendered, text_on};
 ghost use Rattle.aclgen_core.specs.CodeViews.{options_view};
-ghost use Rattle.aclgen_core.specs.PreparingSteps.{IsWorkOf, MakesWork, PlansLoaded};
+ghost use Rattle.aclgen_core.specs.PreparingSteps.{
+  AddsFile,
+  AreRendered,
+  IsWorkOf,
+  MakesWork,
+  PlansLoaded,
+};
 
 use crate::command_line::Options;
 use crate::file_texts::FileText;
-use crate::filter_paths::acl_path;
-use crate::platforms::cisco_text;
-use crate::preparing::{Prepared, prepare};
+use crate::preparing::{FileDraft, FileDrafts, prepare};
 use crate::slips::fault_of;
 use acl_host::{Tree, Whole};
 use acl_load::{LoadFault, Loaded, load};
-use acl_text::{Memory, Refusal, Rejection};
+use acl_platform::Filter;
+use acl_policy::Kind;
+use acl_render::render;
+use acl_text::{Memory, Out, Refusal, Rejection};
 use std::alloc::Global;
 
 /// What a run is to write: its files, and the report on standard output.
@@ -29,20 +33,56 @@ pub struct Work {
     pub report: Whole,
 }
 
-// The file of the filters, and the report on them.
-fn work_of(alloc: Global, path: String, prepared: Prepared) -> Result<Work, Memory>
-    requires accepted { All (IsAccepted is_for_cisco limit_of) prepared.filters }
-    requires names_differ { IsDistinct bytes_eq
-        (flat_map (λ f. list_names (section_of f)) prepared.filters) }
-    ensures { IfOk result (λ work. IsWorkOf (string_bytes path) prepared work) }
+// The text of the platform's file.
+fn text_of(alloc: Global, kind: Kind, filters: &[Filter]) -> Result<Whole, Memory>
+    requires rendered { is_rendered kind ≡ true }
+    requires taken { All (IsTaken kind) filters.now }
+    requires apart { AreApart filters.now }
+    ensures text { IfOk result (λ text. text.bytes ≡ text_on kind filters.now) }
+    ensures accepted { IfOk result (λ _. IsAccepted kind DecidesAs filters.now filters.now) }
 {
-    let text = cisco_text(alloc, prepared.filters.as_slice())?;
-    let mut files = Vec::new(alloc);
-    files.push(FileText { path, text })?;
-    Ok(Work {
-        files,
-        report: prepared.report,
-    })
+    let mut text = Whole::new(alloc);
+    match render(kind, filters, &mut text) {
+        Ok(()) => Ok(text),
+        Err(_) => Err(Memory),
+    }
+}
+
+// Adds the platform's file, where it has filters, and the report on them.
+fn add_file(alloc: Global, kind: Kind, draft: FileDraft, work: &mut Work) -> Result<(), Memory>
+    requires open { work.old.report.is_open ≡ true }
+    requires rendered { draft.filters ≢ [] → is_rendered kind ≡ true }
+    requires taken { All (IsTaken kind) draft.filters }
+    requires apart { AreApart draft.filters }
+    ensures { OnOk result (AddsFile kind draft work.old work.new) }
+{
+    if work.report.put(draft.report.as_slice()).is_err() {
+        return Err(Memory);
+    }
+    let filters = draft.filters.as_slice();
+    if filters.is_empty() {
+        return Ok(());
+    }
+    let text = text_of(alloc, kind, filters)?;
+    let path = draft.path;
+    work.files.push(FileText { path, text })?;
+    Ok(())
+}
+
+// The files of the drafts, and the report on them.
+fn work_of(alloc: Global, drafts: FileDrafts) -> Result<Work, Memory>
+    requires { AreRendered drafts }
+    ensures { IfOk result (IsWorkOf drafts) }
+{
+    let mut work = Work {
+        files: Vec::new(alloc),
+        report: Whole::new(alloc),
+    };
+    add_file(alloc, Kind::Cisco, drafts.cisco, &mut work)?;
+    add_file(alloc, Kind::Juniper, drafts.juniper, &mut work)?;
+    add_file(alloc, Kind::Iptables, drafts.iptables, &mut work)?;
+    add_file(alloc, Kind::Nftables, drafts.nftables, &mut work)?;
+    Ok(work)
 }
 
 // What is to be written of the policy, or the first fault of its filters.
@@ -51,9 +91,8 @@ fn plan(alloc: Global, options: &Options<'_>, loaded: &Loaded) -> Result<Work, R
     requires terms { AreResolvedIn loaded.now.definitions loaded.now.policy.blocks loaded.now.terms }
     ensures { PlansLoaded (options_view options.now) options.now.date loaded.now result }
 {
-    let path = acl_path(alloc, options.output, options.policy)?;
-    match prepare(alloc, options.date, path.as_str(), loaded) {
-        Ok(prepared) => Ok(work_of(alloc, path, prepared)?),
+    match prepare(alloc, options.date, options.output, options.policy, loaded) {
+        Ok(drafts) => Ok(work_of(alloc, drafts)?),
         Err(Refusal::Slip(slip)) => {
             Err(Rejection::Fault(fault_of(alloc, &loaded.sources, slip)?))
         }

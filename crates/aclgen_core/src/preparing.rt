@@ -1,30 +1,50 @@
-ghost use Rattle.std.specs.Prelude.{◌≡◌, ◌≤◌, ◌++◌, ◌∷◌, [], None, true, List, map, OnOk};
+ghost use Rattle.std.specs.Prelude.{◌≡◌, ◌++◌, ◌∷◌, [], None, true, List, map, IfOk, OnOk};
 ghost use Rattle.std.specs.List.{All};
 ghost use Rattle.acl_target.specs.TargetData.{IsTarget};
 ghost use Rattle.acl_policy.specs.declared.raw_terms.RawTerm.{RawTerm};
 ghost use Rattle.acl_policy.specs.Conditions.{IsBlock};
 ghost use Rattle.acl_terms.specs.Slips.{first_in};
+ghost use Rattle.aclgen_core.specs.FilterPaths.{path_of};
 ghost use Rattle.aclgen_core.specs.FilterRequests.{platform_slip, request_of, requests_in, target_slip};
 ghost use Rattle.aclgen_core.specs.Job.{report_text};
-ghost use Rattle.aclgen_core.specs.PreparingSteps.{Adds, Checks, Prepares};
+ghost use Rattle.aclgen_core.specs.PreparingSteps.{
+  Adds,
+  AddsOne,
+  AreEmptyDrafts,
+  AreOpen,
+  Checks,
+  IsEmptyDraft,
+  Prepares,
+};
 
-use crate::platforms::check_cisco;
+use crate::filter_paths::path_of;
 use crate::slips::{check_platforms, limit_refusal};
 use acl_expand::expand;
 use acl_host::{Day, Whole};
 use acl_load::{Loaded, Terms};
 use acl_platform::Filter;
-use acl_policy::{Block, Target, put_target};
+use acl_policy::{Block, Kind, Target, put_target};
+use acl_render::check;
 use acl_terms::Term;
 use acl_text::{Items, Memory, Out, PutFault, Refusal};
 use itoa::Buffer;
 use std::alloc::Global;
 
-/// Filters, in order, and their lines of the report.
+/// The file of a platform: its path, its filters in order, and their lines of the report.
 #[derive(Drop)]
-pub struct Prepared {
+pub struct FileDraft {
+    pub path: String,
     pub filters: Items<Filter>,
     pub report: Whole,
+}
+
+/// The files of all platforms. One of a platform that no target names has no filters.
+#[derive(Drop)]
+pub struct FileDrafts {
+    pub cisco: FileDraft,
+    pub juniper: FileDraft,
+    pub iptables: FileDraft,
+    pub nftables: FileDraft,
 }
 
 #[tactic(auto, unfolding(crate::specs::Job::report_text))]
@@ -43,15 +63,18 @@ fn put_line(report: &mut Whole, path: &[u8], target: &Target, entries: u64) -> R
     report.put(b"\n")
 }
 
-// Adds the line of a filter to the report.
-fn add_line(report: &mut Whole, path: &str, target: &Target, entries: u64) -> Result<(), Memory>
-    requires { report.old.is_open ≡ true }
-    ensures text { OnOk result (report.new.bytes
-        ≡ report.old.bytes ++ report_text path.now target.now entries) }
-    ensures opened { OnOk result (report.new.is_open ≡ true) }
+// Adds a filter, and its line of the report.
+fn add_to(
+    draft: &mut FileDraft,
+    target: &Target,
+    filter: Filter,
+    entries: u64,
+) -> Result<(), Memory>
+    requires { draft.old.report.is_open ≡ true }
+    ensures { OnOk result (AddsOne target.now filter entries draft.old draft.new) }
 {
-    match put_line(report, path.as_bytes(), target, entries) {
-        Ok(()) => Ok(()),
+    match put_line(&mut draft.report, draft.path.as_bytes(), target, entries) {
+        Ok(()) => draft.filters.push(filter),
         Err(_) => Err(Memory),
     }
 }
@@ -68,30 +91,32 @@ fn checked_filter(
     ensures { Checks today (request_of [] terms.now target.now) result }
 {
     let filter = expand(alloc, terms, target, today)?;
-    match check_cisco(&filter) {
+    match check(&filter) {
         Ok(entries) => Ok((filter, entries)),
         Err(limit) => Err(limit_refusal(alloc, &filter, limit)),
     }
 }
 
-// Adds the filter of the terms on the target.
+// Adds the filter of the terms on the target to its platform's file.
 fn add_filter(
     alloc: Global,
     today: Day,
-    path: &str,
     target: &Target,
     terms: &[Term],
-    prepared: &mut Prepared,
+    drafts: &mut FileDrafts,
 ) -> Result<(), Refusal>
     requires sound { IsTarget target.now }
     requires handled { target_slip target.now ≡ None }
-    requires open { prepared.old.report.is_open ≡ true }
-    ensures { Adds path.now today (request_of [] terms.now target.now ∷ []) prepared.old prepared.new
-        result }
+    requires open { AreOpen drafts.old }
+    ensures { Adds today (request_of [] terms.now target.now ∷ []) drafts.old drafts.new result }
 {
     let (filter, entries) = checked_filter(alloc, today, target, terms)?;
-    add_line(&mut prepared.report, path, target, entries)?;
-    prepared.filters.push(filter)?;
+    match target.kind {
+        Kind::Cisco => add_to(&mut drafts.cisco, target, filter, entries)?,
+        Kind::Juniper => add_to(&mut drafts.juniper, target, filter, entries)?,
+        Kind::Iptables => add_to(&mut drafts.iptables, target, filter, entries)?,
+        Kind::Nftables => add_to(&mut drafts.nftables, target, filter, entries)?,
+    }
     Ok(())
 }
 
@@ -99,22 +124,21 @@ fn add_filter(
 fn add_filters(
     alloc: Global,
     today: Day,
-    path: &str,
     targets: &[Target],
     terms: &[Term],
-    prepared: &mut Prepared,
+    drafts: &mut FileDrafts,
 ) -> Result<(), Refusal>
     requires sound { All IsTarget targets.now }
     requires handled { first_in target_slip targets.now ≡ None }
-    requires open { prepared.old.report.is_open ≡ true }
-    ensures { (written : List RawTerm) → Adds path.now today
-        (map (request_of written terms.now) targets.now) prepared.old prepared.new result }
+    requires open { AreOpen drafts.old }
+    ensures { (written : List RawTerm) → Adds today (map (request_of written terms.now) targets.now)
+        drafts.old drafts.new result }
 {
     match targets {
         [] => Ok(()),
         [target, more @ ..] => {
-            add_filter(alloc, today, path, target, terms, prepared)?;
-            add_filters(alloc, today, path, more, terms, prepared)
+            add_filter(alloc, today, target, terms, drafts)?;
+            add_filters(alloc, today, more, terms, drafts)
         }
     }
 }
@@ -123,15 +147,14 @@ fn add_filters(
 fn add_blocks(
     alloc: Global,
     today: Day,
-    path: &str,
     blocks: &[Block],
     lists: &[Terms],
-    prepared: &mut Prepared,
+    drafts: &mut FileDrafts,
 ) -> Result<(), Refusal>
     requires sound { All IsBlock blocks.now }
     requires handled { platform_slip blocks.now ≡ None }
-    requires open { prepared.old.report.is_open ≡ true }
-    ensures { Adds path.now today (requests_in blocks.now lists.now) prepared.old prepared.new result }
+    requires open { AreOpen drafts.old }
+    ensures { Adds today (requests_in blocks.now lists.now) drafts.old drafts.new result }
 {
     let [block, more @ ..] = blocks else {
         return Ok(());
@@ -140,28 +163,51 @@ fn add_blocks(
         return Ok(());
     };
     let targets = block.targets.as_slice();
-    add_filters(alloc, today, path, targets, terms.as_slice(), prepared)?;
-    add_blocks(alloc, today, path, more, others, prepared)
+    add_filters(alloc, today, targets, terms.as_slice(), drafts)?;
+    add_blocks(alloc, today, more, others, drafts)
 }
 
-/// The filters that the policy asks for that day, with their report under the path; or the first slip.
-pub fn prepare(alloc: Global, today: Day, path: &str, loaded: &Loaded) -> Result<Prepared, Refusal>
+fn no_filters(
+    alloc: Global,
+    kind: Kind,
+    output: &str,
+    policy: &str,
+) -> Result<FileDraft, Memory>
+    ensures { IfOk result (IsEmptyDraft (path_of kind output.now policy.now)) }
+{
+    Ok(FileDraft {
+        path: path_of(alloc, kind, output, policy)?,
+        filters: Items::new(alloc),
+        report: Whole::new(alloc),
+    })
+}
+
+fn no_files(alloc: Global, output: &str, policy: &str) -> Result<FileDrafts, Memory>
+    ensures { IfOk result (AreEmptyDrafts output.now policy.now) }
+{
+    Ok(FileDrafts {
+        cisco: no_filters(alloc, Kind::Cisco, output, policy)?,
+        juniper: no_filters(alloc, Kind::Juniper, output, policy)?,
+        iptables: no_filters(alloc, Kind::Iptables, output, policy)?,
+        nftables: no_filters(alloc, Kind::Nftables, output, policy)?,
+    })
+}
+
+/// The filters that the policy asks for that day, with their report, each in the file of its platform; or the first
+/// slip.
+pub fn prepare(
+    alloc: Global,
+    today: Day,
+    output: &str,
+    policy: &str,
+    loaded: &Loaded,
+) -> Result<FileDrafts, Refusal>
     requires { All IsBlock loaded.now.policy.blocks }
-    ensures { Prepares path.now today loaded.now result }
+    ensures { Prepares output.now policy.now today loaded.now result }
 {
     let blocks = loaded.policy.blocks.as_slice();
     check_platforms(alloc, blocks)?;
-    let mut prepared = Prepared {
-        filters: Items::new(alloc),
-        report: Whole::new(alloc),
-    };
-    add_blocks(
-        alloc,
-        today,
-        path,
-        blocks,
-        loaded.terms.as_slice(),
-        &mut prepared,
-    )?;
-    Ok(prepared)
+    let mut drafts = no_files(alloc, output, policy)?;
+    add_blocks(alloc, today, blocks, loaded.terms.as_slice(), &mut drafts)?;
+    Ok(drafts)
 }

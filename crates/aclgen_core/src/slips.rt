@@ -13,7 +13,8 @@ ghost use Rattle.aclgen_core.specs.FilterRequests.{
 };
 
 use acl_platform::{Filter, Limit, Rule, Test};
-use acl_policy::{Block, Kind, Sources, Target, label};
+use acl_policy::{Block, Sources, Target, label};
+use acl_render::is_rendered;
 use acl_text::{Bytes, Code, Fault, Memory, Place, Refusal, Slip};
 use std::alloc::Global;
 
@@ -49,15 +50,14 @@ fn refusal_at(alloc: Global, code: Code, place: Place, word: &[u8]) -> Refusal
     }
 }
 
-// A target of another platform than Cisco is a slip.
+// A target of a platform whose files are not written yet is a slip.
 fn check_target(alloc: Global, target: &Target) -> Result<(), Refusal>
     ensures { Judges result (target_slip target.now) }
 {
-    match target.kind {
-        Kind::Cisco => Ok(()),
-        Kind::Juniper | Kind::Iptables | Kind::Nftables => {
-            Err(refusal_at(alloc, Code::NotYet, target.place, b""))
-        }
+    if is_rendered(target.kind) {
+        Ok(())
+    } else {
+        Err(refusal_at(alloc, Code::NotYet, target.place, b""))
     }
 }
 
@@ -70,7 +70,7 @@ fn check_targets(alloc: Global, targets: &[Target]) -> Result<(), Refusal>
     Ok(())
 }
 
-/// Whether each target is one of Cisco, else the slip at the first that is not.
+/// Whether files are written for each target's platform, else the slip at the first target without.
 pub fn check_platforms(alloc: Global, blocks: &[Block]) -> Result<(), Refusal>
     ensures { Judges result (platform_slip blocks.now) }
 {

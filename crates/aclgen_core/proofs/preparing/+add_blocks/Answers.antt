@@ -1,24 +1,23 @@
-use Rattle.std.proofs.Common.{◌≡◌, true, List, [], None, rules, ap, sym, subst, ◌∙◌}
+use Rattle.std.proofs.Common.{◌≡◌, List, [], None, rules, ap, sym, subst, ◌∙◌}
 use Rattle.std.specs.List.{All}
 use Rattle.std.proofs.lemmas.List.Elements.{All-tail}
 use Rattle.acl_policy.specs.Conditions.{IsBlock}
 use Rattle.aclgen_core.specs.FilterRequests.{FilterRequest, block_requests, block_slip, platform_slip}
 use Rattle.aclgen_core.specs.PreparingSteps.{Adds}
-use Rattle.aclgen_core.proofs.PreparingLaws.{adds-append, adds-slip, blocks-are, first-none, first-rest}
+use Rattle.aclgen_core.proofs.PreparingLaws.{adds-append, adds-slip, blocks-are, first-none, first-rest, still-open}
 use Rattle.aclgen_core.proofs.preparing.+add_blocks.Goals as goal
 
 pub returns-in_err-add_filters : goal.returns-in_err-add_filters
 returns-in_err-add_filters t c =
-    let path = c.args.path.now in
     let today = c.args.today in
     let block = c.block-item.result in
     let terms = c.terms-item.result in
     let e = first-rest c.args.blocks.now block c.in-len1-up.len_at_least c.block-item.is in
     let f = first-rest c.args.lists.now terms c.in-len1-up-lists.len_at_least c.terms-item.is in
     let all = blocks-are _ block _ _ terms _ e f in
-    let P : List FilterRequest → Type 0 = λ rs. Adds path today rs c.args.prepared.now c.add_filters.new.prepared c.from_residual.result in
+    let P : List FilterRequest → Type 0 = λ rs. Adds today rs c.args.drafts.now c.add_filters.new.drafts c.from_residual.result in
     let first = rw (c.as_slice.ensures, c.as_slice-targets.ensures) at (c.add_filters.ensures block.terms) in
-    subst P (sym all) (adds-slip path today (block_requests block terms) _ _ _ c.in_err-add_filters.field-0.0 c.add_filters.result c.from_residual.result
+    subst P (sym all) (adds-slip today (block_requests block terms) _ _ _ c.in_err-add_filters.field-0.0 c.add_filters.result c.from_residual.result
     c.in_err-add_filters.was first c.from_residual.ensures.1)
 
 pub add_blocks-requires : goal.add_blocks-requires
@@ -29,18 +28,17 @@ add_blocks-requires t c =
     let none : platform_slip c.args.blocks.now ≡ None = assumption (c.requires) in
     let sound = All-tail IsBlock block _ (subst (All IsBlock) e all) in
     let handled = first-none (block_slip block) _ (sym (ap platform_slip e) ∙ none) in
-    let opened : c.add_filters.new.prepared.report.is_open ≡ true = (c.in_ok-add_filters.ensures []).opened in
+    let opened = still-open c.args.today _ _ _ (c.in_ok-add_filters.ensures []) in
     (search rules, (sound, (handled.1, opened)))
 
 pub returns : goal.returns
 returns t c =
-    let path = c.args.path.now in
     let today = c.args.today in
     let block = c.block-item.result in
     let terms = c.terms-item.result in
     let e = first-rest c.args.blocks.now block c.in-len1-up.len_at_least c.block-item.is in
     let f = first-rest c.args.lists.now terms c.in-len1-up-lists.len_at_least c.terms-item.is in
     let all = blocks-are _ block _ _ terms _ e f in
-    let P : List FilterRequest → Type 0 = λ rs. Adds path today rs c.args.prepared.now c.add_blocks.new.prepared c.add_blocks.result in
+    let P : List FilterRequest → Type 0 = λ rs. Adds today rs c.args.drafts.now c.add_blocks.new.drafts c.add_blocks.result in
     let first = rw (c.as_slice.ensures, c.as_slice-targets.ensures) at (c.in_ok-add_filters.ensures block.terms) in
-    subst P (sym all) (adds-append path today (block_requests block terms) _ _ _ _ c.add_blocks.result first c.add_blocks.ensures)
+    subst P (sym all) (adds-append today (block_requests block terms) _ _ _ _ c.add_blocks.result first c.add_blocks.ensures)

@@ -1,5 +1,5 @@
 use Rattle.std.proofs.Common.{◌∙◌}
-use Rattle.aclgen_core.proofs.Rows.{usage-keeps, fault-keeps, planned-keeps, outside-keeps}
+use Rattle.aclgen_core.proofs.Rows.{fault-keeps, memory-keeps, outside-keeps, planned-keeps, usage-keeps}
 use Rattle.aclgen_core.proofs.running.aclgen.Goals as goal
 
 pub returns-in-Usage : goal.returns-in-Usage
@@ -16,3 +16,6 @@ returns-in-Planned g c = planned-keeps _ _ _ _ _ _ _ _ _ _ _ c.in-Planned.ensure
 pub returns-in-Outside : goal.returns-in-Outside
 returns-in-Outside g c = outside-keeps _ _ _ _ _ _ _ _ _ c.requires c.in-Outside.ensures.seen c.in-Outside.ensures.so.0 c.in-Outside.ensures.so.1
     c.tell_outside.ensures.told c.tell_outside.ensures.ending
+
+pub returns-in-Memory : goal.returns-in-Memory
+returns-in-Memory g c = memory-keeps _ _ _ _ _ _ c.requires c.in-Memory.ensures.seen c.in-Memory.ensures.so

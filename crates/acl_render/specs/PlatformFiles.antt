@@ -1,0 +1,84 @@
+-- The file of a platform: what each filter counts and why one is not taken, the text of all of them, and what the
+-- platform's language makes of a text.
+use Rattle.std.specs.Prelude.{◌≡◌, ℕ, Bool, true, false, ◌==◌, List, [], map, slice_get, Option, None, IfSome}
+use Rattle.std.specs.List.{IsDistinct}
+use Rattle.acl_packet.specs.declared.filtering.Outcome.{Outcome}
+use Rattle.acl_packet.specs.declared.packets.Packet.{Packet}
+use Rattle.acl_target.specs.declared.targets.Kind.{Kind}
+use Rattle.acl_target.specs.declared.targets.Kind.TheVariants.{Cisco, Juniper, Iptables, Nftables}
+use Rattle.acl_target.specs.Clashes.{clash}
+use Rattle.acl_platform.specs.declared.filters.Filter.{Filter}
+use Rattle.acl_platform.specs.declared.filters.Limit.{Limit}
+use Rattle.acl_platform.specs.SoundFilters.{IsSound, target_of}
+use Rattle.cisco_lang.specs.Texts as cisco
+use Rattle.cisco_lang.specs.Walks as cisco_walks
+use Rattle.gen_cisco.specs.Limits as cisco_limits
+use Rattle.gen_cisco.specs.Sections as cisco_sections
+
+-- The platforms whose files are written.
+abbrev pub is_rendered : Kind → Bool
+is_rendered Cisco = true
+is_rendered Juniper = false
+is_rendered Iptables = false
+is_rendered Nftables = false
+
+-- ---- one filter
+
+-- Why the platform does not take the filter.
+abbrev pub limit_on : Kind → Filter → Option Limit
+limit_on Cisco f = cisco_limits.limit_of f
+limit_on Juniper f = None
+limit_on Iptables f = None
+limit_on Nftables f = None
+
+unfoldable pub limit_of : Filter → Option Limit
+limit_of f = limit_on f.kind f
+
+-- How many entries it has there.
+abbrev pub count_on : Kind → Filter → ℕ
+count_on Cisco f = cisco_sections.entry_count f
+count_on Juniper f = 0
+count_on Iptables f = 0
+count_on Nftables f = 0
+
+unfoldable pub count_of : Filter → ℕ
+count_of f = count_on f.kind f
+
+-- ---- several filters of a platform
+
+-- The text of the filters' sections, in order.
+abbrev pub text_on : Kind → List Filter → List ℕ
+text_on Cisco filters = cisco.text_of (map cisco_sections.section_of filters)
+text_on Juniper filters = []
+text_on Iptables filters = []
+text_on Nftables filters = []
+
+-- A filter of the platform that the platform takes.
+pub record IsTaken (kind : Kind) (f : Filter) : Type 0 where
+  pub kind_is : f.kind ≡ kind
+  pub sound : IsSound f
+  pub within : limit_on kind f ≡ None
+
+-- No two filters are for targets that clash, or that have one number.
+pub record AreApart (filters : List Filter) : Type 0 where
+  pub clash_not : IsDistinct clash (map (target_of false) filters)
+  pub numbers_differ : IsDistinct (λ (a b : Filter). a.number == b.number) filters
+
+-- ---- what a language makes of a text
+
+-- The text is one document of these sections, in order, and the section at a place decides packets as is asked of it
+-- there.
+pub record IsDocumentOf {S A : Type 0} (spells : List ℕ → List S → Type 0) (outcome : List S → ℕ → Packet → Option Outcome)
+    (decides_for : A → (Packet → Option Outcome) → Type 0) (text : List ℕ) (sections : List S) (asked : List A) : Type 0 where
+  pub spelled : spells text sections
+  pub decides : (k : ℕ) → IfSome (slice_get asked k) (λ a. decides_for a (outcome sections k))
+
+-- The platform's language accepts the text of the filters as one document, which has one section for each of them, in
+-- order; the section at a place decides packets as is asked of it there.
+abbrev pub IsAccepted : {A : Type 0} → Kind → (A → (Packet → Option Outcome) → Type 0) → List Filter → List A → Type 0
+IsAccepted Cisco decides_for filters asked =
+    IsDocumentOf cisco.Spells cisco_walks.outcome_of decides_for (text_on Cisco filters)
+    (map cisco_sections.section_of filters) asked
+IsAccepted Juniper decides_for filters asked = ⊥
+IsAccepted Iptables decides_for filters asked = ⊥
+IsAccepted Nftables decides_for filters asked = ⊥

@@ -1,0 +1,10 @@
+//! The file of each platform: filters in, the text that the platform's language accepts out.
+#![tactic(auto)]
+
+mod platforms;
+mod rendering;
+#[cfg(test)]
+mod tests;
+
+pub use platforms::{check, is_rendered};
+pub use rendering::render;

@@ -1,0 +1,31 @@
+ghost use Rattle.std.specs.Prelude.{◌≡◌, true};
+ghost use Rattle.acl_platform.specs.Platforms.{judged};
+ghost use Rattle.acl_platform.specs.SoundFilters.{IsSound};
+ghost use Rattle.acl_render.specs.PlatformFiles.{count_of, is_rendered, limit_of};
+
+use acl_platform::{Filter, Limit, Platform};
+use acl_target::Kind;
+use gen_cisco::Cisco;
+
+/// Whether aclgen writes files of the platform.
+pub fn is_rendered(kind: Kind) -> bool
+    ensures { result ≡ is_rendered kind }
+{
+    match kind {
+        Kind::Cisco => true,
+        Kind::Juniper | Kind::Iptables | Kind::Nftables => false,
+    }
+}
+
+/// The number of entries of the filter on its platform, or the first limit that it meets there.
+#[tactic(auto, unfolding(crate::specs::PlatformFiles::limit_of, crate::specs::PlatformFiles::count_of))]
+pub fn check(filter: &Filter) -> Result<u64, Limit>
+    requires rendered { is_rendered filter.now.kind ≡ true }
+    requires sound { IsSound filter.now }
+    ensures { result ≡ judged (limit_of filter.now) (count_of filter.now) }
+{
+    match filter.kind {
+        Kind::Cisco => Cisco.check(filter),
+        Kind::Juniper | Kind::Iptables | Kind::Nftables => Ok(0),
+    }
+}

@@ -1,0 +1,28 @@
+ghost use Rattle.std.specs.Prelude.{◌≡◌, true, IsTrue};
+ghost use Rattle.std.specs.List.{All};
+ghost use Rattle.acl_text.specs.Output.{Puts};
+ghost use Rattle.acl_platform.specs.Platforms.{DecidesAs};
+ghost use Rattle.acl_render.specs.PlatformFiles.{AreApart, IsAccepted, IsTaken, is_rendered, text_on};
+
+use acl_platform::{Filter, write_all};
+use acl_target::Kind;
+use acl_text::{Out, PutFault};
+use gen_cisco::Cisco;
+
+/// Puts the text of the platform's file: the one document whose sections are those of the filters, in order.
+///
+/// The section at a place decides the packets of its filter's families as that filter does.
+pub fn render<O: Out>(kind: Kind, filters: &[Filter], out: &mut O) -> Result<(), PutFault>
+    requires open { IsTrue (O.is_open out.old) }
+    requires rendered { is_rendered kind ≡ true }
+    requires taken { All (IsTaken kind) filters.now }
+    requires apart { AreApart filters.now }
+    ensures puts { Puts O.told O.faults O.refusals O.is_open O.keeps_rest out.old out.new
+        (text_on kind filters.now) result }
+    ensures accepted { IsAccepted kind DecidesAs filters.now filters.now }
+{
+    match kind {
+        Kind::Cisco => write_all(&Cisco, filters, out),
+        Kind::Juniper | Kind::Iptables | Kind::Nftables => Ok(()),
+    }
+}
