@@ -4,6 +4,7 @@
 mod least;
 mod range_pieces;
 mod sets;
+mod sweeps;
 #[cfg(test)]
 mod tests;
 

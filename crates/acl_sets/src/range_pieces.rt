@@ -5,13 +5,15 @@ use crate::sets::Range;
 use acl_text::Memory;
 use std::alloc::Global;
 
-fn is_before(range: Range, other: Range) -> bool
+/// Whether the range ends before the other begins, with a number between them.
+pub fn is_before(range: Range, other: Range) -> bool
     ensures { result ≡ is_before range other }
 {
     range.high < other.low && other.low - range.high > 1
 }
 
-fn joined(range: Range, other: Range) -> Range
+/// Two ranges that meet or touch, as one.
+pub fn joined(range: Range, other: Range) -> Range
     ensures { result ≡ joined range other }
 {
     Range {
