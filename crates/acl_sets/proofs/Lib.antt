@@ -10,3 +10,5 @@ pub mod HalvedSets
 pub mod HalvesFacts
 pub mod LeastListLaws
 pub mod ComputableLeastListLaws
+pub mod CutFacts
+pub mod LeastCuts

@@ -3,3 +3,4 @@ pub mod LeastLists
 pub mod ComputableSets
 pub mod ComputableLeastLists
 pub mod SweepSteps
+pub mod CutSteps

@@ -1,7 +1,7 @@
 -- What the walks over lists of ranges give, step by step: for private functions alone.
-use Rattle.std.specs.Prelude.{ℕ, ◌+◌, max, Bool, false, true, ◌&&◌, nat_le, nat_lt, if◌then◌else◌, List, [], ◌∷◌, ◌++◌}
+use Rattle.std.specs.Prelude.{nat_lt, if◌then◌else◌, List, [], ◌∷◌}
 use Rattle.acl_sets.specs.declared.sets.Range.{Range}
-use Rattle.acl_sets.specs.ComputableSets.{is_before, joined, below, shared}
+use Rattle.acl_sets.specs.ComputableSets.{is_before, joined}
 
 -- Ranges in rising order of their low ends, as a list in normal form: those that meet or touch are
 -- joined. The range r comes before the others.

@@ -1,5 +1,5 @@
 ghost use Rattle.std.specs.Prelude.{◌≡◌, ◌++◌, IfOk, OnOk, flat_map};
-ghost use Rattle.acl_sets.specs.ComputableSets.{is_before, joined, put_in, put_all, cut, cut_all, shared, shared_all, covers, meets, all_covered};
+ghost use Rattle.acl_sets.specs.ComputableSets.{is_before, joined, put_in, put_all, cut, cut_all, shared, shared_all, covers, all_covered};
 
 use crate::sets::Range;
 use acl_text::Memory;
@@ -122,13 +122,6 @@ pub fn covers(ranges: &[Range], low: u128, high: u128) -> bool
     ensures { result ≡ covers ranges.now low high }
 {
     ranges.iter().any(|r| r.low <= low && high <= r.high)
-}
-
-/// Whether some range has a number from `low` to `high`.
-pub fn meets(ranges: &[Range], low: u128, high: u128) -> bool
-    ensures { result ≡ meets ranges.now low high }
-{
-    ranges.iter().any(|r| r.low <= high && low <= r.high)
 }
 
 /// Whether each range lies in one of the others.
