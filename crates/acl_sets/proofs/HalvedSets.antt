@@ -286,7 +286,7 @@ shorter f set k a p t h m l r s =
     (has q p.first begins (omega (arith, size, holds_it)))
     (block_lies f set (suc j) b (omega (arith, t.fits)) lies)
 
-maximal_same : (f : Family) (set : ℕ → Bool) (k a : ℕ) (p : Prefix) → At f set k a
+pub maximal_same : (f : Family) (set : ℕ → Bool) (k a : ℕ) (p : Prefix) → At f set k a
     → LiesBlock set a (2 ^ k) → IsMaximal f set p → a ≤ p.first → p.first < a + 2 ^ k
     → block f k a ≡ p
 maximal_same f set k a p t h m l r = elim (cases_order (free_of p) k) [

@@ -1,9 +1,7 @@
--- The list that halving gives of a set as ranges: the steps of the code, and that it is the least
--- list.
-use Rattle.std.proofs.Common.{◌≡◌, ℕ, zero, suc, ◌+◌, ◌-◌, ◌^◌, ◌<◌, ◌≤◌, ◌⊎◌, true, false, List, [], ◌∷◌, ◌++◌, inl, inr, refl, ap, sym, subst, ◌∙◌, arith, append_assoc, append-nil}
+-- The list that halving gives of a set as ranges is the least list.
+use Rattle.std.proofs.Common.{◌≡◌, ℕ, zero, suc, ◌+◌, ◌^◌, ◌<◌, ◌≤◌, true, false, List, [], ◌∷◌, ◌++◌, inl, inr, refl, ap, sym, subst, ◌∙◌, arith}
 use Rattle.std.proofs.lemmas.Nat.{pow_pos}
 use Rattle.std.proofs.lemmas.Bool.{cases_Bool, both_ways, false_from_ne_true}
-use native.Mathlib.Numerals.{unary_clauses}
 use Rattle.acl_packet.specs.declared.addresses.Family.{Family}
 use Rattle.acl_packet.specs.declared.addresses.Prefix.{Prefix}
 use Rattle.acl_sets.specs.declared.sets.Range.{Range}
@@ -16,7 +14,7 @@ use Rattle.acl_sets.proofs.ComputableSetLaws.{covers-holds, holds-covers, misses
 use Rattle.acl_sets.proofs.BlockFacts.{LiesBlock}
 use Rattle.acl_sets.proofs.HalvedSets.{halved, halved-whole, halved-split, halved-none, halved-least}
 
--- The steps of the code
+-- The steps
 
 pub step_whole : (f : Family) (rs : List Range) (k a : ℕ) → covers rs a (last_of k a) ≡ true
     → halves f rs k a ≡ block f k a ∷ []
@@ -35,13 +33,6 @@ pub step_none : (f : Family) (rs : List Range) (k a : ℕ) → covers rs a (last
 unfolding halves
 step_none f rs zero a e m = rw e refl
 step_none f rs (suc k) a e m = rw (e, m) refl
-
-pub step_split : (f : Family) (rs : List Range) (k a : ℕ) → 0 < k
-    → covers rs a (last_of k a) ≡ false → meets rs a (last_of k a) ≡ true
-    → halves f rs k a ≡ halves f rs (k - 1) a ++ halves f rs (k - 1) (a + 2 ^ (k - 1))
-unfolding halves
-step_split f rs zero a h e m = absurd (omega arith)
-step_split f rs (suc k) a h e m = rw (e, m) (simp unary_clauses refl)
 
 -- The cases of a block
 
@@ -108,35 +99,3 @@ pub halves-least : (f : Family) (top : ℕ) (rs : List Range) → IsNormal 0 top
 halves-least f top rs n =
     let P : List Prefix → Type 0 = λ z. IsLeastList f (λ x. holds rs x) z in
     subst P (sym (halves-halved f top rs (width_of f) 0 n)) (halved-least f (λ x. holds rs x))
-
--- What the code has after both halves, and where it leaves a block
-
-pub after_halves : (f : Family) (rs : List Range) (k a : ℕ) (out mid new : List Prefix)
-    (last half : ℕ) → last ≡ last_of k a → covers rs a last ≡ false → 0 < k → meets rs a last ≡ true
-    → half ≡ 2 ^ (k - 1) → mid ≡ out ++ halves f rs (k - 1) a
-    → new ≡ mid ++ halves f rs (k - 1) (a + half) → new ≡ out ++ halves f rs k a
-after_halves f rs k a out mid new last half l c p m h i j =
-    let s = step_split f rs k a p (ap (λ z. covers rs a z) (sym l) ∙ c)
-    (ap (λ z. meets rs a z) (sym l) ∙ m) in
-    j ∙ ap (λ z. mid ++ halves f rs (k - 1) (a + z)) h ∙ ap
-    (λ z. z ++ halves f rs (k - 1) (a + 2 ^ (k - 1))) i
-    ∙ append_assoc out (halves f rs (k - 1) a) (halves f rs (k - 1) (a + 2 ^ (k - 1)))
-    ∙ ap (λ z. out ++ z) (sym s)
-
-pub left_out : (f : Family) (rs : List Range) (k a : ℕ) (out : List Prefix) (last : ℕ)
-    → last ≡ last_of k a → covers rs a last ≡ false → (k ≡ 0) ⊎ (meets rs a last ≡ false)
-    → out ≡ out ++ halves f rs k a
-left_out f rs k a out last l c (inl h) =
-    sym (ap (λ z. out ++ z) (step_point f rs k a h (ap (λ z. covers rs a z) (sym l) ∙ c))
-    ∙ append-nil out)
-left_out f rs k a out last l c (inr h) =
-    sym (ap (λ z. out ++ z) (step_none f rs k a (ap (λ z. covers rs a z) (sym l) ∙ c)
-    (ap (λ z. meets rs a z) (sym l) ∙ h)) ∙ append-nil out)
-
--- What the call of the code gives, put together
-pub given : (f : Family) (new out : List Prefix) (rs ranges : List Range) (width : ℕ)
-    → new ≡ out ++ halves f rs width 0 → out ≡ [] → rs ≡ ranges → width ≡ width_of f
-    → new ≡ halves f ranges (width_of f) 0
-given f new out rs ranges width e o r w =
-    e ∙ ap (λ z. z ++ halves f rs width 0) o ∙ ap (λ z. halves f z width 0) r
-    ∙ ap (λ z. halves f ranges z 0) w

@@ -1,6 +1,7 @@
 pub mod RangeLaws
 pub mod SetFacts
 pub mod ComputableSetLaws
+pub mod SweepFacts
 pub mod TwoSets
 pub mod Powers
 pub mod BlockFacts
@@ -9,3 +10,5 @@ pub mod HalvedSets
 pub mod HalvesFacts
 pub mod LeastListLaws
 pub mod ComputableLeastListLaws
+pub mod CutFacts
+pub mod LeastCuts

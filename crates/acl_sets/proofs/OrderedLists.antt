@@ -13,7 +13,7 @@ member_cases q qs p (suc k, l, e) = inr (k, omega arith, e)
 member_head : (p : Prefix) (ps : List Prefix) → Contains (p ∷ ps) p
 member_head p ps = (0, omega arith, refl)
 
-member_tail : (q : Prefix) (qs : List Prefix) (p : Prefix) → Contains qs p → Contains (q ∷ qs) p
+pub member_tail : (q : Prefix) (qs : List Prefix) (p : Prefix) → Contains qs p → Contains (q ∷ qs) p
 member_tail q qs p h = (suc h.0, omega (arith, h.1), h.2)
 
 no_member : (p : Prefix) → Contains [] p → ⊥

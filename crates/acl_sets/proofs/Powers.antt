@@ -57,3 +57,13 @@ pub right_aligned : (k a : ℕ) → Aligned (suc k) a → Aligned k (a + 2 ^ k)
 right_aligned k a h =
     let e : h.0 * 2 ^ suc k ≡ h.0 * (2 ^ k + 2 ^ k) = ap (λ z. h.0 * z) (two-pow-succ k) in
     (h.0 + h.0 + 1, omega (arith, h.1, e))
+
+-- a multiple of a larger power is one of a smaller
+pub shorter_aligned : (j k a : ℕ) → j ≤ k → Aligned k a → Aligned j a
+shorter_aligned j k a l h =
+    let e : k - j + j ≡ k = omega arith in
+    let power : 2 ^ k ≡ 2 ^ (k - j) * 2 ^ j = sym (ap (λ z. 2 ^ z) e) ∙ pow-add 2 (k - j) j in
+    (h.0 * 2 ^ (k - j), h.1 ∙ ap (λ z. h.0 * z) power ∙ sym (mul_assoc h.0 (2 ^ (k - j)) (2 ^ j)))
+
+pub power_doubles : (k : ℕ) → 2 ^ (k + 1) ≡ 2 ^ k + 2 ^ k
+power_doubles k = let e : k + 1 ≡ suc k = omega arith in ap (λ z. 2 ^ z) e ∙ two-pow-succ k

@@ -86,7 +86,7 @@ flat_holds c b x h f top (q ∷ qs) n =
 
 -- Union
 
-joined-inside : (a b c d x : ℕ) → a ≤ b → c ≤ d → a ≤ d + 1 → c ≤ b + 1
+pub joined-inside : (a b c d x : ℕ) → a ≤ b → c ≤ d → a ≤ d + 1 → c ≤ b + 1
     → (nat_le (min a c) x && nat_le x (max b d)) ≡ ((nat_le a x && nat_le x b) ||
     (nat_le c x && nat_le x d))
 joined-inside a b c d x h k l m = grind (arith, nat_tests)

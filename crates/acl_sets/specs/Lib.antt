@@ -2,3 +2,5 @@ pub mod Ranges
 pub mod LeastLists
 pub mod ComputableSets
 pub mod ComputableLeastLists
+pub mod SweepSteps
+pub mod CutSteps

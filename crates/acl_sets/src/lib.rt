@@ -1,9 +1,11 @@
 //! Sets of whole numbers, and the least lists of prefixes of sets of addresses.
 #![tactic(auto)]
 
+mod cuts;
 mod least;
 mod range_pieces;
 mod sets;
+mod sweeps;
 #[cfg(test)]
 mod tests;
 

@@ -1,17 +1,19 @@
 ghost use Rattle.std.specs.Prelude.{◌≡◌, ◌++◌, IfOk, OnOk, flat_map};
-ghost use Rattle.acl_sets.specs.ComputableSets.{is_before, joined, put_in, put_all, cut, cut_all, shared, shared_all, covers, meets, all_covered};
+ghost use Rattle.acl_sets.specs.ComputableSets.{is_before, joined, put_in, put_all, cut, cut_all, shared, shared_all, covers, all_covered};
 
 use crate::sets::Range;
 use acl_text::Memory;
 use std::alloc::Global;
 
-fn is_before(range: Range, other: Range) -> bool
+/// Whether the range ends before the other begins, with a number between them.
+pub fn is_before(range: Range, other: Range) -> bool
     ensures { result ≡ is_before range other }
 {
     range.high < other.low && other.low - range.high > 1
 }
 
-fn joined(range: Range, other: Range) -> Range
+/// Two ranges that meet or touch, as one.
+pub fn joined(range: Range, other: Range) -> Range
     ensures { result ≡ joined range other }
 {
     Range {
@@ -120,13 +122,6 @@ pub fn covers(ranges: &[Range], low: u128, high: u128) -> bool
     ensures { result ≡ covers ranges.now low high }
 {
     ranges.iter().any(|r| r.low <= low && high <= r.high)
-}
-
-/// Whether some range has a number from `low` to `high`.
-pub fn meets(ranges: &[Range], low: u128, high: u128) -> bool
-    ensures { result ≡ meets ranges.now low high }
-{
-    ranges.iter().any(|r| r.low <= high && low <= r.high)
 }
 
 /// Whether each range lies in one of the others.

@@ -4,6 +4,7 @@ ghost use Rattle.acl_sets.specs.Ranges.{holds, IsRange, IsNormal, OneNormalList}
 ghost use Rattle.acl_sets.specs.ComputableSets.{put_all, cut_all, shared_all, is_all, all_covered};
 
 use crate::range_pieces;
+use crate::sweeps;
 use acl_text::Memory;
 use std::alloc::Global;
 use std::marker::Model;
@@ -72,9 +73,10 @@ impl RangeSet {
         ensures exact { IfOk result (λ s. (x : ℕ) → holds s.ranges x ≡ holds ranges.now x) }
         ensures computed { IfOk result (λ s. s.ranges ≡ put_all ranges.now []) }
     {
+        let sorted = sweeps::sorted(alloc, ranges)?;
         Ok(RangeSet {
             limit: top,
-            list: range_pieces::put_all(alloc, &[], ranges)?,
+            list: sweeps::merged(alloc, &sorted)?,
         })
     }
 

@@ -1,10 +1,11 @@
-use Rattle.std.proofs.Common.{List, sym, subst}
-use Rattle.acl_packet.specs.declared.addresses.Prefix.{Prefix}
-use Rattle.acl_sets.specs.Ranges.{holds}
-use Rattle.acl_sets.specs.LeastLists.{IsLeastList}
+use Rattle.std.proofs.Common.{◌≡◌, ◌-◌, ◌^◌, ℕ, List, subst, arith}
+use Rattle.acl_packet.specs.Addresses.{width_of}
+use Rattle.acl_sets.specs.declared.sets.Range.{Range}
+use Rattle.acl_sets.specs.Ranges.{holds, IsNormal}
+use Rattle.acl_sets.specs.CutSteps.{CutsAll}
 use Rattle.acl_sets.proofs.LeastListLaws.{least_list-prefixes, least_list-holds, least_list-fewest, normal-addresses}
-use Rattle.acl_sets.proofs.ComputableLeastListLaws.{halved_space-least}
-use Rattle.acl_sets.proofs.HalvesFacts.{given}
+use Rattle.acl_sets.proofs.ComputableLeastListLaws.{least_list-computed}
+use Rattle.acl_sets.proofs.LeastCuts.{cuts-least}
 use Rattle.acl_sets.proofs.least.least_prefixes.Goals as goal
 
 pub returns : goal.returns
@@ -12,17 +13,17 @@ returns c =
     let f = c.args.family in
     let top = c.args.set.now.top in
     let ranges = c.args.set.now.ranges in
-    let ps = c.push_halves.new.out in
-    let computed = given f ps c.new-prefixes.result c.ranges-2.result.now ranges c.width.result
-    c.in_ok-push_halves.ensures c.new-prefixes.ensures c.ranges-2.ensures.list c.width.ensures in
-    let P : List Prefix → Type 0 = λ z. IsLeastList f (λ a. holds ranges a) z in
-    let least = subst P (sym computed)
-    (halved_space-least f top ranges c.ranges-2.ensures.normal) in
+    let ps = c.in_ok-prefixes.prefixes in
+    let last : top ≡ 2 ^ width_of f - 1 = omega (arith, c.requires) in
+    let N : ℕ → Type 0 = λ z. IsNormal 0 z ranges in
+    let C : List Range → Type 0 = λ z. CutsAll f z ps in
+    let least = cuts-least f ranges ps (subst N last c.ranges-2.ensures.normal)
+    (subst C c.ranges-2.ensures.list c.in_ok-prefixes.ensures) in
     let addresses = normal-addresses f top ranges c.ranges-2.ensures.normal c.requires in
     record {
       least = least;
       prefixes = least_list-prefixes f (λ a. holds ranges a) ps least;
       exact = least_list-holds f (λ a. holds ranges a) ps addresses least;
       fewest = least_list-fewest f (λ a. holds ranges a) ps least;
-      computed = computed;
+      computed = least_list-computed f top ranges ps c.ranges-2.ensures.normal least;
     }

@@ -1,0 +1,70 @@
+ghost use Rattle.std.specs.Prelude.{◌≡◌, ◌+◌, ◌-◌, ◌^◌, ◌<◌, ◌≤◌, IfOk, OnOk};
+ghost use Rattle.acl_packet.specs.Addresses.{width_of};
+ghost use Rattle.acl_sets.specs.Ranges.{IsNormal};
+ghost use Rattle.acl_sets.specs.CutSteps.{IsLongest, GoesOn, CutsAll};
+
+use crate::least::Prefixes;
+use crate::sets::Range;
+use acl_packet::{Family, Prefix};
+use acl_text::{Items, Memory};
+use std::alloc::Global;
+
+/// A block of numbers whose count is a power of two: the bits that are free in it, and its end.
+#[derive(Drop)]
+struct Block {
+    free: u8,
+    last: u128,
+}
+
+/// The longest block from one number to another at most, beginning at a multiple of its size.
+fn longest_block(first: u128, last: u128) -> Block
+    requires { first ≤ last }
+    ensures longest { IsLongest first last result.free }
+    ensures last { result.last + 1 ≡ first + 2 ^ result.free }
+{
+    let span = last - first;
+    let mut free = 0;
+    let mut behind = 0;
+    let mut multiple = first;
+    while multiple % 2 == 0 && behind < span - behind {
+        free += 1;
+        behind += behind + 1;
+        multiple /= 2;
+    }
+    Block {
+        free,
+        last: first + behind,
+    }
+}
+
+fn push_cuts(out: &mut Prefixes, range: Range, family: Family) -> Result<(), Memory>
+    requires some { range.low ≤ range.high }
+    requires fits { range.high < 2 ^ width_of family }
+    ensures { OnOk result (GoesOn family range out.old out.new) }
+{
+    let mut first = range.low;
+    loop {
+        let block = longest_block(first, range.high);
+        out.push(Prefix {
+            family,
+            first,
+            len: family.width() - block.free,
+        })?;
+        if block.last == range.high {
+            return Ok(());
+        }
+        first = block.last + 1;
+    }
+}
+
+/// The blocks of each range, cut from its low end.
+pub fn cut_ranges(alloc: Global, ranges: &[Range], family: Family) -> Result<Prefixes, Memory>
+    requires { IsNormal 0 (2 ^ width_of family - 1) ranges.now }
+    ensures { IfOk result (λ ps. CutsAll family ranges.now ps) }
+{
+    let mut prefixes = Items::new(alloc);
+    for range in ranges {
+        push_cuts(&mut prefixes, *range, family)?;
+    }
+    Ok(prefixes)
+}
