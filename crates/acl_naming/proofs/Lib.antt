@@ -1,6 +1,7 @@
 pub mod CheckLaws
 pub mod GraphLaws
 pub mod MarkLaws
+pub mod OrderedPorts
 pub mod ReachLaws
 pub mod ReadLaws
 pub mod TableLaws

@@ -6,6 +6,7 @@ pub mod ItemWords
 pub mod LookupSteps
 pub mod MarkSteps
 pub mod NamingFiles
+pub mod PortLaws
 pub mod Ports
 pub mod Reach
 pub mod SettlingSteps

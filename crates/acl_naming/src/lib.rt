@@ -18,5 +18,8 @@ mod tables;
 mod tests;
 
 pub use bases::{Base, Checked, check, networks_of, ports_of, read_networks, read_services};
-pub use laws::{addresses_are_computed, ports_are_computed, reach_is_computed};
+pub use laws::{
+    addresses_are_computed, ordered_ports_are_some, port_order_is_kept, ports_are_computed,
+    reach_is_computed,
+};
 pub use lookups::Lookup;
