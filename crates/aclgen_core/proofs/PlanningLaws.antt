@@ -225,7 +225,7 @@ apart-on today n policy lists kind is resolved =
     let targets = all-targets n policy.blocks lists resolved in
     let clashes = distinct-back (λ (r : FilterRequest). r.target) clash rs (subst (IsDistinct clash) (sym targets) (no-clash [] (targets_of policy.blocks) is.targets_stand)) in
     let numbers = distinct-back (λ (r : FilterRequest). r.target) same_number rs
-        (subst (IsDistinct same_number) (sym targets) (pairs-distinct (targets_of policy.blocks) is.numbers_differ)) in
+    (subst (IsDistinct same_number) (sym targets) (pairs-distinct (targets_of policy.blocks) is.numbers_differ)) in
     record {
       clash_not = clash-not today (requests_on kind rs) (distinct-on kind (λ r s. clash r.target s.target) rs clashes);
       numbers_differ = numbers-differ today kind (requests_on kind rs) (all-on kind (λ r. Unit {0}) (λ r. r.target.kind ≡ kind) (λ r e _. e) rs (any rs))
@@ -372,10 +372,10 @@ is-planned o today loaded drafts work p w resolved =
     let all = requests_of loaded in
     let path : Kind → List ℕ = λ k. path_of k o.output o.policy in
     let text : (k : Kind) → texts_on drafts k ≡ map (file_of today) (files_on o all k) = λ k.
-        ap (λ q. text_with k q (draft_on k drafts).filters) (p.each k).path_is
-        ∙ ap (text_with k (path k)) (p.each k).filters_are ∙ one-text k (path k) today (requests_on k all) in
+    ap (λ q. text_with k q (draft_on k drafts).filters) (p.each k).path_is
+    ∙ ap (text_with k (path k)) (p.each k).filters_are ∙ one-text k (path k) today (requests_on k all) in
     let line : (k : Kind) → (draft_on k drafts).report.bytes ≡ flat_map (file_report today) (files_on o all k) = λ k.
-        (p.each k).report_is ∙ one-report k (path k) today (requests_on k all) in
+    (p.each k).report_is ∙ one-report k (path k) today (requests_on k all) in
     let resolved-all = resolved-requests loaded.definitions loaded.policy.blocks loaded.terms resolved in
     record {
       plan_is = ap (λ s. or_slip loaded.sources.labels s (plan_of o today loaded)) p.slip_is;

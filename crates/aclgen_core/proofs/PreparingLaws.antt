@@ -132,12 +132,12 @@ off-it here kind r e apart =
 -- Nothing is added.
 stays : (today : Day) (here kind : Kind) (r : FilterRequest) (draft : FileDraft) → r.target.kind ≡ here → same_kind here kind ≡ false
     → draft.report.is_open ≡ true → AddsTo today (requests_on kind (r ∷ [])) draft draft
-stays today here kind r draft e apart open =
+stays today here kind r draft e apart ready =
     subst (λ rs. AddsTo today rs draft draft) (sym (off-it here kind r e apart)) (record {
       path_stays = refl;
       filters_are = sym (append-nil draft.filters);
       report_is = sym (append-nil draft.report.bytes);
-      opened = open;
+      opened = ready;
     })
 
 -- One is added.
@@ -159,56 +159,56 @@ one-taken today r f entries old new checks each =
 
 pub to-cisco : (today : Day) (r : FilterRequest) (f : Filter) (entries : ℕ) (old : FileDrafts) (new : FileDraft) → r.target.kind ≡ Cisco → AreOpen old
     → ChecksFilter today r f entries → AddsOne r.target f entries old.cisco new → AddsAll today (r ∷ []) old (record old { cisco = new })
-to-cisco today r f entries old new e open checks adds = one-taken today r f entries old (record old { cisco = new }) checks each
+to-cisco today r f entries old new e ready checks adds = one-taken today r f entries old (record old { cisco = new }) checks each
   where
     each : (kind : Kind) → AddsTo today (requests_on kind (r ∷ [])) (draft_on kind old) (draft_on kind (record old { cisco = new }))
     each Cisco = goes today Cisco r f entries old.cisco new e checks adds
-    each Juniper = stays today Cisco Juniper r old.juniper e refl (open Juniper)
-    each Iptables = stays today Cisco Iptables r old.iptables e refl (open Iptables)
-    each Nftables = stays today Cisco Nftables r old.nftables e refl (open Nftables)
+    each Juniper = stays today Cisco Juniper r old.juniper e refl (ready Juniper)
+    each Iptables = stays today Cisco Iptables r old.iptables e refl (ready Iptables)
+    each Nftables = stays today Cisco Nftables r old.nftables e refl (ready Nftables)
 
 pub to-juniper : (today : Day) (r : FilterRequest) (f : Filter) (entries : ℕ) (old : FileDrafts) (new : FileDraft) → r.target.kind ≡ Juniper → AreOpen old
     → ChecksFilter today r f entries → AddsOne r.target f entries old.juniper new → AddsAll today (r ∷ []) old (record old { juniper = new })
-to-juniper today r f entries old new e open checks adds = one-taken today r f entries old (record old { juniper = new }) checks each
+to-juniper today r f entries old new e ready checks adds = one-taken today r f entries old (record old { juniper = new }) checks each
   where
     each : (kind : Kind) → AddsTo today (requests_on kind (r ∷ [])) (draft_on kind old) (draft_on kind (record old { juniper = new }))
-    each Cisco = stays today Juniper Cisco r old.cisco e refl (open Cisco)
+    each Cisco = stays today Juniper Cisco r old.cisco e refl (ready Cisco)
     each Juniper = goes today Juniper r f entries old.juniper new e checks adds
-    each Iptables = stays today Juniper Iptables r old.iptables e refl (open Iptables)
-    each Nftables = stays today Juniper Nftables r old.nftables e refl (open Nftables)
+    each Iptables = stays today Juniper Iptables r old.iptables e refl (ready Iptables)
+    each Nftables = stays today Juniper Nftables r old.nftables e refl (ready Nftables)
 
 pub to-iptables : (today : Day) (r : FilterRequest) (f : Filter) (entries : ℕ) (old : FileDrafts) (new : FileDraft) → r.target.kind ≡ Iptables → AreOpen old
     → ChecksFilter today r f entries → AddsOne r.target f entries old.iptables new → AddsAll today (r ∷ []) old (record old { iptables = new })
-to-iptables today r f entries old new e open checks adds = one-taken today r f entries old (record old { iptables = new }) checks each
+to-iptables today r f entries old new e ready checks adds = one-taken today r f entries old (record old { iptables = new }) checks each
   where
     each : (kind : Kind) → AddsTo today (requests_on kind (r ∷ [])) (draft_on kind old) (draft_on kind (record old { iptables = new }))
-    each Cisco = stays today Iptables Cisco r old.cisco e refl (open Cisco)
-    each Juniper = stays today Iptables Juniper r old.juniper e refl (open Juniper)
+    each Cisco = stays today Iptables Cisco r old.cisco e refl (ready Cisco)
+    each Juniper = stays today Iptables Juniper r old.juniper e refl (ready Juniper)
     each Iptables = goes today Iptables r f entries old.iptables new e checks adds
-    each Nftables = stays today Iptables Nftables r old.nftables e refl (open Nftables)
+    each Nftables = stays today Iptables Nftables r old.nftables e refl (ready Nftables)
 
 pub to-nftables : (today : Day) (r : FilterRequest) (f : Filter) (entries : ℕ) (old : FileDrafts) (new : FileDraft) → r.target.kind ≡ Nftables → AreOpen old
     → ChecksFilter today r f entries → AddsOne r.target f entries old.nftables new → AddsAll today (r ∷ []) old (record old { nftables = new })
-to-nftables today r f entries old new e open checks adds = one-taken today r f entries old (record old { nftables = new }) checks each
+to-nftables today r f entries old new e ready checks adds = one-taken today r f entries old (record old { nftables = new }) checks each
   where
     each : (kind : Kind) → AddsTo today (requests_on kind (r ∷ [])) (draft_on kind old) (draft_on kind (record old { nftables = new }))
-    each Cisco = stays today Nftables Cisco r old.cisco e refl (open Cisco)
-    each Juniper = stays today Nftables Juniper r old.juniper e refl (open Juniper)
-    each Iptables = stays today Nftables Iptables r old.iptables e refl (open Iptables)
+    each Cisco = stays today Nftables Cisco r old.cisco e refl (ready Cisco)
+    each Juniper = stays today Nftables Juniper r old.juniper e refl (ready Juniper)
+    each Iptables = stays today Nftables Iptables r old.iptables e refl (ready Iptables)
     each Nftables = goes today Nftables r f entries old.nftables new e checks adds
 
 -- ---- several filters
 
 no-filters : (today : Day) (draft : FileDraft) → draft.report.is_open ≡ true → AddsTo today [] draft draft
-no-filters today draft open = record {
+no-filters today draft ready = record {
   path_stays = refl;
   filters_are = sym (append-nil draft.filters);
   report_is = sym (append-nil draft.report.bytes);
-  opened = open;
+  opened = ready;
 }
 
 pub adds-none : {X : Type 0} (today : Day) (drafts : FileDrafts) (x : X) → AreOpen drafts → Adds {X} today [] drafts drafts (Ok x)
-adds-none today drafts x open = record { slip_is = refl; each = λ kind. no-filters today (draft_on kind drafts) (open kind); taken = tt }
+adds-none today drafts x ready = record { slip_is = refl; each = λ kind. no-filters today (draft_on kind drafts) (ready kind); taken = tt }
 
 pub still-open : (today : Day) (rs : List FilterRequest) (old new : FileDrafts) → AddsAll today rs old new → AreOpen new
 still-open today rs old new h = λ kind. (h.each kind).opened

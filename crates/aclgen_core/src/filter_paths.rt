@@ -47,12 +47,7 @@ fn ending_of(kind: Kind) -> &'static str
 /// The path of the file of the platform's filters: in the output folder, under the policy's own name with the
 /// platform's ending.
 #[tactic(auto, unfolding(crate::specs::FilterPaths::path_of))]
-pub fn path_of(
-    alloc: Global,
-    kind: Kind,
-    output: &str,
-    policy: &str,
-) -> Result<String, AllocError>
+pub fn path_of(alloc: Global, kind: Kind, output: &str, policy: &str) -> Result<String, AllocError>
     ensures { IfOk result (λ path. string_bytes path ≡ path_of kind output.now policy.now) }
 {
     let parts = parts_of(alloc, policy)?;

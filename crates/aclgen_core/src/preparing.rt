@@ -167,12 +167,7 @@ fn add_blocks(
     add_blocks(alloc, today, more, others, drafts)
 }
 
-fn no_filters(
-    alloc: Global,
-    kind: Kind,
-    output: &str,
-    policy: &str,
-) -> Result<FileDraft, Memory>
+fn no_filters(alloc: Global, kind: Kind, output: &str, policy: &str) -> Result<FileDraft, Memory>
     ensures { IfOk result (IsEmptyDraft (path_of kind output.now policy.now)) }
 {
     Ok(FileDraft {
