@@ -1,0 +1,137 @@
+-- The section of an accepted filter is a document: proved here, and need not be believed.
+use Rattle.std.proofs.Common.{◌≡◌, ℕ, ◌≤◌, Bool, true, false, cond, nat_lt, lit≤, List, [], ◌∷◌, ◌++◌, length, map, flat_map, codes, Option, None, Some, refl, ap, sym, subst, ◌∙◌}
+use Rattle.std.specs.List.{AllByRecursion, IsDistinct}
+use Rattle.std.specs.Str.{bytes_eq}
+use Rattle.acl_packet.specs.declared.addresses.Families.{Families}
+use Rattle.acl_packet.specs.declared.addresses.Family.{Family}
+use Rattle.acl_packet.specs.declared.addresses.Family.TheVariants.{V4, V6}
+use Rattle.acl_grammar.specs.Naming.{in_common}
+use Rattle.acl_target.specs.declared.targets.Kind.TheVariants.{Juniper}
+use Rattle.acl_target.specs.Clashes.{is_mixed}
+use Rattle.acl_platform.specs.declared.filters.Filter.{Filter}
+use Rattle.acl_platform.specs.declared.filters.Limit.TheVariants.{NameLength, NameClash, Unsupported}
+use Rattle.acl_platform.specs.declared.rules.Rule.{Rule}
+use Rattle.acl_platform.specs.Limits.{is_name_taken, names_sctp_ports}
+use Rattle.acl_platform.specs.Platforms.{IsAccepted}
+use Rattle.acl_platform.specs.SoundFilters.{IsSoundRule}
+use Rattle.acl_platform.proofs.AcceptedFilters.{names-differ, not-limited, rules-are, rules-within, short-name, target-fits}
+use Rattle.junos_lang.specs.declared.documents.Section.{Section}
+use Rattle.junos_lang.specs.Documents.{is_empty, IsTerm, name_of, names_of}
+use Rattle.junos_lang.specs.Texts.{Spells, text_of}
+use Rattle.junos_lang.proofs.JoinLaws.{joined_documents}
+use Rattle.gen_junos.specs.DecisionLaws.{one-family}
+use Rattle.gen_junos.specs.Limits.{is_for_junos, limit_of, rule_limit}
+use Rattle.gen_junos.specs.SectionNames.{names}
+use Rattle.gen_junos.specs.Sections.{default_term, entry_count, family_of, section_of, term_of, terms_of}
+use Rattle.gen_junos.specs.TermLaws.{term-is}
+
+-- ---- a rule without a limit
+
+record IsWithin (earlier : List Rule) (r : Rule) : Type 0 where
+  short : length r.name ≤ 64
+  new : is_name_taken earlier r ≡ false
+  supported : names_sctp_ports r ≡ false
+
+rule-within : (earlier : List Rule) (r : Rule) → rule_limit earlier r ≡ None → IsWithin earlier r
+rule-within earlier r h =
+    let place = length earlier in
+    let last = cond (names_sctp_ports r) (Some (Unsupported place)) None in
+    let name = not-limited (nat_lt 64 (length r.name)) (NameLength place) (cond (is_name_taken earlier r) (Some (NameClash place)) last) h in
+    let clash = not-limited (is_name_taken earlier r) (NameClash place) last name.1 in
+    record {
+      short = short-name 64 (length r.name) name.0;
+      new = clash.0;
+      supported = (not-limited (names_sctp_ports r) (Unsupported place) None clash.1).0;
+    }
+
+abbrev IsSayable : Rule → Type 0
+IsSayable r = (length r.name ≤ 64) × (names_sctp_ports r ≡ false)
+
+rules-sayable : (f : Filter) → limit_of f ≡ None → AllByRecursion IsSayable f.rules
+rules-sayable f h =
+    rules-within rule_limit IsSayable (λ earlier r k. let w = rule-within earlier r k in (w.short, w.supported)) (entry_count f) f h
+
+-- ---- terms
+
+terms-valid : (fs : Families) (rules : List Rule) → is_mixed fs ≡ false → AllByRecursion (IsSoundRule Juniper fs) rules → AllByRecursion IsSayable rules
+    → AllByRecursion (IsTerm (family_of fs)) (map term_of rules)
+terms-valid fs [] m h w = tt
+terms-valid fs (r ∷ rules) m h w =
+    (subst (λ f. IsTerm f (term_of r)) (one-family fs r.family m h.0.family) (term-is fs r h.0 w.0.0 w.0.1), terms-valid fs rules m h.1 w.1)
+
+default-is : (f : Family) → IsTerm f default_term
+default-is V4 = record {
+  noted = tt;
+  named = refl;
+  sources = tt;
+  destinations = tt;
+  protocols = tt;
+  source_ports = tt;
+  destination_ports = tt;
+  icmp_types = tt;
+  fit = refl;
+}
+default-is V6 = record {
+  noted = tt;
+  named = refl;
+  sources = tt;
+  destinations = tt;
+  protocols = tt;
+  source_ports = tt;
+  destination_ports = tt;
+  icmp_types = tt;
+  fit = refl;
+}
+
+all-valid : (fs : Families) (rules : List Rule) → is_mixed fs ≡ false → AllByRecursion (IsSoundRule Juniper fs) rules → AllByRecursion IsSayable rules
+    → AllByRecursion (IsTerm (family_of fs)) (terms_of rules)
+all-valid fs [] m h w = (default-is (family_of fs), tt)
+all-valid fs (r ∷ rules) m h w = terms-valid fs (r ∷ rules) m h w
+
+some-term : (rules : List Rule) → is_empty (terms_of rules) ≡ false
+some-term [] = refl
+some-term (r ∷ rules) = refl
+
+same-names : (rules : List Rule) → map (λ r. r.name) rules ≡ map (λ t. t.name) (map term_of rules)
+same-names [] = refl
+same-names (r ∷ rules) = ap (λ ns. r.name ∷ ns) (same-names rules)
+
+terms-differ : (rules : List Rule) → IsDistinct bytes_eq (map (λ r. r.name) rules) → IsDistinct bytes_eq (map (λ t. t.name) (terms_of rules))
+unfolding IsDistinct
+terms-differ [] h = (tt, tt)
+terms-differ (r ∷ rules) h = subst (IsDistinct bytes_eq) (same-names (r ∷ rules)) h
+
+-- ---- the section
+
+pub section_is_spelled : (f : Filter) → IsAccepted is_for_junos limit_of f → Spells (text_of (section_of f ∷ [])) (section_of f ∷ [])
+unfolding IsDistinct
+section_is_spelled f h =
+    let target = (target-fits Juniper limit_of f h).1 in
+    record {
+      valid = record {
+        sections = (
+          record {
+            named = target.0.name_is;
+            has_terms = some-term f.rules;
+            terms = all-valid f.families f.rules target.1 (rules-are Juniper limit_of f h) (rules-sayable f h.within);
+            terms_differ = terms-differ f.rules
+                (names-differ rule_limit (λ earlier r k. (rule-within earlier r k).new) (entry_count f) f h.within);
+          },
+          tt,
+        );
+        names_differ = (tt, tt);
+      };
+      written = refl;
+    }
+
+-- ---- joined documents
+
+pub each-name : (doc : List Section) → flat_map names doc ≡ names_of doc
+each-name [] = refl
+each-name (s ∷ doc) = ap (λ ns. name_of s ∷ ns) (each-name doc)
+
+pub joined_are_spelled : (bytes more : List ℕ) (a b : List Section) → Spells bytes a → Spells more b
+    → in_common (flat_map names a) (flat_map names b) ≡ false → Spells (bytes ++ more) (a ++ b)
+joined_are_spelled bytes more a b h k n =
+    joined_documents bytes more a b h k
+    (ap (λ ns. in_common ns (names_of b)) (sym (each-name a)) ∙ ap (in_common (flat_map names a)) (sym (each-name b)) ∙ n)

@@ -1,0 +1,35 @@
+-- What the sections of filters begin with, and how they are named, by the filters' targets.
+use Rattle.std.specs.Prelude.{◌≡◌, Bool, List, [], ◌∷◌, ◌++◌, ℕ, map, flat_map, codes}
+use Rattle.std.specs.List.{AllByRecursion, IsDistinct}
+use Rattle.std.specs.Str.{bytes_eq}
+use Rattle.acl_grammar.specs.Rows.{text_of_rows}
+use Rattle.acl_target.specs.declared.targets.Kind.TheVariants.{Juniper}
+use Rattle.acl_target.specs.declared.targets.Target.{Target}
+use Rattle.acl_target.specs.Clashes.{clash, is_mixed}
+use Rattle.acl_target.specs.TargetTexts.{target_text}
+use Rattle.acl_platform.specs.declared.filters.Filter.{Filter}
+use Rattle.acl_platform.specs.SoundFilters.{target_of}
+use Rattle.junos_lang.specs.declared.documents.Section.{Section}
+use Rattle.junos_lang.specs.Documents.{name_of}
+use Rattle.junos_lang.specs.Texts.{text_of}
+use Rattle.gen_junos.specs.Sections.{section_of}
+
+-- The one name that a section takes in its document.
+abbrev pub names : Section → List (List ℕ)
+names s = name_of s ∷ []
+
+-- A filter for Junos has one family.
+abbrev pub IsOfJunos : Filter → Type 0
+IsOfJunos f = (f.kind ≡ Juniper) × (is_mixed f.families ≡ false)
+
+-- A section begins with a line of `/* `, its target's text, and ` */`.
+abbrev pub FirstLine : Type 0
+FirstLine = (f : Filter) (stateful : Bool) → IsOfJunos f
+    → (more : List ℕ) × (text_of (section_of f ∷ [])
+    ≡ (codes "/* " ++ target_text (target_of stateful f) ++ codes " */") ++ 10 ∷ more)
+
+-- Where no two targets clash, no two sections have the same name.
+abbrev pub NamesDiffer : Type 0
+NamesDiffer = (filters : List Filter) (stateful : Bool) → AllByRecursion IsOfJunos filters
+    → IsDistinct clash (map (target_of stateful) filters)
+    → IsDistinct bytes_eq (flat_map (λ f. names (section_of f)) filters)

@@ -1,0 +1,76 @@
+ghost use Rattle.std.specs.Prelude.{◌≡◌, ◌+◌, length, min};
+ghost use Rattle.std.specs.List.{All, sum_by};
+ghost use Rattle.acl_text.specs.Output.{COUNT_END};
+ghost use Rattle.acl_platform.specs.Combinations.{IsSized};
+ghost use Rattle.acl_platform.specs.Elements.{
+  address_elements,
+  number_elements,
+  port_elements,
+};
+ghost use Rattle.gen_junos.specs.Sections.{entry_count, term_count, term_of};
+
+use acl_platform::{Filter, Rule, address_elements, count_numbers, range_elements};
+
+/// The number of entries of the section that the filter becomes; a number that does not fit stands
+/// at the greatest one that does.
+pub(crate) fn entry_count(filter: &Filter) -> u64
+    requires { All IsSized filter.now.rules }
+    ensures { result ≡ min (entry_count filter.now) COUNT_END }
+{
+    let rules = filter.rules.as_slice();
+    if rules.is_empty() {
+        1
+    } else {
+        count_terms(rules)
+    }
+}
+
+fn count_terms(rules: &[Rule]) -> u64
+    requires { All IsSized rules.now }
+    ensures { result ≡ min (sum_by (λ r. term_count (term_of r)) rules.now) COUNT_END }
+{
+    let mut count: u64 = 0;
+    for rule in rules {
+        count = count.saturating_add(term_count(rule));
+    }
+    count
+}
+
+fn term_count(rule: &Rule) -> u64
+    requires { IsSized rule.now }
+    ensures { result ≡ min (term_count (term_of rule.now)) COUNT_END }
+{
+    let addresses = address_count(rule);
+    let numbers = number_count(rule);
+    let ports = port_count(rule);
+    let elements = addresses.saturating_add(numbers).saturating_add(ports);
+    elements.saturating_add(1)
+}
+
+fn address_count(rule: &Rule) -> u64
+    ensures { result ≡ min (length (address_elements rule.now.src)
+        + length (address_elements rule.now.dst)) COUNT_END }
+{
+    let sources = address_elements(rule.src.as_slice()).len() as u64;
+    let destinations = address_elements(rule.dst.as_slice()).len() as u64;
+    sources.saturating_add(destinations)
+}
+
+fn number_count(rule: &Rule) -> u64
+    requires { IsSized rule.now }
+    ensures { result ≡ min (length (number_elements rule.now.protos)
+        + length (number_elements rule.now.itypes)) COUNT_END }
+{
+    let protocols = count_numbers(range_elements(&rule.protos));
+    let types = count_numbers(range_elements(&rule.itypes));
+    protocols.saturating_add(types)
+}
+
+fn port_count(rule: &Rule) -> u64
+    ensures { result ≡ min (length (port_elements rule.now.sports)
+        + length (port_elements rule.now.dports)) COUNT_END }
+{
+    let sources = range_elements(&rule.sports).len() as u64;
+    let destinations = range_elements(&rule.dports).len() as u64;
+    sources.saturating_add(destinations)
+}
