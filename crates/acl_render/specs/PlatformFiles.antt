@@ -12,13 +12,17 @@ use Rattle.acl_platform.specs.declared.filters.Limit.{Limit}
 use Rattle.acl_platform.specs.SoundFilters.{IsSound, target_of}
 use Rattle.cisco_lang.specs.Texts as cisco
 use Rattle.cisco_lang.specs.Walks as cisco_walks
+use Rattle.junos_lang.specs.Texts as junos
+use Rattle.junos_lang.specs.Walks as junos_walks
 use Rattle.gen_cisco.specs.Limits as cisco_limits
 use Rattle.gen_cisco.specs.Sections as cisco_sections
+use Rattle.gen_junos.specs.Limits as junos_limits
+use Rattle.gen_junos.specs.Sections as junos_sections
 
 -- The platforms whose files are written.
 abbrev pub is_rendered : Kind → Bool
 is_rendered Cisco = true
-is_rendered Juniper = false
+is_rendered Juniper = true
 is_rendered Iptables = false
 is_rendered Nftables = false
 
@@ -27,7 +31,7 @@ is_rendered Nftables = false
 -- Why the platform does not take the filter.
 abbrev pub limit_on : Kind → Filter → Option Limit
 limit_on Cisco f = cisco_limits.limit_of f
-limit_on Juniper f = None
+limit_on Juniper f = junos_limits.limit_of f
 limit_on Iptables f = None
 limit_on Nftables f = None
 
@@ -37,7 +41,7 @@ limit_of f = limit_on f.kind f
 -- How many entries it has there.
 abbrev pub count_on : Kind → Filter → ℕ
 count_on Cisco f = cisco_sections.entry_count f
-count_on Juniper f = 0
+count_on Juniper f = junos_sections.entry_count f
 count_on Iptables f = 0
 count_on Nftables f = 0
 
@@ -49,7 +53,7 @@ count_of f = count_on f.kind f
 -- The text of the filters' sections, in order.
 abbrev pub text_on : Kind → List Filter → List ℕ
 text_on Cisco filters = cisco.text_of (map cisco_sections.section_of filters)
-text_on Juniper filters = []
+text_on Juniper filters = junos.text_of (map junos_sections.section_of filters)
 text_on Iptables filters = []
 text_on Nftables filters = []
 
@@ -79,6 +83,8 @@ abbrev pub IsAccepted : {A : Type 0} → Kind → (A → (Packet → Option Outc
 IsAccepted Cisco decides_for filters asked =
     IsDocumentOf cisco.Spells cisco_walks.outcome_of decides_for (text_on Cisco filters)
     (map cisco_sections.section_of filters) asked
-IsAccepted Juniper decides_for filters asked = ⊥
+IsAccepted Juniper decides_for filters asked =
+    IsDocumentOf junos.Spells junos_walks.outcome_of decides_for (text_on Juniper filters)
+    (map junos_sections.section_of filters) asked
 IsAccepted Iptables decides_for filters asked = ⊥
 IsAccepted Nftables decides_for filters asked = ⊥

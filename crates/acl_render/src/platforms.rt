@@ -6,14 +6,15 @@ ghost use Rattle.acl_render.specs.PlatformFiles.{count_of, is_rendered, limit_of
 use acl_platform::{Filter, Limit, Platform};
 use acl_target::Kind;
 use gen_cisco::Cisco;
+use gen_junos::Junos;
 
 /// Whether aclgen writes files of the platform.
 pub fn is_rendered(kind: Kind) -> bool
     ensures { result ≡ is_rendered kind }
 {
     match kind {
-        Kind::Cisco => true,
-        Kind::Juniper | Kind::Iptables | Kind::Nftables => false,
+        Kind::Cisco | Kind::Juniper => true,
+        Kind::Iptables | Kind::Nftables => false,
     }
 }
 
@@ -26,6 +27,7 @@ pub fn check(filter: &Filter) -> Result<u64, Limit>
 {
     match filter.kind {
         Kind::Cisco => Cisco.check(filter),
-        Kind::Juniper | Kind::Iptables | Kind::Nftables => Ok(0),
+        Kind::Juniper => Junos.check(filter),
+        Kind::Iptables | Kind::Nftables => Ok(0),
     }
 }

@@ -8,6 +8,7 @@ use acl_platform::{Filter, write_all};
 use acl_target::Kind;
 use acl_text::{Out, PutFault};
 use gen_cisco::Cisco;
+use gen_junos::Junos;
 
 /// Puts the text of the platform's file: the one document whose sections are those of the filters, in order.
 ///
@@ -23,6 +24,7 @@ pub fn render<O: Out>(kind: Kind, filters: &[Filter], out: &mut O) -> Result<(),
 {
     match kind {
         Kind::Cisco => write_all(&Cisco, filters, out),
-        Kind::Juniper | Kind::Iptables | Kind::Nftables => Ok(()),
+        Kind::Juniper => write_all(&Junos, filters, out),
+        Kind::Iptables | Kind::Nftables => Ok(()),
     }
 }

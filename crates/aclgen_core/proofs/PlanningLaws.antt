@@ -353,7 +353,7 @@ paths-differ output policy drafts paths =
 as-policy : (n : Naming) (today : Day) (kind : Kind) (rs : List FilterRequest) → AllByRecursion (λ (r : FilterRequest). AreResolved n r.written r.terms) rs
     → IsAccepted kind DecidesAs (map (filter_for today) rs) (map (filter_for today) rs) → IsAccepted kind (DecidesAsPolicy n today) (map (filter_for today) rs) rs
 as-policy n today Cisco rs resolved h = record { spelled = h.spelled; decides = λ k. decides-at n today rs k _ resolved (h.decides k) }
-as-policy n today Juniper rs resolved h = h
+as-policy n today Juniper rs resolved h = record { spelled = h.spelled; decides = λ k. decides-at n today rs k _ resolved (h.decides k) }
 as-policy n today Iptables rs resolved h = h
 as-policy n today Nftables rs resolved h = h
 
