@@ -254,6 +254,95 @@ fn other_options_keep_one_rule(rt: HostRuntime) -> Result<(), Fail> {
     Ok(())
 }
 
+const EDGE_NETWORKS: &[u8] =
+    b"RFC1918 = 10.0.0.0/8 172.16.0.0/12 192.168.0.0/16\nBOGON = RFC1918 127.0.0.0/8 fc00::/7\nWEB = 192.0.2.10/32 192.0.2.11/32 2001:db8::10/128\nDNS = 192.0.2.53\nTEN = 10.0.0.0/8\nPIN = 10.128.0.1\n";
+
+const EDGE_SERVICES: &[u8] =
+    b"HTTP = 80/tcp\nHTTPS = 443/tcp\nWEB-SVC = HTTP HTTPS\nDNS-SVC = 53/tcp 53/udp\n";
+
+const EDGE_TERMS: &str = "term block-bogon {
+ source-address:: BOGON
+ action:: deny
+}
+term established {
+ protocol:: tcp udp
+ option:: established
+ action:: accept
+}
+term dns {
+ destination-address:: DNS
+ destination-port:: DNS-SVC
+ protocol:: udp tcp
+ action:: accept
+}
+term web {
+ destination-address:: WEB
+ destination-port:: WEB-SVC
+ protocol:: tcp
+ action:: accept
+}
+term default-deny {
+ logging:: true
+ action:: deny
+}";
+
+// Each rule in one line, and behind it where it goes, and whether it is logged.
+fn shown_with_ends(alloc: Global, rules: &[Rule]) -> Result<String, Memory> {
+    let mut out = String::new(alloc);
+    for rule in rules {
+        let line = shown_rule(alloc, rule)?;
+        let dst = shown_list(alloc, rule.dst.as_slice())?;
+        out.push_str(&line)?;
+        let ends = format!(in alloc; " to{dst} {}\n", rule.log)?;
+        out.push_str(&ends)?;
+    }
+    Ok(out)
+}
+
+#[test]
+fn an_edge_policy_becomes_rules(rt: HostRuntime) -> Result<(), Fail> {
+    let alloc = rt.alloc();
+    let established = "term e {\n protocol:: tcp\n option:: tcp-established\n action:: accept\n}";
+    let table = [
+        (
+            CISCO,
+            "term a {\n source-address:: TEN\n source-exclude:: PIN\n action:: accept\n}",
+            "a V4 Accept Plain;;; 167772160/9 176160768/32 176160770/31 176160772/30 176160776/29 176160784/28 176160800/27 176160832/26 176160896/25 176161024/24 176161280/23 176161792/22 176162816/21 176164864/20 176168960/19 176177152/18 176193536/17 176226304/16 176291840/15 176422912/14 176685056/13 177209344/12 178257920/11 180355072/10\n to 0/0 false\n",
+        ),
+        (
+            "iptables INPUT nostate",
+            established,
+            "e V4 Accept AckOrRst; 6-6;; 0/0\n to 0/0 false\n",
+        ),
+        (
+            "iptables INPUT",
+            established,
+            "e V4 Accept State; 6-6;; 0/0\n to 0/0 false\n",
+        ),
+        (
+            CISCO,
+            EDGE_TERMS,
+            "block-bogon V4 Deny Plain;;; 167772160/8 2130706432/8 2886729728/12 3232235520/16\n to 0/0 false\nestablished-tcp V4 Accept AckOrRst; 6-6;; 0/0\n to 0/0 false\nestablished-udp V4 Accept Plain; 17-17; 1024-65535; 0/0\n to 0/0 false\ndns V4 Accept Plain; 6-6 17-17; 53-53; 0/0\n to 3221226037/32 false\nweb V4 Accept Plain; 6-6; 80-80 443-443; 0/0\n to 3221225994/31 false\ndefault-deny V4 Deny Plain;;; 0/0\n to 0/0 true\n",
+        ),
+        (
+            "nftables mixed input",
+            EDGE_TERMS,
+            "block-bogon V4 Deny Plain;;; 167772160/8 2130706432/8 2886729728/12 3232235520/16\n to 0/0 false\nblock-bogon V6 Deny Plain;;; 334965454937798799971759379190646833152/7\n to 0/0 false\nestablished V4 Accept State; 6-6 17-17;; 0/0\n to 0/0 false\nestablished V6 Accept State; 6-6 17-17;; 0/0\n to 0/0 false\ndns V4 Accept Plain; 6-6 17-17; 53-53; 0/0\n to 3221226037/32 false\nweb V4 Accept Plain; 6-6; 80-80 443-443; 0/0\n to 3221225994/31 false\nweb V6 Accept Plain; 6-6; 80-80 443-443; 0/0\n to 42540766411282592856903984951653826576/128 false\ndefault-deny V4 Deny Plain;;; 0/0\n to 0/0 true\ndefault-deny V6 Deny Plain;;; 0/0\n to 0/0 true\n",
+        ),
+    ];
+    let base = read_networks(Base::new(alloc), 1, EDGE_NETWORKS)?;
+    let base = check(read_services(base, 2, EDGE_SERVICES)?)?;
+    for (target, terms, rules) in table {
+        let filter = filter_of(alloc, &base, target, terms)?;
+        assert_eq!(rt;
+            shown_with_ends(alloc, filter.rules.as_slice())?.as_str(),
+            rules,
+            "at {target} {terms}"
+        );
+    }
+    Ok(())
+}
+
 #[test]
 fn extension_headers_are_slips_in_ipv6(rt: HostRuntime) -> Result<(), Fail> {
     let ah = "term a {\n protocol:: 60 ah\n action:: deny\n}";

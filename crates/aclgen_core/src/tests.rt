@@ -7,7 +7,7 @@ use acl_text::Memory;
 use std::alloc::{AllocError, Global};
 use std::test::Fail;
 
-const NAMES: &[u8] = b"WEB = 192.0.2.10\nLOW = 10.0.0.0/25\nHIGH = 10.0.0.128/25\n";
+const NAMES: &[u8] = b"WEB = 192.0.2.10\nLOW = 10.0.0.0/25\nHIGH = 10.0.0.128/25\nSIX = 2001:db8::10\n";
 
 fn words(alloc: Global, policy: &str, date: &str) -> Result<Vec<String>, AllocError> {
     let mut words = Vec::new(alloc);
@@ -143,6 +143,95 @@ fn a_policy_of_two_blocks_is_written_whole(rt: HostRuntime) -> Result<(), Fail> 
     Ok(())
 }
 
+const THREE_PLATFORMS: &[u8] = b"header { target:: nftables inet input target:: juniper six inet6 }
+term web { destination-address:: WEB SIX protocol:: tcp action:: accept }
+header { target:: cisco edge extended target:: juniper edge }
+term web { destination-address:: WEB protocol:: tcp action:: accept }
+";
+
+const LIST_OF_WEB: &[u8] = b"! cisco edge extended
+no ip access-list extended edge
+ip access-list extended edge
+ remark web
+ permit tcp any host 192.0.2.10
+exit
+";
+
+const FILTERS: &[u8] = b"/* juniper six inet6 */
+firewall {
+    family inet6 {
+        replace: filter six {
+            term web {
+                from {
+                    destination-address {
+                        2001:db8::10/128;
+                    }
+                    next-header [ 6 ];
+                }
+                then {
+                    accept;
+                }
+            }
+        }
+    }
+}
+/* juniper edge inet */
+firewall {
+    family inet {
+        replace: filter edge {
+            term web {
+                from {
+                    destination-address {
+                        192.0.2.10/32;
+                    }
+                    protocol [ 6 ];
+                }
+                then {
+                    accept;
+                }
+            }
+        }
+    }
+}
+";
+
+const TABLE: &[u8] = b"## nftables input inet
+add table ip aclgen_1
+delete table ip aclgen_1
+table ip aclgen_1 {
+    chain input {
+        type filter hook input priority 0; policy drop;
+        # web
+        meta l4proto 6 ip daddr { 192.0.2.10/32 } accept
+    }
+}
+";
+
+const ALL_REPORTS: &[u8] = b"out/a.acl: cisco edge extended: entries 1
+out/a.jcl: juniper six inet6: entries 3
+out/a.jcl: juniper edge inet: entries 3
+out/a.nft: nftables input inet: entries 2
+";
+
+#[test]
+fn each_platform_has_its_file(rt: HostRuntime) -> Result<(), Fail> {
+    let alloc = rt.alloc();
+    let mut tree = tree_of(alloc, THREE_PLATFORMS)?;
+    let mut out = MemSink::new(alloc);
+    let mut err = MemSink::new(alloc);
+    let mut clock = FixedClock::new(Day { number: 20468 }, true);
+    let words = words(alloc, "pol/a.pol", "2026-01-15")?;
+    let words = words.as_slice();
+    let ended = aclgen(alloc, words, &mut tree, &mut out, &mut err, &mut clock);
+    assert_eq!(rt; status_of(&ended), 0);
+    assert_eq!(rt; tree.file("out/a.acl"), Some(LIST_OF_WEB));
+    assert_eq!(rt; tree.file("out/a.jcl"), Some(FILTERS));
+    assert_eq!(rt; tree.file("out/a.nft"), Some(TABLE));
+    assert_eq!(rt; tree.file("out/a.ipt"), None);
+    assert_eq!(rt; out.as_slice(), ALL_REPORTS);
+    Ok(())
+}
+
 const PLAIN_POLICY: &[u8] =
     b"header { target:: cisco edge extended }\nterm t { action:: accept }\n";
 
@@ -152,13 +241,13 @@ const USAGE: &[u8] =
 #[test]
 fn refusals_leave_everything_as_it_was(rt: HostRuntime) -> Result<(), Fail> {
     let alloc = rt.alloc();
-    let cases: [(&[u8], &[u8]); 4] = [
+    let cases: [(&[u8], &[u8]); 5] = [
         (
             b"header { target:: cisco edge extended }\nterm t { source-address:: NOWHERE action:: accept }",
             b"pol/a.pol:2: F31 UnknownName NOWHERE\n",
         ),
         (
-            b"header { target:: cisco a extended target:: juniper b inet }\nterm t { action:: accept }",
+            b"header { target:: cisco a extended target:: iptables INPUT DROP }\nterm t { action:: accept }",
             b"pol/a.pol:1: F38 NotYet\n",
         ),
         (
@@ -168,6 +257,10 @@ fn refusals_leave_everything_as_it_was(rt: HostRuntime) -> Result<(), Fail> {
         (
             b"header { target:: cisco a inet6 }\nterm t { protocol:: esp action:: accept }\nterm u { protocol:: ah action:: accept }",
             b"pol/a.pol:3: F40 ExtensionHeader 51\n",
+        ),
+        (
+            b"header { target:: juniper a }\nterm t { protocol:: tcp udp option:: established action:: accept }\nterm t-udp { action:: deny }",
+            b"pol/a.pol:3: F42 NameClash t-udp\n",
         ),
     ];
     for (policy, line) in cases {
