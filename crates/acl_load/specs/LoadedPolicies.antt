@@ -92,3 +92,8 @@ AnswersAreOne = (folder path : List ℕ) (files : List File) (a b : Result Loade
 abbrev pub DefinitionsAreThere : Type 0
 DefinitionsAreThere =
     (folder : List ℕ) (files : List File) → (answer : Result Naming Fault) × Loads folder files answer
+
+-- A folder of naming files and a policy have an answer.
+abbrev pub AnswersAreThere : Type 0
+AnswersAreThere = (folder path : List ℕ) (files : List File)
+    → (answer : Result Loaded Fault) × LoadsPolicy folder path files answer

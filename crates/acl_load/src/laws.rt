@@ -1,8 +1,13 @@
-ghost use Rattle.acl_load.specs.LoadedPolicies.{AnswersAreOne, DefinitionsAreThere};
+ghost use Rattle.acl_load.specs.LoadedPolicies.{AnswersAreOne, AnswersAreThere, DefinitionsAreThere};
 
 /// A law: a folder of naming files and a policy have at most one answer.
 pub fn answers_are_one()
     ensures { AnswersAreOne }
+{}
+
+/// A law: a folder of naming files and a policy have an answer, whatever the files hold.
+pub fn answers_are_there()
+    ensures { AnswersAreThere }
 {}
 
 /// A law: a folder of naming files has an answer, whatever the files hold.

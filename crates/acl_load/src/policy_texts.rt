@@ -32,8 +32,9 @@ fn label_at(sources: &Sources, file: u32) -> &[u8]
     }
 }
 
-/// The fault of a slip in the policy: its label is that of the file in which it stands.
-pub(crate) fn policy_fault(alloc: Global, sources: &Sources, slip: Slip) -> Result<Fault, Memory>
+/// The fault of a slip in the policy: its label is that of the file in which it stands, empty where no file has
+/// that number. It fails only where memory is wanted.
+pub fn policy_fault(alloc: Global, sources: &Sources, slip: Slip) -> Result<Fault, Memory>
     ensures { IfOk result (λ fault. fault ≡ fault_of sources.now.labels slip) }
 {
     let Slip { code, place, word } = slip;

@@ -15,13 +15,14 @@ use Rattle.acl_policy.specs.declared.raw_terms.RawTerm.{RawTerm}
 use Rattle.acl_policy.specs.declared.raw_terms.Word.{Word}
 use Rattle.acl_policy.specs.Conditions.{IsRawTerm}
 use Rattle.acl_naming.specs.Definitions.{Naming}
+use Rattle.acl_naming.specs.PortLaws.{PortsAreSome}
 use Rattle.acl_naming.specs.Ports.{top_port}
 use Rattle.acl_naming.specs.ComputableReach.{ports_reached}
 use Rattle.acl_naming.proofs.ComputedReachLaws.{ports_computed}
 use Rattle.acl_terms.specs.declared.options.Opt.{Opt}
 use Rattle.acl_terms.specs.declared.terms.Platforms.{Platforms}
 use Rattle.acl_terms.specs.declared.terms.Term.{Term}
-use Rattle.acl_terms.specs.ComputableTerms.{PortsAreSome, port_set, sets_of}
+use Rattle.acl_terms.specs.ComputableTerms.{port_set, sets_of}
 use Rattle.acl_terms.specs.Living.{platforms_of, some_platforms}
 use Rattle.acl_terms.specs.Matching.{is_written, only, protocols_of}
 use Rattle.acl_terms.specs.Options.{option_of, verdict_of}
@@ -134,7 +135,7 @@ one-term n raw t u h k =
 -- ---- some term
 
 -- The ports of words are some, where each word has ports of each protocol.
-port-some : (n : Naming) (qs : List ℕ) (words : List Word) → PortsAreSome n → (words ≢ [] → qs ≢ [])
+port-some : (n : Naming) (qs : List ℕ) (words : List Word) → PortsAreSome n.services → (words ≢ [] → qs ≢ [])
     → first_in (service_slip n.services qs) words ≡ None → (port_set n qs words).ranges ≢ []
 port-some n qs [] some more none = none-more _ _
 port-some n [] (w ∷ ws) some more none = absurd (more (none-more w ws) refl)
@@ -151,7 +152,7 @@ port-some n (q ∷ qs) (w ∷ ws) some more none =
     let port = (port-is n (q ∷ qs) (w ∷ ws)).exact x.0 x.1 in
     some-range (port_set n (q ∷ qs) (w ∷ ws)).ranges x.0 (port.1 (inl (inl ((law.1 x.0 x.1).0 x.2))))
 
-sets-there : (n : Naming) (raw : RawTerm) → PortsAreSome n → slip_of n raw ≡ None → AreSetsOf n raw (sets_of n raw)
+sets-there : (n : Naming) (raw : RawTerm) → PortsAreSome n.services → slip_of n raw ≡ None → AreSetsOf n raw (sets_of n raw)
 unfolding sets_of
 sets-there n raw some clean =
     let qs = protocols_of raw.protocols in
@@ -164,7 +165,7 @@ sets-there n raw some clean =
     (port-some n qs raw.source_ports some (λ h. named (left-some raw.source_ports raw.destination_ports h)) both.0)
     (port-some n qs raw.destination_ports some (λ h. named (right-some raw.source_ports raw.destination_ports h)) both.1)
 
-pub term-there : (n : Naming) (raw : RawTerm) → PortsAreSome n → IsRawTerm raw → slip_of n raw ≡ None
+pub term-there : (n : Naming) (raw : RawTerm) → PortsAreSome n.services → IsRawTerm raw → slip_of n raw ≡ None
     → (t : Term) × IsResolved n raw t
 term-there n raw some fits clean =
     let s = sets_of n raw in

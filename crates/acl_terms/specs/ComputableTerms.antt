@@ -1,6 +1,6 @@
 -- The sets of a term as values that can be computed with. What is to be believed are the facts of Sets: a term has one
 -- such set for each, so a reader needs these values only where he states a function of a policy.
-use Rattle.std.specs.Prelude.{◌≡◌, ◌≢◌, ℕ, List, [], ◌∷◌, None, map, flat_map, option_to_list, Option}
+use Rattle.std.specs.Prelude.{◌≡◌, ℕ, List, [], ◌∷◌, None, map, flat_map, option_to_list, Option}
 use Rattle.acl_packet.specs.declared.addresses.Family.{Family}
 use Rattle.acl_packet.specs.declared.addresses.Family.TheVariants.{V4, V6}
 use Rattle.acl_packet.specs.Addresses.{top_address}
@@ -13,8 +13,8 @@ use Rattle.acl_policy.specs.declared.raw_terms.Word.{Word}
 use Rattle.acl_policy.specs.Conditions.{IsRawTerm}
 use Rattle.acl_naming.specs.ComputableReach.{addresses_reached, ports_reached}
 use Rattle.acl_naming.specs.Definitions.{Naming}
+use Rattle.acl_naming.specs.PortLaws.{PortsAreSome}
 use Rattle.acl_naming.specs.Ports.{top_port}
-use Rattle.acl_naming.specs.Reach.{ReachesProtocol}
 use Rattle.acl_terms.specs.declared.terms.Term.{Term}
 use Rattle.acl_terms.specs.Matching.{icmp_family, protocols_of, type_in}
 use Rattle.acl_terms.specs.Resolved.{IsResolved}
@@ -67,17 +67,12 @@ sets_of n t = record {
   itypes = number_set (λ w. type_in (icmp_family (protocols_of t.protocols)) w.text) t.icmp_types;
 }
 
--- A name that reaches ports of a protocol reaches some port: an item has its ports from a low to a high end.
-abbrev pub PortsAreSome : Naming → Type 0
-PortsAreSome n = (q : ℕ) (name : List ℕ) → ReachesProtocol n.services name q
-    → ports_reached n.services q name ≢ []
-
 -- A written term is resolved in one way.
 abbrev pub TermsAreOne : Type 0
 TermsAreOne = (n : Naming) (raw : RawTerm) (t u : Term) → IsResolved n raw t → IsResolved n raw u
     → t ≡ u
 
--- A term without a slip is resolved in some way.
+-- A term without a slip is resolved in some way, where a name that reaches ports of a protocol reaches some port.
 abbrev pub TermsAreThere : Type 0
-TermsAreThere = (n : Naming) (raw : RawTerm) → PortsAreSome n → IsRawTerm raw → slip_of n raw ≡ None
-    → (t : Term) × IsResolved n raw t
+TermsAreThere = (n : Naming) (raw : RawTerm) → PortsAreSome n.services → IsRawTerm raw
+    → slip_of n raw ≡ None → (t : Term) × IsResolved n raw t
