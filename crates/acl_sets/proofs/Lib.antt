@@ -2,6 +2,7 @@ pub mod RangeLaws
 pub mod SetFacts
 pub mod ComputableSetLaws
 pub mod SweepFacts
+pub mod WalkFacts
 pub mod TwoSets
 pub mod Powers
 pub mod BlockFacts

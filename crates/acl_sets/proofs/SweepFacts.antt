@@ -20,7 +20,7 @@ Rising floor top [] = Unit {0}
 Rising floor top (r ∷ rs) =
     (floor ≤ r.low) × (r.low ≤ r.high) × (r.high ≤ top) × Rising r.low top rs
 
-rising_lower : (f g top : ℕ) (rs : List Range) → f ≤ g → Rising g top rs → Rising f top rs
+pub rising_lower : (f g top : ℕ) (rs : List Range) → f ≤ g → Rising g top rs → Rising f top rs
 rising_lower f g top [] l h = tt
 rising_lower f g top (r ∷ rs) l h = (omega arith, h.1, h.2, h.3)
 
