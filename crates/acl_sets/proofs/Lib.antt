@@ -13,3 +13,4 @@ pub mod LeastListLaws
 pub mod ComputableLeastListLaws
 pub mod CutFacts
 pub mod LeastCuts
+pub mod GroupLaws
