@@ -50,8 +50,12 @@ lower-rising : (f g top low : ℕ) (qs ss : List Range) → IsNormal g top qs �
     → Rising low top ss → Rising f top (lower low qs ++ ss)
 lower-rising f g top low [] ss n l m h = rising_lower f low top ss m h
 lower-rising f g top low (q ∷ qs) ss n l m h = elim (cases_lt q.low low) [
-  | inl k ↦ rw (lt-ltb q.low low k) (omega arith, n.1, n.2,
-      lower-rising q.low (q.high + 2) top low qs ss n.3 (omega arith) (omega arith) h)
+  | inl k ↦ rw (lt-ltb q.low low k) (
+    omega arith,
+    n.1,
+    n.2,
+    lower-rising q.low (q.high + 2) top low qs ss n.3 (omega arith) (omega arith) h,
+  )
   | inr k ↦ rw (le-ltb q.low low k) (rising_lower f low top ss m h)
 ]
 
