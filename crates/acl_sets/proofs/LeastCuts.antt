@@ -111,8 +111,12 @@ cuts-contain : (f : Family) (set : ℕ → Bool) (r : Range) (first : ℕ) (ps :
     → first ≤ p.first → p.first ≤ r.high → Contains ps p
 cuts-contain f set r first [] p run l h c m i j = absurd (omega (arith, c, i, j))
 cuts-contain f set r first (q ∷ ps) p run l h c m i j = elim (cases_lt p.first (first + 2 ^ c.0)) [
-  | inl k ↦ (0, omega arith, c.1 ∙ maximal_same f set c.0 first p
-      (at_cut f set r first c.0 run l h c.2) (lies_cut f set r first c.0 run l c.2) m i k)
+  | inl k ↦ (
+    0,
+    omega arith,
+    c.1 ∙ maximal_same f set c.0 first p
+        (at_cut f set r first c.0 run l h c.2) (lies_cut f set r first c.0 run l c.2) m i k,
+  )
   | inr k ↦ member_tail q ps p (cuts-contain f set r (first + 2 ^ c.0) ps p run (omega (arith, l))
       (closed_next r first c.0 h c.2) c.3 m k j)
 ]

@@ -2,6 +2,7 @@ pub mod RangeLaws
 pub mod SetFacts
 pub mod ComputableSetLaws
 pub mod SweepFacts
+pub mod WalkFacts
 pub mod TwoSets
 pub mod Powers
 pub mod BlockFacts
@@ -12,3 +13,4 @@ pub mod LeastListLaws
 pub mod ComputableLeastListLaws
 pub mod CutFacts
 pub mod LeastCuts
+pub mod GroupLaws

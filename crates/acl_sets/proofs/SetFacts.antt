@@ -170,7 +170,7 @@ without-normal f top r qs n l =
 
 -- Intersection
 
-shared-inside : (a b c d x : ℕ)
+pub shared-inside : (a b c d x : ℕ)
     → holds (shared (record { low = a; high = b }) (record { low = c; high = d })) x ≡
     ((nat_le c x && nat_le x d) && (nat_le a x && nat_le x b))
 shared-inside a b c d x = elim (cases_lt (min b d) (max a c)) [

@@ -20,7 +20,7 @@ Rising floor top [] = Unit {0}
 Rising floor top (r ∷ rs) =
     (floor ≤ r.low) × (r.low ≤ r.high) × (r.high ≤ top) × Rising r.low top rs
 
-rising_lower : (f g top : ℕ) (rs : List Range) → f ≤ g → Rising g top rs → Rising f top rs
+pub rising_lower : (f g top : ℕ) (rs : List Range) → f ≤ g → Rising g top rs → Rising f top rs
 rising_lower f g top [] l h = tt
 rising_lower f g top (r ∷ rs) l h = (omega arith, h.1, h.2, h.3)
 
@@ -28,9 +28,13 @@ rises_on : (f top : ℕ) (r : Range) (rs : List Range) → f ≤ r.low
     → AllByRecursion (λ q. IsRange top q) (r ∷ rs)
     → IsNonDecreasingBy (λ (q : Range). q.low) (r ∷ rs) → Rising f top (r ∷ rs)
 rises_on f top r [] l w h = (l, w.0.0, w.0.1, tt)
-rises_on f top r (q ∷ qs) l w h =
-    (l, w.0.0, w.0.1, rises_on r.low top q qs (h 0 1 r (omega arith) (omega arith)) w.1
-    (IsNonDecreasingBy-drop (λ (t : Range). t.low) 1 (r ∷ q ∷ qs) h))
+rises_on f top r (q ∷ qs) l w h = (
+  l,
+  w.0.0,
+  w.0.1,
+  rises_on r.low top q qs (h 0 1 r (omega arith) (omega arith)) w.1
+      (IsNonDecreasingBy-drop (λ (t : Range). t.low) 1 (r ∷ q ∷ qs) h),
+)
 
 pub sorted_rising : (top : ℕ) (rs : List Range) → AllByRecursion (λ r. IsRange top r) rs
     → IsNonDecreasingBy (λ (r : Range). r.low) rs → Rising 0 top rs

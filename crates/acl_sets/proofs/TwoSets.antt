@@ -1,8 +1,10 @@
 -- What the calls on two sets give, from what the list functions give.
-use Rattle.std.proofs.Common.{◌≡◌, ℕ, ◌≤◌, not, true, ◌&&◌, ◌||◌, List, ap, sym, subst, ◌∙◌}
+use Rattle.std.proofs.Common.{◌≡◌, ℕ, ◌≤◌, Bool, not, true, ◌&&◌, ◌||◌, List, ap, sym, subst, ◌∙◌}
 use Rattle.acl_sets.specs.declared.sets.Range.{Range}
 use Rattle.acl_sets.specs.Ranges.{holds, IsNormal, Numbers}
 use Rattle.acl_sets.specs.ComputableSets.{put_all, cut_all, shared_all, all_covered}
+use Rattle.acl_sets.specs.SweepSteps.{merged, woven, walk, shared_along, cut_along, covered_walk}
+use Rattle.acl_sets.proofs.WalkFacts.{united-computed, shared-computed, cut-computed, covered_walk-covered}
 use Rattle.acl_sets.proofs.RangeLaws.{are_ranges}
 use Rattle.acl_sets.proofs.ComputableSetLaws.{put_all-normal, put_all-holds, cut_all-normal, cut_all-holds, shared_all-normal, shared_all-holds, covered-subset, subset-covered}
 
@@ -44,6 +46,24 @@ pub at_sets : {X : Type 0} (f : List Range → List Range → X)
     → f ys xs ≡ f b.ranges a.ranges
 at_sets f {a = a} {b = b} {xs = xs} {ys = ys} t =
     ap (λ z. f z xs) (list_of t.second) ∙ ap (λ z. f b.ranges z) (list_of t.first)
+
+-- the walks give what is computed
+pub united : {a b : Numbers} {l m : ℕ} {xs ys : List Range} → Two a b l m xs ys
+    → (v : List Range) → v ≡ merged (woven xs ys) → v ≡ put_all ys xs
+united {l = l} {xs = xs} {ys = ys} t v e = e ∙ united-computed l xs ys t.normal (under t)
+
+pub cut_away : {a b : Numbers} {l m : ℕ} {xs ys : List Range} → Two a b l m xs ys
+    → (v : List Range) → v ≡ walk (λ r qs. cut_along r qs) xs ys → v ≡ cut_all ys xs
+cut_away {l = l} {xs = xs} {ys = ys} t v e = e ∙ cut-computed l xs ys t.normal (under t)
+
+pub in_common : {a b : Numbers} {l m : ℕ} {xs ys : List Range} → Two a b l m xs ys
+    → (v : List Range) → v ≡ walk (λ r qs. shared_along r qs) xs ys → v ≡ shared_all ys xs
+in_common {l = l} {xs = xs} {ys = ys} t v e = e ∙ shared-computed l xs ys t.normal (under t)
+
+pub lies_in : {a b : Numbers} {l m : ℕ} {xs ys : List Range} → Two a b l m xs ys
+    → (v : Bool) → v ≡ covered_walk xs ys → v ≡ all_covered xs ys
+lies_in {l = l} {xs = xs} {ys = ys} t v e =
+    e ∙ covered_walk-covered 0 l 0 l xs ys t.normal (under t)
 
 pub union-normal : {a b : Numbers} {l m : ℕ} {xs ys : List Range} → Two a b l m xs ys
     → (v : List Range) → v ≡ put_all ys xs → IsNormal 0 l v

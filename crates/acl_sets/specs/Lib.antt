@@ -4,3 +4,4 @@ pub mod ComputableSets
 pub mod ComputableLeastLists
 pub mod SweepSteps
 pub mod CutSteps
+pub mod Groups

@@ -2,6 +2,7 @@
 #![tactic(auto)]
 
 mod cuts;
+mod groups;
 mod least;
 mod range_pieces;
 mod sets;
@@ -9,5 +10,6 @@ mod sweeps;
 #[cfg(test)]
 mod tests;
 
+pub use groups::group_end;
 pub use least::{Prefixes, least_list_holds, least_list_is_fewest, least_prefixes, one_least_list};
 pub use sets::{Range, RangeSet, one_normal_list};

@@ -3,7 +3,6 @@ ghost use Rattle.std.specs.List.{All};
 ghost use Rattle.acl_sets.specs.Ranges.{holds, IsRange, IsNormal, OneNormalList};
 ghost use Rattle.acl_sets.specs.ComputableSets.{put_all, cut_all, shared_all, is_all, all_covered};
 
-use crate::range_pieces;
 use crate::sweeps;
 use acl_text::Memory;
 use std::alloc::Global;
@@ -91,7 +90,7 @@ impl RangeSet {
     {
         Ok(RangeSet {
             limit: self.limit,
-            list: range_pieces::put_all(alloc, &self.list, &other.list)?,
+            list: sweeps::united(alloc, &self.list, &other.list)?,
         })
     }
 
@@ -106,7 +105,7 @@ impl RangeSet {
     {
         Ok(RangeSet {
             limit: self.limit,
-            list: range_pieces::cut_all(alloc, &self.list, &other.list)?,
+            list: sweeps::cut(alloc, &self.list, &other.list)?,
         })
     }
 
@@ -122,7 +121,7 @@ impl RangeSet {
     {
         Ok(RangeSet {
             limit: self.limit,
-            list: range_pieces::shared_all(alloc, &self.list, &other.list)?,
+            list: sweeps::shared(alloc, &self.list, &other.list)?,
         })
     }
 
@@ -141,7 +140,7 @@ impl RangeSet {
     pub fn contains(&self, x: u128) -> bool
         ensures { result ≡ holds self.now.ranges x }
     {
-        range_pieces::covers(&self.list, x, x)
+        sweeps::has_number(&self.list, x)
     }
 
     /// Whether each number of this set is in the other.
@@ -152,7 +151,7 @@ impl RangeSet {
             → IsTrue (holds self.now.ranges x) → IsTrue (holds other.now.ranges x)) }
         ensures computed { result ≡ all_covered self.now.ranges other.now.ranges }
     {
-        range_pieces::all_covered(&self.list, &other.list)
+        sweeps::all_covered(&self.list, &other.list)
     }
 
     /// Whether no number is in the set.
@@ -170,7 +169,7 @@ impl RangeSet {
             ↔ ((x : ℕ) → x ≤ self.now.top → IsTrue (holds self.now.ranges x)) }
         ensures computed { result ≡ is_all self.now }
     {
-        range_pieces::covers(&self.list, 0, self.limit)
+        sweeps::covers(&self.list, 0, self.limit)
     }
 
     /// The ranges of the set, in rising order, disjoint and not touching.

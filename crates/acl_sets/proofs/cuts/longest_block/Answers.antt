@@ -15,8 +15,11 @@ overflow_sub-span-in-loop-multiple c = omega (arith, c.loop-multiple.invariant.e
 
 pub overflow_add-free : goal.overflow_add-free
 overflow_add-free c =
-    omega (arith, free-bound c.args.first c.args.last c.loop-multiple.free c.loop-multiple.behind
-    c.loop-multiple.multiple c.loop-multiple.invariant c.if-behind-span.true c.ranges.last.fits)
+    omega (
+      arith,
+      free-bound c.args.first c.args.last c.loop-multiple.free c.loop-multiple.behind
+          c.loop-multiple.multiple c.loop-multiple.invariant c.if-behind-span.true c.ranges.last.fits,
+    )
 
 pub loop-multiple-smaller : goal.loop-multiple-smaller
 loop-multiple-smaller c = omega (arith, c.if-behind-span.true)

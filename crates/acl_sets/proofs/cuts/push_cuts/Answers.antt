@@ -10,8 +10,12 @@ longest_block-block-requires c = c.loop-first.invariant.inside
 
 pub overflow_sub-width : goal.overflow_sub-width
 overflow_sub-width c =
-    omega (arith, c.width.ensures, free-fits c.args.family c.loop-first.first c.args.range.high
-    c.longest_block-block.result.free c.requires.fits c.longest_block-block.ensures.longest)
+    omega (
+      arith,
+      c.width.ensures,
+      free-fits c.args.family c.loop-first.first c.args.range.high
+          c.longest_block-block.result.free c.requires.fits c.longest_block-block.ensures.longest,
+    )
 
 pub returns-then-block-range : goal.returns-then-block-range
 returns-then-block-range c =

@@ -1,18 +1,30 @@
+use Rattle.std.proofs.Common.{◌∙◌}
 use Rattle.acl_sets.specs.ComputableSets.{shared_all}
-use Rattle.acl_sets.proofs.TwoSets.{two_sets, at_lists, intersect-normal, intersect-holds}
+use Rattle.acl_sets.specs.SweepSteps.{walk, shared_along}
+use Rattle.acl_sets.proofs.TwoSets.{two_sets, at_lists, at_sets, in_common, intersect-normal, intersect-holds}
 use Rattle.acl_sets.proofs.sets.RangeSet.intersect.Goals as goal
 
 pub invariant_of-result : goal.invariant_of-result
 invariant_of-result c =
-    intersect-normal (two_sets c.self.view_is c.other.view_is c.requires c.self.invariant c.other.invariant) _
-    (at_lists (λ z w. shared_all z w) c.deref.ensures.value c.deref-2.ensures.value c.in_ok-shared_all.ensures)
+    let two = two_sets c.self.view_is c.other.view_is c.requires c.self.invariant c.other.invariant in
+    intersect-normal two _ (in_common two _ (at_lists (λ z w. walk (λ r qs. shared_along r qs) w z)
+    c.deref.ensures.value c.deref-2.ensures.value c.in_ok-shared.ensures))
 
 pub returns-clause-normal : goal.returns-clause-normal
 returns-clause-normal c =
-    intersect-normal (two_sets c.self.view_is c.other.view_is c.requires c.self.invariant c.other.invariant) _
-    (at_lists (λ z w. shared_all z w) c.deref.ensures.value c.deref-2.ensures.value c.in_ok-shared_all.ensures)
+    let two = two_sets c.self.view_is c.other.view_is c.requires c.self.invariant c.other.invariant in
+    intersect-normal two _ (in_common two _ (at_lists (λ z w. walk (λ r qs. shared_along r qs) w z)
+    c.deref.ensures.value c.deref-2.ensures.value c.in_ok-shared.ensures))
 
 pub returns-clause-exact : goal.returns-clause-exact
 returns-clause-exact c =
-    intersect-holds (two_sets c.self.view_is c.other.view_is c.requires c.self.invariant c.other.invariant) _
-    (at_lists (λ z w. shared_all z w) c.deref.ensures.value c.deref-2.ensures.value c.in_ok-shared_all.ensures)
+    let two = two_sets c.self.view_is c.other.view_is c.requires c.self.invariant c.other.invariant in
+    intersect-holds two _ (in_common two _ (at_lists (λ z w. walk (λ r qs. shared_along r qs) w z)
+    c.deref.ensures.value c.deref-2.ensures.value c.in_ok-shared.ensures))
+
+pub returns-clause-computed : goal.returns-clause-computed
+returns-clause-computed c =
+    let two = two_sets c.self.view_is c.other.view_is c.requires c.self.invariant c.other.invariant in
+    in_common two _ (at_lists (λ z w. walk (λ r qs. shared_along r qs) w z)
+    c.deref.ensures.value c.deref-2.ensures.value c.in_ok-shared.ensures)
+    ∙ at_sets (λ z w. shared_all z w) two
