@@ -1,7 +1,9 @@
 pub mod DecisionLaws
 pub mod EachWordLaws
+pub mod JoinLaws
 pub mod ListLaws
 pub mod NamingLaws
+pub mod PortRangeLaws
 pub mod PutLaws
 pub mod RowLaws
 pub mod TakenLaws

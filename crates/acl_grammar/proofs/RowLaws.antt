@@ -1,5 +1,5 @@
 -- What is written as rows is read as those rows.
-use Rattle.std.proofs.Common.{◌≡◌, ℕ, zero, suc, ◌+◌, ◌-◌, ◌≤◌, length, take, get_or, Bool, true, false, cond, ◌||◌, List, [], ◌∷◌, ◌++◌, drop, map, replicate, refl, ap, sym, ◌∙◌, append_assoc, append-nil, arith, eqb}
+use Rattle.std.proofs.Common.{◌≡◌, ℕ, zero, suc, ◌+◌, ◌-◌, ◌≤◌, length, take, get_or, Bool, true, false, cond, ◌||◌, List, [], ◌∷◌, ◌++◌, drop, map, flat_map, replicate, refl, ap, sym, ◌∙◌, append_assoc, append-nil, arith, eqb}
 use Rattle.std.specs.Borrow.{Bor}
 use Rattle.std.specs.List.{AllByRecursion, prefix_len, slice_split, join_with_byte, onto_first, fold}
 use Rattle.std.proofs.lemmas.Bool.Decides.{Decides-eqb}
@@ -118,6 +118,15 @@ pub fold-again : {S : Type 0} (step : S → Row → S) (start end : S) (rows : L
     → fold step start rows ≡ end → step end (row_in []) ≡ end → fold step start (rows_in (text_of_rows rows)) ≡ end
 fold-again step start end rows h e last =
     ap (fold step start) (rows_again rows h) ∙ fold-append step start rows (row_in [] ∷ []) ∙ ap (λ s. step s (row_in [])) e ∙ last
+
+-- a draft goes over what was written of members, each of which it takes
+pub fold-members : {S X A : Type 0} (step : S → X → S) (write : A → List X) (at : List A → S) (P : A → Type 0)
+    → ((before : List A) (a : A) → P a → fold step (at before) (write a) ≡ at (before ++ a ∷ []))
+    → (before members : List A) → AllByRecursion P members → fold step (at before) (flat_map write members) ≡ at (before ++ members)
+fold-members step write at P each before [] h = ap at (sym (append-nil before))
+fold-members step write at P each before (a ∷ members) h =
+    fold-append step (at before) (write a) (flat_map write members) ∙ ap (λ s. fold step s (flat_map write members)) (each before a h.0)
+    ∙ fold-members step write at P each (before ++ a ∷ []) members h.1 ∙ ap at (append_assoc before (a ∷ []) members)
 
 -- all words behind the first were put behind it
 pub words_joined : (words : List (Bor (List ℕ))) (d : Bor (List ℕ)) (i : ℕ) (first text : List ℕ) → 1 ≤ length words

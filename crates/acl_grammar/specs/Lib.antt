@@ -1,6 +1,9 @@
 pub mod ComparingSteps
+pub mod Documents
 pub mod Naming
 pub mod NamingSteps
+pub mod PortRangeSteps
+pub mod PortRanges
 pub mod PrefixCheckSteps
 pub mod RowSteps
 pub mod Rows

@@ -20,6 +20,9 @@ pub record IsWord (word : List ℕ) : Type 0 where
   pub no_space : has_byte 32 word ≡ false
   pub no_feed : has_byte 10 word ≡ false
 
+abbrev pub AreWords : List (List ℕ) → Type 0
+AreWords words = AllByRecursion IsWord words
+
 -- The first word has a byte.
 abbrev pub begins : List (List ℕ) → Bool
 begins [] = false
@@ -29,4 +32,7 @@ begins ((b ∷ bs) ∷ words) = true
 -- A row that can be found again in its text.
 pub record IsRow (r : Row) : Type 0 where
   pub start : begins r.words ≡ true
-  pub words : AllByRecursion IsWord r.words
+  pub words : AreWords r.words
+
+abbrev pub AreRows : List Row → Type 0
+AreRows rows = AllByRecursion IsRow rows

@@ -1,9 +1,9 @@
 ghost use Rattle.std.specs.Prelude.{max};
 
 use crate::{
-    Address, Draft, Each, EachWord, Form, FreeText, Named, Number, Piece, Row, Rows, Wildcard,
-    Word, WordForm, are_distinct, have_distinct_names, is_prefix_of, is_text_of, join_words,
-    read_rows,
+    Address, Draft, Each, EachWord, Form, FreeText, Named, Number, Piece, PortRange, Row, Rows,
+    Wildcard, Word, WordForm, are_distinct, are_port_ranges, have_distinct_names, is_port_range,
+    is_prefix_of, is_text_of, join_words, read_rows,
 };
 use acl_packet::{Family, Prefix};
 use acl_text::{Memory, Out, PutFault};
@@ -195,4 +195,23 @@ fn writes_words_and_tells_items(rt: HostRuntime) {
     let items = [Titled { title: b"a" }, Titled { title: b"ab" }];
     assert_eq!(rt; have_distinct_names(&items), true);
     assert_eq!(rt; have_distinct_names(&[a, Titled { title: b"a" }]), false);
+    assert_eq!(rt; are_port_ranges(&[(22, 22), (0, 65535)]), true);
+    assert_eq!(rt; are_port_ranges(&[(22, 22), (2, 1)]), false);
+    assert_eq!(rt; is_port_range((2, 1)), false);
+    let ports = Row {
+        indent: 0,
+        first: PortRange {
+            low: 22,
+            high: 80,
+            separator: b':',
+        },
+        rest: Word {
+            piece: PortRange {
+                low: 22,
+                high: 22,
+                separator: b':',
+            },
+        },
+    };
+    assert_eq!(rt; is_text_of(b"22:80 22\n", &ports), true);
 }

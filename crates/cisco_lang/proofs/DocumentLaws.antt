@@ -1,5 +1,5 @@
 -- What is written of a document is read again.
-use Rattle.std.proofs.Common.{◌≡◌, ℕ, Bool, true, false, List, [], ◌∷◌, ◌++◌, map, flat_map, codes, Some, refl, ap, sym, subst, ◌∙◌, append_assoc, append-nil}
+use Rattle.std.proofs.Common.{◌≡◌, ℕ, Bool, true, false, List, [], ◌∷◌, ◌++◌, map, flat_map, codes, Some, refl, ap, sym, subst, ◌∙◌, append-nil}
 use Rattle.std.specs.List.{fold, AllByRecursion}
 use Rattle.std.proofs.lemmas.List.Splits.{join_with_byte-slice_split}
 use Rattle.std.proofs.lemmas.List.Sums.{fold-append}
@@ -9,7 +9,7 @@ use Rattle.acl_packet.specs.declared.addresses.Families.{Families}
 use Rattle.acl_packet.specs.declared.addresses.Families.TheVariants.{Inet, Inet6, Mixed}
 use Rattle.acl_grammar.specs.Rows.{Row}
 use Rattle.acl_grammar.specs.RowSteps.{row_in, rows_in}
-use Rattle.acl_grammar.proofs.RowLaws.{fold-again}
+use Rattle.acl_grammar.proofs.RowLaws.{fold-again, fold-members}
 use Rattle.cisco_lang.specs.declared.documents.Section.{Section}
 use Rattle.cisco_lang.specs.declared.documents.AccessList.{AccessList}
 use Rattle.cisco_lang.specs.declared.documents.Item.{Item}
@@ -53,11 +53,9 @@ item_read ss s l (AnEntry e) h =
 
 items_read : (ss : List Section) (s : Section) (l : AccessList) (items : List Item) → AllByRecursion (IsItem l.family) items
     → read (at ss s l) (flat_map (item_rows l.family) items) ≡ at ss s (record l { items = l.items ++ items })
-items_read ss s l [] h = ap (λ t. at ss s (record l { items = t })) (sym (append-nil l.items))
-items_read ss s l (i ∷ items) h =
-    then (at ss s l) (at ss s (with_item l i)) (at ss s (record l { items = l.items ++ i ∷ items })) (item_rows l.family i) (flat_map (item_rows l.family) items)
-    (item_read ss s l i h.0)
-    (items_read ss s (with_item l i) items h.1 ∙ ap (λ t. at ss s (record l { items = t })) (append_assoc l.items (i ∷ []) items))
+items_read ss s l items h =
+    fold-members take_row (item_rows l.family) (λ is. at ss s (record l { items = is })) (IsItem l.family)
+    (λ is i k. item_read ss s (record l { items = is }) i k) l.items items h
 
 -- ---- lists
 
@@ -118,11 +116,8 @@ section_read ss t k s h =
 
 sections_read : (ss doc : List Section) → AllByRecursion IsSection doc
     → read (at ss no_section no_list) (flat_map section_rows doc) ≡ at (ss ++ doc) no_section no_list
-sections_read ss [] h = ap (λ t. at t no_section no_list) (sym (append-nil ss))
-sections_read ss (s ∷ doc) h =
-    then (at ss no_section no_list) (at (ss ++ s ∷ []) no_section no_list) (at (ss ++ s ∷ doc) no_section no_list) (section_rows s) (flat_map section_rows doc)
-    (section_read ss no_section no_list s h.0)
-    (sections_read (ss ++ s ∷ []) doc h.1 ∙ ap (λ t. at t no_section no_list) (append_assoc ss (s ∷ []) doc))
+sections_read ss doc h =
+    fold-members take_row section_rows (λ t. at t no_section no_list) IsSection (λ t s k. section_read t no_section no_list s k) ss doc h
 
 -- ---- documents
 

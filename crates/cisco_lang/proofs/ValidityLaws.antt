@@ -1,10 +1,10 @@
 -- The tests of a document say what a valid one is.
-use Rattle.std.proofs.Common.{◌≡◌, ℕ, ◌≤◌, Bool, true, false, ◌&&◌, nat_le, nat_lt, List, [], ◌∷◌, ◌++◌, map, codes, Option, None, Some, IfSome, refl, ap, sym, subst, ◌∙◌, arith}
+use Rattle.std.proofs.Common.{◌≡◌, ℕ, ◌≤◌, Bool, true, false, ◌&&◌, nat_le, List, [], ◌∷◌, ◌++◌, map, codes, Option, None, Some, IfSome, refl, ap, sym, subst, ◌∙◌, arith}
 use Rattle.std.specs.Bool.{Decides}
 use Rattle.std.specs.List.{list_all, AllByRecursion, IsDistinct}
 use Rattle.std.specs.Str.{bytes_eq}
 use Rattle.std.proofs.lemmas.Bool.{false≢true, false_from_ne_true}
-use Rattle.std.proofs.lemmas.Bool.Decides.{same_from_decides, Decides-and, Decides-like, Decides-ltb}
+use Rattle.std.proofs.lemmas.Bool.Decides.{same_from_decides, Decides-and, Decides-like}
 use Rattle.std.proofs.lemmas.List.{append_cancel_left}
 use Rattle.std.proofs.lemmas.Option.{none-some}
 use Rattle.std.proofs.lemmas.Slice.Eq.{bytes_eq-Decides}
@@ -18,13 +18,15 @@ use Rattle.acl_text.specs.Cuts.{behind}
 use Rattle.acl_text.specs.Names.{is_filter_name}
 use Rattle.acl_text.proofs.CutLaws.{behind-found, behind-again}
 use Rattle.acl_grammar.specs.PrefixCheckSteps.{is_prefix_of}
+use Rattle.acl_grammar.specs.PortRanges.{IsPortRange}
 use Rattle.acl_grammar.proofs.DecisionLaws.{le_decides, family_decides, prefix_decides, all_decides}
+use Rattle.acl_grammar.proofs.PortRangeLaws.{range_decides}
 use Rattle.cisco_lang.specs.declared.documents.Section.{Section}
 use Rattle.cisco_lang.specs.declared.documents.AccessList.{AccessList}
 use Rattle.cisco_lang.specs.declared.documents.Item.{Item}
 use Rattle.cisco_lang.specs.declared.documents.Item.TheVariants.{Remark, Entry as AnEntry}
 use Rattle.cisco_lang.specs.declared.documents.Entry.{Entry}
-use Rattle.cisco_lang.specs.Documents.{IsPortRange, parts_fit, IsEntry, IsItem, IsList, heads_of, IsSection, names_of, IsDocument}
+use Rattle.cisco_lang.specs.Documents.{parts_fit, IsEntry, IsItem, IsList, heads_of, IsSection, names_of, IsDocument}
 use Rattle.cisco_lang.specs.ValiditySteps.{is_number, are_ports, is_end, is_entry, is_item, is_list, is_headed, are_headed, is_section, are_sections}
 
 -- ---- a name that is a front and a name
@@ -53,7 +55,7 @@ type_decides (Some n) = Decides-like (is_number 0 254 (Some n)) (λ h. h.1) (λ 
 
 ports_decide : (o : Option (ℕ × ℕ)) → Decides (are_ports o) (IfSome o IsPortRange)
 ports_decide None = (λ h. tt, λ h. refl)
-ports_decide (Some (m, n)) = Decides-and (nat_le m n) (nat_lt n 65536) (le_decides m n) (Decides-ltb n 65536)
+ports_decide (Some ports) = range_decides ports
 
 end_decides : (f : Family) (p : Prefix) (o : Option (ℕ × ℕ)) → Decides (is_end f p o) (IsPrefixOf f p × IfSome o IsPortRange)
 end_decides f p o = Decides-and (is_prefix_of f p) (are_ports o) (prefix_decides f p) (ports_decide o)

@@ -1,9 +1,8 @@
 -- Documents of Cisco IOS access lists, and which of them are valid.
 -- Sources: Cisco IOS Security Command Reference, "access-list (IP extended)" and "ip access-list";
 -- Cisco IOS IPv6 Command Reference, "ipv6 access-list", "permit (IPv6)" and "deny (IPv6)".
-use Rattle.std.specs.Prelude.{◌≡◌, ℕ, ◌<◌, ◌≤◌, Bool, true, false, ◌&&◌, ◌||◌, ◌==◌, List, [], ◌∷◌, ◌++◌, map, flat_map, codes, Option, None, Some, IfSome, is_none}
-use Rattle.std.specs.List.{AllByRecursion, IsDistinct}
-use Rattle.std.specs.Str.{bytes_eq}
+use Rattle.std.specs.Prelude.{◌≡◌, ℕ, ◌≤◌, Bool, true, false, ◌&&◌, ◌||◌, ◌==◌, List, [], ◌∷◌, ◌++◌, map, flat_map, codes, Option, None, Some, IfSome, is_none}
+use Rattle.std.specs.List.{AllByRecursion}
 use Rattle.acl_packet.specs.declared.addresses.Family.{Family}
 use Rattle.acl_packet.specs.declared.addresses.Family.TheVariants.{V4, V6}
 use Rattle.acl_packet.specs.declared.addresses.Families.{Families}
@@ -11,6 +10,8 @@ use Rattle.acl_packet.specs.declared.addresses.Families.TheVariants.{Inet, Inet6
 use Rattle.acl_packet.specs.Addresses.{IsPrefixOf}
 use Rattle.acl_packet.specs.Packets.{icmp_of}
 use Rattle.acl_text.specs.Names.{is_filter_name, is_safe_text}
+use Rattle.acl_grammar.specs.Documents.{IsDocumentOf}
+use Rattle.acl_grammar.specs.PortRanges.{IsPortRange}
 use Rattle.cisco_lang.specs.declared.documents.Section.{Section}
 use Rattle.cisco_lang.specs.declared.documents.AccessList.{AccessList}
 use Rattle.cisco_lang.specs.declared.documents.Item.{Item}
@@ -22,10 +23,6 @@ use Rattle.cisco_lang.specs.declared.documents.Flags.TheVariants.{SynNotAck}
 abbrev pub is_proto : Option ℕ → ℕ → Bool
 is_proto None number = false
 is_proto (Some proto) number = proto == number
-
--- A range of ports, from the low one to the high one.
-abbrev pub IsPortRange : ℕ × ℕ → Type 0
-IsPortRange ports = (ports.0 ≤ ports.1) × (ports.1 < 65536)
 
 -- Ports belong to TCP or UDP, a type to the family's ICMP, flags to TCP, and `match-all` to IPv4
 -- lists.
@@ -78,6 +75,5 @@ abbrev pub names_of : List Section → List (List ℕ)
 names_of doc = flat_map (λ s. map (λ l. l.name) s.lists) doc
 
 -- A document is its sections, no two of whose lists have the same name.
-pub record IsDocument (doc : List Section) : Type 0 where
-  pub sections : AllByRecursion IsSection doc
-  pub names_differ : IsDistinct bytes_eq (names_of doc)
+abbrev pub IsDocument : List Section → Type 0
+IsDocument doc = IsDocumentOf IsSection names_of doc

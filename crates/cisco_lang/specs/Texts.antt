@@ -2,7 +2,7 @@
 -- Sources: Cisco IOS Security Command Reference, "access-list (IP extended)", "ip access-list" and
 -- "remark";
 -- Cisco IOS IPv6 Command Reference, "ipv6 access-list", "permit (IPv6)" and "deny (IPv6)".
-use Rattle.std.specs.Prelude.{◌≡◌, ℕ, Bool, true, false, ◌==◌, if◌then◌else◌, List, [], ◌∷◌, ◌++◌, flat_map, codes, Option, None, Some}
+use Rattle.std.specs.Prelude.{ℕ, Bool, true, false, ◌==◌, if◌then◌else◌, List, [], ◌∷◌, ◌++◌, flat_map, codes, Option, None, Some}
 use Rattle.std.specs.Fmt.{decimal}
 use Rattle.acl_packet.specs.declared.addresses.Family.{Family}
 use Rattle.acl_packet.specs.declared.addresses.Family.TheVariants.{V4, V6}
@@ -19,6 +19,7 @@ use Rattle.cisco_lang.specs.declared.documents.Entry.{Entry}
 use Rattle.cisco_lang.specs.declared.documents.Flags.{Flags}
 use Rattle.cisco_lang.specs.declared.documents.Flags.TheVariants.{Established, Rst, SynNotAck}
 use Rattle.acl_packet.specs.Packets.{icmp_of}
+use Rattle.acl_grammar.specs.Documents.{IsSpelling}
 use Rattle.acl_grammar.specs.Rows.{Row, row, words_in, text_of_rows}
 use Rattle.cisco_lang.specs.Documents.{IsDocument}
 
@@ -117,6 +118,5 @@ abbrev pub text_of : List Section → List ℕ
 text_of doc = text_of_rows (flat_map section_rows doc)
 
 -- The bytes spell the document: it is valid, and they are its text.
-pub record Spells (bytes : List ℕ) (doc : List Section) : Type 0 where
-  pub valid : IsDocument doc
-  pub written : bytes ≡ text_of doc
+abbrev pub Spells : List ℕ → List Section → Type 0
+Spells bytes doc = IsSpelling IsDocument text_of bytes doc

@@ -1,5 +1,5 @@
 -- Whether a document is valid, test by test.
-use Rattle.std.specs.Prelude.{ℕ, Bool, true, false, ◌&&◌, nat_le, nat_lt, List, [], ◌∷◌, ◌++◌, codes, Option, None, Some}
+use Rattle.std.specs.Prelude.{ℕ, Bool, true, false, ◌&&◌, nat_le, List, [], ◌∷◌, ◌++◌, codes, Option, None, Some}
 use Rattle.std.specs.List.{list_all}
 use Rattle.std.specs.Str.{bytes_eq}
 use Rattle.acl_packet.specs.declared.addresses.Family.{Family}
@@ -9,6 +9,7 @@ use Rattle.acl_packet.specs.declared.addresses.Families.TheVariants.{Inet, Inet6
 use Rattle.acl_packet.specs.declared.addresses.Prefix.{Prefix}
 use Rattle.acl_packet.specs.Addresses.{same_family}
 use Rattle.acl_text.specs.Names.{is_filter_name, is_safe_text}
+use Rattle.acl_grammar.specs.PortRangeSteps.{is_port_range}
 use Rattle.acl_grammar.specs.PrefixCheckSteps.{is_prefix_of}
 use Rattle.cisco_lang.specs.declared.documents.Section.{Section}
 use Rattle.cisco_lang.specs.declared.documents.AccessList.{AccessList}
@@ -23,7 +24,7 @@ is_number least most (Some n) = nat_le least n && nat_le n most
 
 abbrev pub are_ports : Option (ℕ × ℕ) → Bool
 are_ports None = true
-are_ports (Some ports) = nat_le ports.0 ports.1 && nat_lt ports.1 65536
+are_ports (Some ports) = is_port_range ports
 
 abbrev pub is_end : Family → Prefix → Option (ℕ × ℕ) → Bool
 is_end family p ports = is_prefix_of family p && are_ports ports

@@ -3,7 +3,7 @@
 -- the end; an interface whose list has no entry lets all pass); Cisco IOS IPv6 Command Reference,
 -- "ipv6 access-list" (the implicit permit of neighbour advertisements and solicitations before the
 -- implicit deny); RFC 4861 section 4 for their types.
-use Rattle.std.specs.Prelude.{ℕ, Bool, true, false, not, ◌&&◌, ◌||◌, ◌==◌, nat_le, if◌then◌else◌, List, [], ◌∷◌, Option, None, Some, slice_get, unwrap_or, option_and_then}
+use Rattle.std.specs.Prelude.{ℕ, Bool, true, false, not, ◌&&◌, ◌||◌, ◌==◌, nat_le, if◌then◌else◌, List, [], ◌∷◌, Option, None, Some, unwrap_or}
 use Rattle.std.specs.List.{list_any}
 use Rattle.acl_packet.specs.declared.addresses.Family.{Family}
 use Rattle.acl_packet.specs.declared.addresses.Family.TheVariants.{V4, V6}
@@ -14,6 +14,7 @@ use Rattle.acl_packet.specs.declared.filtering.Verdict.TheVariants.{Accept, Deny
 use Rattle.acl_packet.specs.Addresses.{covers, has_address, same_family}
 use Rattle.acl_packet.specs.Outcomes.{unlogged}
 use Rattle.acl_packet.specs.Packets.{has_flag}
+use Rattle.acl_grammar.specs.Documents.{outcome_at}
 use Rattle.cisco_lang.specs.declared.documents.Section.{Section}
 use Rattle.cisco_lang.specs.declared.documents.AccessList.{AccessList}
 use Rattle.cisco_lang.specs.declared.documents.Item.{Item}
@@ -100,4 +101,4 @@ section_outcome s p =
 
 -- What the section at that place does; nothing where there is none.
 abbrev pub outcome_of : List Section → ℕ → Packet → Option Outcome
-outcome_of doc which p = option_and_then (λ s. section_outcome s p) (slice_get doc which)
+outcome_of doc which p = outcome_at section_outcome doc which p

@@ -5,7 +5,7 @@ ghost use Rattle.cisco_lang.specs.Documents.{IsDocument, flags_fit, is_proto, ma
 ghost use Rattle.cisco_lang.specs.ValiditySteps.{are_headed, are_ports, are_sections, is_end, is_entry, is_headed, is_item, is_list, is_number, is_section};
 
 use crate::documents::{AccessList, Entry, Flags, Item, Section};
-use acl_grammar::{are_distinct, is_prefix_of};
+use acl_grammar::{are_distinct, is_port_range, is_prefix_of};
 use acl_packet::{Families, Family, Prefix};
 use acl_text::{Memory, behind, is_filter_name, is_safe_text};
 use std::alloc::Global;
@@ -149,7 +149,7 @@ fn are_ports(ports: Option<(u16, u16)>) -> bool
     ensures { result ≡ are_ports ports }
 {
     match ports {
-        Some((low, high)) => low <= high,
+        Some(ports) => is_port_range(ports),
         None => true,
     }
 }

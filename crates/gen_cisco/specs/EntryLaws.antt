@@ -12,6 +12,7 @@ use Rattle.acl_sets.specs.ComputableSets.{is_all}
 use Rattle.acl_sets.specs.Ranges.{holds, Numbers, Only}
 use Rattle.acl_sets.proofs.ComputableSetLaws.{covers-holds}
 use Rattle.acl_sets.proofs.RangeLaws.{at_top}
+use Rattle.acl_grammar.specs.PortRanges.{IsPortRange}
 use Rattle.acl_target.specs.declared.targets.Kind.TheVariants.{Cisco}
 use Rattle.acl_platform.specs.declared.combinations.Combination.{Combination}
 use Rattle.acl_platform.specs.declared.rules.Rule.{Rule}
@@ -21,7 +22,7 @@ use Rattle.acl_platform.specs.Limits.{names_sctp_ports}
 use Rattle.acl_platform.specs.SoundFilters.{is_named_protocol, is_tcp, IsSoundRule, tests_flags}
 use Rattle.acl_platform.proofs.CombinationFacts.{IsCombinationOf, OfNumbers, OfRanges}
 use Rattle.acl_platform.proofs.RuleNumbers.{no-destination, no-source, tcp-or-udp, type-most}
-use Rattle.cisco_lang.specs.Documents.{flags_fit, IsEntry, IsPortRange, is_proto, match_all_fits, ports_fit, type_fits}
+use Rattle.cisco_lang.specs.Documents.{flags_fit, IsEntry, is_proto, match_all_fits, ports_fit, type_fits}
 use Rattle.gen_cisco.specs.Limits.{asks_initial, is_unsupported}
 use Rattle.gen_cisco.specs.Sections.{entry_of, flags_of}
 

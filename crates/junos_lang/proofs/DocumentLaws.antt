@@ -21,9 +21,11 @@ use Rattle.acl_text.proofs.AddressLaws.{prefix-lacks, spelled-again}
 use Rattle.acl_text.proofs.CutLaws.{cut-again}
 use Rattle.acl_text.proofs.PortLaws.{ports-again}
 use Rattle.acl_text.proofs.Printed.{IsForeign}
+use Rattle.acl_grammar.specs.PortRanges.{IsPortRange}
 use Rattle.acl_grammar.specs.Rows.{Row, row, words_in}
 use Rattle.acl_grammar.specs.RowSteps.{row_in, rows_in}
-use Rattle.acl_grammar.proofs.RowLaws.{fold-again}
+use Rattle.acl_grammar.proofs.PortRangeLaws.{range-again}
+use Rattle.acl_grammar.proofs.RowLaws.{fold-again, fold-members}
 use Rattle.junos_lang.specs.declared.documents.Section.{Section}
 use Rattle.junos_lang.specs.declared.documents.JTerm.{JTerm}
 use Rattle.junos_lang.specs.declared.documents.JTest.{JTest}
@@ -32,7 +34,7 @@ use Rattle.junos_lang.specs.declared.conditions.Side.{Side}
 use Rattle.junos_lang.specs.declared.conditions.Side.TheVariants.{Source, Destination}
 use Rattle.junos_lang.specs.declared.conditions.Condition.TheVariants.{SourcePort, DestinationPort, IcmpType}
 use Rattle.junos_lang.specs.declared.drafts.DocumentDraft.{DocumentDraft}
-use Rattle.junos_lang.specs.Documents.{IsListed, IsPortRange, IsTerm, IsSection, ports_fit, types_fit, test_fits, verdict_fits, family_word}
+use Rattle.junos_lang.specs.Documents.{IsListed, IsTerm, IsSection, ports_fit, types_fit, test_fits, verdict_fits, family_word}
 use Rattle.junos_lang.specs.Texts.{closing, prefix_row, address_rows, protocol_of, list_row, list_rows, range_word, test_rows, condition_rows, from_rows, then_rows, note_row, note_rows, term_row, term_rows, head_rows, end_rows, section_rows, Spells}
 use Rattle.junos_lang.specs.ReadingSteps.{one_or_none, numbers_in, ranges_in, listed_prefix_in, note_in, no_term, with_prefix, with_list, with_word, with_pair, side_in, no_section, no_draft, take_outer, family_in, take_head, take_row, document_in}
 use Rattle.junos_lang.proofs.SafeRows.{sections_safe}
@@ -123,22 +125,6 @@ numbers_again : (word : List ℕ) → number_in 255 word ≡ None → (ns : List
 unfolding numbers_in
 numbers_again word e ns h = list_again (number_in 255) decimal (λ n. n < 256) number_of_again word e no_number.0 no_number.1 ns h
 
-range_again : (r : ℕ × ℕ) → IsPortRange r → ports_in 45 (range_word r) ≡ Some r
-unfolding range_word
-range_again r h = range_cases (r.0 == r.1) refl where
-  low : r.0 < 2 ^ 128
-  low = omega (arith, h.0, h.1)
-
-  high : r.1 < 2 ^ 128
-  high = omega (arith, h.1)
-
-  range_cases : (a : Bool) → (r.0 == r.1) ≡ a → ports_in 45 (cond a (decimal r.0) (decimal r.0 ++ 45 ∷ decimal r.1)) ≡ Some r
-  range_cases true e =
-      ports-again 45 (decimal r.0) r refl (record { spelled = inl (decimal-number r.0 low, eqb-true r.0 r.1 e); ordered = h.0; fit = h.1 })
-  range_cases false e =
-      ports-again 45 (decimal r.0 ++ 45 ∷ decimal r.1) r refl
-      (record { spelled = inr (decimal r.0, decimal r.1, refl, decimal-number r.0 low, decimal-number r.1 high); ordered = h.0; fit = h.1 })
-
 no_range : (ports_in 45 (codes "[") ≡ None) × (ports_in 45 (codes "];") ≡ None) × (ports_in 45 (codes "source-port") ≡ None) × (ports_in 45 (codes "destination-port") ≡ None)
 unfolding ports_in port_in port_pair_in number_in digits_in
 no_range = (refl, refl, refl, refl)
@@ -146,7 +132,7 @@ no_range = (refl, refl, refl, refl)
 ranges_again : (word : List ℕ) → ports_in 45 word ≡ None → (rs : List (ℕ × ℕ)) → AllByRecursion IsPortRange rs
     → ranges_in (word ∷ codes "[" ∷ (map range_word rs ++ codes "];" ∷ [])) ≡ rs
 unfolding ranges_in
-ranges_again word e rs h = list_again (ports_in 45) range_word IsPortRange range_again word e no_range.0 no_range.1 rs h
+ranges_again word e rs h = list_again (ports_in 45) range_word IsPortRange (range-again 45 refl) word e no_range.0 no_range.1 rs h
 
 protos_read : (ss : List Section) (s : Section) (t : JTerm) (f : Family) (ns : List ℕ) → t.protos ≡ [] → AllByRecursion (λ n. n < 256) ns
     → read (at ss s t) (list_rows (protocol_of f) (map decimal ns)) ≡ at ss s (record t { protos = ns })
@@ -280,11 +266,9 @@ term_read ss s t h =
 
 terms_read : (ss : List Section) (s : Section) (ts : List JTerm) → AllByRecursion (IsTerm s.family) ts
     → read (at ss s no_term) (flat_map (term_rows s.family) ts) ≡ at ss (record s { terms = s.terms ++ ts }) no_term
-terms_read ss s [] h = ap (λ l. at ss (record s { terms = l }) no_term) (sym (append-nil s.terms))
-terms_read ss s (t ∷ ts) h =
-    then (at ss s no_term) (at ss (with_term s t) no_term) (at ss (record s { terms = s.terms ++ t ∷ ts }) no_term) (term_rows s.family t) (flat_map (term_rows s.family) ts)
-    (term_read ss s t h.0)
-    (terms_read ss (with_term s t) ts h.1 ∙ ap (λ l. at ss (record s { terms = l }) no_term) (append_assoc s.terms (t ∷ []) ts))
+terms_read ss s ts h =
+    fold-members take_row (term_rows s.family) (λ us. at ss (record s { terms = us }) no_term) (IsTerm s.family)
+    (λ us t k. term_read ss (record s { terms = us }) t k) s.terms ts h
 
 -- ---- sections
 
@@ -310,11 +294,7 @@ section_read ss s h =
 
 sections_read : (ss doc : List Section) → AllByRecursion IsSection doc
     → read (at ss no_section no_term) (flat_map section_rows doc) ≡ at (ss ++ doc) no_section no_term
-sections_read ss [] h = ap (λ t. at t no_section no_term) (sym (append-nil ss))
-sections_read ss (s ∷ doc) h =
-    then (at ss no_section no_term) (at (ss ++ s ∷ []) no_section no_term) (at (ss ++ s ∷ doc) no_section no_term) (section_rows s) (flat_map section_rows doc)
-    (section_read ss s h.0)
-    (sections_read (ss ++ s ∷ []) doc h.1 ∙ ap (λ t. at t no_section no_term) (append_assoc ss (s ∷ []) doc))
+sections_read ss doc h = fold-members take_row section_rows (λ t. at t no_section no_term) IsSection section_read ss doc h
 
 -- ---- documents
 

@@ -10,9 +10,12 @@ use Rattle.acl_packet.specs.declared.filtering.Verdict.TheVariants.{Accept, Deny
 use Rattle.acl_text.specs.AddressTexts.{prefix_text}
 use Rattle.acl_text.specs.Names.{is_safe_text}
 use Rattle.acl_text.proofs.CutLaws.{has-append}
+use Rattle.acl_text.proofs.ListLaws.{all_append}
+use Rattle.acl_grammar.specs.PortRanges.{IsPortRange}
 use Rattle.acl_grammar.specs.Rows.{Row, words_in}
-use Rattle.acl_grammar.specs.RowSteps.{begins, IsRow, IsWord}
-use Rattle.acl_grammar.proofs.ListLaws.{all_append, all_flat}
+use Rattle.acl_grammar.specs.RowSteps.{begins, IsRow, IsWord, AreWords, AreRows}
+use Rattle.acl_grammar.proofs.ListLaws.{all_flat, all_map}
+use Rattle.acl_grammar.proofs.PortRangeLaws.{range_word as range_is_word}
 use Rattle.acl_grammar.proofs.WordLaws.{word, decimal_word, prefix_word, name_word, plain_word, text_words}
 use Rattle.junos_lang.specs.declared.documents.Section.{Section}
 use Rattle.junos_lang.specs.declared.documents.JTerm.{JTerm}
@@ -22,14 +25,8 @@ use Rattle.junos_lang.specs.declared.conditions.Side.{Side}
 use Rattle.junos_lang.specs.declared.conditions.Side.TheVariants.{Source, Destination}
 use Rattle.junos_lang.specs.declared.conditions.Condition.{Condition}
 use Rattle.junos_lang.specs.declared.conditions.Condition.TheVariants.{Protocol, NextHeader, SourcePort, DestinationPort, IcmpType}
-use Rattle.junos_lang.specs.Documents.{IsListed, IsPortRange, IsTerm, IsSection, family_word}
+use Rattle.junos_lang.specs.Documents.{IsListed, IsTerm, IsSection, family_word}
 use Rattle.junos_lang.specs.Texts.{closing, side_word, prefix_row, address_rows, condition_word, protocol_of, list_row, list_rows, range_word, test_rows, condition_rows, from_rows, verdict_words, syslog_rows, then_rows, note_row, note_rows, term_row, term_rows, head_rows, end_rows, section_rows}
-
-abbrev AreWords : List (List ℕ) → Type 0
-AreWords words = AllByRecursion IsWord words
-
-abbrev AreRows : List Row → Type 0
-AreRows rows = AllByRecursion IsRow rows
 
 brace : IsWord (codes "{")
 brace = word (codes "{") refl refl
@@ -55,16 +52,12 @@ prefix_safe f p h =
       words = (word (prefix_text p ++ codes ";") (has-append 32 (prefix_text p) (codes ";") w.no_space refl) (has-append 10 (prefix_text p) (codes ";") w.no_feed refl), tt);
     }
 
-prefixes_safe : (f : Family) (ps : List Prefix) → AllByRecursion (IsListed f) ps → AreRows (map prefix_row ps)
-prefixes_safe f [] h = tt
-prefixes_safe f (p ∷ ps) h = (prefix_safe f p h.0, prefixes_safe f ps h.1)
-
 addresses_safe : (f : Family) (s : Side) (ps : List Prefix) → AllByRecursion (IsListed f) ps → AreRows (address_rows s ps)
 unfolding address_rows
 addresses_safe f s [] h = tt
 addresses_safe f s (p ∷ ps) h = (
   record { start = (side_safe s).1; words = ((side_safe s).0, (brace, tt)) },
-  all_append IsRow (map prefix_row (p ∷ ps)) (closing 20 ∷ []) (prefixes_safe f (p ∷ ps) h) (closing_safe 20, tt),
+  all_append IsRow (map prefix_row (p ∷ ps)) (closing 20 ∷ []) (all_map (IsListed f) IsRow prefix_row (prefix_safe f) (p ∷ ps) h) (closing_safe 20, tt),
 )
 
 condition_safe : (c : Condition) (words : List (List ℕ)) → IsWord (condition_word c) × (begins (condition_word c ∷ words) ≡ true)
@@ -88,24 +81,8 @@ unfolding list_rows
 list_safe c [] h = tt
 list_safe c (v ∷ values) h = (row_safe c (v ∷ values) h, tt)
 
-all_words : {A : Type 0} (write : A → List ℕ) (P : A → Type 0) → ((x : A) → P x → IsWord (write x)) → (xs : List A) → AllByRecursion P xs → AreWords (map write xs)
-all_words write P each [] h = tt
-all_words write P each (x ∷ xs) h = (each x h.0, all_words write P each xs h.1)
-
 range_safe : (r : ℕ × ℕ) → IsPortRange r → IsWord (range_word r)
-unfolding range_word
-range_safe r h = range_cases (r.0 == r.1) where
-  low : IsWord (decimal r.0)
-  low = decimal_word r.0 (omega (arith, h.0, h.1))
-
-  high : IsWord (decimal r.1)
-  high = decimal_word r.1 (omega (arith, h.1))
-
-  range_cases : (a : Bool) → IsWord (cond a (decimal r.0) (decimal r.0 ++ 45 ∷ decimal r.1))
-  range_cases true = low
-  range_cases false =
-      word (decimal r.0 ++ 45 ∷ decimal r.1) (has-append 32 (decimal r.0) (45 ∷ decimal r.1) low.no_space high.no_space)
-      (has-append 10 (decimal r.0) (45 ∷ decimal r.1) low.no_feed high.no_feed)
+range_safe r h = range_is_word 45 r h refl refl
 
 test_safe : (o : Option JTest) → AreRows (test_rows o)
 unfolding test_rows
@@ -119,10 +96,10 @@ unfolding condition_rows
 conditions_safe f t h =
     let byte = λ (n : ℕ) (k : n < 256). decimal_word n (omega (arith, k)) in
     let type = λ (n : ℕ) (k : n ≤ 254). decimal_word n (omega (arith, k)) in
-    let protos = list_safe (protocol_of f) (map decimal t.protos) (all_words decimal (λ n. n < 256) byte t.protos h.protocols) in
-    let sports = list_safe SourcePort (map range_word t.sports) (all_words range_word IsPortRange range_safe t.sports h.source_ports) in
-    let dports = list_safe DestinationPort (map range_word t.dports) (all_words range_word IsPortRange range_safe t.dports h.destination_ports) in
-    let types = list_safe IcmpType (map decimal t.itypes) (all_words decimal (λ n. n ≤ 254) type t.itypes h.icmp_types) in
+    let protos = list_safe (protocol_of f) (map decimal t.protos) (all_map (λ n. n < 256) IsWord decimal byte t.protos h.protocols) in
+    let sports = list_safe SourcePort (map range_word t.sports) (all_map IsPortRange IsWord range_word range_safe t.sports h.source_ports) in
+    let dports = list_safe DestinationPort (map range_word t.dports) (all_map IsPortRange IsWord range_word range_safe t.dports h.destination_ports) in
+    let types = list_safe IcmpType (map decimal t.itypes) (all_map (λ n. n ≤ 254) IsWord decimal type t.itypes h.icmp_types) in
     all_append IsRow (address_rows Source t.src) _ (addresses_safe f Source t.src h.sources)
     (all_append IsRow (address_rows Destination t.dst) _ (addresses_safe f Destination t.dst h.destinations)
     (all_append IsRow (list_rows (protocol_of f) (map decimal t.protos)) _ protos

@@ -11,13 +11,15 @@ use Rattle.acl_packet.specs.declared.addresses.Prefix.{Prefix}
 use Rattle.acl_packet.specs.Addresses.{same_family}
 use Rattle.acl_text.specs.Names.{is_name, is_filter_name, is_safe_text}
 use Rattle.acl_grammar.specs.NamingSteps.{are_distinct}
+use Rattle.acl_grammar.specs.PortRangeSteps.{is_port_range}
 use Rattle.acl_grammar.specs.PrefixCheckSteps.{is_prefix_of}
 use Rattle.acl_grammar.proofs.DecisionLaws.{le_decides, prefix_decides, all_decides}
 use Rattle.acl_grammar.proofs.NamingLaws.{distinct_decides}
+use Rattle.acl_grammar.proofs.PortRangeLaws.{ranges_decide}
 use Rattle.junos_lang.specs.declared.documents.Section.{Section}
 use Rattle.junos_lang.specs.declared.documents.JTerm.{JTerm}
-use Rattle.junos_lang.specs.Documents.{is_empty, parts_fit, IsListed, IsPortRange, IsTerm, term_names, IsSection, family_word, names_of, IsDocument}
-use Rattle.junos_lang.specs.ValiditySteps.{is_note, is_listed, is_port_range, are_named, are_addresses, are_ports, are_numbers, is_term, is_section, is_document}
+use Rattle.junos_lang.specs.Documents.{is_empty, parts_fit, IsListed, IsTerm, term_names, IsSection, family_word, names_of, IsDocument}
+use Rattle.junos_lang.specs.ValiditySteps.{is_note, is_listed, are_named, are_addresses, are_ports, are_numbers, is_term, is_section, is_document}
 
 -- two names are the same where family and filter's name are
 pub same_names : (f g : Family) (a b : List ℕ) → (same_family f g && bytes_eq a b) ≡ bytes_eq (family_word f ++ 32 ∷ a) (family_word g ++ 32 ∷ b)
@@ -38,16 +40,12 @@ note_decides (Some text) = holds (is_safe_text text)
 listed_decides : (f : Family) (p : Prefix) → Decides (is_listed f p) (IsListed f p)
 listed_decides f p = Decides-and (is_prefix_of f p) (nat_le 1 p.len) (prefix_decides f p) (le_decides 1 p.len)
 
-range_decides : (ports : ℕ × ℕ) → Decides (is_port_range ports) (IsPortRange ports)
-range_decides ports = Decides-and (nat_le ports.0 ports.1) (nat_lt ports.1 65536) (le_decides ports.0 ports.1) (Decides-ltb ports.1 65536)
-
 term_decides : (f : Family) (t : JTerm) → Decides (is_term f t) (IsTerm f t)
 term_decides f t =
     let names = Decides-and (is_note t.note) (is_name t.name) (note_decides t.note) (holds (is_name t.name)) in
     let listed = all_decides (is_listed f) (IsListed f) (listed_decides f) in
     let addresses = Decides-and (list_all (is_listed f) t.src) (list_all (is_listed f) t.dst) (listed t.src) (listed t.dst) in
-    let ranges = all_decides is_port_range IsPortRange range_decides in
-    let ports = Decides-and (list_all is_port_range t.sports) (list_all is_port_range t.dports) (ranges t.sports) (ranges t.dports) in
+    let ports = Decides-and (list_all is_port_range t.sports) (list_all is_port_range t.dports) (ranges_decide t.sports) (ranges_decide t.dports) in
     let byte : ℕ → Bool = λ n. nat_lt n 256 in
     let type : ℕ → Bool = λ n. nat_le n 254 in
     let protos = all_decides byte (λ n. n < 256) (λ n. Decides-ltb n 256) t.protos in

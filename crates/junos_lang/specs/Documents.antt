@@ -13,6 +13,8 @@ use Rattle.acl_packet.specs.declared.filtering.Verdict.TheVariants.{Reset, Left}
 use Rattle.acl_packet.specs.Addresses.{IsPrefixOf}
 use Rattle.acl_packet.specs.Packets.{icmp_of}
 use Rattle.acl_text.specs.Names.{is_name, is_filter_name, is_safe_text}
+use Rattle.acl_grammar.specs.Documents.{IsDocumentOf}
+use Rattle.acl_grammar.specs.PortRanges.{IsPortRange}
 use Rattle.junos_lang.specs.declared.documents.Section.{Section}
 use Rattle.junos_lang.specs.declared.documents.JTerm.{JTerm}
 
@@ -54,10 +56,6 @@ parts_fit family t =
 abbrev pub IsListed : Family → Prefix → Type 0
 IsListed family p = IsPrefixOf family p × (1 ≤ p.len)
 
--- A range of ports, from the low one to the high one.
-abbrev pub IsPortRange : ℕ × ℕ → Type 0
-IsPortRange ports = (ports.0 ≤ ports.1) × (ports.1 < 65536)
-
 -- A term of a filter of the family. The type 255 has no number here.
 pub record IsTerm (family : Family) (t : JTerm) : Type 0 where
   pub noted : IfSome t.note (λ text. is_safe_text text ≡ true)
@@ -93,6 +91,5 @@ abbrev pub names_of : List Section → List (List ℕ)
 names_of doc = map name_of doc
 
 -- A document is its sections, no two of which have the same family and name.
-pub record IsDocument (doc : List Section) : Type 0 where
-  pub sections : AllByRecursion IsSection doc
-  pub names_differ : IsDistinct bytes_eq (names_of doc)
+abbrev pub IsDocument : List Section → Type 0
+IsDocument doc = IsDocumentOf IsSection names_of doc

@@ -11,6 +11,8 @@ use Rattle.acl_packet.specs.declared.addresses.Prefix.{Prefix}
 use Rattle.acl_packet.specs.declared.filtering.Verdict.{Verdict}
 use Rattle.acl_packet.specs.declared.filtering.Verdict.TheVariants.{Accept, Deny, Reject, Reset, Left}
 use Rattle.acl_text.specs.AddressTexts.{prefix_text}
+use Rattle.acl_grammar.specs.Documents.{IsSpelling}
+use Rattle.acl_grammar.specs.PortRanges.{range_text}
 use Rattle.acl_grammar.specs.Rows.{Row, row, words_in, text_of_rows}
 use Rattle.junos_lang.specs.declared.documents.Section.{Section}
 use Rattle.junos_lang.specs.declared.documents.JTerm.{JTerm}
@@ -62,10 +64,9 @@ unfoldable pub list_rows : Condition → List (List ℕ) → List Row
 list_rows condition [] = []
 list_rows condition (v ∷ values) = list_row condition (v ∷ values) ∷ []
 
--- One port, or the low and the high one.
-unfoldable pub range_word : ℕ × ℕ → List ℕ
-range_word ports =
-    if ports.0 == ports.1 then decimal ports.0 else decimal ports.0 ++ 45 ∷ decimal ports.1
+-- A `-` stands between the low port and the high one.
+abbrev pub range_word : ℕ × ℕ → List ℕ
+range_word ports = range_text 45 ports
 
 abbrev pub test_words : JTest → List (List ℕ)
 test_words Established = codes "tcp-established;" ∷ []
@@ -145,6 +146,5 @@ abbrev pub text_of : List Section → List ℕ
 text_of doc = text_of_rows (flat_map section_rows doc)
 
 -- The bytes spell the document: it is valid, and they are its text.
-pub record Spells (bytes : List ℕ) (doc : List Section) : Type 0 where
-  pub valid : IsDocument doc
-  pub written : bytes ≡ text_of doc
+abbrev pub Spells : List ℕ → List Section → Type 0
+Spells bytes doc = IsSpelling IsDocument text_of bytes doc

@@ -5,6 +5,7 @@ use Rattle.acl_packet.specs.declared.addresses.Family.{Family}
 use Rattle.acl_packet.specs.declared.addresses.Prefix.{Prefix}
 use Rattle.acl_text.specs.Names.{is_name, is_filter_name, is_safe_text}
 use Rattle.acl_grammar.specs.NamingSteps.{are_distinct}
+use Rattle.acl_grammar.specs.PortRangeSteps.{is_port_range}
 use Rattle.acl_grammar.specs.PrefixCheckSteps.{is_prefix_of}
 use Rattle.junos_lang.specs.declared.documents.Section.{Section}
 use Rattle.junos_lang.specs.declared.documents.JTerm.{JTerm}
@@ -16,9 +17,6 @@ is_note (Some text) = is_safe_text text
 
 abbrev pub is_listed : Family → Prefix → Bool
 is_listed family p = is_prefix_of family p && nat_le 1 p.len
-
-abbrev pub is_port_range : ℕ × ℕ → Bool
-is_port_range ports = nat_le ports.0 ports.1 && nat_lt ports.1 65536
 
 abbrev pub are_named : JTerm → Bool
 are_named t = is_note t.note && is_name t.name

@@ -12,6 +12,7 @@ use Rattle.acl_packet.specs.declared.filtering.Verdict.TheVariants.{Deny}
 use Rattle.acl_packet.specs.Addresses.{has_address, same_family}
 use Rattle.acl_packet.specs.Outcomes.{unlogged}
 use Rattle.acl_packet.specs.Packets.{has_flag}
+use Rattle.acl_grammar.specs.Documents.{outcome_at}
 use Rattle.junos_lang.specs.declared.documents.Section.{Section}
 use Rattle.junos_lang.specs.declared.documents.JTerm.{JTerm}
 use Rattle.junos_lang.specs.declared.documents.JTest.{JTest}
@@ -66,4 +67,4 @@ section_outcome s p = if same_family s.family p.family then Some (walk s.terms p
 
 -- What the section at that place does; nothing where there is none.
 abbrev pub outcome_of : List Section → ℕ → Packet → Option Outcome
-outcome_of doc which p = option_and_then (λ s. section_outcome s p) (slice_get doc which)
+outcome_of doc which p = outcome_at section_outcome doc which p

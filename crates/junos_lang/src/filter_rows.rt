@@ -7,7 +7,7 @@ ghost use Rattle.junos_lang.specs.Texts.{address_rows, closing, condition_word, 
 
 use crate::conditions::{Condition, Side};
 use crate::documents::JTest;
-use acl_grammar::{Each, Form, FreeText, Number, Piece, Row, Rows, Word, Words};
+use acl_grammar::{Each, Form, FreeText, Piece, Row, Rows, Word, Words};
 use acl_packet::{Family, Prefix, Verdict};
 use acl_text::{Out, PutFault};
 
@@ -298,15 +298,13 @@ pub struct PortRange {
 impl Piece for PortRange {
     ghost text = { λ r. range_word (r.low, r.high) };
 
-    #[tactic(auto, unfolding(crate::specs::Texts::range_word))]
     fn put_into<O: Out>(&self, out: &mut O) -> Result<(), PutFault> {
-        let low = Number { number: self.low };
-        if self.low == self.high {
-            low.put_into(out)
-        } else {
-            let high = Number { number: self.high };
-            (low, (b"-".as_slice(), high)).put_into(out)
-        }
+        let range = acl_grammar::PortRange {
+            low: self.low,
+            high: self.high,
+            separator: b'-',
+        };
+        range.put_into(out)
     }
 }
 

@@ -1,10 +1,10 @@
 ghost use Rattle.std.specs.Prelude.{◌≡◌, ◌↔◌, ◌==◌, ◌||◌, IsTrue, nat_le, nat_lt};
 ghost use Rattle.std.specs.List.{list_all};
 ghost use Rattle.junos_lang.specs.Documents.{IsDocument, has_ports, is_alone, name_of, parts_fit, ports_fit, test_fits, types_fit, verdict_fits};
-ghost use Rattle.junos_lang.specs.ValiditySteps.{are_addresses, are_named, are_numbers, are_ports, is_document, is_listed, is_note, is_port_range, is_section, is_term};
+ghost use Rattle.junos_lang.specs.ValiditySteps.{are_addresses, are_named, are_numbers, are_ports, is_document, is_listed, is_note, is_section, is_term};
 
 use crate::documents::{JTerm, Section};
-use acl_grammar::{Named, have_distinct_names, is_prefix_of};
+use acl_grammar::{Named, are_port_ranges, have_distinct_names, is_prefix_of};
 use acl_packet::{Family, Prefix, Verdict};
 use acl_text::{Bytes, is_filter_name, is_name, is_safe_text};
 
@@ -106,19 +106,7 @@ fn is_listed(family: Family, prefix: &Prefix) -> bool
 fn are_ports(term: &JTerm) -> bool
     ensures { result ≡ are_ports term.now }
 {
-    are_ranges(term.sports.as_slice()) && are_ranges(term.dports.as_slice())
-}
-
-fn are_ranges(ranges: &[(u16, u16)]) -> bool
-    ensures { result ≡ list_all is_port_range ranges.now }
-{
-    ranges.iter().all(|ports| is_port_range(*ports))
-}
-
-fn is_port_range(ports: (u16, u16)) -> bool
-    ensures { result ≡ is_port_range ports }
-{
-    ports.0 <= ports.1
+    are_port_ranges(term.sports.as_slice()) && are_port_ranges(term.dports.as_slice())
 }
 
 fn are_numbers(term: &JTerm) -> bool

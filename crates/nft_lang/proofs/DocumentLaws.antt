@@ -19,7 +19,7 @@ use Rattle.acl_text.proofs.CutLaws.{behind-again}
 use Rattle.acl_text.proofs.DigitLaws.{decimal-lacks}
 use Rattle.acl_grammar.specs.Rows.{Row}
 use Rattle.acl_grammar.specs.RowSteps.{row_in, rows_in}
-use Rattle.acl_grammar.proofs.RowLaws.{fold-again}
+use Rattle.acl_grammar.proofs.RowLaws.{fold-again, fold-members}
 use Rattle.nft_lang.specs.declared.documents.Section.{Section}
 use Rattle.nft_lang.specs.declared.documents.Item.{Item}
 use Rattle.nft_lang.specs.declared.documents.Item.TheVariants.{Remark, Rule as ARule}
@@ -73,11 +73,9 @@ item_read ss s (ARule r) h =
 
 items_read : (ss : List Section) (s : Section) (items : List Item) → AllByRecursion (IsItem s.families) items
     → read (at ss s) (flat_map (item_rows s.families) items) ≡ at ss (record s { items = s.items ++ items })
-items_read ss s [] h = ap (λ t. at ss (record s { items = t })) (sym (append-nil s.items))
-items_read ss s (i ∷ items) h =
-    then (at ss s) (at ss (more s i)) (at ss (record s { items = s.items ++ i ∷ items })) (item_rows s.families i) (flat_map (item_rows s.families) items)
-    (item_read ss s i h.0)
-    (items_read ss (more s i) items h.1 ∙ ap (λ t. at ss (record s { items = t })) (append_assoc s.items (i ∷ []) items))
+items_read ss s items h =
+    fold-members take_row (item_rows s.families) (λ is. at ss (record s { items = is })) (IsItem s.families)
+    (λ is i k. item_read ss (record s { items = is }) i k) s.items items h
 
 -- ---- heads
 
@@ -158,10 +156,7 @@ section_read ss t s h =
     (then (at ss empty) (at ss s) end items end_rows (items_read ss empty s.items h.items) (end_read ss s))
 
 sections_read : (ss doc : List Section) → AllByRecursion IsSection doc → read (at ss no_section) (flat_map section_rows doc) ≡ at (ss ++ doc) no_section
-sections_read ss [] h = ap (λ t. at t no_section) (sym (append-nil ss))
-sections_read ss (s ∷ doc) h =
-    then (at ss no_section) (at (ss ++ s ∷ []) no_section) (at (ss ++ s ∷ doc) no_section) (section_rows s) (flat_map section_rows doc)
-    (section_read ss no_section s h.0) (sections_read (ss ++ s ∷ []) doc h.1 ∙ ap (λ t. at t no_section) (append_assoc ss (s ∷ []) doc))
+sections_read ss doc h = fold-members take_row section_rows (λ t. at t no_section) IsSection (λ t s k. section_read t no_section s k) ss doc h
 
 -- ---- documents
 

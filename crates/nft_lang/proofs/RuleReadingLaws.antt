@@ -25,6 +25,8 @@ use Rattle.acl_text.proofs.CutLaws.{cut-again, cut-none}
 use Rattle.acl_text.proofs.DigitLaws.{decimal-lacks}
 use Rattle.acl_text.proofs.PortLaws.{ports-again}
 use Rattle.acl_text.proofs.Printed.{IsForeign}
+use Rattle.acl_grammar.specs.PortRanges.{IsPortRange}
+use Rattle.acl_grammar.proofs.PortRangeLaws.{range-again, range-lacks}
 use Rattle.nft_lang.specs.declared.documents.Rule.{Rule}
 use Rattle.nft_lang.specs.declared.documents.Flags.{Flags}
 use Rattle.nft_lang.specs.declared.documents.Flags.TheVariants.{Rst, SynNotAck}
@@ -32,10 +34,9 @@ use Rattle.nft_lang.specs.declared.rule_drafts.End.TheVariants.{Source, Destinat
 use Rattle.nft_lang.specs.declared.rule_drafts.Next.{Next}
 use Rattle.nft_lang.specs.declared.rule_drafts.Next.TheVariants.{Keyword, Addresses, Ports, Types}
 use Rattle.nft_lang.specs.declared.rule_drafts.RuleDraft.{RuleDraft}
-use Rattle.nft_lang.specs.Documents.{IsSet, IsAddresses, IsPortRange, IsType, IsRule, ports_fit, types_fit, flags_fit, verdict_fits}
+use Rattle.nft_lang.specs.Documents.{IsSet, IsAddresses, IsType, IsRule, ports_fit, types_fit, flags_fit, verdict_fits}
 use Rattle.nft_lang.specs.Texts.{with_commas, set_words, ports_word, family_words, proto_words, address_word, icmp_word, port_word, flags_words, state_words, log_words, verdict_words, addresses_words, ports_words, types_words, ending_words, rule_words}
 use Rattle.nft_lang.specs.ReadingSteps.{draft, no_rule, up_to, next_in, with_test, with_verdict, with_address, with_ports, with_type, in_set, take_address, take_ports, take_type, take_as, take_word, first_family, rule_in}
-use Rattle.nft_lang.proofs.SafeRows.{ports_lack}
 
 abbrev read : RuleDraft → List (List ℕ) → RuleDraft
 read d words = fold take_word d words
@@ -140,22 +141,11 @@ no_ports : (ports_in 45 (up_to 44 (codes "{")) ≡ None) × (ports_in 45 (up_to 
 unfolding up_to ports_in port_in number_in digits_in
 no_ports = (refl, refl)
 
-ports_spelled : (ports : ℕ × ℕ) → IsPortRange ports → IsPortsWord 45 (ports_word ports) ports
-unfolding ports_word
-ports_spelled (low, high) h = port_cases (low == high) refl where
-  port_cases : (a : Bool) → (low == high) ≡ a → IsPortsWord 45 (cond a (decimal low) (decimal low ++ 45 ∷ decimal high)) (low, high)
-  port_cases true e = record { spelled = inl (decimal-number low (omega (arith, h.0, h.1)), eqb-true low high e); ordered = h.0; fit = h.1 }
-  port_cases false e = record {
-    spelled = inr (decimal low, decimal high, refl, decimal-number low (omega (arith, h.0, h.1)), decimal-number high (omega (arith, h.1)));
-    ordered = h.0;
-    fit = h.1;
-  }
-
 ports_taken : (w : List ℕ) (ports : ℕ × ℕ) → IsPortRange ports → up_to 44 w ≡ ports_word ports → ports_in 45 (up_to 44 w) ≡ Some ports
-ports_taken w ports h e = ap (ports_in 45) e ∙ ports-again 45 (ports_word ports) ports refl (ports_spelled ports h)
+ports_taken w ports h e = ap (ports_in 45) e ∙ range-again 45 refl ports h
 
 comma_lacks : (ports : ℕ × ℕ) → IsPortRange ports → has_byte 44 (ports_word ports) ≡ false
-comma_lacks ports h = ports_lack 44 ports h refl refl
+comma_lacks ports h = range-lacks 45 44 ports h refl refl
 
 port_passed : (r : Rule) (o : Option ℕ) → take_as r Keyword (port_word o) ≡ draft r Keyword
 unfolding take_as port_word with_test with_verdict next_in

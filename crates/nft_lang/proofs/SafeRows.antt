@@ -17,10 +17,13 @@ use Rattle.acl_packet.specs.declared.filtering.Verdict.TheVariants.{Accept, Deny
 use Rattle.acl_text.specs.AddressTexts.{prefix_text}
 use Rattle.acl_text.specs.Cuts.{has_byte}
 use Rattle.acl_text.proofs.CutLaws.{has-append}
+use Rattle.acl_text.proofs.ListLaws.{all_append}
 use Rattle.acl_text.proofs.DigitLaws.{decimal-lacks}
+use Rattle.acl_grammar.specs.PortRanges.{IsPortRange}
 use Rattle.acl_grammar.specs.Rows.{Row, row, row_text, text_of_rows}
-use Rattle.acl_grammar.specs.RowSteps.{begins, IsRow, IsWord}
-use Rattle.acl_grammar.proofs.ListLaws.{all_append, all_flat}
+use Rattle.acl_grammar.specs.RowSteps.{begins, IsRow, IsWord, AreWords, AreRows}
+use Rattle.acl_grammar.proofs.ListLaws.{all_flat, all_map}
+use Rattle.acl_grammar.proofs.PortRangeLaws.{range_word}
 use Rattle.acl_grammar.proofs.WordLaws.{word, decimal_word, prefix_word, text_words}
 use Rattle.nft_lang.specs.declared.documents.Section.{Section}
 use Rattle.nft_lang.specs.declared.documents.Item.{Item}
@@ -28,14 +31,8 @@ use Rattle.nft_lang.specs.declared.documents.Item.TheVariants.{Remark, Rule as A
 use Rattle.nft_lang.specs.declared.documents.Rule.{Rule}
 use Rattle.nft_lang.specs.declared.documents.Flags.{Flags}
 use Rattle.nft_lang.specs.declared.documents.Flags.TheVariants.{Rst, SynNotAck}
-use Rattle.nft_lang.specs.Documents.{IsAddresses, IsPortRange, IsType, IsRule, IsItem, IsSection, fits_i32, table_name}
+use Rattle.nft_lang.specs.Documents.{IsAddresses, IsType, IsRule, IsItem, IsSection, fits_i32, table_name}
 use Rattle.nft_lang.specs.Texts.{with_commas, set_words, ports_word, family_word, family_words, proto_words, address_word, icmp_word, port_word, flags_words, state_words, log_words, verdict_words, addresses_words, ports_words, types_words, ending_words, rule_words, item_rows, hook_word, families_word, table_word, policy_word, priority_word, table_rows, chain_rows, head_rows, end_rows, section_rows}
-
-abbrev AreWords : List (List ℕ) → Type 0
-AreWords words = AllByRecursion IsWord words
-
-abbrev AreRows : List Row → Type 0
-AreRows rows = AllByRecursion IsRow rows
 
 -- ---- words that begin a rule, and no remark and no chain
 
@@ -152,33 +149,16 @@ commas_safe [] h = tt
 commas_safe (w ∷ []) h = h
 commas_safe (w ∷ v ∷ words) h = (comma_safe w h.0, commas_safe (v ∷ words) h.1)
 
-elements_safe : {A : Type 0} (P : A → Type 0) (w : A → List ℕ) → ((x : A) → P x → IsWord (w x)) → (xs : List A) → AllByRecursion P xs → AreWords (map w xs)
-elements_safe P w each [] h = tt
-elements_safe P w each (x ∷ xs) h = (each x h.0, elements_safe P w each xs h.1)
-
 set_safe : {A : Type 0} (P : A → Type 0) (front key : List ℕ) (w : A → List ℕ) → IsWord front → IsWord key → ((x : A) → P x → IsWord (w x))
     → (xs : List A) → AllByRecursion P xs → AreWords (set_words front key (map w xs))
 unfolding set_words
 set_safe P front key w f k each [] h = tt
 set_safe P front key w f k each (x ∷ xs) h =
-    let words = elements_safe P w each (x ∷ xs) h in
+    let words = all_map P IsWord w each (x ∷ xs) h in
     (f, (k, (word (codes "{") refl refl, all_append IsWord (with_commas (map w (x ∷ xs))) (codes "}" ∷ []) (commas_safe (map w (x ∷ xs)) words) (word (codes "}") refl refl, tt))))
 
-pub ports_lack : (c : ℕ) (ports : ℕ × ℕ) → IsPortRange ports → is_ascii_digit c ≡ false → (45 == c) ≡ false → has_byte c (ports_word ports) ≡ false
-unfolding ports_word
-ports_lack c (low, high) h d n = port_cases (low == high) where
-  low_lacks : has_byte c (decimal low) ≡ false
-  low_lacks = decimal-lacks c low (omega (arith, h.0, h.1)) d
-
-  high_lacks : has_byte c (45 ∷ decimal high) ≡ false
-  high_lacks = or_from (45 == c) (has_byte c (decimal high)) n (decimal-lacks c high (omega (arith, h.1)) d)
-
-  port_cases : (a : Bool) → has_byte c (cond a (decimal low) (decimal low ++ 45 ∷ decimal high)) ≡ false
-  port_cases true = low_lacks
-  port_cases false = has-append c (decimal low) (45 ∷ decimal high) low_lacks high_lacks
-
 ports_safe : (ports : ℕ × ℕ) → IsPortRange ports → IsWord (ports_word ports)
-ports_safe ports h = word (ports_word ports) (ports_lack 32 ports h refl refl) (ports_lack 10 ports h refl refl)
+ports_safe ports h = range_word 45 ports h refl refl
 
 type_safe : (n : ℕ) → IsType n → IsWord (decimal n)
 type_safe n h = decimal_word n (omega (arith, h))

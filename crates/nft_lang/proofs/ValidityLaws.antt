@@ -13,14 +13,17 @@ use Rattle.acl_packet.specs.declared.addresses.Family.{Family}
 use Rattle.acl_packet.specs.declared.addresses.Families.{Families}
 use Rattle.acl_packet.specs.declared.addresses.Prefix.{Prefix}
 use Rattle.acl_packet.specs.Addresses.{covers}
+use Rattle.acl_grammar.specs.PortRangeSteps.{is_port_range}
+use Rattle.acl_grammar.specs.PortRanges.{IsPortRange}
 use Rattle.acl_grammar.specs.PrefixCheckSteps.{is_prefix_of}
 use Rattle.acl_grammar.proofs.DecisionLaws.{le_decides, prefix_decides, all_decides}
+use Rattle.acl_grammar.proofs.PortRangeLaws.{range_decides}
 use Rattle.nft_lang.specs.declared.documents.Section.{Section}
 use Rattle.nft_lang.specs.declared.documents.Item.{Item}
 use Rattle.nft_lang.specs.declared.documents.Item.TheVariants.{Remark, Rule as ARule}
 use Rattle.nft_lang.specs.declared.documents.Rule.{Rule}
-use Rattle.nft_lang.specs.Documents.{IsSet, IsAddresses, IsPortRange, IsType, IsRule, IsItem, IsSection, IsDocument, prefixes_overlap, ports_overlap, parts_fit, fits_i32, table_name, names_of}
-use Rattle.nft_lang.specs.ValiditySteps.{are_apart, is_addresses, are_addresses, is_port_range, are_ports, are_types, is_protocol, has_sets, is_rule, is_item, is_section, are_sections, same_table, is_document}
+use Rattle.nft_lang.specs.Documents.{IsSet, IsAddresses, IsType, IsRule, IsItem, IsSection, IsDocument, prefixes_overlap, ports_overlap, parts_fit, fits_i32, table_name, names_of}
+use Rattle.nft_lang.specs.ValiditySteps.{are_apart, is_addresses, are_addresses, are_ports, are_types, is_protocol, has_sets, is_rule, is_item, is_section, are_sections, same_table, is_document}
 
 -- ---- sets
 
@@ -57,9 +60,6 @@ addresses_decide : (f : Family) (p : Prefix) → Decides (is_addresses f p) (IsA
 addresses_decide f p =
     Decides-like (is_addresses f p) (λ h. record { of_family = h.0; some_bits = h.1 }) (λ h. (h.of_family, h.some_bits))
     (Decides-and (is_prefix_of f p) (nat_le 1 p.len) (prefix_decides f p) (le_decides 1 p.len))
-
-range_decides : (ports : ℕ × ℕ) → Decides (is_port_range ports) (IsPortRange ports)
-range_decides ports = Decides-and (nat_le ports.0 ports.1) (nat_lt ports.1 65536) (le_decides ports.0 ports.1) (Decides-ltb ports.1 65536)
 
 -- ---- rules
 

@@ -12,6 +12,8 @@ use Rattle.acl_packet.specs.declared.filtering.Verdict.TheVariants.{Accept, Deny
 use Rattle.acl_packet.specs.Addresses.{IsPrefixOf, covers, has_address}
 use Rattle.acl_packet.specs.Packets.{has_ports, icmp_of}
 use Rattle.acl_text.specs.Names.{is_safe_text}
+use Rattle.acl_grammar.specs.Documents.{IsDocumentOf}
+use Rattle.acl_grammar.specs.PortRanges.{IsPortRange}
 use Rattle.nft_lang.specs.declared.documents.Section.{Section}
 use Rattle.nft_lang.specs.declared.documents.Item.{Item}
 use Rattle.nft_lang.specs.declared.documents.Item.TheVariants.{Remark, Rule as ARule}
@@ -38,10 +40,6 @@ pub record IsSet {A : Type 0} (IsElement : A → Type 0) (overlap : A → A → 
 pub record IsAddresses (family : Family) (prefix : Prefix) : Type 0 where
   pub of_family : IsPrefixOf family prefix
   pub some_bits : 1 ≤ prefix.len
-
--- A range of ports, from the low one to the high one.
-abbrev pub IsPortRange : ℕ × ℕ → Type 0
-IsPortRange ports = (ports.0 ≤ ports.1) × (ports.1 < 65536)
 
 -- Type 255 has no number here.
 abbrev pub IsType : ℕ → Type 0
@@ -116,6 +114,5 @@ abbrev pub names_of : List Section → List (List ℕ)
 names_of doc = map (λ s. table_name s.number) doc
 
 -- A document is its sections, no two of whose tables have the same name.
-pub record IsDocument (doc : List Section) : Type 0 where
-  pub sections : AllByRecursion IsSection doc
-  pub names_differ : IsDistinct bytes_eq (names_of doc)
+abbrev pub IsDocument : List Section → Type 0
+IsDocument doc = IsDocumentOf IsSection names_of doc

@@ -13,6 +13,8 @@ use Rattle.acl_packet.specs.declared.filtering.Hook.TheVariants.{Input, Output, 
 use Rattle.acl_packet.specs.declared.filtering.Verdict.{Verdict}
 use Rattle.acl_packet.specs.declared.filtering.Verdict.TheVariants.{Accept, Deny, Reject, Reset, Left}
 use Rattle.acl_text.specs.AddressTexts.{prefix_text}
+use Rattle.acl_grammar.specs.Documents.{IsSpelling}
+use Rattle.acl_grammar.specs.PortRanges.{range_text}
 use Rattle.acl_grammar.specs.Rows.{Row, row, words_in, text_of_rows}
 use Rattle.nft_lang.specs.declared.documents.Section.{Section}
 use Rattle.nft_lang.specs.declared.documents.Item.{Item}
@@ -37,10 +39,9 @@ set_words front key [] = []
 set_words front key (w ∷ words) =
     front ∷ key ∷ codes "{" ∷ (with_commas (w ∷ words) ++ codes "}" ∷ [])
 
--- Ports are one number, or the low and the high one.
-unfoldable pub ports_word : ℕ × ℕ → List ℕ
-ports_word ports =
-    if ports.0 == ports.1 then decimal ports.0 else decimal ports.0 ++ 45 ∷ decimal ports.1
+-- Ports are one number, or the low and the high one with a `-` between.
+abbrev pub ports_word : ℕ × ℕ → List ℕ
+ports_word ports = range_text 45 ports
 
 -- ---- rules
 
@@ -190,6 +191,5 @@ abbrev pub text_of : List Section → List ℕ
 text_of doc = text_of_rows (flat_map section_rows doc)
 
 -- The bytes spell the document: it is valid, and they are its text.
-pub record Spells (bytes : List ℕ) (doc : List Section) : Type 0 where
-  pub valid : IsDocument doc
-  pub written : bytes ≡ text_of doc
+abbrev pub Spells : List ℕ → List Section → Type 0
+Spells bytes doc = IsSpelling IsDocument text_of bytes doc

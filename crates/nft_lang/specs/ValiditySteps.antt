@@ -6,6 +6,7 @@ use Rattle.acl_packet.specs.declared.addresses.Families.{Families}
 use Rattle.acl_packet.specs.declared.addresses.Prefix.{Prefix}
 use Rattle.acl_packet.specs.Addresses.{covers, has_address}
 use Rattle.acl_text.specs.Names.{is_safe_text}
+use Rattle.acl_grammar.specs.PortRangeSteps.{is_port_range}
 use Rattle.acl_grammar.specs.PrefixCheckSteps.{is_prefix_of}
 use Rattle.nft_lang.specs.declared.documents.Section.{Section}
 use Rattle.nft_lang.specs.declared.documents.Item.{Item}
@@ -40,9 +41,6 @@ is_addresses family p = is_prefix_of family p && nat_le 1 p.len
 
 abbrev pub are_addresses : Family → List Prefix → Bool
 are_addresses family ps = list_all (is_addresses family) ps && are_apart prefixes_overlap ps
-
-abbrev pub is_port_range : ℕ × ℕ → Bool
-is_port_range ports = nat_le ports.0 ports.1 && nat_lt ports.1 65536
 
 abbrev pub are_ports : List (ℕ × ℕ) → Bool
 are_ports ranges = list_all is_port_range ranges && are_apart ports_overlap ranges

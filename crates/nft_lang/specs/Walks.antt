@@ -4,7 +4,6 @@
 use Rattle.std.specs.Prelude.{◌≡◌, ℕ, Bool, true, false, not, ◌&&◌, ◌||◌, ◌==◌, nat_le, if◌then◌else◌, List, [], ◌∷◌, Option, None, Some, slice_get, unwrap_or, option_and_then}
 use Rattle.std.specs.List.{list_any}
 use Rattle.acl_packet.specs.declared.packets.Conn.{Conn}
-use Rattle.acl_packet.specs.declared.packets.Conn.TheVariants.{New, Established, Related, Invalid}
 use Rattle.acl_packet.specs.declared.packets.Packet.{Packet}
 use Rattle.acl_packet.specs.declared.addresses.Prefix.{Prefix}
 use Rattle.acl_packet.specs.declared.filtering.Outcome.{Outcome}
@@ -12,7 +11,8 @@ use Rattle.acl_packet.specs.declared.filtering.Verdict.{Verdict}
 use Rattle.acl_packet.specs.declared.filtering.Verdict.TheVariants.{Accept, Deny}
 use Rattle.acl_packet.specs.Addresses.{covers, has_address, same_family}
 use Rattle.acl_packet.specs.Outcomes.{unlogged}
-use Rattle.acl_packet.specs.Packets.{has_flag}
+use Rattle.acl_packet.specs.Packets.{has_flag, is_tracked}
+use Rattle.acl_grammar.specs.Documents.{outcome_at}
 use Rattle.nft_lang.specs.declared.documents.Section.{Section}
 use Rattle.nft_lang.specs.declared.documents.Item.{Item}
 use Rattle.nft_lang.specs.declared.documents.Item.TheVariants.{Remark, Rule as ARule}
@@ -38,13 +38,6 @@ abbrev pub flags_hold : Option Flags → ℕ → Bool
 flags_hold None flags = true
 flags_hold (Some Rst) flags = has_flag flags 4
 flags_hold (Some SynNotAck) flags = has_flag flags 2 && not (has_flag flags 16)
-
--- The connection is known already, or such a one asked for it.
-abbrev pub is_tracked : Conn → Bool
-is_tracked Established = true
-is_tracked Related = true
-is_tracked New = false
-is_tracked Invalid = false
 
 abbrev pub state_holds : Bool → Conn → Bool
 state_holds true conn = is_tracked conn
@@ -94,4 +87,4 @@ section_outcome s p =
 
 -- What the section at that place does; nothing where there is none.
 abbrev pub outcome_of : List Section → ℕ → Packet → Option Outcome
-outcome_of doc which p = option_and_then (λ s. section_outcome s p) (slice_get doc which)
+outcome_of doc which p = outcome_at section_outcome doc which p

@@ -3,7 +3,7 @@ ghost use Rattle.acl_text.specs.AddressTexts.{prefix_text};
 ghost use Rattle.acl_text.specs.Output.{Puts};
 ghost use Rattle.nft_lang.specs.Texts.{ports_word, set_words, with_commas};
 
-use acl_grammar::{Number, Piece, Words, put_words};
+use acl_grammar::{Number, Piece, PortRange, Words, put_words};
 use acl_packet::Prefix;
 use acl_text::{Out, PutFault, put_prefix};
 
@@ -30,22 +30,14 @@ impl Element for Prefix {
 impl Element for (u16, u16) {
     ghost word = { ports_word };
 
-    #[tactic(auto, unfolding(crate::specs::Texts::ports_word))]
     fn put_word<O: Out>(&self, out: &mut O) -> Result<(), PutFault> {
-        let low = number(self.0);
-        if self.0 == self.1 {
-            low.put_into(out)
-        } else {
-            (low, (b"-".as_slice(), number(self.1))).put_into(out)
-        }
+        let range = PortRange {
+            low: u128::from(self.0),
+            high: u128::from(self.1),
+            separator: b'-',
+        };
+        range.put_into(out)
     }
-}
-
-fn number(number: u16) -> Number
-    ensures { result ≡ record { number = number } }
-{
-    let number = u128::from(number);
-    Number { number }
 }
 
 /// A type of ICMP.

@@ -1,11 +1,11 @@
 ghost use Rattle.std.specs.Prelude.{◌≡◌, ◌&&◌, ◌^◌, ◌↔◌, IsTrue, nat_le, nat_lt};
 ghost use Rattle.std.specs.List.{list_all};
 ghost use Rattle.nft_lang.specs.Documents.{IsDocument, fits_i32, flags_fit, has_port_proto, is_empty, is_proto, parts_fit, ports_fit, types_fit, verdict_fits};
-ghost use Rattle.nft_lang.specs.ValiditySteps.{are_addresses, are_ports, are_sections, are_types, has_sets, is_addresses, is_document, is_item, is_port_range, is_protocol, is_rule, is_section};
+ghost use Rattle.nft_lang.specs.ValiditySteps.{are_addresses, are_ports, are_sections, are_types, has_sets, is_addresses, is_document, is_item, is_protocol, is_rule, is_section};
 
 use crate::documents::{Item, Rule, Section};
 use crate::overlaps::{are_apart, are_ports_apart, are_prefixes_apart};
-use acl_grammar::is_prefix_of;
+use acl_grammar::{are_port_ranges, is_prefix_of};
 use acl_packet::{Families, Family, Prefix, Verdict};
 use acl_text::is_safe_text;
 
@@ -101,19 +101,7 @@ fn is_addresses(family: Family, prefix: &Prefix) -> bool
 fn are_ports(ranges: &[(u16, u16)]) -> bool
     ensures { result ≡ are_ports ranges.now }
 {
-    all_port_ranges(ranges) && are_ports_apart(ranges)
-}
-
-fn all_port_ranges(ranges: &[(u16, u16)]) -> bool
-    ensures { result ≡ list_all is_port_range ranges.now }
-{
-    ranges.iter().all(|range| is_port_range(*range))
-}
-
-fn is_port_range(range: (u16, u16)) -> bool
-    ensures { result ≡ is_port_range range }
-{
-    range.0 <= range.1
+    are_port_ranges(ranges) && are_ports_apart(ranges)
 }
 
 fn are_types(types: &[u8]) -> bool

@@ -1,4 +1,4 @@
-use Rattle.cisco_lang.proofs.JoinLaws.{one_text}
+use Rattle.acl_grammar.proofs.JoinLaws.{one_text}
 use Rattle.cisco_lang.proofs.laws.a_document_has_one_text.Goals as goal
 
 pub returns : goal.returns

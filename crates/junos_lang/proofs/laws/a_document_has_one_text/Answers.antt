@@ -1,4 +1,4 @@
-use Rattle.junos_lang.proofs.JoinLaws.{one_text}
+use Rattle.acl_grammar.proofs.JoinLaws.{one_text}
 use Rattle.junos_lang.proofs.laws.a_document_has_one_text.Goals as goal
 
 pub returns : goal.returns

@@ -1,4 +1,4 @@
-use Rattle.nft_lang.proofs.JoinLaws.{one_text}
+use Rattle.acl_grammar.proofs.JoinLaws.{one_text}
 use Rattle.nft_lang.proofs.laws.a_document_has_one_text.Goals as goal
 
 pub returns : goal.returns

@@ -1,0 +1,24 @@
+-- Documents of sections, the bytes that spell one, and what its sections do to a packet.
+use Rattle.std.specs.Prelude.{◌≡◌, ℕ, List, Option, slice_get, option_and_then}
+use Rattle.std.specs.List.{AllByRecursion, IsDistinct}
+use Rattle.std.specs.Str.{bytes_eq}
+use Rattle.acl_packet.specs.declared.filtering.Outcome.{Outcome}
+use Rattle.acl_packet.specs.declared.packets.Packet.{Packet}
+
+-- A document is its sections, each of which is valid, and no two of whose names are the same.
+pub record IsDocumentOf {S : Type 0} (IsSection : S → Type 0) (names_of : List S → List (List ℕ))
+    (doc : List S) : Type 0 where
+  pub sections : AllByRecursion IsSection doc
+  pub names_differ : IsDistinct bytes_eq (names_of doc)
+
+-- The bytes spell the document: it is valid, and they are its text.
+pub record IsSpelling {S : Type 0} (IsDocument : List S → Type 0) (text_of : List S → List ℕ)
+    (bytes : List ℕ) (doc : List S) : Type 0 where
+  pub valid : IsDocument doc
+  pub written : bytes ≡ text_of doc
+
+-- What the section at that place does; nothing where there is none.
+abbrev pub outcome_at : {S : Type 0} → (S → Packet → Option Outcome) → List S → ℕ → Packet
+    → Option Outcome
+outcome_at section_outcome doc which p =
+    option_and_then (λ s. section_outcome s p) (slice_get doc which)
