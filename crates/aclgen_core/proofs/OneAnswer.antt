@@ -1,10 +1,11 @@
--- A job has one answer.
+-- A job has one answer, and it has some.
 use Rattle.std.proofs.Common.{◌≡◌, ℕ, List, Option, None, Some, Result, Ok, Err, refl, ap, sym, subst, ◌∙◌}
 use Rattle.acl_text.specs.declared.faults.Fault.{Fault}
 use Rattle.acl_host.specs.declared.clocks.Day.{Day}
 use Rattle.acl_host.specs.Files.{File}
 use Rattle.acl_load.specs.declared.policy_loading.Loaded.{Loaded}
-use Rattle.acl_load.specs.LoadedPolicies.{GoesOn}
+use Rattle.acl_load.specs.LoadedPolicies.{GoesOn, LoadsPolicy}
+use Rattle.acl_load.proofs.AnswersThere.{answer-there}
 use Rattle.acl_load.proofs.OneAnswer.{one-answer}
 use Rattle.aclgen_core.specs.CommandLines.{Options, options_of}
 use Rattle.aclgen_core.specs.Job.{Plan, Plans, IsJobOf, IsJob, or_day, planned}
@@ -30,3 +31,18 @@ same-job-of (Some o) day files (Some a) (Some b) p q = ap Some (same-plan o (or_
 
 pub one-job : (words : List (List ℕ)) (day : Day) (files : List File) (a b : Option (Result Plan Fault)) → IsJob words day files a → IsJob words day files b → a ≡ b
 one-job words day files a b p q = same-job-of (options_of words) day files a b p q
+
+plan-there : (o : Options) (today : Day) (files : List File) (loaded : Result Loaded Fault) → LoadsPolicy o.definitions o.policy files loaded
+    → (answer : Result Plan Fault) × Plans o today files answer
+plan-there o today files (Err fault) h = (Err fault, (Err fault, h, refl))
+plan-there o today files (Ok l) h = (planned o today l, (Ok l, h, refl))
+
+job-of-there : (o : Option Options) (day : Day) (files : List File) → (job : Option (Result Plan Fault)) × IsJobOf o day files job
+job-of-there None day files = (None, tt)
+job-of-there (Some o) day files =
+    let loaded = answer-there o.definitions o.policy files in
+    let plan = plan-there o (or_day o.date day) files loaded.0 loaded.1 in
+    (Some plan.0, plan.1)
+
+pub some-job : (words : List (List ℕ)) (day : Day) (files : List File) → (job : Option (Result Plan Fault)) × IsJob words day files job
+some-job words day files = job-of-there (options_of words) day files

@@ -10,3 +10,9 @@ pub fn jobs_are_one()
         → (a : Option (Result Plan Fault)) → (b : Option (Result Plan Fault))
         → IsJob words day files a → IsJob words day files b → a ≡ b }
 {}
+
+/// A law: a job has an answer, for all words, days and files.
+pub fn jobs_are_there()
+    ensures { (words : List (List ℕ)) → (day : Day) → (files : List File)
+        → (job : Option (Result Plan Fault)) × IsJob words day files job }
+{}

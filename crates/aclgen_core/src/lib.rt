@@ -17,5 +17,5 @@ mod slips;
 mod tests;
 
 pub use endings::{Ended, Which, status_of};
-pub use laws::jobs_are_one;
+pub use laws::{jobs_are_one, jobs_are_there};
 pub use running::aclgen;

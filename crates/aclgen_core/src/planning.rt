@@ -17,9 +17,8 @@ ghost use Rattle.aclgen_core.specs.PreparingSteps.{
 use crate::command_line::Options;
 use crate::file_texts::FileText;
 use crate::preparing::{FileDraft, FileDrafts, prepare};
-use crate::slips::fault_of;
 use acl_host::{Tree, Whole};
-use acl_load::{LoadFault, Loaded, load};
+use acl_load::{LoadFault, Loaded, load, policy_fault};
 use acl_platform::Filter;
 use acl_policy::Kind;
 use acl_render::render;
@@ -94,7 +93,7 @@ fn plan(alloc: Global, options: &Options<'_>, loaded: &Loaded) -> Result<Work, R
     match prepare(alloc, options.date, options.output, options.policy, loaded) {
         Ok(drafts) => Ok(work_of(alloc, drafts)?),
         Err(Refusal::Slip(slip)) => {
-            Err(Rejection::Fault(fault_of(alloc, &loaded.sources, slip)?))
+            Err(Rejection::Fault(policy_fault(alloc, &loaded.sources, slip)?))
         }
         Err(Refusal::Memory) => Err(Rejection::Memory),
     }

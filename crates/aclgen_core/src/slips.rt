@@ -1,8 +1,7 @@
-ghost use Rattle.std.specs.Prelude.{◌≡◌, [], IfOk, slice_get, slice_index_or};
+ghost use Rattle.std.specs.Prelude.{◌≡◌, slice_get};
 ghost use Rattle.acl_naming.specs.Checking.{IsRefusal};
 ghost use Rattle.acl_text.specs.declared.faults.Code.TheVariants.{Unsupported};
 ghost use Rattle.acl_terms.specs.Slips.{first_in, Judges};
-ghost use Rattle.acl_load.specs.Loading.{fault_of};
 ghost use Rattle.aclgen_core.specs.FilterRequests.{
   limit_slip,
   name_word,
@@ -13,33 +12,10 @@ ghost use Rattle.aclgen_core.specs.FilterRequests.{
 };
 
 use acl_platform::{Filter, Limit, Rule, Test};
-use acl_policy::{Block, Sources, Target, label};
+use acl_policy::{Block, Target};
 use acl_render::is_rendered;
-use acl_text::{Bytes, Code, Fault, Memory, Place, Refusal, Slip};
+use acl_text::{Bytes, Code, Place, Refusal, Slip};
 use std::alloc::Global;
-
-// The label of the file of this number.
-fn label_at(sources: &Sources, file: u32) -> &[u8]
-    ensures { result.now ≡ slice_index_or sources.now.labels file [] }
-{
-    match label(sources, file) {
-        Some(label) => label,
-        None => b"",
-    }
-}
-
-/// The fault of a slip: its label is that of the file in which it stands.
-pub fn fault_of(alloc: Global, sources: &Sources, slip: Slip) -> Result<Fault, Memory>
-    ensures { IfOk result (λ fault. fault ≡ fault_of sources.now.labels slip) }
-{
-    let Slip { code, place, word } = slip;
-    Ok(Fault {
-        code,
-        label: Bytes::from_slice(alloc, label_at(sources, place.file))?,
-        line: place.line,
-        word,
-    })
-}
 
 fn refusal_at(alloc: Global, code: Code, place: Place, word: &[u8]) -> Refusal
     ensures { IsRefusal (record { code = code; place = place; word = word.now }) result }
