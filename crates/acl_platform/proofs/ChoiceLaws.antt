@@ -30,7 +30,7 @@ split-range a (suc m) k =
     ap (λ n. a ∷ (range_with_len (a + 1) m ++ range_with_len n k)) e ∙ ap (λ t. a ∷ t) (split-range (a + 1) m k)
     ∙ ap (range_with_len a) d
 
-one-more : {B : Type 0} (f : ℕ → List B) (first number : ℕ) → first ≤ number
+pub one-more : {B : Type 0} (f : ℕ → List B) (first number : ℕ) → first ≤ number
     → flat_map f (range_with_len first (number - first)) ++ f number ≡ flat_map f (range_with_len first (number + 1 - first))
 one-more f first number h =
     let k = number - first in
@@ -181,15 +181,17 @@ some-left : {A : Type 0} (xs ys : List A) → xs ≢ [] → xs ++ ys ≢ []
 some-left [] ys h = absurd (h refl)
 some-left (x ∷ xs) ys h = λ e. cc
 
-some-map : {A B : Type 0} (f : A → B) (xs : List A) → xs ≢ [] → map f xs ≢ []
+pub some-map : {A B : Type 0} (f : A → B) (xs : List A) → xs ≢ [] → map f xs ≢ []
 some-map f [] h = absurd (h refl)
 some-map f (x ∷ xs) h = λ e. cc
 
+pub first-number : (r : Range) (rs : List Range) → r.low ≤ r.high → numbers_of (r ∷ rs) ≢ []
+first-number r rs ends =
+    some-left (numbers_in r) (numbers_of rs) (some-row r.low (r.high + 1 - r.low) (omega (arith, ends)))
+
 pub some-numbers : (floor top : ℕ) (rs : List Range) → IsNormal floor top rs → rs ≢ [] → numbers_of rs ≢ []
 some-numbers floor top [] h k = absurd (k refl)
-some-numbers floor top (r ∷ rs) h k =
-    let ends = h.1 in
-    some-left (numbers_in r) (numbers_of rs) (some-row r.low (r.high + 1 - r.low) (omega (arith, ends)))
+some-numbers floor top (r ∷ rs) h k = first-number r rs h.1
 
 some-number-by : (floor top : ℕ) (s : Numbers) → IsNormal floor top s.ranges → s.ranges ≢ [] → (b : Bool)
     → cond b (None ∷ []) (map (λ n. Some n) (numbers_of s.ranges)) ≢ []

@@ -6,7 +6,7 @@ use Rattle.acl_packet.specs.Addresses.{has_address}
 use Rattle.acl_sets.specs.LeastLists.{any_has}
 use Rattle.acl_platform.specs.Choices.{in_range, is_chosen, number_choices, pairs, range_choices}
 use Rattle.acl_platform.specs.Combinations.{combination_holds, combination_of, CombinationsHold, parts_of, SomeCombination}
-use Rattle.acl_platform.proofs.ChoiceLaws.{any-number, any-range, some-number, some-range}
+use Rattle.acl_platform.proofs.ChoiceLaws.{any-number, any-range, some-map, some-number, some-range}
 use Rattle.acl_platform.proofs.PairLaws.{any-pairs, some-pair}
 
 any-map : {A B : Type 0} (test : B → Bool) (f : A → B) (xs : List A) → list_any test (map f xs) ≡ list_any (λ x. test (f x)) xs
@@ -47,10 +47,6 @@ any-combination kind families r p h k =
     ∙ ap (λ t. list_any from sports && t) (any-pairs into type_ dports types))))
     ∙ four-same (any_has r.src p.src) (any_has r.dst p.dst) (any-number r.protos p.proto protocol) (any-range r.sports p.sport sport)
     (any-range r.dports p.dport dport) (any-number r.itypes p.itype itype)
-
-some-map : {A B : Type 0} (f : A → B) (xs : List A) → xs ≢ [] → map f xs ≢ []
-some-map f [] h = absurd (h refl)
-some-map f (x ∷ xs) h = λ e. cc
 
 pub some-combination : SomeCombination
 some-combination kind families r h =

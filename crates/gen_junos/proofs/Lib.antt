@@ -1,2 +1,3 @@
 pub mod EntryCounts
 pub mod NameLaws
+pub mod Rows

@@ -1,5 +1,6 @@
 pub mod DecisionLaws
 pub mod Limits
+pub mod RowSteps
 pub mod SectionLaws
 pub mod SectionNames
 pub mod Sections

@@ -1,5 +1,5 @@
 -- What the sections of filters begin with, and how they are named, by the filters' targets.
-use Rattle.std.specs.Prelude.{◌≡◌, Bool, List, [], ◌∷◌, ◌++◌, ℕ, map, flat_map, codes}
+use Rattle.std.specs.Prelude.{◌≡◌, Bool, false, List, [], ◌∷◌, ◌++◌, ℕ, map, flat_map, codes}
 use Rattle.std.specs.List.{AllByRecursion, IsDistinct}
 use Rattle.std.specs.Str.{bytes_eq}
 use Rattle.acl_grammar.specs.Rows.{text_of_rows}

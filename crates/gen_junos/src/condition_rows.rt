@@ -1,19 +1,30 @@
-ghost use Rattle.std.specs.Prelude.{◌≡◌, ◌-◌, ◌+◌, ℕ, Bool, IsTrue, decimal, map, is_none};
-ghost use Rattle.std.specs.List.{All, range_with_len};
+ghost use Rattle.std.specs.Prelude.{◌≡◌, ◌&&◌, IsTrue, decimal, flat_map, map};
+ghost use Rattle.std.specs.List.{All};
 ghost use Rattle.acl_text.specs.Output.{Puts};
-ghost use Rattle.acl_grammar.specs.Rows.{spaced};
 ghost use Rattle.acl_sets.specs.Ranges.{IsRange};
-ghost use Rattle.acl_platform.specs.Choices.{numbers_in, numbers_of};
+ghost use Rattle.acl_platform.specs.Choices.{numbers_of};
 ghost use Rattle.acl_platform.specs.Combinations.{IsSized};
+ghost use Rattle.acl_platform.specs.Elements.{
+  address_elements,
+  number_elements,
+  port_elements,
+};
 ghost use Rattle.junos_lang.specs.Documents.{is_empty};
-ghost use Rattle.junos_lang.specs.Texts.{condition_rows, from_rows, list_rows, range_word, test_rows};
+ghost use Rattle.junos_lang.specs.Texts.{
+  condition_rows,
+  from_rows,
+  list_rows,
+  range_word,
+  test_rows,
+};
 ghost use Rattle.junos_lang.specs.WritingSteps.{has_no_conditions};
+ghost use Rattle.gen_junos.specs.RowSteps.{number_word, number_words};
 ghost use Rattle.gen_junos.specs.Sections.{term_of, test_of};
 
 use acl_grammar::{EachWord, Number, Piece, Rows, WordForm, Words};
 use acl_packet::Family;
 use acl_platform::{Rule, Test, address_elements, range_elements};
-use acl_sets::Range;
+use acl_sets::{Range, RangeSet};
 use acl_text::{Out, PutFault};
 use junos_lang::{
     AddressRows, Condition, FromEnd, FromHead, JTest, ListRow, PortRange, Side, TestRow,
@@ -45,19 +56,42 @@ impl<'a> Rows for FromPart<'a> {
 fn has_no_conditions(rule: &Rule) -> bool
     ensures { result ≡ has_no_conditions (term_of rule.now) }
 {
-    let sources = address_elements(rule.src.as_slice());
-    let destinations = address_elements(rule.dst.as_slice());
-    if !sources.is_empty() || !destinations.is_empty() {
-        return false;
-    }
-    let protocols = range_elements(&rule.protos);
-    let types = range_elements(&rule.itypes);
-    if !protocols.is_empty() || !types.is_empty() {
-        return false;
-    }
-    let source_ports = range_elements(&rule.sports);
-    let destination_ports = range_elements(&rule.dports);
-    source_ports.is_empty() && destination_ports.is_empty() && test_of(rule.test).is_none()
+    names_no_address(rule)
+        && (names_no_number(rule) && (names_no_port(rule) && test_of(rule.test).is_none()))
+}
+
+fn names_no_address(rule: &Rule) -> bool
+    ensures { result ≡ (is_empty (address_elements rule.now.src)
+        && is_empty (address_elements rule.now.dst)) }
+{
+    address_elements(rule.src.as_slice()).is_empty()
+        && address_elements(rule.dst.as_slice()).is_empty()
+}
+
+fn names_no_number(rule: &Rule) -> bool
+    ensures { result ≡ (is_empty (number_elements rule.now.protos)
+        && is_empty (number_elements rule.now.itypes)) }
+{
+    has_no_numbers(&rule.protos) && has_no_numbers(&rule.itypes)
+}
+
+fn has_no_numbers(set: &RangeSet) -> bool
+    ensures { result ≡ is_empty (number_elements set.now) }
+{
+    range_elements(set).is_empty()
+}
+
+fn names_no_port(rule: &Rule) -> bool
+    ensures { result ≡ (is_empty (port_elements rule.now.sports)
+        && is_empty (port_elements rule.now.dports)) }
+{
+    has_no_ports(&rule.sports) && has_no_ports(&rule.dports)
+}
+
+fn has_no_ports(set: &RangeSet) -> bool
+    ensures { result ≡ is_empty (port_elements set.now) }
+{
+    range_elements(set).is_empty()
 }
 
 fn test_of(test: Test) -> Option<JTest>
@@ -159,7 +193,7 @@ fn put_numbers<O: Out>(ranges: &[Range], out: &mut O) -> Result<(), PutFault>
     requires open { IsTrue (O.is_open out.old) }
     requires ranges { All (λ r. IsRange 255 r) ranges.now }
     ensures { Puts O.told O.faults O.refusals O.is_open O.keeps_rest out.old out.new
-        (spaced (map decimal (numbers_of ranges.now))) result }
+        (flat_map number_words ranges.now) result }
 {
     for range in ranges {
         put_range(range, out)?;
@@ -171,7 +205,7 @@ fn put_range<O: Out>(range: &Range, out: &mut O) -> Result<(), PutFault>
     requires open { IsTrue (O.is_open out.old) }
     requires range { IsRange 255 range.now }
     ensures { Puts O.told O.faults O.refusals O.is_open O.keeps_rest out.old out.new
-        (spaced (map decimal (numbers_in range.now))) result }
+        (number_words range.now) result }
 {
     let first = range.low as u16;
     let end = range.high as u16 + 1;
@@ -184,12 +218,11 @@ fn put_range<O: Out>(range: &Range, out: &mut O) -> Result<(), PutFault>
 fn put_number<O: Out>(number: u16, out: &mut O) -> Result<(), PutFault>
     requires { IsTrue (O.is_open out.old) }
     ensures { Puts O.told O.faults O.refusals O.is_open O.keeps_rest out.old out.new
-        (32 ∷ decimal number) result }
+        (number_word number) result }
 {
-    let word = Number {
-        number: u128::from(number),
-    };
-    (b" ".as_slice(), word).put_into(out)
+    let number = u128::from(number);
+    out.put(b" ")?;
+    Number { number }.put_into(out)
 }
 
 // Ranges of ports; no row where there are none.

@@ -157,14 +157,7 @@ fn writes_a_term_of_each_rule(rt: HostRuntime) -> Result<(), Fail> {
         high: 65535,
     }];
     let mut rules = Rules::new(alloc);
-    rules.push(rule(
-        alloc,
-        b"est-tcp",
-        ALL,
-        6,
-        &ALL_PORTS,
-        Test::AckOrRst,
-    )?)?;
+    rules.push(rule(alloc, b"est-tcp", ALL, 6, &ALL_PORTS, Test::AckOrRst)?)?;
     rules.push(rule(alloc, b"est-udp", ALL, 17, &high, Test::Plain)?)?;
     let edge = filter(alloc, b"edge", Families::Inet, rules)?;
     let mut out = Whole::new(alloc);
@@ -268,13 +261,19 @@ fn judges_rules_in_order(rt: HostRuntime) -> Result<(), Fail> {
     let rules = rules.as_slice();
     assert_eq!(rt; first_limit(&Junos, &rules[..2]), None);
     assert_eq!(rt; first_limit(&Junos, rules), Some(Limit::Unsupported(2)));
-    assert_eq!(rt; first_limit(&Junos, &rules[4..]), Some(Limit::NameLength(0)));
+    assert_eq!(rt;
+        first_limit(&Junos, &rules[4..]),
+        Some(Limit::NameLength(0))
+    );
     assert_eq!(rt; count_in_limit(100_000), Ok(100_000));
     assert_eq!(rt; count_in_limit(100_001), Err(Limit::TooManyEntries));
     let mut twice = Rules::new(alloc);
     twice.push(rule(alloc, b"dns", ALL, 17, &dns, Test::Plain)?)?;
     twice.push(rule(alloc, b"dns", ALL, 132, &dns, Test::Plain)?)?;
-    assert_eq!(rt; first_limit(&Junos, twice.as_slice()), Some(Limit::NameClash(1)));
+    assert_eq!(rt;
+        first_limit(&Junos, twice.as_slice()),
+        Some(Limit::NameClash(1))
+    );
     Ok(())
 }
 

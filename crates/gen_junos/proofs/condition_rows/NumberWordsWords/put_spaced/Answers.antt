@@ -1,0 +1,6 @@
+use Rattle.acl_grammar.proofs.PutLaws.{retold}
+use Rattle.gen_junos.proofs.Rows.{all-words}
+use Rattle.gen_junos.proofs.condition_rows.NumberWordsWords.put_spaced.Goals as goal
+
+pub returns : goal.returns
+returns g c = retold (all-words c.args.self.now.ranges.now) c.put_numbers.ensures

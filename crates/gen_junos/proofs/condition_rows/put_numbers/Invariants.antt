@@ -1,0 +1,10 @@
+use Rattle.std.proofs.Common.{flat_map, take}
+use Rattle.acl_text.specs.Output.{Puts}
+use Rattle.acl_text.proofs.Putting.{done}
+use Rattle.gen_junos.specs.RowSteps.{number_words}
+use Rattle.gen_junos.proofs.condition_rows.put_numbers.Given as goal
+
+abbrev pub invariant-loop-range : goal.invariant-loop-range
+invariant-loop-range g l =
+    let o = g.O.Out in
+    Puts o.told o.faults o.refusals o.is_open o.keeps_rest l.initial.out l.out (flat_map number_words (take l.range-index l.ranges)) done

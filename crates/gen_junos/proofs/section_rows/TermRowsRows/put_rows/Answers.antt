@@ -1,0 +1,10 @@
+use Rattle.std.proofs.Common.{ap, sym, ◌∙◌}
+use Rattle.acl_grammar.specs.Rows.{text_of_rows}
+use Rattle.acl_grammar.proofs.PutLaws.{retold}
+use Rattle.gen_junos.proofs.Rows.{some-terms}
+use Rattle.gen_junos.proofs.section_rows.TermRowsRows.put_rows.Goals as goal
+
+pub returns-else-is_empty : goal.returns-else-is_empty
+returns-else-is_empty g c =
+    let self = c.args.self.now in
+    retold (ap text_of_rows (some-terms self.family self.rules.now (sym c.is_empty.ensures ∙ c.if-is_empty.false))) c.put_rules.ensures
