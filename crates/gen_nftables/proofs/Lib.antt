@@ -1,0 +1,3 @@
+pub mod EntryCounts
+pub mod NumberTexts
+pub mod TableNames
