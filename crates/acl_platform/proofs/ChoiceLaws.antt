@@ -177,20 +177,24 @@ some-row : (a n : ℕ) → 0 < n → range_with_len a n ≢ []
 some-row a zero h = absurd (omega (arith, h))
 some-row a (suc n) h = λ e. cc
 
-some-front : {A B : Type 0} (f : A → B) (xs ys : List A) → xs ≢ [] → map f (xs ++ ys) ≢ []
-some-front f [] ys h = absurd (h refl)
-some-front f (x ∷ xs) ys h = λ e. cc
+some-left : {A : Type 0} (xs ys : List A) → xs ≢ [] → xs ++ ys ≢ []
+some-left [] ys h = absurd (h refl)
+some-left (x ∷ xs) ys h = λ e. cc
 
-some-numbers : (floor top : ℕ) (rs : List Range) → IsNormal floor top rs → rs ≢ [] → map (λ n. Some n) (numbers_of rs) ≢ []
+some-map : {A B : Type 0} (f : A → B) (xs : List A) → xs ≢ [] → map f xs ≢ []
+some-map f [] h = absurd (h refl)
+some-map f (x ∷ xs) h = λ e. cc
+
+pub some-numbers : (floor top : ℕ) (rs : List Range) → IsNormal floor top rs → rs ≢ [] → numbers_of rs ≢ []
 some-numbers floor top [] h k = absurd (k refl)
 some-numbers floor top (r ∷ rs) h k =
     let ends = h.1 in
-    some-front (λ n. Some n) (numbers_in r) (numbers_of rs) (some-row r.low (r.high + 1 - r.low) (omega (arith, ends)))
+    some-left (numbers_in r) (numbers_of rs) (some-row r.low (r.high + 1 - r.low) (omega (arith, ends)))
 
 some-number-by : (floor top : ℕ) (s : Numbers) → IsNormal floor top s.ranges → s.ranges ≢ [] → (b : Bool)
     → cond b (None ∷ []) (map (λ n. Some n) (numbers_of s.ranges)) ≢ []
 some-number-by floor top s h k true = λ e. cc
-some-number-by floor top s h k false = some-numbers floor top s.ranges h k
+some-number-by floor top s h k false = some-map (λ n. Some n) (numbers_of s.ranges) (some-numbers floor top s.ranges h k)
 
 pub some-number : (floor top : ℕ) (s : Numbers) → IsNormal floor top s.ranges → s.ranges ≢ [] → number_choices s ≢ []
 some-number floor top s h k = some-number-by floor top s h k (is_all s)

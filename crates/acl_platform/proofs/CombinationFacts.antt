@@ -55,7 +55,7 @@ members (x ∷ xs) ys f = (
   members xs ys (λ z h. f z (or_right (z == x) (list_any (λ m. z == m) xs) h)),
 )
 
-held : (rs : List Range) → AllByRecursion (λ n. holds rs n ≡ true) (numbers_of rs)
+pub held : (rs : List Range) → AllByRecursion (λ n. holds rs n ≡ true) (numbers_of rs)
 held rs = all-weaker (λ n h. sym (numbers-any rs n) ∙ h) (numbers_of rs) (members (numbers_of rs) (numbers_of rs) (λ x h. h))
 
 numbers-by : (s : Numbers) (b : Bool) → is_all s ≡ b → AllByRecursion (OfNumbers s) (cond b (None ∷ []) (map (λ n. Some n) (numbers_of s.ranges)))
@@ -75,7 +75,7 @@ ranges-by s false e h =
 pub all-ranges : (floor top : ℕ) (s : Numbers) → s.top ≡ top → IsNormal floor top s.ranges → AllByRecursion (OfRanges s) (range_choices s)
 all-ranges floor top s e h = ranges-by s (is_all s) refl (fit floor top s.top s.ranges h (omega (arith, e)))
 
-all-prefixes : (family : Family) (prefixes : List Prefix) → IsFullList family prefixes → AllByRecursion (IsPrefixOf family) prefixes
+pub all-prefixes : (family : Family) (prefixes : List Prefix) → IsFullList family prefixes → AllByRecursion (IsPrefixOf family) prefixes
 all-prefixes family prefixes h =
     all-weaker (λ p m. m.form) prefixes (recursion_from_All (IsMaximal family (any_has prefixes)) prefixes h.least.maximal)
 

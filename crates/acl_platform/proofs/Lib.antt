@@ -1,9 +1,13 @@
+pub mod AcceptedFilters
 pub mod ChoiceLaws
 pub mod CombinationFacts
 pub mod CombinationLaws
+pub mod ElementLaws
 pub mod EntryLaws
 pub mod PairLaws
 mod RuleOutcomes
+pub mod RuleNames
+pub mod RuleNumbers
 mod Sections
 pub mod SoundRules
 pub mod TextFronts

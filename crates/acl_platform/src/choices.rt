@@ -124,7 +124,9 @@ fn put_range<F: Form<Option<u8>>, O: Out>(
     Ok(())
 }
 
-fn count_numbers(ranges: &[Range]) -> u64
+/// How many numbers the ranges have; a number that does not fit stands at the greatest one that
+/// does.
+pub fn count_numbers(ranges: &[Range]) -> u64
     requires { All (λ r. IsRange 255 r) ranges.now }
     ensures { result ≡ min (length (numbers_of ranges.now)) COUNT_END }
 {

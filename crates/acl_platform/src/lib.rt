@@ -4,9 +4,11 @@
 
 mod choices;
 mod combinations;
+mod elements;
 mod filtering;
 mod filters;
 mod laws;
+mod limits;
 mod platforms;
 mod rule_rows;
 mod rules;
@@ -14,11 +16,13 @@ mod rules;
 mod tests;
 mod writing;
 
-pub use choices::{Choices, NumberChoices, RangeChoices};
+pub use choices::{Choices, NumberChoices, RangeChoices, count_numbers};
 pub use combinations::{Combination, count_combinations, put_combinations};
+pub use elements::{address_elements, range_elements};
 pub use filtering::filter_outcome;
 pub use filters::{Filter, Limit};
 pub use laws::{combinations_hold_what_the_sets_hold, sound_rules_have_combinations};
+pub use limits::{RuleLimits, count_in_limit, first_limit, is_name_taken, names_sctp_ports};
 pub use platforms::Platform;
 pub use rule_rows::{RuleForm, put_rules};
 pub use rules::{Rule, Rules, Test};

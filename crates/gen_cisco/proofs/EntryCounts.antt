@@ -1,8 +1,7 @@
 -- How many entries a section has.
-use Rattle.std.proofs.Common.{◌≡◌, ℕ, ◌+◌, ◌<◌, ◌≤◌, min, Bool, true, false, ◌||◌, cond, List, [], ◌∷◌, ◌++◌, length, map, flat_map, count_by, drop, get_or, Option, None, Some, is_some, inl, inr, refl, ap, sym, ◌∙◌, append-nil, arith}
+use Rattle.std.proofs.Common.{◌≡◌, ℕ, ◌+◌, ◌<◌, ◌≤◌, min, Bool, true, false, ◌||◌, cond, List, [], ◌∷◌, ◌++◌, length, map, flat_map, count_by, drop, get_or, refl, ap, sym, ◌∙◌, append-nil, arith}
 use Rattle.std.specs.List.{list_any}
-use Rattle.std.specs.Option.{option_or}
-use Rattle.std.proofs.lemmas.Bool.{cases_lt, lt-ltb, or_parts, true≢false}
+use Rattle.std.proofs.lemmas.Bool.{or_parts, true≢false}
 use Rattle.std.proofs.lemmas.List.{drop_all, drop_more}
 use Rattle.std.proofs.lemmas.List.Sums.{sum_by-append, sum_by-cons}
 use Rattle.acl_packet.specs.declared.addresses.Families.{Families}
@@ -12,19 +11,15 @@ use Rattle.acl_packet.specs.declared.addresses.Family.TheVariants.{V4, V6}
 use Rattle.acl_packet.specs.Addresses.{same_family}
 use Rattle.acl_text.specs.Output.{COUNT_END}
 use Rattle.acl_platform.specs.declared.combinations.Combination.{Combination}
-use Rattle.acl_platform.specs.declared.filters.Filter.{Filter}
-use Rattle.acl_platform.specs.declared.filters.Limit.{Limit}
-use Rattle.acl_platform.specs.declared.filters.Limit.TheVariants.{TooManyEntries}
 use Rattle.acl_platform.specs.declared.rules.Rule.{Rule}
 use Rattle.acl_platform.specs.Combinations.{combinations}
-use Rattle.acl_platform.specs.Platforms.{judged}
+use Rattle.acl_platform.specs.Remarks.{remarks}
 use Rattle.cisco_lang.specs.declared.documents.Item.{Item}
 use Rattle.cisco_lang.specs.declared.documents.Item.TheVariants.{Remark, Entry as AnEntry}
 use Rattle.cisco_lang.specs.Documents.{heads_of}
 use Rattle.cisco_lang.specs.Walks.{is_entry}
 use Rattle.gen_cisco.specs.CountSteps.{closing_count, combinations_in, rule_count}
-use Rattle.gen_cisco.specs.Limits.{count_limit, first_limit, limit_of, rule_limit}
-use Rattle.gen_cisco.specs.Sections.{closed, closing_entries, entry_count, entry_of, items_in, list_items, list_of, remarks, rule_items}
+use Rattle.gen_cisco.specs.Sections.{closed, closing_entries, entry_of, items_in, list_items, list_of, rule_items}
 
 abbrev pub entries : List Item → ℕ
 entries items = count_by is_entry items
@@ -151,42 +146,3 @@ count-on family count here more whole rules i r within is size plus before =
 pub none-left : (family : Family) (rules : List Rule) (i : ℕ) → length rules ≤ i → combinations_in family (drop i rules) ≡ 0
 unfolding combinations_in
 none-left family rules i h = ap (combinations_in family) (drop_all i rules h)
-
--- ---- the limit of the number
-
-judged-many : (count : ℕ) → 100000 < count → judged (count_limit count) count ≡ judged (Some TooManyEntries) count
-judged-many count h = ap (λ b. judged (cond b (Some TooManyEntries) None) count) (lt-ltb 100000 count h)
-
--- a count that stands at its end is above the greatest number of entries
-pub judged-same : (count : ℕ) → judged (count_limit (min count COUNT_END)) (min count COUNT_END) ≡ judged (count_limit count) count
-judged-same count = elim (cases_lt COUNT_END count) [
-  | inl h ↦ let e : min count COUNT_END ≡ COUNT_END = omega (arith, h) in
-      let k : 100000 < count = omega (arith, h) in
-      ap (λ n. judged (count_limit n) n) e ∙ judged-many COUNT_END (omega arith) ∙ sym (judged-many count k)
-  | inr h ↦ let e : min count COUNT_END ≡ count = omega (arith, h) in ap (λ n. judged (count_limit n) n) e
-]
-
-pub limit-first : (f : Filter) (l : Limit) (count : ℕ) → Some l ≡ first_limit 0 f.rules → judged (Some l) count ≡ judged (limit_of f) count
-limit-first f l count e = ap (λ o. judged (option_or o (count_limit (entry_count f))) count) e
-
-pub limit-last : (f : Filter) (count : ℕ) → None ≡ first_limit 0 f.rules → judged (count_limit (entry_count f)) count ≡ judged (limit_of f) count
-limit-last f count e = ap (λ o. judged (option_or o (count_limit (entry_count f))) count) e
-
--- ---- the first limit, from one rule on
-
-pub passed-rule : (rules : List Rule) (i : ℕ) (r : Rule) (o : Option Limit) → i < length rules → r ≡ get_or rules i r → o ≡ rule_limit i r
-    → first_limit i (drop i rules) ≡ option_or o (first_limit (i + 1) (drop (i + 1) rules))
-passed-rule rules i r o within is limit =
-    let rest = first_limit (i + 1) (drop (i + 1) rules) in
-    ap (first_limit i) (drop_more rules i r within) ∙ ap (λ q. option_or (rule_limit i q) rest) (sym is) ∙ ap (λ p. option_or p rest) (sym limit)
-
-pub past-rules : (rules : List Rule) (i : ℕ) → length rules ≤ i → first_limit i (drop i rules) ≡ None
-past-rules rules i h = ap (first_limit i) (drop_all i rules h)
-
-pub found : (o rest : Option Limit) → is_some o ≡ true → option_or o rest ≡ o
-found None rest h = absurd (true≢false (sym h))
-found (Some l) rest h = refl
-
-pub not-found : (o rest : Option Limit) → is_some o ≡ false → option_or o rest ≡ rest
-not-found None rest h = refl
-not-found (Some l) rest h = absurd (true≢false h)

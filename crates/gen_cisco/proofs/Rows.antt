@@ -14,11 +14,12 @@ use Rattle.acl_grammar.proofs.DecisionLaws.{family_decides}
 use Rattle.acl_grammar.proofs.ListLaws.{flat_twice}
 use Rattle.acl_platform.specs.declared.rules.Rule.{Rule}
 use Rattle.acl_platform.specs.Combinations.{combinations}
+use Rattle.acl_platform.specs.Remarks.{notes, remarks}
 use Rattle.cisco_lang.specs.declared.documents.Item.TheVariants.{Remark, Entry as AnEntry}
 use Rattle.cisco_lang.specs.Documents.{heads_of}
 use Rattle.cisco_lang.specs.Texts.{head_rows, item_rows, list_rows, section_row, section_rows, text_of}
 use Rattle.gen_cisco.specs.RowSteps.{items_rows, list_body, remark_row}
-use Rattle.gen_cisco.specs.Sections.{entry_of, items_in, list_items, list_of, notes, remarks, rule_items}
+use Rattle.gen_cisco.specs.Sections.{entry_of, items_in, list_items, list_of, rule_items}
 use Rattle.gen_cisco.proofs.EntryCounts.{same-items}
 
 remark-rows : (family : Family) (texts : List (List ℕ)) → map remark_row texts ≡ items_rows family (map (λ text. Remark text) texts)

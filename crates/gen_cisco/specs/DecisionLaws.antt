@@ -28,6 +28,7 @@ use Rattle.acl_platform.specs.declared.rules.Test.TheVariants.{Plain, AckOrRst, 
 use Rattle.acl_platform.specs.Choices.{in_range, is_chosen}
 use Rattle.acl_platform.specs.Combinations.{combination_holds, combinations}
 use Rattle.acl_platform.specs.Platforms.{DecidesAs, IsAccepted}
+use Rattle.acl_platform.specs.Remarks.{remarks}
 use Rattle.acl_platform.specs.Rules.{decided_by, passes, rule_holds, rules_outcome, sets_hold}
 use Rattle.acl_platform.specs.SoundFilters.{has_test, has_verdict, IsSoundRule}
 use Rattle.acl_platform.proofs.CombinationLaws.{any-combination, some-combination}
@@ -38,7 +39,7 @@ use Rattle.cisco_lang.specs.Documents.{heads_of}
 use Rattle.cisco_lang.specs.Walks.{ending, entry_holds, first_holding, flags_hold, has_entries, is_entry, items_of, port_holds, proto_holds, section_outcome, verdict_of, walk}
 use Rattle.gen_cisco.specs.Limits.{is_for_cisco, limit_of}
 use Rattle.gen_cisco.specs.SectionLaws.{device-is, rules-are}
-use Rattle.gen_cisco.specs.Sections.{closed, closing_entries, entry_of, everywhere, flags_of, items_in, list_items, list_of, permits, remarks, rule_items, section_of, wide_entry}
+use Rattle.gen_cisco.specs.Sections.{closed, closing_entries, entry_of, everywhere, flags_of, items_in, list_items, list_of, permits, rule_items, section_of, wide_entry}
 
 -- ---- one entry
 

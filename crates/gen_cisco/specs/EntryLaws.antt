@@ -17,10 +17,12 @@ use Rattle.acl_platform.specs.declared.combinations.Combination.{Combination}
 use Rattle.acl_platform.specs.declared.rules.Rule.{Rule}
 use Rattle.acl_platform.specs.declared.rules.Test.{Test}
 use Rattle.acl_platform.specs.declared.rules.Test.TheVariants.{Plain, AckOrRst, SynNotAck, Rst, State}
+use Rattle.acl_platform.specs.Limits.{names_sctp_ports}
 use Rattle.acl_platform.specs.SoundFilters.{is_named_protocol, is_tcp, IsSoundRule, tests_flags}
 use Rattle.acl_platform.proofs.CombinationFacts.{IsCombinationOf, OfNumbers, OfRanges}
+use Rattle.acl_platform.proofs.RuleNumbers.{no-destination, no-source, tcp-or-udp, type-most}
 use Rattle.cisco_lang.specs.Documents.{flags_fit, IsEntry, IsPortRange, is_proto, match_all_fits, ports_fit, type_fits}
-use Rattle.gen_cisco.specs.Limits.{asks_initial, is_unsupported, names_ports}
+use Rattle.gen_cisco.specs.Limits.{asks_initial, is_unsupported}
 use Rattle.gen_cisco.specs.Sections.{entry_of, flags_of}
 
 -- ---- the protocol
@@ -50,13 +52,7 @@ named test s (Some n) h none only = (n, (refl, (h.1, only n h.1)))
 type-is : (families : Families) (r : Rule) (o : Option ℕ) → IsSoundRule Cisco families r → OfNumbers r.itypes o
     → IfSome o (λ n. n ≤ 254)
 type-is families r None h k = tt
-type-is families r (Some n) h k =
-    let most = at_top 0 255 r.itypes.ranges n h.types.normal k.1 in
-    elim (cases_lt n 255) [
-      | inl below ↦ le_of_suc-le-suc below
-      | inr above ↦ let e : n ≡ 255 = le_antisymm most above in
-          absurd (false≢true (sym (h.types_named k.0) ∙ ap (holds r.itypes.ranges) (sym e) ∙ k.1))
-    ]
+type-is families r (Some n) h k = type-most r.itypes n h.types.normal (h.types_named k.0) k.1
 
 no-icmp : (f : Family) → is_icmp f 0 ≡ false
 no-icmp V4 = refl
@@ -71,46 +67,23 @@ types-fit families r proto (Some n) h p k =
 
 -- ---- ports
 
-no-source : (held sports dports : Bool) → (held && not (sports && dports)) ≡ false → sports ≡ false → held ≡ false
-no-source false sports dports e f = refl
-no-source true false dports e f = absurd (false≢true (sym e))
-no-source true true dports e f = absurd (false≢true (sym f))
-
-no-destination : (held sports dports : Bool) → (held && not (sports && dports)) ≡ false → dports ≡ false → held ≡ false
-no-destination false sports dports e f = refl
-no-destination true false dports e f = absurd (false≢true (sym e))
-no-destination true true false e f = absurd (false≢true (sym e))
-no-destination true true true e f = absurd (false≢true (sym f))
-
-not-that : (s : Numbers) (n m : ℕ) → holds s.ranges n ≡ true → holds s.ranges m ≡ false → (n == m) ≡ false
-not-that s n m h k = false_from_ne_true (n == m) (λ e. false≢true (sym k ∙ ap (holds s.ranges) (sym (eqb-true n m e)) ∙ h))
-
-two-left : (n : ℕ) → has_ports n ≡ true → (n == 132) ≡ false → ((n == 6) || (n == 17)) ≡ true
-two-left n h e = by_tests (n == 6) (n == 17) (n == 132) h e
-  where
-    by_tests : (a b c : Bool) → (a || b || c) ≡ true → c ≡ false → (a || b) ≡ true
-    by_tests true b c h e = refl
-    by_tests false true c h e = refl
-    by_tests false false true h e = absurd (false≢true (sym e))
-    by_tests false false false h e = absurd (false≢true h)
-
-tcp-or-udp : (s : Numbers) (proto : Option ℕ) → OfNumbers s proto → Only has_ports s → holds s.ranges 132 ≡ false
+either : (s : Numbers) (proto : Option ℕ) → OfNumbers s proto → Only has_ports s → holds s.ranges 132 ≡ false
     → (is_proto proto 6 || is_proto proto 17) ≡ true
-tcp-or-udp s proto p only none =
+either s proto p only none =
     let one = named has_ports s proto p refl only in
-    ap (λ x. is_proto x 6 || is_proto x 17) one.1.0 ∙ two-left one.0 one.1.1.1 (not-that s one.0 132 one.1.1.0 none)
+    ap (λ x. is_proto x 6 || is_proto x 17) one.1.0 ∙ tcp-or-udp s one.0 only none one.1.1.0
 
 ports-fit : (families : Families) (r : Rule) (proto : Option ℕ) (sport dport : Option (ℕ × ℕ)) → IsSoundRule Cisco families r
     → is_unsupported r ≡ false → OfNumbers r.protos proto → OfRanges r.sports sport → OfRanges r.dports dport
     → (is_none sport && is_none dport || (is_proto proto 6 || is_proto proto 17)) ≡ true
 ports-fit families r proto None None h u p k l = refl
 ports-fit families r proto (Some q) dport h u p k l =
-    let sctp = (or_parts (same_family r.family V6 && asks_initial r.test) (holds r.protos.ranges 132 && names_ports r) u).1 in
-    tcp-or-udp r.protos proto p (h.source_ports_fit k.0)
+    let sctp = (or_parts (same_family r.family V6 && asks_initial r.test) (names_sctp_ports r) u).1 in
+    either r.protos proto p (h.source_ports_fit k.0)
     (no-source (holds r.protos.ranges 132) (is_all r.sports) (is_all r.dports) sctp k.0)
 ports-fit families r proto None (Some q) h u p k l =
-    let sctp = (or_parts (same_family r.family V6 && asks_initial r.test) (holds r.protos.ranges 132 && names_ports r) u).1 in
-    tcp-or-udp r.protos proto p (h.destination_ports_fit l.0)
+    let sctp = (or_parts (same_family r.family V6 && asks_initial r.test) (names_sctp_ports r) u).1 in
+    either r.protos proto p (h.destination_ports_fit l.0)
     (no-destination (holds r.protos.ranges 132) (is_all r.sports) (is_all r.dports) sctp l.0)
 
 range-is : (s : Numbers) (o : Option (ℕ × ℕ)) → s.top ≡ 65535 → OfRanges s o → IfSome o IsPortRange
@@ -146,7 +119,7 @@ pub entry-is : (families : Families) (r : Rule) (c : Combination) → IsSoundRul
     → IsEntry r.family (entry_of r c)
 entry-is families r c h u k =
     let e = entry_of r c in
-    let initial = (or_parts (same_family r.family V6 && asks_initial r.test) (holds r.protos.ranges 132 && names_ports r) u).0 in
+    let initial = (or_parts (same_family r.family V6 && asks_initial r.test) (names_sctp_ports r) u).0 in
     record {
       protocol = protocol-is families r c.proto h k.protocol;
       source = k.source;

@@ -2,7 +2,6 @@ pub mod CountSteps
 pub mod DecisionLaws
 pub mod EntryLaws
 pub mod Limits
-pub mod NameLaws
 pub mod RowSteps
 pub mod SectionLaws
 pub mod SectionNames

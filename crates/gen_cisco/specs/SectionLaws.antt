@@ -1,11 +1,9 @@
 -- The section of an accepted filter is a document: proved here, and need not be believed.
 use Rattle.std.proofs.Common.{◌≡◌, ℕ, suc, lit≤, ◌+◌, ◌≤◌, Bool, true, false, cond, nat_lt, List, [], ◌∷◌, ◌++◌, length, map, flat_map, codes, Option, None, Some, inl, inr, refl, ap, sym, subst, append-nil, ◌∙◌}
 use Rattle.std.specs.List.{AllByRecursion, IsDistinct}
-use Rattle.std.specs.Option.{option_or}
 use Rattle.std.specs.Str.{bytes_eq}
-use Rattle.std.proofs.lemmas.Bool.{cases_lt, false_from_ne_true, false≢true, lt-ltb}
-use Rattle.std.proofs.Math.Nat.{le_refl, le_step, not-suc-le_self}
-use Rattle.std.proofs.lemmas.Option.{none-some}
+use Rattle.std.proofs.lemmas.Bool.{false_from_ne_true}
+use Rattle.std.proofs.Math.Nat.{le_refl, le_step, le_trans, not-suc-le_self}
 use Rattle.std.proofs.lemmas.Slice.Eq.{bytes_eq-Decides}
 use Rattle.acl_packet.specs.declared.addresses.Families.{Families}
 use Rattle.acl_packet.specs.declared.addresses.Families.TheVariants.{Inet, Inet6, Mixed}
@@ -13,94 +11,65 @@ use Rattle.acl_packet.specs.declared.addresses.Family.{Family}
 use Rattle.acl_packet.specs.declared.addresses.Family.TheVariants.{V4, V6}
 use Rattle.acl_packet.specs.Addresses.{same_family}
 use Rattle.acl_packet.proofs.PrefixLaws.{everywhere_is}
+use Rattle.acl_text.specs.Names.{is_safe_text}
 use Rattle.acl_grammar.proofs.DecisionLaws.{family_decides}
 use Rattle.acl_grammar.proofs.ListLaws.{all_append}
 use Rattle.acl_target.specs.declared.targets.Ending.TheVariants.{Neighbours}
-use Rattle.acl_target.specs.declared.targets.Kind.{Kind}
-use Rattle.acl_target.specs.declared.targets.Kind.TheVariants.{Cisco, Juniper, Iptables, Nftables}
-use Rattle.acl_target.specs.Clashes.{same_kind}
-use Rattle.acl_target.specs.TargetData.{FitsPlatform, IsDevice}
+use Rattle.acl_target.specs.declared.targets.Kind.TheVariants.{Cisco}
+use Rattle.acl_target.specs.TargetData.{IsDevice}
 use Rattle.acl_platform.specs.declared.filters.Filter.{Filter}
-use Rattle.acl_platform.specs.declared.filters.Limit.{Limit}
 use Rattle.acl_platform.specs.declared.filters.Limit.TheVariants.{NameLength, Unsupported}
 use Rattle.acl_platform.specs.declared.rules.Rule.{Rule}
 use Rattle.acl_platform.proofs.CombinationFacts.{all-map, all-weaker, combination-facts, IsCombinationOf}
+use Rattle.acl_platform.proofs.AcceptedFilters
+use Rattle.acl_platform.proofs.AcceptedFilters.{not-limited, rules-within, short-name, target-fits}
+use Rattle.acl_platform.proofs.RuleNames.{name-safe, notes-safe, rule-name}
 use Rattle.acl_platform.specs.Combinations.{combinations}
 use Rattle.acl_platform.specs.Platforms.{IsAccepted}
-use Rattle.acl_platform.specs.SoundFilters.{IsSoundRule, target_of}
+use Rattle.acl_platform.specs.Remarks.{remarks}
+use Rattle.acl_platform.specs.SoundFilters.{IsRuleName, IsSoundRule, target_of}
 use Rattle.cisco_lang.specs.declared.documents.Item.{Item}
 use Rattle.cisco_lang.specs.declared.documents.Item.TheVariants.{Remark, Entry as AnEntry}
 use Rattle.cisco_lang.specs.Documents.{heads_of, IsEntry, IsItem, IsList}
 use Rattle.cisco_lang.specs.Texts.{Spells, text_of}
 use Rattle.gen_cisco.specs.EntryLaws.{entry-is}
-use Rattle.gen_cisco.specs.Limits.{count_limit, first_limit, is_for_cisco, is_unsupported, limit_of, rule_limit}
-use Rattle.gen_cisco.specs.NameLaws.{notes-safe, rule-name-safe}
-use Rattle.gen_cisco.specs.Sections.{closed, entry_of, entry_count, items_in, list_of, remarks, rule_items, section_of, wide_entry}
+use Rattle.gen_cisco.specs.Limits.{is_for_cisco, is_unsupported, limit_of, rule_limit}
+use Rattle.gen_cisco.specs.Sections.{closed, entry_of, entry_count, items_in, list_of, rule_items, section_of, wide_entry}
 
 -- ---- an accepted filter
 
-is-cisco : (k : Kind) → same_kind k Cisco ≡ true → k ≡ Cisco
-is-cisco Cisco h = refl
-is-cisco Juniper h = absurd (false≢true h)
-is-cisco Iptables h = absurd (false≢true h)
-is-cisco Nftables h = absurd (false≢true h)
-
 pub kind-is : (f : Filter) → is_for_cisco f ≡ true → f.kind ≡ Cisco
-kind-is f h = is-cisco f.kind h
+kind-is f h = AcceptedFilters.kind-is Cisco f h
 
 pub device-is : (f : Filter) → IsAccepted is_for_cisco limit_of f → (stateful : Bool) × IsDevice Neighbours (target_of stateful f)
-device-is f h =
-    let t = h.sound.target in
-    let P : Kind → Type 0 = λ k. FitsPlatform k (target_of t.0 f) in
-    (t.0, subst P (kind-is f h.handled) t.1.platform)
+device-is f h = target-fits Cisco limit_of f h
 
 pub rules-are : (f : Filter) → IsAccepted is_for_cisco limit_of f → AllByRecursion (IsSoundRule Cisco f.families) f.rules
-rules-are f h =
-    let P : Kind → Type 0 = λ k. AllByRecursion (IsSoundRule k f.families) f.rules in
-    subst P (kind-is f h.handled) h.sound.rules
+rules-are f h = AcceptedFilters.rules-are Cisco limit_of f h
 
 -- A rule without a limit.
 abbrev pub IsWithin : Rule → Type 0
 IsWithin r = (length r.name ≤ 64) × (is_unsupported r ≡ false)
 
-both-none : (o p : Option Limit) → option_or o p ≡ None → (o ≡ None) × (p ≡ None)
-both-none None p h = (refl, h)
-both-none (Some l) p h = absurd (none-some l (sym h))
+rule-within : (earlier : List Rule) (r : Rule) → rule_limit earlier r ≡ None → IsWithin r
+rule-within earlier r h =
+    let name = not-limited (nat_lt 64 (length r.name)) (NameLength (length earlier)) (cond (is_unsupported r) (Some (Unsupported (length earlier))) None) h in
+    (short-name 64 (length r.name) name.0, (not-limited (is_unsupported r) (Unsupported (length earlier)) None name.1).0)
 
-no-name-limit : (n : ℕ) (l : Limit) (o : Option Limit) → cond (nat_lt 64 n) (Some l) o ≡ None → n ≤ 64
-no-name-limit n l o h = elim (cases_lt 64 n) [
-  | inl long ↦ absurd (none-some l (sym h ∙ ap (λ b. cond b (Some l) o) (lt-ltb 64 n long)))
-  | inr short ↦ short
-]
-
-no-other-limit : (long unsupported : Bool) (l m : Limit) → cond long (Some l) (cond unsupported (Some m) None) ≡ None → unsupported ≡ false
-no-other-limit true unsupported l m h = absurd (none-some l (sym h))
-no-other-limit false true l m h = absurd (none-some m (sym h))
-no-other-limit false false l m h = refl
-
-rule-within : (place : ℕ) (r : Rule) → rule_limit place r ≡ None → IsWithin r
-rule-within place r h = (
-  no-name-limit (length r.name) (NameLength place) (cond (is_unsupported r) (Some (Unsupported place)) None) h,
-  no-other-limit (nat_lt 64 (length r.name)) (is_unsupported r) (NameLength place) (Unsupported place) h,
-)
-
-all-within : (place : ℕ) (rules : List Rule) → first_limit place rules ≡ None → AllByRecursion IsWithin rules
-all-within place [] h = tt
-all-within place (r ∷ rules) h =
-    let p = both-none (rule_limit place r) (first_limit (place + 1) rules) h in
-    (rule-within place r p.0, all-within (place + 1) rules p.1)
-
-rules-within : (f : Filter) → limit_of f ≡ None → AllByRecursion IsWithin f.rules
-rules-within f h = all-within 0 f.rules (both-none (first_limit 0 f.rules) (count_limit (entry_count f)) h).0
+rules-are-within : (f : Filter) → limit_of f ≡ None → AllByRecursion IsWithin f.rules
+rules-are-within f h = rules-within rule_limit IsWithin rule-within (entry_count f) f h
 
 -- ---- items
+
+name-is-safe : (name : List ℕ) → IsRuleName Cisco name → length name ≤ 64 → is_safe_text name ≡ true
+name-is-safe name h short = name-safe name (rule-name Cisco name h (le_trans short (lit≤ tt)))
 
 rule-valid : (families : Families) (r : Rule) → IsSoundRule Cisco families r → IsWithin r → AllByRecursion (IsItem r.family) (rule_items r)
 rule-valid families r h w =
     let texts = map (λ text. Remark text) (remarks r) in
     let entries = map (λ c. AnEntry (entry_of r c)) (combinations r) in
     all_append (IsItem r.family) texts entries
-    (all-map (IsItem r.family) (λ text. Remark text) (remarks r) (rule-name-safe r.name h.name w.0, notes-safe r.note h.note))
+    (all-map (IsItem r.family) (λ text. Remark text) (remarks r) (name-is-safe r.name h.name w.0, notes-safe r.note h.note))
     (all-map (IsItem r.family) (λ c. AnEntry (entry_of r c)) (combinations r)
     (all-weaker {P = IsCombinationOf r} {Q = λ c. IsEntry r.family (entry_of r c)} (λ c k. entry-is families r c h w.1 k) (combinations r)
     (combination-facts Cisco families r h)))
@@ -158,7 +127,7 @@ closed-valid family (item ∷ items) h = h
 list-valid : (f : Filter) → IsAccepted is_for_cisco limit_of f → (family : Family) (name : List ℕ) → IsList (list_of f.rules (family, name))
 list-valid f h family name =
     closed-valid family (flat_map (items_in family) f.rules)
-    (rules-valid f.families family f.rules (rules-are f h) (rules-within f h.within))
+    (rules-valid f.families family f.rules (rules-are f h) (rules-are-within f h.within))
 
 -- ---- lists
 

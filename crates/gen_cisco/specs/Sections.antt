@@ -13,6 +13,7 @@ use Rattle.acl_platform.specs.declared.rules.Rule.{Rule}
 use Rattle.acl_platform.specs.declared.rules.Test.{Test}
 use Rattle.acl_platform.specs.declared.rules.Test.TheVariants.{Plain, AckOrRst, SynNotAck, Rst, State}
 use Rattle.acl_platform.specs.Combinations.{combinations}
+use Rattle.acl_platform.specs.Remarks.{remarks}
 use Rattle.cisco_lang.specs.declared.documents.Section.{Section}
 use Rattle.cisco_lang.specs.declared.documents.AccessList.{AccessList}
 use Rattle.cisco_lang.specs.declared.documents.Item.{Item}
@@ -48,15 +49,6 @@ entry_of r c = record {
   flags = flags_of r.test;
   log = r.log;
 }
-
--- A note that is empty is not written.
-abbrev pub notes : List ℕ → List (List ℕ)
-notes [] = []
-notes (b ∷ bs) = (b ∷ bs) ∷ []
-
--- The remarks of a rule are its name and its note.
-abbrev pub remarks : Rule → List (List ℕ)
-remarks r = r.name ∷ notes r.note
 
 -- A rule is its remarks, and behind them an entry for each combination.
 abbrev pub rule_items : Rule → List Item

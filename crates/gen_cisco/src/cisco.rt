@@ -9,9 +9,8 @@ ghost use Rattle.gen_cisco.specs.SectionLaws.{section_is_spelled};
 ghost use Rattle.gen_cisco.specs.Sections.{entry_count, list_names, section_of};
 
 use crate::counts::entry_count;
-use crate::limits::{count_in_limit, first_limit};
 use crate::section_rows::put_section;
-use acl_platform::{Filter, Limit, Platform};
+use acl_platform::{Filter, Limit, Platform, count_in_limit, first_limit};
 use acl_text::{Out, PutFault};
 use cisco_lang::{Doc, Section};
 
@@ -42,7 +41,7 @@ impl Platform for Cisco {
     ghost limit = { limit_of };
 
     fn check(&self, filter: &Filter) -> Result<u64, Limit> {
-        match first_limit(filter.rules.as_slice()) {
+        match first_limit(self, filter.rules.as_slice()) {
             Some(limit) => Err(limit),
             None => count_in_limit(entry_count(filter)),
         }

@@ -4,6 +4,7 @@ ghost use Rattle.acl_text.specs.Output.{Puts};
 ghost use Rattle.acl_grammar.specs.Rows.{row, text_of_rows, words_in};
 ghost use Rattle.acl_packet.specs.declared.addresses.Family.TheVariants.{V6};
 ghost use Rattle.acl_platform.specs.Combinations.{IsSized, combinations};
+ghost use Rattle.acl_platform.specs.Remarks.{notes};
 ghost use Rattle.cisco_lang.specs.declared.documents.Flags.{Flags};
 ghost use Rattle.cisco_lang.specs.declared.documents.Item.TheVariants.{Entry as AnEntry};
 ghost use Rattle.cisco_lang.specs.Texts.{end_rows, head_rows, item_rows, text_of};
@@ -15,7 +16,6 @@ ghost use Rattle.gen_cisco.specs.Sections.{
   flags_of,
   items_in,
   list_items,
-  notes,
   permits,
   section_of,
   wide_entry,

@@ -8,11 +8,12 @@ ghost use Rattle.gen_cisco.specs.Limits.{is_for_cisco, limit_of};
 
 use crate::Cisco;
 use crate::counts::entry_count;
-use crate::limits::{count_in_limit, first_limit};
 use crate::section_rows::put_section;
 use acl_host::Whole;
 use acl_packet::{Families, Family, Hook, Prefix, Verdict};
-use acl_platform::{Filter, Limit, Platform, Rule, Rules, Test, write_all};
+use acl_platform::{
+    Filter, Limit, Platform, Rule, Rules, Test, count_in_limit, first_limit, write_all,
+};
 use acl_sets::{Prefixes, Range, RangeSet};
 use acl_target::{Ending, Kind};
 use acl_text::{Bytes, Memory, Out, Place, PutFault, contains_byte};
@@ -173,7 +174,7 @@ fn writes_every_part_of_an_entry(rt: HostRuntime) -> Result<(), Fail> {
         b"! cisco edge mixed\nno ip access-list extended edge\nip access-list extended edge\n remark web\n remark Not ours.\n permit tcp any 192.0.2.10 0.0.0.1 eq 80 match-all +syn -ack log\n permit tcp any 192.0.2.10 0.0.0.1 range 443 444 match-all +syn -ack log\nexit\nno ipv6 access-list ipv6-edge\nipv6 access-list ipv6-edge\n remark ping\n deny icmp any host 2001:db8::10 128\n deny icmp any host 2001:db8::10 129\nexit\n".as_slice()
     );
     assert_eq!(rt; entry_count(&edge), 4);
-    assert_eq!(rt; first_limit(edge.rules.as_slice()), None);
+    assert_eq!(rt; first_limit(&Cisco, edge.rules.as_slice()), None);
     let mut lines = Lines {
         count: 0,
         within: true,
@@ -197,14 +198,20 @@ fn judges_rules_in_order(rt: HostRuntime) -> Result<(), Fail> {
     rules.push(rule(alloc, &long[1..], PAIR, 6, &dns, Test::SynNotAck)?)?;
     rules.push(rule(alloc, b"all", PAIR, 132, &all, Test::Plain)?)?;
     rules.push(rule(alloc, b"rst", HOST, 6, &all, Test::Rst)?)?;
-    assert_eq!(rt; first_limit(rules.as_slice()), None);
+    assert_eq!(rt; first_limit(&Cisco, rules.as_slice()), None);
     rules.push(rule(alloc, b"dns", PAIR, 132, &dns, Test::Plain)?)?;
     rules.push(rule(alloc, &long, HOST, 6, &all, Test::SynNotAck)?)?;
     rules.push(rule(alloc, b"syn", HOST, 6, &all, Test::SynNotAck)?)?;
     let rules = rules.as_slice();
-    assert_eq!(rt; first_limit(rules), Some(Limit::Unsupported(3)));
-    assert_eq!(rt; first_limit(&rules[4..]), Some(Limit::NameLength(0)));
-    assert_eq!(rt; first_limit(&rules[5..]), Some(Limit::Unsupported(0)));
+    assert_eq!(rt; first_limit(&Cisco, rules), Some(Limit::Unsupported(3)));
+    assert_eq!(rt;
+        first_limit(&Cisco, &rules[4..]),
+        Some(Limit::NameLength(0))
+    );
+    assert_eq!(rt;
+        first_limit(&Cisco, &rules[5..]),
+        Some(Limit::Unsupported(0))
+    );
     assert_eq!(rt; count_in_limit(100_000), Ok(100_000));
     assert_eq!(rt; count_in_limit(100_001), Err(Limit::TooManyEntries));
     Ok(())

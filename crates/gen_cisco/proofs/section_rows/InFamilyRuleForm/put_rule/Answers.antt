@@ -2,10 +2,11 @@ use Rattle.std.proofs.Common.{ℕ, List, [], ◌∷◌, ◌++◌, map, flat_map,
 use Rattle.acl_grammar.specs.Rows.{text_of_rows}
 use Rattle.acl_grammar.proofs.PutLaws.{retold}
 use Rattle.acl_platform.specs.Combinations.{combinations}
+use Rattle.acl_platform.specs.Remarks.{notes}
 use Rattle.cisco_lang.specs.declared.documents.Item.TheVariants.{Entry as AnEntry}
 use Rattle.cisco_lang.specs.Texts.{item_rows}
 use Rattle.gen_cisco.specs.RowSteps.{remark_row}
-use Rattle.gen_cisco.specs.Sections.{entry_of, notes}
+use Rattle.gen_cisco.specs.Sections.{entry_of}
 use Rattle.gen_cisco.proofs.Rows.{own-rule}
 use Rattle.gen_cisco.proofs.section_rows.InFamilyRuleForm.put_rule.Goals as goal
 
