@@ -2,7 +2,7 @@ ghost use Rattle.std.specs.Prelude.{◌≡◌, None, min};
 ghost use Rattle.std.specs.List.{All};
 ghost use Rattle.acl_text.specs.Output.{COUNT_END};
 ghost use Rattle.acl_platform.specs.Combinations.{IsSized};
-ghost use Rattle.gen_nftables.specs.CountSteps.{rule_count};
+ghost use Rattle.gen_nftables.specs.CountSteps.{rule_count, rules_count};
 ghost use Rattle.gen_nftables.specs.Sections.{chain_rule, entry_count, rule_size};
 
 use acl_platform::{
@@ -15,8 +15,15 @@ pub(crate) fn entry_count(filter: &Filter) -> u64
     requires { All IsSized filter.now.rules }
     ensures { result ≡ min (entry_count filter.now) COUNT_END }
 {
+    rules_count(filter.rules.as_slice())
+}
+
+fn rules_count(rules: &[Rule]) -> u64
+    requires { All IsSized rules.now }
+    ensures { result ≡ min (rules_count rules.now) COUNT_END }
+{
     let mut count: u64 = 0;
-    for rule in filter.rules.as_slice() {
+    for rule in rules {
         count = count.saturating_add(rule_count(rule));
     }
     count

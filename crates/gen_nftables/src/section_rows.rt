@@ -6,7 +6,7 @@ ghost use Rattle.acl_platform.specs.Choices.{number_choices};
 ghost use Rattle.acl_platform.specs.Combinations.{IsSized};
 ghost use Rattle.nft_lang.specs.declared.documents.Item.TheVariants.{Rule as ARule};
 ghost use Rattle.nft_lang.specs.Texts.{item_rows, text_of};
-ghost use Rattle.gen_nftables.specs.RowSteps.{items_rows, remark_row};
+ghost use Rattle.gen_nftables.specs.RowSteps.{head_of, items_rows, remark_row};
 ghost use Rattle.acl_platform.specs.Remarks.{notes};
 ghost use Rattle.gen_nftables.specs.Sections.{
   accepts,
@@ -31,20 +31,24 @@ pub(crate) fn put_section<O: Out>(filter: &Filter, out: &mut O) -> Result<(), Pu
     ensures { Puts O.told O.faults O.refusals O.is_open O.keeps_rest out.old out.new
         (text_of (section_of filter.now ∷ [])) result }
 {
-    let families = filter.families;
-    let head = SectionHead {
-        hook: filter.hook,
-        families,
-        number: filter.number,
-        priority: filter.priority,
-        accept: accepts(filter.ending),
-    };
     let items = ChainItems {
-        families,
+        families: filter.families,
         verbose: filter.verbose,
         rules: filter.rules.as_slice(),
     };
-    (head, (items, SectionEnd)).put_rows(out)
+    (head_of(filter), (items, SectionEnd)).put_rows(out)
+}
+
+fn head_of(filter: &Filter) -> SectionHead
+    ensures { result ≡ head_of filter.now }
+{
+    SectionHead {
+        hook: filter.hook,
+        families: filter.families,
+        number: filter.number,
+        priority: filter.priority,
+        accept: accepts(filter.ending),
+    }
 }
 
 fn accepts(ending: Ending) -> bool

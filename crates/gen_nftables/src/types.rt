@@ -47,11 +47,11 @@ impl<'a> Words for NumberSet<'a> {
     fn put_spaced<O: Out>(&self, out: &mut O) -> Result<(), PutFault> {
         match self.ranges {
             [] => Ok(()),
-            [first, others @ ..] => {
+            [_, ..] => {
+                let ranges = self.ranges;
                 let key: &[&[u8]] = &[icmp_word(self.family), b"type", b"{"];
                 let end: &[&[u8]] = &[b"}"];
-                let numbers = Numbers { first, others };
-                (key, (numbers, end)).put_spaced(out)
+                (key, (Numbers { ranges }, end)).put_spaced(out)
             }
         }
     }
@@ -66,29 +66,64 @@ fn icmp_word(family: Family) -> &'static [u8]
     }
 }
 
-// The numbers of a range and of others, with a comma behind each but the last.
+// The numbers of ranges, with a comma behind each but the last.
 #[derive(Drop)]
 struct Numbers<'a> {
-    first: &'a Range,
-    others: &'a [Range],
-    ghost first_small: { IsRange 255 first.now },
-    ghost others_small: { All (λ r. IsRange 255 r) others.now },
+    ranges: &'a [Range],
+    ghost small: { All (λ r. IsRange 255 r) ranges.now },
 }
 
 impl<'a> Words for Numbers<'a> {
-    ghost words = { λ n. with_commas
-        (map (λ number. decimal number) (numbers_of (n.first.now ∷ n.others.now))) };
+    ghost words = { λ n. with_commas (map (λ number. decimal number) (numbers_of n.ranges.now)) };
 
     fn put_spaced<O: Out>(&self, out: &mut O) -> Result<(), PutFault> {
-        let space: &[u8] = b" ";
-        let number = self.first.low;
-        (space, Number { number }).put_into(out)?;
-        put_numbers(self.first.low as u16 + 1, self.first.high as u16 + 1, out)?;
-        put_ranges(self.others, out)
+        match self.ranges {
+            [] => Ok(()),
+            [first, others @ ..] => {
+                let space: &[u8] = b" ";
+                let number = first.low;
+                let behind = NumbersBetween {
+                    first: first.low as u16 + 1,
+                    end: first.high as u16 + 1,
+                };
+                let others = NumbersIn { ranges: others };
+                (space, (Number { number }, (behind, others))).put_into(out)
+            }
+        }
     }
 }
 
-// Each number of the ranges behind a comma and a space.
+// The numbers from the first one on, below the end, each behind a comma and a space.
+#[derive(Drop)]
+struct NumbersBetween {
+    first: u16,
+    end: u16,
+    ghost ends: { first ≤ end },
+}
+
+impl Piece for NumbersBetween {
+    ghost text = { λ n. other_numbers (range_with_len n.first (n.end - n.first)) };
+
+    fn put_into<O: Out>(&self, out: &mut O) -> Result<(), PutFault> {
+        put_numbers(self.first, self.end, out)
+    }
+}
+
+// The numbers of ranges, each behind a comma and a space.
+#[derive(Drop)]
+struct NumbersIn<'a> {
+    ranges: &'a [Range],
+    ghost small: { All (λ r. IsRange 255 r) ranges.now },
+}
+
+impl<'a> Piece for NumbersIn<'a> {
+    ghost text = { λ n. other_numbers (numbers_of n.ranges.now) };
+
+    fn put_into<O: Out>(&self, out: &mut O) -> Result<(), PutFault> {
+        put_ranges(self.ranges, out)
+    }
+}
+
 fn put_ranges<O: Out>(ranges: &[Range], out: &mut O) -> Result<(), PutFault>
     requires open { IsTrue (O.is_open out.old) }
     requires ranges { All (λ r. IsRange 255 r) ranges.now }
@@ -101,7 +136,6 @@ fn put_ranges<O: Out>(ranges: &[Range], out: &mut O) -> Result<(), PutFault>
     Ok(())
 }
 
-// Each number from the first one on, below the end, behind a comma and a space.
 fn put_numbers<O: Out>(first: u16, end: u16, out: &mut O) -> Result<(), PutFault>
     requires open { IsTrue (O.is_open out.old) }
     requires ends { first ≤ end }

@@ -1,22 +1,11 @@
-use Rattle.std.proofs.Common.{min, arith}
+use Rattle.std.proofs.Common.{min, ap, sym, ◌∙◌}
 use Rattle.acl_text.specs.Output.{COUNT_END}
-use Rattle.gen_nftables.proofs.EntryCounts.{count-on, counts, none-left}
+use Rattle.gen_nftables.specs.CountSteps.{rules_count}
+use Rattle.gen_nftables.proofs.EntryCounts.{all-sizes}
 use Rattle.gen_nftables.proofs.counts.entry_count.Goals as goal
-
-pub loop-rule-preserved : goal.loop-rule-preserved
-loop-rule-preserved c =
-    let verbose = c.args.filter.now.verbose in
-    let rules = c.args.filter.now.rules in
-    let plus = c.saturating_add-count.ensures in
-    record {
-      fits = omega (arith, plus);
-      whole = count-on verbose c.loop-rule.count c.rule_count.result c.saturating_add-count.result (min (counts verbose rules) COUNT_END) rules
-          c.loop-rule.rule-index c.rule-item.result c.loop-rule-test.true c.rule-item.is c.rule_count.ensures plus c.loop-rule.invariant.whole;
-    }
 
 pub returns : goal.returns
 returns c =
-    let none = none-left c.args.filter.now.verbose c.args.filter.now.rules c.loop-rule.rule-index c.loop-rule-test.false in
-    let fits = c.loop-rule.invariant.fits in
-    let whole = c.loop-rule.invariant.whole in
-    omega (arith, none, fits, whole)
+    let f = c.args.filter.now in
+    c.rules_count.ensures ∙ ap (λ rules. min (rules_count rules) COUNT_END) c.as_slice.ensures
+    ∙ ap (λ n. min n COUNT_END) (sym (all-sizes f.verbose f.rules))
