@@ -1,0 +1,4 @@
+pub mod EntryCounts
+pub mod NumberTexts
+pub mod Rows
+pub mod TableNames

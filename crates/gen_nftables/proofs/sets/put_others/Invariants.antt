@@ -1,0 +1,10 @@
+use Rattle.std.proofs.Common.{take, flat_map, codes, ◌++◌}
+use Rattle.acl_text.specs.Output.{Puts}
+use Rattle.acl_text.proofs.Putting.{done}
+use Rattle.gen_nftables.proofs.sets.put_others.Given as goal
+
+abbrev pub invariant-loop-element : goal.invariant-loop-element
+invariant-loop-element g l =
+    let o = g.O.Out in
+    Puts o.told o.faults o.refusals o.is_open o.keeps_rest l.initial.out l.out
+    (flat_map (λ e. codes ", " ++ g.T.Element.word e) (take l.element-index l.elements)) done

@@ -1,0 +1,8 @@
+pub mod CountSteps
+pub mod DecisionLaws
+pub mod Limits
+pub mod RowSteps
+pub mod RuleLaws
+pub mod SectionLaws
+pub mod SectionNames
+pub mod Sections

@@ -1,0 +1,36 @@
+-- The rows of a rule of a filter, and those of a section behind its first line.
+use Rattle.std.specs.Prelude.{ℕ, List, ◌∷◌, ◌++◌, flat_map, codes}
+use Rattle.std.specs.Fmt.{decimal}
+use Rattle.acl_packet.specs.declared.addresses.Families.{Families}
+use Rattle.acl_grammar.specs.Rows.{Row, row, words_in}
+use Rattle.acl_platform.specs.declared.filters.Filter.{Filter}
+use Rattle.nft_lang.specs.declared.chain_rows.SectionHead.{SectionHead}
+use Rattle.nft_lang.specs.declared.documents.Item.{Item}
+use Rattle.nft_lang.specs.declared.documents.Section.{Section}
+use Rattle.nft_lang.specs.Texts.{chain_rows, end_rows, item_rows, start_row, table_row}
+use Rattle.gen_nftables.specs.Sections.{accepts}
+
+abbrev pub remark_row : List ℕ → Row
+remark_row text = row 8 (codes "#" ∷ words_in text)
+
+abbrev pub items_rows : Families → List Item → List Row
+items_rows families items = flat_map (item_rows families) items
+
+abbrev pub head_of : Filter → SectionHead
+head_of f = record {
+  hook = f.hook;
+  families = f.families;
+  number = f.number;
+  priority = f.priority;
+  accept = accepts f.ending;
+}
+
+-- The table is added and deleted, and then made.
+abbrev pub table_body : Section → List Row
+table_body s = table_row (codes "add") s.families s.number
+    ∷ table_row (codes "delete") s.families s.number ∷ start_row s.families s.number
+    ∷ (chain_rows s.hook s.priority s.accept ++ (items_rows s.families s.items ++ end_rows))
+
+-- Numbers, each behind a comma and a space.
+abbrev pub other_numbers : List ℕ → List ℕ
+other_numbers numbers = flat_map (λ n. codes ", " ++ decimal n) numbers

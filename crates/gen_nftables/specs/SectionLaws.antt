@@ -1,0 +1,91 @@
+-- The section of an accepted filter is a document, and documents whose tables have other names can be
+-- joined: proved here, and need not be believed.
+use Rattle.std.proofs.Common.{◌≡◌, ℕ, ◌^◌, Bool, true, false, ℤ, pos, negsuc, List, [], ◌∷◌, ◌++◌, map, flat_map, refl, ap, sym, ◌∙◌, arith}
+use Rattle.std.specs.List.{AllByRecursion, IsDistinct}
+use Rattle.std.specs.Str.{bytes_eq}
+use Rattle.std.proofs.lemmas.Bool.{lt-ltb}
+use Rattle.std.proofs.lemmas.Int.{ints}
+use Rattle.acl_packet.specs.declared.addresses.Families.{Families}
+use Rattle.acl_grammar.specs.Naming.{in_common}
+use Rattle.acl_grammar.proofs.ListLaws.{all_append, all_flat}
+use Rattle.acl_target.specs.declared.targets.Kind.TheVariants.{Nftables}
+use Rattle.acl_target.specs.TargetData.{IsHooked, IsPriority}
+use Rattle.acl_platform.specs.declared.filters.Filter.{Filter}
+use Rattle.acl_platform.specs.declared.rules.Rule.{Rule}
+use Rattle.acl_platform.specs.Choices.{number_choices}
+use Rattle.acl_platform.specs.Platforms.{IsAccepted}
+use Rattle.acl_platform.specs.Remarks.{notes}
+use Rattle.acl_platform.specs.SoundFilters.{IsSoundRule, target_of}
+use Rattle.acl_platform.proofs.AcceptedFilters.{rules-are, target-fits}
+use Rattle.acl_platform.proofs.CombinationFacts.{all-map, all-numbers, all-weaker, OfNumbers}
+use Rattle.acl_platform.proofs.RuleNames.{name-safe, notes-safe}
+use Rattle.nft_lang.specs.declared.documents.Item.{Item}
+use Rattle.nft_lang.specs.declared.documents.Item.TheVariants.{Remark, Rule as ARule}
+use Rattle.nft_lang.specs.declared.documents.Section.{Section}
+use Rattle.nft_lang.specs.Documents.{fits_i32, IsItem, names_of}
+use Rattle.nft_lang.specs.Texts.{Spells, text_of}
+use Rattle.nft_lang.proofs.JoinLaws.{joined_documents}
+use Rattle.gen_nftables.specs.Limits.{is_for_nftables, limit_of}
+use Rattle.gen_nftables.specs.RuleLaws.{rule-is}
+use Rattle.gen_nftables.specs.Sections.{chain_rule, remarks_in, rule_items, section_names, section_of}
+
+abbrev pub IsTaken : Filter → Type 0
+IsTaken f = IsAccepted is_for_nftables limit_of f
+
+pub hooked-is : (f : Filter) → IsTaken f → (stateful : Bool) × IsHooked (target_of stateful f)
+hooked-is f h = target-fits Nftables limit_of f h
+
+pub sound-rules : (f : Filter) → IsTaken f → AllByRecursion (IsSoundRule Nftables f.families) f.rules
+sound-rules f h = rules-are Nftables limit_of f h
+
+-- ---- items
+
+remarks-safe : (families : Families) (verbose : Bool) (r : Rule) → IsSoundRule Nftables families r
+    → AllByRecursion (IsItem families) (map (λ text. Remark text) (remarks_in verbose r))
+remarks-safe families true r h =
+    (name-safe r.name h.name, all-map (IsItem families) (λ text. Remark text) (notes r.note) (notes-safe r.note h.note))
+remarks-safe families false r h = tt
+
+rule-valid : (families : Families) (verbose : Bool) (r : Rule) → IsSoundRule Nftables families r → AllByRecursion (IsItem families) (rule_items verbose r)
+rule-valid families verbose r h =
+    all_append (IsItem families) (map (λ text. Remark text) (remarks_in verbose r)) (map (λ o. ARule (chain_rule r o)) (number_choices r.protos))
+    (remarks-safe families verbose r h)
+    (all-map (IsItem families) (λ o. ARule (chain_rule r o)) (number_choices r.protos)
+    (all-weaker {P = OfNumbers r.protos} (λ o k. rule-is families r o h k) (number_choices r.protos) (all-numbers r.protos)))
+
+-- ---- the section
+
+fits : (z : ℤ) → IsPriority z → fits_i32 z ≡ true
+fits (pos n) h = let most = h.1 in lt-ltb n (2 ^ 31) (omega (arith, ints, most))
+fits (negsuc n) h = let least = h.0 in lt-ltb n (2 ^ 31) (omega (arith, ints, least))
+
+pub section_is_spelled : (f : Filter) → IsTaken f → Spells (text_of (section_of f ∷ [])) (section_of f ∷ [])
+unfolding IsDistinct
+section_is_spelled f h =
+    let most = h.sound.target.1.number_to in
+    record {
+      valid = record {
+        sections = (
+          record {
+            number = omega (arith, most);
+            priority = fits f.priority (hooked-is f h).1.priority_is;
+            items = all_flat (IsSoundRule Nftables f.families) (IsItem f.families) (rule_items f.verbose) (rule-valid f.families f.verbose) f.rules (sound-rules f h);
+          },
+          tt,
+        );
+        names_differ = (tt, tt);
+      };
+      written = refl;
+    }
+
+-- ---- joined documents
+
+names-same : (doc : List Section) → flat_map section_names doc ≡ names_of doc
+names-same [] = refl
+names-same (s ∷ doc) = ap (λ names. section_names s ++ names) (names-same doc)
+
+pub joined_are_spelled : (bytes more : List ℕ) (a b : List Section) → Spells bytes a → Spells more b
+    → in_common (flat_map section_names a) (flat_map section_names b) ≡ false → Spells (bytes ++ more) (a ++ b)
+joined_are_spelled bytes more a b h k n =
+    joined_documents bytes more a b h k
+    (ap (λ names. in_common names (names_of b)) (sym (names-same a)) ∙ ap (in_common (flat_map section_names a)) (sym (names-same b)) ∙ n)

@@ -1,0 +1,54 @@
+ghost use Rattle.std.specs.Prelude.{◌≡◌, None, min};
+ghost use Rattle.std.specs.List.{All};
+ghost use Rattle.acl_text.specs.Output.{COUNT_END};
+ghost use Rattle.acl_platform.specs.Combinations.{IsSized};
+ghost use Rattle.gen_nftables.specs.CountSteps.{rule_count, rules_count};
+ghost use Rattle.gen_nftables.specs.Sections.{chain_rule, entry_count, rule_size};
+
+use acl_platform::{
+    Choices, Filter, NumberChoices, Rule, address_elements, count_numbers, range_elements,
+};
+
+/// The number of entries of the section that the filter becomes; a number that does not fit stands
+/// at the greatest one that does.
+pub(crate) fn entry_count(filter: &Filter) -> u64
+    requires { All IsSized filter.now.rules }
+    ensures { result ≡ min (entry_count filter.now) COUNT_END }
+{
+    rules_count(filter.rules.as_slice())
+}
+
+fn rules_count(rules: &[Rule]) -> u64
+    requires { All IsSized rules.now }
+    ensures { result ≡ min (rules_count rules.now) COUNT_END }
+{
+    let mut count: u64 = 0;
+    for rule in rules {
+        count = count.saturating_add(rule_count(rule));
+    }
+    count
+}
+
+fn rule_count(rule: &Rule) -> u64
+    requires { IsSized rule.now }
+    ensures { result ≡ min (rule_count rule.now) COUNT_END }
+{
+    let protocols = NumberChoices { set: &rule.protos };
+    protocols.count().saturating_mul(rule_size(rule))
+}
+
+// The rule is as great for each of its protocols.
+fn rule_size(rule: &Rule) -> u64
+    requires { IsSized rule.now }
+    ensures { result ≡ min (rule_size (chain_rule rule.now None)) COUNT_END }
+{
+    let src = address_elements(rule.src.as_slice()).len() as u64;
+    let dst = address_elements(rule.dst.as_slice()).len() as u64;
+    let sports = range_elements(&rule.sports).len() as u64;
+    let dports = range_elements(&rule.dports).len() as u64;
+    src.saturating_add(dst)
+        .saturating_add(sports)
+        .saturating_add(dports)
+        .saturating_add(count_numbers(range_elements(&rule.itypes)))
+        .saturating_add(1)
+}

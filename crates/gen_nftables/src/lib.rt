@@ -1,0 +1,17 @@
+//! nftables rules from filters.
+#![tactic(auto)]
+
+mod counts;
+mod laws;
+mod nftables;
+mod rule_words;
+mod section_rows;
+mod sets;
+#[cfg(test)]
+mod tests;
+mod types;
+
+pub use laws::{
+    a_section_begins_with_its_target, targets_of_different_numbers_have_different_tables,
+};
+pub use nftables::Nftables;

@@ -1,0 +1,194 @@
+ghost use Rattle.std.specs.Prelude.{◌≡◌, ◌++◌, ◌∷◌, [], IsTrue, flat_map, map};
+ghost use Rattle.std.specs.List.{All};
+ghost use Rattle.acl_text.specs.Output.{Puts};
+ghost use Rattle.acl_grammar.specs.Rows.{row, text_of_rows};
+ghost use Rattle.acl_platform.specs.Choices.{number_choices};
+ghost use Rattle.acl_platform.specs.Combinations.{IsSized};
+ghost use Rattle.nft_lang.specs.declared.documents.Item.TheVariants.{Rule as ARule};
+ghost use Rattle.nft_lang.specs.Texts.{item_rows, text_of};
+ghost use Rattle.gen_nftables.specs.RowSteps.{head_of, items_rows, remark_row};
+ghost use Rattle.acl_platform.specs.Remarks.{notes};
+ghost use Rattle.gen_nftables.specs.Sections.{
+  accepts,
+  chain_rule,
+  remarks_in,
+  rule_items,
+  section_of,
+};
+
+use crate::rule_words::RuleWords;
+use acl_grammar::{Form, Row, Rows};
+use acl_packet::Families;
+use acl_platform::{Choices, Filter, NumberChoices, Rule, RuleForm, put_rules};
+use acl_target::Ending;
+use acl_text::{Out, PutFault};
+use nft_lang::{RemarkRow, SectionEnd, SectionHead};
+
+/// Puts the section that the filter becomes.
+pub(crate) fn put_section<O: Out>(filter: &Filter, out: &mut O) -> Result<(), PutFault>
+    requires open { IsTrue (O.is_open out.old) }
+    requires sized { All IsSized filter.now.rules }
+    ensures { Puts O.told O.faults O.refusals O.is_open O.keeps_rest out.old out.new
+        (text_of (section_of filter.now ∷ [])) result }
+{
+    let items = ChainItems {
+        families: filter.families,
+        verbose: filter.verbose,
+        rules: filter.rules.as_slice(),
+    };
+    (head_of(filter), (items, SectionEnd)).put_rows(out)
+}
+
+fn head_of(filter: &Filter) -> SectionHead
+    ensures { result ≡ head_of filter.now }
+{
+    SectionHead {
+        hook: filter.hook,
+        families: filter.families,
+        number: filter.number,
+        priority: filter.priority,
+        accept: accepts(filter.ending),
+    }
+}
+
+fn accepts(ending: Ending) -> bool
+    ensures { result ≡ accepts ending }
+{
+    matches!(ending, Ending::Accept)
+}
+
+// The items of the chain.
+#[derive(Drop)]
+struct ChainItems<'a> {
+    families: Families,
+    verbose: bool,
+    rules: &'a [Rule],
+    ghost sized: { All IsSized rules.now },
+}
+
+impl<'a> Rows for ChainItems<'a> {
+    ghost rows = { λ i. items_rows i.families (flat_map (rule_items i.verbose) i.rules.now) };
+
+    fn put_rows<O: Out>(&self, out: &mut O) -> Result<(), PutFault> {
+        let form = InChain {
+            families: self.families,
+            verbose: self.verbose,
+        };
+        put_rules(self.rules, &form, out)
+    }
+}
+
+// A rule of the filter: its remarks, and a rule for each protocol.
+#[derive(Drop)]
+struct InChain {
+    families: Families,
+    verbose: bool,
+}
+
+impl RuleForm for InChain {
+    ghost rule_rows = { λ f rule. items_rows f.families (rule_items f.verbose rule) };
+
+    fn put_rule<O: Out>(&self, rule: &Rule, out: &mut O) -> Result<(), PutFault> {
+        let remarks = Remarks {
+            verbose: self.verbose,
+            rule,
+        };
+        let families = self.families;
+        (remarks, ChainRules { families, rule }).put_rows(out)
+    }
+}
+
+// The remarks of a rule, where they are asked for.
+#[derive(Drop)]
+struct Remarks<'a> {
+    verbose: bool,
+    rule: &'a Rule,
+}
+
+impl<'a> Rows for Remarks<'a> {
+    ghost rows = { λ r. map remark_row (remarks_in r.verbose r.rule.now) };
+
+    fn put_rows<O: Out>(&self, out: &mut O) -> Result<(), PutFault> {
+        if self.verbose {
+            let name = RemarkRow {
+                text: self.rule.name.as_slice(),
+            };
+            let note = NoteRow {
+                text: self.rule.note.as_slice(),
+            };
+            (name, note).put_rows(out)
+        } else {
+            Ok(())
+        }
+    }
+}
+
+// A remark where there is a note.
+#[derive(Drop)]
+struct NoteRow<'a> {
+    text: &'a [u8],
+}
+
+impl<'a> Rows for NoteRow<'a> {
+    ghost rows = { λ n. map remark_row (notes n.text.now) };
+
+    fn put_rows<O: Out>(&self, out: &mut O) -> Result<(), PutFault> {
+        if self.text.is_empty() {
+            Ok(())
+        } else {
+            RemarkRow { text: self.text }.put_rows(out)
+        }
+    }
+}
+
+// The rules of the chain that a rule becomes, one for each protocol or one for all.
+#[derive(Drop)]
+struct ChainRules<'a> {
+    families: Families,
+    rule: &'a Rule,
+    ghost sized: { IsSized rule.now },
+}
+
+impl<'a> Rows for ChainRules<'a> {
+    ghost rows = { λ c. flat_map
+        (λ proto. item_rows c.families (ARule (chain_rule c.rule.now proto)))
+        (number_choices c.rule.now.protos) };
+
+    fn put_rows<O: Out>(&self, out: &mut O) -> Result<(), PutFault> {
+        let protocols = NumberChoices {
+            set: &self.rule.protos,
+        };
+        let form = OfRule {
+            families: self.families,
+            rule: self.rule,
+        };
+        protocols.put_each(&form, out)
+    }
+}
+
+// A protocol, as the rule that it gives.
+#[derive(Drop)]
+struct OfRule<'a> {
+    families: Families,
+    rule: &'a Rule,
+    ghost sized: { IsSized rule.now },
+}
+
+impl<'a> Form<Option<u8>> for OfRule<'a> {
+    ghost item_rows = { λ f proto. item_rows f.families (ARule (chain_rule f.rule.now proto)) };
+
+    fn put_item<O: Out>(&self, item: &Option<u8>, out: &mut O) -> Result<(), PutFault> {
+        // The last space of the indent is the one that stands before the first word.
+        let nothing: &[u8] = b"";
+        let row = Row {
+            indent: 7,
+            first: nothing,
+            rest: RuleWords {
+                families: self.families,
+                proto: *item,
+                rule: self.rule,
+            },
+        };
+        row.put_rows(out)
+    }
+}

@@ -1,0 +1,392 @@
+ghost use Rattle.std.specs.Prelude.{◌≡◌, ◌≤◌, ◌×◌, ◌∷◌, [], IfOk, None, true};
+ghost use Rattle.std.specs.List.{All, AllByRecursion};
+ghost use Rattle.acl_sets.specs.Ranges.{IsRange};
+ghost use Rattle.acl_target.specs.TargetData.{hook_text};
+ghost use Rattle.acl_platform.specs.Combinations.{IsSized};
+ghost use Rattle.acl_platform.specs.Platforms.{IsAccepted};
+ghost use Rattle.gen_nftables.specs.Limits.{is_for_nftables, limit_of};
+
+use crate::Nftables;
+use crate::counts::entry_count;
+use crate::section_rows::put_section;
+use acl_host::Whole;
+use acl_packet::{Families, Family, Hook, Prefix, Verdict};
+use acl_platform::{Filter, Limit, Platform, Rule, Rules, Test, count_in_limit, write_all};
+use acl_sets::{Prefixes, Range, RangeSet};
+use acl_target::{Ending, Kind};
+use acl_text::{Bytes, Memory, Out, Place, PutFault, contains_byte};
+use nft_lang::{read, sections};
+use std::alloc::Global;
+use std::test::Fail;
+
+fn filter(
+    alloc: Global,
+    name: &[u8],
+    hook: Hook,
+    families: Families,
+    number: u32,
+    rules: Rules,
+) -> Result<Filter, Memory>
+    requires name { name.now ≡ hook_text hook }
+    requires number { (1 ≤ number) × (number ≤ 64) }
+    ensures accepted { rules ≡ [] → IfOk result (IsAccepted is_for_nftables limit_of) }
+    ensures number { IfOk result (λ f. f.number ≡ number) }
+    ensures rules { IfOk result (λ f. f.rules ≡ rules) }
+{
+    Ok(Filter {
+        place: Place { file: 1, line: 1 },
+        kind: Kind::Nftables,
+        name: Bytes::from_slice(alloc, name)?,
+        families,
+        hook,
+        ending: Ending::Deny,
+        priority: 0,
+        verbose: true,
+        number,
+        rules,
+    })
+}
+
+const ALL: Range = Range {
+    low: 0,
+    high: 65535,
+};
+
+fn one(number: u128) -> Range
+    ensures { result ≡ record { low = number; high = number } }
+{
+    Range {
+        low: number,
+        high: number,
+    }
+}
+
+fn everywhere(alloc: Global, family: Family) -> Result<Prefixes, Memory> {
+    let mut prefixes = Prefixes::new(alloc);
+    prefixes.push(Prefix {
+        family,
+        first: 0,
+        len: 0,
+    })?;
+    Ok(prefixes)
+}
+
+// What of the protocols goes from everywhere to everywhere, to some ports: accepted.
+fn rule(
+    alloc: Global,
+    name: &[u8],
+    family: Family,
+    protos: &[Range],
+    dports: &[Range],
+    test: Test,
+) -> Result<Rule, Memory>
+    requires protos { All (λ r. IsRange 255 r) protos.now }
+    requires ports { All (λ r. IsRange 65535 r) dports.now }
+    ensures { IfOk result IsSized }
+{
+    Ok(Rule {
+        name: Bytes::from_slice(alloc, name)?,
+        place: Place { file: 1, line: 2 },
+        note: Bytes::new(alloc),
+        family,
+        src: everywhere(alloc, family)?,
+        dst: everywhere(alloc, family)?,
+        protos: RangeSet::from_ranges(alloc, 255, protos)?,
+        sports: RangeSet::all(alloc, 65535)?,
+        dports: RangeSet::from_ranges(alloc, 65535, dports)?,
+        itypes: RangeSet::all(alloc, 255)?,
+        test,
+        verdict: Verdict::Accept,
+        log: false,
+    })
+}
+
+// Each line with a line feed behind it.
+fn text_of(alloc: Global, lines: &[&[u8]]) -> Result<Whole, PutFault> {
+    let mut text = Whole::new(alloc);
+    for line in lines {
+        text.put(line)?;
+        text.put(b"\n")?;
+    }
+    Ok(text)
+}
+
+// The lines that were put; whether each put was within one line.
+#[derive(Drop)]
+struct Lines {
+    count: u64,
+    within: bool,
+}
+
+impl Out for Lines {
+    ghost told = { λ l. None };
+
+    ghost faults = { λ l. 0 };
+
+    ghost refusals = { λ l. 0 };
+
+    ghost is_open = { λ l. true };
+
+    ghost keeps_rest = { λ x y. Unit {0} };
+
+    fn put(&mut self, bytes: &[u8]) -> Result<(), PutFault> {
+        if let Some((last, front)) = bytes.split_last() {
+            if contains_byte(front, b'\n') {
+                self.within = false;
+            }
+            if *last == b'\n' {
+                self.count = self.count.saturating_add(1);
+            }
+        }
+        Ok(())
+    }
+
+    ghost rest_same = { λ x. tt };
+
+    ghost rest_goes_on = { λ x y z h k. tt };
+}
+
+// Rules of both families: a list of ports for two protocols, types, flags, states and logs.
+fn rules(alloc: Global) -> Result<Rules, Memory>
+    ensures { IfOk result (All IsSized) }
+{
+    let mut dns = rule(
+        alloc,
+        b"dns",
+        Family::V4,
+        &[one(6), one(17)],
+        &[
+            one(53),
+            Range {
+                low: 853,
+                high: 854,
+            },
+        ],
+        Test::Plain,
+    )?;
+    dns.note = Bytes::from_slice(alloc, b"Not ours.")?;
+    dns.src = Prefixes::new(alloc);
+    dns.src.push(Prefix {
+        family: Family::V4,
+        first: 0x0a00_0000,
+        len: 8,
+    })?;
+    dns.src.push(Prefix {
+        family: Family::V4,
+        first: 0xc000_0200,
+        len: 24,
+    })?;
+    dns.log = true;
+    dns.verdict = Verdict::Reject;
+    let mut ping = rule(alloc, b"ping", Family::V6, &[one(58)], &[ALL], Test::State)?;
+    let types = [
+        Range {
+            low: 128,
+            high: 129,
+        },
+        one(135),
+    ];
+    ping.itypes = RangeSet::from_ranges(alloc, 255, &types)?;
+    let mut syn = rule(
+        alloc,
+        b"syn",
+        Family::V4,
+        &[one(6)],
+        &[ALL],
+        Test::SynNotAck,
+    )?;
+    syn.verdict = Verdict::Reset;
+    let protos = [Range { low: 0, high: 255 }];
+    let mut rest = rule(alloc, b"rest", Family::V6, &protos, &[ALL], Test::Plain)?;
+    rest.verdict = Verdict::Deny;
+    let mut rules = Rules::new(alloc);
+    rules.push(dns)?;
+    rules.push(ping)?;
+    rules.push(syn)?;
+    rules.push(rest)?;
+    Ok(rules)
+}
+
+#[test]
+fn writes_every_part_of_a_rule(rt: HostRuntime) -> Result<(), Fail> {
+    let alloc = rt.alloc();
+    let rules = rules(alloc)?;
+    let mut edge = filter(alloc, b"forward", Hook::Forward, Families::Mixed, 7, rules)?;
+    edge.ending = Ending::Accept;
+    edge.priority = -5;
+    let mut out = Whole::new(alloc);
+    put_section(&edge, &mut out)?;
+    let lines: &[&[u8]] = &[
+        b"## nftables forward mixed",
+        b"add table inet aclgen_7",
+        b"delete table inet aclgen_7",
+        b"table inet aclgen_7 {",
+        b"    chain forward {",
+        b"        type filter hook forward priority -5; policy accept;",
+        b"        # dns",
+        b"        # Not ours.",
+        b"        meta nfproto ipv4 meta l4proto 6 ip saddr { 10.0.0.0/8, 192.0.2.0/24 } tcp dport { 53, 853-854 } log reject",
+        b"        meta nfproto ipv4 meta l4proto 17 ip saddr { 10.0.0.0/8, 192.0.2.0/24 } udp dport { 53, 853-854 } log reject",
+        b"        # ping",
+        b"        meta nfproto ipv6 meta l4proto 58 icmpv6 type { 128, 129, 135 } ct state { established, related } accept",
+        b"        # syn",
+        b"        meta nfproto ipv4 meta l4proto 6 tcp flags & (syn | ack) == syn reject with tcp reset",
+        b"        # rest",
+        b"        meta nfproto ipv6 drop",
+        b"    }",
+        b"}",
+    ];
+    assert_eq!(rt; out.as_slice(), text_of(alloc, lines)?.as_slice());
+    assert_eq!(rt; entry_count(&edge), 16);
+    let mut lines = Lines {
+        count: 0,
+        within: true,
+    };
+    put_section(&edge, &mut lines)?;
+    assert_eq!(rt; lines.count, 18);
+    assert!(rt; lines.within);
+    edge.verbose = false;
+    put_section(&edge, &mut lines)?;
+    assert_eq!(rt; lines.count, 31);
+    assert_eq!(rt; entry_count(&edge), 16);
+    Ok(())
+}
+
+// To port 80 of a host, as most policies have it.
+#[test]
+fn writes_a_rule_of_one_port(rt: HostRuntime) -> Result<(), Fail> {
+    let alloc = rt.alloc();
+    let mut web = rule(
+        alloc,
+        b"web",
+        Family::V4,
+        &[one(6)],
+        &[one(80)],
+        Test::Plain,
+    )?;
+    web.dst = Prefixes::new(alloc);
+    web.dst.push(Prefix {
+        family: Family::V4,
+        first: 0xc000_020a,
+        len: 32,
+    })?;
+    let mut rules = Rules::new(alloc);
+    rules.push(web)?;
+    let own = filter(alloc, b"input", Hook::Input, Families::Inet, 1, rules)?;
+    let mut out = Whole::new(alloc);
+    put_section(&own, &mut out)?;
+    let lines: &[&[u8]] = &[
+        b"## nftables input inet",
+        b"add table ip aclgen_1",
+        b"delete table ip aclgen_1",
+        b"table ip aclgen_1 {",
+        b"    chain input {",
+        b"        type filter hook input priority 0; policy drop;",
+        b"        # web",
+        b"        meta l4proto 6 ip daddr { 192.0.2.10/32 } tcp dport { 80 } accept",
+        b"    }",
+        b"}",
+    ];
+    assert_eq!(rt; out.as_slice(), text_of(alloc, lines)?.as_slice());
+    assert_eq!(rt; entry_count(&own), 3);
+    Ok(())
+}
+
+#[test]
+fn writes_prefixes_and_counts_them(rt: HostRuntime) -> Result<(), Fail> {
+    let alloc = rt.alloc();
+    let protos = [Range { low: 0, high: 255 }];
+    let mut rule = rule(alloc, b"a", Family::V6, &protos, &[ALL], Test::Plain)?;
+    // All addresses but the last.
+    rule.src = Prefixes::new(alloc);
+    for len in 1u8..=128 {
+        let first = u128::MAX.checked_shl(129 - u32::from(len)).unwrap_or(0);
+        rule.src.push(Prefix {
+            family: Family::V6,
+            first,
+            len,
+        })?;
+    }
+    let mut rules = Rules::new(alloc);
+    rules.push(rule)?;
+    let own = filter(alloc, b"input", Hook::Input, Families::Inet6, 1, rules)?;
+    let mut out = Whole::new(alloc);
+    put_section(&own, &mut out)?;
+    let front: &[u8] =
+        b"## nftables input inet6\nadd table ip6 aclgen_1\ndelete table ip6 aclgen_1\ntable ip6 aclgen_1 {\n    chain input {\n        type filter hook input priority 0; policy drop;\n        # a\n        ip6 saddr { ::/1, 8000::/2, c000::/3, ";
+    let end: &[u8] = b", ffff:ffff:ffff:ffff:ffff:ffff:ffff:fffe/128 } accept\n    }\n}\n";
+    assert!(rt; out.as_slice().starts_with(front));
+    assert!(rt; out.as_slice().ends_with(end));
+    assert_eq!(rt; entry_count(&own), 129);
+    Ok(())
+}
+
+#[test]
+fn takes_as_many_entries_as_a_device_is_given(rt: HostRuntime) -> Result<(), Fail> {
+    let alloc = rt.alloc();
+    let mut many = rule(alloc, b"a", Family::V4, &[one(6)], &[ALL], Test::Plain)?;
+    many.src = Prefixes::new(alloc);
+    for place in 0u32..99_999 {
+        many.src.push(Prefix {
+            family: Family::V4,
+            first: u128::from(place) * 2,
+            len: 32,
+        })?;
+    }
+    let mut rules = Rules::new(alloc);
+    rules.push(many)?;
+    let mut own = filter(alloc, b"input", Hook::Input, Families::Inet, 1, rules)?;
+    assert_eq!(rt; count_in_limit(entry_count(&own)), Ok(100_000));
+    own.rules.push(rule(alloc, b"b", Family::V4, &[one(6)], &[ALL], Test::Plain)?)?;
+    assert_eq!(rt;
+        count_in_limit(entry_count(&own)),
+        Err(Limit::TooManyEntries)
+    );
+    Ok(())
+}
+
+#[test]
+fn writes_one_section_after_another(rt: HostRuntime) -> Result<(), Fail> {
+    let alloc = rt.alloc();
+    let own = filter(
+        alloc,
+        b"input",
+        Hook::Input,
+        Families::Inet,
+        1,
+        Rules::new(alloc),
+    )?;
+    let routed = filter(
+        alloc,
+        b"forward",
+        Hook::Forward,
+        Families::Mixed,
+        2,
+        Rules::new(alloc),
+    )?;
+    assert_eq!(rt; Nftables.check(&own), Ok(0));
+    let mut out = Whole::new(alloc);
+    write_all(&Nftables, &[own, routed], &mut out)?;
+    let lines: &[&[u8]] = &[
+        b"## nftables input inet",
+        b"add table ip aclgen_1",
+        b"delete table ip aclgen_1",
+        b"table ip aclgen_1 {",
+        b"    chain input {",
+        b"        type filter hook input priority 0; policy drop;",
+        b"    }",
+        b"}",
+        b"## nftables forward mixed",
+        b"add table inet aclgen_2",
+        b"delete table inet aclgen_2",
+        b"table inet aclgen_2 {",
+        b"    chain forward {",
+        b"        type filter hook forward priority 0; policy drop;",
+        b"    }",
+        b"}",
+    ];
+    assert_eq!(rt; out.as_slice(), text_of(alloc, lines)?.as_slice());
+    let doc = read(alloc, out.as_slice())?;
+    assert_eq!(rt; doc.map(|doc| sections(&doc)), Some(2));
+    Ok(())
+}

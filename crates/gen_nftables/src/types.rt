@@ -1,0 +1,151 @@
+ghost use Rattle.std.specs.Prelude.{◌≡◌, ◌+◌, ◌-◌, ◌≤◌, ◌++◌, ◌∷◌, [], List, ℕ, IsTrue, codes, decimal, map, flat_map};
+ghost use Rattle.std.specs.List.{All, range_with_len};
+ghost use Rattle.acl_text.specs.Output.{Puts};
+ghost use Rattle.acl_sets.specs.Ranges.{IsRange};
+ghost use Rattle.acl_platform.specs.Choices.{numbers_of};
+ghost use Rattle.nft_lang.specs.Texts.{icmp_word, set_words, types_words, with_commas};
+ghost use Rattle.gen_nftables.specs.RowSteps.{other_numbers};
+ghost use Rattle.acl_platform.specs.Elements.{number_elements};
+
+use acl_grammar::{Number, Piece, Words};
+use acl_packet::Family;
+use acl_platform::range_elements;
+use acl_sets::{Range, RangeSet};
+use acl_text::{Out, PutFault};
+
+/// The types of ICMP of a rule, unless they are all.
+#[derive(Drop)]
+pub(crate) struct TypeSet<'a> {
+    pub(crate) family: Family,
+    pub(crate) set: &'a RangeSet,
+    pub(crate) ghost small: { set.now.top ≤ 255 },
+}
+
+impl<'a> Words for TypeSet<'a> {
+    ghost words = { λ t. types_words t.family (number_elements t.set.now) };
+
+    fn put_spaced<O: Out>(&self, out: &mut O) -> Result<(), PutFault> {
+        let set = NumberSet {
+            family: self.family,
+            ranges: range_elements(self.set),
+        };
+        set.put_spaced(out)
+    }
+}
+
+// The numbers of ranges as types. A set without numbers is not written.
+#[derive(Drop)]
+struct NumberSet<'a> {
+    family: Family,
+    ranges: &'a [Range],
+    ghost small: { All (λ r. IsRange 255 r) ranges.now },
+}
+
+impl<'a> Words for NumberSet<'a> {
+    ghost words = { λ t. types_words t.family (numbers_of t.ranges.now) };
+
+    fn put_spaced<O: Out>(&self, out: &mut O) -> Result<(), PutFault> {
+        match self.ranges {
+            [] => Ok(()),
+            [_, ..] => {
+                let ranges = self.ranges;
+                let key: &[&[u8]] = &[icmp_word(self.family), b"type", b"{"];
+                let end: &[&[u8]] = &[b"}"];
+                (key, (Numbers { ranges }, end)).put_spaced(out)
+            }
+        }
+    }
+}
+
+fn icmp_word(family: Family) -> &'static [u8]
+    ensures { result.now ≡ icmp_word family }
+{
+    match family {
+        Family::V4 => b"icmp",
+        Family::V6 => b"icmpv6",
+    }
+}
+
+// The numbers of ranges, with a comma behind each but the last.
+#[derive(Drop)]
+struct Numbers<'a> {
+    ranges: &'a [Range],
+    ghost small: { All (λ r. IsRange 255 r) ranges.now },
+}
+
+impl<'a> Words for Numbers<'a> {
+    ghost words = { λ n. with_commas (map (λ number. decimal number) (numbers_of n.ranges.now)) };
+
+    fn put_spaced<O: Out>(&self, out: &mut O) -> Result<(), PutFault> {
+        match self.ranges {
+            [] => Ok(()),
+            [first, others @ ..] => {
+                let space: &[u8] = b" ";
+                let number = first.low;
+                let behind = NumbersBetween {
+                    first: first.low as u16 + 1,
+                    end: first.high as u16 + 1,
+                };
+                let others = NumbersIn { ranges: others };
+                (space, (Number { number }, (behind, others))).put_into(out)
+            }
+        }
+    }
+}
+
+// The numbers from the first one on, below the end, each behind a comma and a space.
+#[derive(Drop)]
+struct NumbersBetween {
+    first: u16,
+    end: u16,
+    ghost ends: { first ≤ end },
+}
+
+impl Piece for NumbersBetween {
+    ghost text = { λ n. other_numbers (range_with_len n.first (n.end - n.first)) };
+
+    fn put_into<O: Out>(&self, out: &mut O) -> Result<(), PutFault> {
+        put_numbers(self.first, self.end, out)
+    }
+}
+
+// The numbers of ranges, each behind a comma and a space.
+#[derive(Drop)]
+struct NumbersIn<'a> {
+    ranges: &'a [Range],
+    ghost small: { All (λ r. IsRange 255 r) ranges.now },
+}
+
+impl<'a> Piece for NumbersIn<'a> {
+    ghost text = { λ n. other_numbers (numbers_of n.ranges.now) };
+
+    fn put_into<O: Out>(&self, out: &mut O) -> Result<(), PutFault> {
+        put_ranges(self.ranges, out)
+    }
+}
+
+fn put_ranges<O: Out>(ranges: &[Range], out: &mut O) -> Result<(), PutFault>
+    requires open { IsTrue (O.is_open out.old) }
+    requires ranges { All (λ r. IsRange 255 r) ranges.now }
+    ensures { Puts O.told O.faults O.refusals O.is_open O.keeps_rest out.old out.new
+        (other_numbers (numbers_of ranges.now)) result }
+{
+    for range in ranges {
+        put_numbers(range.low as u16, range.high as u16 + 1, out)?;
+    }
+    Ok(())
+}
+
+fn put_numbers<O: Out>(first: u16, end: u16, out: &mut O) -> Result<(), PutFault>
+    requires open { IsTrue (O.is_open out.old) }
+    requires ends { first ≤ end }
+    ensures { Puts O.told O.faults O.refusals O.is_open O.keeps_rest out.old out.new
+        (other_numbers (range_with_len first (end - first))) result }
+{
+    let comma: &[u8] = b", ";
+    for number in first..end {
+        let number = u128::from(number);
+        (comma, Number { number }).put_into(out)?;
+    }
+    Ok(())
+}
