@@ -1,9 +1,12 @@
 -- What each platform's own contract asks of the filters that are rendered.
-use Rattle.std.proofs.Common.{◌≡◌, List, ap, subst}
-use Rattle.std.specs.List.{All, AllByRecursion}
-use Rattle.std.proofs.lemmas.List.Elements.{All-weaker, recursion_from_All}
+use Rattle.std.proofs.Common.{◌≡◌, ◌≢◌, ℕ, ◌≤◌, ◌==◌, false, List, [], ◌∷◌, map, length, ap, sym, subst, ◌∙◌, arith}
+use Rattle.std.specs.List.{All, AllByRecursion, AllPairs, IsDistinct}
+use Rattle.std.proofs.lemmas.List.Elements.{All-cons, All-nil, All-weaker, recursion_from_All}
+use Rattle.std.proofs.lemmas.List.Kept.{AllPairs-cons}
+use Rattle.std.proofs.lemmas.Bool.{eq-eqb, false≢true}
 use Rattle.acl_target.specs.declared.targets.Kind.{Kind}
-use Rattle.acl_target.specs.declared.targets.Kind.TheVariants.{Cisco, Juniper}
+use Rattle.acl_target.specs.declared.targets.Kind.TheVariants.{Cisco, Juniper, Nftables}
+use Rattle.acl_target.specs.declared.targets.Target.{Target}
 use Rattle.acl_target.specs.Clashes.{same_kind}
 use Rattle.acl_platform.specs.declared.filters.Filter.{Filter}
 use Rattle.acl_platform.specs.Platforms.{IsAccepted}
@@ -13,6 +16,8 @@ use Rattle.gen_cisco.specs.Limits.{is_for_cisco, limit_of}
 use Rattle.gen_junos.specs.Limits as junos_limits
 use Rattle.gen_junos.specs.Limits.{is_for_junos}
 use Rattle.gen_junos.specs.SectionNames.{IsOfJunos}
+use Rattle.gen_nftables.specs.Limits as nft_limits
+use Rattle.gen_nftables.specs.Limits.{is_for_nftables}
 use Rattle.acl_render.specs.PlatformFiles.{IsTaken}
 
 pub kinds : (kind : Kind) (filters : List Filter) → All (IsTaken kind) filters → AllByRecursion (λ f. f.kind ≡ kind) filters
@@ -36,3 +41,35 @@ one-family f t =
 
 pub of-junos : (filters : List Filter) → All (IsTaken Juniper) filters → AllByRecursion IsOfJunos filters
 of-junos filters h = recursion_from_All IsOfJunos filters (All-weaker (IsTaken Juniper) IsOfJunos one-family filters h)
+
+pub by-nftables : (filters : List Filter) → All (IsTaken Nftables) filters → All (IsAccepted is_for_nftables nft_limits.limit_of) filters
+by-nftables filters h =
+    All-weaker (IsTaken Nftables) (IsAccepted is_for_nftables nft_limits.limit_of)
+    (λ f t. record { handled = ap (λ k. same_kind k Nftables) t.kind_is; sound = t.sound; within = t.within }) filters h
+
+pub of-nftables : (filters : List Filter) → All (IsTaken Nftables) filters → AllByRecursion (λ f. (f.kind ≡ Nftables) × (f.number ≤ 64)) filters
+of-nftables filters h =
+    recursion_from_All (λ f. (f.kind ≡ Nftables) × (f.number ≤ 64)) filters
+    (All-weaker (IsTaken Nftables) (λ f. (f.kind ≡ Nftables) × (f.number ≤ 64)) (λ f t. (t.kind_is, t.sound.target.1.number_to)) filters h)
+
+-- ---- numbers
+
+-- Two targets of a platform differ in number.
+abbrev pub NumbersDiffer : Target → Target → Type 0
+NumbersDiffer a b = a.kind ≡ b.kind → a.number ≢ b.number
+
+number-apart : (f g : Filter) → (f.number == g.number) ≡ false → NumbersDiffer (target_of false f) (target_of false g)
+number-apart f g h = λ _ e. false≢true (sym h ∙ eq-eqb f.number g.number e)
+
+number-differs : (f : Filter) (fs : List Filter) → AllByRecursion (λ (g : Filter). (f.number == g.number) ≡ false) fs
+    → All (NumbersDiffer (target_of false f)) (map (target_of false) fs)
+number-differs f [] h = All-nil (NumbersDiffer (target_of false f))
+number-differs f (g ∷ gs) h =
+    All-cons (NumbersDiffer (target_of false f)) (target_of false g) (map (target_of false) gs) (number-apart f g h.0) (number-differs f gs h.1)
+
+pub numbers-differ : (fs : List Filter) → IsDistinct (λ (a : Filter) (b : Filter). a.number == b.number) fs
+    → AllPairs NumbersDiffer (map (target_of false) fs)
+unfolding IsDistinct
+numbers-differ [] h = λ i j d l m. absurd (omega (arith, m))
+numbers-differ (f ∷ fs) h =
+    AllPairs-cons NumbersDiffer (target_of false f) (map (target_of false) fs) (number-differs f fs h.0) (numbers-differ fs h.1)

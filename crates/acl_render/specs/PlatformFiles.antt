@@ -14,17 +14,21 @@ use Rattle.cisco_lang.specs.Texts as cisco
 use Rattle.cisco_lang.specs.Walks as cisco_walks
 use Rattle.junos_lang.specs.Texts as junos
 use Rattle.junos_lang.specs.Walks as junos_walks
+use Rattle.nft_lang.specs.Texts as nft
+use Rattle.nft_lang.specs.Walks as nft_walks
 use Rattle.gen_cisco.specs.Limits as cisco_limits
 use Rattle.gen_cisco.specs.Sections as cisco_sections
 use Rattle.gen_junos.specs.Limits as junos_limits
 use Rattle.gen_junos.specs.Sections as junos_sections
+use Rattle.gen_nftables.specs.Limits as nft_limits
+use Rattle.gen_nftables.specs.Sections as nft_sections
 
 -- The platforms whose files are written.
 abbrev pub is_rendered : Kind → Bool
 is_rendered Cisco = true
 is_rendered Juniper = true
 is_rendered Iptables = false
-is_rendered Nftables = false
+is_rendered Nftables = true
 
 -- ---- one filter
 
@@ -33,7 +37,7 @@ abbrev pub limit_on : Kind → Filter → Option Limit
 limit_on Cisco f = cisco_limits.limit_of f
 limit_on Juniper f = junos_limits.limit_of f
 limit_on Iptables f = None
-limit_on Nftables f = None
+limit_on Nftables f = nft_limits.limit_of f
 
 unfoldable pub limit_of : Filter → Option Limit
 limit_of f = limit_on f.kind f
@@ -43,7 +47,7 @@ abbrev pub count_on : Kind → Filter → ℕ
 count_on Cisco f = cisco_sections.entry_count f
 count_on Juniper f = junos_sections.entry_count f
 count_on Iptables f = 0
-count_on Nftables f = 0
+count_on Nftables f = nft_sections.entry_count f
 
 unfoldable pub count_of : Filter → ℕ
 count_of f = count_on f.kind f
@@ -55,7 +59,7 @@ abbrev pub text_on : Kind → List Filter → List ℕ
 text_on Cisco filters = cisco.text_of (map cisco_sections.section_of filters)
 text_on Juniper filters = junos.text_of (map junos_sections.section_of filters)
 text_on Iptables filters = []
-text_on Nftables filters = []
+text_on Nftables filters = nft.text_of (map nft_sections.section_of filters)
 
 -- A filter of the platform that the platform takes.
 pub record IsTaken (kind : Kind) (f : Filter) : Type 0 where
@@ -87,4 +91,6 @@ IsAccepted Juniper decides_for filters asked =
     IsDocumentOf junos.Spells junos_walks.outcome_of decides_for (text_on Juniper filters)
     (map junos_sections.section_of filters) asked
 IsAccepted Iptables decides_for filters asked = ⊥
-IsAccepted Nftables decides_for filters asked = ⊥
+IsAccepted Nftables decides_for filters asked =
+    IsDocumentOf nft.Spells nft_walks.outcome_of decides_for (text_on Nftables filters)
+    (map nft_sections.section_of filters) asked

@@ -7,14 +7,15 @@ use acl_platform::{Filter, Limit, Platform};
 use acl_target::Kind;
 use gen_cisco::Cisco;
 use gen_junos::Junos;
+use gen_nftables::Nftables;
 
 /// Whether aclgen writes files of the platform.
 pub fn is_rendered(kind: Kind) -> bool
     ensures { result ≡ is_rendered kind }
 {
     match kind {
-        Kind::Cisco | Kind::Juniper => true,
-        Kind::Iptables | Kind::Nftables => false,
+        Kind::Cisco | Kind::Juniper | Kind::Nftables => true,
+        Kind::Iptables => false,
     }
 }
 
@@ -28,6 +29,7 @@ pub fn check(filter: &Filter) -> Result<u64, Limit>
     match filter.kind {
         Kind::Cisco => Cisco.check(filter),
         Kind::Juniper => Junos.check(filter),
-        Kind::Iptables | Kind::Nftables => Ok(0),
+        Kind::Iptables => Ok(0),
+        Kind::Nftables => Nftables.check(filter),
     }
 }

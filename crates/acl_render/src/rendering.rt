@@ -9,6 +9,7 @@ use acl_target::Kind;
 use acl_text::{Out, PutFault};
 use gen_cisco::Cisco;
 use gen_junos::Junos;
+use gen_nftables::Nftables;
 
 /// Puts the text of the platform's file: the one document whose sections are those of the filters, in order.
 ///
@@ -25,6 +26,7 @@ pub fn render<O: Out>(kind: Kind, filters: &[Filter], out: &mut O) -> Result<(),
     match kind {
         Kind::Cisco => write_all(&Cisco, filters, out),
         Kind::Juniper => write_all(&Junos, filters, out),
-        Kind::Iptables | Kind::Nftables => Ok(()),
+        Kind::Iptables => Ok(()),
+        Kind::Nftables => write_all(&Nftables, filters, out),
     }
 }

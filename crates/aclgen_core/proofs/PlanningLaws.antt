@@ -355,7 +355,7 @@ as-policy : (n : Naming) (today : Day) (kind : Kind) (rs : List FilterRequest) �
 as-policy n today Cisco rs resolved h = record { spelled = h.spelled; decides = λ k. decides-at n today rs k _ resolved (h.decides k) }
 as-policy n today Juniper rs resolved h = record { spelled = h.spelled; decides = λ k. decides-at n today rs k _ resolved (h.decides k) }
 as-policy n today Iptables rs resolved h = h
-as-policy n today Nftables rs resolved h = h
+as-policy n today Nftables rs resolved h = record { spelled = h.spelled; decides = λ k. decides-at n today rs k _ resolved (h.decides k) }
 
 some-more : {A B : Type 0} (f : A → B) (x : A) (xs : List A) → map f (x ∷ xs) ≢ []
 some-more f x xs e = cc

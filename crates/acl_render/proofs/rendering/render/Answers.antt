@@ -1,11 +1,12 @@
 use Rattle.std.proofs.Common.{false, subst}
 use Rattle.std.specs.List.{All}
 use Rattle.acl_target.specs.declared.targets.Kind.{Kind}
-use Rattle.acl_target.specs.declared.targets.Kind.TheVariants.{Cisco, Juniper}
+use Rattle.acl_target.specs.declared.targets.Kind.TheVariants.{Cisco, Juniper, Nftables}
 use Rattle.gen_cisco.proofs.ListNames.{all-differ}
 use Rattle.gen_junos.proofs.NameLaws as junos
+use Rattle.gen_nftables.proofs.TableNames as nft
 use Rattle.acl_render.specs.PlatformFiles.{IsTaken}
-use Rattle.acl_render.proofs.TakenFilters.{by-cisco, by-junos, kinds, of-junos}
+use Rattle.acl_render.proofs.TakenFilters.{by-cisco, by-junos, by-nftables, kinds, numbers-differ, of-junos, of-nftables}
 use Rattle.acl_render.proofs.rendering.render.Goals as goal
 
 pub write_all-requires-clause-accepted : goal.write_all-requires-clause-accepted
@@ -27,3 +28,13 @@ pub write_all-in-Juniper-requires-clause-names_differ : goal.write_all-in-Junipe
 write_all-in-Juniper-requires-clause-names_differ g c =
     let taken = subst (λ (k : Kind). All (IsTaken k) c.args.filters.now) c.in-Juniper.is c.requires.taken in
     junos.all-differ c.args.filters.now false (of-junos c.args.filters.now taken) c.requires.apart.clash_not
+
+pub write_all-in-Nftables-requires-clause-accepted : goal.write_all-in-Nftables-requires-clause-accepted
+write_all-in-Nftables-requires-clause-accepted g c =
+    let taken = subst (λ (k : Kind). All (IsTaken k) c.args.filters.now) c.in-Nftables.is c.requires.taken in
+    by-nftables c.args.filters.now taken
+
+pub write_all-in-Nftables-requires-clause-names_differ : goal.write_all-in-Nftables-requires-clause-names_differ
+write_all-in-Nftables-requires-clause-names_differ g c =
+    let taken = subst (λ (k : Kind). All (IsTaken k) c.args.filters.now) c.in-Nftables.is c.requires.taken in
+    nft.all-differ c.args.filters.now false (of-nftables c.args.filters.now taken) (numbers-differ c.args.filters.now c.requires.apart.numbers_differ)
