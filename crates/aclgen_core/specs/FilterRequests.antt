@@ -1,5 +1,5 @@
 -- The filters that a policy asks for, and the first slip of one of them.
-use Rattle.std.specs.Prelude.{Bool, true, false, if◌then◌else◌, List, [], ◌∷◌, ◌++◌, filter, map, slice_get, codes, Option, None, Some, option_map}
+use Rattle.std.specs.Prelude.{ℕ, Bool, true, false, if◌then◌else◌, List, [], ◌∷◌, ◌++◌, filter, map, slice_get, codes, Option, None, Some, option_map}
 use Rattle.acl_text.specs.declared.faults.Code.{Code}
 use Rattle.acl_text.specs.declared.faults.Code.TheVariants as codes_of
 use Rattle.acl_text.specs.declared.faults.Slip.{Slip}

@@ -37,7 +37,7 @@ use Rattle.acl_platform.proofs.ElementLaws.{addresses-hold, is_nil, ports-hold}
 use Rattle.acl_platform.proofs.EntryLaws.{over-entries}
 use Rattle.nft_lang.specs.declared.documents.Item.{Item}
 use Rattle.nft_lang.specs.declared.documents.Item.TheVariants.{Remark, Rule as ARule}
-use Rattle.nft_lang.specs.Walks.{first_holding, flags_hold, has_port, policy_verdict, proto_holds, rule_holds as chain_rule_holds, section_outcome, set_holds, state_holds, walk, is_tracked as is_known}
+use Rattle.nft_lang.specs.Walks.{first_holding, flags_hold, has_port, policy_verdict, proto_holds, rule_holds as chain_rule_holds, section_outcome, set_holds, state_holds, walk}
 use Rattle.gen_nftables.specs.SectionLaws.{hooked-is, IsTaken, sound-rules}
 use Rattle.gen_nftables.specs.Sections.{accepts, asks_state, chain_rule, flags_of, remarks_in, rule_items, section_of}
 
@@ -70,19 +70,13 @@ and-true : (b : Bool) → (b && true) ≡ b
 and-true true = refl
 and-true false = refl
 
-conn-same : (c : Conn) → is_known c ≡ is_tracked c
-conn-same New = refl
-conn-same Established = refl
-conn-same Related = refl
-conn-same Invalid = refl
-
 test-same : (test : Test) (p : Packet) → has_test Nftables test ≡ true
     → (flags_hold (flags_of test) p.flags && state_holds (asks_state test) p.conn) ≡ passes test p
 test-same Plain p h = refl
 test-same AckOrRst p h = absurd (false≢true h)
 test-same SynNotAck p h = and-true (is_initial p)
 test-same Rst p h = and-true (has_flag p.flags 4)
-test-same State p h = conn-same p.conn
+test-same State p h = refl
 
 -- ---- a rule
 

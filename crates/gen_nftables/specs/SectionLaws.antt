@@ -7,7 +7,8 @@ use Rattle.std.proofs.lemmas.Bool.{lt-ltb}
 use Rattle.std.proofs.lemmas.Int.{ints}
 use Rattle.acl_packet.specs.declared.addresses.Families.{Families}
 use Rattle.acl_grammar.specs.Naming.{in_common}
-use Rattle.acl_grammar.proofs.ListLaws.{all_append, all_flat}
+use Rattle.acl_text.proofs.ListLaws.{all_append}
+use Rattle.acl_grammar.proofs.ListLaws.{all_flat}
 use Rattle.acl_target.specs.declared.targets.Kind.TheVariants.{Nftables}
 use Rattle.acl_target.specs.TargetData.{IsHooked, IsPriority}
 use Rattle.acl_platform.specs.declared.filters.Filter.{Filter}

@@ -4,7 +4,7 @@ ghost use Rattle.acl_text.specs.Output.{Puts};
 ghost use Rattle.nft_lang.specs.Texts.{address_word, port_word, ports_word, set_words, with_commas};
 ghost use Rattle.acl_platform.specs.Elements.{address_elements, port_elements};
 
-use acl_grammar::{Number, Piece, Words, put_words};
+use acl_grammar::{Piece, PortRange, Words, put_words};
 use acl_packet::{Family, Prefix};
 use acl_platform::{address_elements, range_elements};
 use acl_sets::{Prefixes, Range, RangeSet};
@@ -97,15 +97,13 @@ impl Element for Prefix {
 impl Element for Range {
     ghost word = { λ r. ports_word (r.low, r.high) };
 
-    #[tactic(auto, unfolding(nft_lang::specs::Texts::ports_word))]
     fn put_word<O: Out>(&self, out: &mut O) -> Result<(), PutFault> {
-        let low = Number { number: self.low };
-        if self.low == self.high {
-            low.put_into(out)
-        } else {
-            let dash: &[u8] = b"-";
-            (low, (dash, Number { number: self.high })).put_into(out)
-        }
+        let range = PortRange {
+            low: self.low,
+            high: self.high,
+            separator: b'-',
+        };
+        range.put_into(out)
     }
 }
 

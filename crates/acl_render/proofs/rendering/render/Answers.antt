@@ -19,22 +19,22 @@ write_all-requires-clause-names_differ g c =
     let taken = subst (λ (k : Kind). All (IsTaken k) c.args.filters.now) c.in-Cisco.is c.requires.taken in
     all-differ c.args.filters.now false (kinds Cisco c.args.filters.now taken) c.requires.apart.clash_not
 
-pub write_all-in-Juniper-requires-clause-accepted : goal.write_all-in-Juniper-requires-clause-accepted
-write_all-in-Juniper-requires-clause-accepted g c =
+pub write_all-requires-in-Juniper-clause-accepted : goal.write_all-requires-in-Juniper-clause-accepted
+write_all-requires-in-Juniper-clause-accepted g c =
     let taken = subst (λ (k : Kind). All (IsTaken k) c.args.filters.now) c.in-Juniper.is c.requires.taken in
     by-junos c.args.filters.now taken
 
-pub write_all-in-Juniper-requires-clause-names_differ : goal.write_all-in-Juniper-requires-clause-names_differ
-write_all-in-Juniper-requires-clause-names_differ g c =
+pub write_all-requires-in-Juniper-clause-names_differ : goal.write_all-requires-in-Juniper-clause-names_differ
+write_all-requires-in-Juniper-clause-names_differ g c =
     let taken = subst (λ (k : Kind). All (IsTaken k) c.args.filters.now) c.in-Juniper.is c.requires.taken in
     junos.all-differ c.args.filters.now false (of-junos c.args.filters.now taken) c.requires.apart.clash_not
 
-pub write_all-in-Nftables-requires-clause-accepted : goal.write_all-in-Nftables-requires-clause-accepted
-write_all-in-Nftables-requires-clause-accepted g c =
+pub write_all-requires-in-Nftables-clause-accepted : goal.write_all-requires-in-Nftables-clause-accepted
+write_all-requires-in-Nftables-clause-accepted g c =
     let taken = subst (λ (k : Kind). All (IsTaken k) c.args.filters.now) c.in-Nftables.is c.requires.taken in
     by-nftables c.args.filters.now taken
 
-pub write_all-in-Nftables-requires-clause-names_differ : goal.write_all-in-Nftables-requires-clause-names_differ
-write_all-in-Nftables-requires-clause-names_differ g c =
+pub write_all-requires-in-Nftables-clause-names_differ : goal.write_all-requires-in-Nftables-clause-names_differ
+write_all-requires-in-Nftables-clause-names_differ g c =
     let taken = subst (λ (k : Kind). All (IsTaken k) c.args.filters.now) c.in-Nftables.is c.requires.taken in
     nft.all-differ c.args.filters.now false (of-nftables c.args.filters.now taken) (numbers-differ c.args.filters.now c.requires.apart.numbers_differ)
