@@ -3,6 +3,7 @@ use Prim.Native.Nat.{zero, suc}
 use Rattle.std.proofs.Common.{◌≡◌, ◌≢◌, ℕ, ◌<◌, Bool, true, false, ◌||◌, ◌&&◌, ◌==◌, if◌then◌else◌, List, [], ◌∷◌, ◌++◌, map, Option, None, Some, Result, Ok, Err, IfSome, IsSome, is_some, refl, ap, sym, subst, ◌∙◌, append_assoc, append-nil, length, arith}
 use Rattle.std.specs.Prelude.{IsErrAnd, flat_map, slice_index_or}
 use Rattle.std.specs.List.{All, AllByRecursion, IsDistinct, list_any}
+use Rattle.std.specs.Result.{IsErrOf}
 use Rattle.std.specs.String.{string_bytes}
 use Rattle.std.specs.Str.{bytes_eq}
 use Rattle.std.proofs.lemmas.Bool.{and_parts, eqb-true, false_from_ne_true, false≢true}
@@ -14,13 +15,14 @@ use Rattle.acl_text.specs.declared.faults.Fault.{Fault}
 use Rattle.acl_text.specs.declared.faults.Rejection.{Rejection}
 use Rattle.acl_text.specs.declared.faults.Rejection.TheVariants as rejections
 use Rattle.acl_text.specs.declared.faults.Slip.{Slip}
+use Rattle.acl_text.proofs.ListLaws.{all_append}
 use Rattle.acl_host.specs.declared.clocks.Day.{Day}
 use Rattle.acl_host.specs.Files.{File, join_path}
 use Rattle.acl_naming.specs.Definitions.{Naming}
 use Rattle.acl_target.specs.declared.targets.Kind.{Kind}
 use Rattle.acl_target.specs.declared.targets.Kind.TheVariants.{Cisco, Juniper, Iptables, Nftables}
 use Rattle.acl_target.specs.declared.targets.Target.{Target}
-use Rattle.acl_target.specs.Clashes.{clash, same_kind, share_lists}
+use Rattle.acl_target.specs.Clashes.{clash, clash_on, same_kind, share_lists}
 use Rattle.acl_policy.specs.declared.blocks.Block.{Block}
 use Rattle.acl_policy.specs.declared.blocks.Policy.{Policy}
 use Rattle.acl_policy.specs.declared.raw_terms.RawTerm.{RawTerm}
@@ -50,7 +52,7 @@ use Rattle.aclgen_core.specs.PreparingSteps.{AreRendered, IsPlanned, IsTakenFor,
 use Rattle.aclgen_core.specs.Worlds.{Disk}
 use Rattle.aclgen_core.specs.declared.planning.Work.{Work}
 use Rattle.aclgen_core.specs.declared.preparing.FileDrafts.{FileDrafts}
-use Rattle.aclgen_core.proofs.PreparingLaws.{all-append, decides-at, resolved-requests}
+use Rattle.aclgen_core.proofs.PreparingLaws.{decides-at, resolved-requests}
 
 -- ---- targets that do not clash
 
@@ -117,21 +119,21 @@ same-kinds Nftables Nftables e = refl
 all-on : (kind : Kind) (P : FilterRequest → Type 0) (Q : FilterRequest → Type 0) → ((r : FilterRequest) → r.target.kind ≡ kind → P r → Q r)
     → (rs : List FilterRequest) → AllByRecursion P rs → AllByRecursion Q (requests_on kind rs)
 all-on kind P Q f [] h = tt
-all-on kind P Q f (r ∷ rs) h = by (same_kind r.target.kind kind) refl
+all-on kind P Q f (r ∷ rs) h = by (all-on kind P Q f rs h.1) (same_kind r.target.kind kind) refl
   where
-    by : (b : Bool) → same_kind r.target.kind kind ≡ b → AllByRecursion Q (if b then r ∷ requests_on kind rs else requests_on kind rs)
-    by true e = (f r (same-kinds r.target.kind kind e) h.0, all-on kind P Q f rs h.1)
-    by false e = all-on kind P Q f rs h.1
+    by : AllByRecursion Q (requests_on kind rs) → (b : Bool) → same_kind r.target.kind kind ≡ b → AllByRecursion Q (if b then r ∷ requests_on kind rs else requests_on kind rs)
+    by more true e = (f r (same-kinds r.target.kind kind e) h.0, more)
+    by more false e = more
 
 -- No two of a platform's requests are the same by a test, where no two of all are.
 distinct-on : (kind : Kind) (eq : FilterRequest → FilterRequest → Bool) (rs : List FilterRequest) → IsDistinct eq rs → IsDistinct eq (requests_on kind rs)
 unfolding IsDistinct
 distinct-on kind eq [] h = tt
-distinct-on kind eq (r ∷ rs) h = by (same_kind r.target.kind kind)
+distinct-on kind eq (r ∷ rs) h = by (distinct-on kind eq rs h.1) (same_kind r.target.kind kind)
   where
-    by : (b : Bool) → IsDistinct eq (if b then r ∷ requests_on kind rs else requests_on kind rs)
-    by true = (all-on kind (λ s. eq r s ≡ false) (λ s. eq r s ≡ false) (λ s _ e. e) rs h.0, distinct-on kind eq rs h.1)
-    by false = distinct-on kind eq rs h.1
+    by : IsDistinct eq (requests_on kind rs) → (b : Bool) → IsDistinct eq (if b then r ∷ requests_on kind rs else requests_on kind rs)
+    by more true = (all-on kind (λ s. eq r s ≡ false) (λ s. eq r s ≡ false) (λ s _ e. e) rs h.0, more)
+    by more false = more
 
 all-by : {A B : Type 0} (f : A → B) (P : A → Type 0) (Q : B → Type 0) → ((x : A) → P x → Q (f x)) → (xs : List A) → AllByRecursion P xs → AllByRecursion Q (map f xs)
 all-by f P Q g [] h = tt
@@ -149,9 +151,16 @@ distinct-back f eq (x ∷ xs) h =
 
 -- ---- targets that clash
 
+same-on : (today : Day) (r s : FilterRequest) (k : Kind) → clash_on k (target_of false (filter_for today r)) (target_of false (filter_for today s)) ≡ clash_on k r.target s.target
+unfolding share_lists
+same-on today r s Cisco = refl
+same-on today r s Juniper = refl
+same-on today r s Iptables = refl
+same-on today r s Nftables = refl
+
 same-clash : (today : Day) (r s : FilterRequest) → clash r.target s.target ≡ false → clash (target_of false (filter_for today r)) (target_of false (filter_for today s)) ≡ false
-unfolding clash share_lists
-same-clash today r s e = e
+unfolding clash
+same-clash today r s e = ap (λ b. same_kind r.target.kind s.target.kind && b) (same-on today r s r.target.kind) ∙ e
 
 clash-not : (today : Day) (rs : List FilterRequest) → IsDistinct (λ (r : FilterRequest) (s : FilterRequest). clash r.target s.target) rs
     → IsDistinct clash (map (target_of false) (map (filter_for today) rs))
@@ -168,7 +177,7 @@ clash-not today (r ∷ rs) h = (
 -- ---- numbers
 
 -- Two targets of one platform with one number.
-same_number : Target → Target → Bool
+abbrev same_number : Target → Target → Bool
 same_number a b = same_kind a.kind b.kind && a.number == b.number
 
 number-apart : (a b : Target) → (a.kind ≡ b.kind → a.number ≢ b.number) → same_number a b ≡ false
@@ -275,7 +284,7 @@ map-flat g f (x ∷ xs) = map-append g (f x) (flat_map f xs) ∙ ap (λ ys. map 
 
 all-flat : {A B : Type 0} (Q : B → Type 0) (f : A → List B) → ((x : A) → AllByRecursion Q (f x)) → (xs : List A) → AllByRecursion Q (flat_map f xs)
 all-flat Q f each [] = tt
-all-flat Q f each (x ∷ xs) = all-append Q (f x) (flat_map f xs) (each x) (all-flat Q f each xs)
+all-flat Q f each (x ∷ xs) = all_append Q (f x) (flat_map f xs) (each x) (all-flat Q f each xs)
 
 one-text : (kind : Kind) (path : List ℕ) (today : Day) (rs : List FilterRequest) → text_with kind path (map (filter_for today) rs) ≡ map (file_of today) (file_with kind path rs)
 one-text kind path today [] = refl
@@ -318,7 +327,7 @@ text-apart q path kind (f ∷ fs) apart = (apart, tt)
 
 texts-apart : (q : List ℕ) (f : Kind → List File) (kinds : List Kind) → AllByRecursion (λ k. IsApart q (f k)) kinds → IsApart q (flat_map f kinds)
 texts-apart q f [] h = tt
-texts-apart q f (k ∷ ks) h = all-append (λ (t : File). q ≢ t.0) (f k) (flat_map f ks) h.0 (texts-apart q f ks h.1)
+texts-apart q f (k ∷ ks) h = all_append (λ (t : File). q ≢ t.0) (f k) (flat_map f ks) h.0 (texts-apart q f ks h.1)
 
 one-more : (kind : Kind) (path : List ℕ) (fs : List Filter) (more : List File) → IsApart path more → PathsDiffer more → PathsDiffer (text_with kind path fs ++ more)
 one-more kind path [] more apart h = h
@@ -441,7 +450,8 @@ seen-fault (Some files) words o today fault other e f g h = λ day.
     (subst (λ (d : Option Day). Plans o (or_day d day) files (Err other)) (sym f) (subst (λ x. Plans o today files (Err x)) (sym g) h))
 
 pub decides-fault : (words : List (List ℕ)) (o : Options) (today : Day) (old new : Disk) (e : LoadFault) (d : Decision) → options_of words ≡ Some o → o.date ≡ Some today
-    → MakesWork o today old.files (Err e) → (e ≡ loads.List → Rose old.list_faults new.list_faults) → (e ≡ loads.Read → Rose old.read_faults new.read_faults)
+    → MakesWork o today old.files (Err e) → (IsErrOf {T = Work} (Err e) loads.List → Rose old.list_faults new.list_faults)
+    → (IsErrOf {T = Work} (Err e) loads.Read → Rose old.read_faults new.read_faults)
     → FollowsFrom e d → DecidesSo words old new d
 decides-fault words o today old new (loads.Fault fault) (decided.Refused told line) e f m list read h = record {
   accepted = ap is_some e;

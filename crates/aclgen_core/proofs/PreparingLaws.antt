@@ -13,6 +13,7 @@ use Rattle.acl_packet.specs.declared.packets.Packet.{Packet}
 use Rattle.acl_text.specs.declared.faults.Refusal.{Refusal}
 use Rattle.acl_text.specs.declared.faults.Refusal.TheVariants as refusals
 use Rattle.acl_text.specs.declared.faults.Slip.{Slip}
+use Rattle.acl_text.proofs.ListLaws.{all_append}
 use Rattle.acl_host.specs.declared.clocks.Day.{Day}
 use Rattle.acl_naming.specs.Checking.{IsRefusal, first_of}
 use Rattle.acl_naming.specs.Definitions.{Naming}
@@ -53,10 +54,6 @@ first-none (Some x) b e = absurd (cc)
 
 pub both-none : {X : Type 0} (a b : Option X) → a ≡ None → b ≡ None → first_of a b ≡ None
 both-none a b e f = ap (λ o. first_of o b) e ∙ f
-
-all-append : {X : Type 0} (P : X → Type 0) (xs ys : List X) → AllByRecursion P xs → AllByRecursion P ys → AllByRecursion P (xs ++ ys)
-all-append P [] ys h k = k
-all-append P (x ∷ xs) ys h k = (h.0, all-append P xs ys h.1 k)
 
 pub all-map : {X Y : Type 0} (f : X → Y) (P : Y → Type 0) (xs : List X) → AllByRecursion (λ x. P (f x)) xs → All P (map f xs)
 all-map f P [] h = All-nil P
@@ -207,7 +204,7 @@ no-filters today draft ready = record {
   opened = ready;
 }
 
-pub adds-none : {X : Type 0} (today : Day) (drafts : FileDrafts) (x : X) → AreOpen drafts → Adds {X} today [] drafts drafts (Ok x)
+pub adds-none : {X : Type 0} (today : Day) (drafts : FileDrafts) (x : X) → AreOpen drafts → Adds {X = X} today [] drafts drafts (Ok x)
 adds-none today drafts x ready = record { slip_is = refl; each = λ kind. no-filters today (draft_on kind drafts) (ready kind); taken = tt }
 
 pub still-open : (today : Day) (rs : List FilterRequest) (old new : FileDrafts) → AddsAll today rs old new → AreOpen new
@@ -216,12 +213,13 @@ still-open today rs old new h = λ kind. (h.each kind).opened
 -- A platform's requests among those of two lists.
 on-append : (kind : Kind) (xs ys : List FilterRequest) → requests_on kind (xs ++ ys) ≡ requests_on kind xs ++ requests_on kind ys
 on-append kind [] ys = refl
-on-append kind (x ∷ xs) ys = by (same_kind x.target.kind kind)
+on-append kind (x ∷ xs) ys = by (same_kind x.target.kind kind) (on-append kind xs ys)
   where
-    by : (b : Bool) → (if b then x ∷ requests_on kind (xs ++ ys) else requests_on kind (xs ++ ys))
+    by : (b : Bool) → requests_on kind (xs ++ ys) ≡ requests_on kind xs ++ requests_on kind ys
+        → (if b then x ∷ requests_on kind (xs ++ ys) else requests_on kind (xs ++ ys))
         ≡ (if b then x ∷ requests_on kind xs else requests_on kind xs) ++ requests_on kind ys
-    by true = ap (λ rs. x ∷ rs) (on-append kind xs ys)
-    by false = on-append kind xs ys
+    by true e = ap (λ rs. x ∷ rs) e
+    by false e = e
 
 to-append : (today : Day) (xs ys : List FilterRequest) (p q s : FileDraft) → AddsTo today xs p q → AddsTo today ys q s → AddsTo today (xs ++ ys) p s
 to-append today xs ys p q s h k = record {
@@ -241,7 +239,7 @@ adds-append today xs ys p q s (Ok x) h k = record {
   slip_is = first-in-append (request_slip today) xs ys ∙ both-none (requests_slip today xs) (requests_slip today ys) h.slip_is k.slip_is;
   each = λ kind. subst (λ rs. AddsTo today rs (draft_on kind p) (draft_on kind s)) (sym (on-append kind xs ys))
       (to-append today (requests_on kind xs) (requests_on kind ys) (draft_on kind p) (draft_on kind q) (draft_on kind s) (h.each kind) (k.each kind));
-  taken = all-append (IsTakenFor today) xs ys h.taken k.taken;
+  taken = all_append (IsTakenFor today) xs ys h.taken k.taken;
 }
 adds-append today xs ys p q s (Err (refusals.Slip e)) h k =
     first-in-append (request_slip today) xs ys ∙ ap (λ o. first_of o (requests_slip today ys)) h.slip_is ∙ k
@@ -306,7 +304,7 @@ pub resolved-requests : (n : Naming) (blocks : List Block) (lists : List (List T
 resolved-requests n [] lists h = tt
 resolved-requests n (b ∷ bs) [] h = tt
 resolved-requests n (b ∷ bs) (ts ∷ tss) h =
-    all-append (λ (r : FilterRequest). AreResolved n r.written r.terms) (block_requests b ts) (requests_in bs tss)
+    all_append (λ (r : FilterRequest). AreResolved n r.written r.terms) (block_requests b ts) (requests_in bs tss)
     (resolved-block n b.terms ts b.targets h.0) (resolved-requests n bs tss h.1)
 
 pub decides-at : (n : Naming) (today : Day) (rs : List FilterRequest) (k : ℕ) (outcome : Packet → Option Outcome)

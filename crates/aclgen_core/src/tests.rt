@@ -7,7 +7,8 @@ use acl_text::Memory;
 use std::alloc::{AllocError, Global};
 use std::test::Fail;
 
-const NAMES: &[u8] = b"WEB = 192.0.2.10\nLOW = 10.0.0.0/25\nHIGH = 10.0.0.128/25\nSIX = 2001:db8::10\n";
+const NAMES: &[u8] =
+    b"WEB = 192.0.2.10\nLOW = 10.0.0.0/25\nHIGH = 10.0.0.128/25\nSIX = 2001:db8::10\n";
 
 fn words(alloc: Global, policy: &str, date: &str) -> Result<Vec<String>, AllocError> {
     let mut words = Vec::new(alloc);
