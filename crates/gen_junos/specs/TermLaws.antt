@@ -1,7 +1,7 @@
 -- The term of a rule that has no limit is one of a valid document: proved here, and need not be
 -- believed.
-use Rattle.std.proofs.Common.{zero-le, lit≤, ◌≡◌, ◌≢◌, ℕ, ◌+◌, ◌-◌, ◌<◌, ◌≤◌, Bool, true, false, not, ◌&&◌, ◌||◌, ◌==◌, nat_le, cond, List, [], ◌∷◌, ◌++◌, length, map, Option, None, Some, IfSome, is_none, refl, ap, sym, ◌∙◌, arith}
-use Rattle.std.specs.List.{AllByRecursion, list_all, list_any, range_with_len}
+use Rattle.std.proofs.Common.{zero-le, lit≤, ◌≡◌, ◌≢◌, ℕ, ◌+◌, ◌-◌, ◌≤◌, Bool, true, false, ◌&&◌, ◌||◌, ◌==◌, nat_le, cond, List, [], ◌∷◌, ◌++◌, length, map, IfSome, is_none, refl, ap, sym, ◌∙◌, arith}
+use Rattle.std.specs.List.{AllByRecursion, list_all, range_with_len}
 use Rattle.std.proofs.Math.Nat.{le_refl, le_trans}
 use Rattle.std.proofs.lemmas.Bool.{and_from, eqb-true, false≢true, or_left, or_right}
 use Rattle.std.proofs.lemmas.Bool.Decides.{Decides-eqb}
@@ -10,7 +10,7 @@ use Rattle.acl_packet.specs.declared.addresses.Family.{Family}
 use Rattle.acl_packet.specs.declared.addresses.Family.TheVariants.{V4, V6}
 use Rattle.acl_packet.specs.declared.filtering.Verdict.{Verdict}
 use Rattle.acl_packet.specs.declared.filtering.Verdict.TheVariants.{Accept, Deny, Reject, Reset, Left}
-use Rattle.acl_packet.specs.Packets.{has_ports as with_ports, icmp_of, is_icmp}
+use Rattle.acl_packet.specs.Packets.{has_ports as with_ports, icmp_of}
 use Rattle.acl_text.specs.Names.{is_safe_text}
 use Rattle.acl_text.specs.Notes.{is_note}
 use Rattle.acl_grammar.proofs.DecisionLaws.{le_decides}
@@ -23,16 +23,16 @@ use Rattle.acl_target.specs.declared.targets.Kind.TheVariants.{Juniper}
 use Rattle.acl_platform.specs.declared.rules.Rule.{Rule}
 use Rattle.acl_platform.specs.declared.rules.Test.{Test}
 use Rattle.acl_platform.specs.declared.rules.Test.TheVariants.{Plain, AckOrRst, SynNotAck, Rst, State}
-use Rattle.acl_platform.specs.Choices.{numbers_in, numbers_of}
+use Rattle.acl_platform.specs.Choices.{numbers_of}
 use Rattle.acl_platform.specs.Elements.{number_elements, port_elements}
 use Rattle.acl_platform.specs.Limits.{names_sctp_ports}
-use Rattle.acl_platform.specs.SoundFilters.{has_verdict, IsFull, IsSoundRule, is_tcp, tests_flags}
+use Rattle.acl_platform.specs.SoundFilters.{has_verdict, IsFull, IsSoundRule, tests_flags}
 use Rattle.acl_platform.proofs.ChoiceLaws.{some-numbers}
 use Rattle.acl_platform.proofs.CombinationFacts.{all-weaker}
 use Rattle.acl_platform.proofs.ElementLaws.{addresses-are, numbers-are, ports-are}
 use Rattle.acl_platform.proofs.RuleNames.{rule-name}
 use Rattle.acl_platform.proofs.RuleNumbers.{no-destination, no-source, tcp-or-udp, type-most}
-use Rattle.junos_lang.specs.Documents.{has_ports, is_alone, is_empty, IsTerm, parts_fit, ports_fit, test_fits, types_fit, verdict_fits}
+use Rattle.junos_lang.specs.Documents.{has_ports, is_alone, is_empty, IsTerm, ports_fit, test_fits, types_fit, verdict_fits}
 use Rattle.gen_junos.specs.Sections.{note_of, term_of, test_of}
 
 -- ---- protocols that pass a test which 0 does not
