@@ -1,5 +1,5 @@
 -- The combinations of a rule hold what its sets hold, and a sound rule has one.
-use Rattle.std.proofs.Common.{◌≡◌, ◌≢◌, ℕ, ◌≤◌, Bool, ◌&&◌, ◌||◌, List, [], ◌∷◌, map, Option, refl, ap, ◌∙◌, arith}
+use Rattle.std.proofs.Common.{◌≡◌, ℕ, Bool, ◌&&◌, ◌||◌, List, [], ◌∷◌, map, Option, refl, ap, ◌∙◌}
 use Rattle.std.specs.List.{list_any}
 use Rattle.acl_packet.specs.declared.addresses.Prefix.{Prefix}
 use Rattle.acl_packet.specs.Addresses.{has_address}
@@ -8,6 +8,7 @@ use Rattle.acl_platform.specs.Choices.{in_range, is_chosen, number_choices, pair
 use Rattle.acl_platform.specs.Combinations.{combination_holds, combination_of, CombinationsHold, parts_of, SomeCombination}
 use Rattle.acl_platform.proofs.ChoiceLaws.{any-number, any-range, some-map, some-number, some-range}
 use Rattle.acl_platform.proofs.PairLaws.{any-pairs, some-pair}
+use Rattle.acl_platform.proofs.SoundRules.{in-tops}
 
 any-map : {A B : Type 0} (test : B → Bool) (f : A → B) (xs : List A) → list_any test (map f xs) ≡ list_any (λ x. test (f x)) xs
 any-map test f [] = refl
@@ -35,18 +36,15 @@ any-combination kind families r p h k =
     let dports = range_choices r.dports in
     let sports = range_choices r.sports in
     let protos = number_choices r.protos in
-    let protocol : p.proto ≤ r.protos.top = let top = h.protocols.top_is in let n = k.protocol in omega (arith, top, n) in
-    let sport : p.sport ≤ r.sports.top = let top = h.source_ports.top_is in let n = k.source_port in omega (arith, top, n) in
-    let dport : p.dport ≤ r.dports.top = let top = h.destination_ports.top_is in let n = k.destination_port in omega (arith, top, n) in
-    let itype : p.itype ≤ r.itypes.top = let top = h.types.top_is in let n = k.type_fits in omega (arith, top, n) in
+    let tops = in-tops kind families r p h k in
     any-map (combination_holds p) combination_of (parts_of r)
     ∙ any-pairs proto second protos (pairs r.src (pairs r.dst (pairs sports (pairs dports types))))
     ∙ ap (λ t. list_any proto protos && t) (any-pairs src third r.src (pairs r.dst (pairs sports (pairs dports types)))
     ∙ ap (λ t. any_has r.src p.src && t) (any-pairs dst ports r.dst (pairs sports (pairs dports types))
     ∙ ap (λ t. any_has r.dst p.dst && t) (any-pairs from last sports (pairs dports types)
     ∙ ap (λ t. list_any from sports && t) (any-pairs into type_ dports types))))
-    ∙ four-same (any_has r.src p.src) (any_has r.dst p.dst) (any-number r.protos p.proto protocol) (any-range r.sports p.sport sport)
-    (any-range r.dports p.dport dport) (any-number r.itypes p.itype itype)
+    ∙ four-same (any_has r.src p.src) (any_has r.dst p.dst) (any-number r.protos p.proto tops.protocol) (any-range r.sports p.sport tops.source_port)
+    (any-range r.dports p.dport tops.destination_port) (any-number r.itypes p.itype tops.type_of_icmp)
 
 pub some-combination : SomeCombination
 some-combination kind families r h =

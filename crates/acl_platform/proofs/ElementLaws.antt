@@ -1,6 +1,6 @@
 -- The elements of a sound rule's sets: what they are, and that they hold what their set holds.
-use Rattle.std.proofs.Common.{◌≡◌, ◌≢◌, ℕ, zero, suc, ◌+◌, ◌-◌, ◌*◌, ◌^◌, ◌<◌, ◌≤◌, Bool, true, false, ◌||◌, ◌&&◌, ◌==◌, nat_le, nat_lt, cond, List, [], ◌∷◌, map, inl, inr, refl, ap, sym, subst, ◌∙◌, arith}
-use Rattle.std.specs.List.{AllByRecursion, list_any}
+use Rattle.std.proofs.Common.{◌≡◌, ◌≢◌, ℕ, zero, suc, ◌+◌, ◌-◌, ◌*◌, ◌^◌, ◌<◌, ◌≤◌, Bool, true, false, ◌||◌, ◌&&◌, ◌==◌, nat_le, nat_lt, cond, List, [], ◌∷◌, map, inl, inr, refl, ap, sym, subst, ◌∙◌, arith, zero-le, ◌++◌}
+use Rattle.std.specs.List.{AllByRecursion, list_any, range_with_len}
 use Rattle.std.proofs.Math.Nat.{lt_of_mul-lt-mul_right}
 use Rattle.std.proofs.lemmas.Bool.{and_from, eqb-true, false≢true, lt-ltb, or_cases, or_left, or_parts, or_right}
 use Rattle.std.proofs.lemmas.Bool.Decides.{Decides-eqb}
@@ -11,8 +11,9 @@ use Rattle.acl_grammar.proofs.DecisionLaws.{le_decides}
 use Rattle.acl_sets.specs.declared.sets.Range.{Range}
 use Rattle.acl_sets.specs.ComputableSets.{is_all}
 use Rattle.acl_sets.specs.LeastLists.{any_has}
-use Rattle.acl_sets.specs.Ranges.{holds, IsNormal, Numbers}
+use Rattle.acl_sets.specs.Ranges.{holds, inside, IsNormal, Numbers, Only}
 use Rattle.acl_sets.proofs.ComputableSetLaws.{covers-holds}
+use Rattle.acl_sets.proofs.RangeLaws.{at_top}
 use Rattle.acl_platform.specs.Choices.{numbers_of}
 use Rattle.acl_platform.specs.Elements.{address_elements, number_elements, port_elements}
 use Rattle.acl_platform.specs.SoundFilters.{IsFull, IsFullList}
@@ -150,3 +151,49 @@ numbers-are-by s false e = all-weaker (λ n h. (e, h)) (numbers_of s.ranges) (he
 -- each is a number of the set
 pub numbers-are : (s : Numbers) → AllByRecursion (λ n. (is_all s ≡ false) × (holds s.ranges n ≡ true)) (number_elements s)
 numbers-are s = numbers-are-by s (is_all s) refl
+
+-- they are below 256
+pub numbers-small : (s : Numbers) → IsFull 255 s → AllByRecursion (λ n. n < 256) (number_elements s)
+numbers-small s h =
+    all-weaker {P = λ n. (is_all s ≡ false) × (holds s.ranges n ≡ true)} {Q = λ n. n < 256}
+    (λ n k. let most = at_top 0 255 s.ranges n h.normal k.1 in omega (arith, most)) (number_elements s) (numbers-are s)
+
+-- ---- a set that passes a test which 0 does not
+
+pub not-all : (s : Numbers) (test : ℕ → Bool) → test 0 ≡ false → Only test s → is_all s ≡ false
+not-all s test none only = by_test (is_all s) refl
+  where
+    by_test : (b : Bool) → is_all s ≡ b → b ≡ false
+    by_test true e = absurd (false≢true (sym none ∙ only 0 (covers-holds s.ranges 0 s.top 0 e zero-le zero-le)))
+    by_test false e = refl
+
+pub not-all-elements : (s : Numbers) → is_all s ≡ false → number_elements s ≡ numbers_of s.ranges
+not-all-elements s e = ap (λ b. numbers_of (cond b [] s.ranges)) e
+
+low-inside : (r : Range) → r.low ≤ r.high → inside r r.low ≡ true
+low-inside r h = and_from (nat_le r.low r.low) (nat_le r.low r.high) ((le_decides r.low r.low).1 (omega arith)) ((le_decides r.low r.high).1 h)
+
+high-inside : (r : Range) → r.low ≤ r.high → inside r r.high ≡ true
+high-inside r h = and_from (nat_le r.low r.high) (nat_le r.high r.high) ((le_decides r.low r.high).1 h) ((le_decides r.high r.high).1 (omega arith))
+
+one-row : (low count k : ℕ) → low ≡ k → count ≡ 1 → range_with_len low count ++ [] ≡ k ∷ []
+one-row low count k e f = ap (λ n. range_with_len n count ++ []) e ∙ ap (λ n. range_with_len k n ++ []) f
+
+only-one : (floor top : ℕ) (rs : List Range) (k : ℕ) → IsNormal floor top rs → rs ≢ [] → ((x : ℕ) → holds rs x ≡ true → (x == k) ≡ true)
+    → numbers_of rs ≡ k ∷ []
+only-one floor top [] k n some only = absurd (some refl)
+only-one floor top (r ∷ []) k n some only =
+    let low = eqb-true r.low k (only r.low (or_left (inside r r.low) false (low-inside r n.1))) in
+    let high = eqb-true r.high k (only r.high (or_left (inside r r.high) false (high-inside r n.1))) in
+    one-row r.low (r.high + 1 - r.low) k low (omega (arith, low, high))
+only-one floor top (r ∷ q ∷ rs) k n some only =
+    let low = eqb-true r.low k (only r.low (or_left (inside r r.low) (holds (q ∷ rs) r.low) (low-inside r n.1))) in
+    let next = eqb-true q.low k (only q.low (or_right (inside r q.low) (holds (q ∷ rs) q.low)
+    (or_left (inside q q.low) (holds rs q.low) (low-inside q n.3.1)))) in
+    let behind = n.3.0 in
+    let ends = n.1 in
+    absurd (omega (arith, low, next, behind, ends))
+
+-- a set that has one number alone has that one element
+pub alone : (s : Numbers) (k : ℕ) → IsFull 255 s → (0 == k) ≡ false → Only (λ n. n == k) s → number_elements s ≡ k ∷ []
+alone s k h none only = not-all-elements s (not-all s (λ n. n == k) none only) ∙ only-one 0 255 s.ranges k h.normal h.some only

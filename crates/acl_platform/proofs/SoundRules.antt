@@ -3,6 +3,8 @@ use Rattle.std.proofs.Common.{ℕ, ◌≤◌, List, [], ◌∷◌, arith}
 use Rattle.std.specs.List.{All, AllByRecursion}
 use Rattle.std.proofs.lemmas.List.Elements.{All-from_recursion}
 use Rattle.acl_packet.specs.declared.addresses.Families.{Families}
+use Rattle.acl_packet.specs.declared.packets.Packet.{Packet}
+use Rattle.acl_packet.specs.Packets.{IsPacket}
 use Rattle.acl_sets.specs.Ranges.{Numbers}
 use Rattle.acl_target.specs.declared.targets.Kind.{Kind}
 use Rattle.acl_platform.specs.declared.rules.Rule.{Rule}
@@ -28,3 +30,18 @@ each-sized kind families (r ∷ rules) h = (sized kind families r h.0, each-size
 pub all-sized : (kind : Kind) (families : Families) (rules : List Rule) → AllByRecursion (IsSoundRule kind families) rules
     → All IsSized rules
 all-sized kind families rules h = All-from_recursion IsSized rules (each-sized kind families rules h)
+
+-- the parts of a packet are within the tops of the sets
+pub record IsInTops (r : Rule) (p : Packet) : Type 0 where
+  pub protocol : p.proto ≤ r.protos.top
+  pub source_port : p.sport ≤ r.sports.top
+  pub destination_port : p.dport ≤ r.dports.top
+  pub type_of_icmp : p.itype ≤ r.itypes.top
+
+pub in-tops : (kind : Kind) (families : Families) (r : Rule) (p : Packet) → IsSoundRule kind families r → IsPacket p → IsInTops r p
+in-tops kind families r p h k = record {
+  protocol = let top = h.protocols.top_is in let n = k.protocol in omega (arith, top, n);
+  source_port = let top = h.source_ports.top_is in let n = k.source_port in omega (arith, top, n);
+  destination_port = let top = h.destination_ports.top_is in let n = k.destination_port in omega (arith, top, n);
+  type_of_icmp = let top = h.types.top_is in let n = k.type_fits in omega (arith, top, n);
+}

@@ -1,11 +1,11 @@
 -- How many entries a section has.
-use Rattle.std.proofs.Common.{◌≡◌, ℕ, ◌+◌, ◌<◌, ◌≤◌, min, Bool, true, false, List, [], ◌∷◌, length, map, drop, get_or, refl, ap, sym, ◌∙◌, arith}
+use Rattle.std.proofs.Common.{◌≡◌, ℕ, ◌+◌, ◌<◌, ◌≤◌, min, List, [], ◌∷◌, length, map, drop, get_or, refl, ap, sym, ◌∙◌, arith}
 use Rattle.std.specs.List.{sum_by}
 use Rattle.std.proofs.lemmas.List.{drop_all}
 use Rattle.std.proofs.lemmas.List.Sums.{sum_by-cons, sum_by-drop_more}
 use Rattle.acl_text.specs.Output.{COUNT_END}
 use Rattle.acl_platform.specs.declared.rules.Rule.{Rule}
-use Rattle.gen_junos.specs.Sections.{default_term, term_count, term_of, terms_of}
+use Rattle.gen_junos.specs.Sections.{term_count, term_of, terms_of}
 
 abbrev pub rule_count : Rule → ℕ
 rule_count r = term_count (term_of r)

@@ -1,3 +1,4 @@
 pub mod EntryCounts
 pub mod NameLaws
 pub mod Rows
+pub mod TwoSections

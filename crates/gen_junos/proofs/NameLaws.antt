@@ -1,5 +1,5 @@
 -- A section's first line, and the names of the sections of targets that do not clash.
-use Rattle.std.proofs.Common.{◌≡◌, ℕ, Bool, true, false, ◌&&◌, List, [], ◌∷◌, ◌++◌, map, flat_map, codes, refl, append-nil, append_assoc, ap, sym, ◌∙◌}
+use Rattle.std.proofs.Common.{◌≡◌, ℕ, Bool, false, ◌&&◌, List, [], ◌∷◌, ◌++◌, map, flat_map, codes, refl, append-nil, append_assoc, ap, sym, ◌∙◌}
 use Rattle.std.specs.List.{AllByRecursion, IsDistinct}
 use Rattle.std.specs.Str.{bytes_eq}
 use Rattle.std.proofs.lemmas.Bool.{false≢true}
@@ -15,7 +15,7 @@ use Rattle.acl_target.specs.TargetTexts.{families_text, kind_text, target_text}
 use Rattle.acl_platform.specs.declared.filters.Filter.{Filter}
 use Rattle.acl_platform.specs.SoundFilters.{target_of}
 use Rattle.junos_lang.specs.Documents.{family_word, name_of}
-use Rattle.junos_lang.specs.Texts.{closing, end_rows, head_rows, section_rows, term_rows}
+use Rattle.junos_lang.specs.Texts.{end_rows, head_rows, section_rows, term_rows}
 use Rattle.junos_lang.proofs.ValidityLaws.{same_names}
 use Rattle.gen_junos.specs.SectionNames.{FirstLine, IsOfJunos, names, NamesDiffer}
 use Rattle.gen_junos.specs.Sections.{family_of, section_of, terms_of}

@@ -1,6 +1,6 @@
 -- The section of an accepted filter decides packets as the filter does: proved here, and need not
 -- be believed.
-use Rattle.std.proofs.Common.{◌≡◌, ℕ, ◌^◌, ◌<◌, ◌≤◌, Bool, true, false, ◌&&◌, cond, List, [], ◌∷◌, map, Option, None, Some, refl, ap, sym, subst, ◌∙◌, arith}
+use Rattle.std.proofs.Common.{◌≡◌, ◌^◌, ◌<◌, Bool, true, false, ◌&&◌, cond, List, [], ◌∷◌, map, None, Some, refl, ap, sym, subst, ◌∙◌}
 use Rattle.std.specs.List.{AllByRecursion}
 use Rattle.std.proofs.lemmas.Bool.{false≢true}
 use Rattle.acl_packet.specs.declared.addresses.Families.{Families}
@@ -13,7 +13,6 @@ use Rattle.acl_packet.specs.declared.packets.Packet.{Packet}
 use Rattle.acl_packet.specs.Addresses.{covers, same_family, width_of}
 use Rattle.acl_packet.specs.Outcomes.{unlogged}
 use Rattle.acl_packet.specs.Packets.{IsPacket}
-use Rattle.acl_grammar.proofs.DecisionLaws.{family_decides}
 use Rattle.acl_sets.specs.LeastLists.{any_has}
 use Rattle.acl_sets.specs.Ranges.{holds}
 use Rattle.acl_target.specs.declared.targets.Ending.{Ending}
@@ -30,6 +29,7 @@ use Rattle.acl_platform.specs.Rules.{decided_by, passes, rule_holds, rules_outco
 use Rattle.acl_platform.specs.SoundFilters.{has_test, IsSoundRule}
 use Rattle.acl_platform.proofs.AcceptedFilters.{rules-are, target-fits}
 use Rattle.acl_platform.proofs.ElementLaws.{addresses-hold, numbers-hold, ports-hold}
+use Rattle.acl_platform.proofs.SoundRules.{in-tops}
 use Rattle.junos_lang.specs.Walks.{section_outcome, term_holds, test_holds, walk}
 use Rattle.gen_junos.specs.Limits.{is_for_junos, limit_of}
 use Rattle.gen_junos.specs.Sections.{default_term, family_of, section_of, term_of, terms_of, test_of}
@@ -73,13 +73,10 @@ term-same : (families : Families) (r : Rule) (p : Packet) → IsSoundRule Junipe
 term-same families r p h k e =
     let source = subst (λ f. p.src < 2 ^ width_of f) e k.source in
     let destination = subst (λ f. p.dst < 2 ^ width_of f) e k.destination in
-    let protocol : p.proto ≤ r.protos.top = let top = h.protocols.top_is in let n = k.protocol in omega (arith, top, n) in
-    let sport : p.sport ≤ r.sports.top = let top = h.source_ports.top_is in let n = k.source_port in omega (arith, top, n) in
-    let dport : p.dport ≤ r.dports.top = let top = h.destination_ports.top_is in let n = k.destination_port in omega (arith, top, n) in
-    let itype : p.itype ≤ r.itypes.top = let top = h.types.top_is in let n = k.type_fits in omega (arith, top, n) in
+    let tops = in-tops Juniper families r p h k in
     seven-same (addresses-hold r.family r.src p.src h.sources source) (addresses-hold r.family r.dst p.dst h.destinations destination)
-    (ports-hold r.sports p.sport h.source_ports.some sport) (ports-hold r.dports p.dport h.destination_ports.some dport)
-    (numbers-hold 255 r.protos p.proto h.protocols protocol) (numbers-hold 255 r.itypes p.itype h.types itype)
+    (ports-hold r.sports p.sport h.source_ports.some tops.source_port) (ports-hold r.dports p.dport h.destination_ports.some tops.destination_port)
+    (numbers-hold 255 r.protos p.proto h.protocols tops.protocol) (numbers-hold 255 r.itypes p.itype h.types tops.type_of_icmp)
     (test-same r.test p h.test_known)
     ∙ regrouped (holds r.protos.ranges p.proto) (any_has r.src p.src) (any_has r.dst p.dst) (holds r.sports.ranges p.sport)
     (holds r.dports.ranges p.dport) (holds r.itypes.ranges p.itype) (passes r.test p)

@@ -2,9 +2,7 @@
 use Rattle.std.specs.Prelude.{◌≡◌, Bool, false, List, [], ◌∷◌, ◌++◌, ℕ, map, flat_map, codes}
 use Rattle.std.specs.List.{AllByRecursion, IsDistinct}
 use Rattle.std.specs.Str.{bytes_eq}
-use Rattle.acl_grammar.specs.Rows.{text_of_rows}
 use Rattle.acl_target.specs.declared.targets.Kind.TheVariants.{Juniper}
-use Rattle.acl_target.specs.declared.targets.Target.{Target}
 use Rattle.acl_target.specs.Clashes.{clash, is_mixed}
 use Rattle.acl_target.specs.TargetTexts.{target_text}
 use Rattle.acl_platform.specs.declared.filters.Filter.{Filter}

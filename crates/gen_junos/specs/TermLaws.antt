@@ -1,82 +1,43 @@
 -- The term of a rule that has no limit is one of a valid document: proved here, and need not be
 -- believed.
-use Rattle.std.proofs.Common.{zero-le, lit≤, ◌≡◌, ◌≢◌, ℕ, ◌+◌, ◌-◌, ◌<◌, ◌≤◌, Bool, true, false, not, ◌&&◌, ◌||◌, ◌==◌, nat_le, cond, List, [], ◌∷◌, ◌++◌, length, map, Option, None, Some, IfSome, is_none, refl, ap, sym, ◌∙◌, arith}
-use Rattle.std.specs.List.{AllByRecursion, list_all, list_any, range_with_len}
-use Rattle.std.proofs.Math.Nat.{le_refl, le_trans}
-use Rattle.std.proofs.lemmas.Bool.{and_from, eqb-true, false≢true, or_left, or_right}
+use Rattle.std.proofs.Common.{lit≤, ◌≡◌, ◌≢◌, ℕ, ◌≤◌, Bool, true, false, ◌&&◌, ◌||◌, ◌==◌, cond, List, [], ◌∷◌, length, map, IfSome, is_none, refl, ap, sym, ◌∙◌}
+use Rattle.std.specs.List.{AllByRecursion, list_all}
+use Rattle.std.proofs.Math.Nat.{le_trans}
+use Rattle.std.proofs.lemmas.Bool.{and_from, false≢true, or_right}
 use Rattle.std.proofs.lemmas.Bool.Decides.{Decides-eqb}
 use Rattle.acl_packet.specs.declared.addresses.Families.{Families}
 use Rattle.acl_packet.specs.declared.addresses.Family.{Family}
 use Rattle.acl_packet.specs.declared.addresses.Family.TheVariants.{V4, V6}
 use Rattle.acl_packet.specs.declared.filtering.Verdict.{Verdict}
 use Rattle.acl_packet.specs.declared.filtering.Verdict.TheVariants.{Accept, Deny, Reject, Reset, Left}
-use Rattle.acl_packet.specs.Packets.{has_ports as with_ports, icmp_of, is_icmp}
+use Rattle.acl_packet.specs.Packets.{has_ports as with_ports, icmp_of}
 use Rattle.acl_text.specs.Names.{is_safe_text}
 use Rattle.acl_text.specs.Notes.{is_note}
-use Rattle.acl_grammar.proofs.DecisionLaws.{le_decides}
-use Rattle.acl_sets.specs.declared.sets.Range.{Range}
 use Rattle.acl_sets.specs.ComputableSets.{is_all}
-use Rattle.acl_sets.specs.Ranges.{holds, inside, IsNormal, Numbers, Only}
-use Rattle.acl_sets.proofs.ComputableSetLaws.{covers-holds}
-use Rattle.acl_sets.proofs.RangeLaws.{at_top}
+use Rattle.acl_sets.specs.Ranges.{holds, Numbers, Only}
 use Rattle.acl_target.specs.declared.targets.Kind.TheVariants.{Juniper}
 use Rattle.acl_platform.specs.declared.rules.Rule.{Rule}
 use Rattle.acl_platform.specs.declared.rules.Test.{Test}
 use Rattle.acl_platform.specs.declared.rules.Test.TheVariants.{Plain, AckOrRst, SynNotAck, Rst, State}
-use Rattle.acl_platform.specs.Choices.{numbers_in, numbers_of}
+use Rattle.acl_platform.specs.Choices.{numbers_of}
 use Rattle.acl_platform.specs.Elements.{number_elements, port_elements}
 use Rattle.acl_platform.specs.Limits.{names_sctp_ports}
-use Rattle.acl_platform.specs.SoundFilters.{has_verdict, IsFull, IsSoundRule, is_tcp, tests_flags}
+use Rattle.acl_platform.specs.SoundFilters.{has_verdict, IsFull, IsSoundRule, tests_flags}
 use Rattle.acl_platform.proofs.ChoiceLaws.{some-numbers}
 use Rattle.acl_platform.proofs.CombinationFacts.{all-weaker}
-use Rattle.acl_platform.proofs.ElementLaws.{addresses-are, numbers-are, ports-are}
+use Rattle.acl_platform.proofs.ElementLaws.{addresses-are, alone, not-all, not-all-elements, numbers-are, numbers-small, ports-are}
 use Rattle.acl_platform.proofs.RuleNames.{rule-name}
 use Rattle.acl_platform.proofs.RuleNumbers.{no-destination, no-source, tcp-or-udp, type-most}
-use Rattle.junos_lang.specs.Documents.{has_ports, is_alone, is_empty, IsTerm, parts_fit, ports_fit, test_fits, types_fit, verdict_fits}
+use Rattle.junos_lang.specs.Documents.{has_ports, is_alone, is_empty, IsTerm, ports_fit, test_fits, types_fit, verdict_fits}
 use Rattle.gen_junos.specs.Sections.{note_of, term_of, test_of}
 
 -- ---- protocols that pass a test which 0 does not
 
-not-all : (s : Numbers) (test : ℕ → Bool) → test 0 ≡ false → Only test s → is_all s ≡ false
-not-all s test none only = by_test (is_all s) refl
-  where
-    by_test : (b : Bool) → is_all s ≡ b → b ≡ false
-    by_test true e = absurd (false≢true (sym none ∙ only 0 (covers-holds s.ranges 0 s.top 0 e zero-le zero-le)))
-    by_test false e = refl
-
-elements-are : (s : Numbers) → is_all s ≡ false → number_elements s ≡ numbers_of s.ranges
-elements-are s e = ap (λ b. numbers_of (cond b [] s.ranges)) e
-
-low-inside : (r : Range) → r.low ≤ r.high → inside r r.low ≡ true
-low-inside r h = and_from (nat_le r.low r.low) (nat_le r.low r.high) ((le_decides r.low r.low).1 (le_refl r.low)) ((le_decides r.low r.high).1 h)
-
-high-inside : (r : Range) → r.low ≤ r.high → inside r r.high ≡ true
-high-inside r h = and_from (nat_le r.low r.high) (nat_le r.high r.high) ((le_decides r.low r.high).1 h) ((le_decides r.high r.high).1 (le_refl r.high))
-
 itself : (n : ℕ) → (n == n) ≡ true
 itself n = (Decides-eqb n n).1 refl
 
-one-range : (low count k : ℕ) → low ≡ k → count ≡ 1 → is_alone (range_with_len low count ++ []) k ≡ true
-one-range low count k e f = ap (λ n. is_alone (range_with_len n count ++ []) k) e ∙ ap (λ n. is_alone (range_with_len k n ++ []) k) f ∙ itself k
-
-only-one : (floor top : ℕ) (rs : List Range) (k : ℕ) → IsNormal floor top rs → rs ≢ [] → ((x : ℕ) → holds rs x ≡ true → (x == k) ≡ true)
-    → is_alone (numbers_of rs) k ≡ true
-only-one floor top [] k n some only = absurd (some refl)
-only-one floor top (r ∷ []) k n some only =
-    let low = eqb-true r.low k (only r.low (or_left (inside r r.low) false (low-inside r n.1))) in
-    let high = eqb-true r.high k (only r.high (or_left (inside r r.high) false (high-inside r n.1))) in
-    one-range r.low (r.high + 1 - r.low) k low (omega (arith, low, high))
-only-one floor top (r ∷ q ∷ rs) k n some only =
-    let low = eqb-true r.low k (only r.low (or_left (inside r r.low) (holds (q ∷ rs) r.low) (low-inside r n.1))) in
-    let next = eqb-true q.low k (only q.low (or_right (inside r q.low) (holds (q ∷ rs) q.low)
-    (or_left (inside q q.low) (holds rs q.low) (low-inside q n.3.1)))) in
-    let behind = n.3.0 in
-    let ends = n.1 in
-    absurd (omega (arith, low, next, behind, ends))
-
-alone : (s : Numbers) (k : ℕ) → IsFull 255 s → (0 == k) ≡ false → Only (λ n. n == k) s → is_alone (number_elements s) k ≡ true
-alone s k h none only =
-    ap (λ ns. is_alone ns k) (elements-are s (not-all s (λ n. n == k) none only)) ∙ only-one 0 255 s.ranges k h.normal h.some only
+is-alone : (s : Numbers) (k : ℕ) → IsFull 255 s → (0 == k) ≡ false → Only (λ n. n == k) s → is_alone (number_elements s) k ≡ true
+is-alone s k h none only = ap (λ ns. is_alone ns k) (alone s k h none only) ∙ itself k
 
 no-icmp : (f : Family) → (0 == icmp_of f) ≡ false
 no-icmp V4 = refl
@@ -94,7 +55,7 @@ all-pass test (n ∷ ns) h = and_from (test n) (list_all test ns) h.0 (all-pass 
 
 ports-known : (s : Numbers) → IsFull 255 s → Only with_ports s → holds s.ranges 132 ≡ false → has_ports (number_elements s) ≡ true
 ports-known s h only none =
-    let e = elements-are s (not-all s with_ports refl only) in
+    let e = not-all-elements s (not-all s with_ports refl only) in
     let all = all-weaker {P = λ n. (is_all s ≡ false) × (holds s.ranges n ≡ true)} {Q = λ n. (n == 6 || n == 17) ≡ true}
     (λ n k. tcp-or-udp s n only none k.1) (number_elements s) (numbers-are s) in
     full (number_elements s) (λ none_left. some-numbers 0 255 s.ranges h.normal h.some (sym e ∙ none_left))
@@ -125,7 +86,7 @@ types-by families r h true e =
     ap (λ b. is_empty (numbers_of (cond b [] r.itypes.ranges)) || is_alone (number_elements r.protos) (icmp_of r.family)) e
 types-by families r h false e =
     or_right (is_empty (number_elements r.itypes)) (is_alone (number_elements r.protos) (icmp_of r.family))
-    (alone r.protos (icmp_of r.family) h.protocols (no-icmp r.family) (h.types_fit e))
+    (is-alone r.protos (icmp_of r.family) h.protocols (no-icmp r.family) (h.types_fit e))
 
 test-by : (test : Test) (protos : List ℕ) → (tests_flags test ≡ true → is_alone protos 6 ≡ true)
     → (is_none (test_of test) || is_alone protos 6) ≡ true
@@ -152,14 +113,13 @@ pub term-is : (families : Families) (r : Rule) → IsSoundRule Juniper families 
     → IsTerm r.family (term_of r)
 term-is families r h short u =
     let t = term_of r in
-    let tcp = alone r.protos 6 h.protocols refl in
+    let tcp = is-alone r.protos 6 h.protocols refl in
     record {
       noted = note-safe r.note h.note;
       named = rule-name Juniper r.name h.name (le_trans short (lit≤ tt));
       sources = addresses-are r.family r.src h.sources;
       destinations = addresses-are r.family r.dst h.destinations;
-      protocols = all-weaker (λ n k. let most = at_top 0 255 r.protos.ranges n h.protocols.normal k.1 in omega (arith, most))
-          (number_elements r.protos) (numbers-are r.protos);
+      protocols = numbers-small r.protos h.protocols;
       source_ports = ports-are r.sports h.source_ports;
       destination_ports = ports-are r.dports h.destination_ports;
       icmp_types = all-weaker (λ n k. type-most r.itypes n h.types.normal (h.types_named k.0) k.1)

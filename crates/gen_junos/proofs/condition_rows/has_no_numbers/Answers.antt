@@ -1,4 +1,4 @@
-use Rattle.std.proofs.Common.{length, ◌==◌, ap, sym, ◌∙◌}
+use Rattle.std.proofs.Common.{ap, ◌∙◌}
 use Rattle.junos_lang.specs.Documents.{is_empty}
 use Rattle.acl_platform.specs.Choices.{numbers_of}
 use Rattle.gen_junos.proofs.Rows.{no-numbers}
