@@ -22,8 +22,8 @@ use Rattle.acl_platform.specs.declared.filters.Filter.{Filter}
 use Rattle.acl_platform.specs.SoundFilters.{target_of}
 use Rattle.nft_lang.specs.Documents.{table_name}
 use Rattle.nft_lang.specs.Texts.{head_rows, section_rows, target_row, text_of}
-use Rattle.gen_nftables.specs.RowSteps.{table_body}
-use Rattle.gen_nftables.specs.SectionNames.{FirstLine, TablesDiffer}
+
+use Rattle.gen_nftables.specs.SectionNames.{FirstLine, table_body, TablesDiffer}
 use Rattle.gen_nftables.specs.Sections.{section_names, section_of}
 
 abbrev mark : List ℕ → Families → List ℕ
@@ -90,3 +90,10 @@ all-differ (f ∷ fs) stateful h d =
     let t = target_of stateful f in
     let ts = map (target_of stateful) fs in
     (all-apart f stateful fs h.0 h.1 (first-pairs Differ t ts d), all-differ fs stateful h.1 (later-pairs Differ t ts d))
+
+-- two numbers that are given
+pub two-differ : (f g : Filter) → f.number ≡ 1 → g.number ≡ 2
+    → IsDistinct bytes_eq (flat_map (λ h. section_names (section_of h)) (f ∷ g ∷ []))
+unfolding IsDistinct
+two-differ f g e h =
+    ((names-apart f.number g.number (omega (arith, e)) (omega (arith, h)) (λ same. absurd (omega (arith, e, h, same))), tt), (tt, tt))

@@ -1,8 +1,9 @@
 -- The section of an accepted filter decides packets as the filter does: proved here, and need not
 -- be believed.
-use Rattle.std.proofs.Common.{◌≡◌, ◌≢◌, ℕ, ◌^◌, ◌<◌, ◌≤◌, Bool, true, false, ◌&&◌, ◌||◌, ◌==◌, cond, unwrap_or, List, [], ◌∷◌, ◌++◌, map, flat_map, Option, None, Some, refl, ap, sym, subst, ◌∙◌, append_assoc, arith}
+use Rattle.std.proofs.Common.{zero-le, ◌≡◌, ◌≢◌, ℕ, suc, ◌^◌, ◌<◌, ◌≤◌, Bool, true, false, ◌&&◌, ◌||◌, ◌==◌, cond, unwrap_or, List, [], ◌∷◌, ◌++◌, map, flat_map, Option, None, Some, refl, ap, sym, subst, ◌∙◌, append_assoc}
 use Rattle.std.specs.List.{AllByRecursion, list_any}
 use Rattle.std.proofs.lemmas.Bool.{false≢true}
+use Rattle.std.proofs.Math.Nat.{le_of_suc-le-suc}
 use Rattle.acl_packet.specs.declared.addresses.Families.{Families}
 use Rattle.acl_packet.specs.declared.addresses.Family.{Family}
 use Rattle.acl_packet.specs.declared.addresses.Prefix.{Prefix}
@@ -60,7 +61,7 @@ some-held has (x ∷ xs) v h = refl
 
 types-by : (s : Numbers) (x : ℕ) (b : Bool) → is_all s ≡ b → IsFull 255 s → x ≤ s.top
     → set_holds (λ t n. n == t) (numbers_of (cond b [] s.ranges)) x ≡ holds s.ranges x
-types-by s x true e full h = sym (covers-holds s.ranges 0 s.top x e (omega arith) h)
+types-by s x true e full h = sym (covers-holds s.ranges 0 s.top x e zero-le h)
 types-by s x false e full h =
     some-held (λ t n. n == t) (numbers_of s.ranges) x (some-numbers 0 255 s.ranges full.normal full.some) ∙ numbers-any s.ranges x
 
@@ -126,6 +127,9 @@ five-same family proto tests {b = b} {c = c} {d = d} {e = e} {v = v} {w = w} {x 
     ∙ ap (λ t. (family && proto) && ((v && w) && ((x && t) && (e && tests)))) k
     ∙ ap (λ t. (family && proto) && ((v && w) && ((x && y) && (t && tests)))) l
 
+at-most : {top most x : ℕ} → top ≡ most → x < suc most → x ≤ top
+at-most {x = x} e h = subst (λ n. x ≤ n) (sym e) (le_of_suc-le-suc h)
+
 -- what the rules of the chain test, but for family and protocol
 abbrev rest_holds : Rule → Packet → Bool
 rest_holds r p = (set_holds has_address (address_elements r.src) p.src && set_holds has_address (address_elements r.dst) p.dst)
@@ -136,18 +140,12 @@ of-family : (families : Families) (r : Rule) (p : Packet) → IsSoundRule Nftabl
     → ((same_family r.family p.family && holds r.protos.ranges p.proto) && rest_holds r p) ≡ rule_holds r p
 of-family families r p h k e =
     let top : (a : ℕ) → a < 2 ^ width_of p.family → a < 2 ^ width_of r.family = λ a l. subst (λ f. a < 2 ^ width_of f) (sym e) l in
-    let source_tops = h.source_ports.top_is in
-    let destination_tops = h.destination_ports.top_is in
-    let type_tops = h.types.top_is in
-    let source = k.source_port in
-    let destination = k.destination_port in
-    let icmp = k.type_fits in
     five-same (same_family r.family p.family) (holds r.protos.ranges p.proto) (flags_hold (flags_of r.test) p.flags && state_holds (asks_state r.test) p.conn)
     (addresses-same r.family r.src p.src h.sources (top p.src k.source))
     (addresses-same r.family r.dst p.dst h.destinations (top p.dst k.destination))
-    (ports-same r.sports p.sport h.source_ports.some (omega (arith, source_tops, source)))
-    (ports-same r.dports p.dport h.destination_ports.some (omega (arith, destination_tops, destination)))
-    (types-by r.itypes p.itype (is_all r.itypes) refl h.types (omega (arith, type_tops, icmp)))
+    (ports-same r.sports p.sport h.source_ports.some (at-most h.source_ports.top_is k.source_port))
+    (ports-same r.dports p.dport h.destination_ports.some (at-most h.destination_ports.top_is k.destination_port))
+    (types-by r.itypes p.itype (is_all r.itypes) refl h.types (at-most h.types.top_is k.type_fits))
     ∙ regrouped (same_family r.family p.family) (holds r.protos.ranges p.proto) (any_has r.src p.src) (any_has r.dst p.dst)
     (holds r.sports.ranges p.sport) (holds r.dports.ranges p.dport) (holds r.itypes.ranges p.itype) (test-same r.test p h.test_known)
 
@@ -161,10 +159,8 @@ family-by families r p false e h k =
 rule-any : (families : Families) (r : Rule) (p : Packet) → IsSoundRule Nftables families r → IsPacket p
     → list_any (λ o. chain_rule_holds (chain_rule r o) p) (number_choices r.protos) ≡ rule_holds r p
 rule-any families r p h k =
-    let tops = h.protocols.top_is in
-    let proto = k.protocol in
     any-protocol (same_family r.family p.family) (rest_holds r p) p.proto (number_choices r.protos)
-    ∙ ap (λ t. (same_family r.family p.family && t) && rest_holds r p) (any-number r.protos p.proto (omega (arith, tops, proto)))
+    ∙ ap (λ t. (same_family r.family p.family && t) && rest_holds r p) (any-number r.protos p.proto (at-most h.protocols.top_is k.protocol))
     ∙ family-by families r p (same_family r.family p.family) refl h k
 
 past-remarks : (texts : List (List ℕ)) (items : List Item) (p : Packet) → first_holding (map (λ text. Remark text) texts ++ items) p ≡ first_holding items p

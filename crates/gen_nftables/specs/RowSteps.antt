@@ -1,4 +1,4 @@
--- The rows of a rule of a filter, and those of a section behind its first line.
+-- The head of a section, the rows of its items, and the numbers of a set.
 use Rattle.std.specs.Prelude.{ℕ, List, ◌∷◌, ◌++◌, flat_map, codes}
 use Rattle.std.specs.Fmt.{decimal}
 use Rattle.acl_packet.specs.declared.addresses.Families.{Families}
@@ -6,8 +6,7 @@ use Rattle.acl_grammar.specs.Rows.{Row, row, words_in}
 use Rattle.acl_platform.specs.declared.filters.Filter.{Filter}
 use Rattle.nft_lang.specs.declared.chain_rows.SectionHead.{SectionHead}
 use Rattle.nft_lang.specs.declared.documents.Item.{Item}
-use Rattle.nft_lang.specs.declared.documents.Section.{Section}
-use Rattle.nft_lang.specs.Texts.{chain_rows, end_rows, item_rows, start_row, table_row}
+use Rattle.nft_lang.specs.Texts.{item_rows}
 use Rattle.gen_nftables.specs.Sections.{accepts}
 
 abbrev pub remark_row : List ℕ → Row
@@ -24,12 +23,6 @@ head_of f = record {
   priority = f.priority;
   accept = accepts f.ending;
 }
-
--- The table is added and deleted, and then made.
-abbrev pub table_body : Section → List Row
-table_body s = table_row (codes "add") s.families s.number
-    ∷ table_row (codes "delete") s.families s.number ∷ start_row s.families s.number
-    ∷ (chain_rows s.hook s.priority s.accept ++ (items_rows s.families s.items ++ end_rows))
 
 -- Numbers, each behind a comma and a space.
 abbrev pub other_numbers : List ℕ → List ℕ

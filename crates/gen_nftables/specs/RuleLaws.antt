@@ -1,10 +1,9 @@
 -- The rules of a chain that a sound rule gives are valid: proved here, and need not be believed.
-use Rattle.std.proofs.Common.{zero-le, ◌≡◌, ℕ, zero, suc, ◌+◌, ◌-◌, ◌≤◌, Bool, true, false, ◌&&◌, ◌||◌, ◌==◌, cond, nat_eq, nat_le, nat_lt, List, [], ◌∷◌, ◌++◌, map, Option, None, Some, IfSome, is_none, refl, ap, sym, ◌∙◌, arith}
+use Rattle.std.proofs.Common.{zero-le, add-zero, zero-add, lit≤, ◌≡◌, ℕ, zero, suc, ◌+◌, ◌-◌, ◌<◌, ◌≤◌, Bool, true, false, ◌&&◌, ◌||◌, ◌==◌, cond, nat_eq, nat_le, nat_lt, List, [], ◌∷◌, ◌++◌, map, Option, None, Some, IfSome, is_none, refl, ap, sym, subst, ◌∙◌}
 use Rattle.std.specs.List.{AllByRecursion, IsDistinct, list_any, range_with_len}
-use Rattle.std.proofs.lemmas.Bool.{and_from, false≢true, or_right}
-use Rattle.std.proofs.lemmas.Bool.Decides.{nat_tests}
+use Rattle.std.proofs.lemmas.Bool.{and_from, eqb-true, false_from_ne_true, false≢true, le-ltb, lt-leb, or_right}
 use Rattle.std.proofs.lemmas.Nat.{pow_pos}
-use Rattle.std.proofs.Math.Nat.{suc-le-suc_iff}
+use Rattle.std.proofs.Math.Nat.{add-le-add, add-sub_of_le, add-suc, add_assoc, le-add_right, le_refl, le_trans, not-suc-le_self, suc-add, suc-le-suc_iff}
 use Rattle.acl_packet.specs.declared.addresses.Families.{Families}
 use Rattle.acl_packet.specs.declared.addresses.Family.{Family}
 use Rattle.acl_packet.specs.declared.addresses.Family.TheVariants.{V4, V6}
@@ -57,17 +56,29 @@ named test s (Some n) h none only = (n, (refl, only n h.1))
 
 -- ---- addresses
 
+-- what is behind the end of a range does not begin before it
+none-before : (a b s : ℕ) → a + s ≤ b → nat_lt b (a + s) ≡ false
+none-before a b s h = le-ltb b (a + s) h
+
+after : (a b s : ℕ) → 1 ≤ s → a + s ≤ b → a < b
+after a b s h k = le_trans (subst (λ n. n ≤ a + s) (add-suc a 0 ∙ ap suc (add-zero a)) (add-le-add (le_refl a) h)) k
+
+neither : (p q : Bool) {r s : Bool} → r ≡ false → s ≡ false → ((p && r) || (s && q)) ≡ false
+neither true q {r = false} {s = false} h k = refl
+neither true q {r = true} {s = s} h k = absurd (false≢true (sym h))
+neither true q {r = false} {s = true} h k = absurd (false≢true (sym k))
+neither false q {r = r} {s = false} h k = refl
+neither false q {r = r} {s = true} h k = absurd (false≢true (sym k))
+
+apart-prefixes : (p q : Prefix) → p.first + size_of p ≤ q.first → prefixes_overlap p q ≡ false
+apart-prefixes p q h =
+    neither (nat_le p.first q.first) (nat_lt p.first (q.first + size_of q)) (none-before p.first q.first (size_of p) h)
+    (lt-leb q.first p.first (after p.first q.first (size_of p) (pow_pos (width_of p.family - p.len)) h))
+
 behind : (floor : ℕ) (ps : List Prefix) → IsInOrder floor ps → AllByRecursion (λ q. floor ≤ q.first) ps
 behind floor [] h = tt
 behind floor (p ∷ ps) h =
-    let low = h.0 in
-    (low, all-weaker (λ q l. omega (arith, low, l)) ps (behind (p.first + size_of p) ps h.1))
-
-apart-from : (a b s t : ℕ) → 1 ≤ s → a + s ≤ b → ((nat_le a b && nat_lt b (a + s)) || (nat_le b a && nat_lt a (b + t))) ≡ false
-apart-from a b s t h k = grind (arith, nat_tests)
-
-apart-prefixes : (p q : Prefix) → p.first + size_of p ≤ q.first → prefixes_overlap p q ≡ false
-apart-prefixes p q h = apart-from p.first q.first (size_of p) (size_of q) (pow_pos (width_of p.family - p.len)) h
+    (h.0, all-weaker (λ q l. le_trans h.0 (le_trans (le-add_right p.first (size_of p)) l)) ps (behind (p.first + size_of p) ps h.1))
 
 in-order-apart : (floor : ℕ) (ps : List Prefix) → IsInOrder floor ps → IsDistinct prefixes_overlap ps
 unfolding IsDistinct
@@ -91,15 +102,21 @@ addresses-set f ps h = record {
 abbrev ends : Range → ℕ × ℕ
 ends r = (r.low, r.high)
 
+-- what lies behind a range, with a number between, lies behind its low end
+past-range : (r : Range) {floor n : ℕ} → floor ≤ r.low → r.low ≤ r.high → r.high + 2 ≤ n → floor ≤ n
+past-range r h k l = le_trans (le_trans h k) (le_trans (le-add_right r.high 2) l)
+
 ports-behind : (floor top : ℕ) (rs : List Range) → IsNormal floor top rs → AllByRecursion (λ q. floor ≤ q.0) (map ends rs)
 ports-behind floor top [] h = tt
 ports-behind floor top (r ∷ rs) h =
-    let low = h.0 in
-    let both = h.1 in
-    (low, all-weaker (λ q l. omega (arith, low, both, l)) (map ends rs) (ports-behind (r.high + 2) top rs h.3))
+    (h.0, all-weaker (λ q l. past-range r h.0 h.1 l) (map ends rs) (ports-behind (r.high + 2) top rs h.3))
+
+none-second : (b : Bool) {c : Bool} → c ≡ false → (b && c) ≡ false
+none-second true h = h
+none-second false h = refl
 
 apart-ports : (a b : ℕ × ℕ) → a.1 + 2 ≤ b.0 → ports_overlap a b ≡ false
-apart-ports a b h = grind (arith, nat_tests)
+apart-ports a b h = none-second (nat_le a.0 b.1) (lt-leb b.0 a.1 (after a.1 b.0 2 (lit≤ tt) h))
 
 ranges-apart : (floor top : ℕ) (rs : List Range) → IsNormal floor top rs → IsDistinct ports_overlap (map ends rs)
 unfolding IsDistinct
@@ -121,26 +138,33 @@ ports-set s h = record { each = ports-are s h; apart = ports-apart s.ranges (is_
 abbrev IsRow : ℕ → List ℕ → Type 0
 IsRow floor ns = IsDistinct nat_eq ns × AllByRecursion (λ n. floor ≤ n) ns
 
-not-same : (a n : ℕ) → a + 1 ≤ n → nat_eq a n ≡ false
-not-same a n h = grind (arith, nat_tests)
+not-same : (a n : ℕ) → a < n → nat_eq a n ≡ false
+not-same a n h = false_from_ne_true (nat_eq a n) (λ e. not-suc-le_self n (subst (λ m. suc m ≤ n) (eqb-true a n e) h))
+
+turned : (a n : ℕ) → (a + 1) + n ≡ a + suc n
+turned a n = add_assoc a 1 n ∙ ap (λ m. a + m) (suc-add 0 n ∙ ap suc (zero-add n))
 
 row-apart : (a n : ℕ) (rest : List ℕ) → IsRow (a + n) rest → IsRow a (range_with_len a n ++ rest)
 unfolding IsDistinct
-row-apart a zero rest h = (h.0, all-weaker (λ m l. omega (arith, l)) rest h.1)
+row-apart a zero rest h = (h.0, all-weaker (λ m l. subst (λ k. k ≤ m) (add-zero a) l) rest h.1)
 row-apart a (suc n) rest h =
-    let more = row-apart (a + 1) n rest (h.0, all-weaker (λ m l. omega (arith, l)) rest h.1) in
+    let more = row-apart (a + 1) n rest (h.0, all-weaker (λ m l. subst (λ k. k ≤ m) (sym (turned a n)) l) rest h.1) in
     let later = range_with_len (a + 1) n ++ rest in
-    ((all-weaker (λ m l. not-same a m l) later more.1, more.0), (omega arith, all-weaker (λ m l. omega (arith, l)) later more.1))
+    ((all-weaker (λ m l. not-same a m (after a m 1 (le_refl 1) l)) later more.1, more.0),
+    (le_refl a, all-weaker (λ m l. le_trans (le-add_right a 1) l) later more.1))
+
+-- the end of a range, by its size
+end-is : (low high : ℕ) → low ≤ high → low + (high + 1 - low) ≡ high + 1
+end-is low high h = add-sub_of_le (le_trans h (le-add_right high 1))
 
 numbers-apart : (floor top : ℕ) (rs : List Range) → IsNormal floor top rs → IsRow floor (numbers_of rs)
 unfolding IsDistinct
 numbers-apart floor top [] h = (tt, tt)
 numbers-apart floor top (r ∷ rs) h =
     let more = numbers-apart (r.high + 2) top rs h.3 in
-    let low = h.0 in
-    let both = h.1 in
-    let here = row-apart r.low (r.high + 1 - r.low) (numbers_of rs) (more.0, all-weaker (λ m l. omega (arith, both, l)) (numbers_of rs) more.1) in
-    (here.0, all-weaker (λ m l. omega (arith, low, l)) (numbers_of (r ∷ rs)) here.1)
+    let here = row-apart r.low (r.high + 1 - r.low) (numbers_of rs) (more.0, all-weaker (λ m l.
+    subst (λ k. k ≤ m) (sym (end-is r.low r.high h.1)) (le_trans (add-le-add (le_refl r.high) (lit≤ tt)) l)) (numbers_of rs) more.1) in
+    (here.0, all-weaker (λ m l. le_trans h.0 l) (numbers_of (r ∷ rs)) here.1)
 
 types-apart : (rs : List Range) (b : Bool) → IsNormal 0 255 rs → IsDistinct nat_eq (numbers_of (cond b [] rs))
 unfolding IsDistinct

@@ -1,14 +1,19 @@
 -- The section of an accepted filter is a document, and documents whose tables have other names can be
 -- joined: proved here, and need not be believed.
-use Rattle.std.proofs.Common.{◌≡◌, ℕ, ◌^◌, Bool, true, false, ℤ, pos, negsuc, List, [], ◌∷◌, ◌++◌, map, flat_map, refl, ap, sym, ◌∙◌, arith}
+use Rattle.std.proofs.Common.{lit≤, ◌≡◌, ℕ, ◌^◌, Bool, true, false, nat_le, nat_lt, T, ℤ, pos, negsuc, List, [], ◌∷◌, ◌++◌, map, flat_map, refl, ap, sym, ◌∙◌}
 use Rattle.std.specs.List.{AllByRecursion, IsDistinct}
 use Rattle.std.specs.Str.{bytes_eq}
 use Rattle.std.proofs.lemmas.Bool.{lt-ltb}
-use Rattle.std.proofs.lemmas.Int.{ints}
+use Rattle.std.proofs.Math.Nat.{le_trans, suc-le-suc_iff}
 use Rattle.acl_packet.specs.declared.addresses.Families.{Families}
 use Rattle.acl_grammar.specs.Naming.{in_common}
+<<<<<<< HEAD
 use Rattle.acl_text.proofs.ListLaws.{all_append}
 use Rattle.acl_grammar.proofs.ListLaws.{all_flat}
+=======
+use Rattle.acl_grammar.proofs.DecisionLaws.{le_decides}
+use Rattle.acl_grammar.proofs.ListLaws.{all_append, all_flat}
+>>>>>>> 30230370dfbe7ed0b663dfacdd3b37a33484d0b1
 use Rattle.acl_target.specs.declared.targets.Kind.TheVariants.{Nftables}
 use Rattle.acl_target.specs.TargetData.{IsHooked, IsPriority}
 use Rattle.acl_platform.specs.declared.filters.Filter.{Filter}
@@ -56,19 +61,25 @@ rule-valid families verbose r h =
 
 -- ---- the section
 
+passed : (b : Bool) → T b → b ≡ true
+passed true h = refl
+passed false h = absurd h
+
+below : (n : ℕ) → T (nat_le n 32767) → nat_lt n (2 ^ 31) ≡ true
+below n h = lt-ltb n (2 ^ 31) (le_trans (suc-le-suc_iff.1 ((le_decides n 32767).0 (passed (nat_le n 32767) h))) (lit≤ tt))
+
 fits : (z : ℤ) → IsPriority z → fits_i32 z ≡ true
-fits (pos n) h = let most = h.1 in lt-ltb n (2 ^ 31) (omega (arith, ints, most))
-fits (negsuc n) h = let least = h.0 in lt-ltb n (2 ^ 31) (omega (arith, ints, least))
+fits (pos n) h = below n h.1.le
+fits (negsuc n) h = below n h.0.le
 
 pub section_is_spelled : (f : Filter) → IsTaken f → Spells (text_of (section_of f ∷ [])) (section_of f ∷ [])
 unfolding IsDistinct
 section_is_spelled f h =
-    let most = h.sound.target.1.number_to in
     record {
       valid = record {
         sections = (
           record {
-            number = omega (arith, most);
+            number = le_trans (suc-le-suc_iff.1 h.sound.target.1.number_to) (lit≤ tt);
             priority = fits f.priority (hooked-is f h).1.priority_is;
             items = all_flat (IsSoundRule Nftables f.families) (IsItem f.families) (rule_items f.verbose) (rule-valid f.families f.verbose) f.rules (sound-rules f h);
           },

@@ -2,15 +2,21 @@
 use Rattle.std.specs.Prelude.{◌≡◌, ◌≢◌, ◌≤◌, Bool, List, [], ◌∷◌, ◌++◌, map, flat_map, codes, AllPairs}
 use Rattle.std.specs.List.{AllByRecursion, IsDistinct}
 use Rattle.std.specs.Str.{bytes_eq}
-use Rattle.acl_grammar.specs.Rows.{text_of_rows}
+use Rattle.acl_grammar.specs.Rows.{Row, text_of_rows}
 use Rattle.acl_target.specs.declared.targets.Kind.TheVariants.{Nftables}
 use Rattle.acl_target.specs.TargetData.{IsTarget}
 use Rattle.acl_target.specs.TargetTexts.{target_text}
 use Rattle.acl_platform.specs.declared.filters.Filter.{Filter}
 use Rattle.acl_platform.specs.SoundFilters.{target_of}
-use Rattle.nft_lang.specs.Texts.{text_of}
-use Rattle.gen_nftables.specs.RowSteps.{table_body}
+use Rattle.nft_lang.specs.declared.documents.Section.{Section}
+use Rattle.nft_lang.specs.Texts.{chain_rows, end_rows, item_rows, start_row, table_row, text_of}
 use Rattle.gen_nftables.specs.Sections.{section_names, section_of}
+
+-- Behind the first line of a section the table is added and deleted, and then made.
+abbrev pub table_body : Section → List Row
+table_body s = table_row (codes "add") s.families s.number
+    ∷ table_row (codes "delete") s.families s.number ∷ start_row s.families s.number
+    ∷ (chain_rows s.hook s.priority s.accept ++ (flat_map (item_rows s.families) s.items ++ end_rows))
 
 -- A section is a line of `## ` and its target's text, and behind it the lines of its table.
 abbrev pub FirstLine : Type 0
