@@ -7,13 +7,9 @@ use Rattle.std.proofs.lemmas.Bool.{lt-ltb}
 use Rattle.std.proofs.Math.Nat.{le_trans, suc-le-suc_iff}
 use Rattle.acl_packet.specs.declared.addresses.Families.{Families}
 use Rattle.acl_grammar.specs.Naming.{in_common}
-<<<<<<< HEAD
-use Rattle.acl_text.proofs.ListLaws.{all_append}
-use Rattle.acl_grammar.proofs.ListLaws.{all_flat}
-=======
 use Rattle.acl_grammar.proofs.DecisionLaws.{le_decides}
-use Rattle.acl_grammar.proofs.ListLaws.{all_append, all_flat}
->>>>>>> 30230370dfbe7ed0b663dfacdd3b37a33484d0b1
+use Rattle.acl_grammar.proofs.ListLaws.{all_flat}
+use Rattle.acl_text.proofs.ListLaws.{all_append}
 use Rattle.acl_target.specs.declared.targets.Kind.TheVariants.{Nftables}
 use Rattle.acl_target.specs.TargetData.{IsHooked, IsPriority}
 use Rattle.acl_platform.specs.declared.filters.Filter.{Filter}
