@@ -1,5 +1,9 @@
-use crate::{Range, RangeSet, least_prefixes};
+ghost use Rattle.std.specs.Prelude.{◌≡◌, ◌+◌, ◌*◌, ◌<◌, ◌≤◌, IfOk};
+
+use crate::{Range, RangeSet, group_end, least_prefixes};
 use acl_packet::{Family, Prefix};
+use acl_text::Memory;
+use std::alloc::Global;
 use std::test::Fail;
 
 const V4_TOP: u128 = 0xffff_ffff;
@@ -24,6 +28,101 @@ fn v6(first: u128, len: u8) -> Prefix {
         first,
         len,
     }
+}
+
+/// So many single numbers, one in two from the first on, given in falling order.
+fn every_other(alloc: Global, top: u128, first: u128, count: u16) -> Result<RangeSet, Memory>
+    requires { first + 2 * count ≤ top }
+    ensures { IfOk result (λ s. s.top ≡ top) }
+{
+    let mut ranges = Vec::new(alloc);
+    for i in 0..count {
+        let x = first + 2 * u128::from(count - 1 - i);
+        ranges.push(Range { low: x, high: x })?;
+    }
+    RangeSet::from_ranges(alloc, top, &ranges)
+}
+
+fn has_bit(bits: u8, x: u8) -> bool
+    requires { x < 8 }
+{
+    bits >> x & 1 == 1
+}
+
+/// The numbers from 0 to 4 whose bits are set.
+fn small_set(alloc: Global, bits: u8) -> Result<RangeSet, Memory>
+    ensures { IfOk result (λ s. s.top ≡ 4) }
+{
+    let mut ranges = Vec::new(alloc);
+    for i in 0..5u8 {
+        if has_bit(bits, i) {
+            let x = u128::from(i);
+            ranges.push(Range { low: x, high: x })?;
+        }
+    }
+    RangeSet::from_ranges(alloc, 4, &ranges)
+}
+
+fn has_exactly(set: &RangeSet, bits: u8) -> bool {
+    (0..5u8).all(|x| set.contains(u128::from(x)) == has_bit(bits, x))
+}
+
+#[test]
+fn small_sets_number_by_number(rt: HostRuntime) -> Result<(), Fail> {
+    let alloc = rt.alloc();
+    for pair in 0..1024u16 {
+        let (a, b) = ((pair / 32) as u8, (pair % 32) as u8);
+        let (one, other) = (small_set(alloc, a)?, small_set(alloc, b)?);
+        let either = one.union(alloc, &other)?;
+        assert!(rt; has_exactly(&either, a | b), "{a} or {b}");
+        let both = one.intersect(alloc, &other)?;
+        assert!(rt; has_exactly(&both, a & b), "{a} and {b}");
+        let less = one.subtract(alloc, &other)?;
+        assert!(rt; has_exactly(&less, a & !b), "{a} without {b}");
+        assert_eq!(rt; one.subset_of(&other), a & !b == 0, "{a} in {b}");
+    }
+    Ok(())
+}
+
+#[test]
+fn long_lists(rt: HostRuntime) -> Result<(), Fail> {
+    let alloc = rt.alloc();
+    let even = every_other(alloc, V4_TOP, 0, 8192)?;
+    let odd = every_other(alloc, V4_TOP, 1, 8192)?;
+    let all = even.union(alloc, &odd)?;
+    assert_eq!(rt; all.ranges(), [range(0, 16383)].as_slice());
+
+    let inner = [Range {
+        low: 1,
+        high: 0xffff_fffe,
+    }];
+    let set = RangeSet::from_ranges(alloc, V4_TOP, &inner)?;
+    let list = least_prefixes(alloc, &set, Family::V4)?;
+    assert_eq!(rt; list.as_slice().len(), 62);
+    assert_eq!(rt; list.as_slice().first(), Some(&v4(1, 32)));
+    assert_eq!(rt; list.as_slice().last(), Some(&v4(0xffff_fffe, 32)));
+
+    let inner = [Range {
+        low: 1,
+        high: u128::MAX - 1,
+    }];
+    let set = RangeSet::from_ranges(alloc, u128::MAX, &inner)?;
+    let list = least_prefixes(alloc, &set, Family::V6)?;
+    assert_eq!(rt; list.as_slice().len(), 254);
+    Ok(())
+}
+
+#[test]
+fn groups_of_ports(rt: HostRuntime) -> Result<(), Fail> {
+    let alloc = rt.alloc();
+    let singles = every_other(alloc, 65535, 1, 14)?;
+    let last = [Range { low: 30, high: 39 }, Range { low: 50, high: 50 }];
+    let set = singles.union(alloc, &RangeSet::from_ranges(alloc, 65535, &last)?)?;
+    assert_eq!(rt; set.ranges().len(), 16);
+    assert_eq!(rt; group_end(&set, 0, 15), 14);
+    let from = set.ranges().len().min(14);
+    assert_eq!(rt; group_end(&set, from, 15), 16);
+    Ok(())
 }
 
 #[test]
