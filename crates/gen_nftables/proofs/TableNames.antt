@@ -22,7 +22,6 @@ use Rattle.acl_platform.specs.declared.filters.Filter.{Filter}
 use Rattle.acl_platform.specs.SoundFilters.{target_of}
 use Rattle.nft_lang.specs.Documents.{table_name}
 use Rattle.nft_lang.specs.Texts.{head_rows, section_rows, target_row, text_of}
-
 use Rattle.gen_nftables.specs.SectionNames.{FirstLine, table_body, TablesDiffer}
 use Rattle.gen_nftables.specs.Sections.{section_names, section_of}
 

@@ -148,9 +148,10 @@ unfolding IsDistinct
 row-apart a zero rest h = (h.0, all-weaker (λ m l. subst (λ k. k ≤ m) (add-zero a) l) rest h.1)
 row-apart a (suc n) rest h =
     let more = row-apart (a + 1) n rest (h.0, all-weaker (λ m l. subst (λ k. k ≤ m) (sym (turned a n)) l) rest h.1) in
-    let later = range_with_len (a + 1) n ++ rest in
-    ((all-weaker (λ m l. not-same a m (after a m 1 (le_refl 1) l)) later more.1, more.0),
-    (le_refl a, all-weaker (λ m l. le_trans (le-add_right a 1) l) later more.1))
+    let later = range_with_len (a + 1) n ++ rest in (
+      (all-weaker (λ m l. not-same a m (after a m 1 (le_refl 1) l)) later more.1, more.0),
+      (le_refl a, all-weaker (λ m l. le_trans (le-add_right a 1) l) later more.1),
+    )
 
 -- the end of a range, by its size
 end-is : (low high : ℕ) → low ≤ high → low + (high + 1 - low) ≡ high + 1
@@ -161,8 +162,11 @@ unfolding IsDistinct
 numbers-apart floor top [] h = (tt, tt)
 numbers-apart floor top (r ∷ rs) h =
     let more = numbers-apart (r.high + 2) top rs h.3 in
-    let here = row-apart r.low (r.high + 1 - r.low) (numbers_of rs) (more.0, all-weaker (λ m l.
-    subst (λ k. k ≤ m) (sym (end-is r.low r.high h.1)) (le_trans (add-le-add (le_refl r.high) (lit≤ tt)) l)) (numbers_of rs) more.1) in
+    let here = row-apart r.low (r.high + 1 - r.low) (numbers_of rs) (
+      more.0,
+      all-weaker (λ m l.
+          subst (λ k. k ≤ m) (sym (end-is r.low r.high h.1)) (le_trans (add-le-add (le_refl r.high) (lit≤ tt)) l)) (numbers_of rs) more.1,
+    ) in
     (here.0, all-weaker (λ m l. le_trans h.0 l) (numbers_of (r ∷ rs)) here.1)
 
 types-apart : (rs : List Range) (b : Bool) → IsNormal 0 255 rs → IsDistinct nat_eq (numbers_of (cond b [] rs))
