@@ -101,16 +101,6 @@ fn rule(
     })
 }
 
-// Each line with a line feed behind it.
-fn text_of(alloc: Global, lines: &[&[u8]]) -> Result<Whole, PutFault> {
-    let mut text = Whole::new(alloc);
-    for line in lines {
-        text.put(line)?;
-        text.put(b"\n")?;
-    }
-    Ok(text)
-}
-
 // The lines that were put; whether each put was within one line.
 #[derive(Drop)]
 struct Lines {
@@ -146,39 +136,46 @@ impl Out for Lines {
     ghost rest_goes_on = { λ x y z h k. tt };
 }
 
-// Rules of both families: a list of ports for two protocols, types, flags, states and logs.
-fn rules(alloc: Global) -> Result<Rules, Memory>
-    ensures { IfOk result (All IsSized) }
+// From two prefixes to the port of names, by two protocols: refused and logged.
+fn dns(alloc: Global) -> Result<Rule, Memory>
+    ensures { IfOk result IsSized }
 {
-    let mut dns = rule(
+    let ports = [
+        one(53),
+        Range {
+            low: 853,
+            high: 854,
+        },
+    ];
+    let mut rule = rule(
         alloc,
         b"dns",
         Family::V4,
         &[one(6), one(17)],
-        &[
-            one(53),
-            Range {
-                low: 853,
-                high: 854,
-            },
-        ],
+        &ports,
         Test::Plain,
     )?;
-    dns.note = Bytes::from_slice(alloc, b"Not ours.")?;
-    dns.src = Prefixes::new(alloc);
-    dns.src.push(Prefix {
+    rule.note = Bytes::from_slice(alloc, b"Not ours.")?;
+    rule.src = Prefixes::new(alloc);
+    rule.src.push(Prefix {
         family: Family::V4,
         first: 0x0a00_0000,
         len: 8,
     })?;
-    dns.src.push(Prefix {
+    rule.src.push(Prefix {
         family: Family::V4,
         first: 0xc000_0200,
         len: 24,
     })?;
-    dns.log = true;
-    dns.verdict = Verdict::Reject;
-    let mut ping = rule(alloc, b"ping", Family::V6, &[one(58)], &[ALL], Test::State)?;
+    rule.log = true;
+    rule.verdict = Verdict::Reject;
+    Ok(rule)
+}
+
+// Three types of a known connection.
+fn ping(alloc: Global) -> Result<Rule, Memory>
+    ensures { IfOk result IsSized }
+{
     let types = [
         Range {
             low: 128,
@@ -186,8 +183,15 @@ fn rules(alloc: Global) -> Result<Rules, Memory>
         },
         one(135),
     ];
-    ping.itypes = RangeSet::from_ranges(alloc, 255, &types)?;
-    let mut syn = rule(
+    let mut rule = rule(alloc, b"ping", Family::V6, &[one(58)], &[ALL], Test::State)?;
+    rule.itypes = RangeSet::from_ranges(alloc, 255, &types)?;
+    Ok(rule)
+}
+
+fn syn(alloc: Global) -> Result<Rule, Memory>
+    ensures { IfOk result IsSized }
+{
+    let mut rule = rule(
         alloc,
         b"syn",
         Family::V4,
@@ -195,68 +199,15 @@ fn rules(alloc: Global) -> Result<Rules, Memory>
         &[ALL],
         Test::SynNotAck,
     )?;
-    syn.verdict = Verdict::Reset;
-    let protos = [Range { low: 0, high: 255 }];
-    let mut rest = rule(alloc, b"rest", Family::V6, &protos, &[ALL], Test::Plain)?;
-    rest.verdict = Verdict::Deny;
-    let mut rules = Rules::new(alloc);
-    rules.push(dns)?;
-    rules.push(ping)?;
-    rules.push(syn)?;
-    rules.push(rest)?;
-    Ok(rules)
+    rule.verdict = Verdict::Reset;
+    Ok(rule)
 }
 
-#[test]
-fn writes_every_part_of_a_rule(rt: HostRuntime) -> Result<(), Fail> {
-    let alloc = rt.alloc();
-    let rules = rules(alloc)?;
-    let mut edge = filter(alloc, b"forward", Hook::Forward, Families::Mixed, 7, rules)?;
-    edge.ending = Ending::Accept;
-    edge.priority = -5;
-    let mut out = Whole::new(alloc);
-    put_section(&edge, &mut out)?;
-    let lines: &[&[u8]] = &[
-        b"## nftables forward mixed",
-        b"add table inet aclgen_7",
-        b"delete table inet aclgen_7",
-        b"table inet aclgen_7 {",
-        b"    chain forward {",
-        b"        type filter hook forward priority -5; policy accept;",
-        b"        # dns",
-        b"        # Not ours.",
-        b"        meta nfproto ipv4 meta l4proto 6 ip saddr { 10.0.0.0/8, 192.0.2.0/24 } tcp dport { 53, 853-854 } log reject",
-        b"        meta nfproto ipv4 meta l4proto 17 ip saddr { 10.0.0.0/8, 192.0.2.0/24 } udp dport { 53, 853-854 } log reject",
-        b"        # ping",
-        b"        meta nfproto ipv6 meta l4proto 58 icmpv6 type { 128, 129, 135 } ct state { established, related } accept",
-        b"        # syn",
-        b"        meta nfproto ipv4 meta l4proto 6 tcp flags & (syn | ack) == syn reject with tcp reset",
-        b"        # rest",
-        b"        meta nfproto ipv6 drop",
-        b"    }",
-        b"}",
-    ];
-    assert_eq!(rt; out.as_slice(), text_of(alloc, lines)?.as_slice());
-    assert_eq!(rt; entry_count(&edge), 16);
-    let mut lines = Lines {
-        count: 0,
-        within: true,
-    };
-    put_section(&edge, &mut lines)?;
-    assert_eq!(rt; lines.count, 18);
-    assert!(rt; lines.within);
-    edge.verbose = false;
-    put_section(&edge, &mut lines)?;
-    assert_eq!(rt; lines.count, 31);
-    assert_eq!(rt; entry_count(&edge), 16);
-    Ok(())
-}
-
-// To port 80 of a host, as most policies have it.
-#[test]
-fn writes_a_rule_of_one_port(rt: HostRuntime) -> Result<(), Fail> {
-    let alloc = rt.alloc();
-    let mut web = rule(
+// To port 80 of a host.
+fn web(alloc: Global) -> Result<Rule, Memory>
+    ensures { IfOk result IsSized }
+{
+    let mut rule = rule(
         alloc,
         b"web",
         Family::V4,
@@ -264,59 +215,146 @@ fn writes_a_rule_of_one_port(rt: HostRuntime) -> Result<(), Fail> {
         &[one(80)],
         Test::Plain,
     )?;
-    web.dst = Prefixes::new(alloc);
-    web.dst.push(Prefix {
+    rule.dst = Prefixes::new(alloc);
+    rule.dst.push(Prefix {
         family: Family::V4,
         first: 0xc000_020a,
         len: 32,
     })?;
-    let mut rules = Rules::new(alloc);
-    rules.push(web)?;
-    let own = filter(alloc, b"input", Hook::Input, Families::Inet, 1, rules)?;
-    let mut out = Whole::new(alloc);
-    put_section(&own, &mut out)?;
-    let lines: &[&[u8]] = &[
-        b"## nftables input inet",
-        b"add table ip aclgen_1",
-        b"delete table ip aclgen_1",
-        b"table ip aclgen_1 {",
-        b"    chain input {",
-        b"        type filter hook input priority 0; policy drop;",
-        b"        # web",
-        b"        meta l4proto 6 ip daddr { 192.0.2.10/32 } tcp dport { 80 } accept",
-        b"    }",
-        b"}",
-    ];
-    assert_eq!(rt; out.as_slice(), text_of(alloc, lines)?.as_slice());
-    assert_eq!(rt; entry_count(&own), 3);
-    Ok(())
+    Ok(rule)
 }
 
-#[test]
-fn writes_prefixes_and_counts_them(rt: HostRuntime) -> Result<(), Fail> {
-    let alloc = rt.alloc();
+// From some prefixes, with all protocols.
+fn from(alloc: Global, family: Family, src: Prefixes) -> Result<Rule, Memory>
+    ensures { IfOk result IsSized }
+{
     let protos = [Range { low: 0, high: 255 }];
-    let mut rule = rule(alloc, b"a", Family::V6, &protos, &[ALL], Test::Plain)?;
-    // All addresses but the last.
-    rule.src = Prefixes::new(alloc);
+    let mut rule = rule(alloc, b"a", family, &protos, &[ALL], Test::Plain)?;
+    rule.src = src;
+    Ok(rule)
+}
+
+// All addresses of IPv6 but the last.
+fn all_but_the_last(alloc: Global) -> Result<Prefixes, Memory> {
+    let mut prefixes = Prefixes::new(alloc);
     for len in 1u8..=128 {
         let first = u128::MAX.checked_shl(129 - u32::from(len)).unwrap_or(0);
-        rule.src.push(Prefix {
+        prefixes.push(Prefix {
             family: Family::V6,
             first,
             len,
         })?;
     }
+    Ok(prefixes)
+}
+
+fn every_second_host(alloc: Global, count: u32) -> Result<Prefixes, Memory> {
+    let mut prefixes = Prefixes::new(alloc);
+    for place in 0..count {
+        prefixes.push(Prefix {
+            family: Family::V4,
+            first: u128::from(place) * 2,
+            len: 32,
+        })?;
+    }
+    Ok(prefixes)
+}
+
+const EDGE: &str = "## nftables forward mixed
+add table inet aclgen_7
+delete table inet aclgen_7
+table inet aclgen_7 {
+    chain forward {
+        type filter hook forward priority -5; policy accept;
+        # dns
+        # Not ours.
+        meta nfproto ipv4 meta l4proto 6 ip saddr { 10.0.0.0/8, 192.0.2.0/24 } tcp dport { 53, 853-854 } log reject
+        meta nfproto ipv4 meta l4proto 17 ip saddr { 10.0.0.0/8, 192.0.2.0/24 } udp dport { 53, 853-854 } log reject
+        # ping
+        meta nfproto ipv6 meta l4proto 58 icmpv6 type { 128, 129, 135 } ct state { established, related } accept
+        # syn
+        meta nfproto ipv4 meta l4proto 6 tcp flags & (syn | ack) == syn reject with tcp reset
+    }
+}
+";
+
+#[test]
+fn writes_every_part_of_a_rule(rt: HostRuntime) -> Result<(), Fail> {
+    let alloc = rt.alloc();
     let mut rules = Rules::new(alloc);
-    rules.push(rule)?;
+    rules.push(dns(alloc)?)?;
+    rules.push(ping(alloc)?)?;
+    rules.push(syn(alloc)?)?;
+    let mut edge = filter(alloc, b"forward", Hook::Forward, Families::Mixed, 7, rules)?;
+    edge.ending = Ending::Accept;
+    edge.priority = -5;
+    let mut out = Whole::new(alloc);
+    put_section(&edge, &mut out)?;
+    assert_eq!(rt; out.as_slice(), EDGE.as_bytes());
+    assert_eq!(rt; entry_count(&edge), 15);
+    let mut lines = Lines {
+        count: 0,
+        within: true,
+    };
+    put_section(&edge, &mut lines)?;
+    assert_eq!(rt; lines.count, 16);
+    edge.verbose = false;
+    put_section(&edge, &mut lines)?;
+    assert_eq!(rt; lines.count, 28);
+    assert!(rt; lines.within);
+    assert_eq!(rt; entry_count(&edge), 15);
+    Ok(())
+}
+
+const WEB: &str = "## nftables input inet
+add table ip aclgen_1
+delete table ip aclgen_1
+table ip aclgen_1 {
+    chain input {
+        type filter hook input priority 0; policy drop;
+        # web
+        meta l4proto 6 ip daddr { 192.0.2.10/32 } tcp dport { 80 } accept
+    }
+}
+";
+
+#[test]
+fn writes_a_rule_of_one_port(rt: HostRuntime) -> Result<(), Fail> {
+    let alloc = rt.alloc();
+    let mut rules = Rules::new(alloc);
+    rules.push(web(alloc)?)?;
+    let own = filter(alloc, b"input", Hook::Input, Families::Inet, 1, rules)?;
+    let mut out = Whole::new(alloc);
+    put_section(&own, &mut out)?;
+    assert_eq!(rt; out.as_slice(), WEB.as_bytes());
+    assert_eq!(rt; entry_count(&own), 3);
+    Ok(())
+}
+
+const FRONT: &str = "## nftables input inet6
+add table ip6 aclgen_1
+delete table ip6 aclgen_1
+table ip6 aclgen_1 {
+    chain input {
+        type filter hook input priority 0; policy drop;
+        # a
+        ip6 saddr { ::/1, 8000::/2, c000::/3, ";
+
+const BACK: &str = ", ffff:ffff:ffff:ffff:ffff:ffff:ffff:fffe/128 } accept
+    }
+}
+";
+
+#[test]
+fn writes_prefixes_and_counts_them(rt: HostRuntime) -> Result<(), Fail> {
+    let alloc = rt.alloc();
+    let mut rules = Rules::new(alloc);
+    rules.push(from(alloc, Family::V6, all_but_the_last(alloc)?)?)?;
     let own = filter(alloc, b"input", Hook::Input, Families::Inet6, 1, rules)?;
     let mut out = Whole::new(alloc);
     put_section(&own, &mut out)?;
-    let front: &[u8] =
-        b"## nftables input inet6\nadd table ip6 aclgen_1\ndelete table ip6 aclgen_1\ntable ip6 aclgen_1 {\n    chain input {\n        type filter hook input priority 0; policy drop;\n        # a\n        ip6 saddr { ::/1, 8000::/2, c000::/3, ";
-    let end: &[u8] = b", ffff:ffff:ffff:ffff:ffff:ffff:ffff:fffe/128 } accept\n    }\n}\n";
-    assert!(rt; out.as_slice().starts_with(front));
-    assert!(rt; out.as_slice().ends_with(end));
+    assert!(rt; out.as_slice().starts_with(FRONT.as_bytes()));
+    assert!(rt; out.as_slice().ends_with(BACK.as_bytes()));
     assert_eq!(rt; entry_count(&own), 129);
     Ok(())
 }
@@ -324,26 +362,36 @@ fn writes_prefixes_and_counts_them(rt: HostRuntime) -> Result<(), Fail> {
 #[test]
 fn takes_as_many_entries_as_a_device_is_given(rt: HostRuntime) -> Result<(), Fail> {
     let alloc = rt.alloc();
-    let mut many = rule(alloc, b"a", Family::V4, &[one(6)], &[ALL], Test::Plain)?;
-    many.src = Prefixes::new(alloc);
-    for place in 0u32..99_999 {
-        many.src.push(Prefix {
-            family: Family::V4,
-            first: u128::from(place) * 2,
-            len: 32,
-        })?;
-    }
     let mut rules = Rules::new(alloc);
-    rules.push(many)?;
+    rules.push(from(alloc, Family::V4, every_second_host(alloc, 99_998)?)?)?;
     let mut own = filter(alloc, b"input", Hook::Input, Families::Inet, 1, rules)?;
+    own.rules.push(syn(alloc)?)?;
     assert_eq!(rt; count_in_limit(entry_count(&own)), Ok(100_000));
-    own.rules.push(rule(alloc, b"b", Family::V4, &[one(6)], &[ALL], Test::Plain)?)?;
+    own.rules.push(syn(alloc)?)?;
     assert_eq!(rt;
         count_in_limit(entry_count(&own)),
         Err(Limit::TooManyEntries)
     );
     Ok(())
 }
+
+const EMPTY: &str = "## nftables input inet
+add table ip aclgen_1
+delete table ip aclgen_1
+table ip aclgen_1 {
+    chain input {
+        type filter hook input priority 0; policy drop;
+    }
+}
+## nftables forward mixed
+add table inet aclgen_2
+delete table inet aclgen_2
+table inet aclgen_2 {
+    chain forward {
+        type filter hook forward priority 0; policy drop;
+    }
+}
+";
 
 #[test]
 fn writes_one_section_after_another(rt: HostRuntime) -> Result<(), Fail> {
@@ -367,25 +415,7 @@ fn writes_one_section_after_another(rt: HostRuntime) -> Result<(), Fail> {
     assert_eq!(rt; Nftables.check(&own), Ok(0));
     let mut out = Whole::new(alloc);
     write_all(&Nftables, &[own, routed], &mut out)?;
-    let lines: &[&[u8]] = &[
-        b"## nftables input inet",
-        b"add table ip aclgen_1",
-        b"delete table ip aclgen_1",
-        b"table ip aclgen_1 {",
-        b"    chain input {",
-        b"        type filter hook input priority 0; policy drop;",
-        b"    }",
-        b"}",
-        b"## nftables forward mixed",
-        b"add table inet aclgen_2",
-        b"delete table inet aclgen_2",
-        b"table inet aclgen_2 {",
-        b"    chain forward {",
-        b"        type filter hook forward priority 0; policy drop;",
-        b"    }",
-        b"}",
-    ];
-    assert_eq!(rt; out.as_slice(), text_of(alloc, lines)?.as_slice());
+    assert_eq!(rt; out.as_slice(), EMPTY.as_bytes());
     let doc = read(alloc, out.as_slice())?;
     assert_eq!(rt; doc.map(|doc| sections(&doc)), Some(2));
     Ok(())
