@@ -233,6 +233,60 @@ fn each_platform_has_its_file(rt: HostRuntime) -> Result<(), Fail> {
     Ok(())
 }
 
+const EDGE_NETWORKS: &[u8] =
+    b"RFC1918 = 10.0.0.0/8 172.16.0.0/12 192.168.0.0/16\nBOGON = RFC1918 127.0.0.0/8 fc00::/7\nWEB = 192.0.2.10/32 192.0.2.11/32 2001:db8::10/128\nDNS = 192.0.2.53\n";
+
+const EDGE_SERVICES: &[u8] =
+    b"HTTP = 80/tcp\nHTTPS = 443/tcp\nWEB-SVC = HTTP HTTPS\nDNS-SVC = 53/tcp 53/udp\n";
+
+const EDGE_POLICY: &[u8] = b"header {
+  target:: cisco edge-in extended
+  target:: juniper edge-in inet
+}
+#include 'inc/common.inc'
+header { target:: nftables mixed input }
+#include 'inc/common.inc'
+";
+
+const EDGE_TERMS: &[u8] =
+    b"term block-bogon { comment:: \"Not ours.\" source-address:: BOGON action:: deny }
+term established { protocol:: tcp udp option:: established action:: accept }
+term dns { destination-address:: DNS destination-port:: DNS-SVC protocol:: udp tcp action:: accept }
+term web { destination-address:: WEB destination-port:: WEB-SVC protocol:: tcp action:: accept }
+term default-deny { logging:: true action:: deny }
+";
+
+const EDGE_REPORT: &[u8] = b"out/edge.acl: cisco edge-in extended: entries 11
+out/edge.jcl: juniper edge-in inet: entries 21
+out/edge.nft: nftables input mixed: entries 27
+";
+
+// What is written of an edge policy with its terms in an included file is read back as one section for each target.
+#[test]
+fn an_edge_policy_is_read_back(rt: HostRuntime) -> Result<(), Fail> {
+    let alloc = rt.alloc();
+    let mut tree = MemTree::new(alloc);
+    tree.put_file("def/n.net", EDGE_NETWORKS)?;
+    tree.put_file("def/s.svc", EDGE_SERVICES)?;
+    tree.put_file("pol/edge.pol", EDGE_POLICY)?;
+    tree.put_file("pol/inc/common.inc", EDGE_TERMS)?;
+    let mut out = MemSink::new(alloc);
+    let mut err = MemSink::new(alloc);
+    let mut clock = FixedClock::new(Day { number: 20468 }, true);
+    let words = words(alloc, "pol/edge.pol", "2026-01-15")?;
+    let words = words.as_slice();
+    let ended = aclgen(alloc, words, &mut tree, &mut out, &mut err, &mut clock);
+    assert_eq!(rt; status_of(&ended), 0);
+    assert_eq!(rt; out.as_slice(), EDGE_REPORT);
+    let lists = cisco_lang::read(alloc, tree.file("out/edge.acl").unwrap_or(b""))?;
+    assert_eq!(rt; lists.map(|doc| cisco_lang::sections(&doc)), Some(1));
+    let filters = junos_lang::read(alloc, tree.file("out/edge.jcl").unwrap_or(b""))?;
+    assert_eq!(rt; filters.map(|doc| junos_lang::sections(&doc)), Some(1));
+    let chains = nft_lang::read(alloc, tree.file("out/edge.nft").unwrap_or(b""))?;
+    assert_eq!(rt; chains.map(|doc| nft_lang::sections(&doc)), Some(1));
+    Ok(())
+}
+
 const PLAIN_POLICY: &[u8] =
     b"header { target:: cisco edge extended }\nterm t { action:: accept }\n";
 
