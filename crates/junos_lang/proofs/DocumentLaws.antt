@@ -1,9 +1,9 @@
 -- What is written of a document is read again.
-use Rattle.std.proofs.Common.{◌≡◌, ℕ, ◌-◌, ◌^◌, ◌<◌, ◌≤◌, Bool, true, false, cond, ◌==◌, List, [], ◌∷◌, ◌++◌, length, take, map, flat_map, codes, Option, None, Some, inl, inr, refl, ap, sym, subst, ◌∙◌, append_assoc, append-nil, arith}
+use Rattle.std.proofs.Common.{◌≡◌, ℕ, ◌-◌, ◌<◌, ◌≤◌, Bool, true, false, List, [], ◌∷◌, ◌++◌, length, take, map, flat_map, codes, Option, None, Some, refl, ap, sym, subst, ◌∙◌, append_assoc, append-nil, arith}
 use Rattle.std.specs.Fmt.{decimal}
 use Rattle.std.specs.List.{fold, join_with_byte, AllByRecursion}
 use Rattle.std.proofs.Math.Seq.{take-append_seam}
-use Rattle.std.proofs.lemmas.Bool.{eqb-true, false≢true, and_parts}
+use Rattle.std.proofs.lemmas.Bool.{false≢true, and_parts}
 use Rattle.std.proofs.lemmas.List.{length-append}
 use Rattle.std.proofs.lemmas.List.Splits.{join_with_byte-slice_split}
 use Rattle.std.proofs.lemmas.List.Sums.{fold-append}
@@ -13,13 +13,12 @@ use Rattle.acl_packet.specs.declared.addresses.Prefix.{Prefix}
 use Rattle.acl_packet.specs.declared.filtering.Verdict.{Verdict}
 use Rattle.acl_packet.specs.declared.filtering.Verdict.TheVariants.{Accept, Deny, Reject, Reset, Left}
 use Rattle.acl_packet.specs.Decimals.{number_in, digits_in}
-use Rattle.acl_packet.proofs.DecimalLaws.{decimal-number, number-again}
+use Rattle.acl_packet.proofs.DecimalLaws.{number-again}
 use Rattle.acl_text.specs.AddressTexts.{prefix_text, spelled_prefix_in}
 use Rattle.acl_text.specs.OptionSteps.{◌>>=◌}
 use Rattle.acl_text.specs.PortRanges.{ports_in, port_in, port_pair_in}
 use Rattle.acl_text.proofs.AddressLaws.{prefix-lacks, spelled-again}
 use Rattle.acl_text.proofs.CutLaws.{cut-again}
-use Rattle.acl_text.proofs.PortLaws.{ports-again}
 use Rattle.acl_text.proofs.Printed.{IsForeign}
 use Rattle.acl_grammar.specs.PortRanges.{IsPortRange}
 use Rattle.acl_grammar.specs.Rows.{Row, row, words_in}

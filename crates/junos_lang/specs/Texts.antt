@@ -3,7 +3,7 @@
 -- for Configuring Firewall Filters", "Firewall Filter Match Conditions for IPv4 Traffic" and "for IPv6
 -- Traffic", "Firewall Filter Terminating Actions" and "Firewall Filter Nonterminating Actions";
 -- Junos CLI User Guide, "load" (what `replace:` means) and "Add Comments in a Device Configuration".
-use Rattle.std.specs.Prelude.{◌≡◌, ℕ, Bool, true, false, ◌==◌, if◌then◌else◌, List, [], ◌∷◌, ◌++◌, map, flat_map, codes, Option, None, Some}
+use Rattle.std.specs.Prelude.{ℕ, Bool, true, false, List, [], ◌∷◌, ◌++◌, map, flat_map, codes, Option, None, Some}
 use Rattle.std.specs.Fmt.{decimal}
 use Rattle.acl_packet.specs.declared.addresses.Family.{Family}
 use Rattle.acl_packet.specs.declared.addresses.Family.TheVariants.{V4, V6}

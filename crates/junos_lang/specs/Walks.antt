@@ -3,7 +3,7 @@
 -- Firewall Filters Evaluate Packets" (terms in order, the first whose conditions all hold decides; a
 -- term without a `from` part holds every packet; the implicit discard at the end of a filter) and
 -- "Firewall Filter Match Conditions Based on Bit-Field Values" (`tcp-established`, `tcp-initial`).
-use Rattle.std.specs.Prelude.{ℕ, Bool, true, not, ◌&&◌, ◌||◌, ◌==◌, nat_le, if◌then◌else◌, List, [], ◌∷◌, Option, None, Some, slice_get, option_and_then}
+use Rattle.std.specs.Prelude.{ℕ, Bool, true, not, ◌&&◌, ◌||◌, ◌==◌, nat_le, if◌then◌else◌, List, [], ◌∷◌, Option, None, Some}
 use Rattle.std.specs.List.{list_any}
 use Rattle.acl_packet.specs.declared.addresses.Prefix.{Prefix}
 use Rattle.acl_packet.specs.declared.packets.Packet.{Packet}

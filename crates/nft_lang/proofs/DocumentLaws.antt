@@ -1,5 +1,5 @@
 -- What is written of a document is read again.
-use Rattle.std.proofs.Common.{◌≡◌, ℕ, suc, ◌-◌, ◌^◌, ◌<◌, Bool, true, false, cond, not, ◌==◌, ◌&&◌, ℤ, pos, negsuc, List, [], ◌∷◌, ◌++◌, flat_map, codes, Option, None, Some, option_map, option_and_then, unwrap_or, refl, ap, sym, subst, ◌∙◌, append_assoc, append-nil, arith}
+use Rattle.std.proofs.Common.{◌≡◌, ℕ, suc, ◌-◌, ◌^◌, ◌<◌, Bool, true, false, cond, not, ◌==◌, ℤ, pos, negsuc, List, [], ◌∷◌, ◌++◌, flat_map, codes, None, Some, option_map, option_and_then, unwrap_or, refl, ap, sym, subst, ◌∙◌, arith}
 use Rattle.std.specs.Fmt.{decimal, signed_decimal}
 use Rattle.std.specs.List.{fold, AllByRecursion, join_with_byte}
 use Rattle.std.specs.Option.{option_map_or}
@@ -13,7 +13,7 @@ use Rattle.acl_packet.specs.declared.filtering.Hook.{Hook}
 use Rattle.acl_packet.specs.declared.filtering.Hook.TheVariants.{Input, Output, Forward}
 use Rattle.acl_packet.specs.Decimals.{number_in}
 use Rattle.acl_packet.proofs.DecimalLaws.{number-again}
-use Rattle.acl_text.specs.Cuts.{behind, has_byte}
+use Rattle.acl_text.specs.Cuts.{has_byte}
 use Rattle.acl_text.specs.SignedNumbers.{negative, below_zero_in, from_zero_in, signed_in}
 use Rattle.acl_text.proofs.CutLaws.{behind-again}
 use Rattle.acl_text.proofs.DigitLaws.{decimal-lacks}
@@ -26,7 +26,7 @@ use Rattle.nft_lang.specs.declared.documents.Item.TheVariants.{Remark, Rule as A
 use Rattle.nft_lang.specs.declared.document_drafts.DocumentDraft.{DocumentDraft}
 use Rattle.nft_lang.specs.Documents.{IsItem, IsSection, fits_i32, table_name}
 use Rattle.nft_lang.specs.Texts.{hook_word, families_word, policy_word, priority_word, rule_words, item_rows, head_rows, end_rows, section_rows, Spells}
-use Rattle.nft_lang.specs.ReadingSteps.{no_section, no_draft, up_to, hook_in, families_in, table_in, priority_in, rule_in, item_in, with_item, take_four, take_outer, take_chain, take_inner, take_row, document_in}
+use Rattle.nft_lang.specs.ReadingSteps.{no_section, no_draft, hook_in, families_in, table_in, priority_in, rule_in, item_in, with_item, take_four, take_outer, take_chain, take_inner, take_row, document_in}
 use Rattle.nft_lang.proofs.RuleReadingLaws.{rule_again, up_to_there}
 use Rattle.nft_lang.proofs.SafeRows.{plain_word, BeginsRule, rule_begins, signed_lacks, sections_safe}
 

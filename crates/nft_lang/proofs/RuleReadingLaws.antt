@@ -1,9 +1,9 @@
 -- What is written of a rule is read again.
-use Rattle.std.proofs.Common.{◌≡◌, ℕ, ◌^◌, ◌<◌, ◌≤◌, Bool, true, false, cond, ◌==◌, ◌&&◌, List, [], ◌∷◌, ◌++◌, map, codes, Option, None, Some, IfSome, inl, inr, refl, ap, sym, subst, ◌∙◌, append_assoc, append-nil, arith}
+use Rattle.std.proofs.Common.{◌≡◌, ℕ, ◌≤◌, Bool, true, false, cond, ◌==◌, ◌&&◌, List, [], ◌∷◌, ◌++◌, map, codes, Option, None, Some, IfSome, refl, ap, sym, ◌∙◌, append_assoc, append-nil, arith}
 use Rattle.std.specs.Fmt.{decimal}
 use Rattle.std.specs.List.{fold, AllByRecursion}
 use Rattle.std.specs.Option.{option_map_or}
-use Rattle.std.proofs.lemmas.Bool.{false≢true, eqb-true, and_parts}
+use Rattle.std.proofs.lemmas.Bool.{false≢true, and_parts}
 use Rattle.std.proofs.lemmas.List.Sums.{fold-append}
 use Rattle.acl_packet.specs.declared.addresses.Family.{Family}
 use Rattle.acl_packet.specs.declared.addresses.Family.TheVariants.{V4, V6}
@@ -14,16 +14,15 @@ use Rattle.acl_packet.specs.declared.filtering.Verdict.{Verdict}
 use Rattle.acl_packet.specs.declared.filtering.Verdict.TheVariants.{Accept, Deny, Reject, Reset, Left}
 use Rattle.acl_packet.specs.Addresses.{covers}
 use Rattle.acl_packet.specs.Decimals.{number_in, digits_in}
-use Rattle.acl_packet.proofs.DecimalLaws.{decimal-number, number-again}
+use Rattle.acl_packet.proofs.DecimalLaws.{number-again}
 use Rattle.acl_text.specs.Ipv4.{ipv4_in}
 use Rattle.acl_text.specs.Ipv6.{ipv6_in, side_in, groups_in, group_in, last_in, whole_in, short_in}
 use Rattle.acl_text.specs.AddressTexts.{spelled_prefix_in, prefix_in, full_in, block_in, prefix_text}
-use Rattle.acl_text.specs.Cuts.{cut_at, has_byte}
-use Rattle.acl_text.specs.PortRanges.{IsPortsWord, ports_in, port_in}
+use Rattle.acl_text.specs.Cuts.{has_byte}
+use Rattle.acl_text.specs.PortRanges.{ports_in, port_in}
 use Rattle.acl_text.proofs.AddressLaws.{spelled-again, prefix-lacks}
 use Rattle.acl_text.proofs.CutLaws.{cut-again, cut-none}
 use Rattle.acl_text.proofs.DigitLaws.{decimal-lacks}
-use Rattle.acl_text.proofs.PortLaws.{ports-again}
 use Rattle.acl_text.proofs.Printed.{IsForeign}
 use Rattle.acl_grammar.specs.PortRanges.{IsPortRange}
 use Rattle.acl_grammar.proofs.PortRangeLaws.{range-again, range-lacks}
@@ -34,7 +33,7 @@ use Rattle.nft_lang.specs.declared.rule_drafts.End.TheVariants.{Source, Destinat
 use Rattle.nft_lang.specs.declared.rule_drafts.Next.{Next}
 use Rattle.nft_lang.specs.declared.rule_drafts.Next.TheVariants.{Keyword, Addresses, Ports, Types}
 use Rattle.nft_lang.specs.declared.rule_drafts.RuleDraft.{RuleDraft}
-use Rattle.nft_lang.specs.Documents.{IsSet, IsAddresses, IsType, IsRule, ports_fit, types_fit, flags_fit, verdict_fits}
+use Rattle.nft_lang.specs.Documents.{IsAddresses, IsType, IsRule, ports_fit, types_fit, flags_fit, verdict_fits}
 use Rattle.nft_lang.specs.Texts.{with_commas, set_words, ports_word, family_words, proto_words, address_word, icmp_word, port_word, flags_words, state_words, log_words, verdict_words, addresses_words, ports_words, types_words, ending_words, rule_words}
 use Rattle.nft_lang.specs.ReadingSteps.{draft, no_rule, up_to, next_in, with_test, with_verdict, with_address, with_ports, with_type, in_set, take_address, take_ports, take_type, take_as, take_word, first_family, rule_in}
 

@@ -3,12 +3,11 @@
 use Rattle.std.specs.Prelude.{◌≡◌, ℕ, ◌^◌, ◌<◌, ◌≤◌, Bool, true, false, ◌&&◌, ◌||◌, ◌==◌, nat_eq, nat_le, nat_lt, ℤ, pos, negsuc, List, [], ◌∷◌, ◌++◌, map, codes, Option, None, Some, IfSome, is_none}
 use Rattle.std.specs.Fmt.{decimal}
 use Rattle.std.specs.List.{AllByRecursion, IsDistinct}
-use Rattle.std.specs.Str.{bytes_eq}
 use Rattle.acl_packet.specs.declared.addresses.Family.{Family}
 use Rattle.acl_packet.specs.declared.addresses.Families.{Families}
 use Rattle.acl_packet.specs.declared.addresses.Prefix.{Prefix}
 use Rattle.acl_packet.specs.declared.filtering.Verdict.{Verdict}
-use Rattle.acl_packet.specs.declared.filtering.Verdict.TheVariants.{Accept, Deny, Reject, Reset, Left}
+use Rattle.acl_packet.specs.declared.filtering.Verdict.TheVariants.{Reset, Left}
 use Rattle.acl_packet.specs.Addresses.{IsPrefixOf, covers, has_address}
 use Rattle.acl_packet.specs.Packets.{has_ports, icmp_of}
 use Rattle.acl_text.specs.Names.{is_safe_text}

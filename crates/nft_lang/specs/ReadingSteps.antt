@@ -1,5 +1,5 @@
 -- Reading leniently: a draft that rows and words change, and that nothing refuses.
-use Rattle.std.specs.Prelude.{ℕ, ◌-◌, ◌^◌, Bool, true, false, ◌==◌, if◌then◌else◌, ℤ, pos, List, [], ◌∷◌, ◌++◌, codes, Option, None, Some, unwrap_or}
+use Rattle.std.specs.Prelude.{ℕ, ◌-◌, ◌^◌, Bool, true, false, ◌==◌, if◌then◌else◌, ℤ, pos, List, [], ◌∷◌, ◌++◌, codes, None, Some, unwrap_or}
 use Rattle.std.specs.List.{fold, join_with_byte}
 use Rattle.std.specs.Option.{option_map_or}
 use Rattle.std.specs.Str.{bytes_eq}
@@ -10,7 +10,6 @@ use Rattle.acl_packet.specs.declared.addresses.Families.TheVariants.{Inet, Inet6
 use Rattle.acl_packet.specs.declared.addresses.Prefix.{Prefix}
 use Rattle.acl_packet.specs.declared.filtering.Hook.{Hook}
 use Rattle.acl_packet.specs.declared.filtering.Hook.TheVariants.{Input, Output, Forward}
-use Rattle.acl_packet.specs.declared.filtering.Verdict.{Verdict}
 use Rattle.acl_packet.specs.declared.filtering.Verdict.TheVariants.{Accept, Deny, Reject, Reset}
 use Rattle.acl_packet.specs.Decimals.{number_in}
 use Rattle.acl_text.specs.AddressTexts.{spelled_prefix_in}
@@ -23,7 +22,6 @@ use Rattle.nft_lang.specs.declared.documents.Section.{Section}
 use Rattle.nft_lang.specs.declared.documents.Item.{Item}
 use Rattle.nft_lang.specs.declared.documents.Item.TheVariants.{Remark, Rule as ARule}
 use Rattle.nft_lang.specs.declared.documents.Rule.{Rule}
-use Rattle.nft_lang.specs.declared.documents.Flags.{Flags}
 use Rattle.nft_lang.specs.declared.documents.Flags.TheVariants.{Rst, SynNotAck}
 use Rattle.nft_lang.specs.declared.rule_drafts.End.{End}
 use Rattle.nft_lang.specs.declared.rule_drafts.End.TheVariants.{Source, Destination}

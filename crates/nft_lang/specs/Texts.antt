@@ -1,7 +1,7 @@
 -- The text of a document of nftables rules.
 -- Source: nft(8), "INPUT FILE FORMATS", "TABLES", "CHAINS", "RULES", "PAYLOAD EXPRESSIONS",
 -- "META EXPRESSIONS", "CONNTRACK EXPRESSIONS", "STATEMENTS".
-use Rattle.std.specs.Prelude.{◌≡◌, ℕ, Bool, true, false, ◌==◌, if◌then◌else◌, ℤ, List, [], ◌∷◌, ◌++◌, map, flat_map, codes, Option, None, Some}
+use Rattle.std.specs.Prelude.{ℕ, Bool, true, false, ◌==◌, if◌then◌else◌, ℤ, List, [], ◌∷◌, ◌++◌, map, flat_map, codes, Option, None, Some}
 use Rattle.std.specs.Fmt.{decimal, signed_decimal}
 use Rattle.acl_packet.specs.declared.addresses.Family.{Family}
 use Rattle.acl_packet.specs.declared.addresses.Family.TheVariants.{V4, V6}
