@@ -1,0 +1,6 @@
+pub mod DocumentLaws
+pub mod JoinLaws
+pub mod PortWords
+pub mod RuleReadingLaws
+pub mod SafeRows
+pub mod ValidityLaws

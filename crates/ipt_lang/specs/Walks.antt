@@ -1,0 +1,114 @@
+-- What the rules of a document do to a packet.
+-- Sources: iptables(8), "TARGETS" (rules in order; a jump enters a chain, whose end returns; the
+-- policy of a built-in chain decides at its end); iptables-extensions(8), "LOG" (a target that does
+-- not end the walk), "tcp" (`--tcp-flags`), "state"; RFC 9293 section 3.1 for flags.
+use Rattle.std.specs.Prelude.{ℕ, Bool, true, false, not, ◌&&◌, ◌||◌, ◌==◌, nat_le, if◌then◌else◌, List, [], ◌∷◌, Option, None, Some}
+use Rattle.std.specs.List.{list_any}
+use Rattle.acl_packet.specs.declared.addresses.Prefix.{Prefix}
+use Rattle.acl_packet.specs.declared.packets.Conn.{Conn}
+use Rattle.acl_packet.specs.declared.packets.Packet.{Packet}
+use Rattle.acl_packet.specs.declared.filtering.Outcome.{Outcome}
+use Rattle.acl_packet.specs.declared.filtering.Verdict.{Verdict}
+use Rattle.acl_packet.specs.declared.filtering.Verdict.TheVariants.{Accept, Deny, Left}
+use Rattle.acl_packet.specs.Addresses.{has_address, same_family}
+use Rattle.acl_packet.specs.Packets.{has_flag, is_tracked}
+use Rattle.acl_grammar.specs.Documents.{outcome_at}
+use Rattle.ipt_lang.specs.declared.documents.Section.{Section}
+use Rattle.ipt_lang.specs.declared.documents.Chain.{Chain}
+use Rattle.ipt_lang.specs.declared.documents.Rule.{Rule}
+use Rattle.ipt_lang.specs.declared.documents.Act.{Act}
+use Rattle.ipt_lang.specs.declared.documents.Act.TheVariants.{Log, Decide}
+use Rattle.ipt_lang.specs.declared.documents.Flags.{Flags}
+use Rattle.ipt_lang.specs.declared.documents.Flags.TheVariants.{Ack, Rst, SynNotAck}
+use Rattle.ipt_lang.specs.Documents.{is_empty}
+
+-- A part of a rule that is not written holds every packet.
+abbrev pub number_holds : Option ℕ → ℕ → Bool
+number_holds None number = true
+number_holds (Some wanted) number = number == wanted
+
+abbrev pub address_holds : Option Prefix → ℕ → Bool
+address_holds None address = true
+address_holds (Some prefix) address = has_address prefix address
+
+abbrev pub has_port : ℕ × ℕ → ℕ → Bool
+has_port ports port = nat_le ports.0 port && nat_le port ports.1
+
+abbrev pub port_holds : List (ℕ × ℕ) → ℕ → Bool
+port_holds ranges port = is_empty ranges || list_any (λ r. has_port r port) ranges
+
+-- SYN is 2, RST 4 and ACK 16.
+abbrev pub flags_hold : Option Flags → ℕ → Bool
+flags_hold None flags = true
+flags_hold (Some Ack) flags = has_flag flags 16
+flags_hold (Some Rst) flags = has_flag flags 4
+flags_hold (Some SynNotAck) flags = has_flag flags 2 && not (has_flag flags 16)
+
+abbrev pub state_holds : Bool → Conn → Bool
+state_holds true conn = is_tracked conn
+state_holds false conn = true
+
+-- A rule holds a packet where each of its parts does: protocol and addresses, ports, type, flags
+-- and state.
+abbrev pub ends_hold : Rule → Packet → Bool
+ends_hold r p =
+    number_holds r.proto p.proto && (address_holds r.src p.src && address_holds r.dst p.dst)
+
+abbrev pub ports_hold : Rule → Packet → Bool
+ports_hold r p = port_holds r.sports p.sport && port_holds r.dports p.dport
+
+abbrev pub tests_hold : Rule → Packet → Bool
+tests_hold r p = number_holds r.itype p.itype
+    && (flags_hold r.flags p.flags && state_holds r.state p.conn)
+
+abbrev pub rule_holds : Rule → Packet → Bool
+rule_holds r p = ends_hold r p && (ports_hold r p && tests_hold r p)
+
+-- What a packet has met so far is an outcome, `Left` while no rule has decided.
+abbrev pub met : Verdict → Bool → Outcome
+met verdict logged = record { verdict = verdict; logged = logged }
+
+-- A rule that holds the packet decides, or logs it and lets it go on to the rest.
+abbrev pub acted : Act → Bool → Outcome → Outcome
+acted Log logged rest = rest
+acted (Decide verdict) logged rest = met verdict logged
+
+-- The rules of a chain in order, on a packet that is logged already or not. Its end returns.
+unfoldable pub rules_walk : List Rule → Packet → Bool → Outcome
+rules_walk [] p logged = met Left logged
+rules_walk (r ∷ rules) p logged =
+    if rule_holds r p then acted r.act logged (rules_walk rules p true)
+    else rules_walk rules p logged
+
+abbrev pub is_left : Verdict → Bool
+is_left Left = true
+is_left verdict = false
+
+-- The way goes on where no rule has decided.
+abbrev pub go_on : Outcome → (Bool → Outcome) → Outcome
+go_on o rest = if is_left o.verdict then rest o.logged else o
+
+-- The hook's jumps in order, each into its chain.
+unfoldable pub chains_walk : List Chain → Packet → Bool → Outcome
+chains_walk [] p logged = met Left logged
+chains_walk (c ∷ chains) p logged =
+    go_on (rules_walk c.rules p logged) (λ marked. chains_walk chains p marked)
+
+-- At the end the policy decides, and without one the packet is left to what stands behind.
+abbrev pub policy_verdict : Option Bool → Verdict
+policy_verdict None = Left
+policy_verdict (Some true) = Accept
+policy_verdict (Some false) = Deny
+
+abbrev pub walk : Option Bool → List Chain → Packet → Outcome
+walk accept chains p =
+    go_on (chains_walk chains p false) (λ logged. met (policy_verdict accept) logged)
+
+-- What a section does, where the packet is of its family.
+abbrev pub section_outcome : Section → Packet → Option Outcome
+section_outcome s p =
+    if same_family s.family p.family then Some (walk s.accept s.chains p) else None
+
+-- What the section at that place does; nothing where there is none.
+abbrev pub outcome_of : List Section → ℕ → Packet → Option Outcome
+outcome_of doc which p = outcome_at section_outcome doc which p

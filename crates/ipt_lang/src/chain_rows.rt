@@ -1,0 +1,357 @@
+ghost use Rattle.std.specs.Prelude.{◌≡◌, ◌∷◌, ◌++◌, []};
+ghost use Rattle.ipt_lang.specs.Documents.{family_word, hook_word};
+ghost use Rattle.ipt_lang.specs.Texts.{back_words, chain_name, chain_row, chain_rows, front_words, head_rows, hook_letter, jump_row, policy_rows, policy_word, remark_rows, rule_row, rule_rows, rule_words, section_rows, target_row};
+
+use crate::documents::{Act, Chain, Flags, Rule, Section};
+use crate::ports::{InRanges, PortLists};
+use crate::rule_words::{Back, Front};
+use acl_grammar::{Each, Form, FreeText, Piece, Row, Rows, Word, Words};
+use acl_packet::{Family, Hook, Prefix};
+use acl_text::{Bytes, Out, PutFault};
+
+/// The rows that begin a section: its target, and the policy where one is said.
+#[derive(Drop)]
+pub struct SectionHead {
+    pub hook: Hook,
+    pub family: Family,
+    /// Whether the hook's policy is to accept, else it is to drop; `None` is not written.
+    pub accept: Option<bool>,
+}
+
+impl Rows for SectionHead {
+    ghost rows = { λ h. head_rows h.hook h.family h.accept };
+
+    #[tactic(auto, unfolding(crate::specs::Texts::head_rows))]
+    fn put_rows<O: Out>(&self, out: &mut O) -> Result<(), PutFault> {
+        let target = TargetRow {
+            hook: self.hook,
+            family: self.family,
+        };
+        let policy = PolicyRows {
+            hook: self.hook,
+            accept: self.accept,
+        };
+        (target, policy).put_rows(out)
+    }
+}
+
+#[derive(Drop)]
+struct TargetRow {
+    hook: Hook,
+    family: Family,
+}
+
+impl Rows for TargetRow {
+    ghost rows = { λ t. target_row t.hook t.family ∷ [] };
+
+    fn put_rows<O: Out>(&self, out: &mut O) -> Result<(), PutFault> {
+        let mark: &[u8] = b"##";
+        let target: &[&[u8]] = &[b"iptables", hook_word(self.hook), family_word(self.family)];
+        let row = Row {
+            indent: 0,
+            first: mark,
+            rest: target,
+        };
+        row.put_rows(out)
+    }
+}
+
+#[derive(Drop)]
+struct PolicyRows {
+    hook: Hook,
+    accept: Option<bool>,
+}
+
+impl Rows for PolicyRows {
+    ghost rows = { λ p. policy_rows p.hook p.accept };
+
+    #[tactic(auto, unfolding(crate::specs::Texts::policy_rows))]
+    fn put_rows<O: Out>(&self, out: &mut O) -> Result<(), PutFault> {
+        match self.accept {
+            Some(accept) => {
+                let policy: &[&[u8]] = &[hook_word(self.hook), policy_word(accept)];
+                let row = Row {
+                    indent: 0,
+                    first: b"-P".as_slice(),
+                    rest: policy,
+                };
+                row.put_rows(out)
+            }
+            None => Ok(()),
+        }
+    }
+}
+
+pub(crate) fn hook_word(hook: Hook) -> &'static [u8]
+    ensures { result.now ≡ hook_word hook }
+{
+    match hook {
+        Hook::Input => b"INPUT",
+        Hook::Output => b"OUTPUT",
+        Hook::Forward => b"FORWARD",
+    }
+}
+
+fn family_word(family: Family) -> &'static [u8]
+    ensures { result.now ≡ family_word family }
+{
+    match family {
+        Family::V4 => b"inet",
+        Family::V6 => b"inet6",
+    }
+}
+
+fn policy_word(accept: bool) -> &'static [u8]
+    ensures { result.now ≡ policy_word accept }
+{
+    if accept { b"ACCEPT" } else { b"DROP" }
+}
+
+/// The row of a remark.
+#[derive(Drop)]
+pub struct RemarkRow<'a> {
+    pub text: &'a [u8],
+}
+
+impl<'a> Rows for RemarkRow<'a> {
+    ghost rows = { λ r. remark_rows r.text.now };
+
+    #[tactic(auto, unfolding(crate::specs::Texts::remark_rows))]
+    fn put_rows<O: Out>(&self, out: &mut O) -> Result<(), PutFault> {
+        let row = Row {
+            indent: 0,
+            first: b"#".as_slice(),
+            rest: FreeText { text: self.text },
+        };
+        row.put_rows(out)
+    }
+}
+
+// The name of a chain: the hook's letter, a `_` and a name.
+#[derive(Drop)]
+struct ChainName<'a> {
+    hook: Hook,
+    name: &'a [u8],
+}
+
+impl<'a> Piece for ChainName<'a> {
+    ghost text = { λ c. chain_name c.hook c.name.now };
+
+    fn put_into<O: Out>(&self, out: &mut O) -> Result<(), PutFault> {
+        (hook_front(self.hook), self.name).put_into(out)
+    }
+}
+
+fn hook_front(hook: Hook) -> &'static [u8]
+    ensures { result.now ≡ hook_letter hook ∷ 95 ∷ [] }
+{
+    match hook {
+        Hook::Input => b"I_",
+        Hook::Output => b"O_",
+        Hook::Forward => b"F_",
+    }
+}
+
+/// The row of a new chain.
+#[derive(Drop)]
+pub struct ChainHead<'a> {
+    pub hook: Hook,
+    /// The name without the hook's letter and the `_` behind it.
+    pub name: &'a [u8],
+}
+
+impl<'a> Rows for ChainHead<'a> {
+    ghost rows = { λ c. chain_row c.hook c.name.now ∷ [] };
+
+    fn put_rows<O: Out>(&self, out: &mut O) -> Result<(), PutFault> {
+        let name = ChainName {
+            hook: self.hook,
+            name: self.name,
+        };
+        let row = Row {
+            indent: 0,
+            first: b"-N".as_slice(),
+            rest: Word { piece: name },
+        };
+        row.put_rows(out)
+    }
+}
+
+/// The row of the jump to a chain, behind the chain's rules.
+#[derive(Drop)]
+pub struct JumpRow<'a> {
+    pub hook: Hook,
+    pub name: &'a [u8],
+}
+
+impl<'a> Rows for JumpRow<'a> {
+    ghost rows = { λ j. jump_row j.hook j.name.now ∷ [] };
+
+    fn put_rows<O: Out>(&self, out: &mut O) -> Result<(), PutFault> {
+        let words: &[&[u8]] = &[hook_word(self.hook), b"-j"];
+        let name = ChainName {
+            hook: self.hook,
+            name: self.name,
+        };
+        let row = Row {
+            indent: 0,
+            first: b"-A".as_slice(),
+            rest: (words, Word { piece: name }),
+        };
+        row.put_rows(out)
+    }
+}
+
+/// The row of a rule of a chain. A part that is `None` or `false` is not written.
+#[derive(Drop)]
+pub struct RuleRow<'a, P> {
+    pub hook: Hook,
+    /// The chain's name without the hook's letter and the `_` behind it.
+    pub name: &'a [u8],
+    pub family: Family,
+    pub proto: Option<u8>,
+    pub src: Option<Prefix>,
+    pub dst: Option<Prefix>,
+    /// The words of the ports.
+    pub ports: P,
+    pub itype: Option<u8>,
+    pub flags: Option<Flags>,
+    pub state: bool,
+    pub act: Act,
+}
+
+impl<'a, P: Words + Copy> Rows for RuleRow<'a, P> {
+    ghost rows = { λ r. rule_row r.hook r.name.now (front_words r.family r.proto r.src r.dst
+        ++ (P.words r.ports ++ back_words r.family r.itype r.flags r.state r.act)) ∷ [] };
+
+    fn put_rows<O: Out>(&self, out: &mut O) -> Result<(), PutFault> {
+        let name = ChainName {
+            hook: self.hook,
+            name: self.name,
+        };
+        let front = Front {
+            family: self.family,
+            proto: self.proto,
+            src: self.src,
+            dst: self.dst,
+        };
+        let back = Back {
+            family: self.family,
+            itype: self.itype,
+            flags: self.flags,
+            state: self.state,
+            act: self.act,
+        };
+        let row = Row {
+            indent: 0,
+            first: b"-A".as_slice(),
+            rest: (Word { piece: name }, (front, (self.ports, back))),
+        };
+        row.put_rows(out)
+    }
+}
+
+/// The sections of a document.
+#[derive(Drop)]
+pub(crate) struct Sections;
+
+impl Form<Section> for Sections {
+    ghost item_rows = { λ f s. section_rows s };
+
+    #[tactic(auto, unfolding(crate::specs::Texts::section_rows))]
+    fn put_item<O: Out>(&self, section: &Section, out: &mut O) -> Result<(), PutFault> {
+        let head = SectionHead {
+            hook: section.hook,
+            family: section.family,
+            accept: section.accept,
+        };
+        let chains = Each {
+            items: section.chains.as_slice(),
+            form: OfHook {
+                hook: section.hook,
+                family: section.family,
+            },
+        };
+        (head, chains).put_rows(out)
+    }
+}
+
+// The chains of a hook and a family.
+#[derive(Drop)]
+struct OfHook {
+    hook: Hook,
+    family: Family,
+}
+
+impl Form<Chain> for OfHook {
+    ghost item_rows = { λ f c. chain_rows f.hook f.family c };
+
+    #[tactic(auto, unfolding(crate::specs::Texts::chain_rows))]
+    fn put_item<O: Out>(&self, chain: &Chain, out: &mut O) -> Result<(), PutFault> {
+        let hook = self.hook;
+        let name = chain.name.as_slice();
+        let remarks = Each {
+            items: chain.remarks.as_slice(),
+            form: Remarks,
+        };
+        let rules = Each {
+            items: chain.rules.as_slice(),
+            form: OfChain {
+                hook,
+                family: self.family,
+                name,
+            },
+        };
+        let jump = JumpRow { hook, name };
+        (remarks, (ChainHead { hook, name }, (rules, jump))).put_rows(out)
+    }
+}
+
+#[derive(Drop)]
+struct Remarks;
+
+impl Form<Bytes> for Remarks {
+    ghost item_rows = { λ f text. remark_rows text };
+
+    fn put_item<O: Out>(&self, text: &Bytes, out: &mut O) -> Result<(), PutFault> {
+        let row = RemarkRow {
+            text: text.as_slice(),
+        };
+        row.put_rows(out)
+    }
+}
+
+// The rules of a chain.
+#[derive(Drop)]
+struct OfChain<'a> {
+    hook: Hook,
+    family: Family,
+    name: &'a [u8],
+}
+
+impl<'a> Form<Rule> for OfChain<'a> {
+    ghost item_rows = { λ f r. rule_rows f.hook f.family f.name.now r };
+
+    #[tactic(auto, unfolding(crate::specs::Texts::rule_rows, crate::specs::Texts::rule_words))]
+    fn put_item<O: Out>(&self, rule: &Rule, out: &mut O) -> Result<(), PutFault> {
+        let ports = PortLists {
+            sports: rule.sports.as_slice(),
+            dports: rule.dports.as_slice(),
+            form: InRanges,
+        };
+        let row = RuleRow {
+            hook: self.hook,
+            name: self.name,
+            family: self.family,
+            proto: rule.proto,
+            src: rule.src,
+            dst: rule.dst,
+            ports,
+            itype: rule.itype,
+            flags: rule.flags,
+            state: rule.state,
+            act: rule.act,
+        };
+        row.put_rows(out)
+    }
+}

@@ -1,0 +1,293 @@
+ghost use Rattle.std.specs.Prelude.{◌≡◌};
+ghost use Rattle.ipt_lang.specs.Texts.{act_words, address_words, back_words, flags_words, front_words, icmp_word, is_reset, mask_word, proto_word, proto_words, reset_words, set_word, state_words, target_word, type_key, type_words};
+
+use crate::documents::{Act, Flags};
+use acl_grammar::{Number, Piece, Word, Words, put_words};
+use acl_packet::{Family, Prefix, Verdict};
+use acl_text::{Out, PutFault};
+
+/// What stands before the ports of a rule: its protocol and addresses.
+#[derive(Drop)]
+pub(crate) struct Front {
+    pub(crate) family: Family,
+    pub(crate) proto: Option<u8>,
+    pub(crate) src: Option<Prefix>,
+    pub(crate) dst: Option<Prefix>,
+}
+
+impl Words for Front {
+    ghost words = { λ f. front_words f.family f.proto f.src f.dst };
+
+    #[tactic(auto, unfolding(crate::specs::Texts::front_words))]
+    fn put_spaced<O: Out>(&self, out: &mut O) -> Result<(), PutFault> {
+        let protocol = Protocol {
+            family: self.family,
+            number: self.proto,
+        };
+        let source = AddressWords {
+            key: b"-s",
+            address: self.src,
+        };
+        let destination = AddressWords {
+            key: b"-d",
+            address: self.dst,
+        };
+        (protocol, (source, destination)).put_spaced(out)
+    }
+}
+
+#[derive(Drop)]
+struct Protocol {
+    family: Family,
+    number: Option<u8>,
+}
+
+impl Words for Protocol {
+    ghost words = { λ p. proto_words p.family p.number };
+
+    #[tactic(auto, unfolding(crate::specs::Texts::proto_words))]
+    fn put_spaced<O: Out>(&self, out: &mut O) -> Result<(), PutFault> {
+        match self.number {
+            Some(number) => {
+                let key = Word {
+                    piece: b"-p".as_slice(),
+                };
+                let name = Word {
+                    piece: ProtocolName {
+                        family: self.family,
+                        number,
+                    },
+                };
+                (key, name).put_spaced(out)
+            }
+            None => Ok(()),
+        }
+    }
+}
+
+#[derive(Drop)]
+struct ProtocolName {
+    family: Family,
+    number: u8,
+}
+
+impl Piece for ProtocolName {
+    ghost text = { λ p. proto_word p.family p.number };
+
+    #[tactic(auto, unfolding(crate::specs::Texts::proto_word))]
+    fn put_into<O: Out>(&self, out: &mut O) -> Result<(), PutFault> {
+        if self.number == 6 {
+            out.put(b"tcp")
+        } else if self.number == 17 {
+            out.put(b"udp")
+        } else if self.number == 132 {
+            out.put(b"sctp")
+        } else if self.number == self.family.icmp_number() {
+            out.put(icmp_word(self.family))
+        } else {
+            let number = u128::from(self.number);
+            Number { number }.put_into(out)
+        }
+    }
+}
+
+fn icmp_word(family: Family) -> &'static [u8]
+    ensures { result.now ≡ icmp_word family }
+{
+    match family {
+        Family::V4 => b"icmp",
+        Family::V6 => b"icmpv6",
+    }
+}
+
+#[derive(Drop)]
+struct AddressWords<'a> {
+    key: &'a [u8],
+    address: Option<Prefix>,
+}
+
+impl<'a> Words for AddressWords<'a> {
+    ghost words = { λ a. address_words a.key.now a.address };
+
+    #[tactic(auto, unfolding(crate::specs::Texts::address_words))]
+    fn put_spaced<O: Out>(&self, out: &mut O) -> Result<(), PutFault> {
+        match self.address {
+            Some(prefix) => (Word { piece: self.key }, Word { piece: prefix }).put_spaced(out),
+            None => Ok(()),
+        }
+    }
+}
+
+/// What stands behind the ports of a rule: its tests and its act.
+#[derive(Drop)]
+pub(crate) struct Back {
+    pub(crate) family: Family,
+    pub(crate) itype: Option<u8>,
+    pub(crate) flags: Option<Flags>,
+    pub(crate) state: bool,
+    pub(crate) act: Act,
+}
+
+impl Words for Back {
+    ghost words = { λ b. back_words b.family b.itype b.flags b.state b.act };
+
+    #[tactic(auto, unfolding(crate::specs::Texts::back_words))]
+    fn put_spaced<O: Out>(&self, out: &mut O) -> Result<(), PutFault> {
+        let itype = TypeWords {
+            family: self.family,
+            itype: self.itype,
+        };
+        let flags = FlagsWords { flags: self.flags };
+        let state = StateWords { state: self.state };
+        let act = ActWords { act: self.act };
+        (itype, (flags, (state, act))).put_spaced(out)
+    }
+}
+
+#[derive(Drop)]
+struct TypeWords {
+    family: Family,
+    itype: Option<u8>,
+}
+
+impl Words for TypeWords {
+    ghost words = { λ t. type_words t.family t.itype };
+
+    #[tactic(auto, unfolding(crate::specs::Texts::type_words))]
+    fn put_spaced<O: Out>(&self, out: &mut O) -> Result<(), PutFault> {
+        match self.itype {
+            Some(number) => {
+                let key = Word {
+                    piece: type_key(self.family),
+                };
+                let number = u128::from(number);
+                let itype = Word {
+                    piece: Number { number },
+                };
+                (key, itype).put_spaced(out)
+            }
+            None => Ok(()),
+        }
+    }
+}
+
+fn type_key(family: Family) -> &'static [u8]
+    ensures { result.now ≡ type_key family }
+{
+    match family {
+        Family::V4 => b"--icmp-type",
+        Family::V6 => b"--icmpv6-type",
+    }
+}
+
+#[derive(Drop)]
+struct FlagsWords {
+    flags: Option<Flags>,
+}
+
+impl Words for FlagsWords {
+    ghost words = { λ f. flags_words f.flags };
+
+    #[tactic(auto, unfolding(crate::specs::Texts::flags_words))]
+    fn put_spaced<O: Out>(&self, out: &mut O) -> Result<(), PutFault> {
+        match self.flags {
+            Some(flags) => {
+                let words: &[&[u8]] = &[b"--tcp-flags", mask_word(flags), set_word(flags)];
+                words.put_spaced(out)
+            }
+            None => Ok(()),
+        }
+    }
+}
+
+fn mask_word(flags: Flags) -> &'static [u8]
+    ensures { result.now ≡ mask_word flags }
+{
+    match flags {
+        Flags::Ack => b"ACK",
+        Flags::Rst => b"RST",
+        Flags::SynNotAck => b"SYN,ACK",
+    }
+}
+
+fn set_word(flags: Flags) -> &'static [u8]
+    ensures { result.now ≡ set_word flags }
+{
+    match flags {
+        Flags::Ack => b"ACK",
+        Flags::Rst => b"RST",
+        Flags::SynNotAck => b"SYN",
+    }
+}
+
+#[derive(Drop)]
+struct StateWords {
+    state: bool,
+}
+
+impl Words for StateWords {
+    ghost words = { λ s. state_words s.state };
+
+    #[tactic(auto, unfolding(crate::specs::Texts::state_words))]
+    fn put_spaced<O: Out>(&self, out: &mut O) -> Result<(), PutFault> {
+        if self.state {
+            put_words(&[b"-m", b"state", b"--state", b"ESTABLISHED,RELATED"], out)
+        } else {
+            Ok(())
+        }
+    }
+}
+
+#[derive(Drop)]
+struct ActWords {
+    act: Act,
+}
+
+impl Words for ActWords {
+    ghost words = { λ a. act_words a.act };
+
+    #[tactic(auto, unfolding(crate::specs::Texts::act_words))]
+    fn put_spaced<O: Out>(&self, out: &mut O) -> Result<(), PutFault> {
+        let words: &[&[u8]] = &[b"-j", target_word(self.act)];
+        let reset = is_reset(self.act);
+        (words, ResetWords { reset }).put_spaced(out)
+    }
+}
+
+fn target_word(act: Act) -> &'static [u8]
+    ensures { result.now ≡ target_word act }
+{
+    match act {
+        Act::Log => b"LOG",
+        Act::Decide(Verdict::Accept) => b"ACCEPT",
+        Act::Decide(Verdict::Deny | Verdict::Left) => b"DROP",
+        Act::Decide(Verdict::Reject | Verdict::Reset) => b"REJECT",
+    }
+}
+
+fn is_reset(act: Act) -> bool
+    ensures { result ≡ is_reset act }
+{
+    match act {
+        Act::Decide(Verdict::Reset) => true,
+        _ => false,
+    }
+}
+
+#[derive(Drop)]
+struct ResetWords {
+    reset: bool,
+}
+
+impl Words for ResetWords {
+    ghost words = { λ r. reset_words r.reset };
+
+    #[tactic(auto, unfolding(crate::specs::Texts::reset_words))]
+    fn put_spaced<O: Out>(&self, out: &mut O) -> Result<(), PutFault> {
+        if self.reset {
+            put_words(&[b"--reject-with", b"tcp-reset"], out)
+        } else {
+            Ok(())
+        }
+    }
+}

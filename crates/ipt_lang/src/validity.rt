@@ -1,0 +1,221 @@
+ghost use Rattle.std.specs.Prelude.{◌≡◌, ◌&&◌, ◌↔◌, IsTrue};
+ghost use Rattle.std.specs.List.{list_all};
+ghost use Rattle.acl_grammar.specs.NamingSteps.{are_distinct};
+ghost use Rattle.ipt_lang.specs.Documents.{IsDocument, act_fits, chain_names, flags_fit, has_port_proto, is_chain_name, is_proto, name_of, parts_fit, ports_fit, type_fits, weight_of};
+ghost use Rattle.ipt_lang.specs.ValiditySteps.{are_addresses, are_numbers, are_ports, are_remarks, has_room, is_address, is_chain, is_document, is_number, is_port_list, is_rule, is_section};
+
+use crate::documents::{Act, Chain, Rule, Section};
+use acl_grammar::{Named, are_port_ranges, have_distinct_names, is_prefix_of};
+use acl_packet::{Family, Hook, Prefix, Verdict};
+use acl_text::{Bytes, is_name, is_safe_text};
+
+/// Whether the document is valid.
+#[tactic(auto, using(crate::proofs::ValidityLaws::document_decides))]
+pub(crate) fn is_document(sections: &[Section]) -> bool
+    ensures { IsTrue result ↔ IsDocument sections.now }
+{
+    passes(sections)
+}
+
+fn passes(sections: &[Section]) -> bool
+    ensures { result ≡ is_document sections.now }
+{
+    are_sections(sections) && have_distinct_names(sections)
+}
+
+impl Named for Section {
+    ghost name = { name_of };
+
+    fn has_name_of(&self, other: &Section) -> bool {
+        target_words(self) == target_words(other)
+    }
+}
+
+fn target_words(section: &Section) -> &'static [u8]
+    ensures { result.now ≡ name_of section.now }
+{
+    match (section.hook, section.family) {
+        (Hook::Input, Family::V4) => b"INPUT inet",
+        (Hook::Input, Family::V6) => b"INPUT inet6",
+        (Hook::Output, Family::V4) => b"OUTPUT inet",
+        (Hook::Output, Family::V6) => b"OUTPUT inet6",
+        (Hook::Forward, Family::V4) => b"FORWARD inet",
+        (Hook::Forward, Family::V6) => b"FORWARD inet6",
+    }
+}
+
+fn are_sections(sections: &[Section]) -> bool
+    ensures { result ≡ list_all is_section sections.now }
+{
+    sections.iter().all(|section| is_section(section))
+}
+
+fn is_section(section: &Section) -> bool
+    ensures { result ≡ is_section section.now }
+{
+    let chains = section.chains.as_slice();
+    are_chains(section.family, chains) && have_distinct_names(chains)
+}
+
+impl Named for Chain {
+    ghost name = { λ c. c.name };
+
+    fn has_name_of(&self, other: &Chain) -> bool {
+        self.name.as_slice() == other.name.as_slice()
+    }
+}
+
+fn are_chains(family: Family, chains: &[Chain]) -> bool
+    ensures { result ≡ list_all (is_chain family) chains.now }
+{
+    chains.iter().all(|chain| is_chain(family, chain))
+}
+
+fn is_chain(family: Family, chain: &Chain) -> bool
+    ensures { result ≡ is_chain family chain.now }
+{
+    are_remarks(chain.remarks.as_slice())
+        && is_chain_name(chain.name.as_slice())
+        && are_rules(family, chain.rules.as_slice())
+}
+
+fn are_remarks(texts: &[Bytes]) -> bool
+    ensures { result ≡ are_remarks texts.now }
+{
+    texts.iter().all(|text| is_safe_text(text.as_slice()))
+}
+
+fn is_chain_name(name: &[u8]) -> bool
+    ensures { result ≡ is_chain_name name.now }
+{
+    is_name(name) && name.len() <= 24
+}
+
+fn are_rules(family: Family, rules: &[Rule]) -> bool
+    ensures { result ≡ list_all (is_rule family) rules.now }
+{
+    rules.iter().all(|rule| is_rule(family, rule))
+}
+
+fn is_rule(family: Family, rule: &Rule) -> bool
+    ensures { result ≡ is_rule family rule.now }
+{
+    if !are_numbers(rule) || !are_addresses(family, rule) {
+        return false;
+    }
+    are_ports(rule) && parts_fit(family, rule)
+}
+
+fn are_numbers(rule: &Rule) -> bool
+    ensures { result ≡ are_numbers rule.now }
+{
+    is_number(1, 255, rule.proto) && is_number(0, 254, rule.itype)
+}
+
+fn is_number(least: u8, most: u8, number: Option<u8>) -> bool
+    ensures { result ≡ is_number least most number }
+{
+    match number {
+        Some(number) => least <= number && number <= most,
+        None => true,
+    }
+}
+
+fn are_addresses(family: Family, rule: &Rule) -> bool
+    ensures { result ≡ are_addresses family rule.now }
+{
+    is_address(family, &rule.src) && is_address(family, &rule.dst)
+}
+
+fn is_address(family: Family, address: &Option<Prefix>) -> bool
+    ensures { result ≡ is_address family address.now }
+{
+    match address {
+        Some(prefix) => is_prefix_of(family, prefix) && 1 <= prefix.len,
+        None => true,
+    }
+}
+
+fn are_ports(rule: &Rule) -> bool
+    ensures { result ≡ are_ports rule.now }
+{
+    is_port_list(rule.sports.as_slice()) && is_port_list(rule.dports.as_slice())
+}
+
+fn is_port_list(ranges: &[(u16, u16)]) -> bool
+    ensures { result ≡ is_port_list ranges.now }
+{
+    are_port_ranges(ranges) && has_room(15, ranges)
+}
+
+// Whether the ranges have no more than that weight.
+#[tactic(auto, unfolding(crate::specs::ValiditySteps::has_room))]
+fn has_room(room: usize, ranges: &[(u16, u16)]) -> bool
+    ensures { result ≡ has_room room ranges.now }
+{
+    let mut left = room;
+    for ports in ranges {
+        let weight = weight_of(*ports);
+        if weight > left {
+            return false;
+        }
+        left -= weight;
+    }
+    true
+}
+
+fn weight_of(ports: (u16, u16)) -> usize
+    ensures { result ≡ weight_of ports }
+{
+    if ports.0 == ports.1 { 1 } else { 2 }
+}
+
+fn parts_fit(family: Family, rule: &Rule) -> bool
+    ensures { result ≡ parts_fit family rule.now }
+{
+    ports_fit(rule) && type_fits(family, rule) && flags_fit(rule) && act_fits(rule.proto, rule.act)
+}
+
+fn ports_fit(rule: &Rule) -> bool
+    ensures { result ≡ ports_fit rule.now }
+{
+    rule.sports.as_slice().is_empty() && rule.dports.as_slice().is_empty()
+        || has_port_proto(rule.proto)
+}
+
+fn has_port_proto(proto: Option<u8>) -> bool
+    ensures { result ≡ has_port_proto proto }
+{
+    is_proto(proto, 6) || is_proto(proto, 17) || is_proto(proto, 132)
+}
+
+fn type_fits(family: Family, rule: &Rule) -> bool
+    ensures { result ≡ type_fits family rule.now }
+{
+    rule.itype.is_none() || is_proto(rule.proto, family.icmp_number())
+}
+
+fn flags_fit(rule: &Rule) -> bool
+    ensures { result ≡ flags_fit rule.now }
+{
+    rule.flags.is_none() || is_proto(rule.proto, 6)
+}
+
+fn act_fits(proto: Option<u8>, act: Act) -> bool
+    ensures { result ≡ act_fits proto act }
+{
+    match act {
+        Act::Decide(Verdict::Reset) => is_proto(proto, 6),
+        Act::Decide(Verdict::Left) => false,
+        _ => true,
+    }
+}
+
+fn is_proto(proto: Option<u8>, number: u8) -> bool
+    ensures { result ≡ is_proto proto number }
+{
+    match proto {
+        Some(proto) => proto == number,
+        None => false,
+    }
+}
