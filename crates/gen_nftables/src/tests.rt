@@ -373,7 +373,10 @@ fn takes_as_many_entries_as_a_device_is_given(rt: HostRuntime) -> Result<(), Fai
     let most = of_hosts(rt.alloc(), 99_999)?;
     assert_eq!(rt; count_in_limit(entry_count(&most)), Ok(100_000));
     let more = of_hosts(rt.alloc(), 100_000)?;
-    assert_eq!(rt; count_in_limit(entry_count(&more)), Err(Limit::TooManyEntries));
+    assert_eq!(rt;
+        count_in_limit(entry_count(&more)),
+        Err(Limit::TooManyEntries)
+    );
     Ok(())
 }
 
