@@ -359,17 +359,22 @@ fn writes_prefixes_and_counts_them(rt: HostRuntime) -> Result<(), Fail> {
     Ok(())
 }
 
+fn of_hosts(alloc: Global, count: u32) -> Result<Filter, Memory>
+    ensures { IfOk result (λ f. All IsSized f.rules) }
+{
+    let mut rules = Rules::new(alloc);
+    let hosts = every_second_host(alloc, count)?;
+    rules.push(from(alloc, Family::V4, hosts)?)?;
+    filter(alloc, b"input", Hook::Input, Families::Inet, 1, rules)
+}
+
 #[test]
 fn takes_as_many_entries_as_a_device_is_given(rt: HostRuntime) -> Result<(), Fail> {
-    let alloc = rt.alloc();
-    let mut rules = Rules::new(alloc);
-    rules.push(from(alloc, Family::V4, every_second_host(alloc, 99_998)?)?)?;
-    let mut own = filter(alloc, b"input", Hook::Input, Families::Inet, 1, rules)?;
-    own.rules.push(syn(alloc)?)?;
-    assert_eq!(rt; count_in_limit(entry_count(&own)), Ok(100_000));
-    own.rules.push(syn(alloc)?)?;
+    let most = of_hosts(rt.alloc(), 99_999)?;
+    assert_eq!(rt; count_in_limit(entry_count(&most)), Ok(100_000));
+    let more = of_hosts(rt.alloc(), 100_000)?;
     assert_eq!(rt;
-        count_in_limit(entry_count(&own)),
+        count_in_limit(entry_count(&more)),
         Err(Limit::TooManyEntries)
     );
     Ok(())
