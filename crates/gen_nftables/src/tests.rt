@@ -278,31 +278,50 @@ table inet aclgen_7 {
 }
 ";
 
+// A chain of both families that accepts, with a rule of each kind.
+fn edge(alloc: Global, verbose: bool) -> Result<Filter, Memory>
+    ensures { IfOk result (λ f. All IsSized f.rules) }
+{
+    let dns = dns(alloc)?;
+    let ping = ping(alloc)?;
+    let syn = syn(alloc)?;
+    let mut rules = Rules::new(alloc);
+    rules.push(dns)?;
+    rules.push(ping)?;
+    rules.push(syn)?;
+    Ok(Filter {
+        place: Place { file: 1, line: 1 },
+        kind: Kind::Nftables,
+        name: Bytes::from_slice(alloc, b"forward")?,
+        families: Families::Mixed,
+        hook: Hook::Forward,
+        ending: Ending::Accept,
+        priority: -5,
+        verbose,
+        number: 7,
+        rules,
+    })
+}
+
 #[test]
 fn writes_every_part_of_a_rule(rt: HostRuntime) -> Result<(), Fail> {
     let alloc = rt.alloc();
-    let mut rules = Rules::new(alloc);
-    rules.push(dns(alloc)?)?;
-    rules.push(ping(alloc)?)?;
-    rules.push(syn(alloc)?)?;
-    let mut edge = filter(alloc, b"forward", Hook::Forward, Families::Mixed, 7, rules)?;
-    edge.ending = Ending::Accept;
-    edge.priority = -5;
+    let all = edge(alloc, true)?;
     let mut out = Whole::new(alloc);
-    put_section(&edge, &mut out)?;
+    put_section(&all, &mut out)?;
     assert_eq!(rt; out.as_slice(), EDGE.as_bytes());
-    assert_eq!(rt; entry_count(&edge), 15);
+    assert_eq!(rt; entry_count(&all), 15);
     let mut lines = Lines {
         count: 0,
         within: true,
     };
-    put_section(&edge, &mut lines)?;
+    put_section(&all, &mut lines)?;
     assert_eq!(rt; lines.count, 16);
-    edge.verbose = false;
-    put_section(&edge, &mut lines)?;
+    let bare = edge(alloc, false)?;
+    put_section(&bare, &mut lines)?;
     assert_eq!(rt; lines.count, 28);
     assert!(rt; lines.within);
-    assert_eq!(rt; entry_count(&edge), 15);
+    assert_eq!(rt; entry_count(&bare), 15);
     Ok(())
 }
 
