@@ -18,7 +18,7 @@ use Rattle.gen_junos.specs.Limits.{is_for_junos}
 use Rattle.gen_junos.specs.SectionNames.{IsOfJunos}
 use Rattle.gen_nftables.specs.Limits as nft_limits
 use Rattle.gen_nftables.specs.Limits.{is_for_nftables}
-use Rattle.acl_render.specs.PlatformFiles.{IsTaken}
+use Rattle.acl_render.specs.PlatformFiles.{AreApart, IsTaken}
 
 pub kinds : (kind : Kind) (filters : List Filter) → All (IsTaken kind) filters → AllByRecursion (λ f. f.kind ≡ kind) filters
 kinds kind filters h =
@@ -73,3 +73,8 @@ unfolding IsDistinct
 numbers-differ [] h = λ i j d l m. absurd (omega (arith, m))
 numbers-differ (f ∷ fs) h =
     AllPairs-cons NumbersDiffer (target_of false f) (map (target_of false) fs) (number-differs f fs h.0) (numbers-differ fs h.1)
+
+-- One filter is apart from others.
+pub alone : (f : Filter) → AreApart (f ∷ [])
+unfolding IsDistinct
+alone f = record { clash_not = (tt, tt); numbers_differ = (tt, tt) }
