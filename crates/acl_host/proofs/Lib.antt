@@ -4,3 +4,4 @@ pub mod Prefixes
 pub mod Appending
 pub mod Calendar
 pub mod DayTextLaws
+pub mod NamedDayLaws

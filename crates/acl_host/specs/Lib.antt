@@ -10,3 +10,4 @@ pub mod Resting
 pub mod Holding
 pub mod Days
 pub mod DaySteps
+pub mod NamedDays

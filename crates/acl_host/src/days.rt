@@ -1,6 +1,7 @@
 ghost use Rattle.std.specs.Prelude.{◌≡◌, ◌≤◌, ℤ, IsTrue, option_map, IfSome, IfNone, length};
 ghost use Rattle.acl_text.specs.Output.{Puts};
 ghost use Rattle.acl_host.specs.Days.{IsDayText, full_date};
+ghost use Rattle.acl_host.specs.NamedDays.{day_named};
 ghost use Rattle.acl_host.specs.DaySteps.{two_in, real_day, digits_day, day_in, date_text};
 
 use crate::clocks::Day;
@@ -53,7 +54,7 @@ fn digits_day(word: &[u8]) -> Option<Day>
 pub fn read_day(word: &[u8]) -> Option<Day>
     ensures some { IfSome result (λ day. IsDayText word.now day.number) }
     ensures none { IfNone result ((n : ℤ) → IsDayText word.now n → ⊥) }
-    ensures exact { option_map (λ day. day.number) result ≡ day_in word.now }
+    ensures named { result ≡ day_named word.now }
 {
     day_of(word)
 }

@@ -17,6 +17,7 @@ mod mem_trees;
 mod paths;
 mod sinks;
 mod std_sinks;
+mod system_clocks;
 #[cfg(test)]
 mod tests;
 mod trees;
@@ -36,6 +37,7 @@ pub use mem_trees::MemTree;
 pub use paths::join_path;
 pub use sinks::{Sink, WriteFault};
 pub use std_sinks::StdSink;
+pub use system_clocks::SystemClock;
 pub use trees::{FileNames, Tree, TreeFault};
 pub use whole_files::{fault_at, listing, read_whole};
 pub use wholes::Whole;

@@ -3,13 +3,14 @@ ghost use Rattle.std.specs.Prelude.{◌≡◌};
 use crate::disk::front_of;
 use crate::{
     Clock, ClockFault, Day, DiskTree, FixedClock, ListFault, MemSink, MemTree, Op, ReadFault, Sink,
-    StdSink, Tree, TreeFault, Whole, WriteFault, join_path, listing, put_day, read_day, read_whole,
-    write_file,
+    StdSink, SystemClock, Tree, TreeFault, Whole, WriteFault, join_path, listing, put_day,
+    read_day, read_whole, write_file,
 };
 use acl_text::{Code, Memory, Out};
 use std::alloc::Global;
 use std::io::{ErrorKind, Read};
 use std::test::Fail;
+use std::time::{self, Duration, SystemTime};
 use std::{fs, io, process};
 
 // What the tree says of the folder: each name with a space behind it, or why there are none.
@@ -170,6 +171,62 @@ fn a_fixed_clock_tells_its_day(rt: HostRuntime) {
     let day = Day { number: 20468 };
     assert_eq!(rt; FixedClock::new(day, false).today(), Ok(day));
     assert_eq!(rt; FixedClock::new(day, true).today(), Err(ClockFault::Failed));
+}
+
+// A clock that stands so long after 1970 began, or that tells no time.
+#[derive(Drop)]
+struct Stopped {
+    since_1970: Option<Duration>,
+}
+
+impl time::Clock for Stopped {
+    fn monotonic(&self) -> io::Result<Duration> {
+        self.since_1970()
+    }
+
+    fn since_1970(&self) -> io::Result<Duration> {
+        self.since_1970.ok_or(ErrorKind::Other.into())
+    }
+}
+
+fn stopped_day(seconds: u64) -> Option<i32> {
+    let clock = Stopped {
+        since_1970: Some(Duration::from_secs(seconds)),
+    };
+    let day = SystemClock::new(&clock).today().ok()?;
+    Some(day.number)
+}
+
+// Seconds since 1970 began, and the days, as GNU date counts them; the last is of the year 10000.
+static TIMES: [(u64, Option<i32>); 5] = [
+    (0, Some(0)),
+    (86_399, Some(0)),
+    (1_768_435_199, Some(20467)),
+    (1_768_435_200, Some(20468)),
+    (253_402_300_800, None),
+];
+
+// Whole days since 1970 began.
+fn day_of(time: SystemTime) -> i64 {
+    match time.duration_since(SystemTime::UNIX_EPOCH) {
+        Ok(duration) => (duration.as_secs() / 86_400) as i64,
+        Err(_) => -1,
+    }
+}
+
+#[test]
+fn the_machines_clock_tells_the_day(rt: HostRuntime) -> Result<(), Fail> {
+    for (seconds, day) in &TIMES {
+        assert_eq!(rt; stopped_day(*seconds), *day);
+    }
+    let silent = Stopped { since_1970: None };
+    assert_eq!(rt; SystemClock::new(&silent).today(), Err(ClockFault::Failed));
+    let before = SystemTime::now(&rt)?;
+    let day = SystemClock::new(&rt).today()?;
+    let after = SystemTime::now(&rt)?;
+    assert!(rt; day_of(before) <= i64::from(day.number));
+    assert!(rt; i64::from(day.number) <= day_of(after));
+    Ok(())
 }
 
 #[test]

@@ -1,4 +1,3 @@
-pub mod NamedDayLaws
 pub mod Outcomes
 pub mod PolicyFit
 pub mod SlipPlaces

@@ -1,5 +1,4 @@
 pub mod Conditions
-pub mod NamedDays
 pub mod Policies
 pub mod PolicyPlaces
 pub mod Slips

@@ -7,7 +7,6 @@ mod clashes;
 mod clauses;
 mod copies;
 mod judging;
-mod named_days;
 mod policy_parsing;
 mod raw_terms;
 mod states;

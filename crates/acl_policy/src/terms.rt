@@ -13,11 +13,11 @@ ghost use Rattle.acl_policy.specs.Terms.{
 };
 
 use crate::clauses::Clause;
-use crate::named_days::day_of;
 use crate::raw_terms::RawTerm;
 use crate::term_drafts::{Draft, add_comments};
 use crate::values::{Takes, check_values, is_text, one_value, push_values};
 use crate::word_slips::slip_at;
+use acl_host::read_day;
 use acl_text::{Code, Refusal};
 use acl_words::Token;
 use std::alloc::Global;
@@ -75,7 +75,7 @@ fn judge_expiration(alloc: Global, draft: &mut Draft, clause: &Clause<'_>) -> Re
         return Err(Refusal::Slip(slip_at(alloc, Code::Repeated, clause.keyword)?));
     }
     let word = one_value(alloc, Takes::Day, clause)?;
-    draft.term.expires = day_of(word.text.as_slice());
+    draft.term.expires = read_day(word.text.as_slice());
     Ok(())
 }
 

@@ -19,9 +19,9 @@ ghost use Rattle.acl_policy.specs.Values.{
 };
 
 use crate::clauses::Clause;
-use crate::named_days::day_of;
 use crate::raw_terms::{Word, Words};
 use crate::word_slips::{slip_at, slip_for};
+use acl_host::read_day;
 use acl_packet::{Family, icmp_number, protocol_number};
 use acl_text::{Bytes, Code, Memory, Refusal, is_name};
 use acl_words::{Form, Token};
@@ -92,7 +92,7 @@ fn text_fits(kind: Takes, text: &[u8]) -> bool
         Takes::IcmpType => is_icmp_type(text),
         Takes::Opt => is_option(text),
         Takes::Logging => is_logging(text),
-        Takes::Day => day_of(text).is_some(),
+        Takes::Day => read_day(text).is_some(),
     }
 }
 

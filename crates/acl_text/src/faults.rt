@@ -71,8 +71,6 @@ pub enum Code {
     ResetProtocol,
     /// A term has two different options.
     OptionClash,
-    /// The input is beyond what this version takes.
-    NotYet,
     /// More include lines than the limit.
     IncludeCount,
     /// A term for IPv6 names a protocol that is an extension header.

@@ -3,9 +3,10 @@ use Rattle.std.proofs.Common.{◌≡◌, ℕ, ℤ, pos, negsuc, Bool, true, fals
 use Rattle.std.specs.Prelude.{◌≤ℤ◌, T}
 use Rattle.std.specs.Int.Signed.{le_z, le_z_yes}
 use Rattle.std.proofs.Math.Dec.{T_prop}
+use Rattle.std.proofs.lemmas.Option.{same_Some}
 use Rattle.acl_host.specs.declared.clocks.Day.{Day}
 use Rattle.acl_host.specs.DaySteps.{day_in}
-use Rattle.acl_policy.specs.NamedDays.{day_if, day_at, day_named}
+use Rattle.acl_host.specs.NamedDays.{day_if, day_at, day_named}
 
 one_proof : (a b : ℤ) (p q : a ≤ℤ b) → p ≡ q
 one_proof a b p q = let prop : IsProp (a ≤ℤ b) = hlevel (T_prop) in prop p q
@@ -27,3 +28,7 @@ found_in (Some d) = found d
 pub is_named : (r : Option Day) (bs : List ℕ) → option_map (λ (d : Day). d.number) r ≡ day_in bs → r ≡ day_named bs
 unfolding day_named
 is_named r bs e = sym (found_in r) ∙ ap (λ x. option_and_then day_at x) e
+
+-- Two days of one number are the same.
+pub same-day : (a b : Day) → a.number ≡ b.number → a ≡ b
+same-day a b e = same_Some a b (sym (found a) ∙ ap day_at e ∙ found b)
