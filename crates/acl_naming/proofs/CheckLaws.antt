@@ -1,18 +1,18 @@
--- Names that are defined nowhere, and definitions that reach no cycle.
-use Rattle.std.proofs.Common.{◌≡◌, ℕ, zero, suc, ◌+◌, ◌<◌, Bool, true, false, drop, slice_set, replicate, ◌==◌, List, [], ◌∷◌, length, Option, None, Some, inl, inr, refl, ap, sym, ◌∙◌, arith}
-use Rattle.std.proofs.lemmas.Bool.{and_parts, or_cases, eqb-true}
+-- Names that are defined nowhere, and the steps of the search for rings.
+use Rattle.std.proofs.Common.{◌≡◌, ℕ, zero, suc, ◌+◌, ◌<◌, ◌≤◌, Bool, true, false, is_some, if◌then◌else◌, drop, slice_set, List, [], ◌∷◌, length, Option, None, Some, inl, inr, refl, ap, sym, subst, ◌∙◌, arith}
+use Rattle.std.proofs.lemmas.Bool.{cases_lt}
 use Rattle.std.proofs.lemmas.List.{drop_more}
 use Rattle.acl_naming.specs.declared.naming_items.Item.{Item}
+use Rattle.acl_naming.specs.declared.naming_items.Item.TheVariants.{Name, Network, Service}
 use Rattle.acl_naming.specs.declared.naming_items.Reference.{Reference}
-use Rattle.acl_naming.specs.Checking.{first_of, undefined_in, first_undefined, IsSettled}
+use Rattle.acl_naming.specs.Checking.{first_of, undefined_in, first_undefined, NoCycleBefore}
 use Rattle.acl_naming.specs.Definitions.{Definition, index_of, items_at}
-use Rattle.acl_naming.specs.GraphSteps.{targets, graph_of}
-use Rattle.acl_naming.specs.MarkSteps.{marked, all_marked, among, leads, IsClosed}
+use Rattle.acl_naming.specs.GraphSteps.{names_count, targets, with_index}
+use Rattle.acl_naming.specs.MarkSteps.{marked}
+use Rattle.acl_naming.specs.RankSteps.{steps_left}
 use Rattle.acl_naming.specs.Reach.{ReachesItself}
-use Rattle.acl_naming.specs.SettlingSteps.{steps_left}
-use Rattle.acl_naming.proofs.MarkLaws.{mark_only, mark_kept}
-use Rattle.acl_naming.proofs.GraphLaws.{option_cases, nowhere, items_get, leads_at, leads_all}
-use Rattle.acl_naming.proofs.WalkLaws.{blank_unmarked, closed_walk, undefined_walk}
+use Rattle.acl_naming.specs.Tables.{name_at}
+use Rattle.acl_naming.proofs.GraphLaws.{nowhere, items_get, index_name, first_index}
 
 -- what is undefined in the i-th definition, and behind it
 undefined_step : (base : List Definition) (i : ℕ) → i < length base
@@ -31,53 +31,7 @@ pub undefined_behind : (base : List Definition) (i : ℕ) → i < length base �
 undefined_behind base i h e =
     ap (λ (o : Option Reference). first_of o (first_undefined base (drop (i + 1) base))) e ∙ sym (undefined_step base i h)
 
--- ---- settled definitions
-
-all_marked_at : (m : List Bool) (js : List ℕ) (j : ℕ) → all_marked m js ≡ true → among j js ≡ true → marked m j ≡ true
-all_marked_at m [] j h a = absurd (cc)
-all_marked_at m (k ∷ js) j h a =
-    let p = and_parts (marked m k) (all_marked m js) h in
-    elim (or_cases (k == j) (among j js) a) [
-      | inl e ↦ ap (marked m) (sym (eqb-true k j e)) ∙ p.0
-      | inr b ↦ all_marked_at m js j p.1 b
-    ]
-
-module _ (base : List Definition) (m : List Bool) (i : ℕ) (settled : IsSettled base m)
-    (ready : all_marked m (targets base (items_at base i)) ≡ true) where
-  named_marked : (j : ℕ) → leads (graph_of base) i j ≡ true → marked m j ≡ true
-  named_marked j l = all_marked_at m (targets base (items_at base i)) j ready (sym (leads_at base base i j) ∙ l)
-
-  closed_more : IsClosed (graph_of base) (slice_set m i true)
-  closed_more = λ x j h l. elim (mark_only m x i h) [
-    | inl k ↦ mark_kept m j i (settled.closed x j k l)
-    | inr e ↦ mark_kept m j i (named_marked j (ap (λ y. leads (graph_of base) y j) (sym e) ∙ l))
-  ]
-
-  -- the definition itself reaches no cycle: what it names is marked, so a walk back would end at a mark
-  no_cycle_here : (name : List ℕ) → index_of base name ≡ Some i → ReachesItself base name → ⊥
-  no_cycle_here name e r = elim (option_cases (index_of base r.0)) [
-    | inl none ↦ undefined_walk base name r.0 r.1 i none e r.3.1
-    | inr k ↦
-        let there : marked m k.0 ≡ true = named_marked k.0 (leads_all base name r.0 i k.0 e r.3.0 k.1) in
-        settled.no_cycle name i e (closed_walk base m settled.closed r.0 name k.0 i r.1 k.1 there r.3.1 e) r
-  ]
-
-  no_cycle_more : (name : List ℕ) (x : ℕ) → index_of base name ≡ Some x → marked (slice_set m i true) x ≡ true → ReachesItself base name → ⊥
-  no_cycle_more name x e h r = elim (mark_only m x i h) [
-    | inl k ↦ settled.no_cycle name x e k r
-    | inr s ↦ no_cycle_here name (e ∙ ap Some s) r
-  ]
-
-  pub settled_more : IsSettled base (slice_set m i true)
-  settled_more = record { closed = closed_more; no_cycle = no_cycle_more }
-
-pub settled_none : (base : List Definition) (m : List Bool) → m ≡ replicate (length base) false → IsSettled base m
-settled_none base m e = record {
-  closed = λ i j h l. absurd (blank_unmarked (length base) i (ap (λ n. marked n i) (sym e) ∙ h));
-  no_cycle = λ name i f h r. blank_unmarked (length base) i (ap (λ n. marked n i) (sym e) ∙ h);
-}
-
--- ---- the steps by which definitions are settled
+-- ---- the steps of the search for rings
 
 -- a definition that is entered takes its own steps away
 pub left_entered : (base : List Definition) (m : List Bool) (i : ℕ) → i < length base → length m ≡ length base → marked m i ≡ false
@@ -88,3 +42,45 @@ left_entered (d ∷ ds) (true ∷ m) zero h f e = absurd (cc)
 left_entered (d ∷ ds) (false ∷ m) zero h f e = refl
 left_entered (d ∷ ds) (true ∷ m) (suc i) h f e = left_entered ds m i (omega arith) (omega arith) e
 left_entered (d ∷ ds) (false ∷ m) (suc i) h f e = omega (arith, left_entered ds m i (omega arith) (omega arith) e)
+
+-- no more places than names, and no more names than items
+targets_few : (base : List Definition) (items : List Item) → length (targets base items) ≤ names_count items
+targets_few base [] = omega arith
+targets_few base (Name r ∷ items) = with_one (index_of base r.name) (targets_few base items)
+  where
+    with_one : (o : Option ℕ) → length (targets base items) ≤ names_count items → length (with_index o (targets base items)) ≤ suc (names_count items)
+    with_one None few = omega (arith, few)
+    with_one (Some j) few = omega (arith, few)
+targets_few base (Network p ∷ items) = omega (arith, targets_few base items)
+targets_few base (Service p ∷ items) = omega (arith, targets_few base items)
+
+names_few : (items : List Item) → names_count items ≤ length items
+names_few [] = omega arith
+names_few (Name r ∷ items) = omega (arith, names_few items)
+names_few (Network p ∷ items) = omega (arith, names_few items)
+names_few (Service p ∷ items) = omega (arith, names_few items)
+
+pub links_few : (base : List Definition) (items : List Item) (links : List ℕ) → links ≡ targets base items → length links ≤ length items
+links_few base items links e = omega (arith, ap length e, targets_few base items, names_few items)
+
+-- where there is a place for each name, each is defined
+pub all_defined : (base : List Definition) (items : List Item) → length (targets base items) ≡ names_count items → undefined_in base items ≡ None
+all_defined base [] e = refl
+all_defined base (Name r ∷ items) e = with_one (index_of base r.name) (targets_few base items) (all_defined base items) e
+  where
+    with_one : (o : Option ℕ) → length (targets base items) ≤ names_count items → (length (targets base items) ≡ names_count items → undefined_in base items ≡ None)
+        → length (with_index o (targets base items)) ≡ suc (names_count items) → (if is_some o then undefined_in base items else Some r) ≡ None
+    with_one None few rest e = absurd (omega (arith, few, e))
+    with_one (Some j) few rest e = rest (omega (arith, e))
+all_defined base (Network p ∷ items) e = all_defined base items e
+all_defined base (Service p ∷ items) e = all_defined base items e
+
+-- a definition whose name has another definition before it reaches itself only where that one does
+pub no_cycle_here : (base : List Definition) (i : ℕ) → i < length base → NoCycleBefore base i
+    → (index_of base (name_at base i) ≡ Some i → ReachesItself base (name_at base i) → ⊥) → ReachesItself base (name_at base i) → ⊥
+no_cycle_here base i h before missed r =
+    let f = first_index base i h in
+    elim (cases_lt f.0 i) [
+      | inl lt ↦ before f.0 lt (subst (λ (n : List ℕ). ReachesItself base n) (index_name base (name_at base i) f.0 f.1).1 r)
+      | inr ge ↦ let same : f.0 ≡ i = omega (arith, ge, f.2) in missed (f.1 ∙ ap Some same) r
+    ]

@@ -1,10 +1,12 @@
 -- Names and the places of their definitions.
-use Rattle.std.proofs.Common.{◌≡◌, ℕ, zero, suc, ◌<◌, true, ◌==◌, ◌⊎◌, get_or, List, [], ◌∷◌, length, Option, None, Some, inl, inr, refl, ap, sym, ◌∙◌, arith}
-use Rattle.std.specs.List.{list_any}
+use Rattle.std.proofs.Common.{◌≡◌, ℕ, zero, suc, ◌<◌, ◌≤◌, Bool, true, ◌==◌, nat_lt, ◌⊎◌, ◌+◌, drop, get_or, List, [], ◌∷◌, ◌++◌, length, Option, None, Some, inl, inr, refl, ap, sym, ◌∙◌, arith, true≢false}
+use Rattle.std.specs.List.{list_any, position_or_len}
 use Rattle.std.specs.Str.{bytes_eq}
-use Rattle.std.proofs.lemmas.Bool.{eqb-true, eq-eqb, or_left, or_right, or_cases}
+use Rattle.std.proofs.lemmas.Bool.{cases_lt, cond-true, eqb-true, lt-ltb, eq-eqb, or_left, or_right, or_cases}
 use Rattle.std.proofs.lemmas.Option.{none-some, same_Some}
 use Rattle.std.proofs.lemmas.Slice.Eq.{bytes_eq-Decides}
+use Rattle.std.proofs.lemmas.List.{append_assoc, drop_more}
+use Rattle.std.proofs.lemmas.List.Sums.{fails_before_first}
 use Rattle.std.proofs.lemmas.List.Quantifiers.{position-Some}
 use Rattle.acl_naming.specs.declared.naming_items.Item.{Item}
 use Rattle.acl_naming.specs.declared.naming_items.Item.TheVariants.{Name, Network, Service}
@@ -35,6 +37,19 @@ index_name base name i e =
 -- two names with one definition are equal
 pub same_index : (base : List Definition) (a b : List ℕ) (i : ℕ) → index_of base a ≡ Some i → index_of base b ≡ Some i → a ≡ b
 same_index base a b i e f = (index_name base a i e).1 ∙ sym (index_name base b i f).1
+
+-- the first definition of a definition's name stands not behind it
+pub first_index : (base : List Definition) (i : ℕ) → i < length base → (k : ℕ) × (index_of base (name_at base i) ≡ Some k) × (k ≤ i)
+first_index base i h =
+    let name = name_at base i in
+    let test : Definition → Bool = λ d. bytes_eq name d.name in
+    let n = position_or_len test base in
+    let here : test (get_or base i nowhere) ≡ true = (bytes_eq-Decides name (get_or base i nowhere).name).1 (sym (name_get base i h)) in
+    let low : n ≤ i = elim (cases_lt i n) [
+      | inl lt ↦ absurd (true≢false (sym here ∙ fails_before_first test base i nowhere lt))
+      | inr ge ↦ ge
+    ] in
+    (n, cond-true (nat_lt n (length base)) (Some n) None (lt-ltb n (length base) (omega (arith, low))), low)
 
 pub items_found : (base : List Definition) (name : List ℕ) (i : ℕ) → index_of base name ≡ Some i → items_of base name ≡ items_at base i
 items_found base name i e = ap (items_in base) e
@@ -108,3 +123,19 @@ pub items_get : (ds : List Definition) (i : ℕ) → i < length ds → (get_or d
 items_get [] i h = absurd (omega arith)
 items_get (d ∷ ds) zero h = refl
 items_get (d ∷ ds) (suc i) h = items_get ds i (omega arith)
+
+-- ---- the rows of the graph
+
+pub row_at : (base ds : List Definition) (i : ℕ) (row : List ℕ) → i < length ds → row ≡ get_or (graph_in base ds) i row → row ≡ targets base (items_at ds i)
+row_at base [] i row h e = absurd (omega arith)
+row_at base (d ∷ ds) zero row h e = e
+row_at base (d ∷ ds) (suc i) row h e = row_at base ds i row (omega arith) e
+
+-- one row more
+pub row_added : (base : List Definition) (i : ℕ) (rows new : List (List ℕ)) (row : List ℕ) → i < length base → row ≡ targets base (items_at base i)
+    → new ≡ rows ++ row ∷ [] → rows ++ graph_in base (drop i base) ≡ graph_of base → new ++ graph_in base (drop (i + 1) base) ≡ graph_of base
+row_added base i rows new row h here added so_far =
+    let rest = graph_in base (drop (i + 1) base) in
+    ap (λ (g : List (List ℕ)). g ++ rest) added ∙ append_assoc rows (row ∷ []) rest
+    ∙ ap (λ (r : List ℕ). rows ++ r ∷ rest) (here ∙ ap (targets base) (sym (items_get base i h)))
+    ∙ ap (λ (ds : List Definition). rows ++ graph_in base ds) (sym (drop_more base i nowhere h)) ∙ so_far

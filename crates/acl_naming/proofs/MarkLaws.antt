@@ -1,6 +1,8 @@
 -- Marks: what one mark changes, and how many there are.
 use Rattle.std.proofs.Common.{◌≡◌, ℕ, zero, suc, ◌+◌, ◌<◌, ◌≤◌, Bool, true, false, ◌==◌, ◌⊎◌, if◌then◌else◌, List, [], ◌∷◌, ◌++◌, length, slice_set, inl, inr, refl, ap, sym, subst, ◌∙◌, arith, length-append}
 use Rattle.std.proofs.lemmas.Bool.{eq-eqb, eqb-true, or_left, or_right, or_cases}
+use Rattle.std.specs.List.{All}
+use Rattle.std.proofs.lemmas.List.Elements.{All-nil, All-cons, All-head, All-tail}
 use Rattle.std.proofs.lemmas.List.Folds.{list_any-append}
 use Rattle.acl_naming.specs.MarkSteps.{marked, mark_all, unmarked, among}
 
@@ -167,6 +169,45 @@ unmarked_counts (j ∷ js) m within =
     let here : count n ≡ count m + length (one_unmarked (marked m j) j) =
     one_counts (marked m j) m j (within j (or_left (j == j) (among j js) (eq-eqb j j refl))) refl in
     omega (arith, rest, here, length-append (one_unmarked (marked m j) j) (unmarked js n))
+
+-- ---- the places that have marks
+
+-- The places are those that have marks, each once.
+pub record AreListed (m : List Bool) (places : List ℕ) : Type 0 where
+  pub listed : (j : ℕ) → marked m j ≡ true → among j places ≡ true
+  pub marks : (j : ℕ) → among j places ≡ true → marked m j ≡ true
+  pub counts : count m ≡ length places
+
+pub listed_more : (m : List Bool) (places js : List ℕ) → ((j : ℕ) → among j js ≡ true → j < length m) → AreListed m places
+    → AreListed (mark_all js m) (places ++ unmarked js m)
+listed_more m places js within old = record {
+  listed = λ j h. elim (marked_before js m j h) [
+    | inl before ↦ among_left j places (unmarked js m) (old.listed j before)
+    | inr new ↦ among_right j places (unmarked js m) new
+  ];
+  marks = λ j h. elim (among_cases j places (unmarked js m) h) [
+    | inl a ↦ marks_kept js m j (old.marks j a)
+    | inr b ↦ let a : among j js ≡ true = unmarked_among js m j b in marks_all js m j a (within j a)
+  ];
+  counts = omega (arith, unmarked_counts js m within, old.counts, length-append places (unmarked js m));
+}
+
+pub listed_fits : (m : List Bool) (places : List ℕ) → AreListed m places → length places ≤ length m
+listed_fits m places l = omega (arith, l.counts, count_fits m)
+
+-- what holds of each of the places
+pub all_by : (P : ℕ → Type 0) (places : List ℕ) → ((j : ℕ) → among j places ≡ true → P j) → All P places
+all_by P [] each = All-nil P
+all_by P (k ∷ places) each =
+    All-cons P k places (each k (or_left (k == k) (among k places) (eq-eqb k k refl)))
+    (all_by P places (λ j h. each j (or_right (k == j) (among j places) h)))
+
+pub by_all : (P : ℕ → Type 0) (places : List ℕ) (j : ℕ) → All P places → among j places ≡ true → P j
+by_all P [] j all h = absurd (cc)
+by_all P (k ∷ places) j all h = elim (or_cases (k == j) (among j places) h) [
+  | inl e ↦ subst P (eqb-true k j e) (All-head P k places all)
+  | inr a ↦ by_all P places j (All-tail P k places all) a
+]
 
 -- ---- what marks stand for
 

@@ -1,19 +1,20 @@
--- Ranges of what the marked definitions hold.
-use Rattle.std.proofs.Common.{◌≡◌, ℕ, zero, suc, ◌+◌, ◌<◌, ◌↔◌, Bool, true, false, ◌&&◌, ◌||◌, nat_lt, take, List, [], ◌∷◌, length, Some, inl, inr, ap, sym, ◌∙◌, arith, add-one, add-zero}
+-- Ranges of what the definitions at places hold.
+use Rattle.std.proofs.Common.{◌≡◌, ℕ, ◌↔◌, ◌<◌, ◌+◌, Bool, true, false, ◌||◌, ◌==◌, nat_lt, take, get_or, List, [], ◌∷◌, length, Some, inl, inr, ap, sym, ◌∙◌, refl}
 use Rattle.std.specs.List.{list_any}
 use Rattle.std.proofs.Math.Bool.{or_assoc, or-false}
-use Rattle.std.proofs.lemmas.Bool.{and_parts, and_from, or_cases, or_left, or_right}
+use Rattle.std.proofs.lemmas.Bool.{eq-eqb, eqb-true, or_cases, or_left, or_right}
 use Rattle.std.proofs.lemmas.List.Elements.{All-nil}
+use Rattle.std.proofs.lemmas.List.Folds.{list_any_more}
 use Rattle.acl_sets.specs.declared.sets.Range.{Range}
 use Rattle.acl_sets.specs.Ranges.{IsRange, holds}
 use Rattle.acl_naming.specs.declared.naming_items.Item.{Item}
 use Rattle.acl_naming.specs.declared.reaching.Wanted.{Wanted}
 use Rattle.acl_naming.specs.Definitions.{Definition, index_of, items_at}
-use Rattle.acl_naming.specs.GraphSteps.{IsReached}
-use Rattle.acl_naming.specs.MarkSteps.{marked}
+use Rattle.acl_naming.specs.GraphSteps.{AreBehind}
+use Rattle.acl_naming.specs.MarkSteps.{among}
 use Rattle.acl_naming.specs.Reach.{Reaches}
-use Rattle.acl_naming.specs.LookupSteps.{top_of, has_number, is_wanted, Collects, IsReach, any_marked}
-use Rattle.acl_naming.proofs.WalkLaws.{marked_reaches}
+use Rattle.acl_naming.specs.LookupSteps.{top_of, has_number, is_wanted, Collects, IsReach, any_at, any_item}
+use Rattle.acl_naming.proofs.WalkLaws.{AreReached, places_reach, reached_too}
 
 -- first one collection, then another
 pub collects_on : (w : Wanted) (t u v : (Item → Bool) → Bool) (a b c : List Range) → ((p : Item → Bool) → v p ≡ t p || u p)
@@ -45,61 +46,57 @@ collects_same w t u a b e h = record {
   some = h.some ∙ ap (λ c. nat_lt 0 (length a) || c) (sym (e (is_wanted w)));
 }
 
--- ---- marked definitions, one after the other
+-- ---- the definitions at the places
 
-any_marked_from : (ds : List Definition) (k i : ℕ) (m : List Bool) (test : Item → Bool) → i < length ds
-    → any_marked (take (suc i) ds) k m test ≡ any_marked (take i ds) k m test || (marked m (k + i) && list_any test (items_at ds i))
-any_marked_from [] k i m test h = absurd (omega arith)
-any_marked_from (d ∷ ds) k zero m test h =
-    or-false (marked m k && list_any test d.items) ∙ ap (λ n. marked m n && list_any test d.items) (sym (add-zero k))
-any_marked_from (d ∷ ds) k (suc i) m test h =
-    let here = marked m k && list_any test d.items in
-    let there : (k + 1) + i ≡ k + suc i = omega arith in
-    ap (λ b. here || b) (any_marked_from ds (k + 1) i m test (omega arith))
-    ∙ sym (or_assoc here (any_marked (take i ds) (k + 1) m test) (marked m ((k + 1) + i) && list_any test (items_at ds i)))
-    ∙ ap (λ n. (here || any_marked (take i ds) (k + 1) m test) || (marked m n && list_any test (items_at ds i))) there
-
-pub any_marked_more : (ds : List Definition) (i : ℕ) (m : List Bool) → i < length ds → (test : Item → Bool)
-    → any_marked (take (i + 1) ds) 0 m test ≡ any_marked (take i ds) 0 m test || (marked m i && list_any test (items_at ds i))
-any_marked_more ds i m h test =
-    let there : 0 + i ≡ i = omega arith in
-    ap (λ n. any_marked (take n ds) 0 m test) (add-one i) ∙ any_marked_from ds 0 i m test h
-    ∙ ap (λ n. any_marked (take i ds) 0 m test || (marked m n && list_any test (items_at ds i))) there
-
-any_there : (ds : List Definition) (k : ℕ) (m : List Bool) (test : Item → Bool) → any_marked ds k m test ≡ true
-    → (j : ℕ) × (marked m (k + j) ≡ true) × (list_any test (items_at ds j) ≡ true)
-any_there [] k m test h = absurd (cc)
-any_there (d ∷ ds) k m test h = elim (or_cases (marked m k && list_any test d.items) (any_marked ds (k + 1) m test) h) [
-  | inl a ↦ let p = and_parts (marked m k) (list_any test d.items) a in (zero, ap (marked m) (add-zero k) ∙ p.0, p.1)
-  | inr b ↦ let r = any_there ds (k + 1) m test b in
-      let there : k + suc r.0 ≡ (k + 1) + r.0 = omega arith in
-      (suc r.0, ap (marked m) there ∙ r.1, r.2)
+any_there : (base : List Definition) (places : List ℕ) (test : Item → Bool) → any_at base places test ≡ true
+    → (j : ℕ) × (among j places ≡ true) × (list_any test (items_at base j) ≡ true)
+any_there base [] test h = absurd (cc)
+any_there base (k ∷ places) test h = elim (or_cases (list_any test (items_at base k)) (any_at base places test) h) [
+  | inl a ↦ (k, or_left (k == k) (among k places) (eq-eqb k k refl), a)
+  | inr b ↦ let r = any_there base places test b in (r.0, or_right (k == r.0) (among r.0 places) r.1, r.2)
 ]
 
-any_back : (ds : List Definition) (k j : ℕ) (m : List Bool) (test : Item → Bool) → marked m (k + j) ≡ true → list_any test (items_at ds j) ≡ true
-    → any_marked ds k m test ≡ true
-any_back [] k j m test h t = absurd (cc)
-any_back (d ∷ ds) k zero m test h t =
-    or_left (marked m k && list_any test d.items) (any_marked ds (k + 1) m test)
-    (and_from (marked m k) (list_any test d.items) (ap (marked m) (sym (add-zero k)) ∙ h) t)
-any_back (d ∷ ds) k (suc j) m test h t =
-    let there : (k + 1) + j ≡ k + suc j = omega arith in
-    or_right (marked m k && list_any test d.items) (any_marked ds (k + 1) m test)
-    (any_back ds (k + 1) j m test (ap (marked m) there ∙ h) t)
+any_back : (base : List Definition) (places : List ℕ) (j : ℕ) (test : Item → Bool) → among j places ≡ true → list_any test (items_at base j) ≡ true
+    → any_at base places test ≡ true
+any_back base [] j test h t = absurd (cc)
+any_back base (k ∷ places) j test h t = elim (or_cases (k == j) (among j places) h) [
+  | inl e ↦ or_left (list_any test (items_at base k)) (any_at base places test) (ap (λ x. list_any test (items_at base x)) (eqb-true k j e) ∙ t)
+  | inr a ↦ or_right (list_any test (items_at base k)) (any_at base places test) (any_back base places j test a t)
+]
 
--- what the marked definitions have is what the name reaches
-reaches_any : (base : List Definition) (name : List ℕ) (i : ℕ) (m : List Bool) (test : Item → Bool) → index_of base name ≡ Some i → IsReached base i m
-    → (any_marked base 0 m test ≡ true) ↔ Reaches base name test
-reaches_any base name i m test e reached =
-    let law = marked_reaches base name i m e test reached in (
-      λ h. let p = any_there base 0 m test h in let there : p.0 ≡ 0 + p.0 = omega arith in law.0 (p.0, ap (marked m) there ∙ p.1, p.2),
-      λ r. let p = law.1 r in let there : 0 + p.0 ≡ p.0 = omega arith in any_back base 0 p.0 m test (ap (marked m) there ∙ p.1) p.2,
-    )
+-- what the definitions at the places have is what the name reaches
+reaches_any : (base : List Definition) (name : List ℕ) (i : ℕ) (places : List ℕ) (test : Item → Bool) → index_of base name ≡ Some i
+    → AreReached base i places → (any_at base places test ≡ true) ↔ Reaches base name test
+reaches_any base name i places test e reached =
+    let law = places_reach base name i places e test reached in
+    (λ h. law.0 (any_there base places test h), λ r. let p = law.1 r in any_back base places p.0 test p.1 p.2)
 
-pub collects_reach : (base : List Definition) (name : List ℕ) (i : ℕ) (m : List Bool) (w : Wanted) (ranges : List Range) → index_of base name ≡ Some i
-    → IsReached base i m → Collects w (any_marked base 0 m) [] ranges → IsReach base name w ranges
-collects_reach base name i m w ranges e reached h = record {
-  fits = h.fits (All-nil (λ r. IsRange (top_of w) r));
-  exact = λ x. let law = reaches_any base name i m (has_number w x) e reached in (λ t. law.0 (sym (h.exact x) ∙ t), λ r. h.exact x ∙ law.1 r);
-  some = let law = reaches_any base name i m (is_wanted w) e reached in (λ t. law.0 (sym h.some ∙ t), λ r. h.some ∙ law.1 r);
-}
+pub collects_reach : (base : List Definition) (name : List ℕ) (i : ℕ) (places : List ℕ) (w : Wanted) (ranges : List Range) → index_of base name ≡ Some i
+    → AreBehind base i places → Collects w (any_at base (i ∷ places)) [] ranges → IsReach base name w ranges
+collects_reach base name i places w ranges e behind h =
+    let law : (test : Item → Bool) → (any_at base (i ∷ places) test ≡ true) ↔ Reaches base name test =
+    λ test. reaches_any base name i (i ∷ places) test e (reached_too base i places behind) in
+    record {
+      fits = h.fits (All-nil (λ r. IsRange (top_of w) r));
+      exact = λ x. (λ t. (law (has_number w x)).0 (sym (h.exact x) ∙ t), λ r. h.exact x ∙ (law (has_number w x)).1 r);
+      some = (λ t. (law (is_wanted w)).0 (sym h.some ∙ t), λ r. h.some ∙ (law (is_wanted w)).1 r);
+    }
+
+-- ---- one place after the other
+
+pub gather_first : (base : List Definition) (i : ℕ) (w : Wanted) (old new : List Range) → Collects w (any_item (items_at base i)) old new
+    → Collects w (any_at base (i ∷ [])) old new
+gather_first base i w old new h =
+    collects_same w (any_item (items_at base i)) (any_at base (i ∷ [])) old new (λ test. or-false (list_any test (items_at base i))) h
+
+pub gather_more : (base : List Definition) (i k : ℕ) (places : List ℕ) (w : Wanted) (old mid new : List Range) → k < length places
+    → Collects w (any_at base (i ∷ take k places)) old mid → Collects w (any_item (items_at base (get_or places k 0))) mid new
+    → Collects w (any_at base (i ∷ take (k + 1) places)) old new
+gather_more base i k places w old mid new within h g =
+    let there = get_or places k 0 in
+    collects_on w (any_at base (i ∷ take k places)) (any_item (items_at base there)) (any_at base (i ∷ take (k + 1) places)) old mid new
+    (λ test.
+    let first = list_any test (items_at base i) in
+    ap (λ b. first || b) (list_any_more (λ j. list_any test (items_at base j)) places k 0 within)
+    ∙ sym (or_assoc first (any_at base (take k places) test) (list_any test (items_at base there))))
+    h g

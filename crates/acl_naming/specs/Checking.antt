@@ -1,5 +1,5 @@
 -- What is wrong with the names of all definitions: a name that is defined nowhere, or one that reaches itself.
-use Rattle.std.specs.Prelude.{◌≡◌, ℕ, ◌<◌, Bool, true, is_some, if◌then◌else◌, List, [], ◌∷◌, length, Option, None, Some, Result, Ok, Err, ◌⊎◌}
+use Rattle.std.specs.Prelude.{◌≡◌, ℕ, ◌<◌, is_some, if◌then◌else◌, List, [], ◌∷◌, length, Option, None, Some, Result, Ok, Err, ◌⊎◌}
 use Rattle.acl_text.specs.declared.faults.Code.{Code}
 use Rattle.acl_text.specs.declared.faults.Code.TheVariants as codes
 use Rattle.acl_text.specs.declared.faults.Place.{Place}
@@ -10,8 +10,6 @@ use Rattle.acl_naming.specs.declared.naming_items.Item.{Item}
 use Rattle.acl_naming.specs.declared.naming_items.Item.TheVariants.{Name, Network, Service}
 use Rattle.acl_naming.specs.declared.naming_items.Reference.{Reference}
 use Rattle.acl_naming.specs.Definitions.{Definition, Naming, index_of}
-use Rattle.acl_naming.specs.GraphSteps.{graph_of}
-use Rattle.acl_naming.specs.MarkSteps.{marked, IsClosed}
 use Rattle.acl_naming.specs.Reach.{ReachesItself}
 use Rattle.acl_naming.specs.Tables.{name_at, place_at}
 
@@ -90,9 +88,3 @@ CyclesAreAbsent base (Err refusals.Memory) = Unit {0}
 abbrev pub IsRefusal : Slip → Refusal → Type 0
 IsRefusal s (refusals.Slip t) = t ≡ s
 IsRefusal s refusals.Memory = Unit {0}
-
--- Definitions all of whose names are settled before them: what they name is settled, and none reaches itself.
-pub record IsSettled (base : List Definition) (m : List Bool) : Type 0 where
-  pub closed : IsClosed (graph_of base) m
-  pub no_cycle : (name : List ℕ) (i : ℕ) → index_of base name ≡ Some i → marked m i ≡ true
-      → ReachesItself base name → ⊥

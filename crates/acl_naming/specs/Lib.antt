@@ -8,7 +8,7 @@ pub mod MarkSteps
 pub mod NamingFiles
 pub mod PortLaws
 pub mod Ports
+pub mod RankSteps
 pub mod Reach
-pub mod SettlingSteps
 pub mod TableViewSteps
 pub mod Tables

@@ -1,5 +1,5 @@
 -- What is looked up of a name: addresses of a family, or ports of a protocol.
-use Rattle.std.specs.Prelude.{◌≡◌, ◌↔◌, ℕ, ◌+◌, Bool, true, false, ◌&&◌, ◌||◌, nat_lt, List, [], ◌∷◌, length, Option, None, Some}
+use Rattle.std.specs.Prelude.{◌≡◌, ◌↔◌, ℕ, Bool, true, false, ◌||◌, nat_lt, List, length, Option, None, Some}
 use Rattle.std.specs.List.{list_any, All}
 use Rattle.acl_sets.specs.declared.sets.Range.{Range}
 use Rattle.acl_sets.specs.Ranges.{IsRange, inside, holds}
@@ -7,8 +7,7 @@ use Rattle.acl_naming.specs.declared.naming_items.Item.{Item}
 use Rattle.acl_naming.specs.declared.naming_items.Item.TheVariants.{Name, Network, Service}
 use Rattle.acl_naming.specs.declared.reaching.Wanted.{Wanted}
 use Rattle.acl_naming.specs.declared.reaching.Wanted.TheVariants.{Addresses, Ports}
-use Rattle.acl_naming.specs.Definitions.{Definition}
-use Rattle.acl_naming.specs.MarkSteps.{marked}
+use Rattle.acl_naming.specs.Definitions.{Definition, items_at}
 use Rattle.acl_packet.specs.Addresses.{top_address, same_family}
 use Rattle.acl_naming.specs.Ports.{top_port}
 use Rattle.acl_naming.specs.Reach.{holds_address, holds_port, is_service_of, Reaches}
@@ -42,13 +41,12 @@ pub record Collects (w : Wanted) (test : (Item → Bool) → Bool) (old new : Li
   pub exact : (x : ℕ) → holds new x ≡ holds old x || test (has_number w x)
   pub some : nat_lt 0 (length new) ≡ nat_lt 0 (length old) || test (is_wanted w)
 
--- Some item of the list passes the test; some item of a marked definition from the i-th on does.
+-- Some item of the list passes the test; some item of a definition at one of the places does.
 abbrev pub any_item : List Item → (Item → Bool) → Bool
 any_item items test = list_any test items
 
-abbrev pub any_marked : List Definition → ℕ → List Bool → (Item → Bool) → Bool
-any_marked [] i m test = false
-any_marked (d ∷ ds) i m test = (marked m i && list_any test d.items) || any_marked ds (i + 1) m test
+abbrev pub any_at : List Definition → List ℕ → (Item → Bool) → Bool
+any_at base places test = list_any (λ j. list_any test (items_at base j)) places
 
 -- The ranges are what the name reaches.
 pub record IsReach (base : List Definition) (name : List ℕ) (w : Wanted)

@@ -10,6 +10,7 @@ ghost use Rattle.acl_naming.specs.Reach.{ReachesAddress, ReachesPort, ReachesPro
 
 use crate::checking::check_tables;
 use crate::item_words::Kind;
+use crate::linking::LinkedTable;
 use crate::lookups::Lookup;
 use crate::naming_files::add_file;
 use crate::reaching::{Wanted, ranges_of, top_of};
@@ -40,8 +41,8 @@ impl Model for Base {
 /// Definitions of which each name is defined and none reaches itself. A contract sees what it sees of a `Base`.
 #[derive(Drop)]
 pub struct Checked {
-    networks: Table,
-    services: Table,
+    networks: LinkedTable,
+    services: LinkedTable,
 }
 
 impl Model for Checked {
@@ -116,6 +117,8 @@ pub fn check(base: Base) -> Result<Checked, Refusal>
         networks,
         services,
     } = base;
+    let networks = LinkedTable::new(alloc, networks)?;
+    let services = LinkedTable::new(alloc, services)?;
     check_tables(alloc, &networks, &services)?;
     Ok(Checked { networks, services })
 }

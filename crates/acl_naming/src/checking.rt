@@ -1,20 +1,24 @@
-ghost use Rattle.std.specs.Prelude.{◌≡◌, ◌↔◌, true, [], ◌∷◌, length, option_map, IfOk, MatchOption};
+ghost use Rattle.std.specs.Prelude.{◌≡◌, ◌<◌, true, false, Some, [], ◌∷◌, length, option_map, IfOk, MatchOption};
 ghost use Rattle.acl_naming.specs.Checking.{
   CyclesAreAbsent,
   HasNoCycle,
   IsChecked,
   IsFirstCycle,
-  IsSettled,
   NamesAreDefined,
   first_undefined,
   undefined_in,
 };
+ghost use Rattle.acl_naming.specs.Definitions.{index_of, items_at};
+ghost use Rattle.acl_naming.specs.GraphSteps.{names_count};
+ghost use Rattle.acl_naming.specs.RankSteps.{NeverFall};
 ghost use Rattle.acl_naming.specs.Reach.{ReachesItself};
+ghost use Rattle.acl_naming.specs.Tables.{name_at};
 
-use crate::marking::{has_mark, reached_by_items};
+use crate::linking::LinkedTable;
+use crate::marking::places_behind;
 use crate::naming_items::{Item, Reference};
+use crate::ranking::{lowest, ranks};
 use crate::refusals::refusal;
-use crate::settling::settled;
 use crate::tables::Table;
 use acl_text::{Code, Memory, Refusal};
 use std::alloc::Global;
@@ -43,49 +47,80 @@ fn undefined_in<'a>(table: &Table, items: &'a [Item]) -> Option<&'a Reference>
     None
 }
 
-/// The first item that is a name defined nowhere.
-pub fn first_undefined(table: &Table) -> Option<&Reference>
-    ensures { option_map (λ r. r.now) result ≡ first_undefined table.now table.now }
+fn names_count(items: &[Item]) -> usize
+    ensures { result ≡ names_count items.now }
 {
-    for i in 0..table.len() {
-        if let Some(reference) = undefined_in(table, table.items_at(i)) {
+    let mut count = 0;
+    for item in items {
+        if let Item::Name(_) = item {
+            count += 1;
+        }
+    }
+    count
+}
+
+// Where each name leads somewhere, none has to be looked up again.
+fn undefined_at(linked: &LinkedTable, index: usize) -> Option<&Reference>
+    requires { index < length linked.now }
+    ensures { option_map (λ r. r.now) result
+        ≡ undefined_in linked.now (items_at linked.now index) }
+{
+    let table = linked.table();
+    let items = table.items_at(index);
+    if linked.links_at(index).len() == names_count(items) {
+        return None;
+    }
+    undefined_in(table, items)
+}
+
+/// The first item that is a name defined nowhere.
+pub fn first_undefined(linked: &LinkedTable) -> Option<&Reference>
+    ensures { option_map (λ r. r.now) result ≡ first_undefined linked.now linked.now }
+{
+    for i in 0..linked.len() {
+        if let Some(reference) = undefined_at(linked, i) {
             return Some(reference);
         }
     }
     None
 }
 
-fn reaches_itself(alloc: Global, table: &Table, marks: &[bool], name: &[u8]) -> Result<bool, Memory>
-    requires fits { length marks.now ≡ length table.now }
-    requires settled { IsSettled table.now marks.now }
-    ensures { IfOk result (λ b. (b ≡ true) ↔ ReachesItself table.now name.now) }
+fn reaches_itself(
+    alloc: Global,
+    table: &LinkedTable,
+    ranks: &[usize],
+    index: usize,
+) -> Result<bool, Memory>
+    requires within { index < length table.now }
+    requires fits { length ranks.now ≡ length table.now }
+    requires steady { NeverFall table.now ranks.now }
+    ensures found { IfOk result (λ b. b ≡ true
+        → ReachesItself table.now (name_at table.now index)) }
+    ensures missed { IfOk result (λ b. b ≡ false
+        → index_of table.now (name_at table.now index) ≡ Some index
+        → ReachesItself table.now (name_at table.now index) → ⊥) }
 {
-    let Some(index) = table.index_of(name) else {
-        return Ok(false);
-    };
-    if marks[index] {
+    if lowest(table.links_at(index), ranks) > ranks[index] {
         return Ok(false);
     }
-    let reached = reached_by_items(alloc, table, index)?;
-    Ok(has_mark(&reached, index))
+    Ok(places_behind(alloc, table, index)?.contains(&index))
 }
 
 /// The first definition that reaches itself.
-pub fn first_cycle(alloc: Global, table: &Table) -> Result<Option<usize>, Memory>
+pub fn first_cycle(alloc: Global, table: &LinkedTable) -> Result<Option<usize>, Memory>
     ensures { IfOk result
         (λ o. MatchOption o (HasNoCycle table.now) (λ i. IsFirstCycle table.now i)) }
 {
-    // what is not settled is in a ring or in front of one
-    let marks = settled(alloc, table)?;
+    let ranks = ranks(alloc, table)?;
     for i in 0..table.len() {
-        if reaches_itself(alloc, table, &marks, table.name_at(i))? {
+        if reaches_itself(alloc, table, &ranks, i)? {
             return Ok(Some(i));
         }
     }
     Ok(None)
 }
 
-fn check_names(alloc: Global, networks: &Table, services: &Table) -> Result<(), Refusal>
+fn check_names(alloc: Global, networks: &LinkedTable, services: &LinkedTable) -> Result<(), Refusal>
     ensures { NamesAreDefined (record { networks = networks.now; services = services.now }) result }
 {
     if let Some(found) = first_undefined(networks) {
@@ -97,10 +132,11 @@ fn check_names(alloc: Global, networks: &Table, services: &Table) -> Result<(), 
     Ok(())
 }
 
-fn check_cycles(alloc: Global, table: &Table) -> Result<(), Refusal>
-    ensures { CyclesAreAbsent table.now result }
+fn check_cycles(alloc: Global, linked: &LinkedTable) -> Result<(), Refusal>
+    ensures { CyclesAreAbsent linked.now result }
 {
-    match first_cycle(alloc, table)? {
+    let table = linked.table();
+    match first_cycle(alloc, linked)? {
         Some(index) => Err(refusal(
             alloc,
             Code::Cycle,
@@ -112,7 +148,11 @@ fn check_cycles(alloc: Global, table: &Table) -> Result<(), Refusal>
 }
 
 /// Whether each name is defined and none reaches itself.
-pub fn check_tables(alloc: Global, networks: &Table, services: &Table) -> Result<(), Refusal>
+pub fn check_tables(
+    alloc: Global,
+    networks: &LinkedTable,
+    services: &LinkedTable,
+) -> Result<(), Refusal>
     ensures { IsChecked (record { networks = networks.now; services = services.now }) result }
 {
     check_names(alloc, networks, services)?;

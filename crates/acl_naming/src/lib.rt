@@ -6,13 +6,14 @@ mod checking;
 mod item_words;
 mod laws;
 mod line_parts;
+mod linking;
 mod lookups;
 mod marking;
 mod naming_files;
 mod naming_items;
+mod ranking;
 mod reaching;
 mod refusals;
-mod settling;
 mod tables;
 #[cfg(test)]
 mod tests;

@@ -1,100 +1,68 @@
 ghost use Rattle.std.specs.Prelude.{◌≡◌, ◌<◌, ◌++◌, true, [], ◌∷◌, length, slice_set, IfOk, OnOk};
-ghost use Rattle.acl_naming.specs.GraphSteps.{IsBehind, IsReached, blank, targets};
-ghost use Rattle.acl_naming.specs.MarkSteps.{mark_all, marked, unmarked};
+ghost use Rattle.std.specs.List.{All};
+ghost use Rattle.acl_naming.specs.GraphSteps.{AreBehind, blank};
+ghost use Rattle.acl_naming.specs.MarkSteps.{mark_all, unmarked};
 
-use crate::naming_items::Item;
-use crate::tables::Table;
+use crate::linking::LinkedTable;
 use acl_text::Memory;
 use std::alloc::Global;
 
-// Marks the place. One that had no mark is put on the list of those whose items are still to be looked at.
-fn mark(marks: &mut [bool], waiting: &mut Vec<usize>, index: usize) -> Result<(), Memory>
+// Marks the place. One that had no mark is put behind those that are known.
+fn mark(marks: &mut [bool], places: &mut Vec<usize>, index: usize) -> Result<(), Memory>
     requires { index < length marks.old }
     ensures marked { OnOk result (marks.new ≡ slice_set marks.old index true) }
-    ensures opened { OnOk result (waiting.new.items
-        ≡ waiting.old.items ++ unmarked (index ∷ []) marks.old) }
+    ensures added { OnOk result (places.new.items
+        ≡ places.old.items ++ unmarked (index ∷ []) marks.old) }
 {
     if !marks[index] {
-        waiting.push(index)?;
+        places.push(index)?;
     }
     marks[index] = true;
     Ok(())
 }
 
-/// Whether the place has a mark.
-pub fn has_mark(marks: &[bool], index: usize) -> bool
-    requires { index < length marks.now }
-    ensures { result ≡ marked marks.now index }
+fn mark_links(links: &[usize], marks: &mut [bool], places: &mut Vec<usize>) -> Result<(), Memory>
+    requires { All (λ j. j < length marks.old) links.now }
+    ensures marked { OnOk result (marks.new ≡ mark_all links.now marks.old) }
+    ensures added { OnOk result (places.new.items
+        ≡ places.old.items ++ unmarked links.now marks.old) }
 {
-    marks[index]
-}
-
-fn mark_item(
-    table: &Table,
-    item: &Item,
-    marks: &mut [bool],
-    waiting: &mut Vec<usize>,
-) -> Result<(), Memory>
-    requires { length marks.old ≡ length table.now }
-    ensures marked { OnOk result (marks.new
-        ≡ mark_all (targets table.now (item.now ∷ [])) marks.old) }
-    ensures opened { OnOk result (waiting.new.items
-        ≡ waiting.old.items ++ unmarked (targets table.now (item.now ∷ [])) marks.old) }
-{
-    match item {
-        Item::Name(reference) => match table.index_of(reference.name.as_slice()) {
-            Some(index) => mark(marks, waiting, index),
-            None => Ok(()),
-        },
-        Item::Network(_) => Ok(()),
-        Item::Service(_) => Ok(()),
-    }
-}
-
-// Marks what the items name.
-fn mark_items(
-    table: &Table,
-    items: &[Item],
-    marks: &mut [bool],
-    waiting: &mut Vec<usize>,
-) -> Result<(), Memory>
-    requires { length marks.old ≡ length table.now }
-    ensures marked { OnOk result (marks.new ≡ mark_all (targets table.now items.now) marks.old) }
-    ensures opened { OnOk result (waiting.new.items
-        ≡ waiting.old.items ++ unmarked (targets table.now items.now) marks.old) }
-{
-    for item in items {
-        mark_item(table, item, marks, waiting)?;
+    for link in links {
+        mark(marks, places, *link)?;
     }
     Ok(())
 }
 
-pub fn no_marks(alloc: Global, table: &Table) -> Result<Vec<bool>, Memory>
+pub fn no_marks(alloc: Global, table: &LinkedTable) -> Result<Vec<bool>, Memory>
     ensures { IfOk result (λ v. v.items ≡ blank table.now) }
 {
     Ok(vec![in alloc; false; table.len()]?)
 }
 
-/// The marks of what the definition's names reach.
-pub fn reached_by_items(alloc: Global, table: &Table, index: usize) -> Result<Vec<bool>, Memory>
+// Each place is looked at once, in the order in which the places were found.
+fn follow_links(alloc: Global, table: &LinkedTable, index: usize) -> Result<Vec<usize>, Memory>
     requires { index < length table.now }
-    ensures { IfOk result (λ v. IsBehind table.now index v.items) }
+    ensures { IfOk result (λ v. AreBehind table.now index v.items) }
 {
     let mut marks = no_marks(alloc, table)?;
-    let mut waiting = Vec::new(alloc);
-    mark_items(table, table.items_at(index), &mut marks, &mut waiting)?;
-    while let Some(next) = waiting.pop() {
-        mark_items(table, table.items_at(next), &mut marks, &mut waiting)?;
+    let mut places = Vec::new(alloc);
+    mark_links(table.links_at(index), &mut marks, &mut places)?;
+    let mut done = 0;
+    while done < places.len() {
+        mark_links(table.links_at(places[done]), &mut marks, &mut places)?;
+        done += 1;
     }
-    Ok(marks)
+    Ok(places)
 }
 
-/// The marks of what the definition reaches, itself included.
-pub fn reached(alloc: Global, table: &Table, index: usize) -> Result<Vec<bool>, Memory>
+/// Where the definitions stand that the definition's names reach, each once.
+pub fn places_behind(alloc: Global, table: &LinkedTable, index: usize) -> Result<Vec<usize>, Memory>
     requires { index < length table.now }
-    ensures { IfOk result (λ v. IsReached table.now index v.items) }
+    ensures { IfOk result (λ v. AreBehind table.now index v.items) }
 {
-    let mut marks = reached_by_items(alloc, table, index)?;
-    marks[index] = true;
-    Ok(marks)
+    // most definitions name nothing, and need no marks
+    if table.links_at(index).is_empty() {
+        return Ok(Vec::new(alloc));
+    }
+    follow_links(alloc, table, index)
 }

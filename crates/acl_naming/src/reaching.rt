@@ -1,13 +1,13 @@
-ghost use Rattle.std.specs.Prelude.{◌≡◌, ℕ, ◌<◌, ◌↔◌, ◌&&◌, Bool, true, [], None, Err, length, IsSome, IfOk, OnOk};
+ghost use Rattle.std.specs.Prelude.{◌≡◌, ℕ, ◌<◌, ◌↔◌, Bool, true, [], ◌∷◌, None, Err, length, IsSome, IfOk, OnOk};
 ghost use Rattle.std.specs.List.{All, list_any};
 ghost use Rattle.acl_sets.specs.Ranges.{IsNormal, holds};
-ghost use Rattle.acl_naming.specs.Definitions.{index_of, items_at};
-ghost use Rattle.acl_naming.specs.MarkSteps.{marked};
+ghost use Rattle.acl_naming.specs.Definitions.{index_of};
 ghost use Rattle.acl_naming.specs.Reach.{Reaches};
-ghost use Rattle.acl_naming.specs.LookupSteps.{Collects, IsRangeOf, IsReach, any_item, any_marked, has_number, is_wanted, top_of};
+ghost use Rattle.acl_naming.specs.LookupSteps.{Collects, IsRangeOf, IsReach, any_at, any_item, has_number, is_wanted, top_of};
 
+use crate::linking::LinkedTable;
 use crate::lookups::Lookup;
-use crate::marking::{has_mark, reached};
+use crate::marking::places_behind;
 use crate::naming_items::Item;
 use crate::tables::Table;
 use acl_packet::Family;
@@ -64,38 +64,22 @@ fn push_items(out: &mut Vec<Range>, wanted: Wanted, items: &[Item]) -> Result<()
     Ok(())
 }
 
-// The ranges of what is wanted in the definition, where it is marked.
-fn push_marked(
-    out: &mut Vec<Range>,
-    table: &Table,
-    marks: &[bool],
-    wanted: Wanted,
-    index: usize,
-) -> Result<(), Memory>
-    requires fits { length marks.now ≡ length table.now }
-    requires within { index < length table.now }
-    ensures { OnOk result (Collects wanted
-        (λ test. marked marks.now index && list_any test (items_at table.now index))
-        out.old.items out.new.items) }
-{
-    if has_mark(marks, index) {
-        push_items(out, wanted, table.items_at(index))?;
-    }
-    Ok(())
-}
-
+// The ranges of what is wanted in the definition, and in those at the places.
 fn gather(
     alloc: Global,
     table: &Table,
-    marks: &[bool],
+    index: usize,
+    places: &[usize],
     wanted: Wanted,
 ) -> Result<Vec<Range>, Memory>
-    requires { length marks.now ≡ length table.now }
-    ensures { IfOk result (λ v. Collects wanted (any_marked table.now 0 marks.now) [] v.items) }
+    requires first { index < length table.now }
+    requires within { All (λ j. j < length table.now) places.now }
+    ensures { IfOk result (λ v. Collects wanted (any_at table.now (index ∷ places.now)) [] v.items) }
 {
     let mut out = Vec::new(alloc);
-    for i in 0..table.len() {
-        push_marked(&mut out, table, marks, wanted, i)?;
+    push_items(&mut out, wanted, table.items_at(index))?;
+    for place in places {
+        push_items(&mut out, wanted, table.items_at(*place))?;
     }
     Ok(out)
 }
@@ -103,17 +87,18 @@ fn gather(
 /// The ranges of what the name reaches.
 pub fn ranges_of(
     alloc: Global,
-    table: &Table,
+    linked: &LinkedTable,
     wanted: Wanted,
     name: &[u8],
 ) -> Result<Vec<Range>, Lookup>
-    ensures reached { IfOk result (λ v. IsReach table.now name.now wanted v.items) }
-    ensures unknown { (result ≡ Err Lookup.Unknown) ↔ (index_of table.now name.now ≡ None) }
+    ensures reached { IfOk result (λ v. IsReach linked.now name.now wanted v.items) }
+    ensures unknown { (result ≡ Err Lookup.Unknown) ↔ (index_of linked.now name.now ≡ None) }
     ensures no_port { result ≡ Err Lookup.NoPort → ⊥ }
 {
+    let table = linked.table();
     let Some(index) = table.index_of(name) else {
         return Err(Lookup::Unknown);
     };
-    let marks = reached(alloc, table, index)?;
-    Ok(gather(alloc, table, &marks, wanted)?)
+    let places = places_behind(alloc, linked, index)?;
+    Ok(gather(alloc, table, index, &places, wanted)?)
 }

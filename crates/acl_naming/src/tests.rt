@@ -142,7 +142,7 @@ static SERVICES: [Case; 8] = [
     },
 ];
 
-static NAMES: [Case; 5] = [
+static NAMES: [Case; 8] = [
     Case {
         text: b"A = B\nB = C\nC = A\nD = NOWHERE\n",
         code: Code::Undefined,
@@ -172,6 +172,25 @@ static NAMES: [Case; 5] = [
         code: Code::Cycle,
         line: 3,
         word: b"C",
+    },
+    // the first definition leads from one ring to another, and stands in none
+    Case {
+        text: b"A = D\nB = C A\nC = B\nD = D\n",
+        code: Code::Cycle,
+        line: 2,
+        word: b"B",
+    },
+    Case {
+        text: b"A = D\nD = E\nE = D\nB = C A\nC = B\n",
+        code: Code::Cycle,
+        line: 2,
+        word: b"D",
+    },
+    Case {
+        text: b"A = B C\nB = D\nC = D\nD = E B 1.2.3.4\nE = 1.2.3.4\n",
+        code: Code::Cycle,
+        line: 2,
+        word: b"B",
     },
 ];
 
@@ -335,26 +354,35 @@ fn many(alloc: Global, count: usize, front: &[u8], each: &[u8]) -> Result<Vec<u8
     Ok(text)
 }
 
-// Each name stands for the next one, and the last one for an address.
-fn chain(alloc: Global, count: u32) -> Result<Vec<u8>, Fail> {
+// Each name stands twice for the next one, and the last one for the word.
+fn chain(alloc: Global, count: u32, word: &str) -> Result<Vec<u8>, Fail> {
     let mut text = Vec::new(alloc);
     for i in 0..count {
         let next = i + 1;
-        text.extend_from_slice(format!(in alloc; "N{i} = N{next}\n")?.as_bytes())?;
+        text.extend_from_slice(format!(in alloc; "N{i} = N{next} N{next}\n")?.as_bytes())?;
     }
-    text.extend_from_slice(format!(in alloc; "N{count} = 192.0.2.1\n")?.as_bytes())?;
+    text.extend_from_slice(format!(in alloc; "N{count} = {word}\n")?.as_bytes())?;
     Ok(text)
 }
 
 #[test]
 fn a_long_chain_is_followed_to_its_end(rt: HostRuntime) -> Result<(), Fail> {
     let alloc = rt.alloc();
-    let base = example(&rt, alloc, &chain(alloc, 300)?, b"")?;
+    let base = example(&rt, alloc, &chain(alloc, 8000, "192.0.2.1")?, b"")?;
     let last = [Range {
         low: 0xc000_0201,
         high: 0xc000_0201,
     }];
     expect_ranges(&rt, networks_of(alloc, &base, Family::V4, b"N0"), &last);
+    Ok(())
+}
+
+#[test]
+fn a_ring_behind_a_long_chain_is_found(rt: HostRuntime) -> Result<(), Fail> {
+    let alloc = rt.alloc();
+    let text = chain(alloc, 8000, "N7999")?;
+    let base = networks(&rt, Base::new(alloc), 0, &text)?;
+    expect_slip(&rt, check(base), 0, Code::Cycle, 8000, b"N7999");
     Ok(())
 }
 

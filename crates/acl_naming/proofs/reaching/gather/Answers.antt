@@ -1,16 +1,29 @@
-use Rattle.std.proofs.Common.{◌+◌, ◌<◌, ◌&&◌, take, [], length, arith}
-use Rattle.std.specs.List.{list_any}
+use Rattle.std.proofs.Common.{◌<◌, get_or, length, [], List, subst, arith}
+use Rattle.acl_sets.specs.declared.sets.Range.{Range}
+use Rattle.acl_naming.specs.declared.naming_items.Item.{Item}
 use Rattle.acl_naming.specs.Definitions.{items_at}
-use Rattle.acl_naming.specs.MarkSteps.{marked}
-use Rattle.acl_naming.specs.LookupSteps.{any_marked}
-use Rattle.acl_naming.proofs.ReachLaws.{collects_on, any_marked_more}
+use Rattle.acl_naming.specs.LookupSteps.{Collects, any_item}
+use Rattle.acl_naming.proofs.ReachLaws.{gather_first, gather_more}
 use Rattle.acl_naming.proofs.reaching.gather.Goals as goal
 
-pub loop-i-preserved : goal.loop-i-preserved
-loop-i-preserved c =
+pub loop-place-init : goal.loop-place-init
+loop-place-init c =
     let base = c.args.table.now in
-    let m = c.args.marks.now in
-    let i = c.loop-i.i in
-    let within : i < length base = omega (arith, c.len-i-end.ensures) in
-    collects_on c.args.wanted (any_marked (take i base) 0 m) (λ test. marked m i && list_any test (items_at base i)) (any_marked (take (i + 1) base) 0 m)
-    [] c.loop-i.out.items c.push_marked.new.out.items (any_marked_more base i m within) c.loop-i.invariant c.in_ok-push_marked.ensures
+    let i = c.args.index in
+    let w = c.args.wanted in
+    let out = c.push_items.new.out.items in
+    gather_first base i w [] out
+    (subst (λ (old : List Range). Collects w (any_item (items_at base i)) old out) c.new-out.ensures.items
+    (subst (λ (items : List Item). Collects w (any_item items) c.new-out.result.items out) c.items_at.ensures c.in_ok-push_items.ensures))
+
+pub loop-place-preserved : goal.loop-place-preserved
+loop-place-preserved c =
+    let base = c.args.table.now in
+    let places = c.args.places.now in
+    let k = c.loop-place.place-index in
+    let within : k < length places = omega arith in
+    let out = c.loop-place.out.items in
+    gather_more base c.args.index k places c.args.wanted [] out c.push_items-in-loop-place.new.out.items within
+    c.loop-place.invariant
+    (subst (λ (items : List Item). Collects c.args.wanted (any_item items) out c.push_items-in-loop-place.new.out.items) c.items_at-in-loop-place.ensures
+    c.in_ok-push_items-2.ensures)
