@@ -1,0 +1,3 @@
+mod AskingLaws
+mod CommandLineLaws
+mod NamedDates

@@ -1,0 +1,3 @@
+pub mod CodeViews
+pub mod CommandLines
+pub mod ComputableOptions

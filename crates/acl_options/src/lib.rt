@@ -1,0 +1,11 @@
+//! The words of the command line, and what they ask for.
+#![tactic(auto)]
+
+mod command;
+mod laws;
+mod options;
+#[cfg(test)]
+mod tests;
+
+pub use laws::{options_are_asked_for, options_are_one, the_command_is_simple};
+pub use options::{Options, read_options};

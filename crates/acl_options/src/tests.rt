@@ -1,0 +1,209 @@
+use crate::read_options;
+use std::alloc::{AllocError, Global};
+use std::test::Fail;
+
+// The words of a text, each behind a space; two spaces have an empty word between them.
+fn words_of(alloc: Global, text: &str) -> Result<Vec<String>, AllocError> {
+    let mut words = Vec::new(alloc);
+    for word in text.split(' ').skip(1) {
+        words.push(String::from_str(alloc, word)?)?;
+    }
+    Ok(words)
+}
+
+// What clap's documentation says of an option that takes one value, and of the words between them; the answer has
+// the policy's path, the folder of the naming files and the folder for the filters.
+static LINES: [(&str, Option<(&str, &str, &str)>); 38] = [
+    (
+        " --policy_file a.pol --definitions_directory def --output_directory out",
+        Some(("a.pol", "def", "out")),
+    ),
+    (
+        " --output_directory=out --policy_file=a.pol --definitions_directory=def",
+        Some(("a.pol", "def", "out")),
+    ),
+    (
+        " --policy_file==/a --definitions_directory def/ --output_directory / --",
+        Some(("=/a", "def/", "/")),
+    ),
+    (
+        " --policy_file - --definitions_directory=-d --output_directory=--",
+        Some(("-", "-d", "--")),
+    ),
+    ("", None),
+    (" ", None),
+    (" --definitions_directory def --output_directory out", None),
+    (" --policy_file a.pol --output_directory out", None),
+    (" --policy_file a.pol --definitions_directory def", None),
+    (
+        " --policy_file a --policy_file a --definitions_directory def --output_directory out",
+        None,
+    ),
+    (
+        " --policy_file a --definitions_directory d --definitions_directory d --output_directory out",
+        None,
+    ),
+    (
+        " --policy_file a --definitions_directory d --output_directory o --output_directory=o",
+        None,
+    ),
+    (
+        " --policy_file= --definitions_directory def --output_directory out",
+        None,
+    ),
+    (
+        " --policy_file  --definitions_directory def --output_directory out",
+        None,
+    ),
+    (
+        " --policy_file a.pol --definitions_directory= --output_directory out",
+        None,
+    ),
+    (
+        " --policy_file a.pol --definitions_directory def --output_directory=",
+        None,
+    ),
+    (
+        " --policy_file a.pol --definitions_directory def --output_directory ",
+        None,
+    ),
+    (
+        " --policy_file pol/ --definitions_directory def --output_directory out",
+        None,
+    ),
+    (
+        " --policy_file / --definitions_directory def --output_directory out",
+        None,
+    ),
+    (
+        " --policy_file --definitions_directory def --output_directory out",
+        None,
+    ),
+    (
+        " --definitions_directory def --output_directory out --policy_file",
+        None,
+    ),
+    (
+        " --policy_file -- --definitions_directory def --output_directory out",
+        None,
+    ),
+    (
+        " --policy_file -a --definitions_directory def --output_directory out",
+        None,
+    ),
+    (
+        " --policy_file a.pol b.pol --definitions_directory def --output_directory out",
+        None,
+    ),
+    (
+        " a.pol --policy_file a.pol --definitions_directory def --output_directory out",
+        None,
+    ),
+    (
+        " -- --policy_file a.pol --definitions_directory def --output_directory out",
+        None,
+    ),
+    (
+        " --policy_file a.pol --definitions_directory def --output_directory out -- more",
+        None,
+    ),
+    (
+        " --policy a.pol --definitions_directory def --output_directory out",
+        None,
+    ),
+    (
+        " --policy-file a.pol --definitions_directory def --output_directory out",
+        None,
+    ),
+    (
+        " -policy_file a.pol --definitions_directory def --output_directory out",
+        None,
+    ),
+    (
+        " --Policy_file a.pol --definitions_directory def --output_directory out",
+        None,
+    ),
+    (
+        " policy_file a.pol --definitions_directory def --output_directory out",
+        None,
+    ),
+    (
+        " --=a.pol --definitions_directory def --output_directory out",
+        None,
+    ),
+    (" --help", None),
+    (" -h", None),
+    (" help", None),
+    (" --version", None),
+    (" -V", None),
+];
+
+#[test]
+fn lines_are_read(rt: HostRuntime) -> Result<(), Fail> {
+    for (line, paths) in &LINES {
+        let words = words_of(rt.alloc(), line)?;
+        let options = read_options(rt.alloc(), words.as_slice())?;
+        assert!(rt;
+            options.map(|o| (o.policy, o.definitions, o.output)) == *paths,
+            "{line}"
+        );
+    }
+    Ok(())
+}
+
+// Days since 1970-01-01, as GNU date counts them, and the weeks.
+static MORE: [(&str, Option<(Option<i32>, u16)>); 38] = [
+    ("", Some((None, 2))),
+    (" --", Some((None, 2))),
+    (" --date 2026-01-15", Some((Some(20468), 2))),
+    (" --date=2000-02-29", Some((Some(11016), 2))),
+    (" --date 0001-01-01", Some((Some(-719162), 2))),
+    (" --date 9999-12-31", Some((Some(2932896), 2))),
+    (" --exp_info 0", Some((None, 0))),
+    (" --exp_info=520", Some((None, 520))),
+    (" --exp_info 3 --date 1970-01-01", Some((Some(0), 3))),
+    (" --date 2026-02-30", None),
+    (" --date 0000-01-01", None),
+    (" --date 10000-01-01", None),
+    (" --date 2026-1-15", None),
+    (" --date=", None),
+    (" --date ", None),
+    (" --date", None),
+    (" --date 2026-01-15 --date 2026-01-15", None),
+    (" --date 2026-01-15 2026-01-15", None),
+    (" --exp_info 521", None),
+    (" --exp_info 02", None),
+    (" --exp_info +2", None),
+    (" --exp_info -1", None),
+    (" --exp_info=-1", None),
+    (" --exp_info=-0", None),
+    (" --exp_info 2.0", None),
+    (" --exp_info 18446744073709551618", None),
+    (" --exp_info=", None),
+    (" --exp_info", None),
+    (" --exp_info 2 --exp_info 2", None),
+    (" --exp 2", None),
+    (" --policy_file a.pol", None),
+    (" --help", None),
+    (" -h", None),
+    (" --version", None),
+    (" -V", None),
+    (" --shade_check", None),
+    (" --workload 3", None),
+    (" -", None),
+];
+
+#[test]
+fn days_and_weeks_are_read(rt: HostRuntime) -> Result<(), Fail> {
+    for (more, asked) in &MORE {
+        let files = " --policy_file a.pol --definitions_directory def --output_directory out";
+        let line = format!(in rt.alloc(); "{files}{more}")?;
+        let words = words_of(rt.alloc(), line.as_str())?;
+        let options = read_options(rt.alloc(), words.as_slice())?;
+        assert!(rt;
+            options.map(|o| (o.date.map(|day| day.number), o.exp_info)) == *asked,
+            "{more}"
+        );
+    }
+    Ok(())
+}
