@@ -1,17 +1,23 @@
 -- What is loaded of a policy: lists whose items belong together, and one step behind the other.
-use Rattle.std.proofs.Common.{◌≡◌, ℕ, ◌+◌, ◌<◌, List, [], ◌∷◌, ◌++◌, length, take, get_or, Option, None, Some, Result, Ok, Err, IfSome, ap, sym, subst, ◌∙◌}
+use Rattle.std.proofs.Common.{◌≡◌, ℕ, ◌+◌, ◌<◌, List, [], ◌∷◌, ◌++◌, length, take, get_or, Option, None, Some, Result, Ok, Err, IfSome, refl, ap, sym, subst, ◌∙◌}
+use Rattle.std.specs.Prelude.{IsErrAnd}
 use Rattle.std.specs.List.{AllZip}
 use Rattle.std.proofs.lemmas.List.{take_more}
 use Rattle.acl_text.specs.declared.faults.Fault.{Fault}
-use Rattle.acl_text.specs.Answers.{Answers}
+use Rattle.acl_text.specs.Answers.{Answers, Gives}
 use Rattle.acl_host.specs.Files.{File}
+use Rattle.acl_host.specs.WholeFiles.{read_told}
+use Rattle.acl_host.specs.declared.look_faults.ReadFault.{ReadFault}
+use Rattle.acl_host.specs.declared.look_faults.ReadFault.TheVariants as reads
 use Rattle.acl_naming.specs.Definitions.{Naming}
 use Rattle.acl_splice.specs.Splices.{Splice}
 use Rattle.acl_policy.specs.declared.blocks.Policy.{Policy}
 use Rattle.acl_policy.specs.PolicyPlaces.{PolicyStands}
 use Rattle.acl_load.specs.declared.policy_loading.Loaded.{Loaded}
 use Rattle.acl_load.specs.declared.policy_texts.PolicyText.{PolicyText}
+use Rattle.acl_load.specs.LoadFaults.{load_told, of_reading}
 use Rattle.acl_load.specs.Loading.{Loads}
+use Rattle.acl_load.specs.declared.load_faults.LoadFault.{LoadFault}
 use Rattle.acl_load.specs.LoadedPolicies.{GoesOn, LoadsPolicy, Resolves, policy_at}
 
 -- ---- lists whose items belong together
@@ -53,6 +59,22 @@ loaded-told told (Some files) folder path definitions text r loaded read resolve
     let Goes : Result Loaded Fault → Result PolicyText Fault → Type 0 = λ answer t. GoesOn (Resolves definitions) t answer in
     answers-more told (λ l. l) r (Resolves definitions text) (LoadsPolicy folder path files)
     (λ answer h. (Ok definitions, loaded, subst (Goes answer) (sym read) h)) resolved
+
+-- The policy has the first fault, behind naming files that are loaded.
+pub text-told : (held : Option (List File)) (folder path : List ℕ) (definitions : Naming) (e : ReadFault) (q : Result PolicyText ReadFault) (r : Result Loaded LoadFault)
+    → IfSome held (λ files. Loads folder files (Ok definitions)) → q ≡ Err e → IfSome held (λ files. Gives read_told q (policy_at path files))
+    → IsErrAnd r (λ x. x ≡ of_reading e) → IfSome held (λ files. Answers load_told (λ l. l) r (LoadsPolicy folder path files))
+text-told None folder path definitions e q r loaded was gives is = tt
+text-told (Some files) folder path definitions e q (Ok l) loaded was gives is = absurd is
+text-told (Some files) folder path definitions e q (Err x) loaded was gives is =
+    subst (λ (y : LoadFault). IfSome (load_told y) (λ f. LoadsPolicy folder path files (Err f))) (sym is)
+    (by e (subst (λ (z : Result PolicyText ReadFault). Gives read_told z (policy_at path files)) was gives))
+  where
+    by : (e : ReadFault) → Gives {X = PolicyText} read_told (Err e) (policy_at path files)
+        → IfSome (load_told (of_reading e)) (λ f. LoadsPolicy folder path files (Err f))
+    by (reads.Fault f) g = (Ok definitions, loaded, subst (λ (t : Result PolicyText Fault). GoesOn (Resolves definitions) t (Err f)) (sym g) refl)
+    by reads.Outside g = tt
+    by reads.Memory g = tt
 
 pub stand-there : (s t : Splice) (p q : Policy) → s ≡ t → p ≡ q → PolicyStands t.lines q → PolicyStands s.lines p
 stand-there s t p q e f h =

@@ -1,7 +1,7 @@
 -- The line that is printed of a fault.
 use Rattle.std.specs.Prelude.{ℕ, ◌&&◌, ◌==◌, nat_le, if◌then◌else◌, List, [], ◌∷◌, ◌++◌, take, map, codes, decimal}
 use Rattle.acl_text.specs.declared.faults.Code.{Code}
-use Rattle.acl_text.specs.declared.faults.Code.TheVariants.{TooLong, BadByte, BadName, NoDefinition, BadValue, Twice, TooMany, Undefined, Cycle, TooManyFiles, NoFile, IncludeDepth, IncludePath, Syntax, Keyword, Value, Repeated, Missing, TermTwice, TargetLine, FilterTwice, UnknownName, NoPortForProtocol, PortProtocol, IcmpProtocol, OptionProtocol, ResetProtocol, OptionClash, NotYet, IncludeCount, ExtensionHeader, NameLength, NameClash, Unsupported, TooManyEntries, TooManyPrefixes}
+use Rattle.acl_text.specs.declared.faults.Code.TheVariants.{TooLong, BadByte, BadName, NoDefinition, BadValue, Twice, TooMany, Undefined, Cycle, TooManyFiles, NoFile, IncludeDepth, IncludePath, Syntax, Keyword, Value, Repeated, Missing, TermTwice, TargetLine, FilterTwice, UnknownName, NoPortForProtocol, PortProtocol, IcmpProtocol, OptionProtocol, ResetProtocol, OptionClash, IncludeCount, ExtensionHeader, NameLength, NameClash, Unsupported, TooManyEntries, TooManyPrefixes}
 use Rattle.acl_text.specs.declared.faults.Fault.{Fault}
 
 -- The number and the name of a fault, as docs/LANGUAGE.md lists them.
@@ -34,7 +34,6 @@ code_text IcmpProtocol = codes "F34 IcmpProtocol"
 code_text OptionProtocol = codes "F35 OptionProtocol"
 code_text ResetProtocol = codes "F36 ResetProtocol"
 code_text OptionClash = codes "F37 OptionClash"
-code_text NotYet = codes "F38 NotYet"
 code_text IncludeCount = codes "F39 IncludeCount"
 code_text ExtensionHeader = codes "F40 ExtensionHeader"
 code_text NameLength = codes "F41 NameLength"

@@ -41,7 +41,6 @@ fn code_text(code: Code) -> &'static str
         Code::OptionProtocol => "F35 OptionProtocol",
         Code::ResetProtocol => "F36 ResetProtocol",
         Code::OptionClash => "F37 OptionClash",
-        Code::NotYet => "F38 NotYet",
         Code::IncludeCount => "F39 IncludeCount",
         Code::ExtensionHeader => "F40 ExtensionHeader",
         Code::NameLength => "F41 NameLength",

@@ -1,10 +1,19 @@
 use Rattle.std.proofs.Common.{◌≡◌, Ok, List, Option, IfSome, subst}
 use Rattle.acl_host.specs.Files.{File}
-use Rattle.acl_text.specs.Answers.{fault_told}
+use Rattle.acl_host.specs.WholeFiles.{read_told}
+use Rattle.acl_text.specs.Answers.{Gives, fault_told}
 use Rattle.acl_text.specs.declared.faults.Rejection.{Rejection}
 use Rattle.acl_load.specs.LoadedPolicies.{policy_at}
-use Rattle.acl_load.proofs.LoadedLaws.{loaded-told, stand-there}
+use Rattle.acl_load.proofs.LoadedLaws.{loaded-told, stand-there, text-told}
 use Rattle.acl_load.proofs.policy_loading.load.Goals as goal
+
+pub returns-in_err-text-clause-loads : goal.returns-in_err-text-clause-loads
+returns-in_err-text-clause-loads g c =
+    let path = c.args.path.now in
+    let Reads : Option (List File) → Type 0 = λ t. IfSome t (λ files. Gives read_told c.policy_at.result (policy_at path files)) in
+    text-told (g.T.Tree.files c.args.tree.now) c.args.folder.now path c.in_ok-definitions.definitions c.in_err-text.field-0.0 c.policy_at.result
+    c.from_residual-in_err-text.result c.in_ok-definitions.ensures.loads c.in_err-text.was
+    (subst Reads c.load_definitions.ensures.looks.only.looks.files_stay c.policy_at.ensures.gives) c.from_residual-in_err-text.ensures.1
 
 pub returns-clause-loads : goal.returns-clause-loads
 returns-clause-loads g c =
