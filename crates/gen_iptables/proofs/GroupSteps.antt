@@ -1,0 +1,66 @@
+-- The groups of a list, one after the other.
+use Rattle.std.proofs.Common.{◌≡◌, ℕ, ◌+◌, ◌-◌, ◌<◌, ◌≤◌, min, List, [], ◌∷◌, ◌++◌, length, take, drop, flat_map, ap, sym, ◌∙◌, append_assoc, append-nil, arith}
+use Rattle.std.proofs.lemmas.List.{drop-drop, drop_all, length-drop}
+use Rattle.std.proofs.lemmas.Grind.{flat_map-append}
+use Rattle.acl_text.specs.Output.{COUNT_END}
+use Rattle.acl_grammar.specs.Rows.{Row, text_of_rows}
+use Rattle.acl_grammar.proofs.PutLaws.{rows_append}
+use Rattle.acl_sets.specs.declared.sets.Range.{Range}
+use Rattle.acl_sets.specs.Groups.{group_length}
+use Rattle.gen_iptables.specs.GroupLaws.{groups-step}
+use Rattle.gen_iptables.specs.Groups.{behind_group, first_group, groups, groups_up_to}
+
+-- the group that is put: the ranges from one place up to another
+pub put-group : (rs : List Range) (from end : ℕ) → end ≡ from + group_length 15 (drop from rs)
+    → take (end - from) (drop from rs) ≡ first_group (drop from rs)
+put-group rs from end e =
+    let size : end - from ≡ group_length 15 (drop from rs) = omega (arith, e) in
+    ap (λ k. take k (drop from rs)) size
+
+first-of : (rs : List Range) → 0 < length rs → groups rs ≡ first_group rs ∷ groups (behind_group rs)
+first-of [] h = absurd (omega (arith, h))
+first-of (r ∷ rs) h = groups-step r rs
+
+-- the groups from one place on: a first one, and those from its end on
+pub groups-from : (rs : List Range) (from end : ℕ) → from < length rs → end ≡ from + group_length 15 (drop from rs)
+    → groups (drop from rs) ≡ first_group (drop from rs) ∷ groups (drop end rs)
+groups-from rs from end h e =
+    let size = length-drop from rs in
+    first-of (drop from rs) (omega (arith, h, size))
+    ∙ ap (λ l. first_group (drop from rs) ∷ groups l) (drop-drop (group_length 15 (drop from rs)) from rs ∙ ap (λ n. drop n rs) (sym e))
+
+pub no-groups : (rs : List Range) (from : ℕ) → length rs ≤ from → groups (drop from rs) ≡ []
+unfolding groups_up_to
+no-groups rs from h = ap groups (drop_all from rs h)
+
+-- ---- what is written
+
+-- some groups, one more, and the rest
+pub one-further : {A : Type 0} (front : List A) (g : A) {rest later all : List A} → rest ≡ g ∷ later → front ++ rest ≡ all
+    → (front ++ g ∷ []) ++ later ≡ all
+one-further front g {later = later} e h = append_assoc front (g ∷ []) later ∙ ap (λ t. front ++ t) (sym e) ∙ h
+
+pub more-text : {A : Type 0} (f : A → List Row) (front : List A) (g : A)
+    → text_of_rows (flat_map f front) ++ text_of_rows (f g) ≡ text_of_rows (flat_map f (front ++ g ∷ []))
+more-text f front g =
+    rows_append (flat_map f front) (f g)
+    ∙ ap text_of_rows (ap (λ t. flat_map f front ++ t) (sym (append-nil (f g))) ∙ sym (flat_map-append f front (g ∷ [])))
+
+pub whole-text : {A : Type 0} (f : A → List Row) (front : List A) (g : A) (later : List A) {all : List A} → (front ++ g ∷ []) ++ later ≡ all
+    → (text_of_rows (flat_map f front) ++ text_of_rows (f g)) ++ text_of_rows (flat_map f later) ≡ text_of_rows (flat_map f all)
+whole-text f front g later h =
+    ap (λ t. t ++ text_of_rows (flat_map f later)) (more-text f front g)
+    ∙ rows_append (flat_map f (front ++ g ∷ [])) (flat_map f later)
+    ∙ ap text_of_rows (sym (flat_map-append f (front ++ g ∷ []) later) ∙ ap (flat_map f) h)
+
+-- ---- how many
+
+pub counted : (count more : ℕ) (rs : List Range) (from end : ℕ) → from < length rs → end ≡ from + group_length 15 (drop from rs)
+    → more ≡ min (count + 1) COUNT_END
+    → min (more + length (groups (drop end rs))) COUNT_END ≡ min (count + length (groups (drop from rs))) COUNT_END
+counted count more rs from end h e plus =
+    let step = ap length (groups-from rs from end h e) in
+    omega (arith, step, plus)
+
+pub none-left : (rs : List Range) (from : ℕ) → length rs ≤ from → length (groups (drop from rs)) ≡ 0
+none-left rs from h = ap length (no-groups rs from h)

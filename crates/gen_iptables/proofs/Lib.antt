@@ -1,0 +1,5 @@
+pub mod EntryCounts
+pub mod GroupSteps
+pub mod NameLaws
+pub mod Rows
+pub mod TwoSections

@@ -1,0 +1,96 @@
+-- The rows of a section as they are put.
+use Rattle.std.proofs.Common.{◌≡◌, ℕ, Bool, List, [], ◌∷◌, ◌++◌, map, flat_map, Option, append-nil, refl, ap, sym, ◌∙◌}
+use Rattle.std.proofs.lemmas.List.Folds.{flat_map-map}
+use Rattle.acl_packet.specs.declared.addresses.Family.{Family}
+use Rattle.acl_packet.specs.declared.addresses.Prefix.{Prefix}
+use Rattle.acl_packet.specs.declared.filtering.Hook.{Hook}
+use Rattle.acl_grammar.specs.Rows.{Row, text_of_rows}
+use Rattle.acl_grammar.proofs.ListLaws.{flat_twice}
+use Rattle.acl_platform.specs.declared.filters.Filter.{Filter}
+use Rattle.acl_platform.specs.declared.rules.Rule.{Rule}
+use Rattle.acl_platform.specs.Choices.{pairs}
+use Rattle.acl_platform.specs.Remarks.{notes}
+use Rattle.acl_platform.proofs.PairLaws.{over-pairs}
+use Rattle.acl_sets.specs.declared.sets.Range.{Range}
+use Rattle.ipt_lang.specs.declared.chain_rows.SectionHead.{SectionHead}
+use Rattle.ipt_lang.specs.declared.documents.Act.{Act}
+use Rattle.ipt_lang.specs.Texts.{back_words, chain_row, chain_rows, front_words, head_rows, jump_row, ports_words, range_word, remark_rows, rule_row, rule_rows, rule_words, section_rows, text_of}
+use Rattle.gen_iptables.specs.Groups.{group_choices}
+use Rattle.gen_iptables.specs.RowSteps.{combination_rows, head_of, rows_behind_front, rows_behind_sources}
+use Rattle.gen_iptables.specs.Sections.{address_of, asks_state, Back, backs, chain_of, chain_rule, combinations, ends_of, family_of, Front, fronts, Parts, rules_for, section_of}
+
+-- ---- a rule of a chain
+
+pub range-words : (rs : List Range) → map (λ r. range_word (ends_of r)) rs ≡ map range_word (map ends_of rs)
+range-words [] = refl
+range-words (r ∷ rs) = ap (λ ws. range_word (ends_of r) ∷ ws) (range-words rs)
+
+pub rule-text : (hook : Hook) (family : Family) (r : Rule) (c : Parts) (act : Act) {name : List ℕ} {src dst : Option Prefix} {state : Bool}
+    → name ≡ r.name → src ≡ address_of c.0.1.0 → dst ≡ address_of c.0.1.1 → state ≡ asks_state r.test
+    → text_of_rows (rule_row hook name (front_words family c.0.0 src dst
+    ++ (ports_words (map (λ p. range_word (ends_of p)) c.1.0) (map (λ p. range_word (ends_of p)) c.1.1.0)
+    ++ back_words family c.1.1.1.0 c.1.1.1.1 state act)) ∷ [])
+    ≡ text_of_rows (rule_rows hook family r.name (chain_rule r c act))
+unfolding rule_rows rule_words
+rule-text hook family r c act {name = name} {src = src} {dst = dst} {state = state} e h k l =
+    let own : Range → List ℕ = λ p. range_word (ends_of p) in
+    let text : List ℕ → Option Prefix → Option Prefix → List (List ℕ) → List (List ℕ) → Bool → List ℕ = λ n s d i o t.
+    text_of_rows (rule_row hook n (front_words family c.0.0 s d ++ (ports_words i o ++ back_words family c.1.1.1.0 c.1.1.1.1 t act)) ∷ []) in
+    let from = address_of c.0.1.0 in
+    let into = address_of c.0.1.1 in
+    let sports = map own c.1.0 in
+    let dports = map own c.1.1.0 in
+    let test = asks_state r.test in
+    ap (λ n. text n src dst sports dports state) e ∙ ap (λ s. text r.name s dst sports dports state) h
+    ∙ ap (λ d. text r.name from d sports dports state) k ∙ ap (text r.name from into sports dports) l
+    ∙ ap (λ i. text r.name from into i dports test) (range-words c.1.0)
+    ∙ ap (λ o. text r.name from into (map range_word (map ends_of c.1.0)) o test) (range-words c.1.1.0)
+
+-- ---- the rules of a chain, part by part
+
+flat-same : {A B : Type 0} (f g : A → List B) → ((x : A) → f x ≡ g x) → (xs : List A) → flat_map f xs ≡ flat_map g xs
+flat-same f g e [] = refl
+flat-same f g e (x ∷ xs) = ap (λ t. t ++ flat_map f xs) (e x) ∙ ap (λ t. g x ++ t) (flat-same f g e xs)
+
+pub all-parts : (hook : Hook) (family : Family) (r : Rule)
+    → flat_map (rows_behind_front hook family r) (fronts r) ≡ flat_map (combination_rows hook family r) (combinations r)
+all-parts hook family r =
+    let rows : Parts → List Row = combination_rows hook family r in
+    let sports = group_choices r.sports in
+    let dports = group_choices r.dports in
+    let of_front : Front → List Range × (List Range × Back) → List Row = λ front c. rows (front, c) in
+    let of_sources : Front → List Range → List Range × Back → List Row = λ front s c. rows (front, (s, c)) in
+    let sources : (front : Front) (s : List Range) → rows_behind_sources hook family r front s ≡ flat_map (of_sources front s) (pairs dports (backs r)) =
+    λ front s. over-pairs (of_sources front s) dports (backs r) in
+    let behind : (front : Front) → rows_behind_front hook family r front ≡ flat_map (of_front front) (pairs sports (pairs dports (backs r))) =
+    λ front. flat-same (rows_behind_sources hook family r front) (λ s. flat_map (of_sources front s) (pairs dports (backs r))) (sources front) sports
+    ∙ over-pairs (of_front front) sports (pairs dports (backs r)) in
+    flat-same (rows_behind_front hook family r) (λ front. flat_map (of_front front) (pairs sports (pairs dports (backs r)))) behind (fronts r)
+    ∙ over-pairs rows (fronts r) (pairs sports (pairs dports (backs r)))
+
+-- ---- a chain, and a section
+
+pub chain-text : (hook : Hook) (family : Family) (r : Rule) {name note : List ℕ} → name ≡ r.name → note ≡ r.note
+    → text_of_rows ((remark_rows name ++ flat_map remark_rows (notes note))
+    ++ (chain_row hook name ∷ [] ++ (flat_map (combination_rows hook family r) (combinations r) ++ jump_row hook name ∷ [])))
+    ≡ text_of_rows (chain_rows hook family (chain_of r))
+unfolding chain_rows
+chain-text hook family r {name = name} {note = note} e h =
+    let text : List ℕ → List ℕ → List Row → List ℕ = λ n t rows.
+    text_of_rows ((remark_rows n ++ flat_map remark_rows (notes t)) ++ (chain_row hook n ∷ [] ++ (rows ++ jump_row hook n ∷ []))) in
+    let rules = flat_map (combination_rows hook family r) (combinations r) in
+    ap (λ n. text n note rules) e ∙ ap (λ t. text r.name t rules) h
+    ∙ ap (text r.name r.note) (flat_twice (rule_rows hook family r.name) (rules_for r) (combinations r))
+
+pub section-text : (f : Filter) {head : SectionHead} {family : Family} {rules : List Rule} → head ≡ head_of f → family ≡ family_of f.families → rules ≡ f.rules
+    → text_of_rows (head_rows head.hook head.family head.accept ++ flat_map (λ r. chain_rows f.hook family (chain_of r)) rules)
+    ≡ text_of (section_of f ∷ [])
+unfolding section_rows
+section-text f {head = head} {family = family} {rules = rules} e h k =
+    let front : SectionHead → List Row = λ s. head_rows s.hook s.family s.accept in
+    let chains : Family → List Rule → List Row = λ g rs. flat_map (λ r. chain_rows f.hook g (chain_of r)) rs in
+    let own = family_of f.families in
+    ap (λ s. text_of_rows (front s ++ chains family rules)) e ∙ ap (λ g. text_of_rows (front (head_of f) ++ chains g rules)) h
+    ∙ ap (λ rs. text_of_rows (front (head_of f) ++ chains own rs)) k
+    ∙ ap (λ rows. text_of_rows (front (head_of f) ++ rows)) (sym (flat_map-map (chain_rows f.hook own) chain_of f.rules))
+    ∙ ap text_of_rows (sym (append-nil (front (head_of f) ++ flat_map (chain_rows f.hook own) (map chain_of f.rules))))

@@ -1,0 +1,10 @@
+pub mod CountSteps
+pub mod DecisionLaws
+pub mod GroupLaws
+pub mod Groups
+pub mod Limits
+pub mod RowSteps
+pub mod RuleLaws
+pub mod SectionLaws
+pub mod SectionNames
+pub mod Sections

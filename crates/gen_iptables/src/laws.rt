@@ -1,0 +1,11 @@
+ghost use Rattle.gen_iptables.specs.SectionNames.{FirstLine, SectionsDiffer};
+
+/// A law: a section's first line is `## ` and the text of its target.
+pub fn a_section_begins_with_its_target()
+    ensures { FirstLine }
+{}
+
+/// A law: no two sections of filters whose targets do not clash have the same hook and family.
+pub fn targets_without_clash_have_different_sections()
+    ensures { SectionsDiffer }
+{}

@@ -1,0 +1,15 @@
+//! iptables rules from filters.
+#![tactic(auto)]
+
+mod counts;
+mod groups;
+mod iptables;
+mod laws;
+mod limits;
+mod rule_rows;
+mod section_rows;
+#[cfg(test)]
+mod tests;
+
+pub use iptables::Iptables;
+pub use laws::{a_section_begins_with_its_target, targets_without_clash_have_different_sections};
