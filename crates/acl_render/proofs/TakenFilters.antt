@@ -5,7 +5,7 @@ use Rattle.std.proofs.lemmas.List.Elements.{All-cons, All-nil, All-weaker, recur
 use Rattle.std.proofs.lemmas.List.Kept.{AllPairs-cons}
 use Rattle.std.proofs.lemmas.Bool.{eq-eqb, false≢true}
 use Rattle.acl_target.specs.declared.targets.Kind.{Kind}
-use Rattle.acl_target.specs.declared.targets.Kind.TheVariants.{Cisco, Juniper, Nftables}
+use Rattle.acl_target.specs.declared.targets.Kind.TheVariants.{Cisco, Juniper, Iptables, Nftables}
 use Rattle.acl_target.specs.declared.targets.Target.{Target}
 use Rattle.acl_target.specs.Clashes.{same_kind}
 use Rattle.acl_platform.specs.declared.filters.Filter.{Filter}
@@ -16,6 +16,9 @@ use Rattle.gen_cisco.specs.Limits.{is_for_cisco, limit_of}
 use Rattle.gen_junos.specs.Limits as junos_limits
 use Rattle.gen_junos.specs.Limits.{is_for_junos}
 use Rattle.gen_junos.specs.SectionNames.{IsOfJunos}
+use Rattle.gen_iptables.specs.Limits as ipt_limits
+use Rattle.gen_iptables.specs.Limits.{is_for_iptables}
+use Rattle.gen_iptables.specs.SectionNames.{IsOfIptables}
 use Rattle.gen_nftables.specs.Limits as nft_limits
 use Rattle.gen_nftables.specs.Limits.{is_for_nftables}
 use Rattle.acl_render.specs.PlatformFiles.{AreApart, IsTaken}
@@ -41,6 +44,19 @@ one-family f t =
 
 pub of-junos : (filters : List Filter) → All (IsTaken Juniper) filters → AllByRecursion IsOfJunos filters
 of-junos filters h = recursion_from_All IsOfJunos filters (All-weaker (IsTaken Juniper) IsOfJunos one-family filters h)
+
+pub by-iptables : (filters : List Filter) → All (IsTaken Iptables) filters → All (IsAccepted is_for_iptables ipt_limits.limit_of) filters
+by-iptables filters h =
+    All-weaker (IsTaken Iptables) (IsAccepted is_for_iptables ipt_limits.limit_of)
+    (λ f t. record { handled = ap (λ k. same_kind k Iptables) t.kind_is; sound = t.sound; within = t.within }) filters h
+
+one-hook : (f : Filter) → IsTaken Iptables f → IsOfIptables f
+one-hook f t =
+    let P : Kind → Type 0 = λ k. FitsPlatform k (target_of t.sound.target.0 f) in
+    (t.kind_is, (subst P t.kind_is t.sound.target.1.platform).one_family)
+
+pub of-iptables : (filters : List Filter) → All (IsTaken Iptables) filters → AllByRecursion IsOfIptables filters
+of-iptables filters h = recursion_from_All IsOfIptables filters (All-weaker (IsTaken Iptables) IsOfIptables one-hook filters h)
 
 pub by-nftables : (filters : List Filter) → All (IsTaken Nftables) filters → All (IsAccepted is_for_nftables nft_limits.limit_of) filters
 by-nftables filters h =

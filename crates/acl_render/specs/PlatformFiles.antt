@@ -1,6 +1,6 @@
 -- The file of a platform: what each filter counts and why one is not taken, the text of all of them, and what the
 -- platform's language makes of a text.
-use Rattle.std.specs.Prelude.{◌≡◌, ℕ, Bool, true, false, ◌==◌, List, [], map, slice_get, Option, None, IfSome}
+use Rattle.std.specs.Prelude.{◌≡◌, ℕ, false, ◌==◌, List, map, slice_get, Option, None, IfSome}
 use Rattle.std.specs.List.{IsDistinct}
 use Rattle.acl_packet.specs.declared.filtering.Outcome.{Outcome}
 use Rattle.acl_packet.specs.declared.packets.Packet.{Packet}
@@ -14,21 +14,18 @@ use Rattle.cisco_lang.specs.Texts as cisco
 use Rattle.cisco_lang.specs.Walks as cisco_walks
 use Rattle.junos_lang.specs.Texts as junos
 use Rattle.junos_lang.specs.Walks as junos_walks
+use Rattle.ipt_lang.specs.Texts as ipt
+use Rattle.ipt_lang.specs.Walks as ipt_walks
 use Rattle.nft_lang.specs.Texts as nft
 use Rattle.nft_lang.specs.Walks as nft_walks
 use Rattle.gen_cisco.specs.Limits as cisco_limits
 use Rattle.gen_cisco.specs.Sections as cisco_sections
 use Rattle.gen_junos.specs.Limits as junos_limits
 use Rattle.gen_junos.specs.Sections as junos_sections
+use Rattle.gen_iptables.specs.Limits as ipt_limits
+use Rattle.gen_iptables.specs.Sections as ipt_sections
 use Rattle.gen_nftables.specs.Limits as nft_limits
 use Rattle.gen_nftables.specs.Sections as nft_sections
-
--- The platforms whose files are written.
-abbrev pub is_rendered : Kind → Bool
-is_rendered Cisco = true
-is_rendered Juniper = true
-is_rendered Iptables = false
-is_rendered Nftables = true
 
 -- ---- one filter
 
@@ -36,7 +33,7 @@ is_rendered Nftables = true
 abbrev pub limit_on : Kind → Filter → Option Limit
 limit_on Cisco f = cisco_limits.limit_of f
 limit_on Juniper f = junos_limits.limit_of f
-limit_on Iptables f = None
+limit_on Iptables f = ipt_limits.limit_of f
 limit_on Nftables f = nft_limits.limit_of f
 
 unfoldable pub limit_of : Filter → Option Limit
@@ -46,7 +43,7 @@ limit_of f = limit_on f.kind f
 abbrev pub count_on : Kind → Filter → ℕ
 count_on Cisco f = cisco_sections.entry_count f
 count_on Juniper f = junos_sections.entry_count f
-count_on Iptables f = 0
+count_on Iptables f = ipt_sections.entry_count f
 count_on Nftables f = nft_sections.entry_count f
 
 unfoldable pub count_of : Filter → ℕ
@@ -58,7 +55,7 @@ count_of f = count_on f.kind f
 abbrev pub text_on : Kind → List Filter → List ℕ
 text_on Cisco filters = cisco.text_of (map cisco_sections.section_of filters)
 text_on Juniper filters = junos.text_of (map junos_sections.section_of filters)
-text_on Iptables filters = []
+text_on Iptables filters = ipt.text_of (map ipt_sections.section_of filters)
 text_on Nftables filters = nft.text_of (map nft_sections.section_of filters)
 
 -- A filter of the platform that the platform takes.
@@ -76,21 +73,23 @@ pub record AreApart (filters : List Filter) : Type 0 where
 
 -- The text is one document of these sections, in order, and the section at a place decides packets as is asked of it
 -- there.
-pub record IsDocumentOf {S A : Type 0} (spells : List ℕ → List S → Type 0) (outcome : List S → ℕ → Packet → Option Outcome)
+pub record IsTextOf {S A : Type 0} (spells : List ℕ → List S → Type 0) (outcome : List S → ℕ → Packet → Option Outcome)
     (decides_for : A → (Packet → Option Outcome) → Type 0) (text : List ℕ) (sections : List S) (asked : List A) : Type 0 where
   pub spelled : spells text sections
   pub decides : (k : ℕ) → IfSome (slice_get asked k) (λ a. decides_for a (outcome sections k))
 
 -- The platform's language accepts the text of the filters as one document, which has one section for each of them, in
 -- order; the section at a place decides packets as is asked of it there.
-abbrev pub IsAccepted : {A : Type 0} → Kind → (A → (Packet → Option Outcome) → Type 0) → List Filter → List A → Type 0
-IsAccepted Cisco decides_for filters asked =
-    IsDocumentOf cisco.Spells cisco_walks.outcome_of decides_for (text_on Cisco filters)
+abbrev pub IsFileText : {A : Type 0} → Kind → (A → (Packet → Option Outcome) → Type 0) → List Filter → List A → Type 0
+IsFileText Cisco decides_for filters asked =
+    IsTextOf cisco.Spells cisco_walks.outcome_of decides_for (text_on Cisco filters)
     (map cisco_sections.section_of filters) asked
-IsAccepted Juniper decides_for filters asked =
-    IsDocumentOf junos.Spells junos_walks.outcome_of decides_for (text_on Juniper filters)
+IsFileText Juniper decides_for filters asked =
+    IsTextOf junos.Spells junos_walks.outcome_of decides_for (text_on Juniper filters)
     (map junos_sections.section_of filters) asked
-IsAccepted Iptables decides_for filters asked = ⊥
-IsAccepted Nftables decides_for filters asked =
-    IsDocumentOf nft.Spells nft_walks.outcome_of decides_for (text_on Nftables filters)
+IsFileText Iptables decides_for filters asked =
+    IsTextOf ipt.Spells ipt_walks.outcome_of decides_for (text_on Iptables filters)
+    (map ipt_sections.section_of filters) asked
+IsFileText Nftables decides_for filters asked =
+    IsTextOf nft.Spells nft_walks.outcome_of decides_for (text_on Nftables filters)
     (map nft_sections.section_of filters) asked

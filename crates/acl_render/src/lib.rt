@@ -6,5 +6,5 @@ mod rendering;
 #[cfg(test)]
 mod tests;
 
-pub use platforms::{check, is_rendered};
+pub use platforms::check;
 pub use rendering::render;

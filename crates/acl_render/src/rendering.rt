@@ -1,13 +1,14 @@
-ghost use Rattle.std.specs.Prelude.{◌≡◌, true, IsTrue};
+ghost use Rattle.std.specs.Prelude.{IsTrue};
 ghost use Rattle.std.specs.List.{All};
 ghost use Rattle.acl_text.specs.Output.{Puts};
 ghost use Rattle.acl_platform.specs.Platforms.{DecidesAs};
-ghost use Rattle.acl_render.specs.PlatformFiles.{AreApart, IsAccepted, IsTaken, is_rendered, text_on};
+ghost use Rattle.acl_render.specs.PlatformFiles.{AreApart, IsFileText, IsTaken, text_on};
 
 use acl_platform::{Filter, write_all};
 use acl_target::Kind;
 use acl_text::{Out, PutFault};
 use gen_cisco::Cisco;
+use gen_iptables::Iptables;
 use gen_junos::Junos;
 use gen_nftables::Nftables;
 
@@ -16,17 +17,16 @@ use gen_nftables::Nftables;
 /// The section at a place decides the packets of its filter's families as that filter does.
 pub fn render<O: Out>(kind: Kind, filters: &[Filter], out: &mut O) -> Result<(), PutFault>
     requires open { IsTrue (O.is_open out.old) }
-    requires rendered { is_rendered kind ≡ true }
     requires taken { All (IsTaken kind) filters.now }
     requires apart { AreApart filters.now }
     ensures puts { Puts O.told O.faults O.refusals O.is_open O.keeps_rest out.old out.new
         (text_on kind filters.now) result }
-    ensures accepted { IsAccepted kind DecidesAs filters.now filters.now }
+    ensures accepted { IsFileText kind DecidesAs filters.now filters.now }
 {
     match kind {
         Kind::Cisco => write_all(&Cisco, filters, out),
         Kind::Juniper => write_all(&Junos, filters, out),
-        Kind::Iptables => Ok(()),
+        Kind::Iptables => write_all(&Iptables, filters, out),
         Kind::Nftables => write_all(&Nftables, filters, out),
     }
 }

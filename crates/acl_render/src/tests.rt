@@ -2,7 +2,7 @@ ghost use Rattle.std.specs.Prelude.{IfOk};
 ghost use Rattle.acl_target.specs.declared.targets.Kind.TheVariants.{Cisco};
 ghost use Rattle.acl_render.specs.PlatformFiles.{IsTaken};
 
-use crate::{check, is_rendered, render};
+use crate::{check, render};
 use acl_host::Whole;
 use acl_packet::{Families, Hook};
 use acl_platform::{Filter, Rules};
@@ -33,7 +33,6 @@ fn edge(alloc: Global) -> Result<Filter, Memory>
 fn a_filter_is_checked_and_its_file_rendered(rt: HostRuntime) -> Result<(), Fail> {
     let alloc = rt.alloc();
     let edge = edge(alloc)?;
-    assert!(rt; is_rendered(Kind::Cisco));
     assert_eq!(rt; check(&edge), Ok(1));
     let mut text = Whole::new(alloc);
     render(Kind::Cisco, &[edge], &mut text)?;

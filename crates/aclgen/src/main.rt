@@ -1,26 +1,36 @@
 //! aclgen: makes the real files, streams and clock, and runs the whole job on them.
 #![tactic(auto)]
 
-use acl_host::{Day, DiskTree, FixedClock, StdSink};
-use aclgen_core::{aclgen, status_of};
+use acl_host::{DiskTree, Sink, StdSink, SystemClock};
+use aclgen_core::{Ended, aclgen, refuse_words, status_of};
+use std::io::ErrorKind;
 use std::process::ExitCode;
 use std::{env, io};
 
-fn main(rt: HostRuntime) -> io::Result<ExitCode> {
-    let alloc = rt.alloc();
-    let words: Vec<String> = env::args(&rt)?.skip(1).collect(alloc)?;
-    let mut tree = DiskTree::new(&rt);
+// The words behind the program's name.
+fn words_of(rt: &HostRuntime) -> io::Result<Vec<String>> {
+    Ok(env::args(rt)?.skip(1).collect(rt.alloc())?)
+}
+
+// The ending of a run without words: memory was wanted, or some word is no text.
+fn without_words<E: Sink>(error: &io::Error, err: &mut E) -> Ended {
+    match error.kind() {
+        ErrorKind::OutOfMemory => Ended::Memory,
+        _ => refuse_words(err),
+    }
+}
+
+fn main(rt: HostRuntime) -> ExitCode {
     let mut out = StdSink::new(rt.stdout());
     let mut err = StdSink::new(rt.stderr());
-    // the date is one of the words, so the clock is not asked
-    let mut clock = FixedClock::new(Day { number: 0 }, false);
-    let ended = aclgen(
-        alloc,
-        words.as_slice(),
-        &mut tree,
-        &mut out,
-        &mut err,
-        &mut clock,
-    );
-    Ok(ExitCode::from(status_of(&ended)))
+    let ended = match words_of(&rt) {
+        Ok(words) => {
+            let mut tree = DiskTree::new(&rt);
+            let mut clock = SystemClock::new(&rt);
+            let words = words.as_slice();
+            aclgen(rt.alloc(), words, &mut tree, &mut out, &mut err, &mut clock)
+        }
+        Err(error) => without_words(&error, &mut err),
+    };
+    ExitCode::from(status_of(&ended))
 }

@@ -7,7 +7,8 @@ use Rattle.acl_load.specs.declared.policy_loading.Loaded.{Loaded}
 use Rattle.acl_load.specs.LoadedPolicies.{GoesOn, LoadsPolicy}
 use Rattle.acl_load.proofs.AnswersThere.{answer-there}
 use Rattle.acl_load.proofs.OneAnswer.{one-answer}
-use Rattle.aclgen_core.specs.CommandLines.{Options, options_of}
+use Rattle.acl_options.specs.CommandLines.{Options}
+use Rattle.acl_options.specs.ComputableOptions.{options_of}
 use Rattle.aclgen_core.specs.Job.{Plan, Plans, IsJobOf, IsJob, or_day, planned}
 
 same-planned : (o : Options) (today : Day) (r : Result Loaded Fault) (a b : Result Plan Fault) → GoesOn (λ l x. x ≡ planned o today l) r a

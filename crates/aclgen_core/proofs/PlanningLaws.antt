@@ -1,6 +1,6 @@
 -- What is to be written of a loaded policy, and of the files.
 use Prim.Native.Nat.{zero, suc}
-use Rattle.std.proofs.Common.{◌≡◌, ◌≢◌, ℕ, ◌<◌, Bool, true, false, ◌||◌, ◌&&◌, ◌==◌, if◌then◌else◌, List, [], ◌∷◌, ◌++◌, map, Option, None, Some, Result, Ok, Err, IfSome, IsSome, is_some, refl, ap, sym, subst, ◌∙◌, append_assoc, append-nil, length, arith}
+use Rattle.std.proofs.Common.{◌≡◌, ◌≢◌, ℕ, ℤ, ◌<◌, Bool, true, false, not, ◌||◌, ◌&&◌, ◌==◌, if◌then◌else◌, List, [], ◌∷◌, ◌++◌, map, Option, None, Some, Result, Ok, Err, IfSome, IsSome, is_some, refl, ap, sym, subst, ◌∙◌, append_assoc, append-nil, length, le_refl, arith}
 use Rattle.std.specs.Prelude.{IsErrAnd, flat_map, slice_index_or}
 use Rattle.std.specs.List.{All, AllByRecursion, IsDistinct, list_any}
 use Rattle.std.specs.Result.{IsErrOf}
@@ -16,8 +16,11 @@ use Rattle.acl_text.specs.declared.faults.Rejection.{Rejection}
 use Rattle.acl_text.specs.declared.faults.Rejection.TheVariants as rejections
 use Rattle.acl_text.specs.declared.faults.Slip.{Slip}
 use Rattle.acl_text.proofs.ListLaws.{all_append}
+use Rattle.acl_host.specs.declared.clocks.ClockFault.{ClockFault}
 use Rattle.acl_host.specs.declared.clocks.Day.{Day}
+use Rattle.acl_host.proofs.NamedDayLaws.{same-day}
 use Rattle.acl_host.specs.Files.{File, join_path}
+use Rattle.acl_host.specs.Outside.{OnlyListsAndReads}
 use Rattle.acl_naming.specs.Definitions.{Naming}
 use Rattle.acl_target.specs.declared.targets.Kind.{Kind}
 use Rattle.acl_target.specs.declared.targets.Kind.TheVariants.{Cisco, Juniper, Iptables, Nftables}
@@ -35,21 +38,24 @@ use Rattle.acl_load.specs.declared.load_faults.LoadFault.{LoadFault}
 use Rattle.acl_load.specs.declared.policy_loading.Loaded.{Loaded}
 use Rattle.acl_load.specs.declared.load_faults.LoadFault.TheVariants as loads
 use Rattle.acl_load.specs.FaultLines.{fault_line}
-use Rattle.acl_load.specs.LoadFaults.{of_rejection}
+use Rattle.acl_load.specs.LoadFaults.{LoadsFiles, of_rejection}
 use Rattle.acl_text.specs.Output.{Rose}
 use Rattle.acl_load.specs.LoadedPolicies.{AreResolved, AreResolvedIn, LoadsPolicy}
-use Rattle.acl_render.specs.PlatformFiles.{AreApart, IsAccepted, IsTaken, is_rendered}
-use Rattle.aclgen_core.specs.CommandLines.{Options, options_of}
-use Rattle.aclgen_core.specs.DecidingSteps.{DecidesPlanned, DecidesSo, FollowsFrom, IsReady, RoseLooking, texts_in}
+use Rattle.acl_render.specs.PlatformFiles.{AreApart, IsFileText, IsTaken}
+use Rattle.acl_options.specs.CommandLines.{Options}
+use Rattle.acl_options.specs.ComputableOptions.{asks_clock, asks_clock_for, options_of}
+use Rattle.acl_report.specs.Reports.{terms_report}
+use Rattle.aclgen_core.specs.DecidingSteps.{Asks, DecidesPlanned, DecidesSo, FindsDay, FollowsFrom, IsDayFor, IsReady, RoseLooking, texts_in}
 use Rattle.aclgen_core.specs.declared.deciding.Decision.{Decision}
 use Rattle.aclgen_core.specs.declared.deciding.Decision.TheVariants as decided
-use Rattle.aclgen_core.specs.Endings.{DecidesAsPolicy, IsFileOf}
+use Rattle.aclgen_core.specs.Endings.{DecidesAsPolicy, IsFileOf, WhereDay}
+use Rattle.aclgen_core.specs.declared.endings.Which.TheVariants as which
 use Rattle.aclgen_core.specs.FileLists.{IsApart, PathsDiffer}
 use Rattle.aclgen_core.specs.FilterPaths.{ending_of, last_part, path_of, without_pol}
 use Rattle.aclgen_core.specs.FilterRequests.{FilterRequest, block_requests, filter_for, request_of, requests_in, requests_of, requests_on}
 use Rattle.aclgen_core.specs.Job.{Plan, Plans, IsJob, IsJobOf, file_of, file_report, file_with, files_on, or_day, or_slip, plan_of, planned, platforms, report_line}
 use Rattle.aclgen_core.specs.PreparingSteps.{AreRendered, IsPlanned, IsTakenFor, IsWorkOf, MakesWork, PlansLoaded, PreparesAll, draft_on, text_with, texts_on}
-use Rattle.aclgen_core.specs.Worlds.{Disk}
+use Rattle.aclgen_core.specs.Worlds.{Disk, Watch}
 use Rattle.aclgen_core.specs.declared.planning.Work.{Work}
 use Rattle.aclgen_core.specs.declared.preparing.FileDrafts.{FileDrafts}
 use Rattle.aclgen_core.proofs.PreparingLaws.{decides-at, resolved-requests}
@@ -245,30 +251,19 @@ apart-on today n policy lists kind is resolved =
     any [] = tt
     any (x ∷ xs) = (tt, any xs)
 
-taken-on : (today : Day) (kind : Kind) (rs : List FilterRequest) → AllByRecursion (IsTakenFor today) rs → AllByRecursion (λ (r : FilterRequest). (is_rendered kind ≡ true) × IsTaken kind (filter_for today r)) (requests_on kind rs)
-taken-on today kind rs h =
-    all-on kind (IsTakenFor today) (λ (r : FilterRequest). (is_rendered kind ≡ true) × IsTaken kind (filter_for today r))
-    (λ r e t. (ap is_rendered (sym e) ∙ t.rendered, subst (λ k. IsTaken k (filter_for today r)) e t.taken)) rs h
-
-some-rendered : (today : Day) (kind : Kind) (rs : List FilterRequest) → AllByRecursion (λ (r : FilterRequest). (is_rendered kind ≡ true) × IsTaken kind (filter_for today r)) rs
-    → map (filter_for today) rs ≢ [] → is_rendered kind ≡ true
-some-rendered today kind [] h some = absurd (some refl)
-some-rendered today kind (r ∷ rs) h some = h.0.0
-
-all-taken : (today : Day) (kind : Kind) (rs : List FilterRequest) → AllByRecursion (λ (r : FilterRequest). (is_rendered kind ≡ true) × IsTaken kind (filter_for today r)) rs
+all-taken : (today : Day) (kind : Kind) (rs : List FilterRequest) → AllByRecursion (λ (r : FilterRequest). IsTaken kind (filter_for today r)) rs
     → All (IsTaken kind) (map (filter_for today) rs)
 all-taken today kind [] h = All-nil (IsTaken kind)
-all-taken today kind (r ∷ rs) h = All-cons (IsTaken kind) (filter_for today r) (map (filter_for today) rs) h.0.1 (all-taken today kind rs h.1)
+all-taken today kind (r ∷ rs) h = All-cons (IsTaken kind) (filter_for today r) (map (filter_for today) rs) h.0 (all-taken today kind rs h.1)
 
 pub rendered-on : (output policy : List ℕ) (today : Day) (loaded : Loaded) (drafts : FileDrafts) → IsPolicy loaded.policy
     → AreResolvedIn loaded.definitions loaded.policy.blocks loaded.terms → PreparesAll output policy today loaded drafts → AreRendered drafts
 rendered-on output policy today loaded drafts fits resolved p = λ kind.
-    let rs = requests_on kind (requests_of loaded) in
-    let taken = taken-on today kind (requests_of loaded) p.taken in
+    let taken = all-on kind (IsTakenFor today) (λ (r : FilterRequest). IsTaken kind (filter_for today r))
+    (λ r e t. subst (λ k. IsTaken k (filter_for today r)) e t) (requests_of loaded) p.taken in
     let is = sym (p.each kind).filters_are in
     record {
-      rendered = subst (λ (fs : List Filter). fs ≢ [] → is_rendered kind ≡ true) is (some-rendered today kind rs taken);
-      taken = subst (All (IsTaken kind)) is (all-taken today kind rs taken);
+      taken = subst (All (IsTaken kind)) is (all-taken today kind (requests_on kind (requests_of loaded)) taken);
       apart = subst AreApart is (apart-on today loaded.definitions loaded.policy loaded.terms kind fits resolved);
     }
 
@@ -360,23 +355,23 @@ paths-differ output policy drafts paths =
 
 -- What is asked of the filters is what the policy asks of their sections.
 as-policy : (n : Naming) (today : Day) (kind : Kind) (rs : List FilterRequest) → AllByRecursion (λ (r : FilterRequest). AreResolved n r.written r.terms) rs
-    → IsAccepted kind DecidesAs (map (filter_for today) rs) (map (filter_for today) rs) → IsAccepted kind (DecidesAsPolicy n today) (map (filter_for today) rs) rs
+    → IsFileText kind DecidesAs (map (filter_for today) rs) (map (filter_for today) rs) → IsFileText kind (DecidesAsPolicy n today) (map (filter_for today) rs) rs
 as-policy n today Cisco rs resolved h = record { spelled = h.spelled; decides = λ k. decides-at n today rs k _ resolved (h.decides k) }
 as-policy n today Juniper rs resolved h = record { spelled = h.spelled; decides = λ k. decides-at n today rs k _ resolved (h.decides k) }
-as-policy n today Iptables rs resolved h = h
+as-policy n today Iptables rs resolved h = record { spelled = h.spelled; decides = λ k. decides-at n today rs k _ resolved (h.decides k) }
 as-policy n today Nftables rs resolved h = record { spelled = h.spelled; decides = λ k. decides-at n today rs k _ resolved (h.decides k) }
 
 some-more : {A B : Type 0} (f : A → B) (x : A) (xs : List A) → map f (x ∷ xs) ≢ []
 some-more f x xs e = cc
 
 file-is : (n : Naming) (today : Day) (kind : Kind) (path : List ℕ) (rs : List FilterRequest) → AllByRecursion (λ (r : FilterRequest). AreResolved n r.written r.terms) rs
-    → (map (filter_for today) rs ≢ [] → IsAccepted kind DecidesAs (map (filter_for today) rs) (map (filter_for today) rs))
+    → (map (filter_for today) rs ≢ [] → IsFileText kind DecidesAs (map (filter_for today) rs) (map (filter_for today) rs))
     → AllByRecursion (IsFileOf n today) (file_with kind path rs)
 file-is n today kind path [] resolved h = tt
 file-is n today kind path (r ∷ rs) resolved h = (as-policy n today kind (r ∷ rs) resolved (h (some-more (filter_for today) r rs)), tt)
 
 pub is-planned : (o : Options) (today : Day) (loaded : Loaded) (drafts : FileDrafts) (work : Work) → PreparesAll o.output o.policy today loaded drafts
-    → IsWorkOf drafts work → AreResolvedIn loaded.definitions loaded.policy.blocks loaded.terms → IsPlanned o today loaded work
+    → IsWorkOf (terms_report today o.exp_info loaded) drafts work → AreResolvedIn loaded.definitions loaded.policy.blocks loaded.terms → IsPlanned o today loaded work
 is-planned o today loaded drafts work p w resolved =
     let all = requests_of loaded in
     let path : Kind → List ℕ = λ k. path_of k o.output o.policy in
@@ -391,12 +386,13 @@ is-planned o today loaded drafts work p w resolved =
       ready = record {
         texts_are = w.texts_are ∙ flat-same (texts_on drafts) (λ k. map (file_of today) (files_on o all k)) text platforms
             ∙ sym (map-flat (file_of today) (files_on o all) platforms);
-        report_is = w.report_is ∙ flat-same (λ k. (draft_on k drafts).report.bytes) (λ k. flat_map (file_report today) (files_on o all k)) line platforms
-            ∙ flat_twice (file_report today) (files_on o all) platforms;
+        report_is = w.report_is ∙ ap (λ t. terms_report today o.exp_info loaded ++ t)
+            (flat-same (λ k. (draft_on k drafts).report.bytes) (λ k. flat_map (file_report today) (files_on o all k)) line platforms
+            ∙ flat_twice (file_report today) (files_on o all) platforms);
         each = all-flat (IsFileOf loaded.definitions today) (files_on o all)
             (λ k. file-is loaded.definitions today k (path k) (requests_on k all)
             (all-on k (λ r. AreResolved loaded.definitions r.written r.terms) (λ r. AreResolved loaded.definitions r.written r.terms) (λ r _ x. x) all resolved-all)
-            (subst (λ (fs : List Filter). fs ≢ [] → IsAccepted k DecidesAs fs fs) (p.each k).filters_are (w.accepted k))) platforms;
+            (subst (λ (fs : List Filter). fs ≢ [] → IsFileText k DecidesAs fs fs) (p.each k).filters_are (w.accepted k))) platforms;
       };
       differ = subst PathsDiffer (sym w.texts_are) (paths-differ o.output o.policy drafts (λ k. (p.each k).path_is));
     }
@@ -421,61 +417,121 @@ makes-rejected told o today loaded e (Ok work) loads p is = absurd is
 makes-rejected told o today loaded e (Err x) loads p is =
     subst (λ (y : LoadFault). MakesWork o today told (Err y)) (sym is) (makes-fault told o today loaded e loads p)
 
+no-list : (e : Rejection) → of_rejection e ≡ loads.List → ⊥
+no-list (rejections.Fault fault) h = cc
+no-list rejections.Memory h = cc
+
+no-read : (e : Rejection) → of_rejection e ≡ loads.Read → ⊥
+no-read (rejections.Fault fault) h = cc
+no-read rejections.Memory h = cc
+
+-- A fault of what is loaded is no failure of a folder or a file.
+pub rejected-looks : {S X : Type 0} (files : S → Option (List File)) (begun : S → Option (List ℕ)) (faults refusals list_faults read_faults : S → ℕ) (old new : S)
+    (e : Rejection) (r : Result X LoadFault) → OnlyListsAndReads files begun faults refusals list_faults read_faults old new → IsErrAnd r (λ x. x ≡ of_rejection e)
+    → LoadsFiles files begun faults refusals list_faults read_faults old new r
+rejected-looks files begun faults refusals list_faults read_faults old new e (Ok x) only is = absurd is
+rejected-looks files begun faults refusals list_faults read_faults old new e (Err f) only is = record {
+  only = only;
+  list_failed = λ h. let same : f ≡ loads.List = cc in absurd (no-list e (sym is ∙ same));
+  read_failed = λ h. let same : f ≡ loads.Read = cc in absurd (no-read e (sym is ∙ same));
+}
+
+-- ---- the day
+
+-- The day of the words, else the clock's, is the one for which the filters are made.
+day-is : (date : Option Day) (told : Option ℤ) (today : Day) → IsDayFor date told today → WhereDay (not (is_some date)) told (λ day. or_day date day ≡ today)
+day-is (Some date) told today h = λ day. sym h
+day-is None None today h = tt
+day-is None (Some n) today h = λ day e. same-day day today (e ∙ sym h)
+
+day-carries : (asked : Bool) (told : Option ℤ) (P Q : Day → Type 0) → ((day : Day) → P day → Q day) → WhereDay asked told P → WhereDay asked told Q
+day-carries true None P Q f h = tt
+day-carries true (Some n) P Q f h = λ day e. f day (h day e)
+day-carries false told P Q f h = λ day. f day (h day)
+
+asks-as : (words : List (List ℕ)) (o : Options) → options_of words ≡ Some o → not (is_some o.date) ≡ asks_clock words
+asks-as words o e = sym (ap asks_clock_for e)
+
+-- What is so of the options for the day is so of the words, where the files and the clock's day are told.
+for-words : (told : Option (List File)) (words : List (List ℕ)) (o : Options) (c : Watch) (today : Day) (R : List File → Type 0) (Q : Day → List File → Type 0)
+    → options_of words ≡ Some o → IsDayFor o.date c.day today → ((day : Day) (files : List File) → or_day o.date day ≡ today → R files → Q day files)
+    → IfSome told R → IfSome told (λ files. WhereDay (asks_clock words) c.day (λ day. Q day files))
+for-words None words o c today R Q e d f h = tt
+for-words (Some files) words o c today R Q e d f h =
+    subst (λ b. WhereDay b c.day (λ day. Q day files)) (asks-as words o e)
+    (day-carries (not (is_some o.date)) c.day (λ day. or_day o.date day ≡ today) (λ day. Q day files) (λ day is. f day files is h) (day-is o.date c.day today d))
+
 -- ---- the words
 
-seen-job : (told : Option (List File)) (words : List (List ℕ)) (o : Options) (today : Day) (work : Work) → options_of words ≡ Some o → o.date ≡ Some today
-    → IfSome told (λ files. (plan : Plan) × Plans o today files (Ok plan) × IsReady plan work)
-    → IfSome told (λ files. (day : Day) → (plan : Plan) × IsJob words day files (Some (Ok plan)) × IsReady plan work)
-seen-job None words o today work e f h = tt
-seen-job (Some files) words o today work e f h = λ day. (
-  h.0,
-  subst (λ (w : Option Options). IsJobOf w day files (Some (Ok h.0))) (sym e)
-      (subst (λ (d : Option Day). Plans o (or_day d day) files (Ok h.0)) (sym f) h.1),
-  h.2,
-)
-
-pub decides-planned : (words : List (List ℕ)) (o : Options) (today : Day) (work : Work) (d : Disk) → options_of words ≡ Some o → o.date ≡ Some today
-    → MakesWork o today d.files (Ok work) → DecidesPlanned words work d
-decides-planned words o today work d e f h = record {
+pub decides-planned : (words : List (List ℕ)) (o : Options) (today : Day) (work : Work) (d : Disk) (c : Watch) → options_of words ≡ Some o → IsDayFor o.date c.day today
+    → MakesWork o today d.files (Ok work) → DecidesPlanned words work d c
+decides-planned words o today work d c e f h = record {
   accepted = ap is_some e;
-  planned = seen-job d.files words o today work e f h.0;
+  planned = for-words d.files words o c today (λ files. (plan : Plan) × Plans o today files (Ok plan) × IsReady plan work)
+      (λ day files. (plan : Plan) × IsJob words day files (Some (Ok plan)) × IsReady plan work) e f
+      (λ day files is p. (
+        p.0,
+        subst (λ (w : Option Options). IsJobOf w day files (Some (Ok p.0))) (sym e) (subst (λ (x : Day). Plans o x files (Ok p.0)) (sym is) p.1),
+        p.2,
+      )) h.0;
   differ = h.1;
 }
 
-seen-fault : (told : Option (List File)) (words : List (List ℕ)) (o : Options) (today : Day) (fault other : Fault) → options_of words ≡ Some o → o.date ≡ Some today
-    → other ≡ fault → IfSome told (λ files. Plans o today files (Err fault)) → IfSome told (λ files. (day : Day) → IsJob words day files (Some (Err other)))
-seen-fault None words o today fault other e f g h = tt
-seen-fault (Some files) words o today fault other e f g h = λ day.
-    subst (λ (w : Option Options). IsJobOf w day files (Some (Err other))) (sym e)
-    (subst (λ (d : Option Day). Plans o (or_day d day) files (Err other)) (sym f) (subst (λ x. Plans o today files (Err x)) (sym g) h))
+seen-fault : (told : Option (List File)) (words : List (List ℕ)) (o : Options) (c : Watch) (today : Day) (fault other : Fault) → options_of words ≡ Some o → IsDayFor o.date c.day today
+    → other ≡ fault → IfSome told (λ files. Plans o today files (Err fault))
+    → IfSome told (λ files. WhereDay (asks_clock words) c.day (λ day. IsJob words day files (Some (Err other))))
+seen-fault told words o c today fault other e f g h =
+    for-words told words o c today (λ files. Plans o today files (Err fault)) (λ day files. IsJob words day files (Some (Err other))) e f
+    (λ day files is p. subst (λ (w : Option Options). IsJobOf w day files (Some (Err other))) (sym e)
+    (subst (λ (x : Day). Plans o x files (Err other)) (sym is) (subst (λ x. Plans o today files (Err x)) (sym g) p))) h
 
-pub decides-fault : (words : List (List ℕ)) (o : Options) (today : Day) (old new : Disk) (e : LoadFault) (d : Decision) → options_of words ≡ Some o → o.date ≡ Some today
-    → MakesWork o today old.files (Err e) → (IsErrOf {T = Work} (Err e) loads.List → Rose old.list_faults new.list_faults)
+pub decides-fault : (words : List (List ℕ)) (o : Options) (today : Day) (old new : Disk) (c c' : Watch) (e : LoadFault) (d : Decision) → options_of words ≡ Some o
+    → IsDayFor o.date c.day today → MakesWork o today old.files (Err e) → (IsErrOf {T = Work} (Err e) loads.List → Rose old.list_faults new.list_faults)
     → (IsErrOf {T = Work} (Err e) loads.Read → Rose old.read_faults new.read_faults)
-    → FollowsFrom e d → DecidesSo words old new d
-decides-fault words o today old new (loads.Fault fault) (decided.Refused told line) e f m list read h = record {
+    → FollowsFrom e d → DecidesSo words old new c c' d
+decides-fault words o today old new c c' (loads.Fault fault) (decided.Refused told line) e f m list read h = record {
   accepted = ap is_some e;
-  first = seen-fault old.files words o today fault told e f h.0 m;
+  first = seen-fault old.files words o c today fault told e f h.0 m;
   line_is = h.1 ∙ ap fault_line (sym h.0);
 }
-decides-fault words o today old new (loads.Fault fault) decided.Memory e f m list read h = ap is_some e
-decides-fault words o today old new (loads.Fault fault) decided.Usage e f m list read h = absurd h
-decides-fault words o today old new (loads.Fault fault) (decided.Planned work) e f m list read h = absurd h
-decides-fault words o today old new (loads.Fault fault) (decided.Outside w) e f m list read h = absurd h
-decides-fault words o today old new loads.List (decided.Outside w) e f m list read h =
-    (ap is_some e, subst (λ x. RoseLooking x old new) (sym h) (list refl))
-decides-fault words o today old new loads.List decided.Memory e f m list read h = absurd h
-decides-fault words o today old new loads.List decided.Usage e f m list read h = absurd h
-decides-fault words o today old new loads.List (decided.Planned work) e f m list read h = absurd h
-decides-fault words o today old new loads.List (decided.Refused told line) e f m list read h = absurd h
-decides-fault words o today old new loads.Read (decided.Outside w) e f m list read h =
-    (ap is_some e, subst (λ x. RoseLooking x old new) (sym h) (read refl))
-decides-fault words o today old new loads.Read decided.Memory e f m list read h = absurd h
-decides-fault words o today old new loads.Read decided.Usage e f m list read h = absurd h
-decides-fault words o today old new loads.Read (decided.Planned work) e f m list read h = absurd h
-decides-fault words o today old new loads.Read (decided.Refused told line) e f m list read h = absurd h
-decides-fault words o today old new loads.Memory decided.Memory e f m list read h = ap is_some e
-decides-fault words o today old new loads.Memory decided.Usage e f m list read h = absurd h
-decides-fault words o today old new loads.Memory (decided.Planned work) e f m list read h = absurd h
-decides-fault words o today old new loads.Memory (decided.Refused told line) e f m list read h = absurd h
-decides-fault words o today old new loads.Memory (decided.Outside w) e f m list read h = absurd h
+decides-fault words o today old new c c' (loads.Fault fault) decided.Memory e f m list read h = tt
+decides-fault words o today old new c c' (loads.Fault fault) decided.Usage e f m list read h = absurd h
+decides-fault words o today old new c c' (loads.Fault fault) (decided.Planned work) e f m list read h = absurd h
+decides-fault words o today old new c c' (loads.Fault fault) (decided.Outside w) e f m list read h = absurd h
+decides-fault words o today old new c c' loads.List (decided.Outside w) e f m list read h =
+    (ap is_some e, subst (λ x. RoseLooking words x old new c c') (sym h) (list refl))
+decides-fault words o today old new c c' loads.List decided.Memory e f m list read h = absurd h
+decides-fault words o today old new c c' loads.List decided.Usage e f m list read h = absurd h
+decides-fault words o today old new c c' loads.List (decided.Planned work) e f m list read h = absurd h
+decides-fault words o today old new c c' loads.List (decided.Refused told line) e f m list read h = absurd h
+decides-fault words o today old new c c' loads.Read (decided.Outside w) e f m list read h =
+    (ap is_some e, subst (λ x. RoseLooking words x old new c c') (sym h) (read refl))
+decides-fault words o today old new c c' loads.Read decided.Memory e f m list read h = absurd h
+decides-fault words o today old new c c' loads.Read decided.Usage e f m list read h = absurd h
+decides-fault words o today old new c c' loads.Read (decided.Planned work) e f m list read h = absurd h
+decides-fault words o today old new c c' loads.Read (decided.Refused told line) e f m list read h = absurd h
+decides-fault words o today old new c c' loads.Memory decided.Memory e f m list read h = tt
+decides-fault words o today old new c c' loads.Memory decided.Usage e f m list read h = absurd h
+decides-fault words o today old new c c' loads.Memory (decided.Planned work) e f m list read h = absurd h
+decides-fault words o today old new c c' loads.Memory (decided.Refused told line) e f m list read h = absurd h
+decides-fault words o today old new c c' loads.Memory (decided.Outside w) e f m list read h = absurd h
+
+-- The clock failed.
+pub decides-clock : (words : List (List ℕ)) (o : Options) (old new : Disk) (c c' : Watch) → options_of words ≡ Some o → o.date ≡ None → Rose c.faults c'.faults
+    → DecidesSo words old new c c' (decided.Outside which.Clock)
+decides-clock words o old new c c' e date rose = (ap is_some e, (sym (asks-as words o e) ∙ ap (λ (d : Option Day). not (is_some d)) date, rose))
+
+-- ---- the clock
+
+pub not-asked : (words : List (List ℕ)) (c : Watch) → Asks words c c
+not-asked words c = record { only = record { rests = λ _. refl; day_stays = refl }; faults_grow = le_refl c.faults }
+
+pub asked-for : (words : List (List ℕ)) (o : Options) (c c' : Watch) (r : Result Day ClockFault) → options_of words ≡ Some o → FindsDay o.date c c' r → Asks words c c'
+asked-for words o c c' r e h = record {
+  only = record { rests = λ no. h.rests (is-named o.date (asks-as words o e ∙ no)); day_stays = h.day_stays };
+  faults_grow = h.faults_grow;
+}
+  where
+    is-named : (date : Option Day) → not (is_some date) ≡ false → IsSome date
+    is-named (Some d) n = refl
+    is-named None n = absurd (false≢true (sym n))

@@ -33,11 +33,12 @@ use Rattle.acl_expand.specs.ExpansionSlips.{first_slip}
 use Rattle.acl_expand.proofs.DecideLaws.{decides-as-written}
 use Rattle.acl_load.specs.LoadedPolicies.{AreResolved, AreResolvedIn}
 use Rattle.acl_load.specs.declared.policy_loading.Loaded.{Loaded}
-use Rattle.acl_render.specs.PlatformFiles.{IsTaken, count_of, is_rendered, limit_of, limit_on}
+use Rattle.acl_render.specs.PlatformFiles.{IsTaken, count_of, limit_of, limit_on}
 use Rattle.aclgen_core.specs.Endings.{DecidesAsPolicy}
-use Rattle.aclgen_core.specs.FilterRequests.{FilterRequest, check_slip, block_requests, filter_for, limit_slip, platform_slip, request_of, request_slip, requests_in, requests_of, requests_on, requests_slip, target_slip}
-use Rattle.aclgen_core.specs.Job.{report_line, report_text}
-use Rattle.aclgen_core.specs.PreparingSteps.{Adds, AddsAll, AddsOne, AddsTo, AreEmptyDrafts, AreOpen, Checks, ChecksFilter, IsTakenFor, PreparesAll, draft_on}
+use Rattle.aclgen_core.specs.FilterRequests.{FilterRequest, check_slip, block_requests, filter_for, limit_slip, request_of, request_slip, requests_in, requests_of, requests_on, requests_slip}
+use Rattle.acl_report.specs.Reports.{count_line}
+use Rattle.aclgen_core.specs.Job.{report_line}
+use Rattle.aclgen_core.specs.PreparingSteps.{Adds, AddsAll, AddsOne, AddsTo, AreEmptyDrafts, AreOpen, Checks, ChecksFilter, IsTakenFor, PreparesAll, draft_on, with_draft}
 use Rattle.aclgen_core.specs.declared.preparing.FileDraft.{FileDraft}
 use Rattle.aclgen_core.specs.declared.preparing.FileDrafts.{FileDrafts}
 
@@ -69,30 +70,20 @@ check-none : (f : Filter) → limit_of f ≡ None → check_slip f ≡ None
 unfolding check_slip
 check-none f e = ap (option_map (limit_slip f)) e
 
-no-slip : (b : Bool) (s : Slip) → (if b then None else Some s) ≡ None → b ≡ true
-no-slip true s e = refl
-no-slip false s e = absurd (cc)
-
-pub is-rendered : (t : Target) → target_slip t ≡ None → is_rendered t.kind ≡ true
-is-rendered t e = no-slip (is_rendered t.kind) _ e
-
 limit-there : (f : Filter) → limit_of f ≡ None → limit_on f.kind f ≡ None
 unfolding limit_of
 limit-there f e = e
 
 pub checks-filter : (today : Day) (r : FilterRequest) (f : Filter) (entries : ℕ) → first_slip r.target today r.terms ≡ None → f ≡ filter_for today r
-    → IsSound f → target_slip r.target ≡ None → Ok entries ≡ judged (limit_of f) (count_of f) → ChecksFilter today r f entries
-checks-filter today r f entries none is sound handled e =
+    → IsSound f → Ok entries ≡ judged (limit_of f) (count_of f) → ChecksFilter today r f entries
+checks-filter today r f entries none is sound e =
     let j = judged-ok (limit_of f) (count_of f) entries e in
     let within : limit_of (filter_for today r) ≡ None = sym (ap limit_of is) ∙ j.0 in
     record {
       slip_is = both-none (first_slip r.target today r.terms) (check_slip (filter_for today r)) none (check-none (filter_for today r) within);
       filter_is = is;
       count_is = j.1 ∙ ap count_of is;
-      taken = record {
-        rendered = is-rendered r.target handled;
-        taken = record { kind_is = refl; sound = subst IsSound is sound; within = limit-there (filter_for today r) within };
-      };
+      taken = record { kind_is = refl; sound = subst IsSound is sound; within = limit-there (filter_for today r) within };
     }
 
 judged-err : (l : Option Limit) (n : ℕ) (m : Limit) → Err m ≡ judged l n → l ≡ Some m
@@ -144,7 +135,7 @@ goes today kind r f entries old new e checks adds =
     subst (λ rs. AddsTo today rs old new) (sym (on-it kind r e)) (record {
       path_stays = adds.path_stays;
       filters_are = adds.filters_are ∙ ap (λ x. old.filters ++ x ∷ []) checks.filter_is;
-      report_is = adds.report_is ∙ ap (λ n. old.report.bytes ++ report_text (string_bytes old.path) r.target n) checks.count_is
+      report_is = adds.report_is ∙ ap (λ n. old.report.bytes ++ count_line (string_bytes old.path) r.target n) checks.count_is
           ∙ ap (λ t. old.report.bytes ++ t) (sym (append-nil (report_line (string_bytes old.path) today r)));
       opened = adds.opened;
     })
@@ -154,45 +145,29 @@ one-taken : (today : Day) (r : FilterRequest) (f : Filter) (entries : ℕ) (old 
 one-taken today r f entries old new checks each =
     record { slip_is = both-none (request_slip today r) None checks.slip_is refl; each = each; taken = (checks.taken, tt) }
 
-pub to-cisco : (today : Day) (r : FilterRequest) (f : Filter) (entries : ℕ) (old : FileDrafts) (new : FileDraft) → r.target.kind ≡ Cisco → AreOpen old
-    → ChecksFilter today r f entries → AddsOne r.target f entries old.cisco new → AddsAll today (r ∷ []) old (record old { cisco = new })
-to-cisco today r f entries old new e ready checks adds = one-taken today r f entries old (record old { cisco = new }) checks each
+-- It goes into its own platform's file, and the others stay.
+pub filed : (today : Day) (here : Kind) (r : FilterRequest) (f : Filter) (entries : ℕ) (old : FileDrafts) (new : FileDraft) → r.target.kind ≡ here → AreOpen old
+    → ChecksFilter today r f entries → AddsOne r.target f entries (draft_on here old) new → AddsAll today (r ∷ []) old (with_draft here old new)
+filed today here r f entries old new e ready checks adds = one-taken today r f entries old (with_draft here old new) checks (each here e adds)
   where
-    each : (kind : Kind) → AddsTo today (requests_on kind (r ∷ [])) (draft_on kind old) (draft_on kind (record old { cisco = new }))
-    each Cisco = goes today Cisco r f entries old.cisco new e checks adds
-    each Juniper = stays today Cisco Juniper r old.juniper e refl (ready Juniper)
-    each Iptables = stays today Cisco Iptables r old.iptables e refl (ready Iptables)
-    each Nftables = stays today Cisco Nftables r old.nftables e refl (ready Nftables)
-
-pub to-juniper : (today : Day) (r : FilterRequest) (f : Filter) (entries : ℕ) (old : FileDrafts) (new : FileDraft) → r.target.kind ≡ Juniper → AreOpen old
-    → ChecksFilter today r f entries → AddsOne r.target f entries old.juniper new → AddsAll today (r ∷ []) old (record old { juniper = new })
-to-juniper today r f entries old new e ready checks adds = one-taken today r f entries old (record old { juniper = new }) checks each
-  where
-    each : (kind : Kind) → AddsTo today (requests_on kind (r ∷ [])) (draft_on kind old) (draft_on kind (record old { juniper = new }))
-    each Cisco = stays today Juniper Cisco r old.cisco e refl (ready Cisco)
-    each Juniper = goes today Juniper r f entries old.juniper new e checks adds
-    each Iptables = stays today Juniper Iptables r old.iptables e refl (ready Iptables)
-    each Nftables = stays today Juniper Nftables r old.nftables e refl (ready Nftables)
-
-pub to-iptables : (today : Day) (r : FilterRequest) (f : Filter) (entries : ℕ) (old : FileDrafts) (new : FileDraft) → r.target.kind ≡ Iptables → AreOpen old
-    → ChecksFilter today r f entries → AddsOne r.target f entries old.iptables new → AddsAll today (r ∷ []) old (record old { iptables = new })
-to-iptables today r f entries old new e ready checks adds = one-taken today r f entries old (record old { iptables = new }) checks each
-  where
-    each : (kind : Kind) → AddsTo today (requests_on kind (r ∷ [])) (draft_on kind old) (draft_on kind (record old { iptables = new }))
-    each Cisco = stays today Iptables Cisco r old.cisco e refl (ready Cisco)
-    each Juniper = stays today Iptables Juniper r old.juniper e refl (ready Juniper)
-    each Iptables = goes today Iptables r f entries old.iptables new e checks adds
-    each Nftables = stays today Iptables Nftables r old.nftables e refl (ready Nftables)
-
-pub to-nftables : (today : Day) (r : FilterRequest) (f : Filter) (entries : ℕ) (old : FileDrafts) (new : FileDraft) → r.target.kind ≡ Nftables → AreOpen old
-    → ChecksFilter today r f entries → AddsOne r.target f entries old.nftables new → AddsAll today (r ∷ []) old (record old { nftables = new })
-to-nftables today r f entries old new e ready checks adds = one-taken today r f entries old (record old { nftables = new }) checks each
-  where
-    each : (kind : Kind) → AddsTo today (requests_on kind (r ∷ [])) (draft_on kind old) (draft_on kind (record old { nftables = new }))
-    each Cisco = stays today Nftables Cisco r old.cisco e refl (ready Cisco)
-    each Juniper = stays today Nftables Juniper r old.juniper e refl (ready Juniper)
-    each Iptables = stays today Nftables Iptables r old.iptables e refl (ready Iptables)
-    each Nftables = goes today Nftables r f entries old.nftables new e checks adds
+    each : (here : Kind) → r.target.kind ≡ here → AddsOne r.target f entries (draft_on here old) new
+        → (kind : Kind) → AddsTo today (requests_on kind (r ∷ [])) (draft_on kind old) (draft_on kind (with_draft here old new))
+    each Cisco e adds Cisco = goes today Cisco r f entries old.cisco new e checks adds
+    each Cisco e adds Juniper = stays today Cisco Juniper r old.juniper e refl (ready Juniper)
+    each Cisco e adds Iptables = stays today Cisco Iptables r old.iptables e refl (ready Iptables)
+    each Cisco e adds Nftables = stays today Cisco Nftables r old.nftables e refl (ready Nftables)
+    each Juniper e adds Cisco = stays today Juniper Cisco r old.cisco e refl (ready Cisco)
+    each Juniper e adds Juniper = goes today Juniper r f entries old.juniper new e checks adds
+    each Juniper e adds Iptables = stays today Juniper Iptables r old.iptables e refl (ready Iptables)
+    each Juniper e adds Nftables = stays today Juniper Nftables r old.nftables e refl (ready Nftables)
+    each Iptables e adds Cisco = stays today Iptables Cisco r old.cisco e refl (ready Cisco)
+    each Iptables e adds Juniper = stays today Iptables Juniper r old.juniper e refl (ready Juniper)
+    each Iptables e adds Iptables = goes today Iptables r f entries old.iptables new e checks adds
+    each Iptables e adds Nftables = stays today Iptables Nftables r old.nftables e refl (ready Nftables)
+    each Nftables e adds Cisco = stays today Nftables Cisco r old.cisco e refl (ready Cisco)
+    each Nftables e adds Juniper = stays today Nftables Juniper r old.juniper e refl (ready Juniper)
+    each Nftables e adds Iptables = stays today Nftables Iptables r old.iptables e refl (ready Iptables)
+    each Nftables e adds Nftables = goes today Nftables r f entries old.nftables new e checks adds
 
 -- ---- several filters
 
@@ -270,7 +245,7 @@ pub adds-written : (today : Day) (written : List RawTerm) (terms : List Term) (t
 adds-written today written terms t p q h = record {
   slip_is = h.slip_is;
   each = λ kind. same-file today written terms t kind (draft_on kind p) (draft_on kind q) (h.each kind);
-  taken = (record { rendered = h.taken.0.rendered; taken = h.taken.0.taken }, tt);
+  taken = h.taken;
 }
 
 pub blocks-are : (bs : List Block) (b : Block) (more : List Block) (ls : List (List Term)) (l : List Term) (others : List (List Term))
@@ -279,10 +254,10 @@ blocks-are bs b more ls l others e f = ap (λ xs. requests_in xs ls) e ∙ ap (�
 
 -- ---- a whole policy
 
-pub prepared : (output policy : List ℕ) (today : Day) (loaded : Loaded) (old new : FileDrafts) → platform_slip loaded.policy.blocks ≡ None
+pub prepared : (output policy : List ℕ) (today : Day) (loaded : Loaded) (old new : FileDrafts)
     → AreEmptyDrafts output policy old → AddsAll today (requests_of loaded) old new → PreparesAll output policy today loaded new
-prepared output policy today loaded old new none empty h = record {
-  slip_is = both-none (platform_slip loaded.policy.blocks) (requests_slip today (requests_of loaded)) none h.slip_is;
+prepared output policy today loaded old new empty h = record {
+  slip_is = h.slip_is;
   each = λ kind. let e = empty kind in let a = h.each kind in let rs = requests_on kind (requests_of loaded) in record {
     path_is = ap string_bytes a.path_stays ∙ e.path_is;
     filters_are = a.filters_are ∙ ap (λ fs. fs ++ map (filter_for today) rs) e.filters_are;

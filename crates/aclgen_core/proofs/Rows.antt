@@ -1,5 +1,5 @@
 -- The rows of the endings, from what deciding and acting give.
-use Rattle.std.proofs.Common.{◌≡◌, ℕ, ◌≤◌, ◌⊎◌, inl, inr, Bool, true, false, List, Option, None, Some, Result, Ok, Err, IfSome, IsSome, IsSomeAnd, is_some, refl, ap, sym, subst, ◌∙◌, le_refl, arith}
+use Rattle.std.proofs.Common.{◌≡◌, ℕ, ℤ, ◌≤◌, ◌⊎◌, inl, inr, Bool, true, false, List, Option, None, Some, Result, Ok, Err, IfSome, IsSome, IsSomeAnd, is_some, refl, ap, sym, subst, ◌∙◌, le_refl, arith}
 use Rattle.std.proofs.lemmas.Bool.{false≢true}
 use Rattle.std.specs.List.{AllByRecursion}
 use Rattle.acl_text.specs.declared.faults.Fault.{Fault}
@@ -7,14 +7,15 @@ use Rattle.acl_text.specs.Output.{Rose}
 use Rattle.acl_host.specs.declared.clocks.Day.{Day}
 use Rattle.acl_host.specs.Files.{File, BothTell}
 use Rattle.acl_host.specs.Outside.{AddsFront}
-use Rattle.aclgen_core.specs.CommandLines.{Options, asks_clock, options_of}
+use Rattle.acl_options.specs.CommandLines.{Options}
+use Rattle.acl_options.specs.ComputableOptions.{asks_clock, options_of}
 use Rattle.aclgen_core.specs.FaultLines.{outside_line, usage_line}
 use Rattle.aclgen_core.specs.FileLists.{HoldsTexts, Interrupted, PathsDiffer}
 use Rattle.aclgen_core.specs.Job.{Plan, IsJob, IsJobOf, report_of, texts_of}
 use Rattle.acl_load.specs.FaultLines.{fault_line}
 use Rattle.aclgen_core.specs.Endings.{WhereDay, WhereTold, Got, Tried, Untouched, IsFileOf, IsWritten, Headline, EndsDone, EndsUsage, EndsRejected, RoseAt, EndsLooking, EndsAsking, LeavesFiles, EndsWriting, LeavesReport, EndsReporting, IsRefusal, EndsTelling, EndsOutside, Leaves, EndsWanting, EndsSo, NoneRose, IsEnding, EndsAsAsked, OnlyAsked, Keeps}
 use Rattle.aclgen_core.specs.Worlds.{CountsGrow, Disk, DiskCountsGrow, Stream, StreamCountsGrow, Watch, World, world}
-use Rattle.aclgen_core.specs.DecidingSteps.{IsReady, OnlySeen, WhereSeen, RoseLooking, DecidesRefused, DecidesPlanned, DecidesSo, Decides, RefusesSo, Refuses, ActsDone, ActsWrite, ActsOut, ActsMemory, ActsSo, Acts, Tells, texts_in}
+use Rattle.aclgen_core.specs.DecidingSteps.{Asks, IsReady, OnlySeen, WhereSeen, RoseLooking, DecidesRefused, DecidesPlanned, DecidesSo, Decides, RefusesSo, Refuses, ActsDone, ActsWrite, ActsOut, ActsMemory, ActsSo, Acts, Tells, texts_in}
 use Rattle.aclgen_core.specs.declared.endings.Ended.{Ended}
 use Rattle.aclgen_core.specs.declared.endings.Ended.TheVariants as ended
 use Rattle.aclgen_core.specs.declared.endings.Which.{Which}
@@ -26,15 +27,26 @@ use Rattle.aclgen_core.proofs.Telling.{whole-front, no-front}
 
 -- ---- what is told
 
-told-goes-on : (told : Option (List File)) (P Q : Day → List File → Type 0) → ((day : Day) (files : List File) → told ≡ Some files → P day files → Q day files)
-    → IfSome told (λ files. (day : Day) → P day files) → IfSome told (λ files. (day : Day) → Q day files)
-told-goes-on None P Q f h = tt
-told-goes-on (Some files) P Q f h = λ day. f day files refl (h day)
+day-goes-on : (asked : Bool) (told : Option ℤ) (P Q : Day → Type 0) → ((day : Day) → P day → Q day) → WhereDay asked told P → WhereDay asked told Q
+day-goes-on true None P Q f h = tt
+day-goes-on true (Some n) P Q f h = λ day e. f day (h day e)
+day-goes-on false told P Q f h = λ day. f day (h day)
 
-told-given : (told : Option (List File)) (Q : Day → List File → Type 0) → ((day : Day) (files : List File) → told ≡ Some files → Q day files)
-    → IfSome told (λ files. (day : Day) → Q day files)
-told-given None Q f = tt
-told-given (Some files) Q f = λ day. f day files refl
+day-given : (asked : Bool) (told : Option ℤ) (Q : Day → Type 0) → ((day : Day) → Q day) → WhereDay asked told Q
+day-given true None Q f = tt
+day-given true (Some n) Q f = λ day e. f day
+day-given false told Q f = f
+
+told-goes-on : (words : List (List ℕ)) (c : Watch) (told : Option (List File)) (P Q : Day → List File → Type 0)
+    → ((day : Day) (files : List File) → told ≡ Some files → P day files → Q day files)
+    → IfSome told (λ files. WhereDay (asks_clock words) c.day (λ day. P day files)) → IfSome told (λ files. WhereDay (asks_clock words) c.day (λ day. Q day files))
+told-goes-on words c None P Q f h = tt
+told-goes-on words c (Some files) P Q f h = day-goes-on (asks_clock words) c.day (λ day. P day files) (λ day. Q day files) (λ day. f day files refl) h
+
+told-given : (words : List (List ℕ)) (c : Watch) (told : Option (List File)) (Q : Day → List File → Type 0)
+    → ((day : Day) (files : List File) → told ≡ Some files → Q day files) → IfSome told (λ files. WhereDay (asks_clock words) c.day (λ day. Q day files))
+told-given words c None Q f = tt
+told-given words c (Some files) Q f = day-given (asks_clock words) c.day (λ day. Q day files) (λ day. f day files refl)
 
 -- ---- completeness
 
@@ -58,21 +70,21 @@ job-fits words day files job other result is ends h =
 complete-done : (words : List (List ℕ)) (old new : World) → EndsDone words old new → EndsAsAsked words old ended.Done
 complete-done words old new e = record {
   usage = λ none. absurd (no-options (options_of words) none e.accepted);
-  job = told-goes-on old.disk.files (Headline words old new) (λ day files. (job : Option (Result Plan Fault)) → IsJob words day files job → IsEnding job ended.Done)
+  job = told-goes-on words old.clock old.disk.files (Headline words old new) (λ day files. (job : Option (Result Plan Fault)) → IsJob words day files job → IsEnding job ended.Done)
       (λ day files _ h job is. job-fits words day files (Some (Ok h.0)) job ended.Done h.1 (inl refl) is) e.written;
 }
 
 complete-usage : (words : List (List ℕ)) (old new : World) → EndsUsage words old new → EndsAsAsked words old ended.Usage
 complete-usage words old new e = record {
   usage = λ _. inl refl;
-  job = told-given old.disk.files (λ day files. (job : Option (Result Plan Fault)) → IsJob words day files job → IsEnding job ended.Usage)
+  job = told-given words old.clock old.disk.files (λ day files. (job : Option (Result Plan Fault)) → IsJob words day files job → IsEnding job ended.Usage)
       (λ day files _ job is. job-fits words day files None job ended.Usage (no-job words day files e.refused) (inl refl) is);
 }
 
 complete-rejected : (words : List (List ℕ)) (fault : Fault) (old new : World) → EndsRejected words fault old new → EndsAsAsked words old (ended.Rejected fault)
 complete-rejected words fault old new e = record {
   usage = λ none. absurd (no-options (options_of words) none e.accepted);
-  job = told-goes-on old.disk.files (λ day files. IsJob words day files (Some (Err fault)))
+  job = told-goes-on words old.clock old.disk.files (λ day files. IsJob words day files (Some (Err fault)))
       (λ day files. (job : Option (Result Plan Fault)) → IsJob words day files job → IsEnding job (ended.Rejected fault))
       (λ day files _ h job is. job-fits words day files (Some (Err fault)) job (ended.Rejected fault) h (inl refl) is) e.first;
 }
@@ -80,7 +92,7 @@ complete-rejected words fault old new e = record {
 complete-memory : (words : List (List ℕ)) (old : World) → EndsAsAsked words old ended.Memory
 complete-memory words old = record {
   usage = λ _. inr refl;
-  job = told-given old.disk.files (λ day files. (job : Option (Result Plan Fault)) → IsJob words day files job → IsEnding job ended.Memory)
+  job = told-given words old.clock old.disk.files (λ day files. (job : Option (Result Plan Fault)) → IsJob words day files job → IsEnding job ended.Memory)
       (λ day files _ job is. memory-fits job);
 }
 
@@ -101,9 +113,6 @@ completes words old new ended.Memory e none = complete-memory words old
 
 -- ---- the frame of a run
 
-resting : (words : List (List ℕ)) (c : Watch) → OnlyAsked words c c
-resting words c = record { rests = λ _. refl; day_stays = refl }
-
 seen-counts : (d d' : Disk) → OnlySeen d d' → DiskCountsGrow d d'
 seen-counts d d' s = record {
   lists = s.lists_grow;
@@ -116,127 +125,123 @@ still : (s : Stream) → StreamCountsGrow s s
 still s = record { faults_grow = le_refl s.faults; refusals_grow = le_refl s.refusals }
 
 -- A run that only looked.
-looked : (words : List (List ℕ)) (d d' : Disk) (o e e' : Stream) (c : Watch) (result : Ended) → d.begun ≡ None → OnlySeen d d' → StreamCountsGrow e e'
-    → EndsSo words (world d o e c) (world d' o e' c) result → Keeps words (world d o e c) (world d' o e' c) result
-looked words d d' o e e' c result none seen counts ends = record {
+looked : (words : List (List ℕ)) (d d' : Disk) (o e e' : Stream) (c c' : Watch) (result : Ended) → d.begun ≡ None → OnlySeen d d' → Asks words c c'
+    → StreamCountsGrow e e' → EndsSo words (world d o e c) (world d' o e' c') result → Keeps words (world d o e c) (world d' o e' c') result
+looked words d d' o e e' c c' result none seen asked counts ends = record {
   none_begun = seen.begun_stays ∙ none;
-  clock = resting words c;
-  counts = record { disk_counts = seen-counts d d' seen; out_counts = still o; err_counts = counts; clock_count = le_refl c.faults };
+  clock = asked.only;
+  counts = record { disk_counts = seen-counts d d' seen; out_counts = still o; err_counts = counts; clock_count = asked.faults_grow };
   ending = ends;
-  complete = completes words (world d o e c) (world d' o e' c) result ends;
+  complete = completes words (world d o e c) (world d' o e' c') result ends;
 }
 
-untouched : (d d' : Disk) (o e e' : Stream) (c : Watch) → OnlySeen d d' → Untouched (world d o e c) (world d' o e' c)
-untouched d d' o e e' c seen = record { same_files = seen.files_stay; same_out = refl }
+untouched : (d d' : Disk) (o e e' : Stream) (c c' : Watch) → OnlySeen d d' → Untouched (world d o e c) (world d' o e' c')
+untouched d d' o e e' c c' seen = record { same_files = seen.files_stay; same_out = refl }
 
 -- ---- refusals
 
-refused-memory : (words : List (List ℕ)) (line : List ℕ) (d d' : Disk) (o e e' : Stream) (c : Watch) → OnlySeen d d' → IsRefusal words (world d o e c) line
-    → Rose e.refusals e'.refusals → (job_leaves : (day : Day) (files : List File) → d.files ≡ Some files → (job : Option (Result Plan Fault)) → IsJob words day files job
-    → Leaves job (world d o e c) (world d' o e' c) files)
-    → BothTell e.told e'.told (AddsFront line) → EndsWanting words (world d o e c) (world d' o e' c)
-refused-memory words line d d' o e e' c seen refusal rose job_leaves front = record {
-  words_wanted = λ _. rose;
-  words_untouched = λ _. untouched d d' o e e' c seen;
-  leaves = told-given d.files (λ day files. (job : Option (Result Plan Fault)) → IsJob words day files job → Leaves job (world d o e c) (world d' o e' c) files) job_leaves;
+-- What a job leaves, whatever it is.
+abbrev LeavesSo : List (List ℕ) → World → World → Day → List File → Type 0
+LeavesSo words old new day files = (job : Option (Result Plan Fault)) → IsJob words day files job → Leaves job old new files
+
+refused-memory : (words : List (List ℕ)) (line : List ℕ) (d d' : Disk) (o e e' : Stream) (c c' : Watch) → OnlySeen d d' → IsRefusal words (world d o e c) line
+    → WhereTold words (world d o e c) (LeavesSo words (world d o e c) (world d' o e' c'))
+    → BothTell e.told e'.told (AddsFront line) → EndsWanting words (world d o e c) (world d' o e' c')
+refused-memory words line d d' o e e' c c' seen refusal leaves front = record {
+  words_untouched = λ _. untouched d d' o e e' c c' seen;
+  leaves = leaves;
   line = inr (line, refusal, front);
 }
 
-refused-so : (words : List (List ℕ)) (line : List ℕ) (asked result : Ended) (d d' : Disk) (o e e' : Stream) (c : Watch) → d.begun ≡ None → OnlySeen d d'
-    → StreamCountsGrow e e' → IsRefusal words (world d o e c) line
-    → ((day : Day) (files : List File) → d.files ≡ Some files → (job : Option (Result Plan Fault)) → IsJob words day files job
-    → Leaves job (world d o e c) (world d' o e' c) files)
-    → (Got line e.told e'.told → EndsSo words (world d o e c) (world d' o e' c) asked)
-    → RefusesSo line asked e e' result → Keeps words (world d o e c) (world d' o e' c) result
-refused-so words line asked result d d' o e e' c none seen counts refusal job_leaves row (inl h) =
-    looked words d d' o e e' c result none seen counts (subst (λ (r : Ended). EndsSo words (world d o e c) (world d' o e' c) r) (sym h.0) (row h.1))
-refused-so words line asked result d d' o e e' c none seen counts refusal job_leaves row (inr (inl h)) =
-    let ends : EndsTelling words (world d o e c) (world d' o e' c) =
-    record { cause = h.1; untouched = untouched d d' o e e' c seen; line = (line, refusal, h.2) } in
-    looked words d d' o e e' c result none seen counts (subst (λ (r : Ended). EndsSo words (world d o e c) (world d' o e' c) r) (sym h.0) ends)
-refused-so words line asked result d d' o e e' c none seen counts refusal job_leaves row (inr (inr h)) =
-    let ends = refused-memory words line d d' o e e' c seen refusal h.1 job_leaves h.2 in
-    looked words d d' o e e' c result none seen counts (subst (λ (r : Ended). EndsSo words (world d o e c) (world d' o e' c) r) (sym h.0) ends)
+refused-so : (words : List (List ℕ)) (line : List ℕ) (asked result : Ended) (d d' : Disk) (o e e' : Stream) (c c' : Watch) → d.begun ≡ None → OnlySeen d d'
+    → Asks words c c' → StreamCountsGrow e e' → IsRefusal words (world d o e c) line
+    → WhereTold words (world d o e c) (LeavesSo words (world d o e c) (world d' o e' c'))
+    → (Got line e.told e'.told → EndsSo words (world d o e c) (world d' o e' c') asked)
+    → RefusesSo line asked e e' result → Keeps words (world d o e c) (world d' o e' c') result
+refused-so words line asked result d d' o e e' c c' none seen asks counts refusal leaves row (inl h) =
+    looked words d d' o e e' c c' result none seen asks counts (subst (λ (r : Ended). EndsSo words (world d o e c) (world d' o e' c') r) (sym h.0) (row h.1))
+refused-so words line asked result d d' o e e' c c' none seen asks counts refusal leaves row (inr (inl h)) =
+    let ends : EndsTelling words (world d o e c) (world d' o e' c') =
+    record { cause = h.1; untouched = untouched d d' o e e' c c' seen; line = (line, refusal, h.2) } in
+    looked words d d' o e e' c c' result none seen asks counts (subst (λ (r : Ended). EndsSo words (world d o e c) (world d' o e' c') r) (sym h.0) ends)
+refused-so words line asked result d d' o e e' c c' none seen asks counts refusal leaves row (inr (inr h)) =
+    let ends = refused-memory words line d d' o e e' c c' seen refusal leaves h.2 in
+    looked words d d' o e e' c c' result none seen asks counts (subst (λ (r : Ended). EndsSo words (world d o e c) (world d' o e' c') r) (sym h.0) ends)
 
 leaves-none : (words : List (List ℕ)) (day : Day) (files : List File) (known job : Option (Result Plan Fault)) (old new : World)
     → IsJob words day files known → Leaves known old new files → IsJob words day files job → Leaves job old new files
 leaves-none words day files known job old new is h other =
     subst (λ (j : Option (Result Plan Fault)). Leaves j old new files) (one-job words day files known job is other) h
 
-pub usage-keeps : (words : List (List ℕ)) (line : List ℕ) (result : Ended) (d d' : Disk) (o e e' : Stream) (c : Watch) → d.begun ≡ None → OnlySeen d d'
-    → options_of words ≡ None → line ≡ usage_line → Refuses line ended.Usage e e' result → Keeps words (world d o e c) (world d' o e' c) result
-usage-keeps words line result d d' o e e' c none seen refused is h =
-    refused-so words line ended.Usage result d d' o e e' c none seen h.counts (inl (refused, is))
-    (λ day files _ job. leaves-none words day files None job (world d o e c) (world d' o e' c) (no-job words day files refused) (untouched d d' o e e' c seen))
-    (λ got. record { refused = refused; untouched = untouched d d' o e e' c seen; line = subst (λ t. Got t e.told e'.told) is got })
+pub usage-keeps : (words : List (List ℕ)) (line : List ℕ) (result : Ended) (d d' : Disk) (o e e' : Stream) (c c' : Watch) → d.begun ≡ None → OnlySeen d d'
+    → Asks words c c' → options_of words ≡ None → line ≡ usage_line → Refuses line ended.Usage e e' result → Keeps words (world d o e c) (world d' o e' c') result
+usage-keeps words line result d d' o e e' c c' none seen asked refused is h =
+    refused-so words line ended.Usage result d d' o e e' c c' none seen asked h.counts (inl (refused, is))
+    (told-given words c d.files (LeavesSo words (world d o e c) (world d' o e' c'))
+    (λ day files _ job. leaves-none words day files None job (world d o e c) (world d' o e' c') (no-job words day files refused) (untouched d d' o e e' c c' seen)))
+    (λ got. record { refused = refused; untouched = untouched d d' o e e' c c' seen; line = subst (λ t. Got t e.told e'.told) is got })
     h.so
 
-first-leaves : (words : List (List ℕ)) (fault : Fault) (told : Option (List File)) (old new : World) → Untouched old new
-    → IfSome told (λ files. (day : Day) → IsJob words day files (Some (Err fault)))
-    → (day : Day) (files : List File) → told ≡ Some files → (job : Option (Result Plan Fault)) → IsJob words day files job → Leaves job old new files
-first-leaves words fault told old new same first day files is job h =
-    let P : Option (List File) → Type 0 = λ t. IfSome t (λ files. (day : Day) → IsJob words day files (Some (Err fault))) in
-    leaves-none words day files (Some (Err fault)) job old new (subst P is first day) same h
-
-pub fault-keeps : (words : List (List ℕ)) (fault : Fault) (line : List ℕ) (result : Ended) (d d' : Disk) (o e e' : Stream) (c : Watch) → d.begun ≡ None → OnlySeen d d'
-    → DecidesRefused words fault line d → Refuses line (ended.Rejected fault) e e' result → Keeps words (world d o e c) (world d' o e' c) result
-fault-keeps words fault line result d d' o e e' c none seen refused h =
-    let same = untouched d d' o e e' c seen in
-    refused-so words line (ended.Rejected fault) result d d' o e e' c none seen h.counts
+pub fault-keeps : (words : List (List ℕ)) (fault : Fault) (line : List ℕ) (result : Ended) (d d' : Disk) (o e e' : Stream) (c c' : Watch) → d.begun ≡ None → OnlySeen d d'
+    → Asks words c c' → DecidesRefused words fault line d c → Refuses line (ended.Rejected fault) e e' result → Keeps words (world d o e c) (world d' o e' c') result
+fault-keeps words fault line result d d' o e e' c c' none seen asked refused h =
+    let same = untouched d d' o e e' c c' seen in
+    refused-so words line (ended.Rejected fault) result d d' o e e' c c' none seen asked h.counts
     (inr (refused.accepted, (fault, refused.line_is, refused.first)))
-    (first-leaves words fault d.files (world d o e c) (world d' o e' c) same refused.first)
+    (told-goes-on words c d.files (λ day files. IsJob words day files (Some (Err fault))) (LeavesSo words (world d o e c) (world d' o e' c'))
+    (λ day files _ is job. leaves-none words day files (Some (Err fault)) job (world d o e c) (world d' o e' c') is same) refused.first)
     (λ got. record { accepted = refused.accepted; first = refused.first; untouched = same; line = subst (λ t. Got t e.told e'.told) refused.line_is got })
     h.so
 
 -- ---- failures before anything was written
 
-looking-keeps : (words : List (List ℕ)) (w : Which) (d d' : Disk) (o e e' : Stream) (c : Watch) → OnlySeen d d' → IsSome (options_of words)
-    → RoseAt w (world d o e c) (world d' o e' c) → Tells (outside_line w) e e' → EndsLooking words w (world d o e c) (world d' o e' c)
-looking-keeps words w d d' o e e' c seen accepted rose told = record {
+looking-keeps : (words : List (List ℕ)) (w : Which) (d d' : Disk) (o e e' : Stream) (c c' : Watch) → OnlySeen d d' → IsSome (options_of words)
+    → RoseAt w (world d o e c) (world d' o e' c') → Tells (outside_line w) e e' → EndsLooking words w (world d o e c) (world d' o e' c')
+looking-keeps words w d d' o e e' c c' seen accepted rose told = record {
   cause = rose;
   accepted = accepted;
-  untouched = untouched d d' o e e' c seen;
+  untouched = untouched d d' o e e' c c' seen;
   line = told.tried;
 }
 
-looking-so : (words : List (List ℕ)) (w : Which) (d d' : Disk) (o e e' : Stream) (c : Watch) → OnlySeen d d' → IsSome (options_of words)
-    → RoseLooking w d d' → Tells (outside_line w) e e' → EndsOutside words (world d o e c) (world d' o e' c) w
-looking-so words which.List d d' o e e' c seen accepted rose told = looking-keeps words which.List d d' o e e' c seen accepted rose told
-looking-so words which.Read d d' o e e' c seen accepted rose told = looking-keeps words which.Read d d' o e e' c seen accepted rose told
-looking-so words which.Write d d' o e e' c seen accepted rose told = absurd rose
-looking-so words which.Out d d' o e e' c seen accepted rose told = absurd rose
-looking-so words which.Err d d' o e e' c seen accepted rose told = absurd rose
-looking-so words which.Clock d d' o e e' c seen accepted rose told = absurd rose
+looking-so : (words : List (List ℕ)) (w : Which) (d d' : Disk) (o e e' : Stream) (c c' : Watch) → OnlySeen d d' → IsSome (options_of words)
+    → RoseLooking words w d d' c c' → Tells (outside_line w) e e' → EndsOutside words (world d o e c) (world d' o e' c') w
+looking-so words which.List d d' o e e' c c' seen accepted rose told = looking-keeps words which.List d d' o e e' c c' seen accepted rose told
+looking-so words which.Read d d' o e e' c c' seen accepted rose told = looking-keeps words which.Read d d' o e e' c c' seen accepted rose told
+looking-so words which.Write d d' o e e' c c' seen accepted rose told = absurd rose
+looking-so words which.Out d d' o e e' c c' seen accepted rose told = absurd rose
+looking-so words which.Err d d' o e e' c c' seen accepted rose told = absurd rose
+looking-so words which.Clock d d' o e e' c c' seen accepted rose told =
+    record { asked = rose.0; looking = looking-keeps words which.Clock d d' o e e' c c' seen accepted rose.1 told }
 
-pub outside-keeps : (words : List (List ℕ)) (w : Which) (result : Ended) (d d' : Disk) (o e e' : Stream) (c : Watch) → d.begun ≡ None → OnlySeen d d'
-    → IsSome (options_of words) → RoseLooking w d d' → Tells (outside_line w) e e' → result ≡ ended.Outside w → Keeps words (world d o e c) (world d' o e' c) result
-outside-keeps words w result d d' o e e' c none seen accepted rose told is =
-    looked words d d' o e e' c result none seen told.counts
-    (subst (λ (r : Ended). EndsSo words (world d o e c) (world d' o e' c) r) (sym is) (looking-so words w d d' o e e' c seen accepted rose told))
+pub outside-keeps : (words : List (List ℕ)) (w : Which) (result : Ended) (d d' : Disk) (o e e' : Stream) (c c' : Watch) → d.begun ≡ None → OnlySeen d d'
+    → Asks words c c' → IsSome (options_of words) → RoseLooking words w d d' c c' → Tells (outside_line w) e e' → result ≡ ended.Outside w
+    → Keeps words (world d o e c) (world d' o e' c') result
+outside-keeps words w result d d' o e e' c c' none seen asked accepted rose told is =
+    looked words d d' o e e' c c' result none seen asked told.counts
+    (subst (λ (r : Ended). EndsSo words (world d o e c) (world d' o e' c') r) (sym is) (looking-so words w d d' o e e' c c' seen accepted rose told))
 
 -- ---- want of memory before anything was written
 
 none-left : (ts files : List File) → Interrupted ts files files
 none-left ts files = (0, record { held = tt; others = λ q _. refl })
 
-leaves-nothing : (job : Option (Result Plan Fault)) (d d' : Disk) (o e : Stream) (c : Watch) (files : List File) → OnlySeen d d' → d.files ≡ Some files
-    → Leaves job (world d o e c) (world d' o e c) files
-leaves-nothing None d d' o e c files seen is = untouched d d' o e e c seen
-leaves-nothing (Some (Err fault)) d d' o e c files seen is = untouched d d' o e e c seen
-leaves-nothing (Some (Ok plan)) d d' o e c files seen is =
+leaves-nothing : (job : Option (Result Plan Fault)) (d d' : Disk) (o e : Stream) (c c' : Watch) (files : List File) → OnlySeen d d' → d.files ≡ Some files
+    → Leaves job (world d o e c) (world d' o e c') files
+leaves-nothing None d d' o e c c' files seen is = untouched d d' o e e c c' seen
+leaves-nothing (Some (Err fault)) d d' o e c c' files seen is = untouched d d' o e e c c' seen
+leaves-nothing (Some (Ok plan)) d d' o e c c' files seen is =
     (subst (λ t. IsSomeAnd t (Interrupted (texts_of plan) files)) (sym (seen.files_stay ∙ is)) (none-left (texts_of plan) files), no-front (report_of plan) o.told)
 
-pub memory-keeps : (words : List (List ℕ)) (d d' : Disk) (o e : Stream) (c : Watch) → d.begun ≡ None → OnlySeen d d' → IsSome (options_of words)
-    → Keeps words (world d o e c) (world d' o e c) ended.Memory
-memory-keeps words d d' o e c none seen accepted =
-    let ends : EndsWanting words (world d o e c) (world d' o e c) = record {
-      words_wanted = λ refused. absurd (no-options (options_of words) refused accepted);
-      words_untouched = λ _. untouched d d' o e e c seen;
-      leaves = told-given d.files (λ day files. (job : Option (Result Plan Fault)) → IsJob words day files job → Leaves job (world d o e c) (world d' o e c) files)
-          (λ day files is job _. leaves-nothing job d d' o e c files seen is);
+pub memory-keeps : (words : List (List ℕ)) (d d' : Disk) (o e : Stream) (c c' : Watch) → d.begun ≡ None → OnlySeen d d' → Asks words c c'
+    → Keeps words (world d o e c) (world d' o e c') ended.Memory
+memory-keeps words d d' o e c c' none seen asked =
+    let ends : EndsWanting words (world d o e c) (world d' o e c') = record {
+      words_untouched = λ _. untouched d d' o e e c c' seen;
+      leaves = told-given words c d.files (LeavesSo words (world d o e c) (world d' o e c')) (λ day files is job _. leaves-nothing job d d' o e c c' files seen is);
       line = inl refl;
     } in
-    looked words d d' o e e c ended.Memory none seen (still e) ends
+    looked words d d' o e e c c' ended.Memory none seen asked (still e) ends
 
 -- ---- writing
 
@@ -245,11 +250,11 @@ both-some : (P : List File → List File → Type 0) (told told' : Option (List 
 both-some P told None files is h = absurd (subst (λ t. BothTell t None P) is h)
 both-some P told (Some new) files is h = subst (λ t. BothTell t (Some new) P) is h
 
-planned-leaves : (words : List (List ℕ)) (work : Work) (d : Disk) (Q : Plan → List File → Type 0) (R : Day → List File → Type 0)
+planned-leaves : (words : List (List ℕ)) (work : Work) (d : Disk) (c : Watch) (R : Day → List File → Type 0)
     → ((day : Day) (files : List File) → d.files ≡ Some files → (plan : Plan) → IsJob words day files (Some (Ok plan)) → IsReady plan work → R day files)
-    → DecidesPlanned words work d → IfSome d.files (λ files. (day : Day) → R day files)
-planned-leaves words work d Q R f h =
-    told-goes-on d.files (λ day files. (plan : Plan) × IsJob words day files (Some (Ok plan)) × IsReady plan work) R
+    → DecidesPlanned words work d c → WhereSeen words d c R
+planned-leaves words work d c R f h =
+    told-goes-on words c d.files (λ day files. (plan : Plan) × IsJob words day files (Some (Ok plan)) × IsReady plan work) R
     (λ day files is p. f day files is p.0 p.1 p.2) h.planned
 
 written-plan : (plan : Plan) (work : Work) (d d' : Disk) (files : List File) → d.files ≡ Some files → IsReady plan work → BothTell d.files d'.files (HoldsTexts (texts_in work))
@@ -265,11 +270,11 @@ left-plan plan work d d' files is ready h =
     both-some (Interrupted (texts_of plan)) d.files d'.files files is
     (subst (λ ts. BothTell d.files d'.files (Interrupted ts)) ready.texts_are h)
 
-done-row : (words : List (List ℕ)) (work : Work) (d d' : Disk) (o o' e e' : Stream) (c : Watch) → DecidesPlanned words work d → ActsDone work d d' o o' e e'
-    → EndsDone words (world d o e c) (world d' o' e' c)
-done-row words work d d' o o' e e' c planned acts = record {
+done-row : (words : List (List ℕ)) (work : Work) (d d' : Disk) (o o' e e' : Stream) (c c' : Watch) → DecidesPlanned words work d c → ActsDone work d d' o o' e e'
+    → EndsDone words (world d o e c) (world d' o' e' c')
+done-row words work d d' o o' e e' c c' planned acts = record {
   accepted = planned.accepted;
-  written = planned-leaves words work d (λ plan files. Unit {0}) (Headline words (world d o e c) (world d' o' e' c))
+  written = planned-leaves words work d c (Headline words (world d o e c) (world d' o' e' c'))
       (λ day files is plan job ready. (
         plan,
         job,
@@ -280,23 +285,23 @@ done-row words work d d' o o' e e' c planned acts = record {
   nothing_on_err = acts.err_rests;
 }
 
-write-row : (words : List (List ℕ)) (work : Work) (d d' : Disk) (o o' e e' : Stream) (c : Watch) → DecidesPlanned words work d → ActsWrite work d d' o o' e e'
-    → EndsWriting words (world d o e c) (world d' o' e' c)
-write-row words work d d' o o' e e' c planned acts = record {
+write-row : (words : List (List ℕ)) (work : Work) (d d' : Disk) (o o' e e' : Stream) (c c' : Watch) → DecidesPlanned words work d c → ActsWrite work d d' o o' e e'
+    → EndsWriting words (world d o e c) (world d' o' e' c')
+write-row words work d d' o o' e e' c c' planned acts = record {
   cause = acts.cause;
   accepted = planned.accepted;
-  left = planned-leaves words work d (λ plan files. Unit {0}) (LeavesFiles words (world d o e c) (world d' o' e' c))
+  left = planned-leaves words work d c (LeavesFiles words (world d o e c) (world d' o' e' c'))
       (λ day files is plan job ready. (plan, job, left-plan plan work d d' files is ready acts.left)) planned;
   same_out = acts.out_rests;
   line = acts.line;
 }
 
-out-row : (words : List (List ℕ)) (work : Work) (d d' : Disk) (o o' e e' : Stream) (c : Watch) → DecidesPlanned words work d → ActsOut work d d' o o' e e'
-    → EndsReporting words (world d o e c) (world d' o' e' c)
-out-row words work d d' o o' e e' c planned acts = record {
+out-row : (words : List (List ℕ)) (work : Work) (d d' : Disk) (o o' e e' : Stream) (c c' : Watch) → DecidesPlanned words work d c → ActsOut work d d' o o' e e'
+    → EndsReporting words (world d o e c) (world d' o' e' c')
+out-row words work d d' o o' e e' c c' planned acts = record {
   cause = acts.cause;
   accepted = planned.accepted;
-  written = planned-leaves words work d (λ plan files. Unit {0}) (LeavesReport words (world d o e c) (world d' o' e' c))
+  written = planned-leaves words work d c (LeavesReport words (world d o e c) (world d' o' e' c'))
       (λ day files is plan job ready. (
         plan,
         job,
@@ -307,30 +312,29 @@ out-row words work d d' o o' e e' c planned acts = record {
   line = acts.line;
 }
 
-memory-row : (words : List (List ℕ)) (work : Work) (d d' : Disk) (o o' e e' : Stream) (c : Watch) → DecidesPlanned words work d → ActsMemory work d d' o o' e e'
-    → EndsWanting words (world d o e c) (world d' o' e' c)
-memory-row words work d d' o o' e e' c planned acts = record {
-  words_wanted = λ none. absurd (no-options (options_of words) none planned.accepted);
+memory-row : (words : List (List ℕ)) (work : Work) (d d' : Disk) (o o' e e' : Stream) (c c' : Watch) → DecidesPlanned words work d c → ActsMemory work d d' o o' e e'
+    → EndsWanting words (world d o e c) (world d' o' e' c')
+memory-row words work d d' o o' e e' c c' planned acts = record {
   words_untouched = λ none. absurd (no-options (options_of words) none planned.accepted);
-  leaves = planned-leaves words work d (λ plan files. Unit {0})
-      (λ day files. (job : Option (Result Plan Fault)) → IsJob words day files job → Leaves job (world d o e c) (world d' o' e' c) files)
-      (λ day files is plan known ready job. leaves-none words day files (Some (Ok plan)) job (world d o e c) (world d' o' e' c) known
+  leaves = planned-leaves words work d c
+      (LeavesSo words (world d o e c) (world d' o' e' c'))
+      (λ day files is plan known ready job. leaves-none words day files (Some (Ok plan)) job (world d o e c) (world d' o' e' c') known
       (left-plan plan work d d' files is ready acts.left, subst (λ t. BothTell o.told o'.told (AddsFront t)) ready.report_is acts.report_front)) planned;
   line = inl acts.err_rests;
 }
 
-acts-row : (words : List (List ℕ)) (work : Work) (d d' : Disk) (o o' e e' : Stream) (c : Watch) (result : Ended) → DecidesPlanned words work d
-    → ActsSo work d d' o o' e e' result → EndsSo words (world d o e c) (world d' o' e' c) result
-acts-row words work d d' o o' e e' c ended.Done planned acts = done-row words work d d' o o' e e' c planned acts
-acts-row words work d d' o o' e e' c ended.Usage planned acts = absurd acts
-acts-row words work d d' o o' e e' c (ended.Rejected fault) planned acts = absurd acts
-acts-row words work d d' o o' e e' c (ended.Outside which.List) planned acts = absurd acts
-acts-row words work d d' o o' e e' c (ended.Outside which.Read) planned acts = absurd acts
-acts-row words work d d' o o' e e' c (ended.Outside which.Write) planned acts = write-row words work d d' o o' e e' c planned acts
-acts-row words work d d' o o' e e' c (ended.Outside which.Out) planned acts = out-row words work d d' o o' e e' c planned acts
-acts-row words work d d' o o' e e' c (ended.Outside which.Err) planned acts = absurd acts
-acts-row words work d d' o o' e e' c (ended.Outside which.Clock) planned acts = absurd acts
-acts-row words work d d' o o' e e' c ended.Memory planned acts = memory-row words work d d' o o' e e' c planned acts
+acts-row : (words : List (List ℕ)) (work : Work) (d d' : Disk) (o o' e e' : Stream) (c c' : Watch) (result : Ended) → DecidesPlanned words work d c
+    → ActsSo work d d' o o' e e' result → EndsSo words (world d o e c) (world d' o' e' c') result
+acts-row words work d d' o o' e e' c c' ended.Done planned acts = done-row words work d d' o o' e e' c c' planned acts
+acts-row words work d d' o o' e e' c c' ended.Usage planned acts = absurd acts
+acts-row words work d d' o o' e e' c c' (ended.Rejected fault) planned acts = absurd acts
+acts-row words work d d' o o' e e' c c' (ended.Outside which.List) planned acts = absurd acts
+acts-row words work d d' o o' e e' c c' (ended.Outside which.Read) planned acts = absurd acts
+acts-row words work d d' o o' e e' c c' (ended.Outside which.Write) planned acts = write-row words work d d' o o' e e' c c' planned acts
+acts-row words work d d' o o' e e' c c' (ended.Outside which.Out) planned acts = out-row words work d d' o o' e e' c c' planned acts
+acts-row words work d d' o o' e e' c c' (ended.Outside which.Err) planned acts = absurd acts
+acts-row words work d d' o o' e e' c c' (ended.Outside which.Clock) planned acts = absurd acts
+acts-row words work d d' o o' e e' c c' ended.Memory planned acts = memory-row words work d d' o o' e e' c c' planned acts
 
 -- What acting gives holds from the tree as it was before deciding, which changed none of its files.
 
@@ -372,19 +376,19 @@ counts-from d s d' seen h = record {
   refusals = omega (arith, seen.refusals_stay, h.refusals);
 }
 
-pub planned-keeps : (words : List (List ℕ)) (work : Work) (result : Ended) (d s d' : Disk) (o o' e e' : Stream) (c : Watch) → OnlySeen d s
-    → DecidesPlanned words work d → Acts work s d' o o' e e' result → Keeps words (world d o e c) (world d' o' e' c) result
-planned-keeps words work result d s d' o o' e e' c seen planned acts =
-    let ends = acts-row words work d d' o o' e e' c result planned (acts-from work d s d' o o' e e' result seen acts.so) in
+pub planned-keeps : (words : List (List ℕ)) (work : Work) (result : Ended) (d s d' : Disk) (o o' e e' : Stream) (c c' : Watch) → OnlySeen d s → Asks words c c'
+    → DecidesPlanned words work d c → Acts work s d' o o' e e' result → Keeps words (world d o e c) (world d' o' e' c') result
+planned-keeps words work result d s d' o o' e e' c c' seen asked planned acts =
+    let ends = acts-row words work d d' o o' e e' c c' result planned (acts-from work d s d' o o' e e' result seen acts.so) in
     record {
       none_begun = acts.none_begun;
-      clock = resting words c;
+      clock = asked.only;
       counts = record {
         disk_counts = counts-from d s d' seen acts.disk_counts;
         out_counts = acts.out_counts;
         err_counts = acts.err_counts;
-        clock_count = le_refl c.faults;
+        clock_count = asked.faults_grow;
       };
       ending = ends;
-      complete = completes words (world d o e c) (world d' o' e' c) result ends;
+      complete = completes words (world d o e c) (world d' o' e' c') result ends;
     }

@@ -1,21 +1,22 @@
 -- What the private steps of a run give: deciding, which only looks, and acting.
-use Rattle.std.specs.Prelude.{◌≡◌, ℕ, ◌≤◌, ◌⊎◌, List, Option, None, Some, Result, Ok, Err, map, IfSome, IsSome}
+use Rattle.std.specs.Prelude.{◌≡◌, ℕ, ◌≤◌, ℤ, ◌⊎◌, true, List, Option, None, Some, Result, Ok, Err, map, IfSome, IsSome}
 use Rattle.std.specs.List.{AllByRecursion}
 use Rattle.std.specs.String.{string_bytes}
 use Rattle.acl_text.specs.Output.{Rose}
 use Rattle.acl_text.specs.declared.faults.Fault.{Fault}
+use Rattle.acl_host.specs.declared.clocks.ClockFault.{ClockFault}
 use Rattle.acl_host.specs.declared.clocks.Day.{Day}
 use Rattle.acl_host.specs.Files.{File, BothTell}
 use Rattle.acl_host.specs.Outside.{AddsFront}
-use Rattle.aclgen_core.specs.CommandLines.{options_of}
+use Rattle.acl_options.specs.ComputableOptions.{asks_clock, options_of}
 use Rattle.aclgen_core.specs.FileLists.{HoldsTexts, Interrupted, PathsDiffer}
 use Rattle.aclgen_core.specs.Job.{Plan, IsJob, report_of, texts_of}
 use Rattle.acl_load.specs.declared.load_faults.LoadFault.{LoadFault}
 use Rattle.acl_load.specs.declared.load_faults.LoadFault.TheVariants as loads
 use Rattle.acl_load.specs.FaultLines.{fault_line}
-use Rattle.aclgen_core.specs.Endings.{Got, IsFileOf, Tried}
+use Rattle.aclgen_core.specs.Endings.{Got, IsFileOf, OnlyAsked, Tried, WhereDay}
 use Rattle.aclgen_core.specs.FaultLines.{outside_line}
-use Rattle.aclgen_core.specs.Worlds.{Disk, DiskCountsGrow, Stream, StreamCountsGrow}
+use Rattle.aclgen_core.specs.Worlds.{Disk, DiskCountsGrow, Stream, StreamCountsGrow, Watch}
 use Rattle.aclgen_core.specs.declared.deciding.Decision.{Decision}
 use Rattle.aclgen_core.specs.declared.deciding.Decision.TheVariants as decided
 use Rattle.aclgen_core.specs.declared.endings.Ended.{Ended}
@@ -48,36 +49,42 @@ pub record OnlySeen (old new : Disk) : Type 0 where
   pub lists_grow : old.list_faults ≤ new.list_faults
   pub reads_grow : old.read_faults ≤ new.read_faults
 
--- The tree tells its files; the clock is not asked, so that its day may be any.
-abbrev pub WhereSeen : Disk → (Day → List File → Type 0) → Type 0
-WhereSeen d P = IfSome d.files (λ files. (day : Day) → P day files)
+-- The tree tells its files, and the clock, where it is asked, its day.
+abbrev pub WhereSeen : List (List ℕ) → Disk → Watch → (Day → List File → Type 0) → Type 0
+WhereSeen words d c P =
+    IfSome d.files (λ files. WhereDay (asks_clock words) c.day (λ day. P day files))
 
-abbrev pub RoseLooking : Which → Disk → Disk → Type 0
-RoseLooking which.List old new = Rose old.list_faults new.list_faults
-RoseLooking which.Read old new = Rose old.read_faults new.read_faults
-RoseLooking which.Write old new = ⊥
-RoseLooking which.Out old new = ⊥
-RoseLooking which.Err old new = ⊥
-RoseLooking which.Clock old new = ⊥
+-- A count of the calls that only look rose.
+abbrev pub RoseLooking : List (List ℕ) → Which → Disk → Disk → Watch → Watch → Type 0
+RoseLooking words which.List old new c c' = Rose old.list_faults new.list_faults
+RoseLooking words which.Read old new c c' = Rose old.read_faults new.read_faults
+RoseLooking words which.Write old new c c' = ⊥
+RoseLooking words which.Out old new c c' = ⊥
+RoseLooking words which.Err old new c c' = ⊥
+RoseLooking words which.Clock old new c c' =
+    (asks_clock words ≡ true) × Rose c.faults c'.faults
 
 pub record DecidesRefused (words : List (List ℕ)) (fault : Fault) (line : List ℕ) (old : Disk)
-    : Type 0 where
+    (c : Watch) : Type 0 where
   pub accepted : IsSome (options_of words)
-  pub first : WhereSeen old (λ day files. IsJob words day files (Some (Err fault)))
+  pub first : WhereSeen words old c (λ day files. IsJob words day files (Some (Err fault)))
   pub line_is : line ≡ fault_line fault
 
-pub record DecidesPlanned (words : List (List ℕ)) (work : Work) (old : Disk) : Type 0 where
+pub record DecidesPlanned (words : List (List ℕ)) (work : Work) (old : Disk) (c : Watch)
+    : Type 0 where
   pub accepted : IsSome (options_of words)
-  pub planned : WhereSeen old (λ day files. (plan : Plan) × IsJob words day files (Some (Ok plan))
-      × IsReady plan work)
+  pub planned : WhereSeen words old c (λ day files. (plan : Plan)
+      × IsJob words day files (Some (Ok plan)) × IsReady plan work)
   pub differ : PathsDiffer (texts_in work)
 
-abbrev pub DecidesSo : List (List ℕ) → Disk → Disk → Decision → Type 0
-DecidesSo words old new decided.Usage = options_of words ≡ None
-DecidesSo words old new (decided.Refused fault line) = DecidesRefused words fault line.bytes old
-DecidesSo words old new (decided.Planned work) = DecidesPlanned words work old
-DecidesSo words old new (decided.Outside w) = IsSome (options_of words) × RoseLooking w old new
-DecidesSo words old new decided.Memory = IsSome (options_of words)
+abbrev pub DecidesSo : List (List ℕ) → Disk → Disk → Watch → Watch → Decision → Type 0
+DecidesSo words old new c c' decided.Usage = options_of words ≡ None
+DecidesSo words old new c c' (decided.Refused fault line) =
+    DecidesRefused words fault line.bytes old c
+DecidesSo words old new c c' (decided.Planned work) = DecidesPlanned words work old c
+DecidesSo words old new c c' (decided.Outside w) =
+    IsSome (options_of words) × RoseLooking words w old new c c'
+DecidesSo words old new c c' decided.Memory = Unit {0}
 
 -- What is to be done where there is nothing to write.
 abbrev pub FollowsFrom : LoadFault → Decision → Type 0
@@ -89,9 +96,32 @@ FollowsFrom loads.Read (decided.Outside w) = w ≡ which.Read
 FollowsFrom loads.Memory decided.Memory = Unit {0}
 FollowsFrom fault decision = ⊥
 
-pub record Decides (words : List (List ℕ)) (old new : Disk) (decision : Decision) : Type 0 where
+-- The clock was asked only where the words name no day.
+pub record Asks (words : List (List ℕ)) (c c' : Watch) : Type 0 where
+  pub only : OnlyAsked words c c'
+  pub faults_grow : c.faults ≤ c'.faults
+
+pub record Decides (words : List (List ℕ)) (old new : Disk) (c c' : Watch) (decision : Decision)
+    : Type 0 where
   pub seen : OnlySeen old new
-  pub so : DecidesSo words old new decision
+  pub asked : Asks words c c'
+  pub so : DecidesSo words old new c c' decision
+
+-- The day that the words name, else the one that the clock tells.
+abbrev pub IsDayFor : Option Day → Option ℤ → Day → Type 0
+IsDayFor (Some date) told day = day ≡ date
+IsDayFor None told day = IfSome told (λ n. day.number ≡ n)
+
+-- The clock gives the day, where the words name none; or it fails.
+abbrev pub GivesDay : Option Day → Watch → Watch → Result Day ClockFault → Type 0
+GivesDay date c c' (Ok day) = IsDayFor date c.day day
+GivesDay date c c' (Err e) = (date ≡ None) × Rose c.faults c'.faults
+
+pub record FindsDay (date : Option Day) (c c' : Watch) (result : Result Day ClockFault) : Type 0 where
+  pub rests : IsSome date → c' ≡ c
+  pub day_stays : c'.day ≡ c.day
+  pub faults_grow : c.faults ≤ c'.faults
+  pub gives : GivesDay date c c' result
 
 -- ---- acting
 

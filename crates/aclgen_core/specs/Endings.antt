@@ -13,8 +13,8 @@ use Rattle.acl_host.specs.Outside.{AddsFront}
 use Rattle.acl_naming.specs.Definitions.{Naming}
 use Rattle.acl_terms.specs.Outcomes.{PolicyDecides, shown}
 use Rattle.acl_load.specs.FaultLines.{fault_line}
-use Rattle.acl_render.specs.PlatformFiles.{IsAccepted}
-use Rattle.aclgen_core.specs.CommandLines.{asks_clock, options_of}
+use Rattle.acl_render.specs.PlatformFiles.{IsFileText}
+use Rattle.acl_options.specs.ComputableOptions.{asks_clock, options_of}
 use Rattle.aclgen_core.specs.FaultLines.{usage_line, outside_line}
 use Rattle.aclgen_core.specs.FileLists.{HoldsTexts, Interrupted}
 use Rattle.aclgen_core.specs.FilterRequests.{FilterRequest}
@@ -66,7 +66,7 @@ DecidesAsPolicy naming today r outcome = (p : Packet) → IsPacket p
 -- in order; and each section decides as the policy does.
 abbrev pub IsFileOf : Naming → Day → PlanFile → Type 0
 IsFileOf naming today f =
-    IsAccepted f.kind (DecidesAsPolicy naming today) (filters_of today f) f.requests
+    IsFileText f.kind (DecidesAsPolicy naming today) (filters_of today f) f.requests
 
 -- Each file of the plan is such a text, and every other file is as it was.
 pub record IsWritten (plan : Plan) (old new : List File) : Type 0 where
@@ -172,9 +172,8 @@ Leaves (Some (Err fault)) old new files = Untouched old new
 Leaves (Some (Ok plan)) old new files = IsSomeAnd new.disk.files (Interrupted (texts_of plan) files)
     × BothTell old.out.told new.out.told (AddsFront (report_of plan))
 
--- Where the words are no command line, only standard error can have wanted memory, and its count says so.
+-- Memory was wanted: for the words, whatever they are, for the job, or for a line.
 pub record EndsWanting (words : List (List ℕ)) (old new : World) : Type 0 where
-  pub words_wanted : options_of words ≡ None → Rose old.err.refusals new.err.refusals
   pub words_untouched : options_of words ≡ None → Untouched old new
   pub leaves : WhereTold words old (λ day files. (job : Option (Result Plan Fault))
       → IsJob words day files job → Leaves job old new files)

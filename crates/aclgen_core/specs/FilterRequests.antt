@@ -21,7 +21,7 @@ use Rattle.acl_platform.specs.declared.rules.Test.TheVariants as tests
 use Rattle.acl_expand.specs.Expansions.{filter_of}
 use Rattle.acl_expand.specs.ExpansionSlips.{first_slip}
 use Rattle.acl_load.specs.declared.policy_loading.Loaded.{Loaded}
-use Rattle.acl_render.specs.PlatformFiles.{is_rendered, limit_of}
+use Rattle.acl_render.specs.PlatformFiles.{limit_of}
 
 -- A target of a policy, and the terms of its block: as they are written, and with their words read as numbers.
 pub record FilterRequest : Type 0 where
@@ -53,19 +53,6 @@ filter_for today r = filter_of r.target today r.terms
 -- The requests for filters of a platform, in order.
 abbrev pub requests_on : Kind → List FilterRequest → List FilterRequest
 requests_on kind rs = filter (λ r. same_kind r.target.kind kind) rs
-
--- ---- platforms that are still to come
-
--- A target of a platform whose files are not written yet, at its keyword.
-abbrev pub target_slip : Target → Option Slip
-target_slip t = if is_rendered t.kind then None
-    else Some (record { code = codes_of.NotYet; place = t.place; word = [] })
-
-abbrev pub block_slip : Block → Option Slip
-block_slip block = first_in target_slip block.targets
-
-abbrev pub platform_slip : List Block → Option Slip
-platform_slip blocks = first_in block_slip blocks
 
 -- ---- limits of a platform
 
@@ -112,7 +99,5 @@ request_slip today r = first_of (first_slip r.target today r.terms) (check_slip 
 abbrev pub requests_slip : Day → List FilterRequest → Option Slip
 requests_slip today rs = first_in (request_slip today) rs
 
--- Targets of platforms that are still to come are met before any filter is judged.
 abbrev pub loaded_slip : Day → Loaded → Option Slip
-loaded_slip today loaded =
-    first_of (platform_slip loaded.policy.blocks) (requests_slip today (requests_of loaded))
+loaded_slip today loaded = requests_slip today (requests_of loaded)

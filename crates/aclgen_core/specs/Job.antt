@@ -1,5 +1,5 @@
 -- The whole job: from the words, the day and the files to what is written, or to the first fault.
-use Rattle.std.specs.Prelude.{◌≡◌, ℕ, List, [], ◌∷◌, ◌++◌, map, flat_map, codes, decimal, Option, None, Some, Result, Ok, Err}
+use Rattle.std.specs.Prelude.{◌≡◌, ℕ, List, [], ◌∷◌, ◌++◌, map, flat_map, Option, None, Some, Result, Ok, Err}
 use Rattle.acl_text.specs.declared.faults.Fault.{Fault}
 use Rattle.acl_text.specs.declared.faults.Slip.{Slip}
 use Rattle.acl_host.specs.declared.clocks.Day.{Day}
@@ -8,13 +8,14 @@ use Rattle.acl_naming.specs.Definitions.{Naming}
 use Rattle.acl_target.specs.declared.targets.Kind.{Kind}
 use Rattle.acl_target.specs.declared.targets.Kind.TheVariants.{Cisco, Juniper, Iptables, Nftables}
 use Rattle.acl_target.specs.declared.targets.Target.{Target}
-use Rattle.acl_target.specs.TargetTexts.{target_text}
 use Rattle.acl_load.specs.declared.policy_loading.Loaded.{Loaded}
 use Rattle.acl_load.specs.LoadedPolicies.{GoesOn, LoadsPolicy}
 use Rattle.acl_load.specs.Loading.{fault_of}
 use Rattle.acl_platform.specs.declared.filters.Filter.{Filter}
 use Rattle.acl_render.specs.PlatformFiles.{count_of, text_on}
-use Rattle.aclgen_core.specs.CommandLines.{Options, options_of}
+use Rattle.acl_report.specs.Reports.{count_line, terms_report}
+use Rattle.acl_options.specs.CommandLines.{Options}
+use Rattle.acl_options.specs.ComputableOptions.{options_of}
 use Rattle.aclgen_core.specs.FilterPaths.{path_of}
 use Rattle.aclgen_core.specs.FilterRequests.{FilterRequest, filter_for, loaded_slip, requests_of, requests_on}
 
@@ -24,11 +25,13 @@ pub record PlanFile : Type 0 where
   pub path : List ℕ
   pub requests : List FilterRequest
 
--- What a run writes: its files, over the definitions and the day for which they are made.
+-- What a run writes: its files, over the definitions and the day for which they are made, and what its report says of
+-- the policy's terms.
 pub record Plan : Type 0 where
   pub naming : Naming
   pub today : Day
   pub files : List PlanFile
+  pub term_lines : List ℕ
 
 -- The platforms, in the order in which their files are written.
 abbrev pub platforms : List Kind
@@ -47,6 +50,7 @@ plan_of o today loaded = record {
   naming = loaded.definitions;
   today = today;
   files = flat_map (files_on o (requests_of loaded)) platforms;
+  term_lines = terms_report today o.exp_info loaded;
 }
 
 -- A slip is told with the label of its file.
@@ -91,17 +95,12 @@ file_of today f = (f.path, text_on f.kind (filters_of today f))
 abbrev pub texts_of : Plan → List File
 texts_of plan = map (file_of plan.today) plan.files
 
--- PATH: TARGET: entries COUNT
-unfoldable pub report_text : List ℕ → Target → ℕ → List ℕ
-report_text path target entries = path ++ codes ": " ++ target_text target ++ codes ": entries "
-    ++ decimal entries ++ codes "\n"
-
 abbrev pub report_line : List ℕ → Day → FilterRequest → List ℕ
-report_line path today r = report_text path r.target (count_of (filter_for today r))
+report_line path today r = count_line path r.target (count_of (filter_for today r))
 
 abbrev pub file_report : Day → PlanFile → List ℕ
 file_report today f = flat_map (report_line f.path today) f.requests
 
--- The report on standard output: a line for each filter of each file, in order.
+-- The report on standard output: the lines on the terms, and then a line for each filter of each file, in order.
 abbrev pub report_of : Plan → List ℕ
-report_of plan = flat_map (file_report plan.today) plan.files
+report_of plan = plan.term_lines ++ flat_map (file_report plan.today) plan.files

@@ -1,5 +1,3 @@
-pub mod CodeViews
-pub mod CommandLines
 pub mod DecidingSteps
 pub mod Endings
 pub mod FaultLines

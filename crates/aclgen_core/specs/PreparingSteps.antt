@@ -16,23 +16,23 @@ use Rattle.acl_platform.specs.Platforms.{DecidesAs}
 use Rattle.acl_load.specs.declared.load_faults.LoadFault.{LoadFault}
 use Rattle.acl_load.specs.declared.policy_loading.Loaded.{Loaded}
 use Rattle.acl_load.specs.LoadFaults.{load_told}
-use Rattle.acl_render.specs.PlatformFiles.{AreApart, IsAccepted, IsTaken, count_of, is_rendered, text_on}
-use Rattle.aclgen_core.specs.CommandLines.{Options}
+use Rattle.acl_render.specs.PlatformFiles.{AreApart, IsFileText, IsTaken, count_of, text_on}
+use Rattle.acl_options.specs.CommandLines.{Options}
+use Rattle.acl_report.specs.Reports.{count_line}
 use Rattle.aclgen_core.specs.DecidingSteps.{IsReady, texts_in}
 use Rattle.aclgen_core.specs.FileLists.{PathsDiffer}
 use Rattle.aclgen_core.specs.FilterPaths.{path_of}
 use Rattle.aclgen_core.specs.FilterRequests.{FilterRequest, filter_for, loaded_slip, request_slip, requests_of, requests_on, requests_slip}
-use Rattle.aclgen_core.specs.Job.{Plan, Plans, plan_of, planned, platforms, report_line, report_text}
+use Rattle.aclgen_core.specs.Job.{Plan, Plans, plan_of, planned, platforms, report_line}
 use Rattle.aclgen_core.specs.declared.planning.Work.{Work}
 use Rattle.aclgen_core.specs.declared.preparing.FileDraft.{FileDraft}
 use Rattle.aclgen_core.specs.declared.preparing.FileDrafts.{FileDrafts}
 
 -- ---- one filter
 
--- A filter that its platform takes, and whose file is written.
-pub record IsTakenFor (today : Day) (r : FilterRequest) : Type 0 where
-  pub rendered : is_rendered r.target.kind ≡ true
-  pub taken : IsTaken r.target.kind (filter_for today r)
+-- A filter that its platform takes.
+abbrev pub IsTakenFor : Day → FilterRequest → Type 0
+IsTakenFor today r = IsTaken r.target.kind (filter_for today r)
 
 pub record ChecksFilter (today : Day) (r : FilterRequest) (f : Filter) (entries : ℕ) : Type 0 where
   pub slip_is : request_slip today r ≡ None
@@ -53,6 +53,12 @@ draft_on Juniper drafts = drafts.juniper
 draft_on Iptables drafts = drafts.iptables
 draft_on Nftables drafts = drafts.nftables
 
+abbrev pub with_draft : Kind → FileDrafts → FileDraft → FileDrafts
+with_draft Cisco drafts draft = record drafts { cisco = draft }
+with_draft Juniper drafts draft = record drafts { juniper = draft }
+with_draft Iptables drafts draft = record drafts { iptables = draft }
+with_draft Nftables drafts draft = record drafts { nftables = draft }
+
 -- More can be put into each report.
 abbrev pub AreOpen : FileDrafts → Type 0
 AreOpen drafts = (kind : Kind) → (draft_on kind drafts).report.is_open ≡ true
@@ -62,7 +68,7 @@ pub record AddsOne (target : Target) (f : Filter) (entries : ℕ) (old new : Fil
   pub path_stays : new.path ≡ old.path
   pub filters_are : new.filters ≡ old.filters ++ f ∷ []
   pub report_is : new.report.bytes
-      ≡ old.report.bytes ++ report_text (string_bytes old.path) target entries
+      ≡ old.report.bytes ++ count_line (string_bytes old.path) target entries
   pub opened : new.report.is_open ≡ true
 
 -- The filters and their lines of the report stand behind those that were there.
@@ -121,7 +127,6 @@ Prepares output policy today loaded (Err refusals.Memory) = Unit {0}
 
 -- The filters of a platform's file are such as its text wants.
 pub record IsRendered (kind : Kind) (draft : FileDraft) : Type 0 where
-  pub rendered : draft.filters ≢ [] → is_rendered kind ≡ true
   pub taken : All (IsTaken kind) draft.filters
   pub apart : AreApart draft.filters
 
@@ -142,15 +147,15 @@ pub record AddsFile (kind : Kind) (draft : FileDraft) (old new : Work) : Type 0 
       ≡ texts_in old ++ text_with kind (string_bytes draft.path) draft.filters
   pub report_is : new.report.bytes ≡ old.report.bytes ++ draft.report.bytes
   pub opened : new.report.is_open ≡ true
-  pub accepted : draft.filters ≢ [] → IsAccepted kind DecidesAs draft.filters draft.filters
+  pub accepted : draft.filters ≢ [] → IsFileText kind DecidesAs draft.filters draft.filters
 
--- The work has the text of each platform's file and its report, in the order of the platforms.
-pub record IsWorkOf (drafts : FileDrafts) (work : Work) : Type 0 where
+-- The work has the text of each platform's file and, behind these lines, its report, in the order of the platforms.
+pub record IsWorkOf (lines : List ℕ) (drafts : FileDrafts) (work : Work) : Type 0 where
   pub texts_are : texts_in work ≡ flat_map (texts_on drafts) platforms
   pub report_is : work.report.bytes
-      ≡ flat_map (λ kind. (draft_on kind drafts).report.bytes) platforms
+      ≡ lines ++ flat_map (λ kind. (draft_on kind drafts).report.bytes) platforms
   pub accepted : (kind : Kind) → (draft_on kind drafts).filters ≢ []
-      → IsAccepted kind DecidesAs (draft_on kind drafts).filters (draft_on kind drafts).filters
+      → IsFileText kind DecidesAs (draft_on kind drafts).filters (draft_on kind drafts).filters
 
 -- What is to be written of a loaded policy.
 pub record IsPlanned (o : Options) (today : Day) (loaded : Loaded) (work : Work) : Type 0 where

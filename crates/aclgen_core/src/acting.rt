@@ -1,11 +1,11 @@
 ghost use Rattle.std.specs.Prelude.{◌≡◌, None};
-ghost use Rattle.aclgen_core.specs.FaultLines.{outside_line};
+ghost use Rattle.aclgen_core.specs.FaultLines.{outside_line, usage_line};
 ghost use Rattle.aclgen_core.specs.FileLists.{PathsDiffer};
 ghost use Rattle.aclgen_core.specs.Worlds.{disk, stream};
 ghost use Rattle.aclgen_core.specs.DecidingSteps.{Acts, Refuses, Tells, texts_in};
 
 use crate::endings::{Ended, Which};
-use crate::fault_lines::outside_line;
+use crate::fault_lines::{outside_line, usage_line};
 use crate::file_texts::write_files;
 use crate::planning::Work;
 use acl_host::{Sink, Tree, WriteFault};
@@ -20,6 +20,14 @@ pub fn refuse<E: Sink>(err: &mut E, line: &[u8], asked: Ended) -> Ended
         Err(WriteFault::Failed) => Ended::Outside(Which::Err),
         Err(WriteFault::Memory) => Ended::Memory,
     }
+}
+
+/// The whole run where the words are not text: some are no UTF-8, so that they are no command line.
+pub fn refuse_words<E: Sink>(err: &mut E) -> Ended
+    ensures { Refuses usage_line Ended.Usage (stream E.told E.faults E.refusals err.old)
+        (stream E.told E.faults E.refusals err.new) result }
+{
+    refuse(err, usage_line().as_bytes(), Ended::Usage)
 }
 
 /// Tries to write the line that says what failed. A refusal of it changes nothing in the ending.

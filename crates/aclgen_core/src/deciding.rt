@@ -1,14 +1,14 @@
 ghost use Rattle.std.specs.Prelude.{map};
 ghost use Rattle.std.specs.String.{string_bytes};
-ghost use Rattle.aclgen_core.specs.Worlds.{disk};
-ghost use Rattle.aclgen_core.specs.DecidingSteps.{Decides, FollowsFrom};
+ghost use Rattle.aclgen_core.specs.Worlds.{disk, watch};
+ghost use Rattle.aclgen_core.specs.DecidingSteps.{Decides, FindsDay, FollowsFrom};
 
-use crate::command_line::options_of;
 use crate::endings::Which;
 use crate::fault_lines::fault_line;
 use crate::planning::{Work, make_work};
-use acl_host::{Tree, Whole};
+use acl_host::{Clock, ClockFault, Day, Tree, Whole};
 use acl_load::LoadFault;
+use acl_options::read_options;
 use acl_text::Fault;
 use std::alloc::Global;
 
@@ -21,7 +21,7 @@ pub enum Decision {
     Refused(Fault, Whole),
     /// This is to be written.
     Planned(Work),
-    /// A folder was not listed or a file not read.
+    /// A folder was not listed, a file not read, or the clock told no day.
     Outside(Which),
     /// Memory was wanted and not found.
     Memory,
@@ -42,16 +42,37 @@ fn decision_on(alloc: Global, fault: LoadFault) -> Decision
     }
 }
 
-/// Decides what the run is to do. It looks at the tree, and changes nothing.
-pub fn decide<T: Tree>(alloc: Global, words: &[String], tree: &mut T) -> Decision
+// The day that the words name, else the clock's.
+fn day_for<C: Clock>(date: Option<Day>, clock: &mut C) -> Result<Day, ClockFault>
+    ensures { FindsDay date (watch C.day C.faults clock.old) (watch C.day C.faults clock.new) result }
+{
+    match date {
+        Some(day) => Ok(day),
+        None => clock.today(),
+    }
+}
+
+/// Decides what the run is to do. It looks at the tree, asks the clock where the words name no day, and changes nothing.
+pub fn decide<T: Tree, C: Clock>(
+    alloc: Global,
+    words: &[String],
+    tree: &mut T,
+    clock: &mut C,
+) -> Decision
     ensures { Decides (map string_bytes words.now)
         (disk T.files T.begun T.list_faults T.read_faults T.faults T.refusals tree.old)
-        (disk T.files T.begun T.list_faults T.read_faults T.faults T.refusals tree.new) result }
+        (disk T.files T.begun T.list_faults T.read_faults T.faults T.refusals tree.new)
+        (watch C.day C.faults clock.old) (watch C.day C.faults clock.new) result }
 {
-    let Some(options) = options_of(words) else {
-        return Decision::Usage;
+    let options = match read_options(alloc, words) {
+        Ok(Some(options)) => options,
+        Ok(None) => return Decision::Usage,
+        Err(_) => return Decision::Memory,
     };
-    match make_work(alloc, &options, tree) {
+    let Ok(today) = day_for(options.date, clock) else {
+        return Decision::Outside(Which::Clock);
+    };
+    match make_work(alloc, &options, today, tree) {
         Ok(work) => Decision::Planned(work),
         Err(fault) => decision_on(alloc, fault),
     }

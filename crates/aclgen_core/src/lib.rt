@@ -2,7 +2,6 @@
 #![tactic(auto)]
 
 mod acting;
-mod command_line;
 mod deciding;
 mod endings;
 mod fault_lines;
@@ -16,6 +15,7 @@ mod slips;
 #[cfg(test)]
 mod tests;
 
+pub use acting::refuse_words;
 pub use endings::{Ended, Which, status_of};
 pub use laws::{jobs_are_one, jobs_are_there};
 pub use running::aclgen;

@@ -1,11 +1,11 @@
-ghost use Rattle.std.specs.Prelude.{◌≡◌, ◌≢◌, true, [], IfOk, OnOk};
+ghost use Rattle.std.specs.Prelude.{◌≡◌, true, IfOk, OnOk};
 ghost use Rattle.std.specs.List.{All};
 ghost use Rattle.acl_platform.specs.Platforms.{DecidesAs};
 ghost use Rattle.acl_policy.specs.Conditions.{IsPolicy};
 ghost use Rattle.acl_load.specs.LoadedPolicies.{AreResolvedIn};
 ghost use Rattle.acl_load.specs.LoadFaults.{LoadsFiles};
-ghost use Rattle.acl_render.specs.PlatformFiles.{AreApart, IsAccepted, IsTaken, is_rendered, text_on};
-ghost use Rattle.aclgen_core.specs.CodeViews.{options_view};
+ghost use Rattle.acl_render.specs.PlatformFiles.{AreApart, IsFileText, IsTaken, text_on};
+ghost use Rattle.acl_options.specs.CodeViews.{options_view};
 ghost use Rattle.aclgen_core.specs.PreparingSteps.{
   AddsFile,
   AreRendered,
@@ -14,14 +14,15 @@ ghost use Rattle.aclgen_core.specs.PreparingSteps.{
   PlansLoaded,
 };
 
-use crate::command_line::Options;
 use crate::file_texts::FileText;
 use crate::preparing::{FileDraft, FileDrafts, prepare};
-use acl_host::{Tree, Whole};
+use acl_host::{Day, Tree, Whole};
 use acl_load::{LoadFault, Loaded, load, policy_fault};
+use acl_options::Options;
 use acl_platform::Filter;
 use acl_policy::Kind;
 use acl_render::render;
+use acl_report::report_terms;
 use acl_text::{Memory, Out, Refusal, Rejection};
 use std::alloc::Global;
 
@@ -34,11 +35,10 @@ pub struct Work {
 
 // The text of the platform's file.
 fn text_of(alloc: Global, kind: Kind, filters: &[Filter]) -> Result<Whole, Memory>
-    requires rendered { is_rendered kind ≡ true }
     requires taken { All (IsTaken kind) filters.now }
     requires apart { AreApart filters.now }
     ensures text { IfOk result (λ text. text.bytes ≡ text_on kind filters.now) }
-    ensures accepted { IfOk result (λ _. IsAccepted kind DecidesAs filters.now filters.now) }
+    ensures accepted { IfOk result (λ _. IsFileText kind DecidesAs filters.now filters.now) }
 {
     let mut text = Whole::new(alloc);
     match render(kind, filters, &mut text) {
@@ -50,7 +50,6 @@ fn text_of(alloc: Global, kind: Kind, filters: &[Filter]) -> Result<Whole, Memor
 // Adds the platform's file, where it has filters, and the report on them.
 fn add_file(alloc: Global, kind: Kind, draft: FileDraft, work: &mut Work) -> Result<(), Memory>
     requires open { work.old.report.is_open ≡ true }
-    requires rendered { draft.filters ≢ [] → is_rendered kind ≡ true }
     requires taken { All (IsTaken kind) draft.filters }
     requires apart { AreApart draft.filters }
     ensures { OnOk result (AddsFile kind draft work.old work.new) }
@@ -68,14 +67,15 @@ fn add_file(alloc: Global, kind: Kind, draft: FileDraft, work: &mut Work) -> Res
     Ok(())
 }
 
-// The files of the drafts, and the report on them.
-fn work_of(alloc: Global, drafts: FileDrafts) -> Result<Work, Memory>
-    requires { AreRendered drafts }
-    ensures { IfOk result (IsWorkOf drafts) }
+// The files of the drafts, and the report: what stands there, and then the lines on the files.
+fn work_of(alloc: Global, drafts: FileDrafts, report: Whole) -> Result<Work, Memory>
+    requires open { report.is_open ≡ true }
+    requires rendered { AreRendered drafts }
+    ensures { IfOk result (IsWorkOf report.bytes drafts) }
 {
     let mut work = Work {
         files: Vec::new(alloc),
-        report: Whole::new(alloc),
+        report,
     };
     add_file(alloc, Kind::Cisco, drafts.cisco, &mut work)?;
     add_file(alloc, Kind::Juniper, drafts.juniper, &mut work)?;
@@ -85,13 +85,21 @@ fn work_of(alloc: Global, drafts: FileDrafts) -> Result<Work, Memory>
 }
 
 // What is to be written of the policy, or the first fault of its filters.
-fn plan(alloc: Global, options: &Options<'_>, loaded: &Loaded) -> Result<Work, Rejection>
+fn plan(
+    alloc: Global,
+    options: &Options<'_>,
+    today: Day,
+    loaded: &Loaded,
+) -> Result<Work, Rejection>
     requires fits { IsPolicy loaded.now.policy }
     requires terms { AreResolvedIn loaded.now.definitions loaded.now.policy.blocks loaded.now.terms }
-    ensures { PlansLoaded (options_view options.now) options.now.date loaded.now result }
+    ensures { PlansLoaded (options_view options.now) today loaded.now result }
 {
-    match prepare(alloc, options.date, options.output, options.policy, loaded) {
-        Ok(drafts) => Ok(work_of(alloc, drafts)?),
+    match prepare(alloc, today, options.output, options.policy, loaded) {
+        Ok(drafts) => {
+            let report = report_terms(alloc, loaded, today, options.exp_info)?;
+            Ok(work_of(alloc, drafts, report)?)
+        }
         Err(Refusal::Slip(slip)) => {
             Err(Rejection::Fault(policy_fault(alloc, &loaded.sources, slip)?))
         }
@@ -99,16 +107,17 @@ fn plan(alloc: Global, options: &Options<'_>, loaded: &Loaded) -> Result<Work, R
     }
 }
 
-/// What is to be written, or the first fault of the files.
+/// What is to be written for that day, or the first fault of the files.
 pub fn make_work<T: Tree>(
     alloc: Global,
     options: &Options<'_>,
+    today: Day,
     tree: &mut T,
 ) -> Result<Work, LoadFault>
-    ensures makes { MakesWork (options_view options.now) options.now.date (T.files tree.old) result }
+    ensures makes { MakesWork (options_view options.now) today (T.files tree.old) result }
     ensures looks { LoadsFiles T.files T.begun T.faults T.refusals T.list_faults T.read_faults
         tree.old tree.new result }
 {
     let loaded = load(alloc, tree, options.definitions, options.policy)?;
-    Ok(plan(alloc, options, &loaded)?)
+    Ok(plan(alloc, options, today, &loaded)?)
 }

@@ -3,10 +3,8 @@ ghost use Rattle.std.specs.List.{All};
 ghost use Rattle.acl_target.specs.TargetData.{IsTarget};
 ghost use Rattle.acl_policy.specs.declared.raw_terms.RawTerm.{RawTerm};
 ghost use Rattle.acl_policy.specs.Conditions.{IsBlock};
-ghost use Rattle.acl_terms.specs.Slips.{first_in};
 ghost use Rattle.aclgen_core.specs.FilterPaths.{path_of};
-ghost use Rattle.aclgen_core.specs.FilterRequests.{platform_slip, request_of, requests_in, target_slip};
-ghost use Rattle.aclgen_core.specs.Job.{report_text};
+ghost use Rattle.aclgen_core.specs.FilterRequests.{request_of, requests_in};
 ghost use Rattle.aclgen_core.specs.PreparingSteps.{
   Adds,
   AddsOne,
@@ -18,16 +16,16 @@ ghost use Rattle.aclgen_core.specs.PreparingSteps.{
 };
 
 use crate::filter_paths::path_of;
-use crate::slips::{check_platforms, limit_refusal};
+use crate::slips::limit_refusal;
 use acl_expand::expand;
 use acl_host::{Day, Whole};
 use acl_load::{Loaded, Terms};
 use acl_platform::Filter;
-use acl_policy::{Block, Kind, Target, put_target};
+use acl_policy::{Block, Kind, Target};
 use acl_render::check;
+use acl_report::put_count;
 use acl_terms::Term;
-use acl_text::{Items, Memory, Out, PutFault, Refusal};
-use itoa::Buffer;
+use acl_text::{Items, Memory, Refusal};
 use std::alloc::Global;
 
 /// The file of a platform: its path, its filters in order, and their lines of the report.
@@ -47,22 +45,6 @@ pub struct FileDrafts {
     pub nftables: FileDraft,
 }
 
-#[tactic(auto, unfolding(crate::specs::Job::report_text))]
-fn put_line(report: &mut Whole, path: &[u8], target: &Target, entries: u64) -> Result<(), PutFault>
-    requires { report.old.is_open ≡ true }
-    ensures text { OnOk result (report.new.bytes
-        ≡ report.old.bytes ++ report_text path.now target.now entries) }
-    ensures opened { OnOk result (report.new.is_open ≡ true) }
-{
-    let mut buffer = Buffer::new();
-    report.put(path)?;
-    report.put(b": ")?;
-    put_target(report, target)?;
-    report.put(b": entries ")?;
-    report.put(buffer.format(entries).as_bytes())?;
-    report.put(b"\n")
-}
-
 // Adds a filter, and its line of the report.
 fn add_to(
     draft: &mut FileDraft,
@@ -73,7 +55,7 @@ fn add_to(
     requires { draft.old.report.is_open ≡ true }
     ensures { OnOk result (AddsOne target.now filter entries draft.old draft.new) }
 {
-    match put_line(&mut draft.report, draft.path.as_bytes(), target, entries) {
+    match put_count(&mut draft.report, draft.path.as_bytes(), target, entries) {
         Ok(()) => draft.filters.push(filter),
         Err(_) => Err(Memory),
     }
@@ -86,8 +68,7 @@ fn checked_filter(
     target: &Target,
     terms: &[Term],
 ) -> Result<(Filter, u64), Refusal>
-    requires sound { IsTarget target.now }
-    requires handled { target_slip target.now ≡ None }
+    requires { IsTarget target.now }
     ensures { Checks today (request_of [] terms.now target.now) result }
 {
     let filter = expand(alloc, terms, target, today)?;
@@ -106,7 +87,6 @@ fn add_filter(
     drafts: &mut FileDrafts,
 ) -> Result<(), Refusal>
     requires sound { IsTarget target.now }
-    requires handled { target_slip target.now ≡ None }
     requires open { AreOpen drafts.old }
     ensures { Adds today (request_of [] terms.now target.now ∷ []) drafts.old drafts.new result }
 {
@@ -129,7 +109,6 @@ fn add_filters(
     drafts: &mut FileDrafts,
 ) -> Result<(), Refusal>
     requires sound { All IsTarget targets.now }
-    requires handled { first_in target_slip targets.now ≡ None }
     requires open { AreOpen drafts.old }
     ensures { (written : List RawTerm) → Adds today (map (request_of written terms.now) targets.now)
         drafts.old drafts.new result }
@@ -152,7 +131,6 @@ fn add_blocks(
     drafts: &mut FileDrafts,
 ) -> Result<(), Refusal>
     requires sound { All IsBlock blocks.now }
-    requires handled { platform_slip blocks.now ≡ None }
     requires open { AreOpen drafts.old }
     ensures { Adds today (requests_in blocks.now lists.now) drafts.old drafts.new result }
 {
@@ -201,7 +179,6 @@ pub fn prepare(
     ensures { Prepares output.now policy.now today loaded.now result }
 {
     let blocks = loaded.policy.blocks.as_slice();
-    check_platforms(alloc, blocks)?;
     let mut drafts = no_files(alloc, output, policy)?;
     add_blocks(alloc, today, blocks, loaded.terms.as_slice(), &mut drafts)?;
     Ok(drafts)

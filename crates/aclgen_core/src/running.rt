@@ -12,26 +12,26 @@ use std::alloc::Global;
 
 /// The whole job: reads the words, the naming files and the policy, and writes the filters and the report.
 ///
-/// The words are `--policy_file P --definitions_directory D --output_directory O --date X`. The clock is
-/// not asked. `Keeps` has what each ending means.
+/// The words are those behind the program's name, as `acl_options::read_options` reads them. The clock is asked where
+/// they name no day. `Keeps` has what each ending means.
 pub fn aclgen<T: Tree, O: Sink, E: Sink, C: Clock>(
     alloc: Global,
     words: &[String],
     tree: &mut T,
     out: &mut O,
     err: &mut E,
-    _clock: &mut C,
+    clock: &mut C,
 ) -> Ended
     requires { T.begun tree.old ≡ None }
     ensures { Keeps (map string_bytes words.now)
         (world (disk T.files T.begun T.list_faults T.read_faults T.faults T.refusals tree.old)
         (stream O.told O.faults O.refusals out.old) (stream E.told E.faults E.refusals err.old)
-        (watch C.day C.faults _clock.old))
+        (watch C.day C.faults clock.old))
         (world (disk T.files T.begun T.list_faults T.read_faults T.faults T.refusals tree.new)
         (stream O.told O.faults O.refusals out.new) (stream E.told E.faults E.refusals err.new)
-        (watch C.day C.faults _clock.new)) result }
+        (watch C.day C.faults clock.new)) result }
 {
-    match decide(alloc, words, tree) {
+    match decide(alloc, words, tree, clock) {
         Decision::Usage => refuse(err, usage_line().as_bytes(), Ended::Usage),
         Decision::Refused(fault, line) => refuse(err, line.as_slice(), Ended::Rejected(fault)),
         Decision::Planned(work) => carry_out(&work, tree, out, err),

@@ -1,19 +1,9 @@
 ghost use Rattle.std.specs.Prelude.{◌≡◌, slice_get};
 ghost use Rattle.acl_naming.specs.Checking.{IsRefusal};
 ghost use Rattle.acl_text.specs.declared.faults.Code.TheVariants.{Unsupported};
-ghost use Rattle.acl_terms.specs.Slips.{first_in, Judges};
-ghost use Rattle.aclgen_core.specs.FilterRequests.{
-  limit_slip,
-  name_word,
-  platform_slip,
-  rule_slip,
-  target_slip,
-  unsupported_word,
-};
+ghost use Rattle.aclgen_core.specs.FilterRequests.{limit_slip, name_word, rule_slip, unsupported_word};
 
 use acl_platform::{Filter, Limit, Rule, Test};
-use acl_policy::{Block, Target};
-use acl_render::is_rendered;
 use acl_text::{Bytes, Code, Place, Refusal, Slip};
 use std::alloc::Global;
 
@@ -24,36 +14,6 @@ fn refusal_at(alloc: Global, code: Code, place: Place, word: &[u8]) -> Refusal
         Ok(word) => Refusal::Slip(Slip { code, place, word }),
         Err(_) => Refusal::Memory,
     }
-}
-
-// A target of a platform whose files are not written yet is a slip.
-fn check_target(alloc: Global, target: &Target) -> Result<(), Refusal>
-    ensures { Judges result (target_slip target.now) }
-{
-    if is_rendered(target.kind) {
-        Ok(())
-    } else {
-        Err(refusal_at(alloc, Code::NotYet, target.place, b""))
-    }
-}
-
-fn check_targets(alloc: Global, targets: &[Target]) -> Result<(), Refusal>
-    ensures { Judges result (first_in target_slip targets.now) }
-{
-    for target in targets {
-        check_target(alloc, target)?;
-    }
-    Ok(())
-}
-
-/// Whether files are written for each target's platform, else the slip at the first target without.
-pub fn check_platforms(alloc: Global, blocks: &[Block]) -> Result<(), Refusal>
-    ensures { Judges result (platform_slip blocks.now) }
-{
-    for block in blocks {
-        check_targets(alloc, block.targets.as_slice())?;
-    }
-    Ok(())
 }
 
 fn unsupported_word(rule: &Rule) -> &'static [u8]

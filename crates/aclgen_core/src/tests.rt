@@ -10,20 +10,42 @@ use std::test::Fail;
 const NAMES: &[u8] =
     b"WEB = 192.0.2.10\nLOW = 10.0.0.0/25\nHIGH = 10.0.0.128/25\nSIX = 2001:db8::10\n";
 
-fn words(alloc: Global, policy: &str, date: &str) -> Result<Vec<String>, AllocError> {
+// The words, and which call of the outside fails in a run.
+#[derive(Clone, Copy)]
+struct Run<'a> {
+    policy: &'a str,
+    date: Option<&'a str>,
+    clock: bool,
+    tree: Option<Op>,
+    out: bool,
+    err: bool,
+}
+
+const PLAIN: Run<'static> = Run {
+    policy: "pol/a.pol",
+    date: Some("2026-01-15"),
+    clock: true,
+    tree: None,
+    out: false,
+    err: false,
+};
+
+fn words(alloc: Global, run: Run<'_>) -> Result<Vec<String>, AllocError> {
     let mut words = Vec::new(alloc);
     let texts = [
         "--policy_file",
-        policy,
+        run.policy,
         "--definitions_directory",
         "def",
         "--output_directory",
         "out",
-        "--date",
-        date,
     ];
     for text in texts {
         words.push(String::from_str(alloc, text)?)?;
+    }
+    if let Some(date) = run.date {
+        words.push(String::from_str(alloc, "--date")?)?;
+        words.push(String::from_str(alloc, date)?)?;
     }
     Ok(words)
 }
@@ -38,23 +60,52 @@ fn tree_of(alloc: Global, policy: &[u8]) -> Result<MemTree, Memory>
     Ok(tree)
 }
 
-// The words, and which call of the outside fails in a run.
-#[derive(Clone, Copy)]
-struct Run<'a> {
-    policy: &'a str,
-    date: &'a str,
-    tree: Option<Op>,
-    out: bool,
-    err: bool,
+// The tree, of which the first call of the kind is to fail, where there is one.
+fn failing(mut tree: MemTree, op: Option<Op>) -> Result<MemTree, Memory>
+    requires { (contents tree).begun ≡ None }
+    ensures { IfOk result (λ t. (contents t).begun ≡ None) }
+{
+    if let Some(op) = op {
+        tree.fail(op, 1)?;
+    }
+    Ok(tree)
 }
 
-const PLAIN: Run<'static> = Run {
-    policy: "pol/a.pol",
-    date: "2026-01-15",
-    tree: None,
-    out: false,
-    err: false,
-};
+fn sink(alloc: Global, fails: bool) -> Result<MemSink, Memory> {
+    let mut sink = MemSink::new(alloc);
+    if fails {
+        sink.fail(1)?;
+    }
+    Ok(sink)
+}
+
+// What a run left: its status, its files and what was written on the two streams.
+#[derive(Drop)]
+struct Left {
+    status: u8,
+    tree: MemTree,
+    out: MemSink,
+    err: MemSink,
+}
+
+// The program is called here alone: each function that calls it proves its whole contract again.
+fn left_by(alloc: Global, tree: MemTree, run: Run<'_>) -> Result<Left, Memory>
+    requires { (contents tree).begun ≡ None }
+{
+    let mut tree = failing(tree, run.tree)?;
+    let mut out = sink(alloc, run.out)?;
+    let mut err = sink(alloc, run.err)?;
+    let mut clock = FixedClock::new(Day { number: 20468 }, run.clock);
+    let words = words(alloc, run)?;
+    let words = words.as_slice();
+    let ended = aclgen(alloc, words, &mut tree, &mut out, &mut err, &mut clock);
+    Ok(Left {
+        status: status_of(&ended),
+        tree,
+        out,
+        err,
+    })
+}
 
 // Whether a run over the policy ends with the status and leaves these bytes: the filter's file where there
 // is one, and what was written on the two streams. The input files are as they were.
@@ -67,35 +118,14 @@ fn leaves(
     report: &[u8],
     line: &[u8],
 ) -> Result<bool, Memory> {
-    let mut tree = tree_of(alloc, policy)?;
-    let mut out = MemSink::new(alloc);
-    let mut err = MemSink::new(alloc);
-    let mut clock = FixedClock::new(Day { number: 20468 }, true);
-    if let Some(op) = run.tree {
-        tree.fail(op, 1)?;
-    }
-    if run.out {
-        out.fail(1)?;
-    }
-    if run.err {
-        err.fail(1)?;
-    }
-    let words = words(alloc, run.policy, run.date)?;
-    let ended = aclgen(
-        alloc,
-        words.as_slice(),
-        &mut tree,
-        &mut out,
-        &mut err,
-        &mut clock,
-    );
+    let left = left_by(alloc, tree_of(alloc, policy)?, run)?;
     Ok(
-        status_of(&ended) == status
-            && tree.file("out/a.acl") == file
-            && out.as_slice() == report
-            && err.as_slice() == line
-            && tree.file("def/n.net") == Some(NAMES)
-            && tree.file("pol/a.pol") == Some(policy),
+        left.status == status
+            && left.tree.file("out/a.acl") == file
+            && left.out.as_slice() == report
+            && left.err.as_slice() == line
+            && left.tree.file("def/n.net") == Some(NAMES)
+            && left.tree.file("pol/a.pol") == Some(policy),
     )
 }
 
@@ -132,7 +162,8 @@ ip access-list extended sums
 exit
 ";
 
-const REPORT: &[u8] = b"out/a.acl: cisco edge mixed: entries 4
+const REPORT: &[u8] = b"pol/a.pol:2: term old expired on 2026-01-15
+out/a.acl: cisco edge mixed: entries 4
 out/a.acl: cisco low extended: entries 1
 out/a.acl: cisco sums extended: entries 1
 ";
@@ -140,11 +171,19 @@ out/a.acl: cisco sums extended: entries 1
 #[test]
 fn a_policy_of_two_blocks_is_written_whole(rt: HostRuntime) -> Result<(), Fail> {
     let alloc = rt.alloc();
+    // a clock that fails is not asked where the words name the day
     assert!(rt; leaves(alloc, TWO_BLOCKS, PLAIN, 0, Some(SECTIONS), REPORT, b"")?);
+    let asked = Run {
+        date: None,
+        clock: false,
+        ..PLAIN
+    };
+    assert!(rt; leaves(alloc, TWO_BLOCKS, asked, 0, Some(SECTIONS), REPORT, b"")?);
     Ok(())
 }
 
-const THREE_PLATFORMS: &[u8] = b"header { target:: nftables inet input target:: juniper six inet6 }
+const FOUR_PLATFORMS: &[u8] =
+    b"header { target:: nftables inet input target:: iptables INPUT DROP target:: juniper six inet6 }
 term web { destination-address:: WEB SIX protocol:: tcp action:: accept }
 header { target:: cisco edge extended target:: juniper edge }
 term web { destination-address:: WEB protocol:: tcp action:: accept }
@@ -208,28 +247,31 @@ table ip aclgen_1 {
 }
 ";
 
+const CHAINS: &[u8] = b"## iptables INPUT inet
+-P INPUT DROP
+# web
+-N I_web
+-A I_web -p tcp -d 192.0.2.10/32 -j ACCEPT
+-A INPUT -j I_web
+";
+
 const ALL_REPORTS: &[u8] = b"out/a.acl: cisco edge extended: entries 1
 out/a.jcl: juniper six inet6: entries 3
 out/a.jcl: juniper edge inet: entries 3
+out/a.ipt: iptables INPUT inet: entries 2
 out/a.nft: nftables input inet: entries 2
 ";
 
 #[test]
 fn each_platform_has_its_file(rt: HostRuntime) -> Result<(), Fail> {
     let alloc = rt.alloc();
-    let mut tree = tree_of(alloc, THREE_PLATFORMS)?;
-    let mut out = MemSink::new(alloc);
-    let mut err = MemSink::new(alloc);
-    let mut clock = FixedClock::new(Day { number: 20468 }, true);
-    let words = words(alloc, "pol/a.pol", "2026-01-15")?;
-    let words = words.as_slice();
-    let ended = aclgen(alloc, words, &mut tree, &mut out, &mut err, &mut clock);
-    assert_eq!(rt; status_of(&ended), 0);
-    assert_eq!(rt; tree.file("out/a.acl"), Some(LIST_OF_WEB));
-    assert_eq!(rt; tree.file("out/a.jcl"), Some(FILTERS));
-    assert_eq!(rt; tree.file("out/a.nft"), Some(TABLE));
-    assert_eq!(rt; tree.file("out/a.ipt"), None);
-    assert_eq!(rt; out.as_slice(), ALL_REPORTS);
+    let left = left_by(alloc, tree_of(alloc, FOUR_PLATFORMS)?, PLAIN)?;
+    assert_eq!(rt; left.status, 0);
+    assert_eq!(rt; left.tree.file("out/a.acl"), Some(LIST_OF_WEB));
+    assert_eq!(rt; left.tree.file("out/a.jcl"), Some(FILTERS));
+    assert_eq!(rt; left.tree.file("out/a.ipt"), Some(CHAINS));
+    assert_eq!(rt; left.tree.file("out/a.nft"), Some(TABLE));
+    assert_eq!(rt; left.out.as_slice(), ALL_REPORTS);
     Ok(())
 }
 
@@ -244,7 +286,10 @@ const EDGE_POLICY: &[u8] = b"header {
   target:: juniper edge-in inet
 }
 #include 'inc/common.inc'
-header { target:: nftables mixed input }
+header {
+  target:: iptables INPUT DROP
+  target:: nftables mixed input
+}
 #include 'inc/common.inc'
 ";
 
@@ -258,32 +303,41 @@ term default-deny { logging:: true action:: deny }
 
 const EDGE_REPORT: &[u8] = b"out/edge.acl: cisco edge-in extended: entries 11
 out/edge.jcl: juniper edge-in inet: entries 21
+out/edge.ipt: iptables INPUT inet: entries 16
 out/edge.nft: nftables input mixed: entries 27
 ";
 
-// What is written of an edge policy with its terms in an included file is read back as one section for each target.
-#[test]
-fn an_edge_policy_is_read_back(rt: HostRuntime) -> Result<(), Fail> {
-    let alloc = rt.alloc();
+// An edge policy, with its terms in an included file.
+fn edge_tree(alloc: Global) -> Result<MemTree, Memory>
+    ensures { IfOk result (λ t. (contents t).begun ≡ None) }
+{
     let mut tree = MemTree::new(alloc);
     tree.put_file("def/n.net", EDGE_NETWORKS)?;
     tree.put_file("def/s.svc", EDGE_SERVICES)?;
     tree.put_file("pol/edge.pol", EDGE_POLICY)?;
     tree.put_file("pol/inc/common.inc", EDGE_TERMS)?;
-    let mut out = MemSink::new(alloc);
-    let mut err = MemSink::new(alloc);
-    let mut clock = FixedClock::new(Day { number: 20468 }, true);
-    let words = words(alloc, "pol/edge.pol", "2026-01-15")?;
-    let words = words.as_slice();
-    let ended = aclgen(alloc, words, &mut tree, &mut out, &mut err, &mut clock);
-    assert_eq!(rt; status_of(&ended), 0);
-    assert_eq!(rt; out.as_slice(), EDGE_REPORT);
-    let lists = cisco_lang::read(alloc, tree.file("out/edge.acl").unwrap_or(b""))?;
+    Ok(tree)
+}
+
+// What is written is read back as one section for each target.
+#[test]
+fn an_edge_policy_is_read_back(rt: HostRuntime) -> Result<(), Fail> {
+    let alloc = rt.alloc();
+    let run = Run {
+        policy: "pol/edge.pol",
+        ..PLAIN
+    };
+    let left = left_by(alloc, edge_tree(alloc)?, run)?;
+    assert_eq!(rt; left.status, 0);
+    assert_eq!(rt; left.out.as_slice(), EDGE_REPORT);
+    let lists = cisco_lang::read(alloc, left.tree.file("out/edge.acl").unwrap_or(b""))?;
     assert_eq!(rt; lists.map(|doc| cisco_lang::sections(&doc)), Some(1));
-    let filters = junos_lang::read(alloc, tree.file("out/edge.jcl").unwrap_or(b""))?;
+    let filters = junos_lang::read(alloc, left.tree.file("out/edge.jcl").unwrap_or(b""))?;
     assert_eq!(rt; filters.map(|doc| junos_lang::sections(&doc)), Some(1));
-    let chains = nft_lang::read(alloc, tree.file("out/edge.nft").unwrap_or(b""))?;
-    assert_eq!(rt; chains.map(|doc| nft_lang::sections(&doc)), Some(1));
+    let chains = ipt_lang::read(alloc, left.tree.file("out/edge.ipt").unwrap_or(b""))?;
+    assert_eq!(rt; chains.map(|doc| ipt_lang::sections(&doc)), Some(1));
+    let tables = nft_lang::read(alloc, left.tree.file("out/edge.nft").unwrap_or(b""))?;
+    assert_eq!(rt; tables.map(|doc| nft_lang::sections(&doc)), Some(1));
     Ok(())
 }
 
@@ -302,8 +356,8 @@ fn refusals_leave_everything_as_it_was(rt: HostRuntime) -> Result<(), Fail> {
             b"pol/a.pol:2: F31 UnknownName NOWHERE\n",
         ),
         (
-            b"header { target:: cisco a extended target:: iptables INPUT DROP }\nterm t { action:: accept }",
-            b"pol/a.pol:1: F38 NotYet\n",
+            b"header { target:: cisco a extended target:: iptables INPUT }\nterm a-name-of-25-bytes-in-all { action:: accept }",
+            b"pol/a.pol:2: F41 NameLength a-name-of-25-bytes-in-all\n",
         ),
         (
             b"header { target:: cisco a extended target:: cisco b inet6 }\nterm t { protocol:: tcp option:: tcp-initial action:: accept }",
@@ -322,7 +376,7 @@ fn refusals_leave_everything_as_it_was(rt: HostRuntime) -> Result<(), Fail> {
         assert!(rt; leaves(alloc, policy, PLAIN, 1, None, b"", line)?);
     }
     let wrong = Run {
-        date: "2026-02-30",
+        date: Some("2026-02-30"),
         ..PLAIN
     };
     assert!(rt; leaves(alloc, PLAIN_POLICY, wrong, 2, None, b"", USAGE)?);
@@ -369,6 +423,12 @@ fn each_call_of_the_outside_fails_once(rt: HostRuntime) -> Result<(), Fail> {
         };
         assert!(rt; leaves(alloc, PLAIN_POLICY, run, 3, file, b"", line)?);
     }
+    let silent = Run {
+        date: None,
+        ..PLAIN
+    };
+    let line = b"aclgen: clock failed\n";
+    assert!(rt; leaves(alloc, PLAIN_POLICY, silent, 3, None, b"", line)?);
     let out = Run { out: true, ..PLAIN };
     assert!(rt;
         leaves(
@@ -382,7 +442,7 @@ fn each_call_of_the_outside_fails_once(rt: HostRuntime) -> Result<(), Fail> {
         )?
     );
     let words = Run {
-        date: "",
+        date: Some(""),
         err: true,
         ..PLAIN
     };

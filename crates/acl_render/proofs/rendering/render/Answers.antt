@@ -1,12 +1,13 @@
 use Rattle.std.proofs.Common.{false, subst}
 use Rattle.std.specs.List.{All}
 use Rattle.acl_target.specs.declared.targets.Kind.{Kind}
-use Rattle.acl_target.specs.declared.targets.Kind.TheVariants.{Cisco, Juniper, Nftables}
+use Rattle.acl_target.specs.declared.targets.Kind.TheVariants.{Cisco, Juniper, Iptables, Nftables}
 use Rattle.gen_cisco.proofs.ListNames.{all-differ}
 use Rattle.gen_junos.proofs.NameLaws as junos
+use Rattle.gen_iptables.proofs.NameLaws as ipt
 use Rattle.gen_nftables.proofs.TableNames as nft
 use Rattle.acl_render.specs.PlatformFiles.{IsTaken}
-use Rattle.acl_render.proofs.TakenFilters.{by-cisco, by-junos, by-nftables, kinds, numbers-differ, of-junos, of-nftables}
+use Rattle.acl_render.proofs.TakenFilters.{by-cisco, by-iptables, by-junos, by-nftables, kinds, numbers-differ, of-iptables, of-junos, of-nftables}
 use Rattle.acl_render.proofs.rendering.render.Goals as goal
 
 pub write_all-requires-clause-accepted : goal.write_all-requires-clause-accepted
@@ -28,6 +29,16 @@ pub write_all-requires-in-Juniper-clause-names_differ : goal.write_all-requires-
 write_all-requires-in-Juniper-clause-names_differ g c =
     let taken = subst (λ (k : Kind). All (IsTaken k) c.args.filters.now) c.in-Juniper.is c.requires.taken in
     junos.all-differ c.args.filters.now false (of-junos c.args.filters.now taken) c.requires.apart.clash_not
+
+pub write_all-requires-in-Iptables-clause-accepted : goal.write_all-requires-in-Iptables-clause-accepted
+write_all-requires-in-Iptables-clause-accepted g c =
+    let taken = subst (λ (k : Kind). All (IsTaken k) c.args.filters.now) c.in-Iptables.is c.requires.taken in
+    by-iptables c.args.filters.now taken
+
+pub write_all-requires-in-Iptables-clause-names_differ : goal.write_all-requires-in-Iptables-clause-names_differ
+write_all-requires-in-Iptables-clause-names_differ g c =
+    let taken = subst (λ (k : Kind). All (IsTaken k) c.args.filters.now) c.in-Iptables.is c.requires.taken in
+    ipt.all-differ c.args.filters.now false (of-iptables c.args.filters.now taken) c.requires.apart.clash_not
 
 pub write_all-requires-in-Nftables-clause-accepted : goal.write_all-requires-in-Nftables-clause-accepted
 write_all-requires-in-Nftables-clause-accepted g c =

@@ -1,11 +1,13 @@
-use Rattle.std.proofs.Common.{refl, sym}
-use Rattle.aclgen_core.specs.CodeViews.{options_view}
-use Rattle.aclgen_core.proofs.PlanningLaws.{decides-fault, decides-planned}
+use Rattle.std.proofs.Common.{◌∙◌, ap, option_map, sym}
+use Rattle.acl_options.specs.CodeViews.{options_view}
+use Rattle.aclgen_core.proofs.PlanningLaws.{asked-for, decides-fault, decides-planned}
 use Rattle.aclgen_core.proofs.deciding.decide.Goals as goal
 
-pub returns-in-Ok : goal.returns-in-Ok
-returns-in-Ok g c =
+pub returns-in-Ok-make_work : goal.returns-in-Ok-make_work
+returns-in-Ok-make_work g c =
     let looks = c.make_work.ensures.looks.only in
+    let options = options_view c.in-Ok-Some.options in
+    let asked = sym c.in-Ok-Some.ensures.exact ∙ ap (option_map options_view) c.in-Ok-Some.field-0-is in
     record {
       seen = record {
         files_stay = looks.looks.files_stay;
@@ -15,12 +17,16 @@ returns-in-Ok g c =
         lists_grow = looks.lists_grow;
         reads_grow = looks.reads_grow;
       };
-      so = decides-planned _ (options_view c.in-Some.options) c.in-Some.options.date c.in-Ok.work _ (sym c.in-Some.ensures) refl c.in-Ok.ensures.makes;
+      asked = asked-for _ options _ _ _ asked c.in-Ok.ensures;
+      so = decides-planned _ options c.in-Ok.today c.in-Ok-make_work.work _ _ asked c.in-Ok.ensures.gives
+          c.in-Ok-make_work.ensures.makes;
     }
 
-pub returns-in-Err : goal.returns-in-Err
-returns-in-Err g c =
+pub returns-in-Err-make_work : goal.returns-in-Err-make_work
+returns-in-Err-make_work g c =
     let looks = c.make_work.ensures.looks in
+    let options = options_view c.in-Ok-Some.options in
+    let asked = sym c.in-Ok-Some.ensures.exact ∙ ap (option_map options_view) c.in-Ok-Some.field-0-is in
     record {
       seen = record {
         files_stay = looks.only.looks.files_stay;
@@ -30,6 +36,7 @@ returns-in-Err g c =
         lists_grow = looks.only.lists_grow;
         reads_grow = looks.only.reads_grow;
       };
-      so = decides-fault _ (options_view c.in-Some.options) c.in-Some.options.date _ _ c.in-Err.fault _ (sym c.in-Some.ensures) refl c.in-Err.ensures.makes
-          c.in-Err.ensures.looks.list_failed c.in-Err.ensures.looks.read_failed c.decision_on.ensures;
+      asked = asked-for _ options _ _ _ asked c.in-Ok.ensures;
+      so = decides-fault _ options c.in-Ok.today _ _ _ _ c.in-Err-make_work.fault _ asked c.in-Ok.ensures.gives
+          c.in-Err-make_work.ensures.makes c.in-Err-make_work.ensures.looks.list_failed c.in-Err-make_work.ensures.looks.read_failed c.decision_on.ensures;
     }

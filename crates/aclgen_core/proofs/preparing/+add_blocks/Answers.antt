@@ -1,10 +1,10 @@
-use Rattle.std.proofs.Common.{◌≡◌, List, [], None, rules, ap, sym, subst, ◌∙◌}
+use Rattle.std.proofs.Common.{◌≡◌, List, [], rules, sym, subst}
 use Rattle.std.specs.List.{All}
 use Rattle.std.proofs.lemmas.List.Elements.{All-tail}
 use Rattle.acl_policy.specs.Conditions.{IsBlock}
-use Rattle.aclgen_core.specs.FilterRequests.{FilterRequest, block_requests, block_slip, platform_slip}
+use Rattle.aclgen_core.specs.FilterRequests.{FilterRequest, block_requests}
 use Rattle.aclgen_core.specs.PreparingSteps.{Adds}
-use Rattle.aclgen_core.proofs.PreparingLaws.{adds-append, adds-slip, blocks-are, first-none, first-rest, still-open}
+use Rattle.aclgen_core.proofs.PreparingLaws.{adds-append, adds-slip, blocks-are, first-rest, still-open}
 use Rattle.aclgen_core.proofs.preparing.+add_blocks.Goals as goal
 
 pub returns-in_err-add_filters : goal.returns-in_err-add_filters
@@ -25,11 +25,9 @@ add_blocks-requires t c =
     let block = c.block-item.result in
     let e = first-rest c.args.blocks.now block c.in-len1-up.len_at_least c.block-item.is in
     let all : All IsBlock c.args.blocks.now = assumption (c.requires) in
-    let none : platform_slip c.args.blocks.now ≡ None = assumption (c.requires) in
     let sound = All-tail IsBlock block _ (subst (All IsBlock) e all) in
-    let handled = first-none (block_slip block) _ (sym (ap platform_slip e) ∙ none) in
     let opened = still-open c.args.today _ _ _ (c.in_ok-add_filters.ensures []) in
-    (search rules, (sound, (handled.1, opened)))
+    (search rules, (sound, opened))
 
 pub returns : goal.returns
 returns t c =

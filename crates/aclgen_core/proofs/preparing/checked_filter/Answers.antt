@@ -5,7 +5,7 @@ use Rattle.aclgen_core.proofs.preparing.checked_filter.Goals as goal
 
 pub returns-in-Ok : goal.returns-in-Ok
 returns-in-Ok c = checks-filter c.args.today (request_of [] c.args.terms.now c.args.target.now) c.in_ok-filter.filter c.in-Ok.entries
-    c.in_ok-filter.ensures.slip c.in_ok-filter.ensures.filter c.in_ok-filter.ensures.sound c.requires.handled c.in-Ok.ensures
+    c.in_ok-filter.ensures.slip c.in_ok-filter.ensures.filter c.in_ok-filter.ensures.sound c.in-Ok.ensures
 
 pub returns-in-Err : goal.returns-in-Err
 returns-in-Err c = checks-limit c.args.today (request_of [] c.args.terms.now c.args.target.now) c.in_ok-filter.filter c.in-Err.limit _
