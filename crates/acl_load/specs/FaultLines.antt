@@ -1,7 +1,7 @@
 -- The line that is printed of a fault.
 use Rattle.std.specs.Prelude.{ℕ, ◌&&◌, ◌==◌, nat_le, if◌then◌else◌, List, [], ◌∷◌, ◌++◌, take, map, codes, decimal}
 use Rattle.acl_text.specs.declared.faults.Code.{Code}
-use Rattle.acl_text.specs.declared.faults.Code.TheVariants.{TooLong, BadByte, BadName, NoDefinition, BadValue, Twice, TooMany, Undefined, Cycle, TooManyFiles, NoFile, IncludeDepth, IncludePath, Syntax, Keyword, Value, Repeated, Missing, TermTwice, TargetLine, FilterTwice, UnknownName, NoPortForProtocol, PortProtocol, IcmpProtocol, OptionProtocol, ResetProtocol, OptionClash, IncludeCount, ExtensionHeader, NameLength, NameClash, Unsupported, TooManyEntries, TooManyPrefixes}
+use Rattle.acl_text.specs.declared.faults.Code.TheVariants.{TooLong, BadByte, BadName, NoDefinition, BadValue, Twice, TooMany, Undefined, Cycle, TooManyFiles, NoFile, IncludeDepth, IncludePath, Syntax, Keyword, Value, Repeated, Missing, TermTwice, TargetLine, FilterTwice, UnknownName, NoPortForProtocol, PortProtocol, IcmpProtocol, OptionProtocol, ResetProtocol, OptionClash, IncludeCount, ExtensionHeader, NameLength, NameClash, Unsupported, TooManyEntries, TooManyPrefixes, Shaded}
 use Rattle.acl_text.specs.declared.faults.Fault.{Fault}
 
 -- The number and the name of a fault, as docs/LANGUAGE.md lists them.
@@ -41,6 +41,7 @@ code_text NameClash = codes "F42 NameClash"
 code_text Unsupported = codes "F43 Unsupported"
 code_text TooManyEntries = codes "F44 TooManyEntries"
 code_text TooManyPrefixes = codes "F45 TooManyPrefixes"
+code_text Shaded = codes "F50 Shaded"
 
 -- the line's number, where there is a line
 abbrev pub line_text : ℕ → List ℕ

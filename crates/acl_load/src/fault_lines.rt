@@ -48,6 +48,7 @@ fn code_text(code: Code) -> &'static str
         Code::Unsupported => "F43 Unsupported",
         Code::TooManyEntries => "F44 TooManyEntries",
         Code::TooManyPrefixes => "F45 TooManyPrefixes",
+        Code::Shaded => "F50 Shaded",
     }
 }
 

@@ -85,6 +85,8 @@ pub enum Code {
     TooManyEntries,
     /// The address lists of a filter would have more prefixes than the limit.
     TooManyPrefixes,
+    /// An earlier term of its block decides all that a term decides.
+    Shaded,
 }
 
 /// A fault of the input by the number of its file: what is wrong, where, and the word in error.
