@@ -1,0 +1,4 @@
+pub mod FamilyLaws
+pub mod ShadingLaws
+pub mod PlaceLaws
+pub mod DeletionLaws

@@ -1,0 +1,3 @@
+pub mod Shading
+pub mod ComputableShading
+pub mod Deletions

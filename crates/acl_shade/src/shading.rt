@@ -1,0 +1,241 @@
+ghost use Rattle.std.specs.Prelude.{◌≡◌, ℕ, ◌<◌, ◌&&◌, ◌||◌, IfNone, IfSome, length, not, option_map};
+ghost use Rattle.std.specs.List.{list_all, list_any, position};
+ghost use Rattle.acl_sets.specs.ComputableSets.{covers};
+ghost use Rattle.acl_terms.specs.Matching.{foreign_of};
+ghost use Rattle.acl_terms.specs.Resolved.{destination_in, source_in, is_term_live};
+ghost use Rattle.acl_shade.specs.ComputableShading.{
+  fits_in,
+  has_above,
+  has_below,
+  has_others,
+  is_live_where,
+  lies_within,
+  lies_within_in,
+  lies_within_in_each,
+  numbers_within,
+  option_covers,
+  protocols_within,
+  shaded_by,
+  shades,
+  shading_term,
+};
+ghost use Rattle.acl_shade.specs.Shading.{IsShadedBy, ShadesAt};
+
+use acl_host::Day;
+use acl_packet::Family;
+use acl_sets::{Range, RangeSet};
+use acl_target::Target;
+use acl_terms::{Opt, Term, is_empty_in, is_live};
+
+// ---- ports, types and options
+
+fn dports_within(earlier: &Term, term: &Term) -> bool
+    ensures { result ≡ lies_within term.now.dports earlier.now.dports }
+{
+    term.dports.subset_of(&earlier.dports)
+}
+
+fn sports_within(earlier: &Term, term: &Term) -> bool
+    ensures { result ≡ lies_within term.now.sports earlier.now.sports }
+{
+    term.sports.subset_of(&earlier.sports)
+}
+
+fn types_within(earlier: &Term, term: &Term) -> bool
+    ensures { result ≡ lies_within term.now.itypes earlier.now.itypes }
+{
+    term.itypes.subset_of(&earlier.itypes)
+}
+
+// Destination ports come first, since most terms differ there.
+fn numbers_within(earlier: &Term, term: &Term) -> bool
+    ensures { result ≡ numbers_within earlier.now term.now }
+{
+    dports_within(earlier, term) && sports_within(earlier, term) && types_within(earlier, term)
+}
+
+fn option_covers(earlier: &Term, term: &Term) -> bool
+    ensures { result ≡ option_covers earlier.now.option earlier.now.dport_named
+        term.now.option term.now.dport_named }
+{
+    match (earlier.option, term.option) {
+        (Opt::Plain, _) => true,
+        (Opt::Established, Opt::Established) => earlier.dport_named || !term.dport_named,
+        (Opt::TcpEstablished, Opt::TcpEstablished) => true,
+        (Opt::TcpInitial, Opt::TcpInitial) => true,
+        (Opt::Rst, Opt::Rst) => true,
+        (_, _) => false,
+    }
+}
+
+// ---- addresses and protocols
+
+// The number of the other family's ICMP.
+fn foreign_of(family: Family) -> u8
+    ensures { result ≡ foreign_of family }
+{
+    match family {
+        Family::V4 => 58,
+        Family::V6 => 1,
+    }
+}
+
+fn source_in(family: Family, term: &Term) -> &RangeSet
+    ensures { result.now ≡ source_in family term.now }
+{
+    match family {
+        Family::V4 => &term.src4,
+        Family::V6 => &term.src6,
+    }
+}
+
+fn destination_in(family: Family, term: &Term) -> &RangeSet
+    ensures { result.now ≡ destination_in family term.now }
+{
+    match family {
+        Family::V4 => &term.dst4,
+        Family::V6 => &term.dst6,
+    }
+}
+
+fn source_within(family: Family, earlier: &Term, term: &Term) -> bool
+    ensures { result ≡ lies_within (source_in family term.now) (source_in family earlier.now) }
+{
+    source_in(family, term).subset_of(source_in(family, earlier))
+}
+
+fn destination_within(family: Family, earlier: &Term, term: &Term) -> bool
+    ensures { result ≡ lies_within (destination_in family term.now)
+        (destination_in family earlier.now) }
+{
+    destination_in(family, term).subset_of(destination_in(family, earlier))
+}
+
+fn covers(ranges: &[Range], low: u128, high: u128) -> bool
+    ensures { result ≡ covers ranges.now low high }
+{
+    ranges.iter().any(|r| r.low <= low && high <= r.high)
+}
+
+fn has_below(number: u8, ranges: &[Range], range: &Range) -> bool
+    ensures { result ≡ has_below number ranges.now range.now }
+{
+    let number = u128::from(number);
+    number <= range.low || covers(ranges, range.low, range.high.min(number - 1))
+}
+
+fn has_above(number: u8, ranges: &[Range], range: &Range) -> bool
+    ensures { result ≡ has_above number ranges.now range.now }
+{
+    let number = u128::from(number);
+    range.high <= number || covers(ranges, range.low.max(number + 1), range.high)
+}
+
+// Whether the numbers of the range are among the ranges, but for the one number, which is not asked.
+fn has_others(number: u8, ranges: &[Range], range: &Range) -> bool
+    ensures { result ≡ has_others number ranges.now range.now }
+{
+    has_below(number, ranges, range) && has_above(number, ranges, range)
+}
+
+fn all_have_others(number: u8, ranges: &[Range], others: &[Range]) -> bool
+    ensures { result ≡ list_all (has_others number ranges.now) others.now }
+{
+    others.iter().all(|r| has_others(number, ranges, r))
+}
+
+fn protocols_within(family: Family, earlier: &Term, term: &Term) -> bool
+    ensures { result ≡ protocols_within family earlier.now term.now }
+{
+    earlier.protos.is_all()
+        || !term.protos.is_all()
+            && all_have_others(
+                foreign_of(family),
+                earlier.protos.ranges(),
+                term.protos.ranges(),
+            )
+}
+
+fn lies_within_in(family: Family, earlier: &Term, term: &Term) -> bool
+    ensures { result ≡ lies_within_in family earlier.now term.now }
+{
+    source_within(family, earlier, term)
+        && destination_within(family, earlier, term)
+        && protocols_within(family, earlier, term)
+}
+
+fn fits_in(family: Family, earlier: &Term, term: &Term) -> bool
+    ensures { result ≡ fits_in family earlier.now term.now }
+{
+    is_empty_in(term, family) || lies_within_in(family, earlier, term)
+}
+
+fn lies_within_in_each(earlier: &Term, term: &Term) -> bool
+    ensures { result ≡ lies_within_in_each earlier.now term.now }
+{
+    !(is_empty_in(term, Family::V4) && is_empty_in(term, Family::V6))
+        && (fits_in(Family::V4, earlier, term) && fits_in(Family::V6, earlier, term))
+}
+
+// ---- life
+
+fn is_live_on_some(targets: &[Target], today: Day, term: &Term) -> bool
+    ensures { result ≡ list_any (λ g. is_term_live term.now g.kind today) targets.now }
+{
+    targets.iter().any(|g| is_live(term, g.kind, today))
+}
+
+fn follows_life(targets: &[Target], today: Day, earlier: &Term, term: &Term) -> bool
+    ensures { result ≡ list_all (λ g. not (is_term_live term.now g.kind today)
+        || is_term_live earlier.now g.kind today) targets.now }
+{
+    targets.iter().all(|g| !is_live(term, g.kind, today) || is_live(earlier, g.kind, today))
+}
+
+fn is_live_where(targets: &[Target], today: Day, earlier: &Term, term: &Term) -> bool
+    ensures { result ≡ is_live_where targets.now today earlier.now term.now }
+{
+    is_live_on_some(targets, today, term) && follows_life(targets, today, earlier, term)
+}
+
+// ---- shading
+
+// What tells most terms apart is asked first.
+#[tactic(auto, unfolding(crate::specs::ComputableShading::shades))]
+fn shades(targets: &[Target], today: Day, earlier: &Term, term: &Term) -> bool
+    ensures { result ≡ shades targets.now today earlier.now term.now }
+{
+    numbers_within(earlier, term)
+        && option_covers(earlier, term)
+        && (lies_within_in_each(earlier, term) && is_live_where(targets, today, earlier, term))
+}
+
+fn first_shading(targets: &[Target], today: Day, earlier: &[Term], term: &Term) -> Option<usize>
+    ensures { result ≡ position (λ i. shades targets.now today i term.now) earlier.now }
+{
+    earlier.iter().position(|t| shades(targets, today, t, term))
+}
+
+/// The place of the first term before this place that shades the term there: one that decides each packet, on each of
+/// the block's targets, that the term would. Two terms that only do so together are none.
+pub fn shaded_by(terms: &[Term], targets: &[Target], today: Day, place: usize) -> Option<usize>
+    requires { place < length terms.now }
+    ensures some { IfSome result (λ k. IsShadedBy targets.now today terms.now place k) }
+    ensures none { IfNone result ((k : ℕ) → ShadesAt targets.now today terms.now k place → ⊥) }
+    ensures computed { result ≡ shaded_by targets.now today terms.now place }
+{
+    first_shading(targets, today, &terms[..place], &terms[place])
+}
+
+/// The term at that place.
+pub fn shading_term<'a>(
+    terms: &'a [Term],
+    targets: &[Target],
+    today: Day,
+    place: usize,
+) -> Option<&'a Term>
+    requires { place < length terms.now }
+    ensures { option_map (λ t. t.now) result ≡ shading_term targets.now today terms.now place }
+{
+    terms.get(shaded_by(terms, targets, today, place)?)
+}
