@@ -1,1 +1,4 @@
 pub mod TakenFilters
+pub mod LeftLaws
+pub mod FewerRulesLaws
+pub mod ShortListsLaws

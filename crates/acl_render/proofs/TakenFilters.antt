@@ -1,5 +1,5 @@
 -- What each platform's own contract asks of the filters that are rendered.
-use Rattle.std.proofs.Common.{◌≡◌, ◌≢◌, ℕ, ◌≤◌, ◌==◌, false, List, [], ◌∷◌, map, length, ap, sym, subst, ◌∙◌, arith}
+use Rattle.std.proofs.Common.{◌≡◌, ◌≢◌, ◌≤◌, ◌==◌, false, List, [], ◌∷◌, map, ap, sym, subst, ◌∙◌, arith}
 use Rattle.std.specs.List.{All, AllByRecursion, AllPairs, IsDistinct}
 use Rattle.std.proofs.lemmas.List.Elements.{All-cons, All-nil, All-weaker, recursion_from_All}
 use Rattle.std.proofs.lemmas.List.Kept.{AllPairs-cons}

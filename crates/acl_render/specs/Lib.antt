@@ -1,1 +1,3 @@
 pub mod PlatformFiles
+pub mod FewerRules
+pub mod ShortLists

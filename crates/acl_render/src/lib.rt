@@ -1,10 +1,12 @@
 //! The file of each platform: filters in, the text that the platform's language accepts out.
 #![tactic(auto)]
 
+mod laws;
 mod platforms;
 mod rendering;
 #[cfg(test)]
 mod tests;
 
+pub use laws::{fewer_rules_fit, taken_filters_are_short};
 pub use platforms::check;
 pub use rendering::render;

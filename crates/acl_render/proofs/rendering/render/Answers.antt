@@ -1,7 +1,7 @@
 use Rattle.std.proofs.Common.{false, subst}
 use Rattle.std.specs.List.{All}
 use Rattle.acl_target.specs.declared.targets.Kind.{Kind}
-use Rattle.acl_target.specs.declared.targets.Kind.TheVariants.{Cisco, Juniper, Iptables, Nftables}
+use Rattle.acl_target.specs.declared.targets.Kind.TheVariants.{Cisco}
 use Rattle.gen_cisco.proofs.ListNames.{all-differ}
 use Rattle.gen_junos.proofs.NameLaws as junos
 use Rattle.gen_iptables.proofs.NameLaws as ipt

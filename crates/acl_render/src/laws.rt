@@ -1,0 +1,14 @@
+ghost use Rattle.acl_render.specs.FewerRules.{FewerRulesFit};
+ghost use Rattle.acl_render.specs.ShortLists.{TakenFiltersAreShort};
+
+/// A law: where a platform takes a filter, it takes the filter with some of its rules taken out, as
+/// long as a rule of each family stays that had one.
+pub fn fewer_rules_fit()
+    ensures { FewerRulesFit }
+{}
+
+/// A law: of a filter that a platform takes, no rule's sources or destinations can be said by fewer
+/// prefixes, and it has at most 100,000 entries there.
+pub fn taken_filters_are_short()
+    ensures { TakenFiltersAreShort }
+{}
