@@ -1,9 +1,10 @@
 -- The options of some words, and what the words ask for, are the same.
 use Prim.Native.Nat.{zero, suc}
-use Rattle.std.proofs.Common.{◌≡◌, ◌∙◌, ◌<◌, ◌==◌, ℕ, true, false, List, [], ◌∷◌, length, nat_eq, codes, Option, None, Some, option_and_then, option_map, Result, IfOk, refl, ap, sym, subst, arith}
-use Rattle.std.specs.Prelude.{IfSome, IfNone, IsSomeAnd}
+use Rattle.std.proofs.Common.{◌≡◌, ◌∙◌, ◌<◌, ◌==◌, ℕ, Bool, true, false, List, [], ◌∷◌, length, nat_eq, codes, Option, None, Some, option_and_then, option_map, Result, IfOk, refl, ap, sym, subst, arith}
+use Rattle.std.specs.Prelude.{IfSome, IfNone, IsSomeAnd, IsTrue, ◌↔◌}
+use Rattle.std.proofs.lemmas.Slice.Eq.{bytes_eq-Decides}
 use Rattle.std.specs.List.{ends_with}
-use Rattle.std.proofs.lemmas.Bool.{ne_eqb}
+use Rattle.std.proofs.lemmas.Bool.{false≢true, ne_eqb}
 use Rattle.std.proofs.lemmas.Option.{none-some, option_and_then_some, same_Some}
 use Rattle.std.proofs.lemmas.Result.{IfOk-weaker}
 use Rattle.clap.specs.Words.{Kinds, Row, fault_of, matches_of}
@@ -12,10 +13,10 @@ use Rattle.acl_packet.proofs.ChoiceLaws.{guarded, refused}
 use Rattle.acl_packet.proofs.DecimalLaws.{number-in, number-is}
 use Rattle.acl_host.specs.declared.clocks.Day.{Day}
 use Rattle.acl_host.specs.NamedDays.{day_named}
-use Rattle.acl_options.specs.ComputableOptions.{date_in, date_named, definitions_in, file_named, folder_named, is_none, is_taken, options_in, options_of, output_in, policy_in, weeks_in}
+use Rattle.acl_options.specs.ComputableOptions.{date_in, date_named, definitions_in, file_named, folder_named, is_none, is_taken, is_true_text, options_in, options_of, output_in, policy_in, shade_check_in, weeks_in}
 use Rattle.acl_options.specs.CodeViews.{options_view}
 use Rattle.acl_options.specs.declared.options.Options.{Options as CodeOptions}
-use Rattle.acl_options.specs.CommandLines.{AsksFor, IsDate, IsFile, IsFolder, IsWeeks, Options, command, value_of}
+use Rattle.acl_options.specs.CommandLines.{AsksFor, IsDate, IsFile, IsFlag, IsFolder, IsWeeks, Options, command, value_of}
 use Rattle.acl_options.proofs.NamedDates.{named-text, text-named}
 
 -- ---- one value
@@ -62,6 +63,22 @@ named-weeks : (text : Option (List ℕ)) (n : ℕ) → IsSomeAnd text (IsWeeks n
 named-weeks None n w = absurd w
 named-weeks (Some text) n w = number-in 520 n text w.0 w.1
 
+flag-set : (text : Option (List ℕ)) → IsFlag (is_true_text text) text
+flag-set None = (λ t. absurd (false≢true t), λ e. absurd (none-some (codes "true") e))
+flag-set (Some text) =
+    let is = bytes_eq-Decides text (codes "true") in
+    (λ t. ap Some (is.0 t), λ e. is.1 (same_Some text (codes "true") e))
+
+-- two tests of one fact are the same
+same-test : (a b : Bool) (P : Type 0) → (IsTrue a ↔ P) → (IsTrue b ↔ P) → a ≡ b
+same-test true true P p q = refl
+same-test true false P p q = absurd (false≢true (q.1 (p.0 refl)))
+same-test false true P p q = absurd (false≢true (p.1 (q.0 refl)))
+same-test false false P p q = refl
+
+set-flag : (text : Option (List ℕ)) (is_set : Bool) → IsFlag is_set text → is_true_text text ≡ is_set
+set-flag text is_set f = same-test (is_true_text text) is_set (text ≡ Some (codes "true")) (flag-set text) f
+
 -- ---- a value among the rows
 
 file-in : (text : Option (List ℕ)) (path : List ℕ) → option_and_then file_named text ≡ Some path → (text ≡ Some path) × IsFile path
@@ -90,7 +107,7 @@ rows_of_words words = matches_of command words
 asked-parts : (words : List (List ℕ)) (policy definitions output : List ℕ) (date : Option Day) (exp_info : ℕ) → is_taken words ≡ true
     → policy_in (rows_of_words words) ≡ Some policy → definitions_in (rows_of_words words) ≡ Some definitions
     → output_in (rows_of_words words) ≡ Some output → date_in (rows_of_words words) ≡ Some date → weeks_in (rows_of_words words) ≡ Some exp_info
-    → AsksFor words (record { policy = policy; definitions = definitions; output = output; date = date; exp_info = exp_info })
+    → AsksFor words (record { policy = policy; definitions = definitions; output = output; date = date; exp_info = exp_info; shade_check = shade_check_in (rows_of_words words) })
 asked-parts words policy definitions output date exp_info taken p d o t w =
     let file = file-in (value_of words (codes "policy_file")) policy p in
     let folder = folder-in (value_of words (codes "definitions_directory")) definitions d in
@@ -105,6 +122,7 @@ asked-parts words policy definitions output date exp_info taken p d o t w =
       output_stands = target.1;
       date = date-named (value_of words (codes "date")) date t;
       exp_info = weeks-named (value_of words (codes "exp_info")) exp_info w;
+      shade_check = flag-set (value_of words (codes "shade_check"));
     }
 
 pub asked : (words : List (List ℕ)) (o : Options) → options_of words ≡ Some o → AsksFor words o
@@ -129,6 +147,7 @@ answered words o a =
       in-folder (value_of words (codes "output_directory")) o.output a.output a.output_stands,
       named-date (value_of words (codes "date")) o.date a.date,
       named-weeks (value_of words (codes "exp_info")) o.exp_info a.exp_info,
+      set-flag (value_of words (codes "shade_check")) o.shade_check a.shade_check,
     ) refl
 
 pub one_list : (words : List (List ℕ)) (a b : Options) → AsksFor words a → AsksFor words b → a ≡ b

@@ -1,3 +1,4 @@
 mod AskingLaws
 mod CommandLineLaws
 mod NamedDates
+mod WorkloadLaws

@@ -1,5 +1,5 @@
 -- A word names a day exactly where it is the day's text.
-use Rattle.std.proofs.Common.{◌≡◌, ℕ, ℤ, pos, negsuc, Bool, true, false, List, Option, None, Some, ap, subst, sym}
+use Rattle.std.proofs.Common.{◌≡◌, ℕ, ℤ, pos, negsuc, Bool, true, false, List, Some, ap, subst, sym}
 use Rattle.std.specs.Prelude.{◌≤ℤ◌, T}
 use Rattle.std.specs.Int.Signed.{le_z, le_z_yes}
 use Rattle.std.proofs.lemmas.Option.{none-some, option_and_then_some, same_Some}

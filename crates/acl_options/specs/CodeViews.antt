@@ -9,4 +9,5 @@ options_view o = record {
   output = o.output.now;
   date = o.date;
   exp_info = o.exp_info;
+  shade_check = o.shade_check;
 }

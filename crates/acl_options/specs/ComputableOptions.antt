@@ -3,6 +3,7 @@ use Rattle.std.specs.Prelude.{ℕ, Bool, true, false, not, ◌==◌, if◌then�
 use Rattle.std.specs.Prelude.{length, codes, nat_eq, Option, None, Some, is_some}
 use Rattle.std.specs.Prelude.{option_and_then}
 use Rattle.std.specs.List.{ends_with}
+use Rattle.std.specs.Str.{bytes_eq}
 use Rattle.clap.specs.Words.{Kinds, Row, fault_of, first_of, matches_of}
 use Rattle.acl_packet.specs.Decimals.{number_in}
 use Rattle.acl_text.specs.OptionSteps.{◌>>=◌}
@@ -46,6 +47,14 @@ date_in rows = date_named (first_of (codes "date") rows)
 abbrev pub weeks_in : List Row → Option ℕ
 weeks_in rows = option_and_then (number_in 520) (first_of (codes "exp_info") rows)
 
+-- clap finds `true` for a flag that is given
+abbrev pub is_true_text : Option (List ℕ) → Bool
+is_true_text None = false
+is_true_text (Some text) = bytes_eq text (codes "true")
+
+abbrev pub shade_check_in : List Row → Bool
+shade_check_in rows = is_true_text (first_of (codes "shade_check") rows)
+
 unfoldable pub options_in : List Row → Option Options
 options_in rows = do
   policy ← policy_in rows
@@ -59,6 +68,7 @@ options_in rows = do
     output = output;
     date = date;
     exp_info = exp_info;
+    shade_check = shade_check_in rows;
   })
 
 -- What the words ask for, where they are a command line.

@@ -1,3 +1,4 @@
 pub mod CodeViews
 pub mod CommandLines
 pub mod ComputableOptions
+pub mod WorkloadWords

@@ -4,6 +4,7 @@ ghost use Rattle.acl_options.specs.CommandLines.{
   command,
   command_with,
   defaulted_option,
+  flag_option,
   required_option,
   value_option,
 };
@@ -33,6 +34,14 @@ fn defaulted_option<'a>(alloc: Global, name: &'a str, value: &'a str) -> Arg<'a>
     value_option(alloc, name).default_value(value)
 }
 
+// The option `--NAME`, without a value.
+fn flag_option(alloc: Global, name: &str) -> Arg<'_>
+    ensures rule { rule_of result ≡ flag_option name.now }
+    ensures local { result.global ≡ false }
+{
+    Arg::new(alloc, name).long(name).action(ArgAction::SetTrue)
+}
+
 // The command without options.
 fn bare_command<'a>(alloc: Global) -> Command<'a>
     ensures { app_of result ≡ command_with [] }
@@ -52,5 +61,6 @@ pub fn command<'a>(alloc: Global) -> Result<Command<'a>, AllocError>
         .arg(required_option(alloc, "definitions_directory"))?
         .arg(required_option(alloc, "output_directory"))?
         .arg(value_option(alloc, "date"))?
-        .arg(defaulted_option(alloc, "exp_info", "2"))
+        .arg(defaulted_option(alloc, "exp_info", "2"))?
+        .arg(flag_option(alloc, "shade_check"))
 }

@@ -12,6 +12,7 @@ ghost use Rattle.acl_options.specs.ComputableOptions.{
   options_of,
   output_in,
   policy_in,
+  shade_check_in,
   weeks_in,
 };
 ghost use Rattle.acl_host.specs.NamedDays.{day_named};
@@ -37,6 +38,8 @@ pub struct Options<'a> {
     pub date: Option<Day>,
     /// For how many weeks ahead the end of a term is told, 0 to 520.
     pub exp_info: u16,
+    /// Whether a shaded term is a fault.
+    pub shade_check: bool,
 }
 
 // The value of an option.
@@ -101,6 +104,15 @@ fn weeks_in(matches: &ArgMatches<'_>) -> Option<u16>
     read_u16(value_of(matches, "exp_info")?.as_bytes(), 520)
 }
 
+fn shade_check_in(matches: &ArgMatches<'_>) -> bool
+    ensures { result ≡ shade_check_in (rows_of (found_of matches.now)) }
+{
+    match value_of(matches, "shade_check") {
+        Some(text) => text == "true",
+        None => false,
+    }
+}
+
 #[tactic(auto, unfolding(crate::specs::ComputableOptions::options_in))]
 fn options_in<'a>(matches: &ArgMatches<'a>) -> Option<Options<'a>>
     ensures { option_map options_view result ≡ options_in (rows_of (found_of matches.now)) }
@@ -111,6 +123,7 @@ fn options_in<'a>(matches: &ArgMatches<'a>) -> Option<Options<'a>>
         output: output_in(matches)?,
         date: date_in(matches)?,
         exp_info: weeks_in(matches)?,
+        shade_check: shade_check_in(matches),
     })
 }
 
@@ -134,11 +147,12 @@ fn options_for(alloc: Global, words: &[String]) -> Result<Option<Options<'_>>, M
 }
 
 /// What the words behind the program's name ask for, or none where they are no command line:
-/// `--policy_file P --definitions_directory D --output_directory O [--date YYYY-MM-DD] [--exp_info N]`.
+/// `--policy_file P --definitions_directory D --output_directory O [--date YYYY-MM-DD] [--exp_info N] [--shade_check]`.
 ///
 /// The words are read as clap reads those of a command with these options, and clap's messages are not told. `P`, `D`
 /// and `O` are not empty, `P` does not end in `/`, the date is a day of the years 0001 to 9999, and `N` is a number from
-/// 0 to 520 in decimal digits, 2 where it is not given. Memory may be wanted for the parse.
+/// 0 to 520 in decimal digits, 2 where it is not given. The flag is set where it is given, once and without a value.
+/// Memory may be wanted for the parse.
 pub fn read_options(alloc: Global, words: &[String]) -> Result<Option<Options<'_>>, Memory>
     ensures some { IfOk result (λ options. IfSome options (λ o.
         AsksFor (map string_bytes words.now) (options_view o))) }

@@ -1,4 +1,4 @@
-use crate::read_options;
+use crate::{read_options, read_workload};
 use std::alloc::{AllocError, Global};
 use std::test::Fail;
 
@@ -152,7 +152,7 @@ fn lines_are_read(rt: HostRuntime) -> Result<(), Fail> {
 }
 
 // Days since 1970-01-01, as GNU date counts them, and the weeks.
-static MORE: [(&str, Option<(Option<i32>, u16)>); 38] = [
+static MORE: [(&str, Option<(Option<i32>, u16)>); 37] = [
     ("", Some((None, 2))),
     (" --", Some((None, 2))),
     (" --date 2026-01-15", Some((Some(20468), 2))),
@@ -188,7 +188,6 @@ static MORE: [(&str, Option<(Option<i32>, u16)>); 38] = [
     (" -h", None),
     (" --version", None),
     (" -V", None),
-    (" --shade_check", None),
     (" --workload 3", None),
     (" -", None),
 ];
@@ -204,6 +203,69 @@ fn days_and_weeks_are_read(rt: HostRuntime) -> Result<(), Fail> {
             options.map(|o| (o.date.map(|day| day.number), o.exp_info)) == *asked,
             "{more}"
         );
+    }
+    Ok(())
+}
+
+// What clap's documentation says of a flag: it is set where it is given, once and without a value.
+static FLAGS: [(&str, Option<bool>); 13] = [
+    ("", Some(false)),
+    (" --shade_check", Some(true)),
+    (" --shade_check --date 2026-01-15", Some(true)),
+    (" --exp_info 3 --shade_check --", Some(true)),
+    (" --shade_check --shade_check", None),
+    (" --shade_check=true", None),
+    (" --shade_check=false", None),
+    (" --shade_check=", None),
+    (" --shade_check x", None),
+    (" --shade_check true", None),
+    (" --exp_info --shade_check", None),
+    (" --shade-check", None),
+    (" -- --shade_check", None),
+];
+
+#[test]
+fn the_flag_is_read(rt: HostRuntime) -> Result<(), Fail> {
+    for (more, is_set) in &FLAGS {
+        let files = " --policy_file a.pol --definitions_directory def --output_directory out";
+        let line = format!(in rt.alloc(); "{files}{more}")?;
+        let words = words_of(rt.alloc(), line.as_str())?;
+        let options = read_options(rt.alloc(), words.as_slice())?;
+        assert!(rt; options.map(|o| o.shade_check) == *is_set, "{more}");
+    }
+    Ok(())
+}
+
+static WORKLOADS: [(&str, Option<u32>); 22] = [
+    (" --workload 1", Some(1)),
+    (" --workload 2", Some(2)),
+    (" --workload 1024", Some(1024)),
+    (" --workload 0", None),
+    (" --workload 01", None),
+    (" --workload 1025", None),
+    (" --workload 10240", None),
+    (" --workload 18446744073709551617", None),
+    (" --workload ", None),
+    (" --workload", None),
+    (" --workload +1", None),
+    (" --workload -1", None),
+    (" --workload 1.0", None),
+    (" --workload 0x1", None),
+    (" --workload 1 2", None),
+    (" --workload 1 --workload 1", None),
+    (" --workload=2", None),
+    (" -workload 2", None),
+    (" --Workload 2", None),
+    (" 2 --workload", None),
+    (" -- --workload 2", None),
+    ("", None),
+];
+
+#[test]
+fn workloads_are_read(rt: HostRuntime) -> Result<(), Fail> {
+    for (line, asked) in &WORKLOADS {
+        let words = words_of(rt.alloc(), line)?;
+        assert!(rt; read_workload(words.as_slice()) == *asked, "{line}");
     }
     Ok(())
 }

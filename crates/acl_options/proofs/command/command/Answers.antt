@@ -16,4 +16,5 @@ returns c =
     let second = added _ _ _ _ _ c.in_ok-arg-2.ensures c.required_option-2.ensures.local first c.required_option-2.ensures.rule in
     let third = added _ _ _ _ _ c.in_ok-arg-3.ensures c.required_option-3.ensures.local second c.required_option-3.ensures.rule in
     let fourth = added _ _ _ _ _ c.in_ok-arg-4.ensures c.value_option.ensures.local third c.value_option.ensures.rule in
-    IfOk-weaker c.arg-5.result _ _ (λ new adds. added _ new _ _ _ adds c.defaulted_option.ensures.local fourth c.defaulted_option.ensures.rule) c.arg-5.ensures
+    let fifth = added _ _ _ _ _ c.in_ok-arg-5.ensures c.defaulted_option.ensures.local fourth c.defaulted_option.ensures.rule in
+    IfOk-weaker c.arg-6.result _ _ (λ new adds. added _ new _ _ _ adds c.flag_option.ensures.local fifth c.flag_option.ensures.rule) c.arg-6.ensures

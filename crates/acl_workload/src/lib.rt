@@ -1,0 +1,11 @@
+//! The texts of a test load for the program.
+#![tactic(auto)]
+
+mod lines;
+#[cfg(test)]
+mod tests;
+mod texts;
+mod workloads;
+
+pub use texts::Workload;
+pub use workloads::workload;
