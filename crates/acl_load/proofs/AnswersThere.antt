@@ -31,7 +31,7 @@ use Rattle.acl_load.specs.declared.adding.Kind.{Kind}
 use Rattle.acl_load.specs.declared.adding.Kind.TheVariants.{Networks, Services}
 use Rattle.acl_load.specs.declared.policy_loading.Loaded.{Loaded}
 use Rattle.acl_load.specs.declared.policy_texts.PolicyText.{PolicyText}
-use Rattle.acl_load.specs.LoadedPolicies.{AnswersAreThere, AreResolved, AreResolvedIn, GoesOn, LoadsPolicy, Resolves, ResolvesWith, blocks_slip, policy_at, policy_in, terms_slip}
+use Rattle.acl_load.specs.LoadedPolicies.{AnswersAreThere, AreResolved, AreResolvedIn, GoesOn, IsLoadedFrom, LoadedPoliciesStand, LoadedStands, LoadsPolicy, Resolves, ResolvesWith, blocks_slip, policy_at, policy_in, terms_slip}
 use Rattle.acl_load.specs.Loading.{AnswersWith, Loads, MOST_FILES, all_of, both_kinds, definitions_of, fault_of, naming_file, naming_paths, net_paths, no_definitions, or_fault, svc_paths, with_file}
 use Rattle.acl_load.proofs.DefinitionsThere.{loads-there}
 
@@ -178,3 +178,36 @@ answer-there folder path files = by (loads-there folder files).0 (loads-there fo
         let text = text-there n (policy_at path files) some (text-fits path files) in
         (text.0, (Ok n, l, text.1))
     by (Err f) l = (Err f, (Err f, l, refl))
+
+-- ---- what is loaded
+
+stands : (n : Naming) (text : PolicyText) (loaded : Loaded) → Fits text → blocks_slip n text.policy.blocks ≡ None
+    → IsLoadedFrom n text loaded → LoadedStands loaded
+stands n text loaded fits clean h = record {
+  policy_fits = subst IsPolicy (sym h.policy_is) fits;
+  no_slip = subst (λ (d : Naming). blocks_slip d loaded.policy.blocks ≡ None) (sym h.definitions_are)
+      (subst (λ (p : Policy). blocks_slip n p.blocks ≡ None) (sym h.policy_is) clean);
+  resolved = subst (λ (d : Naming). AreResolvedIn d loaded.policy.blocks loaded.terms) (sym h.definitions_are)
+      (subst (λ (p : Policy). AreResolvedIn n p.blocks loaded.terms) (sym h.policy_is) h.terms_are);
+}
+
+resolved-stands : (n : Naming) (text : PolicyText) (loaded : Loaded) → Fits text → Resolves n text (Ok loaded) → LoadedStands loaded
+resolved-stands n text loaded fits h = by (blocks_slip n text.policy.blocks) refl h
+  where
+    by : (o : Option Slip) → blocks_slip n text.policy.blocks ≡ o → ResolvesWith o n text (Ok loaded) → LoadedStands loaded
+    by (Some s) e r = absurd (ok-no-err r)
+      where
+        ok-no-err : Ok loaded ≡ Err (fault_of text.sources.labels s) → ⊥
+        ok-no-err q = cc
+    by None e r = stands n text loaded fits e r
+
+text-stands : (n : Naming) (read : Result PolicyText Fault) (loaded : Loaded) → IfOk read Fits → GoesOn (Resolves n) read (Ok loaded) → LoadedStands loaded
+text-stands n (Ok text) loaded fits h = resolved-stands n text loaded fits h
+text-stands n (Err f) loaded fits h = let e : Ok loaded ≡ Err f = h in absurd cc
+
+pub loaded-stands : LoadedPoliciesStand
+loaded-stands folder path files loaded h = by h.0 h.2
+  where
+    by : (definitions : Result Naming Fault) → GoesOn (λ n. GoesOn (Resolves n) (policy_at path files)) definitions (Ok loaded) → LoadedStands loaded
+    by (Ok n) r = text-stands n (policy_at path files) loaded (text-fits path files) r
+    by (Err f) r = let e : Ok loaded ≡ Err f = r in absurd cc

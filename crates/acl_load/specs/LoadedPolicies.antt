@@ -12,6 +12,7 @@ use Rattle.acl_words.specs.Words.{words_of}
 use Rattle.acl_policy.specs.declared.blocks.Block.{Block}
 use Rattle.acl_policy.specs.declared.blocks.Policy.{Policy}
 use Rattle.acl_policy.specs.declared.raw_terms.RawTerm.{RawTerm}
+use Rattle.acl_policy.specs.Conditions.{IsPolicy}
 use Rattle.acl_policy.specs.Policies.{policy_of}
 use Rattle.acl_terms.specs.declared.terms.Term.{Term}
 use Rattle.acl_terms.specs.Resolved.{IsResolved}
@@ -81,6 +82,12 @@ LoadsPolicy folder path files answer =
     (definitions : Result Naming Fault) × Loads folder files definitions
     × GoesOn (λ naming. GoesOn (Resolves naming) (policy_at path files)) definitions answer
 
+-- What holds of all that is loaded: the policy is one, no term of it has a slip, and each is resolved.
+pub record LoadedStands (loaded : Loaded) : Type 0 where
+  pub policy_fits : IsPolicy loaded.policy
+  pub no_slip : blocks_slip loaded.definitions loaded.policy.blocks ≡ None
+  pub resolved : AreResolvedIn loaded.definitions loaded.policy.blocks loaded.terms
+
 -- ---- laws
 
 -- There is at most one answer.
@@ -97,3 +104,8 @@ DefinitionsAreThere =
 abbrev pub AnswersAreThere : Type 0
 AnswersAreThere = (folder path : List ℕ) (files : List File)
     → (answer : Result Loaded Fault) × LoadsPolicy folder path files answer
+
+-- What is loaded stands, whatever the files hold.
+abbrev pub LoadedPoliciesStand : Type 0
+LoadedPoliciesStand = (folder path : List ℕ) (files : List File) (loaded : Loaded)
+    → LoadsPolicy folder path files (Ok loaded) → LoadedStands loaded

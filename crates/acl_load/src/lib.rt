@@ -16,7 +16,7 @@ mod slips;
 mod tests;
 
 pub use fault_lines::put_fault;
-pub use laws::{answers_are_one, answers_are_there, definitions_are_there};
+pub use laws::{answers_are_one, answers_are_there, definitions_are_there, loaded_policies_stand};
 pub use load_faults::LoadFault;
 pub use loading::load_definitions;
 pub use policy_loading::{Loaded, TermLists, Terms, load};
