@@ -1,5 +1,6 @@
 -- The report on standard output: what is told of the terms of a policy, and the counts of its filters.
 use Rattle.std.specs.Prelude.{ℕ, ◌*◌, ℤ, pos, ◌+ℤ◌, Bool, not, ◌&&◌, if◌then◌else◌, List, [], ◌++◌, zip, flat_map, slice_index_or, codes, decimal, Option, None, Some}
+use Rattle.std.specs.List.{enumerate_from}
 use Rattle.std.specs.Int.Signed.{le_z, lt_z}
 use Rattle.acl_packet.specs.declared.addresses.Families.{Families}
 use Rattle.acl_packet.specs.declared.addresses.Families.TheVariants.{Inet, Inet6, Mixed}
@@ -11,6 +12,7 @@ use Rattle.acl_target.specs.TargetTexts.{target_text}
 use Rattle.acl_policy.specs.declared.blocks.Block.{Block}
 use Rattle.acl_terms.specs.declared.terms.Term.{Term}
 use Rattle.acl_terms.specs.Resolved.{is_empty_in, is_term_live}
+use Rattle.acl_shade.specs.ComputableShading.{shading_term}
 use Rattle.acl_load.specs.declared.policy_loading.Loaded.{Loaded}
 
 -- ---- when there is something to tell
@@ -53,6 +55,11 @@ abbrev pub expires_line : List (List ℕ) → Term → Day → List ℕ
 expires_line labels t day =
     term_text labels t ++ codes " expires on " ++ date_text day.number ++ codes "\n"
 
+-- LABEL:LINE: term NAME shaded by NAME
+abbrev pub shaded_line : List (List ℕ) → Term → Term → List ℕ
+shaded_line labels t other =
+    term_text labels t ++ codes " shaded by " ++ other.name ++ codes "\n"
+
 -- LABEL:LINE: term NAME empty on TARGET
 abbrev pub empty_line : List (List ℕ) → Term → Target → List ℕ
 empty_line labels t target =
@@ -77,22 +84,30 @@ expires_lines labels today weeks t None = []
 expires_lines labels today weeks t (Some day) =
     if expires_within today weeks day then expires_line labels t day else []
 
+-- Where an earlier term of its block shades it: the first that does.
+abbrev pub shaded_lines : List (List ℕ) → Term → Option Term → List ℕ
+shaded_lines labels t None = []
+shaded_lines labels t (Some other) = shaded_line labels t other
+
 -- Where the term is live on the target and empty there.
 abbrev pub empty_lines : List (List ℕ) → Day → Term → Target → List ℕ
 empty_lines labels today t target =
     if is_empty_on today target t then empty_line labels t target else []
 
--- The lines on a term of a block with these targets: that it expired, that it expires, and where it is empty.
-unfoldable pub term_lines : List (List ℕ) → Day → ℕ → List Target → Term → List ℕ
-term_lines labels today weeks targets t = expired_lines labels today t t.expires
+-- The lines on the term at a place of a block: that it expired, that it expires, which term shades it, and where it is
+-- empty.
+unfoldable pub term_lines : List (List ℕ) → Day → ℕ → List Target → List Term → ℕ × Term → List ℕ
+term_lines labels today weeks targets terms (place, t) = expired_lines labels today t t.expires
     ++ expires_lines labels today weeks t t.expires
+    ++ shaded_lines labels t (shading_term targets today terms place)
     ++ flat_map (empty_lines labels today t) targets
 
 -- ---- a whole policy
 
 -- The lines on the terms of a block, in order.
 unfoldable pub block_lines : List (List ℕ) → Day → ℕ → Block × List Term → List ℕ
-block_lines labels today weeks b = flat_map (term_lines labels today weeks b.0.targets) b.1
+block_lines labels today weeks b =
+    flat_map (term_lines labels today weeks b.0.targets b.1) (enumerate_from 0 b.1)
 
 -- The lines on all terms of a policy that is loaded, block by block, for a day and so many weeks behind it.
 abbrev pub terms_report : Day → ℕ → Loaded → List ℕ

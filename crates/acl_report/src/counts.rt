@@ -3,11 +3,10 @@ ghost use Rattle.acl_report.specs.Reports.{count_line};
 
 use acl_host::Whole;
 use acl_target::{Target, put_target};
-use acl_text::{Out, PutFault, put_number};
+use acl_text::{Memory, Out, PutFault, put_number};
 
-/// Puts the line on a filter: the path of its file, its target and the number of its entries.
 #[tactic(auto, unfolding(crate::specs::Reports::count_line))]
-pub fn put_count(
+fn put_count_line(
     report: &mut Whole,
     path: &[u8],
     target: &Target,
@@ -24,4 +23,23 @@ pub fn put_count(
     report.put(b": entries ")?;
     put_number(report, u128::from(entries))?;
     report.put(b"\n")
+}
+
+/// Puts the line on a filter: the path of its file, its target and the number of its entries. It fails only where memory
+/// is wanted.
+pub fn put_count(
+    report: &mut Whole,
+    path: &[u8],
+    target: &Target,
+    entries: u64,
+) -> Result<(), Memory>
+    requires { report.old.is_open ≡ true }
+    ensures text { OnOk result (report.new.bytes
+        ≡ report.old.bytes ++ count_line path.now target.now entries) }
+    ensures opened { OnOk result (report.new.is_open ≡ true) }
+{
+    match put_count_line(report, path, target, entries) {
+        Ok(()) => Ok(()),
+        Err(_) => Err(Memory),
+    }
 }

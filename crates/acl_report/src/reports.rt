@@ -1,4 +1,5 @@
 ghost use Rattle.std.specs.Prelude.{◌≡◌, ◌++◌, true, flat_map, zip, IfOk, OnOk};
+ghost use Rattle.std.specs.List.{enumerate_from};
 ghost use Rattle.acl_report.specs.Reports.{block_lines, term_lines, terms_report};
 
 use crate::term_lines::put_term_lines;
@@ -22,11 +23,12 @@ fn put_terms(
 ) -> Result<(), PutFault>
     requires { report.old.is_open ≡ true }
     ensures text { OnOk result (report.new.bytes ≡ report.old.bytes
-        ++ flat_map (term_lines sources.now.labels today weeks targets.now) terms.now) }
+        ++ flat_map (term_lines sources.now.labels today weeks targets.now terms.now)
+        (enumerate_from 0 terms.now)) }
     ensures opened { OnOk result (report.new.is_open ≡ true) }
 {
-    for term in terms {
-        put_term_lines(report, sources, today, weeks, targets, term)?;
+    for (place, term) in terms.iter().enumerate() {
+        put_term_lines(report, sources, today, weeks, targets, terms, place, term)?;
     }
     Ok(())
 }
@@ -56,7 +58,7 @@ fn put_blocks(
 /// The lines of the report on the terms of the policy, block by block: the first part of the report.
 ///
 /// Of each term it says in this order that it expired, where its day is not later than today; that it expires, where
-/// its day is later by at most so many weeks; and on which targets of its block it is live and empty. It fails only
+/// its day is later by at most so many weeks; which earlier term of its block shades it; and on which targets of its block it is live and empty. It fails only
 /// where memory is wanted.
 pub fn report_terms(alloc: Global, loaded: &Loaded, today: Day, weeks: u16) -> Result<Whole, Memory>
     ensures text { IfOk result (λ report. report.bytes ≡ terms_report today weeks loaded.now) }

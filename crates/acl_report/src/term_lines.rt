@@ -1,16 +1,19 @@
-ghost use Rattle.std.specs.Prelude.{◌≡◌, ◌++◌, [], true, codes, flat_map, slice_index_or, OnOk};
+ghost use Rattle.std.specs.Prelude.{◌≡◌, ◌<◌, ◌++◌, [], true, codes, flat_map, length, slice_get, slice_index_or, OnOk, Some};
 ghost use Rattle.acl_host.specs.DaySteps.{date_text};
+ghost use Rattle.acl_shade.specs.ComputableShading.{shading_term};
 ghost use Rattle.acl_report.specs.Reports.{
   empty_line,
   empty_lines,
   expired_lines,
   expires_lines,
+  shaded_lines,
   term_lines,
   term_text,
 };
 
 use crate::conditions::{expires_within, has_expired, is_empty_on};
 use acl_host::{Day, Whole, put_day};
+use acl_shade::shading_term;
 use acl_splice::{Sources, label};
 use acl_target::{Target, put_target};
 use acl_terms::Term;
@@ -101,6 +104,31 @@ fn put_expires(
     }
 }
 
+// Puts which term shades the one at the place, where one does.
+fn put_shaded(
+    report: &mut Whole,
+    sources: &Sources,
+    today: Day,
+    targets: &[Target],
+    terms: &[Term],
+    place: usize,
+    term: &Term,
+) -> Result<(), PutFault>
+    requires open { report.old.is_open ≡ true }
+    requires there { place < length terms.now }
+    ensures text { OnOk result (report.new.bytes ≡ report.old.bytes
+        ++ shaded_lines sources.now.labels term.now (shading_term targets.now today terms.now place)) }
+    ensures opened { OnOk result (report.new.is_open ≡ true) }
+{
+    let Some(other) = shading_term(terms, targets, today, place) else {
+        return Ok(());
+    };
+    put_term(report, sources, term)?;
+    report.put(b" shaded by ")?;
+    report.put(other.name.as_slice())?;
+    report.put(b"\n")
+}
+
 // Puts that the term is empty on the target.
 fn put_empty(
     report: &mut Whole,
@@ -140,7 +168,7 @@ fn put_empties(
     Ok(())
 }
 
-/// Puts the lines on the term of a block with these targets.
+/// Puts the lines on the term at a place of a block with these targets.
 #[tactic(auto, unfolding(crate::specs::Reports::term_lines))]
 pub(crate) fn put_term_lines(
     report: &mut Whole,
@@ -148,14 +176,18 @@ pub(crate) fn put_term_lines(
     today: Day,
     weeks: u16,
     targets: &[Target],
+    terms: &[Term],
+    place: usize,
     term: &Term,
 ) -> Result<(), PutFault>
-    requires { report.old.is_open ≡ true }
+    requires open { report.old.is_open ≡ true }
+    requires there { place < length terms.now }
     ensures text { OnOk result (report.new.bytes ≡ report.old.bytes
-        ++ term_lines sources.now.labels today weeks targets.now term.now) }
+        ++ term_lines sources.now.labels today weeks targets.now terms.now (place, term.now)) }
     ensures opened { OnOk result (report.new.is_open ≡ true) }
 {
     put_expired(report, sources, today, term)?;
     put_expires(report, sources, today, weeks, term)?;
+    put_shaded(report, sources, today, targets, terms, place, term)?;
     put_empties(report, sources, today, targets, term)
 }

@@ -41,10 +41,7 @@ fn put_counts(report: &mut Whole, blocks: &[Block], entries: u64) -> Result<(), 
     let [target, ..] = block.targets.as_slice() else {
         return Ok(());
     };
-    match put_count(report, b"out/a.acl", target, entries) {
-        Ok(()) => Ok(()),
-        Err(_) => Err(Memory),
-    }
+    put_count(report, b"out/a.acl", target, entries)
 }
 
 // The report on the policy `pol/a.pol` that day, with the count of its first target.
@@ -138,7 +135,7 @@ fn days_of_expiry_at_their_edges(rt: HostRuntime) -> Result<(), Fail> {
 }
 
 // Policies, and the lines on their terms on 2026-01-15.
-static TERMS: [(&[u8], &[u8]); 6] = [
+static TERMS: [(&[u8], &[u8]); 7] = [
     // empty for IPv6 alone: it is told where there is no other family
     (
         b"header { target:: cisco m mixed target:: cisco s inet6 target:: nftables inet6 input }\nterm a {\n source-address:: WEB\n action:: deny }\n",
@@ -153,6 +150,11 @@ static TERMS: [(&[u8], &[u8]); 6] = [
     (
         b"header { target:: cisco e\n target:: juniper e\n target:: iptables INPUT DROP }\n#include 'b.inc'\nterm j { platform:: juniper\n source-address:: WEB\n source-exclude:: WEB\n action:: deny }\nterm k { platform-exclude:: juniper\n source-address:: WEB\n source-exclude:: WEB\n action:: deny }\n",
         b"pol/b.inc:2: term gone empty on cisco e extended\npol/b.inc:2: term gone empty on juniper e inet\npol/b.inc:2: term gone empty on iptables INPUT inet\npol/a.pol:5: term j empty on juniper e inet\npol/a.pol:9: term k empty on cisco e extended\npol/a.pol:9: term k empty on iptables INPUT inet\n",
+    ),
+    // shaded by the first term that takes in all that it has; told behind the day
+    (
+        b"header { target:: cisco e }\nterm a { source-address:: BOTH\n action:: accept }\nterm b { source-address:: WEB\n action:: deny }\nterm c { expiration:: 2026-01-20\n source-address:: WEB\n protocol:: udp\n action:: deny }\n",
+        b"pol/a.pol:4: term b shaded by a\npol/a.pol:6: term c expires on 2026-01-20\npol/a.pol:6: term c shaded by a\n",
     ),
     // a term that expired is live nowhere
     (

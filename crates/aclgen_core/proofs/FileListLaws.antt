@@ -1,15 +1,12 @@
 -- One file, and the others behind it.
 use Prim.Native.Nat.{zero, suc}
-use Rattle.std.proofs.Common.{◌≡◌, ◌≢◌, ℕ, ◌≤◌, ◌<◌, List, [], ◌∷◌, length, take, Option, None, Some, Result, Ok, Err, OnOk, OnErr, refl, ap, sym, subst, ◌∙◌, arith}
-use Rattle.std.specs.List.{AllByRecursion}
+use Rattle.std.proofs.Common.{◌≡◌, ℕ, List, [], ◌∷◌, length, take, Option, None, Some, Result, Ok, Err, sym, subst, ◌∙◌, arith}
 use Rattle.std.proofs.lemmas.List.{take_all}
-use Rattle.acl_text.specs.Output.{Rose}
-use Rattle.acl_host.specs.Files.{File, file_at, BothTell}
+use Rattle.acl_host.specs.Files.{File, BothTell}
 use Rattle.acl_host.specs.Outside.{CountsWriting}
 use Rattle.acl_host.specs.Writing.{HoldsText, WritesFile}
 use Rattle.acl_host.specs.declared.sinks.WriteFault.{WriteFault}
-use Rattle.acl_host.specs.declared.sinks.WriteFault.TheVariants as write
-use Rattle.aclgen_core.specs.FileLists.{IsApart, PathsDiffer, HoldsAll, SameButAt, HoldsTexts, StopsAfter, Interrupted, WritesFiles}
+use Rattle.aclgen_core.specs.FileLists.{IsApart, PathsDiffer, HoldsAll, SameButAt, HoldsTexts, Interrupted, WritesFiles}
 
 -- ---- what is told, by two steps
 

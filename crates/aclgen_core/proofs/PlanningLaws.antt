@@ -1,5 +1,5 @@
 -- What is to be written of a loaded policy, and of the files.
-use Prim.Native.Nat.{zero, suc}
+use Prim.Native.Nat.{suc}
 use Rattle.std.proofs.Common.{◌≡◌, ◌≢◌, ℕ, ℤ, ◌<◌, Bool, true, false, not, ◌||◌, ◌&&◌, ◌==◌, if◌then◌else◌, List, [], ◌∷◌, ◌++◌, map, Option, None, Some, Result, Ok, Err, IfSome, IsSome, is_some, refl, ap, sym, subst, ◌∙◌, append_assoc, append-nil, length, le_refl, arith}
 use Rattle.std.specs.Prelude.{IsErrAnd, flat_map, slice_index_or}
 use Rattle.std.specs.List.{All, AllByRecursion, IsDistinct, list_any}
@@ -14,7 +14,6 @@ use Rattle.acl_grammar.proofs.ListLaws.{flat_twice}
 use Rattle.acl_text.specs.declared.faults.Fault.{Fault}
 use Rattle.acl_text.specs.declared.faults.Rejection.{Rejection}
 use Rattle.acl_text.specs.declared.faults.Rejection.TheVariants as rejections
-use Rattle.acl_text.specs.declared.faults.Slip.{Slip}
 use Rattle.acl_text.proofs.ListLaws.{all_append}
 use Rattle.acl_host.specs.declared.clocks.ClockFault.{ClockFault}
 use Rattle.acl_host.specs.declared.clocks.Day.{Day}
@@ -41,24 +40,26 @@ use Rattle.acl_load.specs.FaultLines.{fault_line}
 use Rattle.acl_load.specs.LoadFaults.{LoadsFiles, of_rejection}
 use Rattle.acl_text.specs.Output.{Rose}
 use Rattle.acl_load.specs.LoadedPolicies.{AreResolved, AreResolvedIn, LoadsPolicy}
-use Rattle.acl_render.specs.PlatformFiles.{AreApart, IsFileText, IsTaken}
+use Rattle.acl_render.specs.PlatformFiles.{AreApart, IsFileText, IsTaken, limit_of}
+use Rattle.acl_render.proofs.ShortListsLaws.{taken-short}
 use Rattle.acl_options.specs.CommandLines.{Options}
 use Rattle.acl_options.specs.ComputableOptions.{asks_clock, asks_clock_for, options_of}
 use Rattle.acl_report.specs.Reports.{terms_report}
-use Rattle.aclgen_core.specs.DecidingSteps.{Asks, DecidesPlanned, DecidesSo, FindsDay, FollowsFrom, IsDayFor, IsReady, RoseLooking, texts_in}
+use Rattle.aclgen_core.specs.DecidingSteps.{Asks, DecidesPlanned, DecidesSo, FindsDay, FollowsFrom, IsDayFor, IsReady, RoseLooking}
 use Rattle.aclgen_core.specs.declared.deciding.Decision.{Decision}
 use Rattle.aclgen_core.specs.declared.deciding.Decision.TheVariants as decided
-use Rattle.aclgen_core.specs.Endings.{DecidesAsPolicy, IsFileOf, WhereDay}
+use Rattle.aclgen_core.specs.Endings.{DecidesAsPolicy, IsFileOf, IsShort, WhereDay}
 use Rattle.aclgen_core.specs.declared.endings.Which.TheVariants as which
 use Rattle.aclgen_core.specs.FileLists.{IsApart, PathsDiffer}
 use Rattle.aclgen_core.specs.FilterPaths.{ending_of, last_part, path_of, without_pol}
-use Rattle.aclgen_core.specs.FilterRequests.{FilterRequest, block_requests, filter_for, request_of, requests_in, requests_of, requests_on}
-use Rattle.aclgen_core.specs.Job.{Plan, Plans, IsJob, IsJobOf, file_of, file_report, file_with, files_on, or_day, or_slip, plan_of, planned, platforms, report_line}
-use Rattle.aclgen_core.specs.PreparingSteps.{AreRendered, IsPlanned, IsTakenFor, IsWorkOf, MakesWork, PlansLoaded, PreparesAll, draft_on, text_with, texts_on}
+use Rattle.aclgen_core.specs.FilterRequests.{FilterRequest, block_requests, filter_for, request_of, loaded_slip, requests_in, requests_of, requests_on}
+use Rattle.aclgen_core.specs.Job.{Plan, Plans, IsJob, IsJobOf, file_of, file_report, file_with, files_on, filters_of, or_day, or_slip, plan_of, platforms, report_line}
+use Rattle.aclgen_core.specs.PreparingSteps.{AreRendered, IsPlanned, IsTakenFor, IsWorkOf, MakesWork, PlansLoaded, JudgesAll, PreparesAll, draft_on, text_with, texts_on}
+use Rattle.aclgen_core.specs.ShadedSlips.{asked_shaded}
 use Rattle.aclgen_core.specs.Worlds.{Disk, Watch}
 use Rattle.aclgen_core.specs.declared.planning.Work.{Work}
 use Rattle.aclgen_core.specs.declared.preparing.FileDrafts.{FileDrafts}
-use Rattle.aclgen_core.proofs.PreparingLaws.{decides-at, resolved-requests}
+use Rattle.aclgen_core.proofs.PreparingLaws.{both-none, decides-at, resolved-requests}
 
 -- ---- targets that do not clash
 
@@ -370,9 +371,22 @@ file-is : (n : Naming) (today : Day) (kind : Kind) (path : List ℕ) (rs : List 
 file-is n today kind path [] resolved h = tt
 file-is n today kind path (r ∷ rs) resolved h = (as-policy n today kind (r ∷ rs) resolved (h (some-more (filter_for today) r rs)), tt)
 
-pub is-planned : (o : Options) (today : Day) (loaded : Loaded) (drafts : FileDrafts) (work : Work) → PreparesAll o.output o.policy today loaded drafts
+short-one : (today : Day) (r : FilterRequest) → IsTakenFor today r → IsShort (filter_for today r)
+unfolding limit_of
+short-one today r t =
+    let s = taken-short (filter_for today r) t.sound t.within in
+    record { lists = s.0; entries = s.1 }
+
+short-with : (today : Day) (kind : Kind) (path : List ℕ) (rs : List FilterRequest) → AllByRecursion (IsTakenFor today) rs
+    → AllByRecursion (λ f. AllByRecursion IsShort (filters_of today f)) (file_with kind path rs)
+short-with today kind path [] h = tt
+short-with today kind path (r ∷ rs) h = (all-by (filter_for today) (IsTakenFor today) IsShort (short-one today) (r ∷ rs) h, tt)
+
+pub is-planned : (o : Options) (today : Day) (loaded : Loaded) (drafts : FileDrafts) (work : Work) → JudgesAll o today loaded drafts
     → IsWorkOf (terms_report today o.exp_info loaded) drafts work → AreResolvedIn loaded.definitions loaded.policy.blocks loaded.terms → IsPlanned o today loaded work
-is-planned o today loaded drafts work p w resolved =
+is-planned o today loaded drafts work judged w resolved =
+    let p = judged.prepared in
+    let clean = both-none (loaded_slip today loaded) (asked_shaded o.shade_check today loaded) p.slip_is judged.none_shaded in
     let all = requests_of loaded in
     let path : Kind → List ℕ = λ k. path_of k o.output o.policy in
     let text : (k : Kind) → texts_on drafts k ≡ map (file_of today) (files_on o all k) = λ k.
@@ -382,7 +396,7 @@ is-planned o today loaded drafts work p w resolved =
     (p.each k).report_is ∙ one-report k (path k) today (requests_on k all) in
     let resolved-all = resolved-requests loaded.definitions loaded.policy.blocks loaded.terms resolved in
     record {
-      plan_is = ap (λ s. or_slip loaded.sources.labels s (plan_of o today loaded)) p.slip_is;
+      plan_is = ap (λ s. or_slip loaded.sources.labels s (plan_of o today loaded)) clean;
       ready = record {
         texts_are = w.texts_are ∙ flat-same (texts_on drafts) (λ k. map (file_of today) (files_on o all k)) text platforms
             ∙ sym (map-flat (file_of today) (files_on o all) platforms);
@@ -393,6 +407,9 @@ is-planned o today loaded drafts work p w resolved =
             (λ k. file-is loaded.definitions today k (path k) (requests_on k all)
             (all-on k (λ r. AreResolved loaded.definitions r.written r.terms) (λ r. AreResolved loaded.definitions r.written r.terms) (λ r _ x. x) all resolved-all)
             (subst (λ (fs : List Filter). fs ≢ [] → IsFileText k DecidesAs fs fs) (p.each k).filters_are (w.accepted k))) platforms;
+        short = all-flat (λ f. AllByRecursion IsShort (filters_of today f)) (files_on o all)
+            (λ k. short-with today k (path k) (requests_on k all)
+            (all-on k (IsTakenFor today) (IsTakenFor today) (λ r _ x. x) all p.taken)) platforms;
       };
       differ = subst PathsDiffer (sym w.texts_are) (paths-differ o.output o.policy drafts (λ k. (p.each k).path_is));
     }

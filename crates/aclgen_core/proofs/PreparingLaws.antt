@@ -1,10 +1,9 @@
 -- The filters of a policy: lists that are added one behind the other.
 use Prim.Native.Nat.{zero, suc}
-use Rattle.std.proofs.Common.{◌≡◌, ℕ, ◌<◌, ◌≤◌, ◌-◌, Bool, true, false, ◌||◌, if◌then◌else◌, List, [], ◌∷◌, ◌++◌, map, take, drop, length, get_or, Option, None, Some, Result, Ok, Err, option_map, IfSome, refl, ap, sym, subst, ◌∙◌, append_assoc, append-nil, arith}
+use Rattle.std.proofs.Common.{◌≡◌, ℕ, ◌≤◌, ◌-◌, Bool, true, false, if◌then◌else◌, List, [], ◌∷◌, ◌++◌, map, take, drop, length, get_or, Option, None, Some, Result, Ok, Err, option_map, IfSome, refl, ap, sym, subst, ◌∙◌, append_assoc, append-nil, arith}
 use Rattle.std.specs.Prelude.{IsErrAnd, flat_map, slice_get}
-use Rattle.std.specs.List.{All, AllByRecursion, AllZip}
+use Rattle.std.specs.List.{All, AllByRecursion}
 use Rattle.std.specs.String.{string_bytes}
-use Rattle.std.proofs.lemmas.Bool.{false≢true}
 use Rattle.std.proofs.lemmas.Grind.{flat_map-append}
 use Rattle.std.proofs.lemmas.List.{map-append, take_rest}
 use Rattle.std.proofs.lemmas.List.Elements.{All-nil, All-cons}
@@ -12,7 +11,6 @@ use Rattle.acl_packet.specs.declared.filtering.Outcome.{Outcome}
 use Rattle.acl_packet.specs.declared.packets.Packet.{Packet}
 use Rattle.acl_text.specs.declared.faults.Refusal.{Refusal}
 use Rattle.acl_text.specs.declared.faults.Refusal.TheVariants as refusals
-use Rattle.acl_text.specs.declared.faults.Slip.{Slip}
 use Rattle.acl_text.proofs.ListLaws.{all_append}
 use Rattle.acl_host.specs.declared.clocks.Day.{Day}
 use Rattle.acl_naming.specs.Checking.{IsRefusal, first_of}
@@ -33,7 +31,7 @@ use Rattle.acl_expand.specs.ExpansionSlips.{first_slip}
 use Rattle.acl_expand.proofs.DecideLaws.{decides-as-written}
 use Rattle.acl_load.specs.LoadedPolicies.{AreResolved, AreResolvedIn}
 use Rattle.acl_load.specs.declared.policy_loading.Loaded.{Loaded}
-use Rattle.acl_render.specs.PlatformFiles.{IsTaken, count_of, limit_of, limit_on}
+use Rattle.acl_render.specs.PlatformFiles.{count_of, limit_of, limit_on}
 use Rattle.aclgen_core.specs.Endings.{DecidesAsPolicy}
 use Rattle.aclgen_core.specs.FilterRequests.{FilterRequest, check_slip, block_requests, filter_for, limit_slip, request_of, request_slip, requests_in, requests_of, requests_on, requests_slip}
 use Rattle.acl_report.specs.Reports.{count_line}

@@ -1,5 +1,5 @@
 -- The rows of the endings, from what deciding and acting give.
-use Rattle.std.proofs.Common.{◌≡◌, ℕ, ℤ, ◌≤◌, ◌⊎◌, inl, inr, Bool, true, false, List, Option, None, Some, Result, Ok, Err, IfSome, IsSome, IsSomeAnd, is_some, refl, ap, sym, subst, ◌∙◌, le_refl, arith}
+use Rattle.std.proofs.Common.{◌≡◌, ℕ, ℤ, inl, inr, Bool, true, false, List, Option, None, Some, Result, Ok, Err, IfSome, IsSome, IsSomeAnd, refl, sym, subst, ◌∙◌, le_refl, arith}
 use Rattle.std.proofs.lemmas.Bool.{false≢true}
 use Rattle.std.specs.List.{AllByRecursion}
 use Rattle.acl_text.specs.declared.faults.Fault.{Fault}
@@ -10,20 +10,21 @@ use Rattle.acl_host.specs.Outside.{AddsFront}
 use Rattle.acl_options.specs.CommandLines.{Options}
 use Rattle.acl_options.specs.ComputableOptions.{asks_clock, options_of}
 use Rattle.aclgen_core.specs.FaultLines.{outside_line, usage_line}
-use Rattle.aclgen_core.specs.FileLists.{HoldsTexts, Interrupted, PathsDiffer}
-use Rattle.aclgen_core.specs.Job.{Plan, IsJob, IsJobOf, report_of, texts_of}
-use Rattle.acl_load.specs.FaultLines.{fault_line}
-use Rattle.aclgen_core.specs.Endings.{WhereDay, WhereTold, Got, Tried, Untouched, IsFileOf, IsWritten, Headline, EndsDone, EndsUsage, EndsRejected, RoseAt, EndsLooking, EndsAsking, LeavesFiles, EndsWriting, LeavesReport, EndsReporting, IsRefusal, EndsTelling, EndsOutside, Leaves, EndsWanting, EndsSo, NoneRose, IsEnding, EndsAsAsked, OnlyAsked, Keeps}
-use Rattle.aclgen_core.specs.Worlds.{CountsGrow, Disk, DiskCountsGrow, Stream, StreamCountsGrow, Watch, World, world}
-use Rattle.aclgen_core.specs.DecidingSteps.{Asks, IsReady, OnlySeen, WhereSeen, RoseLooking, DecidesRefused, DecidesPlanned, DecidesSo, Decides, RefusesSo, Refuses, ActsDone, ActsWrite, ActsOut, ActsMemory, ActsSo, Acts, Tells, texts_in}
+use Rattle.aclgen_core.specs.FileLists.{HoldsTexts, Interrupted}
+use Rattle.aclgen_core.specs.Job.{Plan, IsJob, IsJobOf, or_day, report_of, texts_of}
+use Rattle.aclgen_core.specs.Endings.{WhereDay, WhereTold, Got, Untouched, IsWritten, Headline, EndsDone, EndsUsage, EndsRejected, RoseAt, EndsLooking, LeavesFiles, EndsWriting, LeavesReport, EndsReporting, IsRefusal, EndsTelling, EndsOutside, Leaves, EndsWanting, EndsSo, NoneRose, IsEnding, EndsAsAsked, Keeps}
+use Rattle.aclgen_core.specs.Removals.{ShadedCanGo}
+use Rattle.aclgen_core.specs.Worlds.{Disk, DiskCountsGrow, Stream, StreamCountsGrow, Watch, World, world}
+use Rattle.aclgen_core.specs.DecidingSteps.{Asks, IsReady, OnlySeen, WhereSeen, RoseLooking, DecidesRefused, DecidesPlanned, RefusesSo, Refuses, ActsDone, ActsWrite, ActsOut, ActsMemory, ActsSo, Acts, Tells, texts_in}
 use Rattle.aclgen_core.specs.declared.endings.Ended.{Ended}
 use Rattle.aclgen_core.specs.declared.endings.Ended.TheVariants as ended
 use Rattle.aclgen_core.specs.declared.endings.Which.{Which}
 use Rattle.aclgen_core.specs.declared.endings.Which.TheVariants as which
 use Rattle.aclgen_core.specs.declared.planning.Work.{Work}
-use Rattle.aclgen_core.proofs.FileListLaws.{both-more, both-go-on, whole-stops}
+use Rattle.aclgen_core.proofs.FileListLaws.{both-more}
 use Rattle.aclgen_core.proofs.OneAnswer.{one-job}
-use Rattle.aclgen_core.proofs.Telling.{whole-front, no-front}
+use Rattle.aclgen_core.proofs.RemovalLaws.{shaded-can-go}
+use Rattle.aclgen_core.proofs.Telling.{no-front}
 
 -- ---- what is told
 
@@ -71,7 +72,7 @@ complete-done : (words : List (List ℕ)) (old new : World) → EndsDone words o
 complete-done words old new e = record {
   usage = λ none. absurd (no-options (options_of words) none e.accepted);
   job = told-goes-on words old.clock old.disk.files (Headline words old new) (λ day files. (job : Option (Result Plan Fault)) → IsJob words day files job → IsEnding job ended.Done)
-      (λ day files _ h job is. job-fits words day files (Some (Ok h.0)) job ended.Done h.1 (inl refl) is) e.written;
+      (λ day files _ h job is. job-fits words day files (Some (Ok h.0)) job ended.Done h.1.job (inl refl) is) e.written;
 }
 
 complete-usage : (words : List (List ℕ)) (old new : World) → EndsUsage words old new → EndsAsAsked words old ended.Usage
@@ -270,6 +271,14 @@ left-plan plan work d d' files is ready h =
     both-some (Interrupted (texts_of plan)) d.files d'.files files is
     (subst (λ ts. BothTell d.files d'.files (Interrupted ts)) ready.texts_are h)
 
+job-shaded : (words : List (List ℕ)) (day : Day) (files : List File) (plan : Plan) → IsJob words day files (Some (Ok plan))
+    → AllByRecursion (ShadedCanGo plan.naming plan.today) plan.blocks
+job-shaded words day files plan job = by (options_of words) job
+  where
+    by : (o : Option Options) → IsJobOf o day files (Some (Ok plan)) → AllByRecursion (ShadedCanGo plan.naming plan.today) plan.blocks
+    by None h = absurd h
+    by (Some o) h = shaded-can-go o (or_day o.date day) files plan h
+
 done-row : (words : List (List ℕ)) (work : Work) (d d' : Disk) (o o' e e' : Stream) (c c' : Watch) → DecidesPlanned words work d c → ActsDone work d d' o o' e e'
     → EndsDone words (world d o e c) (world d' o' e' c')
 done-row words work d d' o o' e e' c c' planned acts = record {
@@ -277,9 +286,13 @@ done-row words work d d' o o' e e' c c' planned acts = record {
   written = planned-leaves words work d c (Headline words (world d o e c) (world d' o' e' c'))
       (λ day files is plan job ready. (
         plan,
-        job,
-        written-plan plan work d d' files is ready acts.written,
-        subst (λ t. Got t o.told o'.told) ready.report_is acts.report_got,
+        record {
+          job = job;
+          written = written-plan plan work d d' files is ready acts.written;
+          report = subst (λ t. Got t o.told o'.told) ready.report_is acts.report_got;
+          short = ready.short;
+          shaded = job-shaded words day files plan job;
+        },
       )) planned;
   report = (work.report.bytes, acts.report_got);
   nothing_on_err = acts.err_rests;

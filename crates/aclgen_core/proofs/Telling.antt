@@ -1,5 +1,5 @@
 -- A write whose refusal is passed over.
-use Rattle.std.proofs.Common.{◌≡◌, ℕ, List, ◌++◌, length, Option, None, Some, Result, Ok, Err, option_map, refl, ap, sym, subst}
+use Rattle.std.proofs.Common.{ℕ, List, ◌++◌, length, Option, None, Some, Result, Ok, Err, refl, ap, sym, subst}
 use Rattle.std.proofs.lemmas.List.{append-nil}
 use Rattle.std.proofs.Math.Seq.{take-length}
 use Rattle.acl_host.specs.declared.sinks.WriteFault.{WriteFault}

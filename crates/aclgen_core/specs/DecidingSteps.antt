@@ -10,11 +10,11 @@ use Rattle.acl_host.specs.Files.{File, BothTell}
 use Rattle.acl_host.specs.Outside.{AddsFront}
 use Rattle.acl_options.specs.ComputableOptions.{asks_clock, options_of}
 use Rattle.aclgen_core.specs.FileLists.{HoldsTexts, Interrupted, PathsDiffer}
-use Rattle.aclgen_core.specs.Job.{Plan, IsJob, report_of, texts_of}
+use Rattle.aclgen_core.specs.Job.{Plan, IsJob, filters_of, report_of, texts_of}
 use Rattle.acl_load.specs.declared.load_faults.LoadFault.{LoadFault}
 use Rattle.acl_load.specs.declared.load_faults.LoadFault.TheVariants as loads
 use Rattle.acl_load.specs.FaultLines.{fault_line}
-use Rattle.aclgen_core.specs.Endings.{Got, IsFileOf, OnlyAsked, Tried, WhereDay}
+use Rattle.aclgen_core.specs.Endings.{Got, IsFileOf, IsShort, OnlyAsked, Tried, WhereDay}
 use Rattle.aclgen_core.specs.FaultLines.{outside_line}
 use Rattle.aclgen_core.specs.Worlds.{Disk, DiskCountsGrow, Stream, StreamCountsGrow, Watch}
 use Rattle.aclgen_core.specs.declared.deciding.Decision.{Decision}
@@ -34,11 +34,13 @@ text_view f = (string_bytes f.path, f.text.bytes)
 abbrev pub texts_in : Work → List File
 texts_in work = map text_view work.files.items
 
--- The texts and the report are those of the plan, and each text is one that the headline speaks of.
+-- The texts and the report are those of the plan, each text is one that the headline speaks of, and the filters are
+-- short.
 pub record IsReady (plan : Plan) (work : Work) : Type 0 where
   pub texts_are : texts_in work ≡ texts_of plan
   pub report_is : work.report.bytes ≡ report_of plan
   pub each : AllByRecursion (IsFileOf plan.naming plan.today) plan.files
+  pub short : AllByRecursion (λ f. AllByRecursion IsShort (filters_of plan.today f)) plan.files
 
 -- Nothing but the counts of looking changed, and they did not fall.
 pub record OnlySeen (old new : Disk) : Type 0 where

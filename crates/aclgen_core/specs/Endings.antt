@@ -1,5 +1,5 @@
 -- What each ending of a run means: a record for each.
-use Rattle.std.specs.Prelude.{◌≡◌, ℕ, ℤ, ◌++◌, ◌⊎◌, Bool, true, false, List, Option, None, Some, Result, Ok, Err, option_map, map, IfSome, IsSome, IsSomeAnd}
+use Rattle.std.specs.Prelude.{◌≡◌, ℕ, ◌≤◌, ℤ, ◌++◌, ◌⊎◌, Bool, true, false, List, Option, None, Some, Result, Ok, Err, option_map, IfSome, IsSome, IsSomeAnd}
 use Rattle.std.specs.List.{AllByRecursion}
 use Rattle.acl_packet.specs.declared.filtering.Outcome.{Outcome}
 use Rattle.acl_packet.specs.declared.packets.Packet.{Packet}
@@ -13,13 +13,16 @@ use Rattle.acl_host.specs.Outside.{AddsFront}
 use Rattle.acl_naming.specs.Definitions.{Naming}
 use Rattle.acl_terms.specs.Outcomes.{PolicyDecides, shown}
 use Rattle.acl_load.specs.FaultLines.{fault_line}
-use Rattle.acl_render.specs.PlatformFiles.{IsFileText}
+use Rattle.acl_render.specs.PlatformFiles.{IsFileText, count_of}
+use Rattle.acl_render.specs.ShortLists.{HasFewestPrefixes}
+use Rattle.acl_platform.specs.declared.filters.Filter.{Filter}
 use Rattle.acl_options.specs.ComputableOptions.{asks_clock, options_of}
 use Rattle.aclgen_core.specs.FaultLines.{usage_line, outside_line}
 use Rattle.aclgen_core.specs.FileLists.{HoldsTexts, Interrupted}
 use Rattle.aclgen_core.specs.FilterRequests.{FilterRequest}
 use Rattle.aclgen_core.specs.Job.{Plan, PlanFile, IsJob, filters_of, report_of, texts_of}
-use Rattle.aclgen_core.specs.Worlds.{CountsGrow, Disk, Stream, Watch, World}
+use Rattle.aclgen_core.specs.Removals.{ShadedCanGo}
+use Rattle.aclgen_core.specs.Worlds.{CountsGrow, Stream, Watch, World}
 use Rattle.aclgen_core.specs.declared.endings.Ended.{Ended}
 use Rattle.aclgen_core.specs.declared.endings.Ended.TheVariants as ended
 use Rattle.aclgen_core.specs.declared.endings.Which.{Which}
@@ -73,10 +76,23 @@ pub record IsWritten (plan : Plan) (old new : List File) : Type 0 where
   pub each : AllByRecursion (IsFileOf plan.naming plan.today) plan.files
   pub holds : HoldsTexts (texts_of plan) old new
 
+-- Each address list of a filter is as short as any with the same addresses, and it has at most 100,000 entries.
+pub record IsShort (f : Filter) : Type 0 where
+  pub lists : HasFewestPrefixes f
+  pub entries : count_of f ≤ 100000
+
+-- The job of the words is this plan: its files are written, its report stands on standard output, each filter is short,
+-- and all shaded terms of each block can go at once.
+pub record IsCompiled (words : List (List ℕ)) (old new : World) (day : Day) (files : List File) (plan : Plan)
+    : Type 0 where
+  pub job : IsJob words day files (Some (Ok plan))
+  pub written : IsSomeAnd new.disk.files (IsWritten plan files)
+  pub report : Got (report_of plan) old.out.told new.out.told
+  pub short : AllByRecursion (λ f. AllByRecursion IsShort (filters_of plan.today f)) plan.files
+  pub shaded : AllByRecursion (ShadedCanGo plan.naming plan.today) plan.blocks
+
 abbrev pub Headline : List (List ℕ) → World → World → Day → List File → Type 0
-Headline words old new day files = (plan : Plan) × IsJob words day files (Some (Ok plan))
-    × IsSomeAnd new.disk.files (IsWritten plan files)
-    × Got (report_of plan) old.out.told new.out.told
+Headline words old new day files = (plan : Plan) × IsCompiled words old new day files plan
 
 -- ---- the endings
 

@@ -1,5 +1,5 @@
 -- Several files that are written one behind the other.
-use Prim.Native.Nat.{zero, suc}
+use Prim.Native.Nat.{suc}
 use Rattle.std.specs.Prelude.{◌≡◌, ◌≢◌, ℕ, List, [], ◌∷◌, take, Option, Some, Result, OnOk, OnErr}
 use Rattle.std.specs.List.{AllByRecursion}
 use Rattle.acl_host.specs.Files.{File, file_at, BothTell}

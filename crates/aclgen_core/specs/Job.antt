@@ -4,10 +4,10 @@ use Rattle.acl_text.specs.declared.faults.Fault.{Fault}
 use Rattle.acl_text.specs.declared.faults.Slip.{Slip}
 use Rattle.acl_host.specs.declared.clocks.Day.{Day}
 use Rattle.acl_host.specs.Files.{File}
+use Rattle.acl_naming.specs.Checking.{first_of}
 use Rattle.acl_naming.specs.Definitions.{Naming}
 use Rattle.acl_target.specs.declared.targets.Kind.{Kind}
 use Rattle.acl_target.specs.declared.targets.Kind.TheVariants.{Cisco, Juniper, Iptables, Nftables}
-use Rattle.acl_target.specs.declared.targets.Target.{Target}
 use Rattle.acl_load.specs.declared.policy_loading.Loaded.{Loaded}
 use Rattle.acl_load.specs.LoadedPolicies.{GoesOn, LoadsPolicy}
 use Rattle.acl_load.specs.Loading.{fault_of}
@@ -18,6 +18,8 @@ use Rattle.acl_options.specs.CommandLines.{Options}
 use Rattle.acl_options.specs.ComputableOptions.{options_of}
 use Rattle.aclgen_core.specs.FilterPaths.{path_of}
 use Rattle.aclgen_core.specs.FilterRequests.{FilterRequest, filter_for, loaded_slip, requests_of, requests_on}
+use Rattle.aclgen_core.specs.Removals.{PlanBlock, blocks_of}
+use Rattle.aclgen_core.specs.ShadedSlips.{asked_shaded}
 
 -- A file that a run writes: its platform, its path, and the filters that are asked for in it, in order.
 pub record PlanFile : Type 0 where
@@ -25,11 +27,12 @@ pub record PlanFile : Type 0 where
   pub path : List ℕ
   pub requests : List FilterRequest
 
--- What a run writes: its files, over the definitions and the day for which they are made, and what its report says of
--- the policy's terms.
+-- What a run writes: its files, over the definitions, the day for which they are made and the blocks of the policy, and
+-- what its report says of the policy's terms.
 pub record Plan : Type 0 where
   pub naming : Naming
   pub today : Day
+  pub blocks : List PlanBlock
   pub files : List PlanFile
   pub term_lines : List ℕ
 
@@ -49,6 +52,7 @@ abbrev pub plan_of : Options → Day → Loaded → Plan
 plan_of o today loaded = record {
   naming = loaded.definitions;
   today = today;
+  blocks = blocks_of loaded;
   files = flat_map (files_on o (requests_of loaded)) platforms;
   term_lines = terms_report today o.exp_info loaded;
 }
@@ -58,12 +62,17 @@ abbrev pub or_slip : List (List ℕ) → Option Slip → Plan → Result Plan Fa
 or_slip labels (Some slip) plan = Err (fault_of labels slip)
 or_slip labels None plan = Ok plan
 
+-- The first slip of a filter, else that of the first shaded term, where it is asked for.
+abbrev pub job_slip : Options → Day → Loaded → Option Slip
+job_slip o today loaded =
+    first_of (loaded_slip today loaded) (asked_shaded o.shade_check today loaded)
+
 abbrev pub planned : Options → Day → Loaded → Result Plan Fault
 planned o today loaded =
-    or_slip loaded.sources.labels (loaded_slip today loaded) (plan_of o today loaded)
+    or_slip loaded.sources.labels (job_slip o today loaded) (plan_of o today loaded)
 
 -- What is to be written, or the first fault: the naming files and the policy are loaded, and then each of its filters is
--- judged, all of them before anything is written.
+-- judged and, where it is asked for, each term, all of them before anything is written.
 abbrev pub Plans : Options → Day → List File → Result Plan Fault → Type 0
 Plans o today files answer = (loaded : Result Loaded Fault) × LoadsPolicy o.definitions o.policy files loaded
     × GoesOn (λ l a. a ≡ planned o today l) loaded answer

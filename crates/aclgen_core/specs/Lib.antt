@@ -6,5 +6,8 @@ pub mod FilterPaths
 pub mod FilterRequests
 pub mod Job
 pub mod PreparingSteps
+pub mod Removals
+pub mod ShadedSlips
 pub mod Statuses
+pub mod WorkloadRuns
 pub mod Worlds

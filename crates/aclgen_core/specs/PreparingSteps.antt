@@ -23,7 +23,8 @@ use Rattle.aclgen_core.specs.DecidingSteps.{IsReady, texts_in}
 use Rattle.aclgen_core.specs.FileLists.{PathsDiffer}
 use Rattle.aclgen_core.specs.FilterPaths.{path_of}
 use Rattle.aclgen_core.specs.FilterRequests.{FilterRequest, filter_for, loaded_slip, request_slip, requests_of, requests_on, requests_slip}
-use Rattle.aclgen_core.specs.Job.{Plan, Plans, plan_of, planned, platforms, report_line}
+use Rattle.aclgen_core.specs.Job.{Plan, Plans, job_slip, plan_of, planned, platforms, report_line}
+use Rattle.aclgen_core.specs.ShadedSlips.{asked_shaded}
 use Rattle.aclgen_core.specs.declared.planning.Work.{Work}
 use Rattle.aclgen_core.specs.declared.preparing.FileDraft.{FileDraft}
 use Rattle.aclgen_core.specs.declared.preparing.FileDrafts.{FileDrafts}
@@ -122,6 +123,16 @@ abbrev pub Prepares : List ℕ → List ℕ → Day → Loaded → Result FileDr
 Prepares output policy today loaded (Ok drafts) = PreparesAll output policy today loaded drafts
 Prepares output policy today loaded (Err (refusals.Slip s)) = loaded_slip today loaded ≡ Some s
 Prepares output policy today loaded (Err refusals.Memory) = Unit {0}
+
+-- The filters are prepared and, where it is asked for, no term is shaded.
+pub record JudgesAll (o : Options) (today : Day) (loaded : Loaded) (drafts : FileDrafts) : Type 0 where
+  pub prepared : PreparesAll o.output o.policy today loaded drafts
+  pub none_shaded : asked_shaded o.shade_check today loaded ≡ None
+
+abbrev pub JudgesSo : Options → Day → Loaded → Result FileDrafts Refusal → Type 0
+JudgesSo o today loaded (Ok drafts) = JudgesAll o today loaded drafts
+JudgesSo o today loaded (Err (refusals.Slip s)) = job_slip o today loaded ≡ Some s
+JudgesSo o today loaded (Err refusals.Memory) = Unit {0}
 
 -- ---- the texts
 

@@ -1,5 +1,5 @@
 -- What lies outside a run: the files, the two streams and the clock, as their traits tell them.
-use Rattle.std.specs.Prelude.{◌≡◌, ℕ, ◌≤◌, ℤ, List, Option}
+use Rattle.std.specs.Prelude.{ℕ, ◌≤◌, ℤ, List, Option}
 use Rattle.acl_host.specs.Files.{File}
 
 -- A tree: its files, the path that is begun, and how often its calls failed or wanted memory.

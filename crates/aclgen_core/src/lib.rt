@@ -2,6 +2,7 @@
 #![tactic(auto)]
 
 mod acting;
+mod compiling;
 mod deciding;
 mod endings;
 mod fault_lines;
@@ -11,9 +12,11 @@ mod laws;
 mod planning;
 mod preparing;
 mod running;
+mod shading;
 mod slips;
 #[cfg(test)]
 mod tests;
+mod workload_runs;
 
 pub use acting::refuse_words;
 pub use endings::{Ended, Which, status_of};

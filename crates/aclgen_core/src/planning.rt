@@ -1,7 +1,7 @@
 ghost use Rattle.std.specs.Prelude.{◌≡◌, true, IfOk, OnOk};
 ghost use Rattle.std.specs.List.{All};
 ghost use Rattle.acl_platform.specs.Platforms.{DecidesAs};
-ghost use Rattle.acl_policy.specs.Conditions.{IsPolicy};
+ghost use Rattle.acl_policy.specs.Conditions.{IsBlock, IsPolicy};
 ghost use Rattle.acl_load.specs.LoadedPolicies.{AreResolvedIn};
 ghost use Rattle.acl_load.specs.LoadFaults.{LoadsFiles};
 ghost use Rattle.acl_render.specs.PlatformFiles.{AreApart, IsFileText, IsTaken, text_on};
@@ -10,12 +10,14 @@ ghost use Rattle.aclgen_core.specs.PreparingSteps.{
   AddsFile,
   AreRendered,
   IsWorkOf,
+  JudgesSo,
   MakesWork,
   PlansLoaded,
 };
 
 use crate::file_texts::FileText;
 use crate::preparing::{FileDraft, FileDrafts, prepare};
+use crate::shading::refuse_shaded;
 use acl_host::{Day, Tree, Whole};
 use acl_load::{LoadFault, Loaded, load, policy_fault};
 use acl_options::Options;
@@ -84,7 +86,24 @@ fn work_of(alloc: Global, drafts: FileDrafts, report: Whole) -> Result<Work, Mem
     Ok(work)
 }
 
-// What is to be written of the policy, or the first fault of its filters.
+// The filters of the policy, or the first slip: of a filter, else, where it is asked for, of a shaded term.
+fn judge(
+    alloc: Global,
+    options: &Options<'_>,
+    today: Day,
+    loaded: &Loaded,
+) -> Result<FileDrafts, Refusal>
+    requires { All IsBlock loaded.now.policy.blocks }
+    ensures { JudgesSo (options_view options.now) today loaded.now result }
+{
+    let drafts = prepare(alloc, today, options.output, options.policy, loaded)?;
+    if options.shade_check {
+        refuse_shaded(alloc, today, loaded)?;
+    }
+    Ok(drafts)
+}
+
+// What is to be written of the policy, or the first fault of its filters and of its terms.
 fn plan(
     alloc: Global,
     options: &Options<'_>,
@@ -95,7 +114,7 @@ fn plan(
     requires terms { AreResolvedIn loaded.now.definitions loaded.now.policy.blocks loaded.now.terms }
     ensures { PlansLoaded (options_view options.now) today loaded.now result }
 {
-    match prepare(alloc, today, options.output, options.policy, loaded) {
+    match judge(alloc, options, today, loaded) {
         Ok(drafts) => {
             let report = report_terms(alloc, loaded, today, options.exp_info)?;
             Ok(work_of(alloc, drafts, report)?)

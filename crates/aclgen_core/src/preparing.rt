@@ -55,10 +55,8 @@ fn add_to(
     requires { draft.old.report.is_open ≡ true }
     ensures { OnOk result (AddsOne target.now filter entries draft.old draft.new) }
 {
-    match put_count(&mut draft.report, draft.path.as_bytes(), target, entries) {
-        Ok(()) => draft.filters.push(filter),
-        Err(_) => Err(Memory),
-    }
+    put_count(&mut draft.report, draft.path.as_bytes(), target, entries)?;
+    draft.filters.push(filter)
 }
 
 // The filter of the terms on the target, and the number of its entries.

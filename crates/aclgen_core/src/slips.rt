@@ -7,7 +7,8 @@ use acl_platform::{Filter, Limit, Rule, Test};
 use acl_text::{Bytes, Code, Place, Refusal, Slip};
 use std::alloc::Global;
 
-fn refusal_at(alloc: Global, code: Code, place: Place, word: &[u8]) -> Refusal
+/// The slip with this code at the place, whose word is this one.
+pub(crate) fn refusal_at(alloc: Global, code: Code, place: Place, word: &[u8]) -> Refusal
     ensures { IsRefusal (record { code = code; place = place; word = word.now }) result }
 {
     match Bytes::from_slice(alloc, word) {

@@ -10,13 +10,15 @@ use std::test::Fail;
 const NAMES: &[u8] =
     b"WEB = 192.0.2.10\nLOW = 10.0.0.0/25\nHIGH = 10.0.0.128/25\nSIX = 2001:db8::10\n";
 
-// The words, and which call of the outside fails in a run.
+// The words, and which call of the outside fails in a run: of the tree the one of this kind and number.
 #[derive(Clone, Copy)]
 struct Run<'a> {
     policy: &'a str,
     date: Option<&'a str>,
+    shade_check: bool,
+    workload: Option<&'a str>,
     clock: bool,
-    tree: Option<Op>,
+    tree: Option<(Op, u32)>,
     out: bool,
     err: bool,
 }
@@ -24,6 +26,8 @@ struct Run<'a> {
 const PLAIN: Run<'static> = Run {
     policy: "pol/a.pol",
     date: Some("2026-01-15"),
+    shade_check: false,
+    workload: None,
     clock: true,
     tree: None,
     out: false,
@@ -32,6 +36,11 @@ const PLAIN: Run<'static> = Run {
 
 fn words(alloc: Global, run: Run<'_>) -> Result<Vec<String>, AllocError> {
     let mut words = Vec::new(alloc);
+    if let Some(terms) = run.workload {
+        words.push(String::from_str(alloc, "--workload")?)?;
+        words.push(String::from_str(alloc, terms)?)?;
+        return Ok(words);
+    }
     let texts = [
         "--policy_file",
         run.policy,
@@ -47,6 +56,9 @@ fn words(alloc: Global, run: Run<'_>) -> Result<Vec<String>, AllocError> {
         words.push(String::from_str(alloc, "--date")?)?;
         words.push(String::from_str(alloc, date)?)?;
     }
+    if run.shade_check {
+        words.push(String::from_str(alloc, "--shade_check")?)?;
+    }
     Ok(words)
 }
 
@@ -60,13 +72,13 @@ fn tree_of(alloc: Global, policy: &[u8]) -> Result<MemTree, Memory>
     Ok(tree)
 }
 
-// The tree, of which the first call of the kind is to fail, where there is one.
-fn failing(mut tree: MemTree, op: Option<Op>) -> Result<MemTree, Memory>
+// The tree, of which the call of that kind and number is to fail, where there is one.
+fn failing(mut tree: MemTree, call: Option<(Op, u32)>) -> Result<MemTree, Memory>
     requires { (contents tree).begun ≡ None }
     ensures { IfOk result (λ t. (contents t).begun ≡ None) }
 {
-    if let Some(op) = op {
-        tree.fail(op, 1)?;
+    if let Some((op, nth)) = call {
+        tree.fail(op, nth)?;
     }
     Ok(tree)
 }
@@ -409,16 +421,17 @@ exit
 #[test]
 fn each_call_of_the_outside_fails_once(rt: HostRuntime) -> Result<(), Fail> {
     let alloc = rt.alloc();
-    let cases: [(Op, Option<&[u8]>, &[u8]); 5] = [
-        (Op::List, None, b"aclgen: list failed\n"),
-        (Op::Read, None, b"aclgen: read failed\n"),
-        (Op::Begin, None, b"aclgen: write failed\n"),
-        (Op::Append, Some(b""), b"aclgen: write failed\n"),
-        (Op::Finish, Some(LIST), b"aclgen: write failed\n"),
+    let cases: [(Op, u32, Option<&[u8]>, &[u8]); 6] = [
+        (Op::List, 1, None, b"aclgen: list failed\n"),
+        (Op::Read, 1, None, b"aclgen: read failed\n"),
+        (Op::Read, 2, None, b"aclgen: read failed\n"),
+        (Op::Begin, 1, None, b"aclgen: write failed\n"),
+        (Op::Append, 1, Some(b""), b"aclgen: write failed\n"),
+        (Op::Finish, 1, Some(LIST), b"aclgen: write failed\n"),
     ];
-    for (op, file, line) in cases {
+    for (op, nth, file, line) in cases {
         let run = Run {
-            tree: Some(op),
+            tree: Some((op, nth)),
             ..PLAIN
         };
         assert!(rt; leaves(alloc, PLAIN_POLICY, run, 3, file, b"", line)?);
@@ -453,5 +466,85 @@ fn each_call_of_the_outside_fails_once(rt: HostRuntime) -> Result<(), Fail> {
         ..PLAIN
     };
     assert!(rt; leaves(alloc, PLAIN_POLICY, absent, 3, None, b"", b"")?);
+    Ok(())
+}
+
+// The second file is not begun: the first is whole, and the others are not there.
+#[test]
+fn an_interrupted_writing_leaves_whole_files(rt: HostRuntime) -> Result<(), Fail> {
+    let alloc = rt.alloc();
+    let run = Run {
+        tree: Some((Op::Begin, 2)),
+        ..PLAIN
+    };
+    let left = left_by(alloc, tree_of(alloc, FOUR_PLATFORMS)?, run)?;
+    assert_eq!(rt; left.status, 3);
+    assert_eq!(rt; left.tree.file("out/a.acl"), Some(LIST_OF_WEB));
+    assert_eq!(rt; left.tree.file("out/a.jcl"), None);
+    assert_eq!(rt; left.tree.file("out/a.nft"), None);
+    assert_eq!(rt; left.out.as_slice(), b"");
+    assert_eq!(rt; left.err.as_slice(), b"aclgen: write failed\n");
+    Ok(())
+}
+
+// Policies with two terms for Cisco and Junos, the report on them, and the line of a run with the shade check.
+static SHADED: [(&[u8], &[u8], &[u8]); 3] = [
+    (
+        b"header { target:: cisco edge extended target:: juniper edge inet }\nterm a { platform:: cisco protocol:: tcp action:: accept }\nterm b { protocol:: tcp action:: deny }\n",
+        b"out/a.acl: cisco edge extended: entries 2\nout/a.jcl: juniper edge inet: entries 2\n",
+        b"",
+    ),
+    (
+        b"header { target:: cisco edge extended target:: juniper edge inet }\nterm a { protocol:: tcp action:: accept }\nterm b { protocol:: tcp action:: deny }\n",
+        b"pol/a.pol:3: term b shaded by a\nout/a.acl: cisco edge extended: entries 2\nout/a.jcl: juniper edge inet: entries 4\n",
+        b"pol/a.pol:3: F50 Shaded a\n",
+    ),
+    // the limits of a filter come first
+    (
+        b"header { target:: cisco edge inet6 }\nterm a { protocol:: tcp action:: accept }\nterm b { protocol:: tcp option:: tcp-initial action:: deny }\n",
+        b"",
+        b"pol/a.pol:3: F43 Unsupported tcp-initial\n",
+    ),
+];
+
+#[test]
+fn shaded_terms_are_told_or_refused(rt: HostRuntime) -> Result<(), Fail> {
+    let alloc = rt.alloc();
+    for (policy, report, line) in &SHADED {
+        let told = left_by(alloc, tree_of(alloc, policy)?, PLAIN)?;
+        assert_eq!(rt; told.out.as_slice(), *report);
+        let run = Run {
+            shade_check: true,
+            ..PLAIN
+        };
+        let left = left_by(alloc, tree_of(alloc, policy)?, run)?;
+        assert_eq!(rt; left.err.as_slice(), *line);
+        assert_eq!(rt; left.status, if line.is_empty() { 0 } else { 1 });
+        assert_eq!(rt; left.tree.file("out/a.acl").is_some(), line.is_empty());
+    }
+    Ok(())
+}
+
+const TWO_TERMS: &[u8] = b"out/w.acl: cisco w mixed: entries 8
+out/w.jcl: juniper w inet: entries 10
+out/w.ipt: iptables FORWARD inet: entries 6
+out/w.nft: nftables forward mixed: entries 24
+";
+
+// Neither the tree, whose first call fails, nor the clock is called.
+#[test]
+fn the_workload_is_compiled_in_memory(rt: HostRuntime) -> Result<(), Fail> {
+    let alloc = rt.alloc();
+    let two = Run {
+        workload: Some("2"),
+        clock: false,
+        tree: Some((Op::List, 1)),
+        ..PLAIN
+    };
+    assert!(rt; leaves(alloc, PLAIN_POLICY, two, 0, None, TWO_TERMS, b"")?);
+    let mut cut = two;
+    cut.out = true;
+    let line = b"aclgen: output failed\n";
+    assert!(rt; leaves(alloc, PLAIN_POLICY, cut, 3, None, b"", line)?);
     Ok(())
 }

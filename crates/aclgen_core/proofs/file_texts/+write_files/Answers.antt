@@ -1,4 +1,4 @@
-use Rattle.std.proofs.Common.{◌≡◌, ℕ, ◌≤◌, ◌-◌, List, [], ◌∷◌, map, take, drop, length, get_or, ap, sym, ◌∙◌, arith}
+use Rattle.std.proofs.Common.{◌≡◌, ◌≤◌, ◌-◌, List, [], ◌∷◌, map, take, drop, length, get_or, ap, sym, ◌∙◌, arith}
 use Rattle.std.proofs.lemmas.List.{append-nil, take_rest}
 use Rattle.aclgen_core.specs.declared.file_texts.FileText.{FileText}
 use Rattle.aclgen_core.specs.DecidingSteps.{text_view}

@@ -5,7 +5,7 @@ use Rattle.aclgen_core.proofs.PlanningLaws.{is-planned, rendered-on}
 use Rattle.aclgen_core.proofs.planning.plan.Goals as goal
 
 pub work_of-requires-clause-rendered : goal.work_of-requires-clause-rendered
-work_of-requires-clause-rendered c = rendered-on _ _ c.args.today c.args.loaded.now _ c.requires.fits c.requires.terms c.in-Ok.ensures
+work_of-requires-clause-rendered c = rendered-on _ _ c.args.today c.args.loaded.now _ c.requires.fits c.requires.terms c.in-Ok.ensures.prepared
 
 pub returns-in_ok-work_of-in-Ok : goal.returns-in_ok-work_of-in-Ok
 returns-in_ok-work_of-in-Ok c =

@@ -1,4 +1,4 @@
-use Rattle.std.proofs.Common.{◌≡◌, List, [], rules, sym, subst}
+use Rattle.std.proofs.Common.{List, [], rules, sym, subst}
 use Rattle.std.specs.List.{All}
 use Rattle.std.proofs.lemmas.List.Elements.{All-tail}
 use Rattle.acl_policy.specs.Conditions.{IsBlock}

@@ -2,7 +2,7 @@ use Rattle.std.proofs.Common.{List, [], ◌∷◌, map, sym, subst}
 use Rattle.acl_target.specs.declared.targets.Target.{Target}
 use Rattle.aclgen_core.specs.FilterRequests.{request_of}
 use Rattle.aclgen_core.specs.PreparingSteps.{Adds}
-use Rattle.aclgen_core.proofs.PreparingLaws.{adds-append, adds-none, adds-written, first-rest, still-open}
+use Rattle.aclgen_core.proofs.PreparingLaws.{adds-append, adds-written, first-rest}
 use Rattle.aclgen_core.proofs.preparing.+add_filters.Goals as goal
 
 pub returns-in_ok-add_filter-in-len1-up : goal.returns-in_ok-add_filter-in-len1-up

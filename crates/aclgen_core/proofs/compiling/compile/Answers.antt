@@ -1,6 +1,6 @@
 use Rattle.std.proofs.Common.{◌∙◌}
 use Rattle.aclgen_core.proofs.Rows.{fault-keeps, memory-keeps, outside-keeps, planned-keeps, usage-keeps}
-use Rattle.aclgen_core.proofs.running.aclgen.Goals as goal
+use Rattle.aclgen_core.proofs.compiling.compile.Goals as goal
 
 pub returns-in-Usage : goal.returns-in-Usage
 returns-in-Usage g c = usage-keeps _ _ _ _ _ _ _ _ _ _ c.requires c.in-Usage.ensures.seen c.in-Usage.ensures.asked c.in-Usage.ensures.so

@@ -1,0 +1,456 @@
+-- All shaded terms of a block can go at once.
+use Prim.Native.Nat.{zero, suc}
+use Rattle.std.proofs.Common.{◌≡◌, ◌≢◌, ℕ, ◌<◌, ◌≤◌, Bool, true, false, not, ◌&&◌, ◌||◌, if◌then◌else◌, nat_le, List, [], ◌∷◌, ◌++◌, map, length, Option, None, Some, Ok, Err, option_map, inl, inr, refl, ap, sym, subst, ◌∙◌, arith}
+use Rattle.std.specs.Prelude.{flat_map, zip, slice_index_or}
+use Rattle.std.specs.List.{AllByRecursion, Contains, list_any}
+use Rattle.std.proofs.lemmas.Bool.{and_from, and_parts, both_ways, false_from_ne_true, leb-true, le-leb}
+use Rattle.std.proofs.lemmas.List.Elements.{recursion_from_All}
+use Rattle.std.proofs.lemmas.List.Folds.{list_any-append}
+use Rattle.acl_packet.specs.declared.addresses.Families.{Families}
+use Rattle.acl_packet.specs.declared.addresses.Families.TheVariants.{Inet, Inet6, Mixed}
+use Rattle.acl_packet.specs.declared.addresses.Family.{Family}
+use Rattle.acl_packet.specs.declared.addresses.Family.TheVariants.{V4, V6}
+use Rattle.acl_packet.specs.declared.filtering.Outcome.{Outcome}
+use Rattle.acl_packet.specs.declared.packets.Packet.{Packet}
+use Rattle.acl_packet.specs.Addresses.{covers, same_family}
+use Rattle.acl_packet.specs.Packets.{IsPacket}
+use Rattle.acl_text.specs.declared.faults.Code.TheVariants.{TooManyPrefixes}
+use Rattle.acl_text.specs.declared.faults.Slip.{Slip}
+use Rattle.acl_host.specs.declared.clocks.Day.{Day}
+use Rattle.acl_host.specs.Files.{File}
+use Rattle.acl_sets.specs.Ranges.{holds}
+use Rattle.acl_naming.specs.Definitions.{Naming}
+use Rattle.acl_target.specs.declared.targets.Target.{Target}
+use Rattle.acl_policy.specs.declared.blocks.Block.{Block}
+use Rattle.acl_policy.specs.declared.raw_terms.RawTerm.{RawTerm}
+use Rattle.acl_policy.specs.Conditions.{IsBlock}
+use Rattle.acl_terms.specs.declared.options.Mode.{Mode}
+use Rattle.acl_terms.specs.declared.options.Mode.TheVariants.{Stateful, Stateless}
+use Rattle.acl_terms.specs.declared.options.Opt.{Opt}
+use Rattle.acl_terms.specs.declared.options.Opt.TheVariants as options
+use Rattle.acl_terms.specs.declared.terms.Term.{Term}
+use Rattle.acl_terms.specs.Outcomes.{PolicyDecides, mode_of, policy_outcome}
+use Rattle.acl_terms.specs.Resolved.{IsEmptyIn, destination_in, has_protocol, is_empty_in, is_term_live, source_in}
+use Rattle.acl_terms.specs.Slips.{first_in, slip_of}
+use Rattle.acl_terms.proofs.EmptyLaws.{empty-law}
+use Rattle.acl_terms.proofs.LifeLaws.{live-law}
+use Rattle.acl_terms.proofs.PolicyLaws.{decide-as-written}
+use Rattle.acl_platform.specs.declared.filters.Filter.{Filter}
+use Rattle.acl_platform.specs.declared.filters.Limit.{Limit}
+use Rattle.acl_platform.specs.declared.rules.Rule.{Rule}
+use Rattle.acl_expand.specs.Expansions.{filter_of}
+use Rattle.acl_expand.specs.ExpansionSlips.{first_slip, header_slip, most_prefixes, prefix_slip, prefixes_with, slip_behind, term_slip}
+use Rattle.acl_expand.specs.TermRules.{conditions_by, established_conditions, family_rules, members, rule_of, rules_of, term_rules}
+use Rattle.acl_shade.specs.ComputableShading.{is_shaded, unshaded, unshaded_behind}
+use Rattle.acl_shade.specs.Shading.{LiesWithinIn, Shades}
+use Rattle.acl_shade.proofs.DeletionLaws.{shaded-go, shading-stays}
+use Rattle.acl_load.specs.LoadedPolicies.{AreResolved, AreResolvedIn, blocks_slip, terms_slip}
+use Rattle.acl_load.proofs.AnswersThere.{loaded-stands}
+use Rattle.acl_render.specs.FewerRules.{IsLeftOf}
+use Rattle.acl_render.specs.PlatformFiles.{limit_of}
+use Rattle.acl_render.proofs.FewerRulesLaws.{fewer-rules-fit}
+use Rattle.acl_render.proofs.LeftLaws.{left-skip}
+use Rattle.aclgen_core.specs.FilterRequests.{block_requests, check_slip, limit_slip, loaded_slip, request_of, request_slip, requests_in, requests_slip}
+use Rattle.aclgen_core.specs.Job.{Plan, Plans, job_slip, or_slip, plan_of}
+use Rattle.acl_options.specs.CommandLines.{Options}
+use Rattle.aclgen_core.specs.Removals.{ShadedCanGo, kept_terms, kept_written, plan_block}
+use Rattle.aclgen_core.specs.ShadedSlips.{asked_shaded}
+use Rattle.aclgen_core.proofs.PreparingLaws.{first-none, both-none}
+
+-- ---- lists from which elements are taken out
+
+behind-left : {A : Type 0} (zs xs ys : List A) → IsLeftOf xs ys → IsLeftOf xs (zs ++ ys)
+behind-left [] xs ys h = h
+behind-left (z ∷ zs) xs ys h = left-skip xs z (zs ++ ys) (behind-left zs xs ys h)
+
+both-left : {A : Type 0} (zs xs ys : List A) → IsLeftOf xs ys → IsLeftOf (zs ++ xs) (zs ++ ys)
+both-left [] xs ys h = h
+both-left (z ∷ zs) xs ys h = inl (refl, both-left zs xs ys h)
+
+flat-left : {A B : Type 0} (f : A → List B) (xs ys : List A) → IsLeftOf xs ys → IsLeftOf (flat_map f xs) (flat_map f ys)
+flat-left f [] ys h = tt
+flat-left f (x ∷ xs) [] h = absurd h
+flat-left f (x ∷ xs) (y ∷ ys) (inl h) =
+    subst (λ z. IsLeftOf (f x ++ flat_map f xs) (f z ++ flat_map f ys)) h.0 (both-left (f x) (flat_map f xs) (flat_map f ys) (flat-left f xs ys h.1))
+flat-left f (x ∷ xs) (y ∷ ys) (inr h) = behind-left (f y) (flat_map f (x ∷ xs)) (flat_map f ys) (flat-left f (x ∷ xs) ys h)
+
+map-left : {A B : Type 0} (f : A → B) (xs ys : List A) → IsLeftOf xs ys → IsLeftOf (map f xs) (map f ys)
+map-left f [] ys h = tt
+map-left f (x ∷ xs) [] h = absurd h
+map-left f (x ∷ xs) (y ∷ ys) (inl h) = inl (ap f h.0, map-left f xs ys h.1)
+map-left f (x ∷ xs) (y ∷ ys) (inr h) = inr (map-left f (x ∷ xs) ys h)
+
+unshaded-left : {X : Type 0} (term_of : X → Term) (targets : List Target) (today : Day) (earlier : List Term) (xs : List X)
+    → IsLeftOf (unshaded_behind term_of targets today earlier xs) xs
+unshaded-left term_of targets today earlier [] = tt
+unshaded-left {X = X} term_of targets today earlier (x ∷ xs) =
+    by (unshaded_behind term_of targets today (earlier ++ term_of x ∷ []) xs)
+    (unshaded-left term_of targets today (earlier ++ term_of x ∷ []) xs) (is_shaded targets today earlier (term_of x))
+  where
+    by : (rest : List X) → IsLeftOf rest xs → (b : Bool) → IsLeftOf ((if b then [] else x ∷ []) ++ rest) (x ∷ xs)
+    by rest more true = left-skip rest x xs more
+    by rest more false = inl (refl, more)
+
+first-left : {A : Type 0} (f : A → Option Slip) (xs ys : List A) → IsLeftOf xs ys → first_in f ys ≡ None → first_in f xs ≡ None
+first-left f [] ys h none = refl
+first-left f (x ∷ xs) [] h none = absurd h
+first-left f (x ∷ xs) (y ∷ ys) (inl h) none =
+    let p = first-none (f y) (first_in f ys) none in
+    both-none (f x) (first_in f xs) (ap f h.0 ∙ p.0) (first-left f xs ys h.1 p.1)
+first-left f (x ∷ xs) (y ∷ ys) (inr h) none = first-left f (x ∷ xs) ys h (first-none (f y) (first_in f ys) none).1
+
+-- ---- the slips of terms
+
+within-most : (b : Bool) (slip : Slip) → (if b then None else Some slip) ≡ None → b ≡ true
+within-most true slip e = refl
+within-most false slip e = absurd (there e)
+  where
+    there : Some slip ≡ None → ⊥
+    there q = cc
+
+prefix-less : (t : Term) (less more : ℕ) → less ≤ more → prefix_slip t more ≡ None → prefix_slip t less ≡ None
+prefix-less t less more h e =
+    let slip : Slip = record { code = TooManyPrefixes; place = t.place; word = t.name } in
+    let within = leb-true more most_prefixes (within-most (nat_le more most_prefixes) slip e) in
+    ap (λ b. if b then None else Some slip) (le-leb less most_prefixes (omega (arith, within, h)))
+
+more-prefixes : (target : Target) (today : Day) (less more : ℕ) (t : Term) → less ≤ more
+    → prefixes_with target today less t ≤ prefixes_with target today more t
+more-prefixes target today less more t h = omega (arith, h)
+
+slips-none : (target : Target) (today : Day) (less more : ℕ) (xs ys : List Term) → less ≤ more → IsLeftOf xs ys
+    → slip_behind target today more ys ≡ None → slip_behind target today less xs ≡ None
+slips-none target today less more [] ys h left none = refl
+slips-none target today less more (x ∷ xs) [] h left none = absurd left
+slips-none target today less more (x ∷ xs) (y ∷ ys) h (inl left) none =
+    let p = first-none (term_slip target today more y) (slip_behind target today (prefixes_with target today more y) ys) none in
+    let q = first-none (header_slip target today y) (prefix_slip y (prefixes_with target today more y)) p.0 in
+    let fewer = more-prefixes target today less more y h in
+    let here : term_slip target today less y ≡ None =
+    both-none (header_slip target today y) (prefix_slip y (prefixes_with target today less y)) q.0
+    (prefix-less y (prefixes_with target today less y) (prefixes_with target today more y) fewer q.1) in
+    let rest : slip_behind target today (prefixes_with target today less y) xs ≡ None =
+    slips-none target today (prefixes_with target today less y) (prefixes_with target today more y) xs ys fewer left.1 p.1 in
+    subst (λ z. slip_behind target today less (z ∷ xs) ≡ None) (sym left.0)
+    (both-none (term_slip target today less y) (slip_behind target today (prefixes_with target today less y) xs) here rest)
+slips-none target today less more (x ∷ xs) (y ∷ ys) h (inr left) none =
+    let p = first-none (term_slip target today more y) (slip_behind target today (prefixes_with target today more y) ys) none in
+    slips-none target today less (prefixes_with target today more y) (x ∷ xs) ys (omega (arith, h)) left p.1
+
+-- ---- of which families there are rules
+
+abbrev of_family : Family → Rule → Bool
+of_family f r = same_family r.family f
+
+abbrev has_rule : Target → Day → Family → Term → Bool
+has_rule target today f t = is_term_live t target.kind today && (covers target.families f && not (is_empty_in f t))
+
+or-none : (b : Bool) → (b || false) ≡ b
+or-none true = refl
+or-none false = refl
+
+or-twice : (b : Bool) → (b || b) ≡ b
+or-twice true = refl
+or-twice false = refl
+
+abbrev SomeOf : {C : Type 0} → List C → Type 0
+SomeOf {C} all = (c : C) × (more : List C) × (all ≡ c ∷ more)
+
+some-established : (f : Family) (t : Term) (tcp udp : Bool) → SomeOf (established_conditions f t tcp udp)
+some-established f t true true = (_, _, refl)
+some-established f t true false = (_, _, refl)
+some-established f t false udp = (_, _, refl)
+
+some-conditions : (option : Opt) (mode : Mode) (f : Family) (t : Term) → SomeOf (conditions_by option mode f t)
+some-conditions options.Plain mode f t = (_, _, refl)
+some-conditions options.Established Stateful f t = (_, _, refl)
+some-conditions options.Established Stateless f t = some-established f t (holds t.protos.ranges 6) (holds t.protos.ranges 17)
+some-conditions options.TcpEstablished Stateful f t = (_, _, refl)
+some-conditions options.TcpEstablished Stateless f t = (_, _, refl)
+some-conditions options.TcpInitial mode f t = (_, _, refl)
+some-conditions options.Rst mode f t = (_, _, refl)
+
+rules-any : {C : Type 0} (rule : C → Rule) (of f : Family) → ((c : C) → (rule c).family ≡ of) → (c : C) (more : List C)
+    → list_any (of_family f) (map rule (c ∷ more)) ≡ same_family of f
+rules-any rule of f is c [] = or-none (same_family (rule c).family f) ∙ ap (λ g. same_family g f) (is c)
+rules-any rule of f is c (d ∷ more) =
+    ap (λ g. same_family g f || list_any (of_family f) (map rule (d ∷ more))) (is c)
+    ∙ ap (λ b. same_family of f || b) (rules-any rule of f is d more) ∙ or-twice (same_family of f)
+
+family-any : (target : Target) (t : Term) (of f : Family) → list_any (of_family f) (family_rules target t of) ≡ (not (is_empty_in of t) && same_family of f)
+unfolding family_rules
+family-any target t of f = by (is_empty_in of t)
+  where
+    by : (b : Bool) → list_any (of_family f) (if b then [] else map (rule_of target.kind of t) (conditions_by t.option (mode_of target) of t)) ≡ (not b && same_family of f)
+    by true = refl
+    by false =
+        let some = some-conditions t.option (mode_of target) of t in
+        ap (λ cs. list_any (of_family f) (map (rule_of target.kind of t) cs)) some.2 ∙ rules-any (rule_of target.kind of t) of f (λ c. refl) some.0 some.1
+
+abbrev by_family : Family → Bool → Bool → Bool
+by_family V4 four six = not four
+by_family V6 four six = not six
+
+abbrev members_any : Families → Bool → Bool → Bool
+members_any Inet four six = four || false
+members_any Inet6 four six = six || false
+members_any Mixed four six = four || (six || false)
+
+both-families : (families : Families) (f : Family) (four six : Bool)
+    → members_any families (not four && same_family V4 f) (not six && same_family V6 f) ≡ (covers families f && by_family f four six)
+both-families Inet V4 true six = refl
+both-families Inet V4 false six = refl
+both-families Inet V6 true six = refl
+both-families Inet V6 false six = refl
+both-families Inet6 V4 four true = refl
+both-families Inet6 V4 four false = refl
+both-families Inet6 V6 four true = refl
+both-families Inet6 V6 four false = refl
+both-families Mixed V4 true true = refl
+both-families Mixed V4 true false = refl
+both-families Mixed V4 false six = refl
+both-families Mixed V6 true true = refl
+both-families Mixed V6 true false = refl
+both-families Mixed V6 false true = refl
+both-families Mixed V6 false false = refl
+
+any-flat : {A B : Type 0} (test : B → Bool) (f : A → List B) (xs : List A) → list_any test (flat_map f xs) ≡ list_any (λ x. list_any test (f x)) xs
+any-flat test f [] = refl
+any-flat test f (x ∷ xs) = list_any-append test (f x) (flat_map f xs) ∙ ap (λ b. list_any test (f x) || b) (any-flat test f xs)
+
+any-as : {A : Type 0} (p q : A → Bool) → ((x : A) → p x ≡ q x) → (xs : List A) → list_any p xs ≡ list_any q xs
+any-as p q h [] = refl
+any-as p q h (x ∷ xs) = ap (λ b. b || list_any p xs) (h x) ∙ ap (λ b. q x || b) (any-as p q h xs)
+
+over-members : (families : Families) (p : Family → Bool) → list_any p (members families) ≡ members_any families (p V4) (p V6)
+over-members Inet p = refl
+over-members Inet6 p = refl
+over-members Mixed p = refl
+
+own-family : (f : Family) (t : Term) → by_family f (is_empty_in V4 t) (is_empty_in V6 t) ≡ not (is_empty_in f t)
+own-family V4 t = refl
+own-family V6 t = refl
+
+term-any : (target : Target) (today : Day) (f : Family) (t : Term) → list_any (of_family f) (term_rules target today t) ≡ has_rule target today f t
+unfolding term_rules
+term-any target today f t = by (is_term_live t target.kind today)
+  where
+    open-families : list_any (of_family f) (flat_map (family_rules target t) (members target.families)) ≡ (covers target.families f && not (is_empty_in f t))
+    open-families =
+        any-flat (of_family f) (family_rules target t) (members target.families)
+        ∙ any-as (λ g. list_any (of_family f) (family_rules target t g)) (λ g. not (is_empty_in g t) && same_family g f) (λ g. family-any target t g f) (members target.families)
+        ∙ over-members target.families (λ g. not (is_empty_in g t) && same_family g f)
+        ∙ both-families target.families f (is_empty_in V4 t) (is_empty_in V6 t)
+        ∙ ap (λ b. covers target.families f && b) (own-family f t)
+
+    by : (b : Bool) → list_any (of_family f) (if b then flat_map (family_rules target t) (members target.families) else [])
+        ≡ (b && (covers target.families f && not (is_empty_in f t)))
+    by true = open-families
+    by false = refl
+
+not-true : (b : Bool) → not b ≡ true → b ≡ false
+not-true true h = absurd (both_ways false refl h)
+not-true false h = refl
+
+-- A term that shades one which is not empty in a family is not empty there.
+still-some : (f : Family) (i j : Term) → (IsEmptyIn f j → ⊥) → LiesWithinIn f i j → is_empty_in f i ≡ false
+still-some f i j some within = false_from_ne_true (is_empty_in f i) (λ e. some (emptied ((empty-law f i).0 e)))
+  where
+    emptied : IsEmptyIn f i → IsEmptyIn f j
+    emptied (inl h) = inl (λ x. false_from_ne_true (holds (source_in f j).ranges x) (λ is. both_ways (holds (source_in f i).ranges x) (h x) (within.source x is)))
+    emptied (inr (inl h)) =
+        inr (inl (λ x. false_from_ne_true (holds (destination_in f j).ranges x) (λ is. both_ways (holds (destination_in f i).ranges x) (h x) (within.destination x is))))
+    emptied (inr (inr h)) = inr (inr (λ x. false_from_ne_true (has_protocol f j x) (λ is. both_ways (has_protocol f i x) (h x) (within.protocols x is))))
+
+-- It has a rule where the shaded one has one.
+shading-has : (targets : List Target) (today : Day) (target : Target) (f : Family) → Contains targets target → (i j : Term) → Shades targets today i j
+    → has_rule target today f j ≡ true → has_rule target today f i ≡ true
+shading-has targets today target f there i j h has =
+    let p = and_parts (is_term_live j target.kind today) (covers target.families f && not (is_empty_in f j)) has in
+    let q = and_parts (covers target.families f) (not (is_empty_in f j)) p.1 in
+    let some : IsEmptyIn f j → ⊥ = λ e. both_ways (is_empty_in f j) (not-true (is_empty_in f j) q.1) ((empty-law f j).1 e) in
+    let live = (live-law i target.kind today).1 (h.live.everywhere target there ((live-law j target.kind today).0 p.0)) in
+    and_from (is_term_live i target.kind today) (covers target.families f && not (is_empty_in f i)) live
+    (and_from (covers target.families f) (not (is_empty_in f i)) q.0 (ap not (still-some f i j some (h.addresses.each f some))))
+
+families-stay : (targets : List Target) (today : Day) (terms : List Term) (target : Target) (f : Family) → Contains targets target
+    → list_any (of_family f) (rules_of target today (unshaded targets today terms)) ≡ list_any (of_family f) (rules_of target today terms)
+families-stay targets today terms target f there =
+    let as-terms : (ts : List Term) → list_any (of_family f) (rules_of target today ts) ≡ list_any (has_rule target today f) ts = λ ts.
+    any-flat (of_family f) (term_rules target today) ts
+    ∙ any-as (λ t. list_any (of_family f) (term_rules target today t)) (has_rule target today f) (term-any target today f) ts in
+    as-terms (unshaded targets today terms)
+    ∙ shading-stays targets today terms (has_rule target today f) (shading-has targets today target f there)
+    ∙ sym (as-terms terms)
+
+-- ---- the filter on a target
+
+filter-none : (targets : List Target) (today : Day) (terms : List Term) (target : Target) → Contains targets target
+    → limit_of (filter_of target today terms) ≡ None → limit_of (filter_of target today (unshaded targets today terms)) ≡ None
+filter-none targets today terms target there none =
+    let kept = unshaded targets today terms in
+    fewer-rules-fit (filter_of target today terms) (filter_of target today kept) (record {
+      kind_is = refl;
+      families_are = refl;
+      rules = flat-left (term_rules target today) kept terms (unshaded-left (λ t. t) targets today [] terms);
+      kept = λ f has. families-stay targets today terms target f there ∙ has;
+    }) none
+
+no-limit : (f : Filter) → check_slip f ≡ None → limit_of f ≡ None
+unfolding check_slip
+no-limit f e = by (limit_of f) e
+  where
+    by : (l : Option Limit) → option_map (limit_slip f) l ≡ None → l ≡ None
+    by None q = refl
+    by (Some l) q = absurd (there q)
+      where
+        there : Some (limit_slip f l) ≡ None → ⊥
+        there r = cc
+
+no-check : (f : Filter) → limit_of f ≡ None → check_slip f ≡ None
+unfolding check_slip
+no-check f e = ap (option_map (limit_slip f)) e
+
+target-none : (targets : List Target) (today : Day) (written kept : List RawTerm) (terms : List Term) (target : Target) → Contains targets target
+    → request_slip today (request_of written terms target) ≡ None → request_slip today (request_of kept (unshaded targets today terms) target) ≡ None
+unfolding first_slip
+target-none targets today written kept terms target there none =
+    let left = unshaded targets today terms in
+    let p = first-none (first_slip target today terms) (check_slip (filter_of target today terms)) none in
+    both-none (first_slip target today left) (check_slip (filter_of target today left))
+    (slips-none target today 0 0 left terms (omega arith) (unshaded-left (λ t. t) targets today [] terms) p.0)
+    (no-check (filter_of target today left) (filter-none targets today terms target there (no-limit (filter_of target today terms) p.1)))
+
+-- What holds of each target that stands in a list holds of all of them.
+each-there : {A : Type 0} (P : A → Type 0) (all xs : List A) → ((x : A) → Contains xs x → Contains all x) → ((x : A) → Contains all x → P x) → AllByRecursion P xs
+each-there P all [] in-all f = tt
+each-there P all (x ∷ xs) in-all f = (
+  f x (in-all x (0, omega arith, refl)),
+  each-there P all xs (λ y c. in-all y (suc c.0, omega (arith, c.1), c.2)) f,
+)
+
+at-target : (today : Day) (written : List RawTerm) (terms : List Term) (xs : List Target) → first_in (request_slip today) (map (request_of written terms) xs) ≡ None
+    → (x : Target) → Contains xs x → request_slip today (request_of written terms x) ≡ None
+at-target today written terms [] none x c = absurd (omega (arith, c.1))
+at-target today written terms (y ∷ ys) none x c =
+    let p = first-none (request_slip today (request_of written terms y)) (first_in (request_slip today) (map (request_of written terms) ys)) none in
+    by p.0 (λ k h e. at-target today written terms ys p.1 x (k, h, e)) c.0 c.1 c.2
+  where
+    by : request_slip today (request_of written terms y) ≡ None
+        → ((k : ℕ) → k < length ys → slice_index_or ys k x ≡ x → request_slip today (request_of written terms x) ≡ None)
+        → (k : ℕ) → k < length (y ∷ ys) → slice_index_or (y ∷ ys) k x ≡ x → request_slip today (request_of written terms x) ≡ None
+    by here more zero h e = subst (λ z. request_slip today (request_of written terms z) ≡ None) e here
+    by here more (suc k) h e = more k (omega (arith, h)) e
+
+-- ---- the written terms
+
+zip-first : (n : Naming) (raws : List RawTerm) (terms : List Term) → AreResolved n raws terms → map (λ pair. pair.0) (zip raws terms) ≡ raws
+zip-first n [] [] h = refl
+zip-first n [] (t ∷ ts) h = absurd h
+zip-first n (r ∷ rs) [] h = absurd h
+zip-first n (r ∷ rs) (t ∷ ts) h = ap (λ xs. r ∷ xs) (zip-first n rs ts h.1)
+
+kept-resolved : (n : Naming) (targets : List Target) (today : Day) (earlier : List Term) (raws : List RawTerm) (terms : List Term) → AreResolved n raws terms
+    → AreResolved n (map (λ pair. pair.0) (unshaded_behind (λ pair. pair.1) targets today earlier (zip raws terms))) (unshaded_behind (λ t. t) targets today earlier terms)
+kept-resolved n targets today earlier [] [] h = tt
+kept-resolved n targets today earlier [] (t ∷ ts) h = absurd h
+kept-resolved n targets today earlier (r ∷ rs) [] h = absurd h
+kept-resolved n targets today earlier (r ∷ rs) (t ∷ ts) h =
+    by (unshaded_behind (λ pair. pair.1) targets today (earlier ++ t ∷ []) (zip rs ts))
+    (unshaded_behind (λ u. u) targets today (earlier ++ t ∷ []) ts)
+    (kept-resolved n targets today (earlier ++ t ∷ []) rs ts h.1) (is_shaded targets today earlier t)
+  where
+    by : (pairs : List (RawTerm × Term)) (left : List Term) → AreResolved n (map (λ pair. pair.0) pairs) left
+        → (b : Bool) → AreResolved n (map (λ pair. pair.0) ((if b then [] else (r, t) ∷ []) ++ pairs)) ((if b then [] else t ∷ []) ++ left)
+    by pairs left more true = more
+    by pairs left more false = (h.0, more)
+
+-- A packet has one outcome.
+one-outcome : (n : Naming) (target : Target) (today : Day) (raws : List RawTerm) (p : Packet) (a b : Outcome) → PolicyDecides n target today raws p a
+    → PolicyDecides n target today raws p b → a ≡ b
+one-outcome n target today [] p a b h k = h ∙ sym k
+one-outcome n target today (r ∷ rs) p a b (inl h) (inl k) = h.1 ∙ sym k.1
+one-outcome n target today (r ∷ rs) p a b (inl h) (inr k) = absurd (k.0 h.0)
+one-outcome n target today (r ∷ rs) p a b (inr h) (inl k) = absurd (h.0 k.0)
+one-outcome n target today (r ∷ rs) p a b (inr h) (inr k) = one-outcome n target today rs p a b h.1 k.1
+
+-- Lists of written terms whose resolved terms decide a packet alike do so too.
+decide-alike : (n : Naming) (target : Target) (today : Day) (raws others : List RawTerm) (terms more : List Term) (p : Packet) → IsPacket p
+    → AreResolved n raws terms → AreResolved n others more → policy_outcome target today terms p ≡ policy_outcome target today more p
+    → (o : Outcome) → PolicyDecides n target today raws p o → PolicyDecides n target today others p o
+decide-alike n target today raws others terms more p packet resolved other same o h =
+    let is = one-outcome n target today raws p o (policy_outcome target today terms p) h (decide-as-written n target today raws terms p packet resolved) in
+    subst (λ x. PolicyDecides n target today others p x) (sym (is ∙ same)) (decide-as-written n target today others more p packet other)
+
+-- ---- a block
+
+some-left : (targets : List Target) (today : Day) (terms : List Term) → 0 < length terms → unshaded targets today terms ≢ []
+some-left targets today [] h = absurd (omega (arith, h))
+some-left targets today (t ∷ ts) h = λ none.
+    let stays = shading-stays targets today (t ∷ ts) (λ _. true) (λ i j _ _. refl) in
+    both_ways true (sym stays ∙ ap (list_any (λ (u : Term). true)) none) refl
+
+resolved-length : (n : Naming) (raws : List RawTerm) (terms : List Term) → AreResolved n raws terms → length terms ≡ length raws
+resolved-length n [] [] h = refl
+resolved-length n [] (t ∷ ts) h = absurd h
+resolved-length n (r ∷ rs) [] h = absurd h
+resolved-length n (r ∷ rs) (t ∷ ts) h = ap suc (resolved-length n rs ts h.1)
+
+block-can-go : (n : Naming) (today : Day) (b : Block) (terms : List Term) → IsBlock b → terms_slip n b.terms ≡ None → AreResolved n b.terms terms
+    → first_in (request_slip today) (block_requests b terms) ≡ None → ShadedCanGo n today (plan_block (b, terms))
+block-can-go n today b terms fits clean resolved none =
+    let block = plan_block (b, terms) in
+    let size = resolved-length n b.terms terms resolved in
+    let kept = kept-resolved n b.targets today [] b.terms terms resolved in
+    let left : IsLeftOf (kept_written today block) b.terms =
+    subst (IsLeftOf (kept_written today block)) (zip-first n b.terms terms resolved)
+    (map-left (λ pair. pair.0) _ _ (unshaded-left (λ pair. pair.1) b.targets today [] (zip b.terms terms))) in
+    record {
+      some_left = some-left b.targets today terms (omega (arith, size, fits.some_term));
+      no_slip = first-left (slip_of n) (kept_written today block) b.terms left clean;
+      resolved = kept;
+      filters_fit = each-there (λ target. request_slip today (request_of (kept_written today block) (kept_terms today block) target) ≡ None)
+          b.targets b.targets (λ x c. c)
+          (λ target there. target-none b.targets today b.terms (kept_written today block) terms target there (at-target today b.terms terms b.targets none target there));
+      decide = λ target there p packet o.
+          let same = shaded-go b.targets today terms target p there in (
+            decide-alike n target today b.terms (kept_written today block) terms (kept_terms today block) p packet resolved kept (sym same) o,
+            decide-alike n target today (kept_written today block) b.terms (kept_terms today block) terms p packet kept resolved same o,
+          );
+    }
+
+first-append : {A : Type 0} (f : A → Option Slip) (xs ys : List A) → first_in f (xs ++ ys) ≡ None → (first_in f xs ≡ None) × (first_in f ys ≡ None)
+first-append f [] ys e = (refl, e)
+first-append f (x ∷ xs) ys e =
+    let p = first-none (f x) (first_in f (xs ++ ys)) e in
+    let q = first-append f xs ys p.1 in
+    (both-none (f x) (first_in f xs) p.0 q.0, q.1)
+
+blocks-can-go : (n : Naming) (today : Day) (blocks : List Block) (lists : List (List Term)) → AllByRecursion IsBlock blocks → blocks_slip n blocks ≡ None
+    → AreResolvedIn n blocks lists → requests_slip today (requests_in blocks lists) ≡ None → AllByRecursion (ShadedCanGo n today) (map plan_block (zip blocks lists))
+blocks-can-go n today [] lists fits clean resolved none = tt
+blocks-can-go n today (b ∷ bs) [] fits clean resolved none = tt
+blocks-can-go n today (b ∷ bs) (ts ∷ tss) fits clean resolved none =
+    let c = first-none (terms_slip n b.terms) (blocks_slip n bs) clean in
+    let r = first-append (request_slip today) (block_requests b ts) (requests_in bs tss) none in
+    (block-can-go n today b ts fits.0 c.0 resolved.0 r.0, blocks-can-go n today bs tss fits.1 c.1 resolved.1 r.1)
+
+-- ---- the plan of a job
+
+planned-none : (labels : List (List ℕ)) (slip : Option Slip) (made plan : Plan) → or_slip labels slip made ≡ Ok plan → (slip ≡ None) × (plan ≡ made)
+planned-none labels None made plan e = (refl, cc)
+planned-none labels (Some slip) made plan e = absurd cc
+
+pub shaded-can-go : (o : Options) (today : Day) (files : List File) (plan : Plan) → Plans o today files (Ok plan)
+    → AllByRecursion (ShadedCanGo plan.naming plan.today) plan.blocks
+shaded-can-go o today files plan (Ok loaded, loads, is) =
+    let stands = loaded-stands o.definitions o.policy files loaded loads in
+    let p = planned-none loaded.sources.labels (job_slip o today loaded) (plan_of o today loaded) plan (sym is) in
+    let q = first-none (loaded_slip today loaded) (asked_shaded o.shade_check today loaded) p.0 in
+    subst (λ (x : Plan). AllByRecursion (ShadedCanGo x.naming x.today) x.blocks) (sym p.1)
+    (blocks-can-go loaded.definitions today loaded.policy.blocks loaded.terms
+    (recursion_from_All IsBlock loaded.policy.blocks stands.policy_fits.blocks_are) stands.no_slip stands.resolved q.0)
+shaded-can-go o today files plan (Err fault, loads, is) = absurd (other is)
+  where
+    other : Ok plan ≡ Err fault → ⊥
+    other e = cc

@@ -1,0 +1,41 @@
+ghost use Rattle.std.specs.Prelude.{◌≡◌, map, None};
+ghost use Rattle.std.specs.String.{string_bytes};
+ghost use Rattle.aclgen_core.specs.Worlds.{disk, stream, watch, world};
+ghost use Rattle.aclgen_core.specs.Endings.{Keeps};
+
+use crate::acting::{carry_out, refuse, tell_outside};
+use crate::deciding::{Decision, decide};
+use crate::endings::Ended;
+use crate::fault_lines::usage_line;
+use acl_host::{Clock, Sink, Tree};
+use std::alloc::Global;
+
+/// Reads the words, the naming files and the policy, and writes the filters and the report.
+///
+/// The words are those behind the program's name, as `acl_options::read_options` reads them. The clock is asked where
+/// they name no day. `Keeps` has what each ending means.
+pub fn compile<T: Tree, O: Sink, E: Sink, C: Clock>(
+    alloc: Global,
+    words: &[String],
+    tree: &mut T,
+    out: &mut O,
+    err: &mut E,
+    clock: &mut C,
+) -> Ended
+    requires { T.begun tree.old ≡ None }
+    ensures { Keeps (map string_bytes words.now)
+        (world (disk T.files T.begun T.list_faults T.read_faults T.faults T.refusals tree.old)
+        (stream O.told O.faults O.refusals out.old) (stream E.told E.faults E.refusals err.old)
+        (watch C.day C.faults clock.old))
+        (world (disk T.files T.begun T.list_faults T.read_faults T.faults T.refusals tree.new)
+        (stream O.told O.faults O.refusals out.new) (stream E.told E.faults E.refusals err.new)
+        (watch C.day C.faults clock.new)) result }
+{
+    match decide(alloc, words, tree, clock) {
+        Decision::Usage => refuse(err, usage_line().as_bytes(), Ended::Usage),
+        Decision::Refused(fault, line) => refuse(err, line.as_slice(), Ended::Rejected(fault)),
+        Decision::Planned(work) => carry_out(&work, tree, out, err),
+        Decision::Outside(which) => tell_outside(err, which),
+        Decision::Memory => Ended::Memory,
+    }
+}

@@ -1,0 +1,92 @@
+ghost use Rattle.std.specs.Prelude.{◌≡◌, ◌≤◌, IfOk};
+ghost use Rattle.acl_host.specs.MemoryTrees.{contents};
+ghost use Rattle.aclgen_core.specs.Worlds.{stream};
+ghost use Rattle.aclgen_core.specs.WorkloadRuns.{
+  MakesWorkload,
+  ReportsOn,
+  RunsWorkload,
+  workload_files,
+};
+
+use crate::acting::{refuse, tell_outside};
+use crate::endings::{Ended, Which};
+use crate::fault_lines::fault_line;
+use crate::planning::{Work, make_work};
+use acl_host::{Day, MemTree, Sink, WriteFault};
+use acl_load::LoadFault;
+use acl_options::Options;
+use acl_text::{Memory, Rejection};
+use acl_workload::workload;
+use std::alloc::Global;
+
+// 2026-01-01
+const TODAY: Day = Day { number: 20_454 };
+
+// The workload's naming files and its policy, as files in memory.
+fn workload_tree(alloc: Global, terms: u32) -> Result<MemTree, Memory>
+    requires least { 1 ≤ terms }
+    requires most { terms ≤ 1024 }
+    ensures { IfOk result (λ tree. (contents tree).files ≡ workload_files terms) }
+{
+    let texts = workload(alloc, terms)?;
+    let mut tree = MemTree::new(alloc);
+    tree.put_file("def/w.net", texts.networks.as_slice())?;
+    tree.put_file("def/w.svc", texts.services.as_slice())?;
+    tree.put_file("pol/w.pol", texts.policy.as_slice())?;
+    Ok(tree)
+}
+
+// What is to be written of the workload, or its first fault. A tree in memory lists and reads: only memory may be wanting.
+fn plan_workload(alloc: Global, terms: u32) -> Result<Work, Rejection>
+    requires least { 1 ≤ terms }
+    requires most { terms ≤ 1024 }
+    ensures { MakesWorkload terms result }
+{
+    let mut tree = workload_tree(alloc, terms)?;
+    let options = Options {
+        policy: "pol/w.pol",
+        definitions: "def",
+        output: "out",
+        date: None,
+        exp_info: 2,
+        shade_check: false,
+    };
+    match make_work(alloc, &options, TODAY, &mut tree) {
+        Ok(work) => Ok(work),
+        Err(LoadFault::Fault(fault)) => Err(Rejection::Fault(fault)),
+        Err(LoadFault::List | LoadFault::Read | LoadFault::Memory) => Err(Rejection::Memory),
+    }
+}
+
+// Writes the report.
+fn report_on<O: Sink, E: Sink>(text: &[u8], out: &mut O, err: &mut E) -> Ended
+    ensures { ReportsOn text.now
+        (stream O.told O.faults O.refusals out.old) (stream O.told O.faults O.refusals out.new)
+        (stream E.told E.faults E.refusals err.old) (stream E.told E.faults E.refusals err.new)
+        result }
+{
+    match out.write(text) {
+        Ok(()) => Ended::Done,
+        Err(WriteFault::Failed) => tell_outside(err, Which::Out),
+        Err(WriteFault::Memory) => Ended::Memory,
+    }
+}
+
+/// The run of the workload of so many terms, 1 to 1024: its texts are compiled in memory, and the report is written.
+pub fn run_workload<O: Sink, E: Sink>(alloc: Global, terms: u32, out: &mut O, err: &mut E) -> Ended
+    requires least { 1 ≤ terms }
+    requires most { terms ≤ 1024 }
+    ensures { RunsWorkload terms
+        (stream O.told O.faults O.refusals out.old) (stream O.told O.faults O.refusals out.new)
+        (stream E.told E.faults E.refusals err.old) (stream E.told E.faults E.refusals err.new)
+        result }
+{
+    match plan_workload(alloc, terms) {
+        Ok(work) => report_on(work.report.as_slice(), out, err),
+        Err(Rejection::Fault(fault)) => match fault_line(alloc, &fault) {
+            Ok(line) => refuse(err, line.as_slice(), Ended::Rejected(fault)),
+            Err(_) => Ended::Memory,
+        },
+        Err(Rejection::Memory) => Ended::Memory,
+    }
+}
