@@ -482,8 +482,8 @@ fn an_interrupted_writing_leaves_whole_files(rt: HostRuntime) -> Result<(), Fail
     assert_eq!(rt; left.tree.file("out/a.acl"), Some(LIST_OF_WEB));
     assert_eq!(rt; left.tree.file("out/a.jcl"), None);
     assert_eq!(rt; left.tree.file("out/a.nft"), None);
-    assert_eq!(rt; left.out.as_slice(), b"");
-    assert_eq!(rt; left.err.as_slice(), b"aclgen: write failed\n");
+    assert!(rt; left.out.as_slice().is_empty());
+    assert!(rt; left.err.as_slice() == b"aclgen: write failed\n".as_slice());
     Ok(())
 }
 
