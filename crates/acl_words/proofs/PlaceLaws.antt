@@ -7,7 +7,7 @@ use Rattle.acl_text.specs.declared.faults.Place.{Place}
 use Rattle.acl_text.specs.declared.file_lines.Line.{Line}
 use Rattle.acl_words.specs.declared.forms.Form.{Form}
 use Rattle.acl_words.specs.declared.forms.Form.TheVariants as forms
-use Rattle.acl_words.specs.declared.forms.Token.{Token}
+use Rattle.acl_words.specs.Tokens.{Token}
 use Rattle.acl_words.specs.Bytes.{in_run, first_bad, ends_in_colon}
 use Rattle.acl_words.specs.Places.{IsLinePlace, HaveLinePlaces}
 use Rattle.acl_words.specs.Words.{word, part_word, last_part, split_run, Mode, Between, Comment, Run, String, opened_mode, brace, mode_behind, words_at, words_in, mode_in, line_words, line_mode, words_at_end, words_from, words_of}

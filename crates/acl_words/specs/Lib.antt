@@ -1,4 +1,6 @@
 pub mod Bytes
 pub mod Places
-pub mod ScanningSteps
+pub mod ReadingSteps
+pub mod ScanSteps
+pub mod Tokens
 pub mod Words

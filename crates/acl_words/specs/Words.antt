@@ -7,7 +7,7 @@ use Rattle.std.specs.Option.{option_map_or}
 use Rattle.acl_text.specs.declared.faults.Place.{Place}
 use Rattle.acl_words.specs.declared.forms.Form.{Form}
 use Rattle.acl_words.specs.declared.forms.Form.TheVariants.{Plain, Keyword, Begin, End, Quoted, Unclosed, Bad}
-use Rattle.acl_words.specs.declared.forms.Token.{Token}
+use Rattle.acl_words.specs.Tokens.{Token}
 use Rattle.acl_text.specs.declared.file_lines.Line.{Line}
 use Rattle.acl_words.specs.Bytes.{in_run, first_bad, ends_in_colon}
 

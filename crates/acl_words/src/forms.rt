@@ -1,5 +1,3 @@
-use acl_text::{Bytes, Place};
-
 /// How a word is meant.
 #[derive(Clone, Copy, Debug, PartialEq, Eq)]
 pub enum Form {
@@ -17,12 +15,4 @@ pub enum Form {
     Unclosed,
     /// A run with a byte that no word may have. The text is the first such byte.
     Bad,
-}
-
-/// A word of a policy: where it stands, how it is meant, and its bytes.
-#[derive(Debug, Drop)]
-pub struct Token {
-    pub place: Place,
-    pub form: Form,
-    pub text: Bytes,
 }

@@ -1,12 +1,15 @@
-//! The words of a policy: from the lines of its text to words, each with its place and how it is meant.
+//! The words of a policy, read one at a time from the lines of its text, each with its place and how it is meant.
 #![tactic(auto)]
 
 mod forms;
+mod places;
 mod policy_words;
 mod runs;
 mod scanning;
 #[cfg(test)]
 mod tests;
+mod tokens;
 
-pub use forms::{Form, Token};
-pub use policy_words::read_words;
+pub use forms::Form;
+pub use policy_words::Words;
+pub use tokens::Token;

@@ -1,10 +1,11 @@
-ghost use Rattle.std.specs.Prelude.{◌≡◌, [], ◌++◌, IfOk, OnOk};
+ghost use Rattle.std.specs.Prelude.{◌≡◌, [], ◌∷◌, option_map};
 ghost use Rattle.acl_words.specs.Bytes.{is_mark, in_run, is_printed, first_bad, ends_in_colon};
-ghost use Rattle.acl_words.specs.Words.{part_word, last_part, split_run};
+ghost use Rattle.acl_words.specs.ReadingSteps.{first_part};
+ghost use Rattle.acl_words.specs.Words.{part_word};
 
-use crate::forms::{Form, Token};
-use acl_text::{Bytes, Items, Memory, Place, is_white};
-use std::alloc::Global;
+use crate::forms::Form;
+use crate::tokens::Token;
+use acl_text::{Place, is_white};
 
 fn is_mark(byte: u8) -> bool
     ensures { result ≡ is_mark byte }
@@ -13,7 +14,7 @@ fn is_mark(byte: u8) -> bool
 }
 
 /// Whether the byte stands in a word.
-pub(crate) fn in_run(byte: u8) -> bool
+fn in_run(byte: u8) -> bool
     ensures { result ≡ in_run byte }
 {
     !(is_white(byte) || byte == b'\n') && !is_mark(byte)
@@ -25,12 +26,14 @@ fn is_printed(byte: u8) -> bool
     33 <= byte && byte <= 126
 }
 
-fn first_bad(text: &[u8]) -> Option<u8>
-    ensures { result ≡ first_bad text.now }
+/// The first byte that no word may have.
+fn first_bad(text: &[u8]) -> Option<&[u8]>
+    ensures { option_map (λ bad. bad.now) result
+        ≡ option_map (λ b. b ∷ []) (first_bad text.now) }
 {
-    for byte in text {
+    for (i, byte) in text.iter().enumerate() {
         if !is_printed(*byte) {
-            return Some(*byte);
+            return Some(&text[i..i + 1]);
         }
     }
     None
@@ -42,54 +45,27 @@ fn ends_in_colon(text: &[u8]) -> bool
     text.ends_with(b":")
 }
 
-fn part_word(alloc: Global, place: Place, form: Form, text: &[u8]) -> Result<Token, Memory>
-    ensures { IfOk result (λ t. t ≡ part_word place form text.now) }
+/// The word of a part of a run.
+pub(crate) fn part_word<'a>(place: Place, form: Form, text: &'a [u8]) -> Token<'a>
+    ensures { result ≡ part_word place form text.now }
 {
     match first_bad(text) {
-        Some(bad) => Ok(Token {
-            place,
-            form: Form::Bad,
-            text: Bytes::from_slice(alloc, &[bad])?,
-        }),
-        None => Ok(Token {
-            place,
-            form,
-            text: Bytes::from_slice(alloc, text)?,
-        }),
+        Some(bad) => Token::new(place, Form::Bad, bad),
+        None => Token::new(place, form, text),
     }
 }
 
-fn push_last(
-    alloc: Global,
-    words: &mut Items<Token>,
-    place: Place,
-    part: &[u8],
-) -> Result<(), Memory>
-    ensures { OnOk result (words.new ≡ words.old ++ last_part place part.now) }
+/// The first part of the run that the text begins with, its form, and the text behind it.
+pub(crate) fn first_part(text: &[u8]) -> (Form, &[u8], &[u8])
+    ensures { (result.0, result.1.now, result.2.now) ≡ first_part [] text.now }
 {
-    if !part.is_empty() {
-        words.push(part_word(alloc, place, Form::Plain, part)?)?;
-    }
-    Ok(())
-}
-
-/// Adds the words of a run of bytes.
-pub(crate) fn push_run(
-    alloc: Global,
-    words: &mut Items<Token>,
-    place: Place,
-    text: &[u8],
-) -> Result<(), Memory>
-    ensures { OnOk result (words.new ≡ words.old ++ split_run place [] text.now) }
-{
-    let mut part = Bytes::new(alloc);
-    for byte in text {
-        let at_end = *byte == b':' && ends_in_colon(part.as_slice());
-        part.push_all(&[*byte])?;
-        if at_end {
-            words.push(part_word(alloc, place, Form::Keyword, part.as_slice())?)?;
-            part = Bytes::new(alloc);
+    for (i, byte) in text.iter().enumerate() {
+        if !in_run(*byte) {
+            return (Form::Plain, &text[..i], &text[i..]);
+        }
+        if *byte == b':' && ends_in_colon(&text[..i]) {
+            return (Form::Keyword, &text[..i + 1], &text[i + 1..]);
         }
     }
-    push_last(alloc, words, place, part.as_slice())
+    (Form::Plain, text, &[])
 }

@@ -1,141 +1,139 @@
-ghost use Rattle.std.specs.Prelude.{◌≡◌, ◌∷◌, ◌++◌, [], OnOk};
-ghost use Rattle.acl_text.specs.declared.faults.Place.{Place};
-ghost use Rattle.acl_words.specs.Words.{word, Between, opened_mode, brace, mode_behind, words_at};
-ghost use Rattle.acl_words.specs.ScanningSteps.{mode_of};
+ghost use Rattle.std.specs.Prelude.{◌≡◌, ◌≢◌, ◌∷◌, ◌<◌, [], true, false, length, take, IfSome, IfNone};
+ghost use Rattle.acl_lines.specs.Stretches.{places_of};
+ghost use Rattle.acl_words.specs.Bytes.{in_run};
+ghost use Rattle.acl_words.specs.ReadingSteps.{is_blank, reached, words_on};
+ghost use Rattle.acl_words.specs.ScanSteps.{words_left};
+ghost use Rattle.acl_words.specs.Words.{Between, word};
 
-use crate::forms::{Form, Token};
-use crate::runs::{in_run, push_run};
-use acl_text::{Bytes, Items, Memory, Place};
-use std::alloc::Global;
-use std::mem;
+use crate::forms::Form;
+use crate::places::Places;
+use crate::runs::{first_part, part_word};
+use crate::tokens::Token;
+use acl_lines::Stretch;
+use acl_text::{is_white, split_at_byte};
 
-/// What stands open between two bytes.
-#[derive(Clone, Copy, Debug, PartialEq, Eq)]
-pub(crate) enum Phase {
-    Between,
-    Comment,
-    Run,
-    String,
-}
-
-/// The words so far, and the place and the text of the word that stands open.
+/// The text that is left, and the places of its lines.
 #[derive(Drop)]
-pub(crate) struct Reader {
-    pub(crate) words: Items<Token>,
-    pub(crate) phase: Phase,
-    pub(crate) place: Place,
-    pub(crate) text: Bytes,
+pub(crate) struct Scan<'a> {
+    rest: &'a [u8],
+    places: Places<'a>,
 }
 
-fn push_brace(alloc: Global, words: &mut Items<Token>, place: Place, byte: u8) -> Result<(), Memory>
-    ensures { OnOk result (words.new ≡ words.old ++ brace place byte) }
+fn is_blank(byte: u8) -> bool
+    ensures { result ≡ is_blank byte }
 {
-    let form = match byte {
-        b'{' => Form::Begin,
-        b'}' => Form::End,
-        _ => return Ok(()),
-    };
-    let text = Bytes::from_slice(alloc, &[byte])?;
-    words.push(Token { place, form, text })
+    is_white(byte) || byte == b'\n'
 }
 
-fn begin(alloc: Global, reader: &mut Reader, place: Place, byte: u8) -> Result<(), Memory>
-    ensures mode { OnOk result (mode_of reader.new ≡ opened_mode place byte) }
-    ensures words { OnOk result (reader.new.words ≡ reader.old.words ++ brace place byte) }
-{
-    if byte == b'"' {
-        reader.phase = Phase::String;
-        reader.place = place;
-        reader.text = Bytes::new(alloc);
-    } else if byte == b'#' {
-        reader.phase = Phase::Comment;
-    } else if in_run(byte) {
-        reader.text = Bytes::from_slice(alloc, &[byte])?;
-        reader.phase = Phase::Run;
-        reader.place = place;
-    } else {
-        push_brace(alloc, &mut reader.words, place, byte)?;
-        reader.phase = Phase::Between;
-    }
-    Ok(())
-}
-
-fn take_in_comment(reader: &mut Reader, byte: u8)
-    requires { reader.old.phase ≡ Phase.Comment }
-    ensures mode { (place : Place)
-        → mode_of reader.new ≡ mode_behind (mode_of reader.old) place byte }
-    ensures words { reader.new.words ≡ reader.old.words }
-{
-    if byte == b'\n' {
-        reader.phase = Phase::Between;
-    }
-}
-
-fn take_in_run(alloc: Global, reader: &mut Reader, place: Place, byte: u8) -> Result<(), Memory>
-    requires { reader.old.phase ≡ Phase.Run }
-    ensures mode { OnOk result (mode_of reader.new ≡ mode_behind (mode_of reader.old) place byte) }
-    ensures words { OnOk result (reader.new.words ≡ reader.old.words
-        ++ words_at (mode_of reader.old) place byte) }
-{
-    if in_run(byte) {
-        reader.text.push_all(&[byte])
-    } else {
-        push_run(
-            alloc,
-            &mut reader.words,
-            reader.place,
-            reader.text.as_slice(),
-        )?;
-        begin(alloc, reader, place, byte)
-    }
-}
-
-fn close_string(alloc: Global, reader: &mut Reader) -> Result<(), Memory>
-    ensures mode { OnOk result (mode_of reader.new ≡ Between) }
-    ensures words { OnOk result (reader.new.words ≡ reader.old.words
-        ++ word reader.old.place Form.Quoted reader.old.text ∷ []) }
-{
-    let text = mem::replace(&mut reader.text, Bytes::new(alloc));
-    reader.words.push(Token {
-        place: reader.place,
-        form: Form::Quoted,
-        text,
-    })?;
-    reader.phase = Phase::Between;
-    Ok(())
-}
-
-fn take_in_string(alloc: Global, reader: &mut Reader, place: Place, byte: u8) -> Result<(), Memory>
-    requires { reader.old.phase ≡ Phase.String }
-    ensures mode { OnOk result (mode_of reader.new ≡ mode_behind (mode_of reader.old) place byte) }
-    ensures words { OnOk result (reader.new.words ≡ reader.old.words
-        ++ words_at (mode_of reader.old) place byte) }
-{
-    if byte == b'"' {
-        close_string(alloc, reader)
-    } else {
-        reader.text.push_all(&[byte])
-    }
-}
-
-/// Takes the next byte of the text.
-pub(crate) fn take_byte(
-    alloc: Global,
-    reader: &mut Reader,
-    place: Place,
-    byte: u8,
-) -> Result<(), Memory>
-    ensures mode { OnOk result (mode_of reader.new ≡ mode_behind (mode_of reader.old) place byte) }
-    ensures words { OnOk result (reader.new.words ≡ reader.old.words
-        ++ words_at (mode_of reader.old) place byte) }
-{
-    match reader.phase {
-        Phase::Between => begin(alloc, reader, place, byte),
-        Phase::Comment => {
-            take_in_comment(reader, byte);
-            Ok(())
+impl<'a> Scan<'a> {
+    pub(crate) fn new(text: &'a [u8], stretches: &'a [Stretch]) -> Scan<'a>
+        ensures { words_left result ≡ words_on Between (reached (places_of stretches.now)) text.now }
+    {
+        Scan {
+            rest: text,
+            places: Places::new(stretches),
         }
-        Phase::Run => take_in_run(alloc, reader, place, byte),
-        Phase::String => take_in_string(alloc, reader, place, byte),
+    }
+
+    /// Passes a byte between words.
+    #[tactic(auto, using(crate::proofs::ReadingLaws::blank_read))]
+    fn pass_blank(&mut self, byte: u8, behind: &'a [u8])
+        requires text { self.old.rest.now ≡ byte ∷ behind.now }
+        requires blank { is_blank byte ≡ true }
+        ensures words { words_left self.new ≡ words_left self.old }
+        ensures less { length self.new.rest.now < length self.old.rest.now }
+    {
+        self.places.pass(byte);
+        self.rest = behind;
+    }
+
+    /// Passes a comment with the end of its line.
+    #[tactic(auto, using(crate::proofs::ReadingLaws::comment_read, crate::proofs::ReadingLaws::last_comment_read, acl_text::proofs::CursorLaws::cut_shorter))]
+    fn pass_comment(&mut self, behind: &'a [u8])
+        requires { self.old.rest.now ≡ 35 ∷ behind.now }
+        ensures words { words_left self.new ≡ words_left self.old }
+        ensures less { length self.new.rest.now < length self.old.rest.now }
+    {
+        match split_at_byte(behind, b'\n') {
+            Some((_, next_line)) => {
+                self.places.pass(b'\n');
+                self.rest = next_line;
+            }
+            None => self.rest = &[],
+        }
+    }
+
+    /// The word of one byte.
+    fn byte_word(&mut self, form: Form, behind: &'a [u8]) -> Token<'a>
+        requires { 0 < length self.old.rest.now }
+        ensures word { result ≡ word self.old.places.place form (take 1 self.old.rest.now) }
+        ensures rest { self.new.rest.now ≡ behind.now }
+        ensures places { self.new.places ≡ self.old.places }
+    {
+        let byte = &self.rest[..1];
+        self.rest = behind;
+        Token::new(self.places.here(), form, byte)
+    }
+
+    /// The string whose first quote is passed.
+    #[tactic(auto, using(crate::proofs::ReadingLaws::string_read, crate::proofs::ReadingLaws::open_string_read))]
+    fn string(&mut self, behind: &'a [u8]) -> Token<'a>
+        requires { self.old.rest.now ≡ 34 ∷ behind.now }
+        ensures { words_left self.old ≡ result ∷ words_left self.new }
+    {
+        match split_at_byte(behind, b'"') {
+            Some((text, next)) => {
+                let place = self.places.here();
+                self.places.pass_all(text);
+                self.rest = next;
+                Token::new(place, Form::Quoted, text)
+            }
+            None => self.byte_word(Form::Unclosed, &[]),
+        }
+    }
+
+    /// The first part of a run.
+    #[tactic(auto, using(crate::proofs::ReadingLaws::part_read))]
+    fn part(&mut self, byte: u8, behind: &'a [u8]) -> Token<'a>
+        requires text { self.old.rest.now ≡ byte ∷ behind.now }
+        requires run { in_run byte ≡ true }
+        ensures { words_left self.old ≡ result ∷ words_left self.new }
+    {
+        let (form, text, next) = first_part(self.rest);
+        self.rest = next;
+        part_word(self.places.here(), form, text)
+    }
+
+    /// The word that begins with the byte.
+    #[tactic(auto, using(crate::proofs::ReadingLaws::in_run_is))]
+    fn word(&mut self, byte: u8, behind: &'a [u8]) -> Token<'a>
+        requires text { self.old.rest.now ≡ byte ∷ behind.now }
+        requires word { is_blank byte ≡ false }
+        requires no_comment { byte ≢ 35 }
+        ensures { words_left self.old ≡ result ∷ words_left self.new }
+    {
+        match byte {
+            b'{' => self.byte_word(Form::Begin, behind),
+            b'}' => self.byte_word(Form::End, behind),
+            b'"' => self.string(behind),
+            _ => self.part(byte, behind),
+        }
+    }
+
+    /// The next word.
+    pub(crate) fn next(&mut self) -> Option<Token<'a>>
+        ensures some { IfSome result (λ t. words_left self.old ≡ t ∷ words_left self.new) }
+        ensures none { IfNone result ((words_left self.old ≡ []) × (words_left self.new ≡ [])) }
+    {
+        while let Some((byte, behind)) = self.rest.split_first() {
+            if is_blank(*byte) {
+                self.pass_blank(*byte, behind);
+            } else if *byte == b'#' {
+                self.pass_comment(behind);
+            } else {
+                return Some(self.word(*byte, behind));
+            }
+        }
+        None
     }
 }

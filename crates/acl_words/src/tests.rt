@@ -1,5 +1,8 @@
-use crate::{Form, Token, read_words};
-use acl_text::{Bytes, Line, Memory, Place};
+ghost use Rattle.acl_lines.specs.LineTexts.{HasNoFeed};
+
+use crate::{Form, Token, Words};
+use acl_lines::Lines;
+use acl_text::{Memory, Place};
 use std::alloc::Global;
 use std::str;
 use std::test::Fail;
@@ -11,8 +14,8 @@ fn text(bytes: &[u8]) -> &str {
     }
 }
 
-fn shown(alloc: Global, word: &Token) -> Result<String, Memory> {
-    let form = match word.form {
+fn shown(alloc: Global, word: &Token<'_>) -> Result<String, Memory> {
+    let form = match word.form() {
         Form::Plain => "w",
         Form::Keyword => "k",
         Form::Begin => "b",
@@ -21,24 +24,20 @@ fn shown(alloc: Global, word: &Token) -> Result<String, Memory> {
         Form::Unclosed => "u",
         Form::Bad => "x",
     };
-    Ok(format!(in alloc; "{}{form}{};", word.place.line, text(word.text.as_slice()))?)
+    Ok(format!(in alloc; "{}{form}{};", word.place().line, text(word.text()))?)
 }
 
-fn words_of(alloc: Global, first: &[u8], second: &[u8]) -> Result<String, Memory> {
-    let lines = [
-        Line {
-            place: Place { file: 0, line: 1 },
-            text: Bytes::from_slice(alloc, first)?,
-        },
-        Line {
-            place: Place { file: 0, line: 2 },
-            text: Bytes::from_slice(alloc, second)?,
-        },
-    ];
-    let words = read_words(alloc, &lines)?;
+fn words_of(alloc: Global, first: &[u8], second: &[u8]) -> Result<String, Memory>
+    requires first { HasNoFeed first.now }
+    requires second { HasNoFeed second.now }
+{
+    let mut lines = Lines::new(alloc);
+    lines.push(Place { file: 0, line: 1 }, first)?;
+    lines.push(Place { file: 0, line: 2 }, second)?;
+    let mut words = Words::new(&lines);
     let mut all = String::new(alloc);
-    for word in words.as_slice() {
-        let part = shown(alloc, word)?;
+    while let Some(word) = words.next() {
+        let part = shown(alloc, &word)?;
         all.push_str(part.as_str())?;
     }
     Ok(all)

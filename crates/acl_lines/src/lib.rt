@@ -1,0 +1,11 @@
+//! The lines of several files, kept as one text and their places.
+#![tactic(auto)]
+
+mod line_places;
+mod line_texts;
+mod stretches;
+#[cfg(test)]
+mod tests;
+
+pub use line_texts::Lines;
+pub use stretches::Stretch;
