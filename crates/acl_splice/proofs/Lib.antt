@@ -1,3 +1,4 @@
+pub mod FeedLaws
 pub mod FolderLaws
 pub mod Includes
 pub mod LabelLaws

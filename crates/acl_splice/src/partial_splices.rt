@@ -1,8 +1,10 @@
 ghost use Rattle.std.specs.Prelude.{◌≡◌, ◌<◌, ◌≤◌, false, option_map, slice_get, length, OnOk, IfOk};
+ghost use Rattle.acl_lines.specs.LineTexts.{HasNoFeed};
 ghost use Rattle.acl_splice.specs.Labels.{AreOfFiles};
 ghost use Rattle.acl_splice.specs.Splices.{nothing_read, with_line, with_file, with_include, is_long};
 
-use acl_text::{Bytes, Line, Memory, Place};
+use acl_lines::Lines;
+use acl_text::{Bytes, Memory, Place};
 use std::alloc::Global;
 use std::marker::Model;
 
@@ -16,7 +18,7 @@ const MOST_OF_ALL: usize = 16_777_216;
 #[derive(Drop)]
 pub(crate) struct PartialSplice {
     labels: Vec<Bytes>,
-    lines: Vec<Line>,
+    lines: Lines,
     size: usize,
     includes: u32,
 }
@@ -31,13 +33,13 @@ impl Model for PartialSplice {
 
     ghost view = { λ s. record {
       labels = s.labels.items;
-      lines = s.lines.items;
+      lines = s.lines;
       size = s.size;
       includes = s.includes;
     } };
 
     ghost invariant = { λ s. (length s.labels.items ≤ s.includes + 1)
-        × All (λ (l : Line). l.place.file < length s.labels.items) s.lines.items };
+        × All (λ (l : Line). l.place.file < length s.labels.items) s.lines };
 }
 
 impl PartialSplice {
@@ -46,17 +48,17 @@ impl PartialSplice {
     {
         PartialSplice {
             labels: Vec::new(alloc),
-            lines: Vec::new(alloc),
+            lines: Lines::new(alloc),
             size: 0,
             includes: 0,
         }
     }
 
     /// The lines of the splice.
-    pub(crate) fn lines(&self) -> &[Line]
+    pub(crate) fn lines(&self) -> &Lines
         ensures { result.now ≡ self.now.lines }
     {
-        self.lines.as_slice()
+        &self.lines
     }
 
     /// The label of the file, where there is a file of the number.
@@ -111,18 +113,12 @@ impl PartialSplice {
     }
 
     /// One more line, of a file that has a label.
-    pub(crate) fn add_line(
-        &mut self,
-        alloc: Global,
-        place: Place,
-        text: &[u8],
-    ) -> Result<(), Memory>
-        requires { place.file < length self.old.labels }
+    pub(crate) fn add_line(&mut self, place: Place, text: &[u8]) -> Result<(), Memory>
+        requires file { place.file < length self.old.labels }
+        requires text { HasNoFeed text.now }
         ensures line { OnOk result (self.new ≡ with_line place.file place.line text.now self.old) }
         ensures files { OnOk result (AreOfFiles self.new) }
     {
-        let text = Bytes::from_slice(alloc, text)?;
-        self.lines.push(Line { place, text })?;
-        Ok(())
+        self.lines.push(place, text)
     }
 }

@@ -2,7 +2,7 @@ ghost use Rattle.std.specs.Prelude.{◌≡◌, option_map, slice_get};
 ghost use Rattle.acl_splice.specs.Labels.{IsLabelled};
 
 use crate::partial_splices::PartialSplice;
-use acl_text::Line;
+use acl_lines::Lines;
 use std::marker::Model;
 
 /// A policy with its included files spliced in.
@@ -37,7 +37,7 @@ impl Sources {
     }
 
     /// The lines of the splice.
-    pub fn lines(&self) -> &[Line]
+    pub fn lines(&self) -> &Lines
         ensures lines { result.now ≡ self.now.lines }
         ensures labelled { IsLabelled self.now }
     {

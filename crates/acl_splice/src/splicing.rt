@@ -1,5 +1,6 @@
 ghost use Rattle.std.specs.Prelude.{◌≡◌, ◌≤◌, ◌<◌, ◌++◌, true, length, IfSome, IfOk, OnOk};
 ghost use Rattle.std.specs.String.{string_bytes};
+ghost use Rattle.acl_lines.specs.LineTexts.{HasNoFeed};
 ghost use Rattle.acl_splice.specs.IncludeLines.{is_path, asked_in};
 ghost use Rattle.acl_splice.specs.Labels.{GoesOn};
 ghost use Rattle.acl_splice.specs.Splicing.{behind_line, behind_file, behind_include};
@@ -100,7 +101,8 @@ fn meet_line<T: Tree>(
     place: Place,
     text: &[u8],
 ) -> Result<(), ReadFault>
-    requires { place.file < length sources.old.labels }
+    requires file { place.file < length sources.old.labels }
+    requires text { HasNoFeed text.now }
     ensures gives { IfSome (T.files tree.old) (λ fs. Leaves read_told sources.new result
         (behind_line (behind_include levels fs folder.now) label.now place.file place.line text.now
         (asked_in text.now) sources.old)) }
@@ -110,7 +112,7 @@ fn meet_line<T: Tree>(
 {
     match asked_in(text) {
         Asked::Nothing => {
-            sources.add_line(alloc, place, text)?;
+            sources.add_line(place, text)?;
             Ok(())
         }
         Asked::Wrong(path) => Err(ReadFault::Fault(line_fault(
@@ -128,6 +130,7 @@ fn meet_line<T: Tree>(
 
 /// The lines of a file that was read: all its bytes, or more of them than a file may have.
 #[cycle(includes)]
+#[tactic(auto, using(crate::proofs::FeedLaws::lines_have_none, crate::proofs::FeedLaws::first_has_none, crate::proofs::FeedLaws::others_have_none))]
 pub(crate) fn add_file<T: Tree>(
     alloc: Global,
     tree: &mut T,

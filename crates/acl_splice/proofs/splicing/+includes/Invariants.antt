@@ -1,5 +1,7 @@
-use Rattle.std.proofs.Common.{◌≡◌, ◌≤◌, ◌+◌, ◌*◌, length, IfSome}
+use Rattle.std.proofs.Common.{◌≡◌, ◌+◌, ◌*◌, length, IfSome}
+use Rattle.std.specs.List.{AllByRecursion}
 use Rattle.acl_text.specs.Cursors.{lines_of}
+use Rattle.acl_lines.specs.LineTexts.{HasNoFeed}
 use Rattle.acl_splice.specs.Labels.{GoesOn}
 use Rattle.acl_splice.specs.Splicing.{behind_lines, behind_include}
 use Rattle.acl_host.specs.Outside.{OnlyReads}
@@ -21,6 +23,7 @@ invariant-add_file-loop-text g l = record {
       g.T.Tree.list_faults g.T.Tree.read_faults l.fn.tree l.tree;
   read_on : GoesOn l.initial.sources l.sources;
   place : l.cursor.file ≡ l.file;
+  no_feeds : AllByRecursion HasNoFeed l.cursor.lines;
   goes_on : IfSome (g.T.Tree.files l.fn.tree) (λ fs.
       behind_lines (behind_include l.levels fs l.folder) l.label l.file
       (l.cursor.line + 1) l.cursor.lines l.sources
