@@ -1,3 +1,5 @@
+pub mod ClausesInParts
+pub mod JudgingLaws
 pub mod Outcomes
 pub mod PolicyFit
 pub mod SlipPlaces

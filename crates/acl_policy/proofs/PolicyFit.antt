@@ -19,7 +19,7 @@ use Rattle.acl_text.specs.Names.{is_name}
 use Rattle.acl_text.specs.Steps.{◌>>=◌}
 use Rattle.acl_words.specs.declared.forms.Form.{Form}
 use Rattle.acl_words.specs.declared.forms.Form.TheVariants as forms
-use Rattle.acl_words.specs.declared.forms.Token.{Token}
+use Rattle.acl_words.specs.Tokens.{Token}
 use Rattle.acl_words.specs.Places.{IsLinePlace, HaveLinePlaces}
 use Rattle.acl_policy.specs.declared.term_drafts.Draft.{Draft}
 use Rattle.acl_policy.specs.declared.raw_terms.RawTerm.{RawTerm}

@@ -9,7 +9,7 @@ use Rattle.acl_text.specs.declared.faults.Place.{Place}
 use Rattle.acl_text.specs.Names.{is_filter_name}
 use Rattle.acl_text.specs.SignedNumbers.{IsSignedWord, signed_in}
 use Rattle.acl_text.proofs.SignedLaws.{signed_some}
-use Rattle.acl_words.specs.declared.forms.Token.{Token}
+use Rattle.acl_words.specs.Tokens.{Token}
 use Rattle.acl_policy.specs.declared.choices.Choices.{Choices}
 use Rattle.acl_target.specs.declared.targets.Ending.TheVariants as endings
 use Rattle.acl_target.specs.declared.targets.Kind.{Kind}

@@ -5,7 +5,7 @@ use Rattle.std.specs.Str.{bytes_eq}
 use Rattle.std.proofs.lemmas.List.Elements.{All-nil, All-cons, All-append, All-set, All-get_or}
 use Rattle.acl_text.specs.declared.faults.Place.{Place}
 use Rattle.acl_text.specs.Steps.{◌>>=◌}
-use Rattle.acl_words.specs.declared.forms.Token.{Token}
+use Rattle.acl_words.specs.Tokens.{Token}
 use Rattle.acl_policy.specs.declared.term_drafts.Draft.{Draft}
 use Rattle.acl_policy.specs.declared.raw_terms.Word.{Word}
 use Rattle.acl_policy.specs.declared.raw_terms.RawTerm.{RawTerm}

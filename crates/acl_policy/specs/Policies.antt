@@ -11,7 +11,7 @@ use Rattle.acl_text.specs.declared.faults.Place.{Place}
 use Rattle.acl_text.specs.declared.faults.Slip.{Slip}
 use Rattle.acl_words.specs.declared.forms.Form.{Form}
 use Rattle.acl_words.specs.declared.forms.Form.TheVariants as forms
-use Rattle.acl_words.specs.declared.forms.Token.{Token}
+use Rattle.acl_words.specs.Tokens.{Token}
 use Rattle.acl_target.specs.declared.targets.Target.{Target}
 use Rattle.acl_policy.specs.declared.blocks.Policy.{Policy}
 use Rattle.acl_policy.specs.declared.states.Part.{Part}

@@ -6,7 +6,7 @@ use Rattle.acl_text.specs.declared.faults.Place.{Place}
 use Rattle.acl_text.specs.declared.faults.Slip.{Slip}
 use Rattle.acl_words.specs.declared.forms.Form.{Form}
 use Rattle.acl_words.specs.declared.forms.Form.TheVariants.{Bad, Unclosed}
-use Rattle.acl_words.specs.declared.forms.Token.{Token}
+use Rattle.acl_words.specs.Tokens.{Token}
 
 -- Line 0 of file 0, which is the policy: the start, where no word stands.
 abbrev pub start_place : Place

@@ -9,7 +9,7 @@ use Rattle.acl_text.specs.Names.{is_filter_name}
 use Rattle.acl_text.specs.SignedNumbers.{signed_in}
 use Rattle.acl_text.specs.declared.faults.Code.TheVariants as codes_of
 use Rattle.acl_text.specs.declared.faults.Slip.{Slip}
-use Rattle.acl_words.specs.declared.forms.Token.{Token}
+use Rattle.acl_words.specs.Tokens.{Token}
 use Rattle.acl_policy.specs.declared.choices.Choices.{Choices}
 use Rattle.acl_target.specs.declared.targets.Kind.{Kind}
 use Rattle.acl_target.specs.declared.targets.Kind.TheVariants.{Cisco, Juniper, Iptables, Nftables}

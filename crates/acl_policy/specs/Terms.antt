@@ -3,7 +3,7 @@ use Rattle.std.specs.Prelude.{ℕ, Bool, true, false, if◌then◌else◌, List,
 use Rattle.std.specs.Str.{bytes_eq}
 use Rattle.acl_text.specs.declared.faults.Code.TheVariants.{Keyword, Repeated}
 use Rattle.acl_text.specs.declared.faults.Slip.{Slip}
-use Rattle.acl_words.specs.declared.forms.Token.{Token}
+use Rattle.acl_words.specs.Tokens.{Token}
 use Rattle.acl_policy.specs.declared.term_drafts.Draft.{Draft}
 use Rattle.acl_policy.specs.declared.raw_terms.Word.{Word}
 use Rattle.acl_policy.specs.declared.raw_terms.RawTerm.{RawTerm}

@@ -37,10 +37,10 @@ pub(crate) struct Choices {
 }
 
 /// Whether the word is no string and has that text.
-pub(crate) fn is_word(word: &Token, text: &[u8]) -> bool
+pub(crate) fn is_word(word: &Token<'_>, text: &[u8]) -> bool
     ensures { result ≡ is_word word.now text.now }
 {
-    is_plain(word.form) && is_text(word, text)
+    is_plain(word.form()) && is_text(word, text)
 }
 
 fn choose_policy(choices: Choices, accept: bool) -> Option<Choices>
@@ -93,7 +93,7 @@ fn choose_priority(choices: Choices, priority: i32) -> Option<Choices>
 }
 
 /// The families of a word of a target line of the platform.
-pub(crate) fn family_word(kind: Kind, word: &Token) -> Option<Families>
+pub(crate) fn family_word(kind: Kind, word: &Token<'_>) -> Option<Families>
     ensures { result ≡ family_word kind word.now }
 {
     match kind {
@@ -115,7 +115,7 @@ pub(crate) fn family_word(kind: Kind, word: &Token) -> Option<Families>
     }
 }
 
-fn later_family(word: &Token) -> Option<Families>
+fn later_family(word: &Token<'_>) -> Option<Families>
     ensures { result ≡ later_family word.now }
 {
     if is_word(word, b"inet6") {
@@ -127,7 +127,7 @@ fn later_family(word: &Token) -> Option<Families>
     }
 }
 
-fn single_family(word: &Token) -> Option<Families>
+fn single_family(word: &Token<'_>) -> Option<Families>
     ensures { result ≡ single_family word.now }
 {
     if is_word(word, b"inet") {
@@ -140,7 +140,7 @@ fn single_family(word: &Token) -> Option<Families>
 }
 
 #[tactic(auto, unfolding(crate::specs::Targets::iptables_choice))]
-fn choose_iptables(choices: Choices, word: &Token) -> Option<Choices>
+fn choose_iptables(choices: Choices, word: &Token<'_>) -> Option<Choices>
     ensures { result ≡ iptables_choice choices word.now }
 {
     if is_word(word, b"ACCEPT") {
@@ -156,18 +156,18 @@ fn choose_iptables(choices: Choices, word: &Token) -> Option<Choices>
 }
 
 /// The priority of the word: 0 to 32767, or `-` and 1 to 32768.
-fn priority_word(word: &Token) -> Option<i32>
+fn priority_word(word: &Token<'_>) -> Option<i32>
     ensures { result ≡ priority_word word.now }
 {
-    if is_plain(word.form) {
-        read_signed(word.text.as_slice(), 32_768, 32_767)
+    if is_plain(word.form()) {
+        read_signed(word.text(), 32_768, 32_767)
     } else {
         None
     }
 }
 
 #[tactic(auto, unfolding(crate::specs::Targets::nftables_choice))]
-fn choose_nftables(choices: Choices, word: &Token) -> Option<Choices>
+fn choose_nftables(choices: Choices, word: &Token<'_>) -> Option<Choices>
     ensures { result ≡ nftables_choice choices word.now }
 {
     if is_word(word, b"ACCEPT") {
@@ -182,7 +182,7 @@ fn choose_nftables(choices: Choices, word: &Token) -> Option<Choices>
     }
 }
 
-fn choose(kind: Kind, choices: Choices, word: &Token) -> Option<Choices>
+fn choose(kind: Kind, choices: Choices, word: &Token<'_>) -> Option<Choices>
     ensures { result ≡ choice kind choices word.now }
 {
     match kind {
@@ -203,7 +203,11 @@ fn no_choices() -> Choices
 }
 
 /// What the words of a target line choose that stand in any order, each at most once.
-pub(crate) fn read_choices(alloc: Global, kind: Kind, words: &[Token]) -> Result<Choices, Refusal>
+pub(crate) fn read_choices(
+    alloc: Global,
+    kind: Kind,
+    words: &[Token<'_>],
+) -> Result<Choices, Refusal>
     ensures { Gives slip_told result (choices_from kind no_choices words.now) }
 {
     let mut choices = no_choices();

@@ -41,7 +41,7 @@ const MOST_TERMS: usize = 1024;
 fn judge_target(
     alloc: Global,
     state: &mut State,
-    keyword: &Token,
+    keyword: &Token<'_>,
     named: NamedTarget,
 ) -> Result<(), Refusal>
     ensures { Leaves slip_told state.new result (behind_target state.old keyword.now named) }
@@ -81,20 +81,20 @@ fn judge_header_keyword(
     }
 }
 
-fn is_term_name(terms: &[RawTerm], name: &Token) -> bool
+fn is_term_name(terms: &[RawTerm], name: &Token<'_>) -> bool
     ensures { result ≡ list_any (λ t. bytes_eq t.name.text name.now.text) terms.now }
 {
     terms.iter().any(|t| is_name_of(t, name))
 }
 
-fn is_name_of(term: &RawTerm, name: &Token) -> bool
+fn is_name_of(term: &RawTerm, name: &Token<'_>) -> bool
     ensures { result ≡ bytes_eq term.now.name.text name.now.text }
 {
-    term.name.text.as_slice() == name.text.as_slice()
+    term.name.text.as_slice() == name.text()
 }
 
 #[tactic(auto, unfolding(crate::specs::Policies::behind_name))]
-fn judge_name(alloc: Global, state: &mut State, word: &Token) -> Result<(), Refusal>
+fn judge_name(alloc: Global, state: &mut State, word: &Token<'_>) -> Result<(), Refusal>
     ensures { Leaves slip_told state.new result (behind_name state.old word.now) }
 {
     if !is_value(Takes::Name, word) {
@@ -131,7 +131,7 @@ fn end_term(alloc: Global, state: &mut State) -> Result<(), Memory>
 }
 
 #[tactic(auto, unfolding(crate::specs::Policies::behind_word))]
-fn judge_start(alloc: Global, state: &mut State, word: &Token) -> Result<(), Refusal>
+fn judge_start(alloc: Global, state: &mut State, word: &Token<'_>) -> Result<(), Refusal>
     ensures { Leaves slip_told state.new result (behind_word Part.Start state.old word.now) }
 {
     if is_word(word, b"header") {
@@ -143,21 +143,21 @@ fn judge_start(alloc: Global, state: &mut State, word: &Token) -> Result<(), Ref
 }
 
 #[tactic(auto, unfolding(crate::specs::Policies::behind_word))]
-fn judge_behind_header(alloc: Global, state: &mut State, word: &Token) -> Result<(), Refusal>
+fn judge_behind_header(alloc: Global, state: &mut State, word: &Token<'_>) -> Result<(), Refusal>
     ensures { Leaves slip_told state.new result (behind_word Part.HeaderEnd state.old word.now) }
 {
     if is_word(word, b"term") {
         state.part = Part::Term;
         Ok(())
     } else if is_word(word, b"header") {
-        Err(Refusal::Slip(slip_with(alloc, Code::Missing, word.place, b"term")?))
+        Err(Refusal::Slip(slip_with(alloc, Code::Missing, word.place(), b"term")?))
     } else {
         Err(Refusal::Slip(slip_for(alloc, Code::Syntax, word)?))
     }
 }
 
 #[tactic(auto, unfolding(crate::specs::Policies::behind_word))]
-fn judge_behind_term(alloc: Global, state: &mut State, word: &Token) -> Result<(), Refusal>
+fn judge_behind_term(alloc: Global, state: &mut State, word: &Token<'_>) -> Result<(), Refusal>
     ensures { Leaves slip_told state.new result (behind_word Part.TermEnd state.old word.now) }
 {
     if is_word(word, b"term") {
@@ -173,7 +173,7 @@ fn judge_behind_term(alloc: Global, state: &mut State, word: &Token) -> Result<(
 }
 
 #[tactic(auto, unfolding(crate::specs::Policies::behind_word))]
-fn judge_word(alloc: Global, part: Part, state: &mut State, word: &Token) -> Result<(), Refusal>
+fn judge_word(alloc: Global, part: Part, state: &mut State, word: &Token<'_>) -> Result<(), Refusal>
     ensures { Leaves slip_told state.new result (behind_word part state.old word.now) }
 {
     match part {
@@ -186,7 +186,11 @@ fn judge_word(alloc: Global, part: Part, state: &mut State, word: &Token) -> Res
 }
 
 /// Judges words that are no values of a keyword.
-pub(crate) fn judge_words(alloc: Global, state: &mut State, words: &[Token]) -> Result<(), Refusal>
+pub(crate) fn judge_words(
+    alloc: Global,
+    state: &mut State,
+    words: &[Token<'_>],
+) -> Result<(), Refusal>
     ensures { Leaves slip_told state.new result (behind_words state.old words.now) }
 {
     for word in words {
@@ -216,7 +220,12 @@ fn judge_keyword(
 }
 
 #[tactic(auto, unfolding(crate::specs::Policies::behind_begin))]
-fn judge_begin(alloc: Global, part: Part, state: &mut State, brace: &Token) -> Result<(), Refusal>
+fn judge_begin(
+    alloc: Global,
+    part: Part,
+    state: &mut State,
+    brace: &Token<'_>,
+) -> Result<(), Refusal>
     ensures { Leaves slip_told state.new result (behind_begin part state.old brace.now) }
 {
     match part {
@@ -233,11 +242,11 @@ fn judge_begin(alloc: Global, part: Part, state: &mut State, brace: &Token) -> R
 }
 
 #[tactic(auto, unfolding(crate::specs::Policies::behind_end))]
-fn judge_header_end(alloc: Global, state: &mut State, brace: &Token) -> Result<(), Refusal>
+fn judge_header_end(alloc: Global, state: &mut State, brace: &Token<'_>) -> Result<(), Refusal>
     ensures { Leaves slip_told state.new result (behind_end Part.InHeader state.old brace.now) }
 {
     if state.targets.as_slice().is_empty() {
-        let slip = slip_with(alloc, Code::Missing, brace.place, b"target::")?;
+        let slip = slip_with(alloc, Code::Missing, brace.place(), b"target::")?;
         return Err(Refusal::Slip(slip));
     }
     state.part = Part::HeaderEnd;
@@ -245,11 +254,11 @@ fn judge_header_end(alloc: Global, state: &mut State, brace: &Token) -> Result<(
 }
 
 #[tactic(auto, unfolding(crate::specs::Policies::behind_end))]
-fn judge_term_end(alloc: Global, state: &mut State, brace: &Token) -> Result<(), Refusal>
+fn judge_term_end(alloc: Global, state: &mut State, brace: &Token<'_>) -> Result<(), Refusal>
     ensures { Leaves slip_told state.new result (behind_end Part.InTerm state.old brace.now) }
 {
     if !state.draft.has_action {
-        let slip = slip_with(alloc, Code::Missing, brace.place, b"action::")?;
+        let slip = slip_with(alloc, Code::Missing, brace.place(), b"action::")?;
         return Err(Refusal::Slip(slip));
     }
     end_term(alloc, state)?;
@@ -257,7 +266,7 @@ fn judge_term_end(alloc: Global, state: &mut State, brace: &Token) -> Result<(),
 }
 
 #[tactic(auto, unfolding(crate::specs::Policies::behind_end))]
-fn judge_end(alloc: Global, part: Part, state: &mut State, brace: &Token) -> Result<(), Refusal>
+fn judge_end(alloc: Global, part: Part, state: &mut State, brace: &Token<'_>) -> Result<(), Refusal>
     ensures { Leaves slip_told state.new result (behind_end part state.old brace.now) }
 {
     match part {
@@ -277,7 +286,7 @@ pub(crate) fn judge_mark(
     ensures { Leaves slip_told state.new result (behind_mark clause.now.keyword.now.form state.old
         clause.now.keyword.now clause.now.values.now) }
 {
-    match clause.keyword.form {
+    match clause.keyword.form() {
         Form::Keyword => judge_keyword(alloc, state.part, state, clause),
         Form::Begin => {
             judge_begin(alloc, state.part, state, clause.keyword)?;

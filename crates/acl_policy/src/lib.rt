@@ -16,6 +16,7 @@ mod terms;
 #[cfg(test)]
 mod tests;
 mod values;
+mod word_judges;
 mod word_slips;
 
 pub use acl_splice::{GatherFault, Sources, gather, label};

@@ -1,33 +1,27 @@
-ghost use Rattle.std.specs.Prelude.{◌≡◌, List, IfErr, IfOk, IfSome};
+ghost use Rattle.std.specs.Prelude.{◌≡◌, List, [], IfErr, IfOk, IfSome, OnOk};
 ghost use Rattle.acl_words.specs.Words.{words_of};
 ghost use Rattle.acl_text.specs.declared.file_lines.Line.{Line};
 ghost use Rattle.acl_splice.specs.Labels.{HasLabel};
 ghost use Rattle.acl_words.specs.Places.{HaveLinePlaces};
 ghost use Rattle.acl_policy.specs.Conditions.{IsPolicy};
 ghost use Rattle.acl_policy.specs.PolicyPlaces.{PolicyStands, IsSlipPlace};
-ghost use Rattle.acl_text.specs.Answers.{Gives, Leaves, slip_told};
+ghost use Rattle.acl_text.specs.Answers.{Gives, Leaves, Stops, slip_told};
 ghost use Rattle.acl_policy.specs.Terms.{no_draft};
-ghost use Rattle.acl_policy.specs.Policies.{
-  start,
-  is_mark,
-  values_of,
-  behind_marks,
-  behind_all,
-  last_place,
-  end_of,
-  policy_of,
-};
+ghost use Rattle.acl_policy.specs.Policies.{start, last_place, end_of, policy_of};
+ghost use Rattle.acl_policy.specs.JudgingSteps.{rest_of};
+ghost use Rattle.acl_policy.specs.Slips.{start_place};
 
 use crate::blocks::Policy;
-use crate::clauses::Clause;
-use crate::judging::{end_block, judge_mark, judge_words};
+use crate::judging::end_block;
 use crate::states::{Part, State};
 use crate::term_drafts::no_draft;
+use crate::word_judges::Judge;
 use crate::word_slips::slip_with;
 use acl_splice::Sources;
 use acl_text::{Code, Items, Place, Refusal};
-use acl_words::{Form, Token, read_words};
+use acl_words::Words;
 use std::alloc::Global;
+use std::mem;
 
 fn start(alloc: Global) -> State
     ensures { result ≡ start }
@@ -43,63 +37,42 @@ fn start(alloc: Global) -> State
     }
 }
 
-fn is_mark(form: Form) -> bool
-    ensures { result ≡ is_mark form }
+/// Judges the words that are left, and gives the place of the last one.
+fn judge_all<'a>(
+    alloc: Global,
+    judge: &mut Judge<'a>,
+    words: &mut Words<'a>,
+) -> Result<Place, Refusal>
+    ensures goes_on { OnOk result (rest_of judge.old words.old ≡ rest_of judge.new []) }
+    ensures slip { IfErr result (λ e. Stops slip_told e (rest_of judge.old words.old)) }
+    ensures last { IfOk result (λ place. place ≡ last_place start_place words.old) }
 {
-    matches!(form, Form::Keyword | Form::Begin | Form::End)
-}
-
-/// The words before the first keyword or brace.
-fn values_of(words: &[Token]) -> &[Token]
-    ensures { result.now ≡ values_of words.now }
-{
-    for (i, word) in words.iter().enumerate() {
-        if is_mark(word.form) {
-            return &words[..i];
-        }
+    let mut last = Place { file: 0, line: 0 };
+    while let Some(word) = words.next() {
+        last = word.place();
+        judge.take(alloc, word)?;
     }
-    words
+    Ok(last)
 }
 
-fn judge_marks(alloc: Global, state: &mut State, words: &[Token]) -> Result<(), Refusal>
-    ensures { Leaves slip_told state.new result (behind_marks state.old words.now) }
+#[tactic(auto, using(crate::proofs::JudgingLaws::nothing_comes))]
+fn judge_rest<'a>(
+    alloc: Global,
+    judge: &mut Judge<'a>,
+    words: &mut Words<'a>,
+) -> Result<Place, Refusal>
+    ensures gives { Leaves slip_told judge.new.state result (rest_of judge.old words.old) }
+    ensures last { IfOk result (λ place. place ≡ last_place start_place words.old) }
 {
-    for (i, word) in words.iter().enumerate() {
-        if is_mark(word.form) {
-            let clause = Clause {
-                keyword: word,
-                values: values_of(&words[i + 1..]),
-            };
-            judge_mark(alloc, state, &clause)?;
-        }
-    }
-    Ok(())
-}
-
-fn judge_all(alloc: Global, words: &[Token]) -> Result<State, Refusal>
-    ensures { Gives slip_told result (behind_all words.now) }
-{
-    let mut state = start(alloc);
-    judge_words(alloc, &mut state, values_of(words))?;
-    judge_marks(alloc, &mut state, words)?;
-    Ok(state)
-}
-
-fn last_place(place: Place, words: &[Token]) -> Place
-    ensures { result ≡ last_place place words.now }
-{
-    let mut last = place;
-    for word in words {
-        last = word.place;
-    }
-    last
+    let last = judge_all(alloc, judge, words)?;
+    judge.judge_held(alloc)?;
+    Ok(last)
 }
 
 #[tactic(auto, unfolding(crate::specs::Policies::end_of))]
-fn end(alloc: Global, state: State, place: Place) -> Result<Policy, Refusal>
-    ensures { Gives slip_told result (end_of state.part state place) }
+fn end(alloc: Global, state: &mut State, place: Place) -> Result<Policy, Refusal>
+    ensures { Gives slip_told result (end_of state.old.part state.old place) }
 {
-    let mut state = state;
     match state.part {
         Part::Start => {
             let slip = slip_with(alloc, Code::Missing, place, b"header")?;
@@ -110,10 +83,9 @@ fn end(alloc: Global, state: State, place: Place) -> Result<Policy, Refusal>
             Err(Refusal::Slip(slip))
         }
         Part::TermEnd => {
-            end_block(alloc, &mut state)?;
-            Ok(Policy {
-                blocks: state.blocks,
-            })
+            end_block(alloc, state)?;
+            let blocks = mem::replace(&mut state.blocks, Items::new(alloc));
+            Ok(Policy { blocks })
         }
         _ => {
             let slip = slip_with(alloc, Code::Syntax, place, b"end")?;
@@ -122,21 +94,21 @@ fn end(alloc: Global, state: State, place: Place) -> Result<Policy, Refusal>
     }
 }
 
-#[tactic(auto, unfolding(crate::specs::Policies::policy_of))]
-fn judge_policy(alloc: Global, words: &[Token]) -> Result<Policy, Refusal>
-    ensures { Gives slip_told result (policy_of words.now) }
+#[tactic(auto, unfolding(crate::specs::Policies::policy_of, crate::specs::JudgingSteps::rest_behind))]
+fn judge_policy(alloc: Global, words: &mut Words<'_>) -> Result<Policy, Refusal>
+    ensures { Gives slip_told result (policy_of words.old) }
 {
-    let state = judge_all(alloc, words)?;
-    let place = last_place(Place { file: 0, line: 0 }, words);
-    end(alloc, state, place)
+    let mut judge = Judge::new(alloc, start(alloc));
+    let place = judge_rest(alloc, &mut judge, words)?;
+    end(alloc, &mut judge.state, place)
 }
 
-fn read_policy(alloc: Global, words: &[Token]) -> Result<Policy, Refusal>
-    ensures gives { Gives slip_told result (policy_of words.now) }
+fn read_policy(alloc: Global, words: &mut Words<'_>) -> Result<Policy, Refusal>
+    ensures gives { Gives slip_told result (policy_of words.old) }
     ensures fits { IfOk result IsPolicy }
-    ensures places { (lines : List Line) → HaveLinePlaces lines words.now
+    ensures places { (lines : List Line) → HaveLinePlaces lines words.old
         → IfOk result (PolicyStands lines) }
-    ensures slip { (lines : List Line) → HaveLinePlaces lines words.now
+    ensures slip { (lines : List Line) → HaveLinePlaces lines words.old
         → IfErr result (λ e. IfSome (slip_told e) (λ s. IsSlipPlace lines s.place)) }
 {
     judge_policy(alloc, words)
@@ -158,6 +130,6 @@ pub fn parse(alloc: Global, sources: &Sources) -> Result<Policy, Refusal>
     ensures labelled { IfErr result (λ e. IfSome (slip_told e)
         (λ s. HasLabel sources.now.labels s.place)) }
 {
-    let words = read_words(alloc, sources.lines())?;
-    read_policy(alloc, words.as_slice())
+    let mut words = Words::new(sources.lines());
+    read_policy(alloc, &mut words)
 }

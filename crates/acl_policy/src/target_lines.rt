@@ -32,7 +32,7 @@ pub(crate) struct NamedTarget {
     pub(crate) place: Place,
 }
 
-fn chain_word(word: &Token) -> Option<Hook>
+fn chain_word(word: &Token<'_>) -> Option<Hook>
     ensures { result ≡ chain_word word.now }
 {
     if is_word(word, b"INPUT") {
@@ -46,7 +46,7 @@ fn chain_word(word: &Token) -> Option<Hook>
     }
 }
 
-fn hook_word(word: &Token) -> Option<Hook>
+fn hook_word(word: &Token<'_>) -> Option<Hook>
     ensures { result ≡ hook_word word.now }
 {
     if is_word(word, b"input") {
@@ -60,16 +60,16 @@ fn hook_word(word: &Token) -> Option<Hook>
     }
 }
 
-fn name_word(word: &Token) -> bool
+fn name_word(word: &Token<'_>) -> bool
     ensures { result ≡ name_word word.now }
 {
-    is_plain(word.form) && is_filter_name(word.text.as_slice())
+    is_plain(word.form()) && is_filter_name(word.text())
 }
 
 fn make_target(
     alloc: Global,
-    keyword: &Token,
-    name: &Token,
+    keyword: &Token<'_>,
+    name: &Token<'_>,
     kind: Kind,
     families: Families,
     hook: Hook,
@@ -77,9 +77,9 @@ fn make_target(
     ensures { IfOk result (λ t. t ≡ target_of keyword.now name.now kind families hook) }
 {
     Ok(Target {
-        place: keyword.place,
+        place: keyword.place(),
         kind,
-        name: Bytes::from_slice(alloc, name.text.as_slice())?,
+        name: Bytes::from_slice(alloc, name.text())?,
         families,
         hook,
         stateful: false,
@@ -90,7 +90,7 @@ fn make_target(
     })
 }
 
-fn read_last_family(alloc: Global, kind: Kind, words: &[Token]) -> Result<Families, Refusal>
+fn read_last_family(alloc: Global, kind: Kind, words: &[Token<'_>]) -> Result<Families, Refusal>
     ensures { Gives slip_told result (last_family kind words.now) }
 {
     match words {
@@ -117,9 +117,9 @@ fn device_ending(kind: Kind) -> Ending
 fn read_device(
     alloc: Global,
     kind: Kind,
-    keyword: &Token,
-    platform: &Token,
-    words: &[Token],
+    keyword: &Token<'_>,
+    platform: &Token<'_>,
+    words: &[Token<'_>],
 ) -> Result<NamedTarget, Refusal>
     ensures { Gives slip_told result (device_line kind keyword.now platform.now words.now) }
 {
@@ -134,7 +134,7 @@ fn read_device(
             target.ending = device_ending(kind);
             Ok(NamedTarget {
                 target,
-                place: name.place,
+                place: name.place(),
             })
         }
     }
@@ -152,9 +152,9 @@ fn policy_ending(without: Ending, accept: Option<bool>) -> Ending
 
 fn read_iptables(
     alloc: Global,
-    keyword: &Token,
-    platform: &Token,
-    words: &[Token],
+    keyword: &Token<'_>,
+    platform: &Token<'_>,
+    words: &[Token<'_>],
 ) -> Result<NamedTarget, Refusal>
     ensures { Gives slip_told result (iptables_line keyword.now platform.now words.now) }
 {
@@ -172,16 +172,16 @@ fn read_iptables(
     target.ending = policy_ending(Ending::Left, choices.accept);
     Ok(NamedTarget {
         target,
-        place: name.place,
+        place: name.place(),
     })
 }
 
 fn read_hooked(
     alloc: Global,
-    keyword: &Token,
-    platform: &Token,
+    keyword: &Token<'_>,
+    platform: &Token<'_>,
     families: Families,
-    words: &[Token],
+    words: &[Token<'_>],
 ) -> Result<NamedTarget, Refusal>
     ensures { Gives slip_told result (hooked_line keyword.now platform.now families words.now) }
 {
@@ -200,15 +200,15 @@ fn read_hooked(
     target.verbose = !choices.marked;
     Ok(NamedTarget {
         target,
-        place: name.place,
+        place: name.place(),
     })
 }
 
 fn read_nftables(
     alloc: Global,
-    keyword: &Token,
-    platform: &Token,
-    words: &[Token],
+    keyword: &Token<'_>,
+    platform: &Token<'_>,
+    words: &[Token<'_>],
 ) -> Result<NamedTarget, Refusal>
     ensures { Gives slip_told result (nftables_line keyword.now platform.now words.now) }
 {

@@ -75,11 +75,11 @@ fn add_comment(draft: &mut Draft, text: &[u8]) -> Result<(), Memory>
 }
 
 /// Adds the strings to the term's comment.
-pub(crate) fn add_comments(draft: &mut Draft, values: &[Token]) -> Result<(), Memory>
+pub(crate) fn add_comments(draft: &mut Draft, values: &[Token<'_>]) -> Result<(), Memory>
     ensures { OnOk result (draft.new ≡ with_comments draft.old values.now) }
 {
     for value in values {
-        add_comment(draft, value.text.as_slice())?;
+        add_comment(draft, value.text())?;
     }
     Ok(())
 }

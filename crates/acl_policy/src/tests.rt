@@ -1,5 +1,5 @@
 use crate::{Policy, RawTerm, Target, Words, parse, put_target};
-use acl_host::{Day, MemTree, Whole};
+use acl_host::{Day, MemTree, Tree, Whole};
 use acl_splice::{Sources, gather};
 use acl_text::{Bytes, Memory, Refusal, Slip};
 use std::alloc::Global;
@@ -13,15 +13,24 @@ fn text(bytes: &[u8]) -> &str {
     }
 }
 
+fn gathered<T: Tree>(alloc: Global, tree: &mut T) -> Result<Sources, Memory> {
+    match gather(alloc, tree, "pol/a.pol") {
+        Ok(sources) => Ok(sources),
+        Err(_) => Err(Memory),
+    }
+}
+
 // The lines of the policy, which includes the other text by `#include 'v.inc'`.
 fn spliced(alloc: Global, policy: &[u8], included: &[u8]) -> Result<Sources, Memory> {
     let mut tree = MemTree::new(alloc);
     tree.put_file("pol/a.pol", policy)?;
     tree.put_file("pol/v.inc", included)?;
-    match gather(alloc, &mut tree, "pol/a.pol") {
-        Ok(sources) => Ok(sources),
-        Err(_) => Err(Memory),
-    }
+    gathered(alloc, &mut tree)
+}
+
+// Each test reads by this function, which promises nothing.
+fn read(alloc: Global, sources: &Sources) -> Result<Policy, Refusal> {
+    parse(alloc, sources)
 }
 
 fn shown_slip(alloc: Global, slip: &Slip) -> Result<String, Memory> {
@@ -32,7 +41,7 @@ fn shown_slip(alloc: Global, slip: &Slip) -> Result<String, Memory> {
 
 // The first slip, by its file, line, code and word.
 fn slip_of(alloc: Global, sources: &Sources) -> Result<String, Memory> {
-    match parse(alloc, sources) {
+    match read(alloc, sources) {
         Ok(_) => Ok(String::from_str(alloc, "none")?),
         Err(Refusal::Slip(slip)) => shown_slip(alloc, &slip),
         Err(Refusal::Memory) => Err(Memory),
@@ -268,7 +277,7 @@ fn shown_policy(alloc: Global, policy: &Policy) -> Result<String, Memory> {
 
 fn policy_of(alloc: Global, bytes: &[u8]) -> Result<String, Memory> {
     let sources = spliced(alloc, bytes, b"")?;
-    match parse(alloc, &sources) {
+    match read(alloc, &sources) {
         Ok(policy) => shown_policy(alloc, &policy),
         Err(Refusal::Slip(slip)) => shown_slip(alloc, &slip),
         Err(Refusal::Memory) => Err(Memory),
@@ -298,5 +307,87 @@ fn the_words_of_a_term(rt: HostRuntime) -> Result<(), Fail> {
         policy_of(rt.alloc(), policy)?.as_str(),
         "cisco e extended 1 0 Neighbours false;t| a # b c|A B C |6 tcp |term |echo-reply packet-too-big |rst |arista |reject true 20468"
     );
+    Ok(())
+}
+
+fn numbered_names(
+    alloc: Global,
+    before: &[u8],
+    names: u32,
+    behind: &[u8],
+) -> Result<Bytes, Memory> {
+    let mut all = Bytes::from_slice(alloc, before)?;
+    for number in 0..names {
+        let name = format!(in alloc; "n{number} ")?;
+        all.push_all(name.as_bytes())?;
+    }
+    all.push_all(behind)?;
+    Ok(all)
+}
+
+// Many values of a keyword are judged in parts.
+#[test]
+fn a_long_list_is_read_whole(rt: HostRuntime) -> Result<(), Fail> {
+    let alloc = rt.alloc();
+    for names in [64, 65, 129] {
+        let before = b"header { target:: cisco e } term t { source-address:: ";
+        let policy = numbered_names(alloc, before, names, b"action:: deny }")?;
+        let target = b"cisco e extended 1 0 Neighbours false;t||";
+        let expected = numbered_names(alloc, target, names, b"||||||deny false none")?;
+        assert_eq!(rt;
+            policy_of(alloc, policy.as_slice())?.as_str(),
+            text(expected.as_slice())
+        );
+    }
+    Ok(())
+}
+
+fn repeated(
+    alloc: Global,
+    before: &[u8],
+    word: &[u8],
+    times: u32,
+    behind: &[u8],
+) -> Result<Bytes, Memory> {
+    let mut all = Bytes::from_slice(alloc, before)?;
+    for _ in 0..times {
+        all.push_all(word)?;
+    }
+    all.push_all(behind)?;
+    Ok(all)
+}
+
+// The same slip, behind few words and behind many.
+#[test]
+fn a_slip_among_many_words(rt: HostRuntime) -> Result<(), Fail> {
+    let term = b"header { target:: cisco e } term t {\n action::".as_slice();
+    let list = b"header { target:: cisco e } term t {\n option::".as_slice();
+    let table: [(&[u8], &[u8], u32, &[u8], &str); 9] = [
+        (term, b"\ndeny", 2, b"", "0:4 Value deny"),
+        (term, b"\ndeny", 70, b"", "0:4 Value deny"),
+        (term, b"\ndeny", 140, b" action::", "0:4 Value deny"),
+        (list, b"\nrst", 63, b" x", "0:65 Value x"),
+        (list, b"\nrst", 64, b" x", "0:66 Value x"),
+        (list, b"\nrst", 70, b" {", "0:72 Syntax {"),
+        (
+            b"header { target:: nftables inet input",
+            b"\n5",
+            2,
+            b"",
+            "0:3 TargetLine 5",
+        ),
+        (
+            b"header { target:: nftables inet input",
+            b"\n5",
+            70,
+            b"",
+            "0:3 TargetLine 5",
+        ),
+        (b"header {", b"\nx", 70, b"", "0:2 Syntax x"),
+    ];
+    for (before, word, times, behind, slip) in table {
+        let policy = repeated(rt.alloc(), before, word, times, behind)?;
+        assert_eq!(rt; first_slip(rt.alloc(), policy.as_slice())?.as_str(), slip);
+    }
     Ok(())
 }

@@ -44,10 +44,10 @@ pub(crate) enum Takes {
 }
 
 /// Whether the word has that text.
-pub(crate) fn is_text(word: &Token, text: &[u8]) -> bool
+pub(crate) fn is_text(word: &Token<'_>, text: &[u8]) -> bool
     ensures { result ≡ bytes_eq word.now.text text.now }
 {
-    word.text.as_slice() == text
+    word.text() == text
 }
 
 fn is_action(text: &[u8]) -> bool
@@ -119,23 +119,23 @@ fn form_fits(kind: Takes, form: Form) -> bool
 }
 
 /// Whether a keyword of these values takes the word.
-pub(crate) fn is_value(kind: Takes, word: &Token) -> bool
+pub(crate) fn is_value(kind: Takes, word: &Token<'_>) -> bool
     ensures { result ≡ is_value kind word.now }
 {
-    form_fits(kind, word.form) && text_fits(kind, word.text.as_slice())
+    form_fits(kind, word.form()) && text_fits(kind, word.text())
 }
 
 /// A copy of the word.
-pub(crate) fn word_of(alloc: Global, word: &Token) -> Result<Word, Memory>
+pub(crate) fn word_of(alloc: Global, word: &Token<'_>) -> Result<Word, Memory>
     ensures { IfOk result (λ w. w ≡ word_of word.now) }
 {
     Ok(Word {
-        place: word.place,
-        text: Bytes::from_slice(alloc, word.text.as_slice())?,
+        place: word.place(),
+        text: Bytes::from_slice(alloc, word.text())?,
     })
 }
 
-fn check_all(alloc: Global, kind: Takes, values: &[Token]) -> Result<(), Refusal>
+fn check_all(alloc: Global, kind: Takes, values: &[Token<'_>]) -> Result<(), Refusal>
     ensures { Gives slip_told result (all_values kind values.now) }
 {
     for value in values {
@@ -157,7 +157,7 @@ pub(crate) fn check_values(alloc: Global, kind: Takes, clause: &Clause<'_>) -> R
     }
 }
 
-fn push_all(alloc: Global, words: &mut Words, values: &[Token]) -> Result<(), Memory>
+fn push_all(alloc: Global, words: &mut Words, values: &[Token<'_>]) -> Result<(), Memory>
     ensures { OnOk result (words.new ≡ words.old ++ map word_of values.now) }
 {
     for value in values {

@@ -6,21 +6,21 @@ use acl_words::{Form, Token};
 use std::alloc::Global;
 
 /// The slip of the code at the word.
-pub(crate) fn slip_at(alloc: Global, code: Code, word: &Token) -> Result<Slip, Memory>
+pub(crate) fn slip_at(alloc: Global, code: Code, word: &Token<'_>) -> Result<Slip, Memory>
     ensures { IfOk result (λ s. s ≡ slip_of code word.now) }
 {
     Ok(Slip {
         code,
-        place: word.place,
-        word: Bytes::from_slice(alloc, word.text.as_slice())?,
+        place: word.place(),
+        word: Bytes::from_slice(alloc, word.text())?,
     })
 }
 
 /// The slip at a word that is not taken: of the code, or of what is wrong with the word itself.
-pub(crate) fn slip_for(alloc: Global, code: Code, word: &Token) -> Result<Slip, Memory>
+pub(crate) fn slip_for(alloc: Global, code: Code, word: &Token<'_>) -> Result<Slip, Memory>
     ensures { IfOk result (λ s. s ≡ slip_for code word.now) }
 {
-    match word.form {
+    match word.form() {
         Form::Bad => slip_at(alloc, Code::BadByte, word),
         Form::Unclosed => slip_at(alloc, Code::Syntax, word),
         _ => slip_at(alloc, code, word),
