@@ -1,4 +1,5 @@
 ghost use Rattle.std.specs.Prelude.{◌≡◌, ℕ, List, Option, [], min};
+ghost use Rattle.std.specs.Str.{bytes_eq};
 ghost use Rattle.acl_text.specs.Output.{COUNT_END};
 ghost use Rattle.acl_platform.specs.declared.filters.Limit.{Limit};
 ghost use Rattle.acl_platform.specs.declared.rules.Rule.{Rule};
@@ -52,6 +53,16 @@ pub fn count_in_limit(count: u64) -> Result<u64, Limit>
     }
 }
 
+/// Whether two names are the same. Names that are numbered share their front, so their ends are compared first.
+fn is_same_name(name: &[u8], other: &[u8]) -> bool
+    ensures { result ≡ bytes_eq name.now other.now }
+{
+    match (name, other) {
+        ([.., last], [.., other_last]) if last != other_last => false,
+        _ => name == other,
+    }
+}
+
 /// Whether one of the earlier rules has the rule's name.
 ///
 /// A filter has at most a few thousand rules, so that its names are compared in pairs: nothing is
@@ -59,9 +70,10 @@ pub fn count_in_limit(count: u64) -> Result<u64, Limit>
 pub fn is_name_taken(earlier: &[Rule], rule: &Rule) -> bool
     ensures { result ≡ is_name_taken earlier.now rule.now }
 {
+    let name = rule.name.as_slice();
     earlier
         .iter()
-        .any(|other| other.name.as_slice() == rule.name.as_slice())
+        .any(|other| is_same_name(other.name.as_slice(), name))
 }
 
 /// Whether the rule names ports, and holds SCTP.
