@@ -15,7 +15,7 @@ use Rattle.acl_naming.specs.PortLaws.{IsInOrder, PortsAreOrdered, PortsAreSome}
 use Rattle.acl_naming.proofs.OrderedPorts.{order-kept, ordered-some}
 use Rattle.acl_splice.specs.Splices.{Splice}
 use Rattle.acl_splice.specs.Splicing.{splice_of}
-use Rattle.acl_words.specs.declared.forms.Token.{Token}
+use Rattle.acl_words.specs.Tokens.{Token}
 use Rattle.acl_words.specs.Words.{words_of}
 use Rattle.acl_policy.specs.declared.blocks.Block.{Block}
 use Rattle.acl_policy.specs.declared.blocks.Policy.{Policy}
