@@ -4,7 +4,7 @@ ghost use Rattle.acl_policy.specs.Conditions.{IsPolicy, IsRawTerm};
 ghost use Rattle.acl_target.specs.TargetData.{IsTarget};
 
 use crate::expand;
-use acl_host::{Day, MemTree, read_day};
+use acl_host::{Day, MemTree, Tree, read_day};
 use acl_naming::{Base, Checked, check, read_networks, read_services};
 use acl_packet::Prefix;
 use acl_platform::{Filter, Rule};
@@ -14,6 +14,7 @@ use acl_target::Target;
 use acl_terms::{Term, resolve};
 use acl_text::{Items, Memory, Refusal, Slip};
 use std::alloc::Global;
+use std::process::Abort;
 use std::str;
 use std::test::Fail;
 
@@ -33,6 +34,16 @@ fn definitions(alloc: Global) -> Result<Checked, Refusal> {
     check(read_services(base, 4, SERVICES)?)
 }
 
+// The policy at the path `a.pol`, whatever the tree.
+fn parsed<T: Tree>(alloc: Global, tree: &mut T) -> Result<Policy, Refusal>
+    ensures { IfOk result IsPolicy }
+{
+    match gather(alloc, tree, "a.pol") {
+        Ok(sources) => parse(alloc, &sources),
+        Err(_) => Err(Refusal::Memory),
+    }
+}
+
 // A policy with one target, whose first term is in line 4.
 fn policy_of(alloc: Global, target: &str, terms: &str) -> Result<Policy, Refusal>
     ensures { IfOk result IsPolicy }
@@ -40,10 +51,7 @@ fn policy_of(alloc: Global, target: &str, terms: &str) -> Result<Policy, Refusal
     let text = format!(in alloc; "header {{\n target:: {target}\n}}\n{terms}\n")?;
     let mut tree = MemTree::new(alloc);
     tree.put_file("a.pol", text.as_bytes())?;
-    match gather(alloc, &mut tree, "a.pol") {
-        Ok(sources) => parse(alloc, &sources),
-        Err(_) => Err(Refusal::Memory),
-    }
+    parsed(alloc, &mut tree)
 }
 
 fn terms_of(alloc: Global, base: &Checked, raws: &[RawTerm]) -> Result<Items<Term>, Refusal>
@@ -154,104 +162,144 @@ fn shown(alloc: Global, base: &Checked, target: &str, terms: &str) -> Result<Str
 
 const CISCO: &str = "cisco e extended";
 
-#[test]
-fn sets_of_addresses_become_least_lists(rt: HostRuntime) -> Result<(), Fail> {
-    let table = [
-        (
-            "term a {\n source-address:: LOW HIGH\n action:: deny\n}",
-            "a V4 Deny Plain;;; 167772160/24\n",
-        ),
-        (
-            "term a {\n source-address:: ONE TWO\n action:: reject\n}",
-            "a V4 Deny Plain;;; 167772416/24 167772672/24\n",
-        ),
-        (
-            "term none {\n source-address:: WEB\n source-exclude:: WEB\n action:: accept\n}\nterm rest {\n protocol:: udp icmpv6\n action:: accept\n}",
-            "rest V4 Accept Plain; 17-17;; 0/0\n",
-        ),
-        ("term a {\n expiration:: 2026-01-15\n action:: deny\n}", ""),
-        ("term a {\n platform:: juniper\n action:: deny\n}", ""),
-    ];
-    let base = definitions(rt.alloc())?;
-    for (terms, rules) in table {
-        assert_eq!(rt;
-            shown(rt.alloc(), &base, CISCO, terms)?.as_str(),
-            rules,
-            "at {terms}"
-        );
-    }
-    Ok(())
-}
+// A target, the terms, and what is shown of the filter.
+type Row = (&'static str, &'static str, &'static str);
 
-#[test]
-fn established_becomes_rules_by_protocol(rt: HostRuntime) -> Result<(), Fail> {
-    let both = "term est {\n protocol:: tcp udp\n option:: established\n action:: accept\n}";
-    let table = [
-        (
-            "juniper e inet",
-            both,
-            "est-tcp V4 Accept AckOrRst; 6-6;; 0/0\nest-udp V4 Accept Plain; 17-17; 1024-65535; 0/0\n",
-        ),
-        (
-            "nftables mixed input",
-            both,
-            "est V4 Accept State; 6-6 17-17;; 0/0\nest V6 Accept State; 6-6 17-17;; 0/0\n",
-        ),
-        (
-            CISCO,
-            "term t {\n protocol:: tcp\n option:: established\n action:: accept\n}",
-            "t V4 Accept AckOrRst; 6-6;; 0/0\n",
-        ),
-        (
-            CISCO,
-            "term u {\n protocol:: udp\n option:: established\n action:: accept\n}",
-            "u V4 Accept Plain; 17-17; 1024-65535; 0/0\n",
-        ),
-        (
-            CISCO,
-            "term n {\n protocol:: udp\n option:: established\n destination-port:: DNS\n action:: accept\n}",
-            "n V4 Accept Plain; 17-17; 53-53; 0/0\n",
-        ),
-    ];
-    let base = definitions(rt.alloc())?;
-    for (target, terms, rules) in table {
+fn expect(rt: &impl Abort, alloc: Global, rows: &[Row]) -> Result<(), Fail> {
+    let base = definitions(alloc)?;
+    for (target, terms, rules) in rows {
         assert_eq!(rt;
-            shown(rt.alloc(), &base, target, terms)?.as_str(),
-            rules,
+            shown(alloc, &base, target, terms)?.as_str(),
+            *rules,
             "at {target} {terms}"
         );
     }
     Ok(())
 }
 
+static LEAST_LISTS: [Row; 5] = [
+    (
+        CISCO,
+        "term a {\n source-address:: LOW HIGH\n action:: deny\n}",
+        "a V4 Deny Plain;;; 167772160/24\n",
+    ),
+    (
+        CISCO,
+        "term a {\n source-address:: ONE TWO\n action:: reject\n}",
+        "a V4 Deny Plain;;; 167772416/24 167772672/24\n",
+    ),
+    (
+        CISCO,
+        "term none {\n source-address:: WEB\n source-exclude:: WEB\n action:: accept\n}\nterm rest {\n protocol:: udp icmpv6\n action:: accept\n}",
+        "rest V4 Accept Plain; 17-17;; 0/0\n",
+    ),
+    (
+        CISCO,
+        "term a {\n expiration:: 2026-01-15\n action:: deny\n}",
+        "",
+    ),
+    (
+        CISCO,
+        "term a {\n platform:: juniper\n action:: deny\n}",
+        "",
+    ),
+];
+
+#[test]
+fn sets_of_addresses_become_least_lists(rt: HostRuntime) -> Result<(), Fail> {
+    expect(&rt, rt.alloc(), &LEAST_LISTS)
+}
+
+const BOTH_PROTOCOLS: &str =
+    "term est {\n protocol:: tcp udp\n option:: established\n action:: accept\n}";
+
+static ESTABLISHED: [Row; 5] = [
+    (
+        "juniper e inet",
+        BOTH_PROTOCOLS,
+        "est-tcp V4 Accept AckOrRst; 6-6;; 0/0\nest-udp V4 Accept Plain; 17-17; 1024-65535; 0/0\n",
+    ),
+    (
+        "nftables mixed input",
+        BOTH_PROTOCOLS,
+        "est V4 Accept State; 6-6 17-17;; 0/0\nest V6 Accept State; 6-6 17-17;; 0/0\n",
+    ),
+    (
+        CISCO,
+        "term t {\n protocol:: tcp\n option:: established\n action:: accept\n}",
+        "t V4 Accept AckOrRst; 6-6;; 0/0\n",
+    ),
+    (
+        CISCO,
+        "term u {\n protocol:: udp\n option:: established\n action:: accept\n}",
+        "u V4 Accept Plain; 17-17; 1024-65535; 0/0\n",
+    ),
+    (
+        CISCO,
+        "term n {\n protocol:: udp\n option:: established\n destination-port:: DNS\n action:: accept\n}",
+        "n V4 Accept Plain; 17-17; 53-53; 0/0\n",
+    ),
+];
+
+#[test]
+fn established_becomes_rules_by_protocol(rt: HostRuntime) -> Result<(), Fail> {
+    expect(&rt, rt.alloc(), &ESTABLISHED)
+}
+
+static OPTIONS: [Row; 4] = [
+    (
+        "iptables INPUT DROP",
+        "term o {\n protocol:: tcp\n option:: tcp-established\n action:: accept\n}",
+        "o V4 Accept State; 6-6;; 0/0\n",
+    ),
+    (
+        CISCO,
+        "term o {\n protocol:: tcp\n option:: tcp-established\n action:: accept\n}",
+        "o V4 Accept AckOrRst; 6-6;; 0/0\n",
+    ),
+    (
+        CISCO,
+        "term o {\n protocol:: tcp\n option:: tcp-initial\n action:: accept\n}",
+        "o V4 Accept SynNotAck; 6-6;; 0/0\n",
+    ),
+    (
+        "iptables INPUT DROP",
+        "term o {\n protocol:: tcp\n option:: rst\n action:: accept\n}",
+        "o V4 Accept Rst; 6-6;; 0/0\n",
+    ),
+];
+
 #[test]
 fn other_options_keep_one_rule(rt: HostRuntime) -> Result<(), Fail> {
-    let table = [
-        (
-            "iptables INPUT DROP",
-            "tcp-established",
-            "o V4 Accept State; 6-6;; 0/0\n",
-        ),
-        (
-            CISCO,
-            "tcp-established",
-            "o V4 Accept AckOrRst; 6-6;; 0/0\n",
-        ),
-        (CISCO, "tcp-initial", "o V4 Accept SynNotAck; 6-6;; 0/0\n"),
-        ("iptables INPUT DROP", "rst", "o V4 Accept Rst; 6-6;; 0/0\n"),
-    ];
-    let base = definitions(rt.alloc())?;
-    for (target, option, rules) in table {
-        let terms = format!(in rt.alloc();
-            "term o {{\n protocol:: tcp\n option:: {option}\n action:: accept\n}}"
-        )?;
-        assert_eq!(rt;
-            shown(rt.alloc(), &base, target, &terms)?.as_str(),
-            rules,
-            "at {target} {option}"
-        );
-    }
-    Ok(())
+    expect(&rt, rt.alloc(), &OPTIONS)
+}
+
+const AH: &str = "term a {\n protocol:: 60 ah\n action:: deny\n}";
+
+static EXTENSION_HEADERS: [Row; 6] = [
+    ("cisco e inet6", AH, "4 ExtensionHeader 51"),
+    ("cisco e mixed", AH, "4 ExtensionHeader 51"),
+    (CISCO, AH, "a V4 Deny Plain; 51-51 60-60;; 0/0\n"),
+    (
+        "cisco e inet6",
+        "term a {\n protocol:: ah\n source-address:: WEB\n action:: deny\n}",
+        "",
+    ),
+    (
+        "cisco e inet6",
+        "term a {\n protocol:: ah\n platform:: juniper\n action:: deny\n}",
+        "",
+    ),
+    (
+        "cisco e inet6",
+        "term a {\n protocol:: esp\n source-address:: SIX\n action:: deny\n}",
+        "a V6 Deny Plain; 50-50;; 0/1\n",
+    ),
+];
+
+#[test]
+fn extension_headers_are_slips_in_ipv6(rt: HostRuntime) -> Result<(), Fail> {
+    expect(&rt, rt.alloc(), &EXTENSION_HEADERS)
 }
 
 const EDGE_NETWORKS: &[u8] =
@@ -286,6 +334,11 @@ term default-deny {
  action:: deny
 }";
 
+fn edge_definitions(alloc: Global) -> Result<Checked, Refusal> {
+    let base = read_networks(Base::new(alloc), 1, EDGE_NETWORKS)?;
+    check(read_services(base, 2, EDGE_SERVICES)?)
+}
+
 // Each rule in one line, and behind it where it goes, and whether it is logged.
 fn shown_with_ends(alloc: Global, rules: &[Rule]) -> Result<String, Memory> {
     let mut out = String::new(alloc);
@@ -299,78 +352,49 @@ fn shown_with_ends(alloc: Global, rules: &[Rule]) -> Result<String, Memory> {
     Ok(out)
 }
 
-#[test]
-fn an_edge_policy_becomes_rules(rt: HostRuntime) -> Result<(), Fail> {
-    let alloc = rt.alloc();
-    let established = "term e {\n protocol:: tcp\n option:: tcp-established\n action:: accept\n}";
-    let table = [
-        (
-            CISCO,
-            "term a {\n source-address:: TEN\n source-exclude:: PIN\n action:: accept\n}",
-            "a V4 Accept Plain;;; 167772160/9 176160768/32 176160770/31 176160772/30 176160776/29 176160784/28 176160800/27 176160832/26 176160896/25 176161024/24 176161280/23 176161792/22 176162816/21 176164864/20 176168960/19 176177152/18 176193536/17 176226304/16 176291840/15 176422912/14 176685056/13 177209344/12 178257920/11 180355072/10\n to 0/0 false\n",
-        ),
-        (
-            "iptables INPUT nostate",
-            established,
-            "e V4 Accept AckOrRst; 6-6;; 0/0\n to 0/0 false\n",
-        ),
-        (
-            "iptables INPUT",
-            established,
-            "e V4 Accept State; 6-6;; 0/0\n to 0/0 false\n",
-        ),
-        (
-            CISCO,
-            EDGE_TERMS,
-            "block-bogon V4 Deny Plain;;; 167772160/8 2130706432/8 2886729728/12 3232235520/16\n to 0/0 false\nestablished-tcp V4 Accept AckOrRst; 6-6;; 0/0\n to 0/0 false\nestablished-udp V4 Accept Plain; 17-17; 1024-65535; 0/0\n to 0/0 false\ndns V4 Accept Plain; 6-6 17-17; 53-53; 0/0\n to 3221226037/32 false\nweb V4 Accept Plain; 6-6; 80-80 443-443; 0/0\n to 3221225994/31 false\ndefault-deny V4 Deny Plain;;; 0/0\n to 0/0 true\n",
-        ),
-        (
-            "nftables mixed input",
-            EDGE_TERMS,
-            "block-bogon V4 Deny Plain;;; 167772160/8 2130706432/8 2886729728/12 3232235520/16\n to 0/0 false\nblock-bogon V6 Deny Plain;;; 334965454937798799971759379190646833152/7\n to 0/0 false\nestablished V4 Accept State; 6-6 17-17;; 0/0\n to 0/0 false\nestablished V6 Accept State; 6-6 17-17;; 0/0\n to 0/0 false\ndns V4 Accept Plain; 6-6 17-17; 53-53; 0/0\n to 3221226037/32 false\nweb V4 Accept Plain; 6-6; 80-80 443-443; 0/0\n to 3221225994/31 false\nweb V6 Accept Plain; 6-6; 80-80 443-443; 0/0\n to 42540766411282592856903984951653826576/128 false\ndefault-deny V4 Deny Plain;;; 0/0\n to 0/0 true\ndefault-deny V6 Deny Plain;;; 0/0\n to 0/0 true\n",
-        ),
-    ];
-    let base = read_networks(Base::new(alloc), 1, EDGE_NETWORKS)?;
-    let base = check(read_services(base, 2, EDGE_SERVICES)?)?;
-    for (target, terms, rules) in table {
-        let filter = filter_of(alloc, &base, target, terms)?;
-        assert_eq!(rt;
-            shown_with_ends(alloc, filter.rules.as_slice())?.as_str(),
-            rules,
-            "at {target} {terms}"
-        );
-    }
-    Ok(())
+fn edge_shown(alloc: Global, base: &Checked, target: &str, terms: &str) -> Result<String, Refusal> {
+    let filter = filter_of(alloc, base, target, terms)?;
+    Ok(shown_with_ends(alloc, filter.rules.as_slice())?)
 }
 
+const TCP_ESTABLISHED: &str =
+    "term e {\n protocol:: tcp\n option:: tcp-established\n action:: accept\n}";
+
+static EDGE: [Row; 5] = [
+    (
+        CISCO,
+        "term a {\n source-address:: TEN\n source-exclude:: PIN\n action:: accept\n}",
+        "a V4 Accept Plain;;; 167772160/9 176160768/32 176160770/31 176160772/30 176160776/29 176160784/28 176160800/27 176160832/26 176160896/25 176161024/24 176161280/23 176161792/22 176162816/21 176164864/20 176168960/19 176177152/18 176193536/17 176226304/16 176291840/15 176422912/14 176685056/13 177209344/12 178257920/11 180355072/10\n to 0/0 false\n",
+    ),
+    (
+        "iptables INPUT nostate",
+        TCP_ESTABLISHED,
+        "e V4 Accept AckOrRst; 6-6;; 0/0\n to 0/0 false\n",
+    ),
+    (
+        "iptables INPUT",
+        TCP_ESTABLISHED,
+        "e V4 Accept State; 6-6;; 0/0\n to 0/0 false\n",
+    ),
+    (
+        CISCO,
+        EDGE_TERMS,
+        "block-bogon V4 Deny Plain;;; 167772160/8 2130706432/8 2886729728/12 3232235520/16\n to 0/0 false\nestablished-tcp V4 Accept AckOrRst; 6-6;; 0/0\n to 0/0 false\nestablished-udp V4 Accept Plain; 17-17; 1024-65535; 0/0\n to 0/0 false\ndns V4 Accept Plain; 6-6 17-17; 53-53; 0/0\n to 3221226037/32 false\nweb V4 Accept Plain; 6-6; 80-80 443-443; 0/0\n to 3221225994/31 false\ndefault-deny V4 Deny Plain;;; 0/0\n to 0/0 true\n",
+    ),
+    (
+        "nftables mixed input",
+        EDGE_TERMS,
+        "block-bogon V4 Deny Plain;;; 167772160/8 2130706432/8 2886729728/12 3232235520/16\n to 0/0 false\nblock-bogon V6 Deny Plain;;; 334965454937798799971759379190646833152/7\n to 0/0 false\nestablished V4 Accept State; 6-6 17-17;; 0/0\n to 0/0 false\nestablished V6 Accept State; 6-6 17-17;; 0/0\n to 0/0 false\ndns V4 Accept Plain; 6-6 17-17; 53-53; 0/0\n to 3221226037/32 false\nweb V4 Accept Plain; 6-6; 80-80 443-443; 0/0\n to 3221225994/31 false\nweb V6 Accept Plain; 6-6; 80-80 443-443; 0/0\n to 42540766411282592856903984951653826576/128 false\ndefault-deny V4 Deny Plain;;; 0/0\n to 0/0 true\ndefault-deny V6 Deny Plain;;; 0/0\n to 0/0 true\n",
+    ),
+];
+
 #[test]
-fn extension_headers_are_slips_in_ipv6(rt: HostRuntime) -> Result<(), Fail> {
-    let ah = "term a {\n protocol:: 60 ah\n action:: deny\n}";
-    let table = [
-        ("cisco e inet6", ah, "4 ExtensionHeader 51"),
-        ("cisco e mixed", ah, "4 ExtensionHeader 51"),
-        (CISCO, ah, "a V4 Deny Plain; 51-51 60-60;; 0/0\n"),
-        (
-            "cisco e inet6",
-            "term a {\n protocol:: ah\n source-address:: WEB\n action:: deny\n}",
-            "",
-        ),
-        (
-            "cisco e inet6",
-            "term a {\n protocol:: ah\n platform:: juniper\n action:: deny\n}",
-            "",
-        ),
-        (
-            "cisco e inet6",
-            "term a {\n protocol:: esp\n source-address:: SIX\n action:: deny\n}",
-            "a V6 Deny Plain; 50-50;; 0/1\n",
-        ),
-    ];
-    let base = definitions(rt.alloc())?;
-    for (target, terms, answer) in table {
+fn an_edge_policy_becomes_rules(rt: HostRuntime) -> Result<(), Fail> {
+    let base = edge_definitions(rt.alloc())?;
+    for (target, terms, rules) in &EDGE {
         assert_eq!(rt;
-            shown(rt.alloc(), &base, target, terms)?.as_str(),
-            answer,
+            edge_shown(rt.alloc(), &base, target, terms)?.as_str(),
+            *rules,
             "at {target} {terms}"
         );
     }
@@ -394,33 +418,39 @@ fn holed_terms(alloc: Global, count: u32, last: &str) -> Result<String, Memory> 
     Ok(out)
 }
 
-// Without the first two addresses, what is left of a block is 124 prefixes: `last` has 998 and 1,000, and `less` one
-// prefix less.
+// What is shown of 99 such terms and the last on a filter of IPv6.
+fn holed_shown(alloc: Global, base: &Checked, last: &str) -> Result<String, Fail> {
+    let terms = holed_terms(alloc, 99, last)?;
+    Ok(shown(alloc, base, "cisco e inet6", &terms)?)
+}
+
+// Without the first two addresses, what is left of a block is 124 prefixes: the last term has 998 and 1,000.
+static HOLED: [(&str, &str); 3] = [
+    (
+        "term last {\n source-exclude:: FIRSTS SECONDS\n destination-exclude:: FIRSTS\n action:: deny\n}\n",
+        "503 TooManyPrefixes last",
+    ),
+    (
+        "term last {\n source-exclude:: FIRSTS SECONDS\n destination-exclude:: FIRSTS\n action:: deny\n}\nterm h {\n protocol:: ah\n action:: deny\n}\n",
+        "503 TooManyPrefixes last",
+    ),
+    (
+        "term last {\n source-exclude:: FIRSTS SECONDS\n destination-exclude:: FIRSTS\n protocol:: ah\n action:: deny\n}\n",
+        "503 ExtensionHeader 51",
+    ),
+];
+
+// A last term with one prefix less.
+const LESS: &str =
+    "term less {\n source-exclude:: FIRSTS SECONDS\n destination-exclude:: FIRSTS THIRD\n action:: deny\n}\n";
+
 #[test]
 fn prefixes_of_a_filter_are_counted(rt: HostRuntime) -> Result<(), Fail> {
-    let less =
-        "term less {\n source-exclude:: FIRSTS SECONDS\n destination-exclude:: FIRSTS THIRD\n action:: deny\n}\n";
-    let last =
-        "term last {\n source-exclude:: FIRSTS SECONDS\n destination-exclude:: FIRSTS\n action:: deny\n}\n";
-    let header =
-        "term last {\n source-exclude:: FIRSTS SECONDS\n destination-exclude:: FIRSTS\n protocol:: ah\n action:: deny\n}\n";
-    let both =
-        "term last {\n source-exclude:: FIRSTS SECONDS\n destination-exclude:: FIRSTS\n action:: deny\n}\nterm h {\n protocol:: ah\n action:: deny\n}\n";
-    let table = [
-        (last, "503 TooManyPrefixes last"),
-        (both, "503 TooManyPrefixes last"),
-        (header, "503 ExtensionHeader 51"),
-    ];
     let base = definitions(rt.alloc())?;
-    for (last, slip) in table {
-        let terms = holed_terms(rt.alloc(), 99, last)?;
-        assert_eq!(rt;
-            shown(rt.alloc(), &base, "cisco e inet6", &terms)?.as_str(),
-            slip
-        );
+    for (last, slip) in &HOLED {
+        assert_eq!(rt; holed_shown(rt.alloc(), &base, last)?.as_str(), *slip);
     }
-    let terms = holed_terms(rt.alloc(), 99, less)?;
-    let filter = filter_of(rt.alloc(), &base, "cisco e inet6", &terms)?;
-    assert_eq!(rt; filter.rules.as_slice().len(), 101);
+    let rules = holed_shown(rt.alloc(), &base, LESS)?;
+    assert_eq!(rt; rules.as_str().lines().count(), 101);
     Ok(())
 }

@@ -1,4 +1,4 @@
-ghost use Rattle.std.specs.Prelude.{◌≡◌};
+ghost use Rattle.std.specs.Prelude.{◌≡◌, None};
 
 use crate::disk::front_of;
 use crate::{
@@ -11,7 +11,7 @@ use std::alloc::Global;
 use std::io::{ErrorKind, Read};
 use std::test::Fail;
 use std::time::{self, Duration, SystemTime};
-use std::{fs, io, process};
+use std::{fs, io, process, str};
 
 // What the tree says of the folder: each name with a space behind it, or why there are none.
 fn names_text<T: Tree>(alloc: Global, tree: &mut T, dir: &str) -> Result<String, Memory>
@@ -41,6 +41,20 @@ fn fault_text(alloc: Global, fault: TreeFault) -> Result<String, Memory> {
     Ok(String::from_str(alloc, text)?)
 }
 
+// Whether the tree says just this of the folder.
+fn lists<T: Tree>(alloc: Global, tree: &mut T, dir: &str, names: &str) -> Result<bool, Memory>
+    ensures { T.begun tree.new ≡ T.begun tree.old }
+{
+    Ok(names_text(alloc, tree, dir)?.as_str() == names)
+}
+
+fn text(bytes: &[u8]) -> &str {
+    match str::from_utf8(bytes) {
+        Ok(text) => text,
+        Err(_) => "?",
+    }
+}
+
 // Whether the tree gives these bytes as the first of the file.
 fn reads<T: Tree>(alloc: Global, tree: &mut T, path: &str, most: usize, bytes: &[u8]) -> bool
     ensures { T.begun tree.new ≡ T.begun tree.old }
@@ -58,26 +72,28 @@ fn lacks<T: Tree>(alloc: Global, tree: &mut T, path: &str) -> bool
     tree.read(alloc, path, 9).err() == Some(TreeFault::Absent)
 }
 
-#[test]
-fn names_are_listed_in_byte_order(rt: HostRuntime) -> Result<(), Fail> {
-    let mut tree = MemTree::new(rt.alloc());
-    tree.put_file("def/n.net", b"")?;
-    tree.put_file("def/B.net", b"")?;
-    tree.put_file("def/sub/z.net", b"")?;
-    tree.put_file("define/y.net", b"")?;
-    tree.put_file("def/a.svc", b"")?;
-    assert_eq!(rt;
-        names_text(rt.alloc(), &mut tree, "def")?.as_str(),
-        "B.net a.svc n.net "
-    );
-    assert_eq!(rt; names_text(rt.alloc(), &mut tree, "de")?.as_str(), "absent");
-    Ok(())
+// A tree in memory with these files.
+fn tree_of(alloc: Global, files: &[(&str, &[u8])]) -> Result<MemTree, Memory> {
+    let mut tree = MemTree::new(alloc);
+    for (path, bytes) in files {
+        tree.put_file(path, bytes)?;
+    }
+    Ok(tree)
 }
 
+static FILES: [(&str, &[u8]); 5] = [
+    ("def/n.net", b"A = "),
+    ("def/B.net", b""),
+    ("def/sub/z.net", b""),
+    ("define/y.net", b""),
+    ("def/a.svc", b""),
+];
+
 #[test]
-fn a_file_in_memory_is_read(rt: HostRuntime) -> Result<(), Fail> {
-    let mut tree = MemTree::new(rt.alloc());
-    tree.put_file("def/n.net", b"A = ")?;
+fn a_tree_in_memory_is_looked_at(rt: HostRuntime) -> Result<(), Fail> {
+    let mut tree = tree_of(rt.alloc(), &FILES)?;
+    assert!(rt; lists(rt.alloc(), &mut tree, "def", "B.net a.svc n.net ")?);
+    assert!(rt; lists(rt.alloc(), &mut tree, "de", "absent")?);
     assert!(rt; reads(rt.alloc(), &mut tree, "def/n.net", 2, b"A "));
     assert!(rt; reads(rt.alloc(), &mut tree, "def/n.net", 9, b"A = "));
     assert!(rt; lacks(rt.alloc(), &mut tree, "def"));
@@ -87,9 +103,7 @@ fn a_file_in_memory_is_read(rt: HostRuntime) -> Result<(), Fail> {
 #[test]
 fn a_file_in_memory_is_written(rt: HostRuntime) -> Result<(), Fail> {
     let mut tree = MemTree::new(rt.alloc());
-    tree.begin("x")?;
-    tree.put(b"hi")?;
-    tree.finish()?;
+    assert!(rt; writes(&mut tree, "x", &[b"hi".as_slice()]));
     assert_eq!(rt; tree.file("x"), Some(b"hi".as_slice()));
     Ok(())
 }
@@ -105,31 +119,40 @@ fn a_begun_file_stays_begun(rt: HostRuntime) -> Result<(), Fail> {
     Ok(())
 }
 
+// The bytes of the whole file, or its fault.
+fn whole_text<T: Tree>(alloc: Global, tree: &mut T, path: &str, most: u32) -> Result<String, Memory>
+    ensures { T.begun tree.new ≡ T.begun tree.old }
+{
+    match read_whole(alloc, tree, path, most as usize, Code::TooLong) {
+        Ok(bytes) => Ok(format!(in alloc; "{}", text(bytes.as_slice()))?),
+        Err(ReadFault::Fault(fault)) => {
+            let label = text(fault.label.as_slice());
+            Ok(format!(in alloc; "{:?} {label}", fault.code)?)
+        }
+        Err(_) => Ok(String::from_str(alloc, "failed")?),
+    }
+}
+
+// The names of the folder, each with a space behind it, or the folder's fault.
+fn listing_text<T: Tree>(alloc: Global, tree: &mut T, dir: &str) -> Result<String, Memory>
+    ensures { T.begun tree.new ≡ T.begun tree.old }
+{
+    match listing(alloc, tree, dir) {
+        Ok(names) => spaced(alloc, names.as_slice()),
+        Err(ListFault::Fault(fault)) => Ok(format!(in alloc; "{:?}", fault.code)?),
+        Err(_) => Ok(String::from_str(alloc, "failed")?),
+    }
+}
+
 #[test]
 fn whole_files_are_read(rt: HostRuntime) -> Result<(), Fail> {
     let alloc = rt.alloc();
-    let mut tree = MemTree::new(alloc);
     let path = join_path(alloc, "def", "n.net")?;
-    tree.put_file(path.as_str(), b"A = ")?;
-    match read_whole(alloc, &mut tree, "def/n.net", 4, Code::TooLong) {
-        Ok(bytes) => assert_eq!(rt; bytes.as_slice(), b"A = ".as_slice()),
-        Err(_) => panic!(rt; "a fault"),
-    }
-    match read_whole(alloc, &mut tree, "def/n.net", 3, Code::TooLong) {
-        Err(ReadFault::Fault(fault)) => {
-            assert_eq!(rt; fault.code, Code::TooLong);
-            assert_eq!(rt; fault.label.as_slice(), b"def/n.net".as_slice());
-        }
-        _ => panic!(rt; "no fault"),
-    }
-    match listing(alloc, &mut tree, "def/") {
-        Ok(names) => assert_eq!(rt; spaced(alloc, names.as_slice())?.as_str(), "n.net "),
-        Err(_) => panic!(rt; "a fault"),
-    }
-    match listing(alloc, &mut tree, "no") {
-        Err(ListFault::Fault(fault)) => assert_eq!(rt; fault.code, Code::NoFile),
-        _ => panic!(rt; "no fault"),
-    }
+    let mut tree = tree_of(alloc, &[(path.as_str(), b"A = ".as_slice())])?;
+    assert!(rt; whole_text(alloc, &mut tree, "def/n.net", 4)?.as_str() == "A = ");
+    assert!(rt; whole_text(alloc, &mut tree, "def/n.net", 3)?.as_str() == "TooLong def/n.net");
+    assert!(rt; listing_text(alloc, &mut tree, "def/")?.as_str() == "n.net ");
+    assert!(rt; listing_text(alloc, &mut tree, "no")?.as_str() == "NoFile");
     Ok(())
 }
 
@@ -137,7 +160,7 @@ fn whole_files_are_read(rt: HostRuntime) -> Result<(), Fail> {
 fn a_listed_begin_fails(rt: HostRuntime) -> Result<(), Fail> {
     let mut tree = MemTree::new(rt.alloc());
     tree.fail(Op::Begin, 2)?;
-    assert_eq!(rt; write_file(&mut tree, "one", &[]), Ok(()));
+    assert!(rt; writes(&mut tree, "one", &[]));
     assert_eq!(rt; write_file(&mut tree, "two", &[]), Err(WriteFault::Failed));
     assert_eq!(rt; tree.file("two"), None);
     Ok(())
@@ -148,8 +171,8 @@ fn a_listed_list_and_read_fail(rt: HostRuntime) -> Result<(), Fail> {
     let mut tree = MemTree::new(rt.alloc());
     tree.fail(Op::List, 2)?;
     tree.fail(Op::Read, 1)?;
-    assert_eq!(rt; names_text(rt.alloc(), &mut tree, "a")?.as_str(), "absent");
-    assert_eq!(rt; names_text(rt.alloc(), &mut tree, "a")?.as_str(), "failed");
+    assert!(rt; lists(rt.alloc(), &mut tree, "a", "absent")?);
+    assert!(rt; lists(rt.alloc(), &mut tree, "a", "failed")?);
     assert!(rt; !lacks(rt.alloc(), &mut tree, "a"));
     assert!(rt; lacks(rt.alloc(), &mut tree, "a"));
     Ok(())
@@ -265,27 +288,16 @@ fn fill(rt: &HostRuntime, folder: &String) -> Result<(), Fail> {
 
 #[test]
 fn the_machines_folders_are_listed(rt: HostRuntime) -> Result<(), Fail> {
+    let alloc = rt.alloc();
     let folder = own_folder(&rt, "list")?;
     let file = below(&folder, "C")?;
     let mut tree = DiskTree::new(&rt);
-    assert_eq!(rt;
-        names_text(rt.alloc(), &mut tree, folder.as_str())?.as_str(),
-        "absent"
-    );
+    assert!(rt; lists(alloc, &mut tree, folder.as_str(), "absent")?);
     fill(&rt, &folder)?;
-    assert_eq!(rt;
-        names_text(rt.alloc(), &mut tree, folder.as_str())?.as_str(),
-        "C b.net "
-    );
-    assert_eq!(rt;
-        names_text(rt.alloc(), &mut tree, file.as_str())?.as_str(),
-        "absent"
-    );
+    assert!(rt; lists(alloc, &mut tree, folder.as_str(), "C b.net ")?);
+    assert!(rt; lists(alloc, &mut tree, file.as_str(), "absent")?);
     fs::remove_dir_all(&rt, folder.as_str())?;
-    assert_eq!(rt;
-        names_text(rt.alloc(), &mut tree, folder.as_str())?.as_str(),
-        "absent"
-    );
+    assert!(rt; lists(alloc, &mut tree, folder.as_str(), "absent")?);
     Ok(())
 }
 
@@ -324,11 +336,8 @@ fn a_long_file_is_written_and_read(rt: HostRuntime) -> Result<(), Fail> {
     let mut whole = vec![in rt.alloc(); b'a', b'b', b'c']?;
     whole.extend_from_slice(behind.as_slice())?;
     let mut tree = DiskTree::new(&rt);
-    write_file(
-        &mut tree,
-        path.as_str(),
-        &[b"ab".as_slice(), b"c".as_slice(), behind.as_slice()],
-    )?;
+    let pieces = [b"ab".as_slice(), b"c".as_slice(), behind.as_slice()];
+    assert!(rt; writes(&mut tree, path.as_str(), &pieces));
     assert!(rt;
         reads(
             rt.alloc(),
@@ -346,25 +355,42 @@ fn a_long_file_is_written_and_read(rt: HostRuntime) -> Result<(), Fail> {
     Ok(())
 }
 
+fn fill_with_numbers(rt: &HostRuntime, folder: &String, count: u32) -> Result<(), Fail> {
+    for number in 0..count {
+        let name = format!(in rt.alloc(); "{number}")?;
+        fs::write(rt, below(folder, name.as_str())?.as_str(), "")?;
+    }
+    Ok(())
+}
+
+fn is_ascending(names: &[String]) -> bool {
+    let mut before = "";
+    for name in names {
+        if before.as_bytes() >= name.as_bytes() {
+            return false;
+        }
+        before = name.as_str();
+    }
+    true
+}
+
+// How many names the folder has, where they are in byte order.
+fn ordered_names<T: Tree>(alloc: Global, tree: &mut T, folder: &str) -> Option<usize> {
+    let names = tree.list(alloc, folder).ok()?;
+    let names = names.as_slice();
+    if is_ascending(names) {
+        Some(names.len())
+    } else {
+        None
+    }
+}
+
 #[test]
 fn many_names_are_in_byte_order(rt: HostRuntime) -> Result<(), Fail> {
     let folder = own_folder(&rt, "many")?;
-    for i in 0..100u32 {
-        let name = format!(in rt.alloc(); "{i}")?;
-        fs::write(&rt, below(&folder, name.as_str())?.as_str(), "")?;
-    }
+    fill_with_numbers(&rt, &folder, 100)?;
     let mut tree = DiskTree::new(&rt);
-    match tree.list(rt.alloc(), folder.as_str()) {
-        Ok(names) => {
-            assert_eq!(rt; names.as_slice().len(), 100);
-            let mut before = "";
-            for name in names.as_slice() {
-                assert!(rt; before.as_bytes() < name.as_bytes());
-                before = name.as_str();
-            }
-        }
-        Err(_) => panic!(rt; "no names"),
-    }
+    assert!(rt; ordered_names(rt.alloc(), &mut tree, folder.as_str()) == Some(100));
     fs::remove_dir_all(&rt, folder.as_str())?;
     Ok(())
 }
@@ -411,6 +437,13 @@ fn an_interrupted_read_goes_on(rt: HostRuntime) {
     assert!(rt; failed.err() == Some(TreeFault::Failed));
 }
 
+fn writes<T: Tree>(tree: &mut T, path: &str, pieces: &[&[u8]]) -> bool
+    requires { T.begun tree.old ≡ None }
+    ensures { T.begun tree.new ≡ None }
+{
+    write_file(tree, path, pieces).is_ok()
+}
+
 #[test]
 fn the_machines_files_are_written(rt: HostRuntime) -> Result<(), Fail> {
     let folder = own_folder(&rt, "write")?;
@@ -418,19 +451,17 @@ fn the_machines_files_are_written(rt: HostRuntime) -> Result<(), Fail> {
     let file = below(&folder, "C")?;
     let deep = below(&folder, "no/C")?;
     let mut tree = DiskTree::new(&rt);
-    write_file(&mut tree, file.as_str(), &[b"1".as_slice(), b"".as_slice()])?;
+    assert!(rt; writes(&mut tree, file.as_str(), &[b"1".as_slice(), b"".as_slice()]));
     assert!(rt; reads(rt.alloc(), &mut tree, file.as_str(), 9, b"1"));
     // no folder is made
-    assert_eq!(rt;
-        write_file(&mut tree, deep.as_str(), &[]),
-        Err(WriteFault::Failed)
-    );
-    assert_eq!(rt;
-        write_file(&mut tree, "/dev/full", &[b"x".as_slice()]),
-        Err(WriteFault::Failed)
-    );
+    assert!(rt; !writes(&mut tree, deep.as_str(), &[]));
+    assert!(rt; !writes(&mut tree, "/dev/full", &[b"x".as_slice()]));
     fs::remove_dir_all(&rt, folder.as_str())?;
     Ok(())
+}
+
+fn puts<S: Sink>(sink: &mut S, bytes: &[u8]) -> bool {
+    sink.write(bytes).is_ok()
 }
 
 #[test]
@@ -438,11 +469,10 @@ fn a_stream_of_the_machine_is_written(rt: HostRuntime) -> Result<(), Fail> {
     let folder = own_folder(&rt, "sink")?;
     let path = below(&folder, "out")?;
     let mut sink = StdSink::new(fs::create(&rt, path.as_str())?);
-    sink.write(b"hi")?;
-    sink.write(b"!")?;
+    assert!(rt; puts(&mut sink, b"hi") && puts(&mut sink, b"!"));
     assert_eq!(rt; fs::read(&rt, path.as_str())?.as_slice(), b"hi!".as_slice());
     let mut full = StdSink::new(fs::create(&rt, "/dev/full")?);
-    assert_eq!(rt; full.write(b"hi"), Err(WriteFault::Failed));
+    assert!(rt; !puts(&mut full, b"hi"));
     fs::remove_dir_all(&rt, folder.as_str())?;
     Ok(())
 }

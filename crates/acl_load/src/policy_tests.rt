@@ -1,5 +1,5 @@
 use crate::{LoadFault, Loaded, load, put_fault};
-use acl_host::{MemTree, Op, Whole};
+use acl_host::{MemTree, Op, Tree, Whole};
 use acl_packet::Verdict;
 use acl_terms::Term;
 use acl_text::{Fault, Memory, Out, PutFault};
@@ -101,9 +101,14 @@ fn refusal_line(alloc: Global, refusal: &LoadFault) -> Result<Whole, PutFault> {
     }
 }
 
+// The one call of the load, whatever the tree.
+fn loaded<T: Tree>(alloc: Global, tree: &mut T) -> Result<Loaded, LoadFault> {
+    load(alloc, tree, "def", "pol/a.pol")
+}
+
 // The line of the fault that is told, or what else is answered.
-fn line_of(alloc: Global, tree: &mut MemTree) -> Result<Whole, PutFault> {
-    match load(alloc, tree, "def", "pol/a.pol") {
+fn line_of<T: Tree>(alloc: Global, tree: &mut T) -> Result<Whole, PutFault> {
+    match loaded(alloc, tree) {
         Ok(_) => text_line(alloc, b"loaded"),
         Err(refusal) => refusal_line(alloc, &refusal),
     }
@@ -152,33 +157,34 @@ fn is_two_blocks(loaded: &Loaded) -> bool {
         && is_term(all, b"all", 0, 5, Verdict::Accept)
 }
 
+fn has_two_blocks<T: Tree>(alloc: Global, tree: &mut T) -> bool {
+    match loaded(alloc, tree) {
+        Ok(loaded) => is_two_blocks(&loaded),
+        Err(_) => false,
+    }
+}
+
 #[test]
 fn terms_are_loaded_by_blocks(rt: HostRuntime) -> Result<(), Fail> {
     let mut tree = tree_of(rt.alloc(), &TWO_BLOCKS)?;
-    match load(rt.alloc(), &mut tree, "def", "pol/a.pol") {
-        Ok(loaded) => assert!(rt; is_two_blocks(&loaded)),
-        Err(_) => panic!(rt; "a fault"),
-    }
+    assert!(rt; has_two_blocks(rt.alloc(), &mut tree));
     Ok(())
+}
+
+// The first listing fails; then the naming file is read, the policy, and the included file, which fails.
+fn failing_tree(alloc: Global) -> Result<MemTree, Memory> {
+    let mut tree = tree_of(alloc, &TWO_BLOCKS)?;
+    tree.fail(Op::List, 1)?;
+    tree.fail(Op::Read, 3)?;
+    Ok(tree)
 }
 
 #[test]
 fn failures_of_the_tree_are_told(rt: HostRuntime) -> Result<(), Fail> {
-    let mut tree = tree_of(rt.alloc(), &TWO_BLOCKS)?;
-    tree.fail(Op::List, 1)?;
-    assert_eq!(rt;
-        line_of(rt.alloc(), &mut tree)?.as_slice(),
-        b"list".as_slice()
-    );
-    // the naming file is read, the policy, and then the included file
-    tree.fail(Op::Read, 3)?;
-    assert_eq!(rt;
-        line_of(rt.alloc(), &mut tree)?.as_slice(),
-        b"read".as_slice()
-    );
-    assert_eq!(rt;
-        line_of(rt.alloc(), &mut tree)?.as_slice(),
-        b"loaded".as_slice()
-    );
+    let mut tree = failing_tree(rt.alloc())?;
+    let lines: [&[u8]; 3] = [b"list", b"read", b"loaded"];
+    for line in lines {
+        assert_eq!(rt; line_of(rt.alloc(), &mut tree)?.as_slice(), line);
+    }
     Ok(())
 }

@@ -1,11 +1,10 @@
 use crate::{LoadFault, load_definitions};
-use acl_host::{MemTree, Op};
+use acl_host::{MemTree, Op, Tree};
 use acl_naming::{Checked, Lookup, networks_of, ports_of};
 use acl_packet::Family;
 use acl_sets::{Range, RangeSet};
 use acl_text::{Code, Fault, Memory};
 use std::alloc::Global;
-use std::process::Abort;
 use std::test::Fail;
 
 /// Files, and the fault that is told of the folder `def`.
@@ -129,42 +128,56 @@ fn tree_of(alloc: Global, files: &[(&str, &[u8])]) -> Result<MemTree, Memory> {
     Ok(tree)
 }
 
-// The fault that is told of the folder `def`: code, label, line and word.
-fn fault_of(rt: &impl Abort, alloc: Global, tree: &mut MemTree) -> Fault {
-    match load_definitions(alloc, tree, "def") {
-        Err(LoadFault::Fault(fault)) => fault,
-        _ => panic!(rt; "no fault"),
+// The one call of the load, whatever the tree.
+fn loaded<T: Tree>(alloc: Global, tree: &mut T) -> Result<Checked, LoadFault> {
+    load_definitions(alloc, tree, "def")
+}
+
+fn is_fault_of(fault: &Fault, case: &Case) -> bool {
+    fault.code == case.code
+        && fault.label.as_slice() == case.label
+        && fault.line == case.line
+        && fault.word.as_slice() == case.word
+}
+
+// Whether the fault of the case is told of the folder `def`.
+fn is_told<T: Tree>(alloc: Global, tree: &mut T, case: &Case) -> bool {
+    match loaded(alloc, tree) {
+        Err(LoadFault::Fault(fault)) => is_fault_of(&fault, case),
+        _ => false,
     }
 }
 
-fn definitions_of(
-    rt: &impl Abort,
-    alloc: Global,
-    files: &[(&str, &[u8])],
-) -> Result<Checked, Fail> {
-    let mut tree = tree_of(alloc, files)?;
-    match load_definitions(alloc, &mut tree, "def") {
-        Ok(checked) => Ok(checked),
-        Err(_) => panic!(rt; "a fault"),
+// What is answered, in a word.
+fn answer<T: Tree>(alloc: Global, tree: &mut T) -> &'static str {
+    match loaded(alloc, tree) {
+        Ok(_) => "loaded",
+        Err(LoadFault::Fault(_)) => "fault",
+        Err(LoadFault::List) => "list",
+        Err(LoadFault::Read) => "read",
+        Err(LoadFault::Memory) => "memory",
     }
-}
-
-fn expect_fault(rt: &impl Abort, alloc: Global, case: &Case) -> Result<(), Fail> {
-    let mut tree = tree_of(alloc, case.files)?;
-    let fault = fault_of(rt, alloc, &mut tree);
-    assert_eq!(rt; fault.code, case.code);
-    assert_eq!(rt; fault.label.as_slice(), case.label);
-    assert_eq!(rt; fault.line, case.line);
-    assert_eq!(rt; fault.word.as_slice(), case.word);
-    Ok(())
 }
 
 #[test]
 fn faults_are_told(rt: HostRuntime) -> Result<(), Fail> {
     for case in &FAULTS {
-        expect_fault(&rt, rt.alloc(), case)?;
+        let mut tree = tree_of(rt.alloc(), case.files)?;
+        assert!(rt;
+            is_told(rt.alloc(), &mut tree, case),
+            "{:?} {}",
+            case.code,
+            case.line
+        );
     }
     Ok(())
+}
+
+fn has_no_web<T: Tree>(alloc: Global, tree: &mut T) -> bool {
+    match loaded(alloc, tree) {
+        Ok(none) => networks_of(alloc, &none, Family::V4, b"WEB").is_err(),
+        Err(_) => false,
+    }
 }
 
 #[test]
@@ -174,104 +187,112 @@ fn other_files_are_passed_over(rt: HostRuntime) -> Result<(), Fail> {
         ("def/x.net.bak", b"= !"),
         ("def/sub/x.net", b"= !"),
     ];
-    let none = definitions_of(&rt, rt.alloc(), &files)?;
-    assert!(rt; networks_of(rt.alloc(), &none, Family::V4, b"WEB").is_err());
+    let mut tree = tree_of(rt.alloc(), &files)?;
+    assert!(rt; has_no_web(rt.alloc(), &mut tree));
     Ok(())
+}
+
+fn is_one(answer: &Result<RangeSet, Lookup>, number: u128) -> bool {
+    let one = [Range {
+        low: number,
+        high: number,
+    }];
+    match answer {
+        Ok(set) => set.ranges() == one.as_slice(),
+        Err(_) => false,
+    }
+}
+
+// Whether the networks WEB are 1.2.3.4, and the ports WEB are 80.
+fn is_web<T: Tree>(alloc: Global, tree: &mut T) -> bool {
+    match loaded(alloc, tree) {
+        Ok(checked) => {
+            let networks = networks_of(alloc, &checked, Family::V4, b"WEB");
+            let ports = ports_of(alloc, &checked, 6, b"WEB");
+            is_one(&networks, 0x0102_0304) && is_one(&ports, 80)
+        }
+        Err(_) => false,
+    }
 }
 
 #[test]
 fn names_go_over_files(rt: HostRuntime) -> Result<(), Fail> {
-    let alloc = rt.alloc();
     let files: [(&str, &[u8]); 4] = [
         ("def/b.net", b"DB = 1.2.3.4"),
         ("def/a.net", b"WEB = DB"),
         ("def/b.svc", b"DB = 80/tcp"),
         ("def/a.svc", b"WEB = DB"),
     ];
-    let checked = definitions_of(&rt, alloc, &files)?;
-    let address = 0x0102_0304;
-    expect_one(
-        &rt,
-        networks_of(alloc, &checked, Family::V4, b"WEB"),
-        address,
-    );
-    expect_one(&rt, ports_of(alloc, &checked, 6, b"WEB"), 80);
+    let mut tree = tree_of(rt.alloc(), &files)?;
+    assert!(rt; is_web(rt.alloc(), &mut tree));
     Ok(())
 }
 
-fn expect_one(rt: &impl Abort, answer: Result<RangeSet, Lookup>, number: u128) {
-    match answer {
-        Ok(set) => {
-            let one = [Range {
-                low: number,
-                high: number,
-            }];
-            assert!(rt; set.ranges() == one.as_slice());
-        }
-        Err(_) => panic!(rt; "no set"),
-    }
+// The first listing fails, and the second reading.
+fn failing_tree(alloc: Global) -> Result<MemTree, Memory> {
+    let mut tree = tree_of(alloc, &[("def/a.net", b""), ("def/b.svc", b"")])?;
+    tree.fail(Op::List, 1)?;
+    tree.fail(Op::Read, 2)?;
+    Ok(tree)
 }
 
 #[test]
 fn failures_outside_are_told(rt: HostRuntime) -> Result<(), Fail> {
-    let alloc = rt.alloc();
-    let mut tree = tree_of(alloc, &[("def/a.net", b""), ("def/b.svc", b"")])?;
-    tree.fail(Op::List, 1)?;
-    tree.fail(Op::Read, 2)?;
-    assert!(rt;
-        matches!(
-            load_definitions(alloc, &mut tree, "def"),
-            Err(LoadFault::List)
-        )
-    );
-    assert!(rt;
-        matches!(
-            load_definitions(alloc, &mut tree, "def"),
-            Err(LoadFault::Read)
-        )
-    );
-    assert!(rt; load_definitions(alloc, &mut tree, "def").is_ok());
+    let mut tree = failing_tree(rt.alloc())?;
+    for expected in ["list", "read", "loaded"] {
+        assert_eq!(rt; answer(rt.alloc(), &mut tree), expected);
+    }
     Ok(())
 }
 
-fn spaces(alloc: Global, count: usize) -> Result<Vec<u8>, Fail> {
-    Ok(vec![in alloc; b' '; count]?)
+// A file of so many spaces.
+fn long_file(alloc: Global, count: usize) -> Result<MemTree, Memory> {
+    let spaces = vec![in alloc; b' '; count]?;
+    tree_of(alloc, &[("def/a.net", spaces.as_slice())])
 }
+
+// The files of this case and the next are made by the tests.
+const TOO_LONG: Case = Case {
+    files: &[],
+    code: Code::TooLong,
+    label: b"def/a.net",
+    line: 0,
+    word: b"",
+};
+
+const TOO_MANY: Case = Case {
+    files: &[],
+    code: Code::TooManyFiles,
+    label: b"def",
+    line: 0,
+    word: b"",
+};
 
 #[test]
 fn long_files(rt: HostRuntime) -> Result<(), Fail> {
-    let alloc = rt.alloc();
-    let longest = spaces(alloc, 4_194_304)?;
-    definitions_of(&rt, alloc, &[("def/a.net", longest.as_slice())])?;
-    let longer = spaces(alloc, 4_194_305)?;
-    let mut tree = tree_of(alloc, &[("def/a.net", longer.as_slice())])?;
-    let fault = fault_of(&rt, alloc, &mut tree);
-    assert_eq!(rt; fault.code, Code::TooLong);
-    assert_eq!(rt; fault.line, 0);
-    assert_eq!(rt; fault.label.as_slice(), b"def/a.net".as_slice());
-    assert_eq!(rt; fault.word.as_slice(), b"".as_slice());
+    let mut longest = long_file(rt.alloc(), 4_194_304)?;
+    assert_eq!(rt; answer(rt.alloc(), &mut longest), "loaded");
+    let mut longer = long_file(rt.alloc(), 4_194_305)?;
+    assert!(rt; is_told(rt.alloc(), &mut longer, &TOO_LONG));
     Ok(())
 }
 
-fn tree_of_many(alloc: Global, count: u32) -> Result<MemTree, Fail> {
+// So many naming files, and one more file.
+fn many_files_and(alloc: Global, count: u32, last: &str) -> Result<MemTree, Memory> {
     let mut tree = MemTree::new(alloc);
     for i in 0..count {
         let path = format!(in alloc; "def/{i}.net")?;
         tree.put_file(path.as_str(), b"")?;
     }
+    tree.put_file(last, b"")?;
     Ok(tree)
 }
 
 #[test]
 fn many_files(rt: HostRuntime) -> Result<(), Fail> {
-    let alloc = rt.alloc();
-    let mut most = tree_of_many(alloc, 4096)?;
-    most.put_file("def/readme.txt", b"")?;
-    assert!(rt; load_definitions(alloc, &mut most, "def").is_ok());
-    let mut more = tree_of_many(alloc, 4096)?;
-    more.put_file("def/x.svc", b"")?;
-    let fault = fault_of(&rt, alloc, &mut more);
-    assert_eq!(rt; fault.code, Code::TooManyFiles);
-    assert_eq!(rt; fault.label.as_slice(), b"def".as_slice());
+    let mut most = many_files_and(rt.alloc(), 4096, "def/readme.txt")?;
+    assert_eq!(rt; answer(rt.alloc(), &mut most), "loaded");
+    let mut more = many_files_and(rt.alloc(), 4096, "def/x.svc")?;
+    assert!(rt; is_told(rt.alloc(), &mut more, &TOO_MANY));
     Ok(())
 }

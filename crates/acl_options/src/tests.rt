@@ -1,4 +1,5 @@
-use crate::{read_options, read_workload};
+use crate::{Options, read_options, read_workload};
+use acl_text::Memory;
 use std::alloc::{AllocError, Global};
 use std::test::Fail;
 
@@ -9,6 +10,11 @@ fn words_of(alloc: Global, text: &str) -> Result<Vec<String>, AllocError> {
         words.push(String::from_str(alloc, word)?)?;
     }
     Ok(words)
+}
+
+// The one call of the reader.
+fn read(alloc: Global, words: &[String]) -> Result<Option<Options<'_>>, Memory> {
+    read_options(alloc, words)
 }
 
 // What clap's documentation says of an option that takes one value, and of the words between them; the answer has
@@ -138,15 +144,18 @@ static LINES: [(&str, Option<(&str, &str, &str)>); 38] = [
     (" -V", None),
 ];
 
+type Paths<'a> = Option<(&'a str, &'a str, &'a str)>;
+
+fn gives_paths(alloc: Global, line: &str, paths: &Paths<'_>) -> Result<bool, Fail> {
+    let words = words_of(alloc, line)?;
+    let options = read(alloc, words.as_slice())?;
+    Ok(options.map(|o| (o.policy, o.definitions, o.output)) == *paths)
+}
+
 #[test]
 fn lines_are_read(rt: HostRuntime) -> Result<(), Fail> {
     for (line, paths) in &LINES {
-        let words = words_of(rt.alloc(), line)?;
-        let options = read_options(rt.alloc(), words.as_slice())?;
-        assert!(rt;
-            options.map(|o| (o.policy, o.definitions, o.output)) == *paths,
-            "{line}"
-        );
+        assert!(rt; gives_paths(rt.alloc(), line, paths)?, "{line}");
     }
     Ok(())
 }
@@ -192,17 +201,23 @@ static MORE: [(&str, Option<(Option<i32>, u16)>); 37] = [
     (" -", None),
 ];
 
+// The words of the three paths, and more.
+fn words_behind_paths(alloc: Global, more: &str) -> Result<Vec<String>, AllocError> {
+    let paths = " --policy_file a.pol --definitions_directory def --output_directory out";
+    let line = format!(in alloc; "{paths}{more}")?;
+    words_of(alloc, line.as_str())
+}
+
+fn gives_days(alloc: Global, more: &str, asked: &Option<(Option<i32>, u16)>) -> Result<bool, Fail> {
+    let words = words_behind_paths(alloc, more)?;
+    let options = read(alloc, words.as_slice())?;
+    Ok(options.map(|o| (o.date.map(|day| day.number), o.exp_info)) == *asked)
+}
+
 #[test]
 fn days_and_weeks_are_read(rt: HostRuntime) -> Result<(), Fail> {
     for (more, asked) in &MORE {
-        let files = " --policy_file a.pol --definitions_directory def --output_directory out";
-        let line = format!(in rt.alloc(); "{files}{more}")?;
-        let words = words_of(rt.alloc(), line.as_str())?;
-        let options = read_options(rt.alloc(), words.as_slice())?;
-        assert!(rt;
-            options.map(|o| (o.date.map(|day| day.number), o.exp_info)) == *asked,
-            "{more}"
-        );
+        assert!(rt; gives_days(rt.alloc(), more, asked)?, "{more}");
     }
     Ok(())
 }
@@ -224,14 +239,16 @@ static FLAGS: [(&str, Option<bool>); 13] = [
     (" -- --shade_check", None),
 ];
 
+fn gives_flag(alloc: Global, more: &str, is_set: Option<bool>) -> Result<bool, Fail> {
+    let words = words_behind_paths(alloc, more)?;
+    let options = read(alloc, words.as_slice())?;
+    Ok(options.map(|o| o.shade_check) == is_set)
+}
+
 #[test]
 fn the_flag_is_read(rt: HostRuntime) -> Result<(), Fail> {
     for (more, is_set) in &FLAGS {
-        let files = " --policy_file a.pol --definitions_directory def --output_directory out";
-        let line = format!(in rt.alloc(); "{files}{more}")?;
-        let words = words_of(rt.alloc(), line.as_str())?;
-        let options = read_options(rt.alloc(), words.as_slice())?;
-        assert!(rt; options.map(|o| o.shade_check) == *is_set, "{more}");
+        assert!(rt; gives_flag(rt.alloc(), more, *is_set)?, "{more}");
     }
     Ok(())
 }
@@ -261,11 +278,15 @@ static WORKLOADS: [(&str, Option<u32>); 22] = [
     ("", None),
 ];
 
+fn gives_terms(alloc: Global, line: &str, asked: Option<u32>) -> Result<bool, AllocError> {
+    let words = words_of(alloc, line)?;
+    Ok(read_workload(words.as_slice()) == asked)
+}
+
 #[test]
 fn workloads_are_read(rt: HostRuntime) -> Result<(), Fail> {
     for (line, asked) in &WORKLOADS {
-        let words = words_of(rt.alloc(), line)?;
-        assert!(rt; read_workload(words.as_slice()) == *asked, "{line}");
+        assert!(rt; gives_terms(rt.alloc(), line, *asked)?, "{line}");
     }
     Ok(())
 }

@@ -1,7 +1,7 @@
 ghost use Rattle.std.specs.Prelude.{◌≡◌, true};
 
 use crate::{put_count, report_terms};
-use acl_host::{Day, MemTree, Whole, read_day};
+use acl_host::{Day, MemTree, Tree, Whole, read_day};
 use acl_load::{Loaded, load};
 use acl_policy::Block;
 use acl_text::Memory;
@@ -14,15 +14,20 @@ const NETWORKS: &[u8] = b"WEB = 192.0.2.10\nBOTH = 192.0.2.10 2001:db8::10\n";
 const INCLUDED: &[u8] =
     b"\nterm gone {\n  source-address:: WEB\n  source-exclude:: WEB\n  action:: deny\n}\n";
 
+// The one call of the load, whatever the tree.
+fn loaded<T: Tree>(alloc: Global, tree: &mut T) -> Result<Loaded, Memory> {
+    match load(alloc, tree, "def", "pol/a.pol") {
+        Ok(loaded) => Ok(loaded),
+        Err(_) => Err(Memory),
+    }
+}
+
 fn load_policy(alloc: Global, policy: &[u8]) -> Result<Loaded, Memory> {
     let mut tree = MemTree::new(alloc);
     tree.put_file("def/n.net", NETWORKS)?;
     tree.put_file("pol/a.pol", policy)?;
     tree.put_file("pol/b.inc", INCLUDED)?;
-    match load(alloc, &mut tree, "def", "pol/a.pol") {
-        Ok(loaded) => Ok(loaded),
-        Err(_) => Err(Memory),
-    }
+    loaded(alloc, &mut tree)
 }
 
 fn day(text: &[u8]) -> Result<Day, Memory> {

@@ -3,13 +3,14 @@ ghost use Rattle.std.specs.List.{All};
 ghost use Rattle.acl_policy.specs.Conditions.{IsBlock, IsPolicy, IsRawTerm};
 
 use crate::shaded_by;
-use acl_host::{Day, MemTree, read_day};
+use acl_host::{Day, MemTree, Tree, read_day};
 use acl_naming::{Base, Checked, check, read_networks, read_services};
 use acl_policy::{Block, Policy, RawTerm, gather, parse};
 use acl_target::Target;
 use acl_terms::{Term, resolve};
 use acl_text::{Bytes, Items, Memory, Refusal};
 use std::alloc::Global;
+use std::process::Abort;
 use std::test::Fail;
 
 const NETWORKS: &[u8] =
@@ -23,6 +24,16 @@ fn definitions(alloc: Global) -> Result<Checked, Refusal> {
     check(read_services(base, 2, SERVICES)?)
 }
 
+// The policy at the path `a.pol`, whatever the tree.
+fn parsed<T: Tree>(alloc: Global, tree: &mut T) -> Result<Policy, Refusal>
+    ensures { IfOk result IsPolicy }
+{
+    match gather(alloc, tree, "a.pol") {
+        Ok(sources) => parse(alloc, &sources),
+        Err(_) => Err(Refusal::Memory),
+    }
+}
+
 // A policy of these terms, for two platforms.
 fn policy_of(alloc: Global, terms: &[u8]) -> Result<Policy, Refusal>
     ensures { IfOk result IsPolicy }
@@ -31,10 +42,7 @@ fn policy_of(alloc: Global, terms: &[u8]) -> Result<Policy, Refusal>
     text.push_all(terms)?;
     let mut tree = MemTree::new(alloc);
     tree.put_file("a.pol", text.as_slice())?;
-    match gather(alloc, &mut tree, "a.pol") {
-        Ok(sources) => parse(alloc, &sources),
-        Err(_) => Err(Refusal::Memory),
-    }
+    parsed(alloc, &mut tree)
 }
 
 fn terms_of(alloc: Global, base: &Checked, raws: &[RawTerm]) -> Result<Items<Term>, Refusal>
@@ -80,145 +88,146 @@ fn shown(alloc: Global, terms: &[u8]) -> Result<String, Refusal> {
     places_in(alloc, &base, policy.blocks.as_slice())
 }
 
-#[test]
-fn shaded_by_addresses_and_life(rt: HostRuntime) -> Result<(), Fail> {
-    let table: [(&[u8], &str); 12] = [
-        (b"term a { action:: accept } term b { action:: deny }", "-0"),
-        (
-            b"term a { source-address:: TEN action:: deny } term b { source-address:: ONE action:: deny }",
-            "-0",
-        ),
-        (
-            b"term a { source-address:: ONE action:: deny } term b { source-address:: TEN action:: deny }",
-            "--",
-        ),
-        (
-            b"term a { expiration:: 2026-01-15 action:: deny } term b { action:: deny }",
-            "--",
-        ),
-        (
-            b"term a { platform:: cisco action:: deny } term b { action:: deny } term c { platform:: cisco action:: deny }",
-            "--0",
-        ),
-        (
-            b"term a { destination-address:: TEN action:: deny } term b { destination-address:: BOTH action:: deny }",
-            "--",
-        ),
-        (
-            b"term a { source-address:: LOW action:: deny } term b { source-address:: HIGH action:: deny } term c { source-address:: TEN action:: deny }",
-            "---",
-        ),
-        (
-            b"term a { source-address:: TEN action:: deny } term b { source-address:: TEN action:: deny } term c { source-address:: ONE action:: deny }",
-            "-00",
-        ),
-        (
-            b"term a { source-address:: SIX action:: deny } term b { source-address:: ONE source-exclude:: TEN action:: deny }",
-            "--",
-        ),
-        (
-            b"term a { action:: deny } term b { source-address:: ONE source-exclude:: TEN action:: deny }",
-            "--",
-        ),
-        (
-            b"term a { action:: deny } term b { platform:: iptables action:: deny }",
-            "--",
-        ),
-        (
-            b"term a { source-address:: TEN action:: deny } term b { action:: deny } term c { source-address:: ONE action:: deny }",
-            "--0",
-        ),
-    ];
-    for (terms, expected) in table {
-        assert_eq!(rt; shown(rt.alloc(), terms)?.as_str(), expected);
+fn expect(rt: &impl Abort, alloc: Global, rows: &[(&[u8], &str)]) -> Result<(), Fail> {
+    for (terms, expected) in rows {
+        assert_eq!(rt; shown(alloc, terms)?.as_str(), *expected);
     }
     Ok(())
 }
+
+static ADDRESSES: [(&[u8], &str); 12] = [
+    (b"term a { action:: accept } term b { action:: deny }", "-0"),
+    (
+        b"term a { source-address:: TEN action:: deny } term b { source-address:: ONE action:: deny }",
+        "-0",
+    ),
+    (
+        b"term a { source-address:: ONE action:: deny } term b { source-address:: TEN action:: deny }",
+        "--",
+    ),
+    (
+        b"term a { expiration:: 2026-01-15 action:: deny } term b { action:: deny }",
+        "--",
+    ),
+    (
+        b"term a { platform:: cisco action:: deny } term b { action:: deny } term c { platform:: cisco action:: deny }",
+        "--0",
+    ),
+    (
+        b"term a { destination-address:: TEN action:: deny } term b { destination-address:: BOTH action:: deny }",
+        "--",
+    ),
+    (
+        b"term a { source-address:: LOW action:: deny } term b { source-address:: HIGH action:: deny } term c { source-address:: TEN action:: deny }",
+        "---",
+    ),
+    (
+        b"term a { source-address:: TEN action:: deny } term b { source-address:: TEN action:: deny } term c { source-address:: ONE action:: deny }",
+        "-00",
+    ),
+    (
+        b"term a { source-address:: SIX action:: deny } term b { source-address:: ONE source-exclude:: TEN action:: deny }",
+        "--",
+    ),
+    (
+        b"term a { action:: deny } term b { source-address:: ONE source-exclude:: TEN action:: deny }",
+        "--",
+    ),
+    (
+        b"term a { action:: deny } term b { platform:: iptables action:: deny }",
+        "--",
+    ),
+    (
+        b"term a { source-address:: TEN action:: deny } term b { action:: deny } term c { source-address:: ONE action:: deny }",
+        "--0",
+    ),
+];
+
+#[test]
+fn shaded_by_addresses_and_life(rt: HostRuntime) -> Result<(), Fail> {
+    expect(&rt, rt.alloc(), &ADDRESSES)
+}
+
+static OPTIONS: [(&[u8], &str); 9] = [
+    (
+        b"term a { protocol:: tcp action:: deny } term b { protocol:: tcp option:: established action:: deny }",
+        "-0",
+    ),
+    (
+        b"term a { protocol:: tcp option:: established action:: deny } term b { protocol:: tcp action:: deny }",
+        "--",
+    ),
+    (
+        b"term a { protocol:: tcp option:: tcp-established action:: deny } term b { protocol:: tcp option:: established action:: deny }",
+        "--",
+    ),
+    (
+        b"term a { protocol:: tcp option:: tcp-established action:: deny } term b { protocol:: tcp option:: tcp-established action:: deny }",
+        "-0",
+    ),
+    (
+        b"term a { protocol:: tcp option:: tcp-initial action:: deny } term b { protocol:: tcp option:: rst action:: deny }",
+        "--",
+    ),
+    (
+        b"term a { protocol:: udp option:: established action:: deny } term b { protocol:: udp option:: established action:: deny }",
+        "-0",
+    ),
+    (
+        b"term a { protocol:: udp option:: established action:: deny } term b { protocol:: udp option:: established destination-port:: DNS action:: deny }",
+        "--",
+    ),
+    (
+        b"term a { protocol:: udp option:: established destination-port:: ANY action:: deny } term b { protocol:: udp option:: established action:: deny }",
+        "-0",
+    ),
+    (
+        b"term a { protocol:: udp option:: established destination-port:: DNS action:: deny } term b { protocol:: udp option:: established destination-port:: DNS action:: deny }",
+        "-0",
+    ),
+];
 
 #[test]
 fn shaded_by_options(rt: HostRuntime) -> Result<(), Fail> {
-    let table: [(&[u8], &str); 9] = [
-        (
-            b"term a { protocol:: tcp action:: deny } term b { protocol:: tcp option:: established action:: deny }",
-            "-0",
-        ),
-        (
-            b"term a { protocol:: tcp option:: established action:: deny } term b { protocol:: tcp action:: deny }",
-            "--",
-        ),
-        (
-            b"term a { protocol:: tcp option:: tcp-established action:: deny } term b { protocol:: tcp option:: established action:: deny }",
-            "--",
-        ),
-        (
-            b"term a { protocol:: tcp option:: tcp-established action:: deny } term b { protocol:: tcp option:: tcp-established action:: deny }",
-            "-0",
-        ),
-        (
-            b"term a { protocol:: tcp option:: tcp-initial action:: deny } term b { protocol:: tcp option:: rst action:: deny }",
-            "--",
-        ),
-        (
-            b"term a { protocol:: udp option:: established action:: deny } term b { protocol:: udp option:: established action:: deny }",
-            "-0",
-        ),
-        (
-            b"term a { protocol:: udp option:: established action:: deny } term b { protocol:: udp option:: established destination-port:: DNS action:: deny }",
-            "--",
-        ),
-        (
-            b"term a { protocol:: udp option:: established destination-port:: ANY action:: deny } term b { protocol:: udp option:: established action:: deny }",
-            "-0",
-        ),
-        (
-            b"term a { protocol:: udp option:: established destination-port:: DNS action:: deny } term b { protocol:: udp option:: established destination-port:: DNS action:: deny }",
-            "-0",
-        ),
-    ];
-    for (terms, expected) in table {
-        assert_eq!(rt; shown(rt.alloc(), terms)?.as_str(), expected);
-    }
-    Ok(())
+    expect(&rt, rt.alloc(), &OPTIONS)
 }
+
+static SETS: [(&[u8], &str); 8] = [
+    (
+        b"term a { protocol:: tcp destination-port:: WEB action:: deny } term b { protocol:: tcp destination-port:: HTTP action:: deny }",
+        "-0",
+    ),
+    (
+        b"term a { protocol:: tcp destination-port:: HTTP action:: deny } term b { protocol:: tcp destination-port:: WEB action:: deny }",
+        "--",
+    ),
+    (
+        b"term a { protocol:: tcp source-port:: HTTP action:: deny } term b { protocol:: tcp source-port:: WEB action:: deny }",
+        "--",
+    ),
+    (
+        b"term a { protocol:: icmp icmp-type:: 0 8 action:: deny } term b { protocol:: icmp icmp-type:: 8 action:: deny }",
+        "-0",
+    ),
+    (
+        b"term a { protocol:: icmp icmp-type:: 8 action:: deny } term b { protocol:: icmp icmp-type:: 0 8 action:: deny }",
+        "--",
+    ),
+    (
+        b"term a { protocol:: tcp udp action:: deny } term b { protocol:: udp action:: deny } term c { action:: deny }",
+        "-0-",
+    ),
+    (
+        b"term a { protocol:: icmp action:: deny } term b { protocol:: icmp icmpv6 action:: deny }",
+        "--",
+    ),
+    (
+        b"term a { protocol:: icmp source-address:: TEN action:: deny } term b { protocol:: icmp icmpv6 source-address:: TEN action:: deny }",
+        "-0",
+    ),
+];
 
 #[test]
 fn shaded_by_protocols_ports_and_types(rt: HostRuntime) -> Result<(), Fail> {
-    let table: [(&[u8], &str); 8] = [
-        (
-            b"term a { protocol:: tcp destination-port:: WEB action:: deny } term b { protocol:: tcp destination-port:: HTTP action:: deny }",
-            "-0",
-        ),
-        (
-            b"term a { protocol:: tcp destination-port:: HTTP action:: deny } term b { protocol:: tcp destination-port:: WEB action:: deny }",
-            "--",
-        ),
-        (
-            b"term a { protocol:: tcp source-port:: HTTP action:: deny } term b { protocol:: tcp source-port:: WEB action:: deny }",
-            "--",
-        ),
-        (
-            b"term a { protocol:: icmp icmp-type:: 0 8 action:: deny } term b { protocol:: icmp icmp-type:: 8 action:: deny }",
-            "-0",
-        ),
-        (
-            b"term a { protocol:: icmp icmp-type:: 8 action:: deny } term b { protocol:: icmp icmp-type:: 0 8 action:: deny }",
-            "--",
-        ),
-        (
-            b"term a { protocol:: tcp udp action:: deny } term b { protocol:: udp action:: deny } term c { action:: deny }",
-            "-0-",
-        ),
-        (
-            b"term a { protocol:: icmp action:: deny } term b { protocol:: icmp icmpv6 action:: deny }",
-            "--",
-        ),
-        (
-            b"term a { protocol:: icmp source-address:: TEN action:: deny } term b { protocol:: icmp icmpv6 source-address:: TEN action:: deny }",
-            "-0",
-        ),
-    ];
-    for (terms, expected) in table {
-        assert_eq!(rt; shown(rt.alloc(), terms)?.as_str(), expected);
-    }
-    Ok(())
+    expect(&rt, rt.alloc(), &SETS)
 }

@@ -3,13 +3,14 @@ ghost use Rattle.std.specs.List.{All};
 ghost use Rattle.acl_policy.specs.Conditions.{IsPolicy, IsRawTerm};
 
 use crate::{Mode, Term, is_empty_in, is_live, matches, resolve};
-use acl_host::{MemTree, read_day};
+use acl_host::{Day, MemTree, Tree, read_day};
 use acl_naming::{Base, Checked, check, read_networks, read_services};
 use acl_packet::{Conn, Family, Packet, Verdict};
 use acl_policy::{Policy, RawTerm, gather, parse};
 use acl_target::Kind;
 use acl_text::{Bytes, Memory, Refusal, Slip};
 use std::alloc::Global;
+use std::process::Abort;
 use std::str;
 use std::test::Fail;
 
@@ -23,6 +24,16 @@ fn definitions(alloc: Global) -> Result<Checked, Refusal> {
     check(read_services(base, 2, SERVICES)?)
 }
 
+// The policy at the path `a.pol`, whatever the tree.
+fn parsed<T: Tree>(alloc: Global, tree: &mut T) -> Result<Policy, Refusal>
+    ensures { IfOk result IsPolicy }
+{
+    match gather(alloc, tree, "a.pol") {
+        Ok(sources) => parse(alloc, &sources),
+        Err(_) => Err(Refusal::Memory),
+    }
+}
+
 // A policy of one term, whose items begin in line 2.
 fn policy_of(alloc: Global, items: &[u8]) -> Result<Policy, Refusal>
     ensures { IfOk result IsPolicy }
@@ -32,10 +43,7 @@ fn policy_of(alloc: Global, items: &[u8]) -> Result<Policy, Refusal>
     text.push_all(b" }\n")?;
     let mut tree = MemTree::new(alloc);
     tree.put_file("a.pol", text.as_slice())?;
-    match gather(alloc, &mut tree, "a.pol") {
-        Ok(sources) => parse(alloc, &sources),
-        Err(_) => Err(Refusal::Memory),
-    }
+    parsed(alloc, &mut tree)
 }
 
 fn first_of(alloc: Global, base: &Checked, raws: &[RawTerm]) -> Result<Term, Refusal>
@@ -78,88 +86,91 @@ fn slip_of(alloc: Global, items: &[u8]) -> Result<String, Refusal> {
     }
 }
 
-#[test]
-fn slips_of_names(rt: HostRuntime) -> Result<(), Fail> {
-    let table: [(&[u8], &str); 8] = [
-        (
-            b"destination-address:: D\nsource-exclude:: E\naction:: deny",
-            "3 UnknownName E",
-        ),
-        (
-            b"source-port:: HTTP\nsource-address:: A\naction:: deny",
-            "3 UnknownName A",
-        ),
-        (
-            b"source-port:: A\nprotocol:: icmp\naction:: deny",
-            "2 PortProtocol A",
-        ),
-        (
-            b"destination-port:: HTTP\naction:: deny",
-            "2 PortProtocol HTTP",
-        ),
-        (
-            b"destination-port:: A\nsource-port:: B\nprotocol:: tcp\naction:: deny",
-            "3 UnknownName B",
-        ),
-        (
-            b"source-port:: HTTP A\nprotocol:: udp\naction:: deny",
-            "2 NoPortForProtocol HTTP",
-        ),
-        (
-            b"source-port:: A HTTP\nprotocol:: udp\naction:: deny",
-            "2 UnknownName A",
-        ),
-        (
-            b"source-port:: HTTP\nprotocol:: tcp udp\naction:: deny",
-            "2 NoPortForProtocol HTTP",
-        ),
-    ];
-    for (items, slip) in table {
-        assert_eq!(rt; slip_of(rt.alloc(), items)?.as_str(), slip);
+fn expect_slips(rt: &impl Abort, alloc: Global, rows: &[(&[u8], &str)]) -> Result<(), Fail> {
+    for (items, slip) in rows {
+        assert_eq!(rt; slip_of(alloc, items)?.as_str(), *slip);
     }
     Ok(())
 }
 
+static NAME_SLIPS: [(&[u8], &str); 8] = [
+    (
+        b"destination-address:: D\nsource-exclude:: E\naction:: deny",
+        "3 UnknownName E",
+    ),
+    (
+        b"source-port:: HTTP\nsource-address:: A\naction:: deny",
+        "3 UnknownName A",
+    ),
+    (
+        b"source-port:: A\nprotocol:: icmp\naction:: deny",
+        "2 PortProtocol A",
+    ),
+    (
+        b"destination-port:: HTTP\naction:: deny",
+        "2 PortProtocol HTTP",
+    ),
+    (
+        b"destination-port:: A\nsource-port:: B\nprotocol:: tcp\naction:: deny",
+        "3 UnknownName B",
+    ),
+    (
+        b"source-port:: HTTP A\nprotocol:: udp\naction:: deny",
+        "2 NoPortForProtocol HTTP",
+    ),
+    (
+        b"source-port:: A HTTP\nprotocol:: udp\naction:: deny",
+        "2 UnknownName A",
+    ),
+    (
+        b"source-port:: HTTP\nprotocol:: tcp udp\naction:: deny",
+        "2 NoPortForProtocol HTTP",
+    ),
+];
+
+#[test]
+fn slips_of_names(rt: HostRuntime) -> Result<(), Fail> {
+    expect_slips(&rt, rt.alloc(), &NAME_SLIPS)
+}
+
+static WORD_SLIPS: [(&[u8], &str); 8] = [
+    (
+        b"icmp-type:: 8\nsource-port:: HTTP\nprotocol:: udp\naction:: deny",
+        "3 NoPortForProtocol HTTP",
+    ),
+    (
+        b"option:: rst tcp-initial\nicmp-type:: 8\naction:: deny",
+        "3 IcmpProtocol 8",
+    ),
+    (
+        b"protocol:: icmp\nicmp-type:: 8 router-solicit\naction:: deny",
+        "3 IcmpProtocol router-solicit",
+    ),
+    (
+        b"protocol:: udp\noption:: rst rst tcp-initial\naction:: deny",
+        "3 OptionClash tcp-initial",
+    ),
+    (
+        b"action:: reject-with-tcp-rst\noption:: rst\nprotocol:: udp",
+        "3 OptionProtocol rst",
+    ),
+    (
+        b"protocol:: tcp sctp\noption:: established\naction:: deny",
+        "3 OptionProtocol established",
+    ),
+    (
+        b"protocol:: udp\naction:: reject-with-tcp-rst",
+        "3 ResetProtocol reject-with-tcp-rst",
+    ),
+    (
+        b"protocol:: tcp 6\noption:: rst\naction:: reject-with-tcp-rst",
+        "none",
+    ),
+];
+
 #[test]
 fn slips_of_words(rt: HostRuntime) -> Result<(), Fail> {
-    let table: [(&[u8], &str); 8] = [
-        (
-            b"icmp-type:: 8\nsource-port:: HTTP\nprotocol:: udp\naction:: deny",
-            "3 NoPortForProtocol HTTP",
-        ),
-        (
-            b"option:: rst tcp-initial\nicmp-type:: 8\naction:: deny",
-            "3 IcmpProtocol 8",
-        ),
-        (
-            b"protocol:: icmp\nicmp-type:: 8 router-solicit\naction:: deny",
-            "3 IcmpProtocol router-solicit",
-        ),
-        (
-            b"protocol:: udp\noption:: rst rst tcp-initial\naction:: deny",
-            "3 OptionClash tcp-initial",
-        ),
-        (
-            b"action:: reject-with-tcp-rst\noption:: rst\nprotocol:: udp",
-            "3 OptionProtocol rst",
-        ),
-        (
-            b"protocol:: tcp sctp\noption:: established\naction:: deny",
-            "3 OptionProtocol established",
-        ),
-        (
-            b"protocol:: udp\naction:: reject-with-tcp-rst",
-            "3 ResetProtocol reject-with-tcp-rst",
-        ),
-        (
-            b"protocol:: tcp 6\noption:: rst\naction:: reject-with-tcp-rst",
-            "none",
-        ),
-    ];
-    for (items, slip) in table {
-        assert_eq!(rt; slip_of(rt.alloc(), items)?.as_str(), slip);
-    }
-    Ok(())
+    expect_slips(&rt, rt.alloc(), &WORD_SLIPS)
 }
 
 // A packet from 10.0.0.1 or ::1 to the port.
@@ -181,144 +192,178 @@ fn packet(family: Family, proto: u8, dport: u16, flags: u8, conn: Conn) -> Packe
     }
 }
 
+// Whether the term of these items matches the packet.
+fn is_matched(
+    alloc: Global,
+    base: &Checked,
+    items: &[u8],
+    mode: Mode,
+    packet: &Packet,
+) -> Result<bool, Refusal> {
+    let term = term_of(alloc, base, items)?;
+    Ok(matches(&term, mode, packet))
+}
+
+static NUMBERS: [(&[u8], Family, u8, u16, bool); 7] = [
+    (
+        b"protocol:: tcp 17\ndestination-port:: BOTH\naction:: deny",
+        Family::V4,
+        6,
+        53,
+        true,
+    ),
+    (
+        b"protocol:: icmp icmpv6\naction:: deny",
+        Family::V4,
+        58,
+        0,
+        false,
+    ),
+    (
+        b"protocol:: icmp icmpv6\naction:: deny",
+        Family::V6,
+        58,
+        0,
+        true,
+    ),
+    (b"action:: deny", Family::V4, 58, 0, true),
+    (
+        b"source-address:: TEN WEB\naction:: deny",
+        Family::V4,
+        17,
+        1,
+        true,
+    ),
+    (
+        b"source-address:: TEN\nsource-exclude:: TEN\naction:: deny",
+        Family::V4,
+        17,
+        1,
+        false,
+    ),
+    (
+        b"source-exclude:: ALL6\naction:: deny",
+        Family::V6,
+        17,
+        1,
+        false,
+    ),
+];
+
 #[test]
 fn matches_by_numbers(rt: HostRuntime) -> Result<(), Fail> {
-    let table: [(&[u8], Family, u8, u16, bool); 7] = [
-        (
-            b"protocol:: tcp 17\ndestination-port:: BOTH\naction:: deny",
-            Family::V4,
-            6,
-            53,
-            true,
-        ),
-        (
-            b"protocol:: icmp icmpv6\naction:: deny",
-            Family::V4,
-            58,
-            0,
-            false,
-        ),
-        (
-            b"protocol:: icmp icmpv6\naction:: deny",
-            Family::V6,
-            58,
-            0,
-            true,
-        ),
-        (b"action:: deny", Family::V4, 58, 0, true),
-        (
-            b"source-address:: TEN WEB\naction:: deny",
-            Family::V4,
-            17,
-            1,
-            true,
-        ),
-        (
-            b"source-address:: TEN\nsource-exclude:: TEN\naction:: deny",
-            Family::V4,
-            17,
-            1,
-            false,
-        ),
-        (
-            b"source-exclude:: ALL6\naction:: deny",
-            Family::V6,
-            17,
-            1,
-            false,
-        ),
-    ];
-    let base = definitions(rt.alloc())?;
-    for (items, family, proto, dport, expected) in table {
-        let term = term_of(rt.alloc(), &base, items)?;
-        let packet = packet(family, proto, dport, 0, Conn::New);
-        assert_eq!(rt; matches(&term, Mode::Stateless, &packet), expected);
+    let alloc = rt.alloc();
+    let base = definitions(alloc)?;
+    for (items, family, proto, dport, expected) in &NUMBERS {
+        let packet = packet(*family, *proto, *dport, 0, Conn::New);
+        assert!(rt; is_matched(alloc, &base, items, Mode::Stateless, &packet)? == *expected);
     }
     Ok(())
 }
+
+// The term without a port, and with one.
+const FREE: &[u8] = b"protocol:: 6 17 option:: established action:: deny";
+
+const NAMED: &[u8] = b"protocol:: 6 17 option:: established destination-port:: DNS action:: deny";
+
+static OPTIONS: [(Mode, u8, u16, u8, Conn, bool, bool); 6] = [
+    (Mode::Stateless, 6, 53, 16, Conn::New, true, true),
+    (Mode::Stateless, 6, 53, 2, Conn::Established, false, false),
+    (Mode::Stateless, 17, 53, 0, Conn::Established, false, true),
+    (Mode::Stateless, 17, 1024, 0, Conn::New, true, false),
+    (Mode::Stateful, 17, 53, 0, Conn::New, false, false),
+    (Mode::Stateful, 17, 53, 0, Conn::Related, true, true),
+];
 
 #[test]
 fn matches_by_options(rt: HostRuntime) -> Result<(), Fail> {
-    let table: [(Mode, u8, u16, u8, Conn, bool, bool); 6] = [
-        (Mode::Stateless, 6, 53, 16, Conn::New, true, true),
-        (Mode::Stateless, 6, 53, 2, Conn::Established, false, false),
-        (Mode::Stateless, 17, 53, 0, Conn::Established, false, true),
-        (Mode::Stateless, 17, 1024, 0, Conn::New, true, false),
-        (Mode::Stateful, 17, 53, 0, Conn::New, false, false),
-        (Mode::Stateful, 17, 53, 0, Conn::Related, true, true),
-    ];
-    let base = definitions(rt.alloc())?;
-    let free = term_of(
-        rt.alloc(),
-        &base,
-        b"protocol:: 6 17 option:: established action:: deny",
-    )?;
-    let items = b"protocol:: 6 17 option:: established destination-port:: DNS action:: deny";
-    let named = term_of(rt.alloc(), &base, items)?;
-    for (mode, proto, dport, flags, conn, expected, with_port) in table {
-        let packet = packet(Family::V4, proto, dport, flags, conn);
-        assert_eq!(rt; matches(&free, mode, &packet), expected);
-        assert_eq!(rt; matches(&named, mode, &packet), with_port);
+    let alloc = rt.alloc();
+    let base = definitions(alloc)?;
+    for (mode, proto, dport, flags, conn, expected, with_port) in &OPTIONS {
+        let packet = packet(Family::V4, *proto, *dport, *flags, *conn);
+        assert!(rt; is_matched(alloc, &base, FREE, *mode, &packet)? == *expected);
+        assert!(rt; is_matched(alloc, &base, NAMED, *mode, &packet)? == *with_port);
     }
     Ok(())
 }
+
+// Whether the term of these items is empty in each family.
+fn emptiness(alloc: Global, base: &Checked, items: &[u8]) -> Result<(bool, bool), Refusal> {
+    let term = term_of(alloc, base, items)?;
+    Ok((
+        is_empty_in(&term, Family::V4),
+        is_empty_in(&term, Family::V6),
+    ))
+}
+
+static EMPTY: [(&[u8], bool, bool); 4] = [
+    (b"source-address:: WEB\naction:: deny", false, true),
+    (
+        b"destination-address:: WEB SIX\ndestination-exclude:: WEB\naction:: deny",
+        true,
+        false,
+    ),
+    (b"protocol:: icmpv6\naction:: deny", true, false),
+    (b"protocol:: icmp icmpv6\naction:: deny", false, false),
+];
 
 #[test]
 fn empty_in_a_family(rt: HostRuntime) -> Result<(), Fail> {
-    let table: [(&[u8], bool, bool); 4] = [
-        (b"source-address:: WEB\naction:: deny", false, true),
-        (
-            b"destination-address:: WEB SIX\ndestination-exclude:: WEB\naction:: deny",
-            true,
-            false,
-        ),
-        (b"protocol:: icmpv6\naction:: deny", true, false),
-        (b"protocol:: icmp icmpv6\naction:: deny", false, false),
-    ];
     let base = definitions(rt.alloc())?;
-    for (items, v4, v6) in table {
-        let term = term_of(rt.alloc(), &base, items)?;
-        assert_eq!(rt; is_empty_in(&term, Family::V4), v4);
-        assert_eq!(rt; is_empty_in(&term, Family::V6), v6);
+    for (items, v4, v6) in &EMPTY {
+        assert!(rt; emptiness(rt.alloc(), &base, items)? == (*v4, *v6));
     }
     Ok(())
 }
 
+// Whether the term of these items is live that day for Cisco and for Juniper.
+fn life(alloc: Global, base: &Checked, items: &[u8], today: Day) -> Result<(bool, bool), Refusal> {
+    let term = term_of(alloc, base, items)?;
+    Ok((
+        is_live(&term, Kind::Cisco, today),
+        is_live(&term, Kind::Juniper, today),
+    ))
+}
+
+static LIVE: [(&[u8], bool, bool); 5] = [
+    (b"platform:: arista\naction:: deny", false, false),
+    (b"platform:: juniper arista\naction:: deny", false, true),
+    (
+        b"platform-exclude:: cisco\nplatform:: cisco\naction:: deny",
+        false,
+        false,
+    ),
+    (b"expiration:: 2026-01-15\naction:: deny", false, false),
+    (b"expiration:: 2026-01-16\naction:: deny", true, true),
+];
+
 #[test]
 fn live_on_a_platform_and_day(rt: HostRuntime) -> Result<(), Fail> {
-    let table: [(&[u8], bool, bool); 5] = [
-        (b"platform:: arista\naction:: deny", false, false),
-        (b"platform:: juniper arista\naction:: deny", false, true),
-        (
-            b"platform-exclude:: cisco\nplatform:: cisco\naction:: deny",
-            false,
-            false,
-        ),
-        (b"expiration:: 2026-01-15\naction:: deny", false, false),
-        (b"expiration:: 2026-01-16\naction:: deny", true, true),
-    ];
     let base = definitions(rt.alloc())?;
     let today = read_day(b"2026-01-15").ok_or("a day")?;
-    for (items, cisco, juniper) in table {
-        let term = term_of(rt.alloc(), &base, items)?;
-        assert_eq!(rt; is_live(&term, Kind::Cisco, today), cisco);
-        assert_eq!(rt; is_live(&term, Kind::Juniper, today), juniper);
+    for (items, cisco, juniper) in &LIVE {
+        assert!(rt; life(rt.alloc(), &base, items, today)? == (*cisco, *juniper));
     }
     Ok(())
+}
+
+const FIELDS: &[u8] =
+    b"comment:: \"a */ b\" protocol:: tcp destination-port:: ANY logging:: True action:: reject";
+
+fn has_the_fields(term: &Term) -> bool {
+    text(term.name.as_slice()) == "t"
+        && text(term.note.as_slice()) == "a __ b"
+        && term.dports.is_all()
+        && term.dport_named
+        && term.sports.is_all()
+        && term.verdict == Verdict::Reject
+        && term.log
 }
 
 #[test]
 fn the_fields_of_a_term(rt: HostRuntime) -> Result<(), Fail> {
     let base = definitions(rt.alloc())?;
-    let items =
-        b"comment:: \"a */ b\" protocol:: tcp destination-port:: ANY logging:: True action:: reject";
-    let term = term_of(rt.alloc(), &base, items)?;
-    assert_eq!(rt; text(term.name.as_slice()), "t");
-    assert_eq!(rt; text(term.note.as_slice()), "a __ b");
-    assert!(rt; term.dports.is_all());
-    assert!(rt; term.dport_named);
-    assert!(rt; term.sports.is_all());
-    assert_eq!(rt; term.verdict, Verdict::Reject);
-    assert!(rt; term.log);
+    let term = term_of(rt.alloc(), &base, FIELDS)?;
+    assert!(rt; has_the_fields(&term));
     Ok(())
 }

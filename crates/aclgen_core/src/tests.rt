@@ -2,62 +2,58 @@ ghost use Rattle.std.specs.Prelude.{◌≡◌, IfOk, None};
 ghost use Rattle.acl_host.specs.MemoryTrees.{contents};
 
 use crate::{aclgen, status_of};
-use acl_host::{Day, FixedClock, MemSink, MemTree, Op};
+use acl_host::{Clock, Day, FixedClock, MemSink, MemTree, Op, Sink, Tree};
 use acl_text::Memory;
 use std::alloc::{AllocError, Global};
+use std::process::Abort;
 use std::test::Fail;
 
 const NAMES: &[u8] =
     b"WEB = 192.0.2.10\nLOW = 10.0.0.0/25\nHIGH = 10.0.0.128/25\nSIX = 2001:db8::10\n";
 
-// The words, and which call of the outside fails in a run: of the tree the one of this kind and number.
+// The words of a run, and which call of the outside fails in it: of the tree the one of this kind and number.
 #[derive(Clone, Copy)]
-struct Run<'a> {
-    policy: &'a str,
-    date: Option<&'a str>,
-    shade_check: bool,
-    workload: Option<&'a str>,
+struct Run {
+    words: &'static str,
     clock: bool,
     tree: Option<(Op, u32)>,
     out: bool,
     err: bool,
 }
 
-const PLAIN: Run<'static> = Run {
-    policy: "pol/a.pol",
-    date: Some("2026-01-15"),
-    shade_check: false,
-    workload: None,
+const DATED: &str =
+    "--policy_file pol/a.pol --definitions_directory def --output_directory out --date 2026-01-15";
+
+const UNDATED: &str = "--policy_file pol/a.pol --definitions_directory def --output_directory out";
+
+const EMPTY_DATE: &str =
+    "--policy_file pol/a.pol --definitions_directory def --output_directory out --date ";
+
+const WRONG_DATE: &str =
+    "--policy_file pol/a.pol --definitions_directory def --output_directory out --date 2026-02-30";
+
+const NO_POLICY: &str =
+    "--policy_file pol/b.pol --definitions_directory def --output_directory out --date 2026-01-15";
+
+const EDGE_WORDS: &str =
+    "--policy_file pol/edge.pol --definitions_directory def --output_directory out --date 2026-01-15";
+
+const SHADE_CHECK: &str =
+    "--policy_file pol/a.pol --definitions_directory def --output_directory out --date 2026-01-15 --shade_check";
+
+const PLAIN: Run = Run {
+    words: DATED,
     clock: true,
     tree: None,
     out: false,
     err: false,
 };
 
-fn words(alloc: Global, run: Run<'_>) -> Result<Vec<String>, AllocError> {
+// The words of a text; the last one may be empty.
+fn words_of(alloc: Global, text: &str) -> Result<Vec<String>, AllocError> {
     let mut words = Vec::new(alloc);
-    if let Some(terms) = run.workload {
-        words.push(String::from_str(alloc, "--workload")?)?;
-        words.push(String::from_str(alloc, terms)?)?;
-        return Ok(words);
-    }
-    let texts = [
-        "--policy_file",
-        run.policy,
-        "--definitions_directory",
-        "def",
-        "--output_directory",
-        "out",
-    ];
-    for text in texts {
-        words.push(String::from_str(alloc, text)?)?;
-    }
-    if let Some(date) = run.date {
-        words.push(String::from_str(alloc, "--date")?)?;
-        words.push(String::from_str(alloc, date)?)?;
-    }
-    if run.shade_check {
-        words.push(String::from_str(alloc, "--shade_check")?)?;
+    for word in text.split(' ') {
+        words.push(String::from_str(alloc, word)?)?;
     }
     Ok(words)
 }
@@ -100,45 +96,88 @@ struct Left {
     err: MemSink,
 }
 
-// The program is called here alone: each function that calls it proves its whole contract again.
-fn left_by(alloc: Global, tree: MemTree, run: Run<'_>) -> Result<Left, Memory>
+// The program is called here alone, whatever the tree, the streams and the clock: each function that calls it
+// proves its whole contract again.
+fn status<T: Tree, O: Sink, E: Sink, C: Clock>(
+    alloc: Global,
+    words: &[String],
+    tree: &mut T,
+    out: &mut O,
+    err: &mut E,
+    clock: &mut C,
+) -> u8
+    requires { T.begun tree.old ≡ None }
+{
+    status_of(&aclgen(alloc, words, tree, out, err, clock))
+}
+
+fn left_by(alloc: Global, tree: MemTree, run: &Run) -> Result<Left, Memory>
     requires { (contents tree).begun ≡ None }
 {
+    let words = words_of(alloc, run.words)?;
     let mut tree = failing(tree, run.tree)?;
     let mut out = sink(alloc, run.out)?;
     let mut err = sink(alloc, run.err)?;
     let mut clock = FixedClock::new(Day { number: 20468 }, run.clock);
-    let words = words(alloc, run)?;
-    let words = words.as_slice();
-    let ended = aclgen(alloc, words, &mut tree, &mut out, &mut err, &mut clock);
+    let status = status(
+        alloc,
+        words.as_slice(),
+        &mut tree,
+        &mut out,
+        &mut err,
+        &mut clock,
+    );
     Ok(Left {
-        status: status_of(&ended),
+        status,
         tree,
         out,
         err,
     })
 }
 
-// Whether a run over the policy ends with the status and leaves these bytes: the filter's file where there
-// is one, and what was written on the two streams. The input files are as they were.
-fn leaves(
-    alloc: Global,
-    policy: &[u8],
-    run: Run<'_>,
+// A run over a policy, the status that it ends with, and the bytes that it leaves: the filter's file where there
+// is one, and what was written on the two streams.
+struct Case {
+    policy: &'static [u8],
+    run: Run,
     status: u8,
-    file: Option<&[u8]>,
-    report: &[u8],
-    line: &[u8],
-) -> Result<bool, Memory> {
-    let left = left_by(alloc, tree_of(alloc, policy)?, run)?;
-    Ok(
-        left.status == status
-            && left.tree.file("out/a.acl") == file
-            && left.out.as_slice() == report
-            && left.err.as_slice() == line
-            && left.tree.file("def/n.net") == Some(NAMES)
-            && left.tree.file("pol/a.pol") == Some(policy),
-    )
+    file: Option<&'static [u8]>,
+    report: &'static [u8],
+    line: &'static [u8],
+}
+
+// Done, with nothing left.
+const CASE: Case = Case {
+    policy: PLAIN_POLICY,
+    run: PLAIN,
+    status: 0,
+    file: None,
+    report: b"",
+    line: b"",
+};
+
+fn has_outputs(left: &Left, case: &Case) -> bool {
+    left.status == case.status
+        && left.tree.file("out/a.acl") == case.file
+        && left.out.as_slice() == case.report
+        && left.err.as_slice() == case.line
+}
+
+// The input files are as they were.
+fn keeps_inputs(tree: &MemTree, policy: &[u8]) -> bool {
+    tree.file("def/n.net") == Some(NAMES) && tree.file("pol/a.pol") == Some(policy)
+}
+
+fn leaves(alloc: Global, case: &Case) -> Result<bool, Memory> {
+    let left = left_by(alloc, tree_of(alloc, case.policy)?, &case.run)?;
+    Ok(has_outputs(&left, case) && keeps_inputs(&left.tree, case.policy))
+}
+
+fn expect(rt: &impl Abort, alloc: Global, cases: &[Case]) -> Result<(), Fail> {
+    for (place, case) in cases.iter().enumerate() {
+        assert!(rt; leaves(alloc, case)?, "case {place}");
+    }
+    Ok(())
 }
 
 const TWO_BLOCKS: &[u8] = b"header { target:: cisco edge mixed target:: cisco low extended }
@@ -180,18 +219,30 @@ out/a.acl: cisco low extended: entries 1
 out/a.acl: cisco sums extended: entries 1
 ";
 
+// A clock that fails is not asked where the words name the day.
+static TWO_BLOCKS_CASES: [Case; 2] = [
+    Case {
+        policy: TWO_BLOCKS,
+        file: Some(SECTIONS),
+        report: REPORT,
+        ..CASE
+    },
+    Case {
+        policy: TWO_BLOCKS,
+        run: Run {
+            words: UNDATED,
+            clock: false,
+            ..PLAIN
+        },
+        file: Some(SECTIONS),
+        report: REPORT,
+        ..CASE
+    },
+];
+
 #[test]
 fn a_policy_of_two_blocks_is_written_whole(rt: HostRuntime) -> Result<(), Fail> {
-    let alloc = rt.alloc();
-    // a clock that fails is not asked where the words name the day
-    assert!(rt; leaves(alloc, TWO_BLOCKS, PLAIN, 0, Some(SECTIONS), REPORT, b"")?);
-    let asked = Run {
-        date: None,
-        clock: false,
-        ..PLAIN
-    };
-    assert!(rt; leaves(alloc, TWO_BLOCKS, asked, 0, Some(SECTIONS), REPORT, b"")?);
-    Ok(())
+    expect(&rt, rt.alloc(), &TWO_BLOCKS_CASES)
 }
 
 const FOUR_PLATFORMS: &[u8] =
@@ -274,16 +325,21 @@ out/a.ipt: iptables INPUT inet: entries 2
 out/a.nft: nftables input inet: entries 2
 ";
 
+fn has_each_file(tree: &MemTree) -> bool {
+    tree.file("out/a.acl") == Some(LIST_OF_WEB)
+        && tree.file("out/a.jcl") == Some(FILTERS)
+        && tree.file("out/a.ipt") == Some(CHAINS)
+        && tree.file("out/a.nft") == Some(TABLE)
+}
+
+fn writes_each_file(alloc: Global) -> Result<bool, Memory> {
+    let left = left_by(alloc, tree_of(alloc, FOUR_PLATFORMS)?, &PLAIN)?;
+    Ok(left.status == 0 && left.out.as_slice() == ALL_REPORTS && has_each_file(&left.tree))
+}
+
 #[test]
 fn each_platform_has_its_file(rt: HostRuntime) -> Result<(), Fail> {
-    let alloc = rt.alloc();
-    let left = left_by(alloc, tree_of(alloc, FOUR_PLATFORMS)?, PLAIN)?;
-    assert_eq!(rt; left.status, 0);
-    assert_eq!(rt; left.tree.file("out/a.acl"), Some(LIST_OF_WEB));
-    assert_eq!(rt; left.tree.file("out/a.jcl"), Some(FILTERS));
-    assert_eq!(rt; left.tree.file("out/a.ipt"), Some(CHAINS));
-    assert_eq!(rt; left.tree.file("out/a.nft"), Some(TABLE));
-    assert_eq!(rt; left.out.as_slice(), ALL_REPORTS);
+    assert!(rt; writes_each_file(rt.alloc())?);
     Ok(())
 }
 
@@ -331,25 +387,53 @@ fn edge_tree(alloc: Global) -> Result<MemTree, Memory>
     Ok(tree)
 }
 
+const EDGE_RUN: Run = Run {
+    words: EDGE_WORDS,
+    ..PLAIN
+};
+
+fn cisco_sections(alloc: Global, text: &[u8]) -> Result<Option<usize>, Memory> {
+    let doc = cisco_lang::read(alloc, text)?;
+    Ok(doc.map(|doc| cisco_lang::sections(&doc)))
+}
+
+fn junos_sections(alloc: Global, text: &[u8]) -> Result<Option<usize>, Memory> {
+    let doc = junos_lang::read(alloc, text)?;
+    Ok(doc.map(|doc| junos_lang::sections(&doc)))
+}
+
+fn iptables_sections(alloc: Global, text: &[u8]) -> Result<Option<usize>, Memory> {
+    let doc = ipt_lang::read(alloc, text)?;
+    Ok(doc.map(|doc| ipt_lang::sections(&doc)))
+}
+
+fn nftables_sections(alloc: Global, text: &[u8]) -> Result<Option<usize>, Memory> {
+    let doc = nft_lang::read(alloc, text)?;
+    Ok(doc.map(|doc| nft_lang::sections(&doc)))
+}
+
+fn is_read_back(alloc: Global, tree: &MemTree) -> Result<bool, Memory> {
+    let lists = tree.file("out/edge.acl").unwrap_or(b"");
+    let filters = tree.file("out/edge.jcl").unwrap_or(b"");
+    let chains = tree.file("out/edge.ipt").unwrap_or(b"");
+    let tables = tree.file("out/edge.nft").unwrap_or(b"");
+    Ok(
+        cisco_sections(alloc, lists)? == Some(1)
+            && junos_sections(alloc, filters)? == Some(1)
+            && iptables_sections(alloc, chains)? == Some(1)
+            && nftables_sections(alloc, tables)? == Some(1),
+    )
+}
+
+fn writes_the_edge(alloc: Global) -> Result<bool, Memory> {
+    let left = left_by(alloc, edge_tree(alloc)?, &EDGE_RUN)?;
+    Ok(left.status == 0 && left.out.as_slice() == EDGE_REPORT && is_read_back(alloc, &left.tree)?)
+}
+
 // What is written is read back as one section for each target.
 #[test]
 fn an_edge_policy_is_read_back(rt: HostRuntime) -> Result<(), Fail> {
-    let alloc = rt.alloc();
-    let run = Run {
-        policy: "pol/edge.pol",
-        ..PLAIN
-    };
-    let left = left_by(alloc, edge_tree(alloc)?, run)?;
-    assert_eq!(rt; left.status, 0);
-    assert_eq!(rt; left.out.as_slice(), EDGE_REPORT);
-    let lists = cisco_lang::read(alloc, left.tree.file("out/edge.acl").unwrap_or(b""))?;
-    assert_eq!(rt; lists.map(|doc| cisco_lang::sections(&doc)), Some(1));
-    let filters = junos_lang::read(alloc, left.tree.file("out/edge.jcl").unwrap_or(b""))?;
-    assert_eq!(rt; filters.map(|doc| junos_lang::sections(&doc)), Some(1));
-    let chains = ipt_lang::read(alloc, left.tree.file("out/edge.ipt").unwrap_or(b""))?;
-    assert_eq!(rt; chains.map(|doc| ipt_lang::sections(&doc)), Some(1));
-    let tables = nft_lang::read(alloc, left.tree.file("out/edge.nft").unwrap_or(b""))?;
-    assert_eq!(rt; tables.map(|doc| nft_lang::sections(&doc)), Some(1));
+    assert!(rt; writes_the_edge(rt.alloc())?);
     Ok(())
 }
 
@@ -359,55 +443,60 @@ const PLAIN_POLICY: &[u8] =
 const USAGE: &[u8] =
     b"usage: aclgen --policy_file P --definitions_directory D --output_directory O [--date YYYY-MM-DD] [--exp_info N] [--shade_check]\n";
 
+static REFUSALS: [Case; 7] = [
+    Case {
+        policy: b"header { target:: cisco edge extended }\nterm t { source-address:: NOWHERE action:: accept }",
+        status: 1,
+        line: b"pol/a.pol:2: F31 UnknownName NOWHERE\n",
+        ..CASE
+    },
+    Case {
+        policy: b"header { target:: cisco a extended target:: iptables INPUT }\nterm a-name-of-25-bytes-in-all { action:: accept }",
+        status: 1,
+        line: b"pol/a.pol:2: F41 NameLength a-name-of-25-bytes-in-all\n",
+        ..CASE
+    },
+    Case {
+        policy: b"header { target:: cisco a extended target:: cisco b inet6 }\nterm t { protocol:: tcp option:: tcp-initial action:: accept }",
+        status: 1,
+        line: b"pol/a.pol:2: F43 Unsupported tcp-initial\n",
+        ..CASE
+    },
+    Case {
+        policy: b"header { target:: cisco a inet6 }\nterm t { protocol:: esp action:: accept }\nterm u { protocol:: ah action:: accept }",
+        status: 1,
+        line: b"pol/a.pol:3: F40 ExtensionHeader 51\n",
+        ..CASE
+    },
+    Case {
+        policy: b"header { target:: juniper a }\nterm t { protocol:: tcp udp option:: established action:: accept }\nterm t-udp { action:: deny }",
+        status: 1,
+        line: b"pol/a.pol:3: F42 NameClash t-udp\n",
+        ..CASE
+    },
+    Case {
+        run: Run {
+            words: WRONG_DATE,
+            ..PLAIN
+        },
+        status: 2,
+        line: USAGE,
+        ..CASE
+    },
+    Case {
+        run: Run {
+            words: NO_POLICY,
+            ..PLAIN
+        },
+        status: 1,
+        line: b"pol/b.pol: F20 NoFile\n",
+        ..CASE
+    },
+];
+
 #[test]
 fn refusals_leave_everything_as_it_was(rt: HostRuntime) -> Result<(), Fail> {
-    let alloc = rt.alloc();
-    let cases: [(&[u8], &[u8]); 5] = [
-        (
-            b"header { target:: cisco edge extended }\nterm t { source-address:: NOWHERE action:: accept }",
-            b"pol/a.pol:2: F31 UnknownName NOWHERE\n",
-        ),
-        (
-            b"header { target:: cisco a extended target:: iptables INPUT }\nterm a-name-of-25-bytes-in-all { action:: accept }",
-            b"pol/a.pol:2: F41 NameLength a-name-of-25-bytes-in-all\n",
-        ),
-        (
-            b"header { target:: cisco a extended target:: cisco b inet6 }\nterm t { protocol:: tcp option:: tcp-initial action:: accept }",
-            b"pol/a.pol:2: F43 Unsupported tcp-initial\n",
-        ),
-        (
-            b"header { target:: cisco a inet6 }\nterm t { protocol:: esp action:: accept }\nterm u { protocol:: ah action:: accept }",
-            b"pol/a.pol:3: F40 ExtensionHeader 51\n",
-        ),
-        (
-            b"header { target:: juniper a }\nterm t { protocol:: tcp udp option:: established action:: accept }\nterm t-udp { action:: deny }",
-            b"pol/a.pol:3: F42 NameClash t-udp\n",
-        ),
-    ];
-    for (policy, line) in cases {
-        assert!(rt; leaves(alloc, policy, PLAIN, 1, None, b"", line)?);
-    }
-    let wrong = Run {
-        date: Some("2026-02-30"),
-        ..PLAIN
-    };
-    assert!(rt; leaves(alloc, PLAIN_POLICY, wrong, 2, None, b"", USAGE)?);
-    let absent = Run {
-        policy: "pol/b.pol",
-        ..PLAIN
-    };
-    assert!(rt;
-        leaves(
-            alloc,
-            PLAIN_POLICY,
-            absent,
-            1,
-            None,
-            b"",
-            b"pol/b.pol: F20 NoFile\n"
-        )?
-    );
-    Ok(())
+    expect(&rt, rt.alloc(), &REFUSALS)
 }
 
 const LIST: &[u8] = b"! cisco edge extended
@@ -418,72 +507,130 @@ ip access-list extended edge
 exit
 ";
 
+static FAILURES: [Case; 10] = [
+    Case {
+        run: Run {
+            tree: Some((Op::List, 1)),
+            ..PLAIN
+        },
+        status: 3,
+        line: b"aclgen: list failed\n",
+        ..CASE
+    },
+    Case {
+        run: Run {
+            tree: Some((Op::Read, 1)),
+            ..PLAIN
+        },
+        status: 3,
+        line: b"aclgen: read failed\n",
+        ..CASE
+    },
+    Case {
+        run: Run {
+            tree: Some((Op::Read, 2)),
+            ..PLAIN
+        },
+        status: 3,
+        line: b"aclgen: read failed\n",
+        ..CASE
+    },
+    Case {
+        run: Run {
+            tree: Some((Op::Begin, 1)),
+            ..PLAIN
+        },
+        status: 3,
+        line: b"aclgen: write failed\n",
+        ..CASE
+    },
+    Case {
+        run: Run {
+            tree: Some((Op::Append, 1)),
+            ..PLAIN
+        },
+        status: 3,
+        file: Some(b""),
+        line: b"aclgen: write failed\n",
+        ..CASE
+    },
+    Case {
+        run: Run {
+            tree: Some((Op::Finish, 1)),
+            ..PLAIN
+        },
+        status: 3,
+        file: Some(LIST),
+        line: b"aclgen: write failed\n",
+        ..CASE
+    },
+    Case {
+        run: Run {
+            words: UNDATED,
+            ..PLAIN
+        },
+        status: 3,
+        line: b"aclgen: clock failed\n",
+        ..CASE
+    },
+    Case {
+        run: Run { out: true, ..PLAIN },
+        status: 3,
+        file: Some(LIST),
+        line: b"aclgen: output failed\n",
+        ..CASE
+    },
+    Case {
+        run: Run {
+            words: EMPTY_DATE,
+            err: true,
+            ..PLAIN
+        },
+        status: 3,
+        ..CASE
+    },
+    Case {
+        run: Run {
+            words: NO_POLICY,
+            err: true,
+            ..PLAIN
+        },
+        status: 3,
+        ..CASE
+    },
+];
+
 #[test]
 fn each_call_of_the_outside_fails_once(rt: HostRuntime) -> Result<(), Fail> {
-    let alloc = rt.alloc();
-    let cases: [(Op, u32, Option<&[u8]>, &[u8]); 6] = [
-        (Op::List, 1, None, b"aclgen: list failed\n"),
-        (Op::Read, 1, None, b"aclgen: read failed\n"),
-        (Op::Read, 2, None, b"aclgen: read failed\n"),
-        (Op::Begin, 1, None, b"aclgen: write failed\n"),
-        (Op::Append, 1, Some(b""), b"aclgen: write failed\n"),
-        (Op::Finish, 1, Some(LIST), b"aclgen: write failed\n"),
-    ];
-    for (op, nth, file, line) in cases {
-        let run = Run {
-            tree: Some((op, nth)),
-            ..PLAIN
-        };
-        assert!(rt; leaves(alloc, PLAIN_POLICY, run, 3, file, b"", line)?);
-    }
-    let silent = Run {
-        date: None,
-        ..PLAIN
-    };
-    let line = b"aclgen: clock failed\n";
-    assert!(rt; leaves(alloc, PLAIN_POLICY, silent, 3, None, b"", line)?);
-    let out = Run { out: true, ..PLAIN };
-    assert!(rt;
-        leaves(
-            alloc,
-            PLAIN_POLICY,
-            out,
-            3,
-            Some(LIST),
-            b"",
-            b"aclgen: output failed\n"
-        )?
-    );
-    let words = Run {
-        date: Some(""),
-        err: true,
-        ..PLAIN
-    };
-    assert!(rt; leaves(alloc, PLAIN_POLICY, words, 3, None, b"", b"")?);
-    let absent = Run {
-        policy: "pol/b.pol",
-        err: true,
-        ..PLAIN
-    };
-    assert!(rt; leaves(alloc, PLAIN_POLICY, absent, 3, None, b"", b"")?);
-    Ok(())
+    expect(&rt, rt.alloc(), &FAILURES)
+}
+
+// The beginning of the second file fails.
+const INTERRUPTED: Run = Run {
+    tree: Some((Op::Begin, 2)),
+    ..PLAIN
+};
+
+fn has_the_first_file(tree: &MemTree) -> bool {
+    tree.file("out/a.acl") == Some(LIST_OF_WEB)
+        && tree.file("out/a.jcl").is_none()
+        && tree.file("out/a.nft").is_none()
+}
+
+fn leaves_the_first_file(alloc: Global) -> Result<bool, Memory> {
+    let left = left_by(alloc, tree_of(alloc, FOUR_PLATFORMS)?, &INTERRUPTED)?;
+    Ok(
+        left.status == 3
+            && has_the_first_file(&left.tree)
+            && left.out.as_slice().is_empty()
+            && left.err.as_slice() == b"aclgen: write failed\n".as_slice(),
+    )
 }
 
 // The second file is not begun: the first is whole, and the others are not there.
 #[test]
 fn an_interrupted_writing_leaves_whole_files(rt: HostRuntime) -> Result<(), Fail> {
-    let alloc = rt.alloc();
-    let run = Run {
-        tree: Some((Op::Begin, 2)),
-        ..PLAIN
-    };
-    let left = left_by(alloc, tree_of(alloc, FOUR_PLATFORMS)?, run)?;
-    assert_eq!(rt; left.status, 3);
-    assert_eq!(rt; left.tree.file("out/a.acl"), Some(LIST_OF_WEB));
-    assert_eq!(rt; left.tree.file("out/a.jcl"), None);
-    assert_eq!(rt; left.tree.file("out/a.nft"), None);
-    assert!(rt; left.out.as_slice().is_empty());
-    assert!(rt; left.err.as_slice() == b"aclgen: write failed\n".as_slice());
+    assert!(rt; leaves_the_first_file(rt.alloc())?);
     Ok(())
 }
 
@@ -507,20 +654,34 @@ static SHADED: [(&[u8], &[u8], &[u8]); 3] = [
     ),
 ];
 
+const CHECKED: Run = Run {
+    words: SHADE_CHECK,
+    ..PLAIN
+};
+
+// Whether that is the report of a run over the policy.
+fn is_reported(alloc: Global, policy: &[u8], report: &[u8]) -> Result<bool, Memory> {
+    let left = left_by(alloc, tree_of(alloc, policy)?, &PLAIN)?;
+    Ok(left.out.as_slice() == report)
+}
+
+// Whether that is the line of a run with the shade check; without a line the filters are written.
+fn is_checked(alloc: Global, policy: &[u8], line: &[u8]) -> Result<bool, Memory> {
+    let left = left_by(alloc, tree_of(alloc, policy)?, &CHECKED)?;
+    let status = if line.is_empty() { 0 } else { 1 };
+    Ok(
+        left.err.as_slice() == line
+            && left.status == status
+            && left.tree.file("out/a.acl").is_some() == line.is_empty(),
+    )
+}
+
 #[test]
 fn shaded_terms_are_told_or_refused(rt: HostRuntime) -> Result<(), Fail> {
     let alloc = rt.alloc();
     for (policy, report, line) in &SHADED {
-        let told = left_by(alloc, tree_of(alloc, policy)?, PLAIN)?;
-        assert_eq!(rt; told.out.as_slice(), *report);
-        let run = Run {
-            shade_check: true,
-            ..PLAIN
-        };
-        let left = left_by(alloc, tree_of(alloc, policy)?, run)?;
-        assert_eq!(rt; left.err.as_slice(), *line);
-        assert_eq!(rt; left.status, if line.is_empty() { 0 } else { 1 });
-        assert_eq!(rt; left.tree.file("out/a.acl").is_some(), line.is_empty());
+        assert!(rt; is_reported(alloc, policy, report)?);
+        assert!(rt; is_checked(alloc, policy, line)?);
     }
     Ok(())
 }
@@ -532,19 +693,28 @@ out/w.nft: nftables forward mixed: entries 24
 ";
 
 // Neither the tree, whose first call fails, nor the clock is called.
+const TWO: Run = Run {
+    words: "--workload 2",
+    clock: false,
+    tree: Some((Op::List, 1)),
+    ..PLAIN
+};
+
+static WORKLOADS: [Case; 2] = [
+    Case {
+        run: TWO,
+        report: TWO_TERMS,
+        ..CASE
+    },
+    Case {
+        run: Run { out: true, ..TWO },
+        status: 3,
+        line: b"aclgen: output failed\n",
+        ..CASE
+    },
+];
+
 #[test]
 fn the_workload_is_compiled_in_memory(rt: HostRuntime) -> Result<(), Fail> {
-    let alloc = rt.alloc();
-    let two = Run {
-        workload: Some("2"),
-        clock: false,
-        tree: Some((Op::List, 1)),
-        ..PLAIN
-    };
-    assert!(rt; leaves(alloc, PLAIN_POLICY, two, 0, None, TWO_TERMS, b"")?);
-    let mut cut = two;
-    cut.out = true;
-    let line = b"aclgen: output failed\n";
-    assert!(rt; leaves(alloc, PLAIN_POLICY, cut, 3, None, b"", line)?);
-    Ok(())
+    expect(&rt, rt.alloc(), &WORKLOADS)
 }

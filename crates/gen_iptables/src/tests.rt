@@ -1,6 +1,5 @@
 ghost use Rattle.std.specs.Prelude.{◌≡◌, [], IfOk, None, false, true};
 ghost use Rattle.std.specs.List.{All};
-ghost use Rattle.acl_sets.specs.Ranges.{IsRange};
 ghost use Rattle.acl_target.specs.Clashes.{is_mixed};
 ghost use Rattle.acl_target.specs.TargetData.{chain_text, is_neighbours};
 ghost use Rattle.acl_platform.specs.Combinations.{IsSized};
@@ -22,6 +21,120 @@ use ipt_lang::{read, sections};
 use std::alloc::Global;
 use std::test::Fail;
 
+// The ends of ranges of numbers; the first addresses of prefixes and their lengths.
+type Ranges = &'static [(u128, u128)];
+
+type Addresses = &'static [(u128, u8)];
+
+// A rule as the tests write it.
+#[derive(Clone, Copy)]
+struct Sample {
+    name: &'static [u8],
+    note: &'static [u8],
+    family: Family,
+    src: Addresses,
+    dst: Addresses,
+    protos: Ranges,
+    sports: Ranges,
+    dports: Ranges,
+    itypes: Ranges,
+    test: Test,
+    verdict: Verdict,
+    log: bool,
+}
+
+const EVERYWHERE: Addresses = &[(0, 0)];
+
+const ALL_PORTS: Ranges = &[(0, 65535)];
+
+const ALL_BYTES: Ranges = &[(0, 255)];
+
+// All of IPv4: denied.
+const ANY: Sample = Sample {
+    name: b"a",
+    note: b"",
+    family: Family::V4,
+    src: EVERYWHERE,
+    dst: EVERYWHERE,
+    protos: ALL_BYTES,
+    sports: ALL_PORTS,
+    dports: ALL_PORTS,
+    itypes: ALL_BYTES,
+    test: Test::Plain,
+    verdict: Verdict::Deny,
+    log: false,
+};
+
+fn list(alloc: Global, family: Family, addresses: &[(u128, u8)]) -> Result<Prefixes, Memory> {
+    let mut prefixes = Prefixes::new(alloc);
+    for (first, len) in addresses {
+        prefixes.push(Prefix {
+            family,
+            first: *first,
+            len: *len,
+        })?;
+    }
+    Ok(prefixes)
+}
+
+fn set(alloc: Global, top: u128, ends: &[(u128, u128)]) -> Result<RangeSet, Memory>
+    ensures { IfOk result (λ s. s.top ≡ top) }
+{
+    let mut ranges = Vec::new(alloc);
+    for (low, high) in ends {
+        if *low <= *high && *high <= top {
+            ranges.push(Range {
+                low: *low,
+                high: *high,
+            })?;
+        }
+    }
+    RangeSet::from_ranges(alloc, top, ranges.as_slice())
+}
+
+fn rule(alloc: Global, sample: &Sample, src: Prefixes) -> Result<Rule, Memory>
+    ensures { IfOk result IsSized }
+{
+    Ok(Rule {
+        name: Bytes::from_slice(alloc, sample.name)?,
+        place: Place { file: 1, line: 2 },
+        note: Bytes::from_slice(alloc, sample.note)?,
+        family: sample.family,
+        src,
+        dst: list(alloc, sample.family, sample.dst)?,
+        protos: set(alloc, 255, sample.protos)?,
+        sports: set(alloc, 65535, sample.sports)?,
+        dports: set(alloc, 65535, sample.dports)?,
+        itypes: set(alloc, 255, sample.itypes)?,
+        test: sample.test,
+        verdict: sample.verdict,
+        log: sample.log,
+    })
+}
+
+fn rules(alloc: Global, samples: &[Sample]) -> Result<Rules, Memory>
+    ensures { IfOk result (λ rs. All IsSized rs) }
+{
+    let mut rules = Rules::new(alloc);
+    for sample in samples {
+        let src = list(alloc, sample.family, sample.src)?;
+        rules.push(rule(alloc, sample, src)?)?;
+    }
+    Ok(rules)
+}
+
+// A filter as the tests write it, the text of its section with its lines, and how many entries it has.
+struct Case {
+    hook: Hook,
+    name: &'static [u8],
+    families: Families,
+    ending: Ending,
+    rules: &'static [Sample],
+    text: &'static str,
+    lines: u64,
+    entries: u64,
+}
+
 fn filter(
     alloc: Global,
     hook: Hook,
@@ -30,10 +143,9 @@ fn filter(
     ending: Ending,
     rules: Rules,
 ) -> Result<Filter, Memory>
-    requires name { name.now ≡ chain_text hook }
-    requires one_family { is_mixed families ≡ false }
-    requires ending { is_neighbours ending ≡ false }
-    ensures accepted { rules ≡ [] → IfOk result (IsAccepted is_for_iptables limit_of) }
+    ensures accepted { name.now ≡ chain_text hook → is_mixed families ≡ false
+        → is_neighbours ending ≡ false → rules ≡ []
+        → IfOk result (IsAccepted is_for_iptables limit_of) }
     ensures hook { IfOk result (λ f. f.hook ≡ hook) }
     ensures families { IfOk result (λ f. f.families ≡ families) }
     ensures rules { IfOk result (λ f. f.rules ≡ rules) }
@@ -52,140 +164,80 @@ fn filter(
     })
 }
 
-const ALL: Range = Range {
-    low: 0,
-    high: 65535,
-};
+static CASES: [Case; 3] = [
+    Case {
+        hook: Hook::Input,
+        name: b"INPUT",
+        families: Families::Inet,
+        ending: Ending::Deny,
+        rules: EDGE_RULES,
+        text: EDGE,
+        lines: 29,
+        entries: 16,
+    },
+    Case {
+        hook: Hook::Input,
+        name: b"INPUT",
+        families: Families::Inet,
+        ending: Ending::Left,
+        rules: SPLIT_RULES,
+        text: SPLIT,
+        lines: 16,
+        entries: 8,
+    },
+    Case {
+        hook: Hook::Forward,
+        name: b"FORWARD",
+        families: Families::Inet6,
+        ending: Ending::Accept,
+        rules: FORWARD_RULES,
+        text: FORWARD,
+        lines: 16,
+        entries: 8,
+    },
+];
 
-fn one(number: u128) -> Range
-    ensures { result ≡ record { low = number; high = number } }
-{
-    Range {
-        low: number,
-        high: number,
-    }
-}
-
-fn prefix(family: Family, first: u128, len: u8) -> Prefix {
-    Prefix { family, first, len }
-}
-
-fn list(alloc: Global, members: &[Prefix]) -> Result<Prefixes, Memory> {
-    let mut prefixes = Prefixes::new(alloc);
-    for member in members {
-        prefixes.push(*member)?;
-    }
-    Ok(prefixes)
-}
-
-// What of the protocols goes from everywhere to everywhere, to some ports: accepted.
-fn rule(
-    alloc: Global,
-    name: &[u8],
-    family: Family,
-    protos: &[Range],
-    dports: &[Range],
-    test: Test,
-) -> Result<Rule, Memory>
-    requires protos { All (λ r. IsRange 255 r) protos.now }
-    requires ports { All (λ r. IsRange 65535 r) dports.now }
-    ensures { IfOk result IsSized }
-{
-    let everywhere = [prefix(family, 0, 0)];
-    Ok(Rule {
-        name: Bytes::from_slice(alloc, name)?,
-        place: Place { file: 1, line: 2 },
-        note: Bytes::new(alloc),
-        family,
-        src: list(alloc, &everywhere)?,
-        dst: list(alloc, &everywhere)?,
-        protos: RangeSet::from_ranges(alloc, 255, protos)?,
-        sports: RangeSet::all(alloc, 65535)?,
-        dports: RangeSet::from_ranges(alloc, 65535, dports)?,
-        itypes: RangeSet::all(alloc, 255)?,
-        test,
+const EDGE_RULES: &[Sample] = &[
+    Sample {
+        name: b"block-bogon",
+        note: b"Not ours.",
+        src: &[
+            (0x0a00_0000, 8),
+            (0x7f00_0000, 8),
+            (0xac10_0000, 12),
+            (0xc0a8_0000, 16),
+        ],
+        ..ANY
+    },
+    Sample {
+        name: b"established",
+        protos: &[(6, 6), (17, 17)],
+        test: Test::State,
         verdict: Verdict::Accept,
-        log: false,
-    })
-}
-
-// What of any protocol goes from some prefixes to everywhere: denied.
-fn denial(alloc: Global, name: &[u8], note: &[u8], src: Prefixes, log: bool) -> Result<Rule, Memory>
-    ensures { IfOk result IsSized }
-{
-    Ok(Rule {
-        name: Bytes::from_slice(alloc, name)?,
-        place: Place { file: 1, line: 2 },
-        note: Bytes::from_slice(alloc, note)?,
-        family: Family::V4,
-        src,
-        dst: list(alloc, &[prefix(Family::V4, 0, 0)])?,
-        protos: RangeSet::all(alloc, 255)?,
-        sports: RangeSet::all(alloc, 65535)?,
-        dports: RangeSet::all(alloc, 65535)?,
-        itypes: RangeSet::all(alloc, 255)?,
-        test: Test::Plain,
-        verdict: Verdict::Deny,
-        log,
-    })
-}
-
-fn bogons(alloc: Global) -> Result<Rule, Memory>
-    ensures { IfOk result IsSized }
-{
-    let src = [
-        prefix(Family::V4, 0x0a00_0000, 8),
-        prefix(Family::V4, 0x7f00_0000, 8),
-        prefix(Family::V4, 0xac10_0000, 12),
-        prefix(Family::V4, 0xc0a8_0000, 16),
-    ];
-    denial(
-        alloc,
-        b"block-bogon",
-        b"Not ours.",
-        list(alloc, &src)?,
-        false,
-    )
-}
-
-fn everything(alloc: Global, name: &[u8], note: &[u8], log: bool) -> Result<Rule, Memory>
-    ensures { IfOk result IsSized }
-{
-    let src = [prefix(Family::V4, 0, 0)];
-    denial(alloc, name, note, list(alloc, &src)?, log)
-}
-
-fn established(alloc: Global) -> Result<Rule, Memory>
-    ensures { IfOk result IsSized }
-{
-    let protos = [one(6), one(17)];
-    rule(
-        alloc,
-        b"established",
-        Family::V4,
-        &protos,
-        &[ALL],
-        Test::State,
-    )
-}
-
-fn dns(alloc: Global) -> Result<Rule, Memory>
-    ensures { IfOk result IsSized }
-{
-    let protos = [one(6), one(17)];
-    let mut rule = rule(alloc, b"dns", Family::V4, &protos, &[one(53)], Test::Plain)?;
-    rule.dst = list(alloc, &[prefix(Family::V4, 0xc000_0235, 32)])?;
-    Ok(rule)
-}
-
-fn web(alloc: Global) -> Result<Rule, Memory>
-    ensures { IfOk result IsSized }
-{
-    let ports = [one(80), one(443)];
-    let mut rule = rule(alloc, b"web", Family::V4, &[one(6)], &ports, Test::Plain)?;
-    rule.dst = list(alloc, &[prefix(Family::V4, 0xc000_020a, 31)])?;
-    Ok(rule)
-}
+        ..ANY
+    },
+    Sample {
+        name: b"dns",
+        dst: &[(0xc000_0235, 32)],
+        protos: &[(6, 6), (17, 17)],
+        dports: &[(53, 53)],
+        verdict: Verdict::Accept,
+        ..ANY
+    },
+    Sample {
+        name: b"web",
+        dst: &[(0xc000_020a, 31)],
+        protos: &[(6, 6)],
+        dports: &[(80, 80), (443, 443)],
+        verdict: Verdict::Accept,
+        ..ANY
+    },
+    Sample {
+        name: b"default-deny",
+        log: true,
+        ..ANY
+    },
+];
 
 const EDGE: &str = "## iptables INPUT inet
 -P INPUT DROP
@@ -218,73 +270,44 @@ const EDGE: &str = "## iptables INPUT inet
 -A INPUT -j I_default-deny
 ";
 
-fn edge(alloc: Global) -> Result<Filter, Memory>
-    ensures { IfOk result (λ f. All IsSized f.rules) }
-{
-    let bogons = bogons(alloc)?;
-    let established = established(alloc)?;
-    let dns = dns(alloc)?;
-    let web = web(alloc)?;
-    let last = everything(alloc, b"default-deny", b"", true)?;
-    let mut rules = Rules::new(alloc);
-    rules.push(bogons)?;
-    rules.push(established)?;
-    rules.push(dns)?;
-    rules.push(web)?;
-    rules.push(last)?;
-    filter(
-        alloc,
-        Hook::Input,
-        b"INPUT",
-        Families::Inet,
-        Ending::Deny,
-        rules,
-    )
-}
-
-#[test]
-fn writes_a_chain_for_each_rule(rt: HostRuntime) -> Result<(), Fail> {
-    let alloc = rt.alloc();
-    let own = edge(alloc)?;
-    let mut out = Whole::new(alloc);
-    put_section(&own, &mut out)?;
-    assert_eq!(rt; out.as_slice(), EDGE.as_bytes());
-    assert_eq!(rt; entry_count(&own), 16);
-    let doc = read(alloc, out.as_slice())?;
-    assert_eq!(rt; doc.map(|doc| sections(&doc)), Some(1));
-    Ok(())
-}
-
-// Fourteen odd ports, a range of ten and one more: two groups.
-fn many(alloc: Global) -> Result<Rule, Memory>
-    ensures { IfOk result IsSized }
-{
-    let ports = [
-        one(1),
-        one(3),
-        one(5),
-        one(7),
-        one(9),
-        one(11),
-        one(13),
-        one(15),
-        one(17),
-        one(19),
-        one(21),
-        one(23),
-        one(25),
-        one(27),
-        Range { low: 30, high: 39 },
-        one(50),
-    ];
-    rule(alloc, b"m", Family::V4, &[one(6)], &ports, Test::Plain)
-}
-
-fn stateless(alloc: Global) -> Result<Rule, Memory>
-    ensures { IfOk result IsSized }
-{
-    rule(alloc, b"e", Family::V4, &[one(6)], &[ALL], Test::AckOrRst)
-}
+const SPLIT_RULES: &[Sample] = &[
+    // fourteen odd ports, a range of ten and one more: two groups
+    Sample {
+        name: b"m",
+        protos: &[(6, 6)],
+        dports: &[
+            (1, 1),
+            (3, 3),
+            (5, 5),
+            (7, 7),
+            (9, 9),
+            (11, 11),
+            (13, 13),
+            (15, 15),
+            (17, 17),
+            (19, 19),
+            (21, 21),
+            (23, 23),
+            (25, 25),
+            (27, 27),
+            (30, 39),
+            (50, 50),
+        ],
+        verdict: Verdict::Accept,
+        ..ANY
+    },
+    Sample {
+        name: b"e",
+        protos: &[(6, 6)],
+        test: Test::AckOrRst,
+        verdict: Verdict::Accept,
+        ..ANY
+    },
+    Sample {
+        note: b"iptables INPUT inet",
+        ..ANY
+    },
+];
 
 const SPLIT: &str = "## iptables INPUT inet
 # m
@@ -304,82 +327,38 @@ const SPLIT: &str = "## iptables INPUT inet
 -A INPUT -j I_a
 ";
 
-fn split(alloc: Global) -> Result<Filter, Memory>
-    ensures { IfOk result (λ f. All IsSized f.rules) }
-{
-    let many = many(alloc)?;
-    let stateless = stateless(alloc)?;
-    let last = everything(alloc, b"a", b"iptables INPUT inet", false)?;
-    let mut rules = Rules::new(alloc);
-    rules.push(many)?;
-    rules.push(stateless)?;
-    rules.push(last)?;
-    filter(
-        alloc,
-        Hook::Input,
-        b"INPUT",
-        Families::Inet,
-        Ending::Left,
-        rules,
-    )
-}
-
-#[test]
-fn writes_groups_of_ports_and_choices_of_flags(rt: HostRuntime) -> Result<(), Fail> {
-    let alloc = rt.alloc();
-    let own = split(alloc)?;
-    let mut out = Whole::new(alloc);
-    put_section(&own, &mut out)?;
-    assert_eq!(rt; out.as_slice(), SPLIT.as_bytes());
-    assert_eq!(rt; entry_count(&own), 8);
-    let doc = read(alloc, out.as_slice())?;
-    assert_eq!(rt; doc.map(|doc| sections(&doc)), Some(1));
-    Ok(())
-}
-
-// Two types of a known connection.
-fn ping(alloc: Global) -> Result<Rule, Memory>
-    ensures { IfOk result IsSized }
-{
-    let mut rule = rule(alloc, b"ping", Family::V6, &[one(58)], &[ALL], Test::State)?;
-    rule.itypes = RangeSet::from_ranges(alloc, 255, &[one(1), one(128)])?;
-    Ok(rule)
-}
-
-fn syn(alloc: Global) -> Result<Rule, Memory>
-    ensures { IfOk result IsSized }
-{
-    let mut rule = rule(
-        alloc,
-        b"syn",
-        Family::V6,
-        &[one(6)],
-        &[ALL],
-        Test::SynNotAck,
-    )?;
-    rule.verdict = Verdict::Reset;
-    rule.log = true;
-    Ok(rule)
-}
-
-// From one port to two ranges of ports.
-fn calls(alloc: Global) -> Result<Rule, Memory>
-    ensures { IfOk result IsSized }
-{
-    let ports = [one(20), Range { low: 30, high: 31 }];
-    let mut rule = rule(
-        alloc,
-        b"calls",
-        Family::V6,
-        &[one(132)],
-        &ports,
-        Test::Plain,
-    )?;
-    rule.src = list(alloc, &[prefix(Family::V6, 0x2001_0db8 << 96, 32)])?;
-    rule.sports = RangeSet::from_ranges(alloc, 65535, &[one(9)])?;
-    rule.verdict = Verdict::Reject;
-    Ok(rule)
-}
+const FORWARD_RULES: &[Sample] = &[
+    // two types of a known connection
+    Sample {
+        name: b"ping",
+        family: Family::V6,
+        protos: &[(58, 58)],
+        itypes: &[(1, 1), (128, 128)],
+        test: Test::State,
+        verdict: Verdict::Accept,
+        ..ANY
+    },
+    Sample {
+        name: b"syn",
+        family: Family::V6,
+        protos: &[(6, 6)],
+        test: Test::SynNotAck,
+        verdict: Verdict::Reset,
+        log: true,
+        ..ANY
+    },
+    // from one port to two ranges of ports
+    Sample {
+        name: b"calls",
+        family: Family::V6,
+        src: &[(0x2001_0db8 << 96, 32)],
+        protos: &[(132, 132)],
+        sports: &[(9, 9)],
+        dports: &[(20, 20), (30, 31)],
+        verdict: Verdict::Reject,
+        ..ANY
+    },
+];
 
 const FORWARD: &str = "## iptables FORWARD inet6
 -P FORWARD ACCEPT
@@ -398,26 +377,6 @@ const FORWARD: &str = "## iptables FORWARD inet6
 -A F_calls -p sctp -s 2001:db8::/32 -m multiport --sports 9 -m multiport --dports 20,30:31 -j REJECT
 -A FORWARD -j F_calls
 ";
-
-fn forward(alloc: Global) -> Result<Filter, Memory>
-    ensures { IfOk result (λ f. All IsSized f.rules) }
-{
-    let ping = ping(alloc)?;
-    let syn = syn(alloc)?;
-    let calls = calls(alloc)?;
-    let mut rules = Rules::new(alloc);
-    rules.push(ping)?;
-    rules.push(syn)?;
-    rules.push(calls)?;
-    filter(
-        alloc,
-        Hook::Forward,
-        b"FORWARD",
-        Families::Inet6,
-        Ending::Accept,
-        rules,
-    )
-}
 
 // The lines that were put; whether each put was within one line.
 #[derive(Drop)]
@@ -454,84 +413,131 @@ impl Out for Lines {
     ghost rest_goes_on = { λ x y z h k. tt };
 }
 
-#[test]
-fn writes_every_part_of_a_rule(rt: HostRuntime) -> Result<(), Fail> {
-    let alloc = rt.alloc();
-    let own = forward(alloc)?;
+fn filter_of(alloc: Global, case: &Case) -> Result<Filter, Memory>
+    ensures { IfOk result (λ f. All IsSized f.rules) }
+{
+    let rules = rules(alloc, case.rules)?;
+    filter(
+        alloc,
+        case.hook,
+        case.name,
+        case.families,
+        case.ending,
+        rules,
+    )
+}
+
+fn text_of(alloc: Global, filter: &Filter) -> Result<Whole, PutFault>
+    requires { All IsSized filter.now.rules }
+{
     let mut out = Whole::new(alloc);
-    put_section(&own, &mut out)?;
-    assert_eq!(rt; out.as_slice(), FORWARD.as_bytes());
-    assert_eq!(rt; entry_count(&own), 8);
-    let doc = read(alloc, out.as_slice())?;
-    assert_eq!(rt; doc.map(|doc| sections(&doc)), Some(1));
+    put_section(filter, &mut out)?;
+    Ok(out)
+}
+
+// How many lines were put, and whether each put was within one line.
+fn lines_of(filter: &Filter) -> Result<(u64, bool), PutFault>
+    requires { All IsSized filter.now.rules }
+{
     let mut lines = Lines {
         count: 0,
         within: true,
     };
-    put_section(&own, &mut lines)?;
-    assert_eq!(rt; lines.count, 16);
-    assert!(rt; lines.within);
+    put_section(filter, &mut lines)?;
+    Ok((lines.count, lines.within))
+}
+
+fn sections_of(alloc: Global, text: &[u8]) -> Result<Option<usize>, Memory> {
+    let doc = read(alloc, text)?;
+    Ok(doc.map(|doc| sections(&doc)))
+}
+
+// Whether the section is written, counted and read back as the case says.
+fn is_written(alloc: Global, case: &Case) -> Result<bool, Fail> {
+    let own = filter_of(alloc, case)?;
+    let text = text_of(alloc, &own)?;
+    Ok(
+        text.as_slice() == case.text.as_bytes()
+            && sections_of(alloc, text.as_slice())? == Some(1)
+            && entry_count(&own) == case.entries
+            && lines_of(&own)? == (case.lines, true),
+    )
+}
+
+#[test]
+fn writes_each_part_of_a_section(rt: HostRuntime) -> Result<(), Fail> {
+    for case in &CASES {
+        assert!(rt; is_written(rt.alloc(), case)?, "{}", case.text);
+    }
     Ok(())
 }
 
 fn every_second_host(alloc: Global, count: u32) -> Result<Prefixes, Memory> {
     let mut prefixes = Prefixes::new(alloc);
     for place in 0..count {
-        prefixes.push(prefix(Family::V4, u128::from(place) * 2, 32))?;
+        prefixes.push(Prefix {
+            family: Family::V4,
+            first: u128::from(place) * 2,
+            len: 32,
+        })?;
     }
     Ok(prefixes)
 }
 
-fn of_hosts(alloc: Global, count: u32) -> Result<Filter, Memory>
-    ensures { IfOk result (λ f. All IsSized f.rules) }
-{
+fn entries_of_hosts(alloc: Global, count: u32) -> Result<u64, Memory> {
     let hosts = every_second_host(alloc, count)?;
     let mut rules = Rules::new(alloc);
-    rules.push(denial(alloc, b"a", b"", hosts, false)?)?;
-    filter(
+    rules.push(rule(alloc, &ANY, hosts)?)?;
+    let ending = Ending::Left;
+    let own = filter(
         alloc,
         Hook::Output,
         b"OUTPUT",
         Families::Inet,
-        Ending::Left,
+        ending,
         rules,
-    )
+    )?;
+    Ok(entry_count(&own))
 }
 
 // The jump to the chain is an entry too.
 #[test]
 fn takes_as_many_entries_as_a_device_is_given(rt: HostRuntime) -> Result<(), Fail> {
-    let most = of_hosts(rt.alloc(), 99_999)?;
-    assert_eq!(rt; count_in_limit(entry_count(&most)), Ok(100_000));
-    let more = of_hosts(rt.alloc(), 100_000)?;
-    assert_eq!(rt;
-        count_in_limit(entry_count(&more)),
-        Err(Limit::TooManyEntries)
-    );
+    let most = entries_of_hosts(rt.alloc(), 99_999)?;
+    assert_eq!(rt; count_in_limit(most), Ok(100_000));
+    let more = entries_of_hosts(rt.alloc(), 100_000)?;
+    assert_eq!(rt; count_in_limit(more), Err(Limit::TooManyEntries));
     Ok(())
 }
 
-fn two_names(alloc: Global, first: &[u8], second: &[u8]) -> Result<Option<Limit>, Memory> {
-    let mut rules = Rules::new(alloc);
-    rules.push(everything(alloc, first, b"", false)?)?;
-    rules.push(everything(alloc, second, b"", false)?)?;
+fn limit_of_names(
+    alloc: Global,
+    first: &'static [u8],
+    second: &'static [u8],
+) -> Result<Option<Limit>, Memory> {
+    let samples = [
+        Sample { name: first, ..ANY },
+        Sample {
+            name: second,
+            ..ANY
+        },
+    ];
+    let rules = rules(alloc, &samples)?;
     Ok(first_limit(&Iptables, rules.as_slice()))
 }
 
+// Names behind the name `e-tcp`.
+static NAMES: [(&[u8], Option<Limit>); 3] = [
+    (b"aaaaaaaaaaaaaaaaaaaaaaaa", None),
+    (b"aaaaaaaaaaaaaaaaaaaaaaaaa", Some(Limit::NameLength(1))),
+    (b"e-tcp", Some(Limit::NameClash(1))),
+];
+
 #[test]
 fn takes_short_names_that_differ(rt: HostRuntime) -> Result<(), Fail> {
-    let alloc = rt.alloc();
-    let short = b"aaaaaaaaaaaaaaaaaaaaaaaa";
-    let long = b"aaaaaaaaaaaaaaaaaaaaaaaaa";
-    assert_eq!(rt; two_names(alloc, b"e-tcp", short)?, None);
-    assert_eq!(rt;
-        two_names(alloc, b"e-tcp", long)?,
-        Some(Limit::NameLength(1))
-    );
-    assert_eq!(rt;
-        two_names(alloc, b"e-tcp", b"e-tcp")?,
-        Some(Limit::NameClash(1))
-    );
+    for (name, limit) in &NAMES {
+        assert_eq!(rt; limit_of_names(rt.alloc(), b"e-tcp", name)?, *limit);
+    }
     Ok(())
 }
 
@@ -540,9 +546,8 @@ const EMPTY: &str = "## iptables INPUT inet
 ## iptables INPUT inet6
 ";
 
-#[test]
-fn writes_one_section_after_another(rt: HostRuntime) -> Result<(), Fail> {
-    let alloc = rt.alloc();
+// Whether two filters without rules become two sections that are read back.
+fn are_written(alloc: Global) -> Result<bool, Fail> {
     let own = filter(
         alloc,
         Hook::Input,
@@ -559,11 +564,18 @@ fn writes_one_section_after_another(rt: HostRuntime) -> Result<(), Fail> {
         Ending::Left,
         Rules::new(alloc),
     )?;
-    assert_eq!(rt; Iptables.check(&own), Ok(0));
+    let has_no_entry = Iptables.check(&own) == Ok(0);
     let mut out = Whole::new(alloc);
     write_all(&Iptables, &[own, other], &mut out)?;
-    assert_eq!(rt; out.as_slice(), EMPTY.as_bytes());
-    let doc = read(alloc, out.as_slice())?;
-    assert_eq!(rt; doc.map(|doc| sections(&doc)), Some(2));
+    Ok(
+        has_no_entry
+            && out.as_slice() == EMPTY.as_bytes()
+            && sections_of(alloc, out.as_slice())? == Some(2),
+    )
+}
+
+#[test]
+fn writes_one_section_after_another(rt: HostRuntime) -> Result<(), Fail> {
+    assert!(rt; are_written(rt.alloc())?);
     Ok(())
 }

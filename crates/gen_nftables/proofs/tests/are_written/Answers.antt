@@ -3,13 +3,13 @@ use Rattle.std.proofs.lemmas.List.Elements.{All-from_recursion}
 use Rattle.acl_platform.specs.Platforms.{IsAccepted}
 use Rattle.gen_nftables.specs.Limits.{is_for_nftables, limit_of}
 use Rattle.gen_nftables.proofs.TableNames.{two-differ}
-use Rattle.gen_nftables.proofs.tests.writes_one_section_after_another.Goals as goal
+use Rattle.gen_nftables.proofs.tests.are_written.Goals as goal
 
 pub write_all-requires-clause-accepted : goal.write_all-requires-clause-accepted
-write_all-requires-clause-accepted g c =
+write_all-requires-clause-accepted c =
     All-from_recursion (IsAccepted is_for_nftables limit_of) (c.in_ok-own.own ∷ c.in_ok-routed.routed ∷ [])
     (c.in_ok-own.ensures.accepted c.new.ensures, (c.in_ok-routed.ensures.accepted c.new-2.ensures, tt))
 
 pub write_all-requires-clause-names_differ : goal.write_all-requires-clause-names_differ
-write_all-requires-clause-names_differ g c =
+write_all-requires-clause-names_differ c =
     two-differ c.in_ok-own.own c.in_ok-routed.routed c.in_ok-own.ensures.number c.in_ok-routed.ensures.number
