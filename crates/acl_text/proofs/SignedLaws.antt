@@ -46,7 +46,7 @@ negative-one n =
     let same : n + 1 - 1 ≡ n = omega arith in
     cond-false (n + 1 == 0) None (Some (negsuc (n + 1 - 1))) (ne_eqb (n + 1) 0 (λ e. absurd (omega arith))) ∙ ap (λ k. Some (negsuc k)) same
 
-signed-again : (below above : ℕ) (word : List ℕ) (z : ℤ) → IsSignedWord below above word z → signed_in below above word ≡ Some z
+pub signed-again : (below above : ℕ) (word : List ℕ) (z : ℤ) → IsSignedWord below above word z → signed_in below above word ≡ Some z
 signed-again below above [] (pos n) h = absurd (omega (arith, h.0.nonempty))
 signed-again below above (b ∷ bs) (pos n) h =
     let digit = (and_parts (is_ascii_digit b) (all_ascii_digits bs) h.0.digits).0 in

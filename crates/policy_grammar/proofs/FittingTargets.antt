@@ -11,7 +11,8 @@ use Rattle.acl_packet.specs.declared.addresses.Families.{Families}
 use Rattle.acl_packet.specs.declared.addresses.Families.TheVariants.{Inet, Inet6, Mixed}
 use Rattle.acl_packet.specs.declared.filtering.Hook.{Hook}
 use Rattle.acl_text.specs.declared.faults.Place.{Place}
-use Rattle.acl_text.specs.SignedNumbers.{negative, below_zero_in, from_zero_in, signed_in}
+use Rattle.acl_text.specs.SignedNumbers.{IsSignedWord, negative, below_zero_in, from_zero_in, signed_in}
+use Rattle.acl_text.proofs.SignedLaws.{signed_some}
 use Rattle.acl_target.specs.declared.targets.Ending.{Ending}
 use Rattle.acl_target.specs.declared.targets.Ending.TheVariants as endings
 use Rattle.acl_target.specs.declared.targets.Kind.{Kind}
@@ -149,7 +150,7 @@ record HookFits (place : Place) (number : ℕ) (families : Families) (hook : Hoo
       }
 
 hook_fits : (place : Place) (number : ℕ) (families : Families) (hook : Hook) (ending : Ending) (z : ℤ) (verbose : Bool)
-    → is_verdict ending ≡ true → signed_in 32768 32767 (signed_text z) ≡ Some z
+    → is_verdict ending ≡ true → IsSignedWord 32768 32767 (signed_text z) z
     → HookFits place number families hook ending z verbose
 hook_fits place number families hook endings.Accept z true h r = record { stand = ((tt, refl), ((r, refl), tt)); means = refl }
 hook_fits place number families hook endings.Accept z false h r =
@@ -216,7 +217,8 @@ by_platform Iptables t e h =
     }
 by_platform Nftables t e h =
     let fits : HookFits t.place t.number t.families t.hook t.ending t.priority t.verbose =
-    hook_fits t.place t.number t.families t.hook t.ending t.priority t.verbose h.ending_is (signed_read t.priority h.priority_is) in
+    hook_fits t.place t.number t.families t.hook t.ending t.priority t.verbose h.ending_is
+    (signed_some 32768 32767 (signed_text t.priority) (Some t.priority) (sym (signed_read t.priority h.priority_is))) in
     record {
       stands = fits.stand;
       means = fits.means ∙ (λ i. record {

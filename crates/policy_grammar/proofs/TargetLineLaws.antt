@@ -15,6 +15,7 @@ use Rattle.acl_text.specs.declared.faults.Slip.{Slip}
 use Rattle.acl_text.specs.Names.{is_filter_name}
 use Rattle.acl_text.specs.SignedNumbers.{signed_in}
 use Rattle.acl_text.specs.Steps.{◌>>=◌}
+use Rattle.acl_text.proofs.SignedLaws.{signed-again, signed_some}
 use Rattle.acl_words.specs.declared.forms.Form.{Form}
 use Rattle.acl_words.specs.declared.forms.Form.TheVariants as forms
 use Rattle.acl_words.specs.Tokens.{Token}
@@ -208,7 +209,8 @@ nftables_step before place Choice.DropWord h n =
 nftables_step before place Choice.NoverboseWord h n =
     unmarked (list_any is_noverbose before) (record (nftables_chosen before) { marked = true }) n
     ∙ ap Some (nftables_mark before)
-nftables_step before place (Choice.PriorityWord text z) h n = priority_step before text z place h n
+nftables_step before place (Choice.PriorityWord text z) h n =
+    priority_step before text z place (signed-again 32768 32767 text z h) n
 nftables_step before place Choice.NostateWord h n = absurd h
 nftables_step before place Choice.InetWord h n = absurd h
 nftables_step before place Choice.Inet6Word h n = absurd h
@@ -482,8 +484,7 @@ nftables_chose before w =
     (λ n. record {
       says = Choice.PriorityWord w.text z;
       word_is = plain_is w (priority_is w z e).0;
-      takes =
-          (priority_is w z e).1;
+      takes = signed_some 32768 32767 w.text (Some z) (sym (priority_is w z e).1);
       new = n;
       keeps = nftables_priority before w.text z n;
     })))))

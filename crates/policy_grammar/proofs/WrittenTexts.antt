@@ -26,7 +26,7 @@ use Rattle.policy_grammar.specs.PrintedWords.{IsPlainText, IsQuotedText, Printed
 use Rattle.policy_grammar.specs.WrittenTexts.{CanBePrinted, FreeWordsCanBePrinted, ItemIsWritable, TermIsWritable, HeaderItemIsWritable, BlockIsWritable, HasLines, WritableTextsHaveLines, FittingPoliciesAreReadFromLines}
 use Rattle.policy_grammar.proofs.Outcomes.{and_left, and_right}
 use Rattle.policy_grammar.proofs.PrintingLaws.{printed_texts_read}
-use Rattle.policy_grammar.proofs.WrittenWords.{name_plain, filter_name_plain, priority_plain, literal, keyword_literal, value_printed, key_printed}
+use Rattle.policy_grammar.proofs.WrittenWords.{name_plain, filter_name_plain, signed_plain, literal, keyword_literal, value_printed, key_printed}
 use Rattle.policy_grammar.proofs.FittingTerms.{token_for, item_with, items_with, comment_entry, entries, all_keys, term_for}
 use Rattle.policy_grammar.proofs.FittingPolicies.{item_for, block_for, text_stands, text_means}
 
@@ -73,7 +73,7 @@ nftables_plain Choice.NostateWord h = absurd h
 nftables_plain Choice.NoverboseWord h = literal (codes "noverbose") refl
 nftables_plain Choice.InetWord h = absurd h
 nftables_plain Choice.Inet6Word h = absurd h
-nftables_plain (Choice.PriorityWord text z) h = priority_plain text z h
+nftables_plain (Choice.PriorityWord text z) h = signed_plain text z h
 
 choices_printed : (IsTaken : Choice → Type 0) → ((c : Choice) → IsTaken c → IsPlainText (choice_text c))
     → (before : List Choice) (cs : List (Place × Choice))

@@ -14,8 +14,7 @@ use Rattle.acl_packet.specs.NumberWords.{Row, protocols, icmp_types, icmpv6_type
 use Rattle.acl_packet.proofs.DecimalLaws.{number-is, number-again}
 use Rattle.acl_packet.proofs.NumberWordLaws.{word-some}
 use Rattle.acl_text.specs.Names.{is_letter, is_name_byte, is_name, is_filter_name}
-use Rattle.acl_text.specs.SignedNumbers.{IsSignedWord, signed_in}
-use Rattle.acl_text.proofs.SignedLaws.{signed_some}
+use Rattle.acl_text.specs.SignedNumbers.{IsSignedWord}
 use Rattle.acl_words.specs.declared.forms.Form.{Form}
 use Rattle.acl_words.specs.declared.forms.Form.TheVariants as forms
 use Rattle.acl_words.specs.Tokens.{Token}
@@ -101,13 +100,10 @@ number_clean bs n h = all_weaker is_ascii_digit is_clean digit_clean bs (digits_
 number_plain : (bs : List ℕ) (n : ℕ) → IsNumber bs n → IsPlainText bs
 number_plain bs n h = clean_plain bs h.nonempty (number_clean bs n h)
 
-signed_plain : (text : List ℕ) (z : ℤ) → IsSignedWord 32768 32767 text z → IsPlainText text
+pub signed_plain : (text : List ℕ) (z : ℤ) → IsSignedWord 32768 32767 text z → IsPlainText text
 signed_plain text (pos n) h = number_plain text n h.0
 signed_plain text (negsuc n) h = subst IsPlainText (sym h.1)
     (clean_plain (45 ∷ h.0) (omega arith) (and_both (is_clean 45) (list_all is_clean h.0) refl (number_clean h.0 (n + 1) h.2)))
-
-pub priority_plain : (text : List ℕ) (z : ℤ) → signed_in 32768 32767 text ≡ Some z → IsPlainText text
-priority_plain text z e = signed_plain text z (signed_some 32768 32767 text (Some z) (sym e))
 
 -- Words that are written out.
 abbrev plain_test : List ℕ → Bool

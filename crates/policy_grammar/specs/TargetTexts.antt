@@ -17,7 +17,7 @@ use Rattle.acl_packet.specs.declared.filtering.Hook.{Hook}
 use Rattle.acl_packet.specs.declared.filtering.Hook.TheVariants as hooks
 use Rattle.acl_text.specs.declared.faults.Place.{Place}
 use Rattle.acl_text.specs.Names.{is_filter_name}
-use Rattle.acl_text.specs.SignedNumbers.{signed_in}
+use Rattle.acl_text.specs.SignedNumbers.{IsSignedWord}
 use Rattle.acl_words.specs.declared.forms.Form.TheVariants as forms
 use Rattle.acl_words.specs.Tokens.{Token}
 use Rattle.acl_words.specs.Words.{word}
@@ -102,7 +102,7 @@ abbrev pub IsNftablesWord : Choice → Type 0
 IsNftablesWord NostateWord = ⊥
 IsNftablesWord InetWord = ⊥
 IsNftablesWord Inet6Word = ⊥
-IsNftablesWord (PriorityWord text number) = signed_in 32768 32767 text ≡ Some number
+IsNftablesWord (PriorityWord text number) = IsSignedWord 32768 32767 text number
 IsNftablesWord _ = Unit {0}
 
 abbrev pub ChoicesStand : (Choice → Type 0) → List (Place × Choice) → Type 0
