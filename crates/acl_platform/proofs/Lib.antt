@@ -4,6 +4,7 @@ pub mod CombinationFacts
 pub mod CombinationLaws
 pub mod ElementLaws
 pub mod EntryLaws
+mod NameSlotLaws
 pub mod PairLaws
 mod RuleOutcomes
 pub mod RuleNames

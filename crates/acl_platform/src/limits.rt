@@ -1,4 +1,5 @@
-ghost use Rattle.std.specs.Prelude.{◌≡◌, ℕ, List, Option, [], min};
+ghost use Rattle.std.specs.Prelude.{◌≡◌, ℕ, List, Option, [], length, min};
+ghost use Rattle.std.specs.List.{All, list_any};
 ghost use Rattle.std.specs.Str.{bytes_eq};
 ghost use Rattle.acl_text.specs.Output.{COUNT_END};
 ghost use Rattle.acl_platform.specs.declared.filters.Limit.{Limit};
@@ -9,10 +10,13 @@ ghost use Rattle.acl_platform.specs.Limits.{
   is_name_taken,
   names_sctp_ports,
 };
+ghost use Rattle.acl_platform.specs.NameSlots.{IsSeen};
 ghost use Rattle.acl_platform.specs.Platforms.{judged};
 
 use crate::filters::Limit;
 use crate::rules::Rule;
+use crate::seen_names::SeenNames;
+use std::marker::Model;
 
 const SCTP: u128 = 132;
 
@@ -23,19 +27,72 @@ pub trait RuleLimits {
     ghost limit: { List Rule → Rule → Option Limit };
 
     /// Why the rule is not taken behind the earlier rules of its filter, whose number is its place.
-    fn rule_limit(&self, earlier: &[Rule], rule: &Rule) -> Option<Limit>
+    fn rule_limit(&self, earlier: &Earlier<'_>, rule: &Rule) -> Option<Limit>
         ensures { result ≡ limit earlier.now rule.now };
+}
+
+/// The rules of a filter before one of them. A contract sees the list of these rules.
+///
+/// Only where the slot of a name was seen are names compared: a filter may have thousands of rules.
+#[derive(Drop)]
+pub struct Earlier<'a> {
+    rules: &'a [Rule],
+    names: &'a SeenNames,
+}
+
+impl<'a> Model for Earlier<'a> {
+    ghost Value = { List Rule };
+
+    ghost view = { λ e. e.rules.now };
+
+    ghost invariant = { λ e. All (IsSeen e.names.now.slots) e.rules.now };
+}
+
+impl<'a> Earlier<'a> {
+    /// How many rules there are, which is the place of the next.
+    pub fn count(&self) -> usize
+        ensures { result ≡ length self.now }
+    {
+        self.rules.len()
+    }
+
+    /// Whether one of these rules has the rule's name.
+    pub fn have_name_of(&self, rule: &Rule) -> bool
+        ensures { result ≡ is_name_taken self.now rule.now }
+    {
+        is_name_taken(self.rules, self.names, rule)
+    }
+}
+
+fn is_name_taken(earlier: &[Rule], names: &SeenNames, rule: &Rule) -> bool
+    requires { All (IsSeen names.now.slots) earlier.now }
+    ensures { result ≡ is_name_taken earlier.now rule.now }
+{
+    let name = rule.name.as_slice();
+    names.may_have(name) && has_name(earlier, name)
+}
+
+fn has_name(rules: &[Rule], name: &[u8]) -> bool
+    ensures { result ≡ list_any (λ r. bytes_eq r.name name.now) rules.now }
+{
+    rules.iter().any(|rule| rule.name.as_slice() == name)
 }
 
 /// The limit of the first rule that has one.
 pub fn first_limit<L: RuleLimits>(limits: &L, rules: &[Rule]) -> Option<Limit>
     ensures { result ≡ first_limit L.limit [] rules.now }
 {
+    let mut names = SeenNames::new();
     for (place, rule) in rules.iter().enumerate() {
-        let limit = limits.rule_limit(&rules[..place], rule);
+        let earlier = Earlier {
+            rules: &rules[..place],
+            names: &names,
+        };
+        let limit = limits.rule_limit(&earlier, rule);
         if limit.is_some() {
             return limit;
         }
+        names.add(rule.name.as_slice());
     }
     None
 }
@@ -51,29 +108,6 @@ pub fn count_in_limit(count: u64) -> Result<u64, Limit>
     } else {
         Ok(count)
     }
-}
-
-/// Whether two names are the same. Names that are numbered share their front, so their ends are compared first.
-fn is_same_name(name: &[u8], other: &[u8]) -> bool
-    ensures { result ≡ bytes_eq name.now other.now }
-{
-    match (name, other) {
-        ([.., last], [.., other_last]) if last != other_last => false,
-        _ => name == other,
-    }
-}
-
-/// Whether one of the earlier rules has the rule's name.
-///
-/// A filter has at most a few thousand rules, so that its names are compared in pairs: nothing is
-/// allocated for it.
-pub fn is_name_taken(earlier: &[Rule], rule: &Rule) -> bool
-    ensures { result ≡ is_name_taken earlier.now rule.now }
-{
-    let name = rule.name.as_slice();
-    earlier
-        .iter()
-        .any(|other| is_same_name(other.name.as_slice(), name))
 }
 
 /// Whether the rule names ports, and holds SCTP.

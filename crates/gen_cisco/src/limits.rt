@@ -3,15 +3,15 @@ ghost use Rattle.gen_cisco.specs.Limits.{asks_initial, is_unsupported, rule_limi
 
 use crate::cisco::Cisco;
 use acl_packet::Family;
-use acl_platform::{Limit, Rule, RuleLimits, Test, names_sctp_ports};
+use acl_platform::{Earlier, Limit, Rule, RuleLimits, Test, names_sctp_ports};
 
 const LONGEST_NAME: usize = 64;
 
 impl RuleLimits for Cisco {
     ghost limit = { rule_limit };
 
-    fn rule_limit(&self, earlier: &[Rule], rule: &Rule) -> Option<Limit> {
-        let place = earlier.len();
+    fn rule_limit(&self, earlier: &Earlier<'_>, rule: &Rule) -> Option<Limit> {
+        let place = earlier.count();
         if rule.name.as_slice().len() > LONGEST_NAME {
             Some(Limit::NameLength(place))
         } else if is_unsupported(rule) {
