@@ -1,16 +1,21 @@
 -- What the sets of a rule hold.
-use Rattle.std.proofs.Common.{◌≡◌, ℕ, ◌+◌, ◌^◌, ◌<◌, ◌≤◌, Bool, true, false, cond, not, ◌&&◌, ◌||◌, ◌==◌, nat_le, [], ◌∷◌, refl, ap, sym, ◌∙◌, arith}
+use Rattle.std.proofs.Common.{◌≡◌, ℕ, ◌+◌, ◌^◌, ◌<◌, ◌≤◌, Bool, true, false, cond, not, ◌&&◌, ◌||◌, ◌==◌, ◌-◌, ◌++◌, nat_le, nat_lt, min, max, flat_map, List, [], ◌∷◌, refl, ap, sym, ◌∙◌, arith}
 use Rattle.std.specs.List.{AllByRecursion}
+use Rattle.std.proofs.Math.Nat.{max-eq_left, min-eq_left}
+use Rattle.std.proofs.lemmas.Bool.Decides.{nat_tests}
+use Rattle.std.proofs.lemmas.Bool.{or_parts}
 use Rattle.std.proofs.lemmas.Bool.{and_left, or_from, both_ways, false_from_ne_true, eqb-true, eq-eqb, le-leb}
 use Rattle.acl_packet.specs.declared.addresses.Family.{Family}
 use Rattle.acl_packet.specs.declared.addresses.Family.TheVariants.{V4, V6}
 use Rattle.acl_packet.specs.Addresses.{top_address, width_of}
-use Rattle.acl_sets.specs.ComputableLeastLists.{halved_space}
-use Rattle.acl_sets.specs.ComputableSets.{cut_all, is_all}
+use Rattle.acl_sets.specs.declared.sets.Range.{Range}
+use Rattle.acl_sets.specs.ComputableLeastLists.{halved_space, last_of}
+use Rattle.acl_sets.specs.ComputableSets.{above, covers, cut, cut_all, is_all}
 use Rattle.acl_sets.specs.LeastLists.{any_has}
-use Rattle.acl_sets.specs.Ranges.{IsNormal, IsRange, Numbers, Only, holds}
+use Rattle.acl_sets.specs.Ranges.{IsNormal, IsRange, Numbers, Only, holds, inside}
 use Rattle.acl_sets.proofs.ComputableLeastListLaws.{halved_space-least}
 use Rattle.acl_sets.proofs.ComputableSetLaws.{covers-holds, cut_all-holds}
+use Rattle.acl_sets.proofs.HalvesFacts.{step_whole}
 use Rattle.acl_sets.proofs.LeastListLaws.{least_list-holds, normal-addresses}
 use Rattle.acl_sets.proofs.RangeLaws.{in_range, ends_of}
 use Rattle.acl_terms.specs.declared.terms.Term.{Term}
@@ -33,7 +38,59 @@ pub or-false : (a : Bool) → (a || false) ≡ a
 or-false true = refl
 or-false false = refl
 
+-- ---- a set that lacks a number stays where the number is cut out
+
+-- a range that lacks the number stays whole
+uncut : (n : ℕ) (q : Range) → q.low ≤ q.high → inside q n ≡ false → cut (just n) q ≡ q ∷ []
+uncut n q whole out = by_side (nat_lt n q.low) refl
+  where
+    true-less : (a b : ℕ) → nat_lt a b ≡ true → a < b
+    true-less a b h = grind (arith, nat_tests)
+
+    false-less : (a b : ℕ) → nat_lt a b ≡ false → b ≤ a
+    false-less a b h = grind (arith, nat_tests)
+
+    less-true : (a b : ℕ) → a < b → nat_lt a b ≡ true
+    less-true a b h = grind (arith, nat_tests)
+
+    less-false : (a b : ℕ) → b ≤ a → nat_lt a b ≡ false
+    less-false a b h = grind (arith, nat_tests)
+
+    beyond : q.low ≤ n → q.high < n
+    beyond h = grind (arith, nat_tests, out)
+
+    by_side : (b : Bool) → nat_lt n q.low ≡ b → cut (just n) q ≡ q ∷ []
+    by_side true h =
+        let first = true-less n q.low h in
+        ap (λ t. cond t (record { low = q.low; high = min q.high (n - 1) } ∷ []) [] ++ above (just n) q) (less-false q.low n (omega (arith, first)))
+        ∙ ap (λ t. cond t (record { low = max q.low (n + 1); high = q.high } ∷ []) []) (less-true n q.high (omega (arith, whole, first)))
+        ∙ ap (λ l. record { low = l; high = q.high } ∷ []) (max-eq_left (omega (arith, first)))
+    by_side false h =
+        let last = beyond (false-less n q.low h) in
+        ap (λ t. cond t (record { low = q.low; high = min q.high (n - 1) } ∷ []) [] ++ above (just n) q) (less-true q.low n (omega (arith, whole, last)))
+        ∙ ap (λ t. record { low = q.low; high = min q.high (n - 1) } ∷ cond t (record { low = max q.low (n + 1); high = q.high } ∷ []) []) (less-false n q.high (omega (arith, last)))
+        ∙ ap (λ k. record { low = q.low; high = k } ∷ []) (min-eq_left (omega (arith, last)))
+
+pub nothing_cut : (n floor top : ℕ) (rs : List Range) → IsNormal floor top rs → holds rs n ≡ false → rs ≡ cut_all (just n ∷ []) rs
+nothing_cut n floor top [] h out = refl
+nothing_cut n floor top (q ∷ qs) h out =
+    let p = or_parts (inside q n) (holds qs n) out in
+    ap (λ rs. q ∷ rs) (nothing_cut n (q.high + 2) top qs h.3 p.1)
+    ∙ ap (λ rs. rs ++ flat_map (cut (just n)) qs) (sym (uncut n q h.1 p.0))
+
 -- ---- least lists
+
+-- all addresses are one prefix
+pub all_listed : (f : Family) (s : Numbers) → s.top + 1 ≡ 2 ^ width_of f → is_all s ≡ true
+    → least_list f s ≡ record { family = f; first = 0; len = 0 } ∷ []
+all_listed V4 s e h = step_whole V4 s.ranges 32 0 (ap (covers s.ranges 0) (last V4 s.top e) ∙ h)
+  where
+    last : (f : Family) (top : ℕ) → top + 1 ≡ 2 ^ width_of f → last_of (width_of f) 0 ≡ top
+    last f top e = omega (arith, e)
+all_listed V6 s e h = step_whole V6 s.ranges 128 0 (ap (covers s.ranges 0) (last V6 s.top e) ∙ h)
+  where
+    last : (f : Family) (top : ℕ) → top + 1 ≡ 2 ^ width_of f → last_of (width_of f) 0 ≡ top
+    last f top e = omega (arith, e)
 
 end-of : (f : Family) (top : ℕ) → top ≡ top_address f → top + 1 ≡ 2 ^ width_of f
 end-of V4 top e = ap (λ n. n + 1) e

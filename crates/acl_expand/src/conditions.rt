@@ -1,5 +1,7 @@
 ghost use Rattle.std.specs.Prelude.{◌≡◌, ◌+◌, ◌^◌, ◌≤◌, [], ◌∷◌, IfOk, codes};
 ghost use Rattle.acl_packet.specs.Addresses.{top_address};
+ghost use Rattle.acl_sets.specs.ComputableSets.{cut_all};
+ghost use Rattle.acl_sets.specs.Ranges.{IsNormal};
 ghost use Rattle.acl_terms.specs.Matching.{foreign_of};
 ghost use Rattle.acl_expand.specs.TermRules.{
   client_ports,
@@ -65,14 +67,27 @@ fn foreign_of(family: Family) -> u8
     }
 }
 
+#[tactic(auto, using(crate::proofs::SetForms::nothing_cut))]
+fn without(alloc: Global, set: &RangeSet, number: u8) -> Result<RangeSet, Memory>
+    requires top { set.now.top ≡ 255 }
+    requires normal { IsNormal 0 set.now.top set.now.ranges }
+    ensures top { IfOk result (λ s. s.top ≡ set.now.top) }
+    ensures ranges { IfOk result (λ s. s.ranges ≡ cut_all (just number ∷ []) set.now.ranges) }
+{
+    if set.contains(u128::from(number)) {
+        set.subtract(alloc, &only_protocol(alloc, number)?)
+    } else {
+        set.copy(alloc)
+    }
+}
+
 fn protocols_in(alloc: Global, family: Family, term: &Term) -> Result<RangeSet, Memory>
     ensures { IfOk result (λ s. s ≡ protocols_in family term.now) }
 {
     if term.protos.is_all() {
         term.protos.copy(alloc)
     } else {
-        let foreign = only_protocol(alloc, foreign_of(family))?;
-        term.protos.subtract(alloc, &foreign)
+        without(alloc, &term.protos, foreign_of(family))
     }
 }
 

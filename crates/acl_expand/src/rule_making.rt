@@ -20,9 +20,9 @@ ghost use Rattle.acl_expand.specs.TermRules.{
 
 use crate::conditions::{Conditions, tcp_half, udp_alone, udp_half, whole};
 use acl_host::Day;
-use acl_packet::{Families, Family, Verdict};
+use acl_packet::{Families, Family, Prefix, Verdict};
 use acl_platform::{Rule, Rules, Test};
-use acl_sets::{Prefixes, least_prefixes};
+use acl_sets::{Prefixes, RangeSet, least_prefixes};
 use acl_target::{Kind, Target};
 use acl_terms::{Mode, Opt, Term, is_empty_in, is_live};
 use acl_text::{Bytes, Memory};
@@ -46,13 +46,39 @@ fn verdict_on(kind: Kind, verdict: Verdict) -> Verdict
     }
 }
 
+// The list of all addresses of the family.
+fn everywhere(alloc: Global, family: Family) -> Result<Prefixes, Memory>
+    ensures { IfOk result (λ ps. ps ≡ record { family = family; first = 0; len = 0 } ∷ []) }
+{
+    let mut prefixes = Prefixes::new(alloc);
+    prefixes.push(Prefix {
+        family,
+        first: 0,
+        len: 0,
+    })?;
+    Ok(prefixes)
+}
+
+// The least list of a set. Most rules have all addresses on one side, for which nothing has to be computed.
+#[tactic(auto, using(crate::proofs::SetForms::all_listed))]
+fn list_of(alloc: Global, family: Family, set: &RangeSet) -> Result<Prefixes, Memory>
+    requires { set.now.top + 1 ≡ 2 ^ width_of family }
+    ensures { IfOk result (λ ps. ps ≡ least_list family set.now) }
+{
+    if set.is_all() {
+        everywhere(alloc, family)
+    } else {
+        least_prefixes(alloc, set, family)
+    }
+}
+
 // The least list of the term's sources in the family.
 fn sources(alloc: Global, family: Family, term: &Term) -> Result<Prefixes, Memory>
     ensures { IfOk result (λ ps. ps ≡ least_list family (source_in family term.now)) }
 {
     match family {
-        Family::V4 => least_prefixes(alloc, &term.src4, Family::V4),
-        Family::V6 => least_prefixes(alloc, &term.src6, Family::V6),
+        Family::V4 => list_of(alloc, Family::V4, &term.src4),
+        Family::V6 => list_of(alloc, Family::V6, &term.src6),
     }
 }
 
@@ -61,8 +87,8 @@ fn destinations(alloc: Global, family: Family, term: &Term) -> Result<Prefixes, 
     ensures { IfOk result (λ ps. ps ≡ least_list family (destination_in family term.now)) }
 {
     match family {
-        Family::V4 => least_prefixes(alloc, &term.dst4, Family::V4),
-        Family::V6 => least_prefixes(alloc, &term.dst6, Family::V6),
+        Family::V4 => list_of(alloc, Family::V4, &term.dst4),
+        Family::V6 => list_of(alloc, Family::V6, &term.dst6),
     }
 }
 
