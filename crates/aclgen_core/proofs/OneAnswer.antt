@@ -16,7 +16,7 @@ same-planned : (o : Options) (today : Day) (r : Result Loaded Fault) (a b : Resu
 same-planned o today (Err f) a b p q = p ∙ sym q
 same-planned o today (Ok l) a b p q = p ∙ sym q
 
-same-plan : (o : Options) (today : Day) (files : List File) (a b : Result Plan Fault) → Plans o today files a → Plans o today files b → a ≡ b
+pub same-plan : (o : Options) (today : Day) (files : List File) (a b : Result Plan Fault) → Plans o today files a → Plans o today files b → a ≡ b
 same-plan o today files a b p q =
     let same = one-answer o.definitions o.policy files p.0 q.0 p.1 q.1 in
     let G : Result Loaded Fault → Type 0 = λ r. GoesOn (λ l x. x ≡ planned o today l) r a in

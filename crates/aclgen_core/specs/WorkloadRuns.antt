@@ -1,17 +1,17 @@
 -- The run of the workload: its texts are compiled over files in memory, and the report is what is left of it.
-use Rattle.std.specs.Prelude.{◌≡◌, ◌⊎◌, ℕ, pos, false, List, [], ◌∷◌, codes, Result, Ok, Err, None}
+use Rattle.std.specs.Prelude.{◌≡◌, ◌⊎◌, ℕ, ◌<◌, ◌≤◌, pos, false, List, [], ◌∷◌, map, codes, Result, Ok, None}
 use Rattle.acl_text.specs.declared.faults.Fault.{Fault}
-use Rattle.acl_text.specs.declared.faults.Rejection.{Rejection}
-use Rattle.acl_text.specs.declared.faults.Rejection.TheVariants as rejections
 use Rattle.acl_text.specs.Output.{Rose}
 use Rattle.acl_host.specs.declared.clocks.Day.{Day}
-use Rattle.acl_host.specs.Files.{File, BothTell}
+use Rattle.acl_host.specs.Files.{BothTell}
 use Rattle.acl_host.specs.Outside.{AddsFront}
-use Rattle.acl_load.specs.FaultLines.{fault_line}
 use Rattle.acl_options.specs.CommandLines.{Options}
-use Rattle.acl_workload.specs.WorkloadTexts.{networks_text, policy_text, services_text}
+use Rattle.acl_render.specs.PlatformFiles.{count_of}
+use Rattle.workload_laws.specs.LoadedWorkloads.{workload_counts}
+use Rattle.workload_laws.specs.WorkloadFiles.{workload_files, workload_folder, workload_path}
 use Rattle.aclgen_core.specs.Endings.{Got, Tried}
 use Rattle.aclgen_core.specs.FaultLines.{outside_line}
+use Rattle.aclgen_core.specs.FilterRequests.{filter_for}
 use Rattle.aclgen_core.specs.Job.{Plan, Plans, report_of}
 use Rattle.aclgen_core.specs.DecidingSteps.{IsReady}
 use Rattle.aclgen_core.specs.Worlds.{Stream, StreamCountsGrow, World}
@@ -20,15 +20,11 @@ use Rattle.aclgen_core.specs.declared.endings.Ended.TheVariants as ended
 use Rattle.aclgen_core.specs.declared.endings.Which.TheVariants as which
 use Rattle.aclgen_core.specs.declared.planning.Work.{Work}
 
--- Its files, and what is asked for: no words are read.
-abbrev pub workload_files : ℕ → List File
-workload_files n = (codes "def/w.net", networks_text n) ∷ (codes "def/w.svc", services_text n)
-    ∷ (codes "pol/w.pol", policy_text n) ∷ []
-
+-- What is asked for: no words are read. Its files are `workload_files`.
 abbrev pub workload_options : Options
 workload_options = record {
-  policy = codes "pol/w.pol";
-  definitions = codes "def";
+  policy = workload_path;
+  definitions = workload_folder;
   output = codes "out";
   date = None;
   exp_info = 2;
@@ -50,19 +46,10 @@ Reports text o o' e e' (ended.Outside which.Out) = Rose o.faults o'.faults
 Reports text o o' e e' ended.Memory = BothTell o.told o'.told (AddsFront text) × (e'.told ≡ e.told)
 Reports text o o' e e' result = ⊥
 
--- The line of a fault, or a front of it in the same way.
-abbrev pub TellsFault : Fault → Stream → Stream → Ended → Type 0
-TellsFault fault e e' (ended.Rejected told) = (told ≡ fault) × Got (fault_line fault) e.told e'.told
-TellsFault fault e e' (ended.Outside which.Err) =
-    Rose e.faults e'.faults × BothTell e.told e'.told (AddsFront (fault_line fault))
-TellsFault fault e e' ended.Memory = BothTell e.told e'.told (AddsFront (fault_line fault))
-TellsFault fault e e' result = ⊥
-
--- The workload has a plan, and its report is on standard output; or it has a fault, whose line is on standard error.
+-- The workload has a plan (`WorkloadsHaveNoFault`), and its report is on standard output.
 abbrev pub WorkloadTells : ℕ → Stream → Stream → Stream → Stream → Ended → Type 0
 WorkloadTells n o o' e e' result =
-    ((plan : Plan) × PlansWorkload n (Ok plan) × Reports (report_of plan) o o' e e' result)
-    ⊎ ((fault : Fault) × PlansWorkload n (Err fault) × TellsFault fault e e' result × (o' ≡ o))
+    (plan : Plan) × PlansWorkload n (Ok plan) × Reports (report_of plan) o o' e e' result
 
 -- Or memory was wanted before there was anything to tell.
 pub record RunsWorkload (n : ℕ) (o o' e e' : Stream) (result : Ended) : Type 0 where
@@ -77,12 +64,22 @@ pub record EndsWorkload (n : ℕ) (old new : World) (result : Ended) : Type 0 wh
   pub same_clock : new.clock ≡ old.clock
   pub runs : RunsWorkload n old.out new.out old.err new.err result
 
+-- ---- a law
+
+-- How many entries the filters of each file have.
+abbrev pub entries_of : Plan → List (List ℕ)
+entries_of plan = map (λ f. map (λ r. count_of (filter_for plan.today r)) f.requests) plan.files
+
+-- The workload of 1 to 1,024 terms has a plan, and so no fault. It has a file for each platform with one filter, in the order
+-- of `workload_counts`.
+abbrev pub WorkloadsHaveNoFault : Type 0
+WorkloadsHaveNoFault = (n : ℕ) → 0 < n → n ≤ 1024
+    → (plan : Plan) × PlansWorkload n (Ok plan) × (entries_of plan ≡ map (λ k. k ∷ []) (workload_counts n))
+
 -- ---- steps of private functions
 
-abbrev pub MakesWorkload : ℕ → Result Work Rejection → Type 0
-MakesWorkload n (Ok work) = (plan : Plan) × PlansWorkload n (Ok plan) × IsReady plan work
-MakesWorkload n (Err (rejections.Fault fault)) = PlansWorkload n (Err fault)
-MakesWorkload n (Err rejections.Memory) = Unit {0}
+abbrev pub MakesWorkload : ℕ → Work → Type 0
+MakesWorkload n work = (plan : Plan) × PlansWorkload n (Ok plan) × IsReady plan work
 
 pub record ReportsOn (text : List ℕ) (o o' e e' : Stream) (result : Ended) : Type 0 where
   pub out_counts : StreamCountsGrow o o'

@@ -3,6 +3,7 @@ ghost use Rattle.acl_text.specs.declared.faults.Fault.{Fault};
 ghost use Rattle.acl_host.specs.declared.clocks.Day.{Day};
 ghost use Rattle.acl_host.specs.Files.{File};
 ghost use Rattle.aclgen_core.specs.Job.{IsJob, Plan};
+ghost use Rattle.aclgen_core.specs.WorkloadRuns.{WorkloadsHaveNoFault};
 
 /// A law: a job has one answer.
 pub fn jobs_are_one()
@@ -15,4 +16,10 @@ pub fn jobs_are_one()
 pub fn jobs_are_there()
     ensures { (words : List (List ℕ)) → (day : Day) → (files : List File)
         → (job : Option (Result Plan Fault)) × IsJob words day files job }
+{}
+
+/// A law: the workload of 1 to 1024 terms has a plan, and so no fault.
+#[tactic(auto, using(crate::proofs::WorkloadLaws::workloads_planned))]
+pub fn workloads_have_no_fault()
+    ensures { WorkloadsHaveNoFault }
 {}

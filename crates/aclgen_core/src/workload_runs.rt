@@ -1,21 +1,16 @@
 ghost use Rattle.std.specs.Prelude.{◌≡◌, ◌≤◌, IfOk};
 ghost use Rattle.acl_host.specs.MemoryTrees.{contents};
 ghost use Rattle.aclgen_core.specs.Worlds.{stream};
-ghost use Rattle.aclgen_core.specs.WorkloadRuns.{
-  MakesWorkload,
-  ReportsOn,
-  RunsWorkload,
-  workload_files,
-};
+ghost use Rattle.aclgen_core.specs.WorkloadRuns.{MakesWorkload, ReportsOn, RunsWorkload};
+ghost use Rattle.workload_laws.specs.WorkloadFiles.{workload_files};
 
-use crate::acting::{refuse, tell_outside};
+use crate::acting::tell_outside;
 use crate::endings::{Ended, Which};
-use crate::fault_lines::fault_line;
 use crate::planning::{Work, make_work};
 use acl_host::{Day, MemTree, Sink, WriteFault};
 use acl_load::LoadFault;
 use acl_options::Options;
-use acl_text::{Memory, Rejection};
+use acl_text::Memory;
 use acl_workload::workload;
 use std::alloc::Global;
 
@@ -36,11 +31,11 @@ fn workload_tree(alloc: Global, terms: u32) -> Result<MemTree, Memory>
     Ok(tree)
 }
 
-// What is to be written of the workload, or its first fault. A tree in memory lists and reads: only memory may be wanting.
-fn plan_workload(alloc: Global, terms: u32) -> Result<Work, Rejection>
+// What is to be written of the workload. It has no fault, and a tree in memory lists and reads: only memory may be wanting.
+fn plan_workload(alloc: Global, terms: u32) -> Result<Work, Memory>
     requires least { 1 ≤ terms }
     requires most { terms ≤ 1024 }
-    ensures { MakesWorkload terms result }
+    ensures { IfOk result (MakesWorkload terms) }
 {
     let mut tree = workload_tree(alloc, terms)?;
     let options = Options {
@@ -53,8 +48,8 @@ fn plan_workload(alloc: Global, terms: u32) -> Result<Work, Rejection>
     };
     match make_work(alloc, &options, TODAY, &mut tree) {
         Ok(work) => Ok(work),
-        Err(LoadFault::Fault(fault)) => Err(Rejection::Fault(fault)),
-        Err(LoadFault::List | LoadFault::Read | LoadFault::Memory) => Err(Rejection::Memory),
+        Err(LoadFault::Fault(_)) => unreachable!(),
+        Err(LoadFault::List | LoadFault::Read | LoadFault::Memory) => Err(Memory),
     }
 }
 
@@ -83,10 +78,6 @@ pub fn run_workload<O: Sink, E: Sink>(alloc: Global, terms: u32, out: &mut O, er
 {
     match plan_workload(alloc, terms) {
         Ok(work) => report_on(work.report.as_slice(), out, err),
-        Err(Rejection::Fault(fault)) => match fault_line(alloc, &fault) {
-            Ok(line) => refuse(err, line.as_slice(), Ended::Rejected(fault)),
-            Err(_) => Ended::Memory,
-        },
-        Err(Rejection::Memory) => Ended::Memory,
+        Err(Memory) => Ended::Memory,
     }
 }

@@ -1,0 +1,5 @@
+pub mod LoadedWorkloads
+pub mod WorkloadFiles
+pub mod WorkloadNames
+pub mod WorkloadPolicies
+pub mod WorkloadTerms
