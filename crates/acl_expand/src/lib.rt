@@ -6,8 +6,6 @@ mod expanding;
 mod laws;
 mod rule_making;
 mod slips;
-#[cfg(test)]
-mod tests;
 
 pub use expanding::expand;
 pub use laws::filters_decide_as_written;

@@ -12,8 +12,6 @@ mod port_ranges;
 mod prefix_checks;
 mod rows;
 mod splitting;
-#[cfg(test)]
-mod tests;
 
 pub use comparing::is_text_of;
 pub use drafts::{Draft, read_rows};

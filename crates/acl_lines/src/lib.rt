@@ -4,8 +4,6 @@
 mod line_places;
 mod line_texts;
 mod stretches;
-#[cfg(test)]
-mod tests;
 
 pub use line_texts::Lines;
 pub use stretches::Stretch;

@@ -8,12 +8,8 @@ mod load_faults;
 mod loading;
 mod naming_paths;
 mod policy_loading;
-#[cfg(test)]
-mod policy_tests;
 mod policy_texts;
 mod slips;
-#[cfg(test)]
-mod tests;
 
 pub use fault_lines::put_fault;
 pub use laws::{answers_are_one, answers_are_there, definitions_are_there, loaded_policies_stand};

@@ -15,8 +15,6 @@ mod ranking;
 mod reaching;
 mod refusals;
 mod tables;
-#[cfg(test)]
-mod tests;
 
 pub use bases::{Base, Checked, check, networks_of, ports_of, read_networks, read_services};
 pub use laws::{

@@ -4,8 +4,6 @@
 mod command;
 mod laws;
 mod options;
-#[cfg(test)]
-mod tests;
 mod workload_words;
 
 pub use laws::{options_are_asked_for, options_are_one, the_command_is_simple};

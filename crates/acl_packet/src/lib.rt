@@ -6,8 +6,6 @@ mod decimals;
 mod filtering;
 mod number_words;
 mod packets;
-#[cfg(test)]
-mod tests;
 
 pub use addresses::{Families, Family, Prefix};
 pub use decimals::{read_number, read_u8, read_u16};

@@ -2,9 +2,8 @@ pub mod ChoiceSteps
 pub mod Choices
 pub mod Combinations
 pub mod Elements
-pub mod EndingWordLaws
-pub mod EndingWords
 pub mod Limits
+pub mod NameSlots
 pub mod Platforms
 pub mod Remarks
 pub mod Rules

@@ -12,8 +12,7 @@ mod limits;
 mod platforms;
 mod rule_rows;
 mod rules;
-#[cfg(test)]
-mod tests;
+mod seen_names;
 mod writing;
 
 pub use choices::{Choices, NumberChoices, RangeChoices, count_numbers};
@@ -22,7 +21,7 @@ pub use elements::{address_elements, range_elements};
 pub use filtering::filter_outcome;
 pub use filters::{Filter, Limit};
 pub use laws::{combinations_hold_what_the_sets_hold, sound_rules_have_combinations};
-pub use limits::{RuleLimits, count_in_limit, first_limit, is_name_taken, names_sctp_ports};
+pub use limits::{Earlier, RuleLimits, count_in_limit, first_limit, names_sctp_ports};
 pub use platforms::Platform;
 pub use rule_rows::{RuleForm, put_rules};
 pub use rules::{Rule, Rules, Test};

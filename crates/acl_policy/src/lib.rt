@@ -13,8 +13,6 @@ mod states;
 mod target_lines;
 mod term_drafts;
 mod terms;
-#[cfg(test)]
-mod tests;
 mod values;
 mod word_judges;
 mod word_slips;

@@ -4,8 +4,6 @@
 mod laws;
 mod platforms;
 mod rendering;
-#[cfg(test)]
-mod tests;
 
 pub use laws::{fewer_rules_fit, taken_filters_are_short};
 pub use platforms::check;

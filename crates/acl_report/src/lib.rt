@@ -5,8 +5,6 @@ mod conditions;
 mod counts;
 mod reports;
 mod term_lines;
-#[cfg(test)]
-mod tests;
 
 pub use counts::put_count;
 pub use reports::report_terms;

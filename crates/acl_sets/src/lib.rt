@@ -7,8 +7,6 @@ mod least;
 mod range_pieces;
 mod sets;
 mod sweeps;
-#[cfg(test)]
-mod tests;
 
 pub use groups::group_end;
 pub use least::{Prefixes, least_list_holds, least_list_is_fewest, least_prefixes, one_least_list};

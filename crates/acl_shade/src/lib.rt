@@ -3,8 +3,6 @@
 
 mod laws;
 mod shading;
-#[cfg(test)]
-mod tests;
 
 pub use laws::{shaded_terms_can_go, shading_is_computed, shading_terms_stay};
 pub use shading::{shaded_by, shading_term};

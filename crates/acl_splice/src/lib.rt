@@ -8,8 +8,6 @@ mod line_faults;
 mod partial_splices;
 mod sources;
 mod splicing;
-#[cfg(test)]
-mod tests;
 
 pub use gathering::{GatherFault, gather};
 pub use sources::{Sources, label};

@@ -11,8 +11,6 @@ mod ports;
 mod protocols;
 mod resolving;
 mod terms;
-#[cfg(test)]
-mod tests;
 
 pub use laws::{
     policies_decide_as_written, terms_are_one, terms_are_there, terms_live_as_written,

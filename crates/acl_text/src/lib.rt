@@ -42,6 +42,3 @@ pub use prefixes::{
 pub use signed_numbers::read_signed;
 pub use texts::{Bytes, Memory};
 pub use words::{is_white, next_word, skip_white};
-
-#[cfg(test)]
-mod tests;

@@ -82,27 +82,3 @@ fn is_single_spaced(text: &[u8]) -> bool
     }
     !after_space
 }
-
-#[cfg(test)]
-mod tests {
-    use super::*;
-
-    #[test]
-    fn tells_names_and_texts(rt: HostRuntime) {
-        let cases = [
-            ("edge-in", true, true, true),
-            ("4_edge", true, false, true),
-            ("not ours.", false, false, true),
-            ("not  ours", false, false, false),
-            (" ours", false, false, false),
-            ("ours ", false, false, false),
-            ("it's", false, false, false),
-            ("", false, false, false),
-        ];
-        for (text, name, filter, safe) in cases {
-            assert_eq!(rt; is_name(text.as_bytes()), name, "at {text}");
-            assert_eq!(rt; is_filter_name(text.as_bytes()), filter, "at {text}");
-            assert_eq!(rt; is_safe_text(text.as_bytes()), safe, "at {text}");
-        }
-    }
-}

@@ -85,39 +85,3 @@ fn safe_byte(byte: u8) -> u8
 {
     if is_safe_byte(byte) { byte } else { b'_' }
 }
-
-#[cfg(test)]
-mod tests {
-    use super::*;
-
-    #[test]
-    fn makes_comments_safe(rt: HostRuntime) {
-        let alloc = rt.alloc();
-        let cases = [
-            ("", ""),
-            (" \t\r\n ", ""),
-            (
-                "  Not ours. \nAsk\tthe\r\nNOC: x,y-z_1 ",
-                "Not ours. Ask the NOC: x,y-z_1",
-            ),
-            (
-                "*/ } term x { then accept; } /*",
-                "__ _ term x _ then accept_ _ __",
-            ),
-            ("caf\u{e9}\u{b}\"#'", "caf______"),
-            // a space at the cut goes
-            (
-                "1234567890123456789012345678901234567890123456789012345678901234567890123456789 b",
-                "1234567890123456789012345678901234567890123456789012345678901234567890123456789",
-            ),
-            (
-                "1234567890123456789012345678901234567890123456789012345678901234567890123456789012",
-                "12345678901234567890123456789012345678901234567890123456789012345678901234567890",
-            ),
-        ];
-        for (comments, safe) in cases {
-            let made = note(alloc, comments.as_bytes()).expect(&rt, "a note");
-            assert_eq!(rt; made.as_slice(), safe.as_bytes(), "at {comments}");
-        }
-    }
-}

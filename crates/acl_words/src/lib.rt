@@ -6,8 +6,6 @@ mod places;
 mod policy_words;
 mod runs;
 mod scanning;
-#[cfg(test)]
-mod tests;
 mod tokens;
 
 pub use forms::Form;

@@ -2,8 +2,6 @@
 #![tactic(auto)]
 
 mod lines;
-#[cfg(test)]
-mod tests;
 mod texts;
 mod workloads;
 

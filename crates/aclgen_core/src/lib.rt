@@ -14,11 +14,9 @@ mod preparing;
 mod running;
 mod shading;
 mod slips;
-#[cfg(test)]
-mod tests;
 mod workload_runs;
 
 pub use acting::refuse_words;
 pub use endings::{Ended, Which, status_of};
-pub use laws::{jobs_are_one, jobs_are_there};
+pub use laws::{jobs_are_one, jobs_are_there, workloads_have_no_fault};
 pub use running::aclgen;

@@ -8,8 +8,6 @@ mod entry_drafts;
 mod laws;
 mod list_rows;
 mod reading;
-#[cfg(test)]
-mod tests;
 mod validity;
 mod walking;
 

@@ -10,8 +10,6 @@ mod ports;
 mod reading;
 mod rule_drafts;
 mod rule_words;
-#[cfg(test)]
-mod tests;
 mod validity;
 mod walking;
 

@@ -9,8 +9,6 @@ mod drafts;
 mod filter_rows;
 mod laws;
 mod reading;
-#[cfg(test)]
-mod tests;
 mod validity;
 mod walking;
 

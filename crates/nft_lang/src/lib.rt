@@ -10,8 +10,6 @@ mod overlaps;
 mod reading;
 mod rule_drafts;
 mod sets;
-#[cfg(test)]
-mod tests;
 mod validity;
 mod walking;
 

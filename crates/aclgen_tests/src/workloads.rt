@@ -1,0 +1,57 @@
+use acl_workload::workload;
+use std::test::Fail;
+
+#[test]
+fn one_of_each_is_made(rt: HostRuntime) -> Result<(), Fail> {
+    let one = workload(rt.alloc(), 1)?;
+    assert_eq!(rt;
+        one.networks.as_slice(),
+        b"N0 = 10.0.0.0/25 10.0.0.128/25 2001:db8:0::/48\n".as_slice()
+    );
+    Ok(())
+}
+
+#[test]
+fn two_of_each_are_made(rt: HostRuntime) -> Result<(), Fail> {
+    let two = workload(rt.alloc(), 2)?;
+    assert_eq!(rt;
+        two.networks.as_slice(),
+        b"N0 = 10.0.0.0/25 10.0.0.128/25 2001:db8:0::/48\nN1 = 10.0.1.0/25 10.0.1.128/25 2001:db8:1::/48\n".as_slice()
+    );
+    assert_eq!(rt;
+        two.services.as_slice(),
+        b"S0 = 1000/tcp 1000/udp\nS1 = 1001/tcp 1001/udp\n".as_slice()
+    );
+    assert_eq!(rt;
+        two.policy.as_slice(),
+        b"header {\n  target:: cisco w mixed\n  target:: juniper w inet\n  target:: iptables FORWARD DROP\n  target:: nftables mixed forward\n}\nterm t0 {\n  source-address:: N0\n  destination-port:: S0\n  protocol:: tcp udp\n  action:: accept\n}\nterm t1 {\n  source-address:: N1\n  destination-port:: S1\n  protocol:: tcp udp\n  action:: accept\n}\n".as_slice()
+    );
+    Ok(())
+}
+
+// Lines of the networks of a workload of 1,024: of each number of digits, and on both sides of 256.
+static LINES: [(usize, &[u8]); 7] = [
+    (9, b"N9 = 10.0.9.0/25 10.0.9.128/25 2001:db8:9::/48"),
+    (10, b"N10 = 10.0.10.0/25 10.0.10.128/25 2001:db8:a::/48"),
+    (16, b"N16 = 10.0.16.0/25 10.0.16.128/25 2001:db8:10::/48"),
+    (
+        255,
+        b"N255 = 10.0.255.0/25 10.0.255.128/25 2001:db8:ff::/48",
+    ),
+    (256, b"N256 = 10.1.0.0/25 10.1.0.128/25 2001:db8:100::/48"),
+    (300, b"N300 = 10.1.44.0/25 10.1.44.128/25 2001:db8:12c::/48"),
+    (
+        1023,
+        b"N1023 = 10.3.255.0/25 10.3.255.128/25 2001:db8:3ff::/48",
+    ),
+];
+
+#[test]
+fn networks_have_their_numbers(rt: HostRuntime) -> Result<(), Fail> {
+    let load = workload(rt.alloc(), 1024)?;
+    for (i, line) in &LINES {
+        let found = load.networks.as_slice().split(|b| *b == b'\n').nth(*i);
+        assert!(rt; found == Some(*line), "{i}");
+    }
+    Ok(())
+}

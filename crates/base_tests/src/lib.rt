@@ -1,0 +1,15 @@
+//! Tests of packets, texts, rows and sets.
+//!
+//! A library that is tested here is proved once: tests beside its code would have it proved with them again.
+#![tactic(auto)]
+
+#[cfg(test)]
+mod names;
+#[cfg(test)]
+mod packets;
+#[cfg(test)]
+mod rows;
+#[cfg(test)]
+mod sets;
+#[cfg(test)]
+mod texts;

@@ -1,0 +1,217 @@
+ghost use Rattle.std.specs.Prelude.{max};
+
+use acl_grammar::{
+    Address, Draft, Each, EachWord, Form, FreeText, Named, Number, Piece, PortRange, Row, Rows,
+    Wildcard, Word, WordForm, are_distinct, are_port_ranges, have_distinct_names, is_port_range,
+    is_prefix_of, is_text_of, join_words, read_rows,
+};
+use acl_packet::{Family, Prefix};
+use acl_text::{Memory, Out, PutFault};
+use std::alloc::Global;
+use std::test::Fail;
+
+// Numbers, a row each.
+#[derive(Drop)]
+struct Numbered;
+
+impl Form<u8> for Numbered {
+    ghost use Rattle.std.specs.Prelude.{decimal, codes, [], ◌∷◌};
+    ghost use Rattle.acl_grammar.specs.Rows.{row};
+
+    ghost item_rows = { λ f n. row 2 (codes "number" ∷ decimal n ∷ []) ∷ [] };
+
+    fn put_item<O: Out>(&self, item: &u8, out: &mut O) -> Result<(), PutFault> {
+        let number = Number {
+            number: u128::from(*item),
+        };
+        let row = Row {
+            indent: 2,
+            first: b"number".as_slice(),
+            rest: Word { piece: number },
+        };
+        row.put_rows(out)
+    }
+}
+
+// Numbers, a word each.
+#[derive(Clone, Copy)]
+struct InDecimal;
+
+impl WordForm<u8> for InDecimal {
+    ghost use Rattle.std.specs.Prelude.{decimal};
+
+    ghost item_text = { λ f n. decimal n };
+
+    fn put_item_into<O: Out>(&self, item: &u8, out: &mut O) -> Result<(), PutFault> {
+        let number = u128::from(*item);
+        Number { number }.put_into(out)
+    }
+}
+
+#[derive(Drop)]
+struct Titled<'a> {
+    title: &'a [u8],
+}
+
+impl<'a> Named for Titled<'a> {
+    ghost name = { λ t. t.title.now };
+
+    fn has_name_of(&self, other: &Titled<'a>) -> bool {
+        self.title == other.title
+    }
+}
+
+// How far the rows are indented.
+#[derive(Drop)]
+struct Deepest {
+    indent: usize,
+}
+
+impl Draft for Deepest {
+    ghost step = { λ d r. record { indent = max d.indent r.indent } };
+
+    fn take_row(&mut self, _alloc: Global, indent: usize, _words: &[&[u8]]) -> Result<(), Memory> {
+        if self.indent < indent {
+            self.indent = indent;
+        }
+        Ok(())
+    }
+}
+
+#[test]
+fn compares_rows_with_a_text(rt: HostRuntime) {
+    let address = Address {
+        family: Family::V4,
+        address: 0xc000_0200,
+    };
+    let prefix = Prefix {
+        family: Family::V6,
+        first: 0x2001_0db8 << 96,
+        len: 32,
+    };
+    let literals: &[&[u8]] = &[b"x", b"y"];
+    let head = Row {
+        indent: 1,
+        first: (b"a".as_slice(), b"b".as_slice()),
+        rest: (
+            (
+                Word { piece: address },
+                Word {
+                    piece: Wildcard { len: 24 },
+                },
+            ),
+            (
+                Some(Word { piece: prefix }),
+                (literals, FreeText { text: b"to all" }),
+            ),
+        ),
+    };
+    let numbers: &[u8] = &[7, 10];
+    let rows = (
+        head,
+        Each {
+            items: numbers,
+            form: Numbered,
+        },
+    );
+    let cases = [
+        (
+            " ab 192.0.2.0 0.0.0.255 2001:db8::/32 x y to all\n  number 7\n  number 10\n",
+            true,
+        ),
+        (
+            " ab 192.0.2.0 0.0.0.255 2001:db8::/32 x y to all\n  number 7\n  number 11\n",
+            false,
+        ),
+        (
+            " ab 192.0.2.0  0.0.0.255 2001:db8::/32 x y to all\n  number 7\n  number 10\n",
+            false,
+        ),
+        (
+            " ab 192.0.2.0 0.0.0.255 2001:db8::/32 x y to all\n  number 7\n  number 10",
+            false,
+        ),
+        (
+            " ab 192.0.2.0 0.0.0.255 2001:db8::/32 x y to all\n  number 7\n  number 10\n\n",
+            false,
+        ),
+        ("", false),
+    ];
+    for (text, same) in cases {
+        assert_eq!(rt; is_text_of(text.as_bytes(), &rows), same, "at {text}");
+    }
+}
+
+#[test]
+fn reads_rows_and_words(rt: HostRuntime) -> Result<(), Fail> {
+    let mut draft = Deepest { indent: 0 };
+    read_rows(rt.alloc(), &mut draft, b"a\n    b c\n  d")?;
+    assert_eq!(rt; draft.indent, 4);
+    let joined = join_words(rt.alloc(), &[b"to", b"all"])?;
+    assert_eq!(rt; joined.as_slice(), b"to all".as_slice());
+    Ok(())
+}
+
+#[test]
+fn tells_names_and_prefixes(rt: HostRuntime) {
+    assert_eq!(rt; are_distinct(&[b"a", b"b", b"ab"]), true);
+    assert_eq!(rt; are_distinct(&[b"a", b"b", b"a"]), false);
+    let cases = [
+        (Family::V4, 0x0a00_0000, 8, true),
+        (Family::V4, 0x0a00_0001, 8, false),
+        (Family::V4, 0x0a00_0001, 32, true),
+        (Family::V4, 0, 33, false),
+        (Family::V4, 1 << 32, 32, false),
+        (Family::V6, 0, 0, true),
+        (Family::V6, 1, 0, false),
+        (Family::V6, 1, 128, true),
+    ];
+    for (family, first, len, is) in cases {
+        let prefix = Prefix { family, first, len };
+        assert_eq!(rt; is_prefix_of(family, &prefix), is, "at {first} {len}");
+    }
+    let four = Prefix {
+        family: Family::V4,
+        first: 0,
+        len: 0,
+    };
+    assert_eq!(rt; is_prefix_of(Family::V6, &four), false);
+}
+
+#[test]
+fn writes_words_and_tells_items(rt: HostRuntime) {
+    let numbers: &[u8] = &[7, 10];
+    let row = Row {
+        indent: 0,
+        first: b"numbers".as_slice(),
+        rest: EachWord {
+            items: numbers,
+            form: InDecimal,
+        },
+    };
+    assert_eq!(rt; is_text_of(b"numbers 7 10\n", &row), true);
+    assert_eq!(rt; is_text_of(b"numbers 7\n", &row), false);
+    let a = Titled { title: b"a" };
+    let items = [Titled { title: b"a" }, Titled { title: b"ab" }];
+    assert_eq!(rt; have_distinct_names(&items), true);
+    assert_eq!(rt; have_distinct_names(&[a, Titled { title: b"a" }]), false);
+    assert_eq!(rt; are_port_ranges(&[(22, 22), (0, 65535)]), true);
+    assert_eq!(rt; are_port_ranges(&[(22, 22), (2, 1)]), false);
+    assert_eq!(rt; is_port_range((2, 1)), false);
+    let ports = Row {
+        indent: 0,
+        first: PortRange {
+            low: 22,
+            high: 80,
+            separator: b':',
+        },
+        rest: Word {
+            piece: PortRange {
+                low: 22,
+                high: 22,
+                separator: b':',
+            },
+        },
+    };
+    assert_eq!(rt; is_text_of(b"22:80 22\n", &ports), true);
+}

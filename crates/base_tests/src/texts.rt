@@ -1,0 +1,304 @@
+use acl_packet::{Family, Prefix};
+use acl_text::{
+    Bytes, Cursor, Items, Memory, Out, Place, PutFault, ahead, behind, contains_byte, next_word,
+    put_address, put_number, put_pieces, put_prefix, put_wildcard, read_address, read_number,
+    read_ports, read_prefix, read_signed, read_spelled_prefix, skip_white, split_at_byte,
+    split_text,
+};
+use std::alloc::Global;
+use std::test::Fail;
+
+/// An output in memory.
+#[derive(Drop)]
+struct Kept {
+    text: Bytes,
+    refusals: u64,
+    refused: bool,
+}
+
+impl Kept {
+    ghost use Rattle.std.specs.Prelude.{◌≡◌, false};
+
+    fn new(alloc: Global) -> Kept
+        ensures { result.refused ≡ false }
+    {
+        Kept {
+            text: Bytes::new(alloc),
+            refusals: 0,
+            refused: false,
+        }
+    }
+}
+
+impl Out for Kept {
+    ghost use Rattle.std.specs.Prelude.{Some, not};
+
+    ghost told = { λ k. Some k.text };
+
+    ghost faults = { λ k. 0 };
+
+    ghost refusals = { λ k. k.refusals };
+
+    ghost is_open = { λ k. not k.refused };
+
+    ghost keeps_rest = { λ a b. Unit {0} };
+
+    fn put(&mut self, bytes: &[u8]) -> Result<(), PutFault> {
+        match self.text.push_all(bytes) {
+            Ok(()) => Ok(()),
+            Err(Memory) => {
+                self.refusals = self.refusals.saturating_add(1);
+                self.refused = true;
+                Err(PutFault::Memory)
+            }
+        }
+    }
+
+    ghost rest_same = { λ x. tt };
+
+    ghost rest_goes_on = { λ x y z h k. tt };
+}
+
+#[test]
+fn keeps_bytes(rt: HostRuntime) -> Result<(), Fail> {
+    let mut bytes = Bytes::from_slice(rt.alloc(), b"ab")?;
+    bytes.push_all(b"c")?;
+    assert_eq!(rt; bytes.as_slice(), b"abc".as_slice());
+    Ok(())
+}
+
+static NUMBERS: [(&str, u128, Option<u128>); 10] = [
+    ("0", 0, Some(0)),
+    ("7", 9, Some(7)),
+    ("65535", 65535, Some(65535)),
+    ("65536", 65535, None),
+    (
+        "340282366920938463463374607431768211455",
+        u128::MAX,
+        Some(u128::MAX),
+    ),
+    ("340282366920938463463374607431768211456", u128::MAX, None),
+    ("080", 255, None),
+    ("00", 255, None),
+    ("+1", 255, None),
+    ("", 255, None),
+];
+
+#[test]
+fn reads_numbers(rt: HostRuntime) {
+    for (word, max, number) in &NUMBERS {
+        assert_eq!(rt; read_number(word.as_bytes(), *max), *number, "{word}");
+    }
+}
+
+#[test]
+fn puts_numbers(rt: HostRuntime) -> Result<(), Fail> {
+    let mut out = Kept::new(rt.alloc());
+    put_number(&mut out, 0)?;
+    put_pieces(&mut out, &[b" ", b"and "])?;
+    put_number(&mut out, u128::MAX)?;
+    assert_eq!(rt;
+        out.text.as_slice(),
+        b"0 and 340282366920938463463374607431768211455".as_slice()
+    );
+    Ok(())
+}
+
+// The examples of RFC 4291 section 2.2 and of RFC 5952 sections 4 and 5, the latter without a dotted tail.
+static PRINTED: [(&str, &str); 24] = [
+    (
+        "ABCD:EF01:2345:6789:ABCD:EF01:2345:6789",
+        "abcd:ef01:2345:6789:abcd:ef01:2345:6789/128",
+    ),
+    (
+        "2001:DB8:0:0:8:800:200C:417A",
+        "2001:db8::8:800:200c:417a/128",
+    ),
+    ("FF01:0:0:0:0:0:0:101", "ff01::101/128"),
+    ("0:0:0:0:0:0:0:1", "::1/128"),
+    ("0:0:0:0:0:0:0:0", "::/128"),
+    ("FF01::101", "ff01::101/128"),
+    ("::1", "::1/128"),
+    ("::", "::/128"),
+    ("0:0:0:0:0:0:13.1.68.3", "::d01:4403/128"),
+    ("0:0:0:0:0:FFFF:129.144.52.38", "::ffff:8190:3426/128"),
+    ("::13.1.68.3", "::d01:4403/128"),
+    ("::FFFF:129.144.52.38", "::ffff:8190:3426/128"),
+    ("2001:0db8::0001", "2001:db8::1/128"),
+    ("2001:db8:0:0:0:0:2:1", "2001:db8::2:1/128"),
+    ("2001:db8::1:1:1:1:1", "2001:db8:0:1:1:1:1:1/128"),
+    ("2001:0:0:1:0:0:0:1", "2001:0:0:1::1/128"),
+    ("2001:db8:0:0:1:0:0:1", "2001:db8::1:0:0:1/128"),
+    (
+        "2001:db8:aaaa:bbbb:cccc:dddd:eeee:AAAA",
+        "2001:db8:aaaa:bbbb:cccc:dddd:eeee:aaaa/128",
+    ),
+    ("::ffff:192.0.2.1", "::ffff:c000:201/128"),
+    ("1:2:3:4:5:6:7::", "1:2:3:4:5:6:7:0/128"),
+    ("2001:db8:ffff::/33", "2001:db8:8000::/33"),
+    ("10.1.2.3/8", "10.0.0.0/8"),
+    ("192.0.2.255", "192.0.2.255/32"),
+    ("255.255.255.255/0", "0.0.0.0/0"),
+];
+
+#[test]
+fn prints_examples(rt: HostRuntime) -> Result<(), Fail> {
+    for (word, text) in &PRINTED {
+        let Some(prefix) = read_prefix(word.as_bytes()) else {
+            assert!(rt; false, "{word} is not read");
+            return Ok(());
+        };
+        let mut out = Kept::new(rt.alloc());
+        put_prefix(&mut out, &prefix)?;
+        assert_eq!(rt; out.text.as_slice(), text.as_bytes(), "{word}");
+        assert_eq!(rt;
+            read_spelled_prefix(prefix.family, text.as_bytes()),
+            Some(prefix),
+            "{word}"
+        );
+    }
+    Ok(())
+}
+
+static REFUSED: [&str; 26] = [
+    "1:2:3:4:5:6:7:8::",
+    "1::2:3:4:5:6:7:8",
+    ":::",
+    "1::2::3",
+    "12345::",
+    "::1%eth0",
+    ":1",
+    "1:",
+    "1:2:3:4:5:6:7",
+    "1.2.3.4::",
+    "::1.2.3",
+    "::g",
+    "1.2.3.04",
+    "1.2.3",
+    "1.2.3.4.5",
+    "1.2.3.256",
+    "1.2..4",
+    "1.2.3.4/33",
+    "1.2.3.4/08",
+    "1.2.3.4/",
+    "1.2.3.4/ 8",
+    "1.2.3.4/8/8",
+    "::/129",
+    "/8",
+    "10/8",
+    "",
+];
+
+#[test]
+fn refuses_other_words(rt: HostRuntime) {
+    for word in &REFUSED {
+        assert_eq!(rt; read_prefix(word.as_bytes()), None, "{word}");
+    }
+}
+
+#[test]
+fn reads_the_printed_text_alone(rt: HostRuntime) -> Result<(), Fail> {
+    let cases: [(Family, &str, Option<u128>); 9] = [
+        (Family::V4, "1.2.3.4", Some(0x0102_0304)),
+        (Family::V4, "01.2.3.4", None),
+        (Family::V4, "::1", None),
+        (Family::V6, "1.2.3.4", None),
+        (Family::V6, "::1", Some(1)),
+        (Family::V6, "0::1", None),
+        (Family::V6, "::A", None),
+        (Family::V6, "::0.0.0.1", None),
+        (Family::V6, "1::2:0:0:0:0", None),
+    ];
+    for (family, word, address) in cases {
+        assert_eq!(rt; read_address(family, word.as_bytes()), address, "{word}");
+        if let Some(a) = read_address(family, word.as_bytes()) {
+            let mut out = Kept::new(rt.alloc());
+            put_address(&mut out, family, a)?;
+            assert_eq!(rt; out.text.as_slice(), word.as_bytes());
+        }
+    }
+    let ten = Prefix {
+        family: Family::V4,
+        first: 0x0a00_0000,
+        len: 8,
+    };
+    assert_eq!(rt; read_spelled_prefix(Family::V4, b"10.0.0.0/8"), Some(ten));
+    assert_eq!(rt; read_spelled_prefix(Family::V6, b"10.0.0.0/8"), None);
+    assert_eq!(rt; read_spelled_prefix(Family::V4, b"10.1.2.3/8"), None);
+    assert_eq!(rt; read_spelled_prefix(Family::V4, b"10.0.0.0"), None);
+    Ok(())
+}
+
+#[test]
+fn puts_wildcards(rt: HostRuntime) -> Result<(), Fail> {
+    let cases: [(u8, &str); 4] = [
+        (0, "255.255.255.255"),
+        (9, "0.127.255.255"),
+        (31, "0.0.0.1"),
+        (32, "0.0.0.0"),
+    ];
+    for (len, text) in cases {
+        let mut out = Kept::new(rt.alloc());
+        if len <= 32 {
+            put_wildcard(&mut out, len)?;
+        }
+        assert_eq!(rt; out.text.as_slice(), text.as_bytes());
+    }
+    Ok(())
+}
+
+#[test]
+fn gives_each_line_once(rt: HostRuntime) {
+    let mut cursor = Cursor::new(3, b"a b\r\n\nlast");
+    assert_eq!(rt; cursor.place(), Place { file: 3, line: 0 });
+    assert_eq!(rt; cursor.line(), Some(b"a b\r".as_slice()));
+    assert_eq!(rt; cursor.line(), Some(b"".as_slice()));
+    assert_eq!(rt; cursor.place(), Place { file: 3, line: 2 });
+    assert_eq!(rt; cursor.line(), Some(b"last".as_slice()));
+    assert_eq!(rt; cursor.line(), None);
+    assert_eq!(rt; cursor.place(), Place { file: 3, line: 3 });
+}
+
+#[test]
+fn gives_the_bounds_of_words(rt: HostRuntime) {
+    let line = b" ab\t c\r";
+    assert_eq!(rt; next_word(line, 0), Some((1, 3)));
+    assert_eq!(rt; next_word(line, 3), Some((5, 6)));
+    assert_eq!(rt; next_word(line, 6), None);
+    assert_eq!(rt; next_word(b"", 0), None);
+}
+
+#[test]
+fn cuts_at_the_first_of_a_byte(rt: HostRuntime) {
+    assert_eq!(rt; contains_byte(b"A = B", b'='), true);
+    assert_eq!(rt; contains_byte(b"A B", b'='), false);
+    let parts = split_at_byte(b"A = B = C", b'=');
+    assert_eq!(rt; parts, Some((b"A ".as_slice(), b" B = C".as_slice())));
+    assert_eq!(rt; split_at_byte(b"A B", b'=').is_some(), false);
+}
+
+#[test]
+fn reads_signed_numbers_and_ports(rt: HostRuntime) {
+    assert_eq!(rt; read_signed(b"-32768", 32_768, 32_767), Some(-32_768));
+    assert_eq!(rt; read_signed(b"32768", 32_768, 32_767), None);
+    assert_eq!(rt; read_signed(b"-0", 32_768, 32_767), None);
+    assert_eq!(rt; read_ports(b"80-443", b'-'), Some((80, 443)));
+    assert_eq!(rt; read_ports(b"65535", b':'), Some((65_535, 65_535)));
+    assert_eq!(rt; read_ports(b"443-80", b'-'), None);
+}
+
+#[test]
+fn cuts_texts_at_their_ends(rt: HostRuntime) -> Result<(), Fail> {
+    assert_eq!(rt;
+        behind(b"no list", b"no ").expect(&rt, "a list"),
+        b"list".as_slice()
+    );
+    assert_eq!(rt; ahead(b"80;", b";").expect(&rt, "a port"), b"80".as_slice());
+    assert_eq!(rt; ahead(b"80", b";").is_some(), false);
+    assert_eq!(rt; skip_white(b" \t\rx "), b"x ".as_slice());
+    assert_eq!(rt; split_text(rt.alloc(), b"80,,443", b',')?.len(), 3);
+    let mut numbers = Items::new(rt.alloc());
+    numbers.push(6)?;
+    assert_eq!(rt; numbers.as_slice(), [6].as_slice());
+    Ok(())
+}

@@ -1,0 +1,15 @@
+//! Tests of the four languages: texts as they are read, and texts that are refused.
+//!
+//! A library that is tested here is proved once: tests beside its code would have it proved with them again.
+#![tactic(auto)]
+
+#[cfg(test)]
+mod cisco;
+#[cfg(test)]
+mod iptables;
+#[cfg(test)]
+mod junos;
+#[cfg(test)]
+mod nftables;
+#[cfg(test)]
+mod packets;

@@ -1,0 +1,11 @@
+//! Tests of loading and of the report.
+//!
+//! A library that is tested here is proved once: tests beside its code would have it proved with them again.
+#![tactic(auto)]
+
+#[cfg(test)]
+mod loads;
+#[cfg(test)]
+mod policies;
+#[cfg(test)]
+mod reports;

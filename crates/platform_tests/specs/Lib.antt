@@ -1,0 +1,2 @@
+pub mod EndingWordLaws
+pub mod EndingWords

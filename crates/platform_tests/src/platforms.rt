@@ -1,0 +1,261 @@
+ghost use Rattle.std.specs.Prelude.{◌≡◌, ◌≤◌, ℕ, [], ◌∷◌, IfOk, None, decimal, false, flat_map, map, unwrap_or, IsTrue};
+ghost use Rattle.std.specs.List.{All, IsDistinct};
+ghost use Rattle.std.specs.Str.{bytes_eq};
+ghost use Rattle.acl_grammar.specs.Rows.{row};
+ghost use Rattle.acl_target.specs.TargetData.{is_neighbours};
+ghost use Rattle.acl_platform.specs.Combinations.{IsSized};
+ghost use Rattle.platform_tests.specs.EndingWordLaws.{
+  joined_are_spelled,
+  nothing_is_spelled,
+  one_document,
+  section_decides,
+  section_is_spelled,
+};
+ghost use Rattle.platform_tests.specs.EndingWords.{
+  EndingsSpell,
+  ending_line,
+  has_no_rule,
+  outcome_of_ending,
+  words_of,
+};
+ghost use Rattle.acl_platform.specs.Platforms.{IsAccepted};
+
+use acl_grammar::{Form, Number, Row, Rows, Word};
+use acl_host::Whole;
+use acl_packet::{Conn, Families, Family, Hook, Outcome, Packet, Prefix, Verdict};
+use acl_platform::{
+    Combination, Filter, Limit, Platform, Rule, Rules, Test, count_combinations, filter_outcome,
+    put_combinations, write_all,
+};
+use acl_sets::{Prefixes, Range, RangeSet};
+use acl_target::{Ending, Kind};
+use acl_text::{Bytes, Items, Memory, Out, Place, PutFault};
+use std::alloc::Global;
+use std::test::Fail;
+
+// A platform for filters without rules, whose sections are the words of the endings.
+struct Endings;
+
+impl Platform for Endings {
+    type Doc = Items<Ending>;
+
+    type Section = Ending;
+
+    ghost handles = { has_no_rule };
+
+    ghost document = { λ sections. sections };
+
+    ghost spells = { λ bytes doc. EndingsSpell bytes doc };
+
+    ghost text = { ending_line };
+
+    ghost outcome = { outcome_of_ending };
+
+    ghost names = { words_of };
+
+    ghost section = { λ f. f.ending };
+
+    ghost count = { λ f. 1 };
+
+    ghost limit = { λ f. None };
+
+    fn check(&self, _filter: &Filter) -> Result<u64, Limit> {
+        Ok(1)
+    }
+
+    fn emit<O: Out>(&self, filter: &Filter, out: &mut O) -> Result<(), PutFault> {
+        out.put(ending_line(filter.ending))
+    }
+
+    ghost one_document = { one_document };
+
+    ghost nothing_is_spelled = { nothing_is_spelled };
+
+    ghost joined_are_spelled = { joined_are_spelled };
+
+    ghost section_is_spelled = { section_is_spelled };
+
+    ghost section_decides = { section_decides };
+}
+
+fn ending_line(ending: Ending) -> &'static [u8]
+    ensures { result.now ≡ ending_line ending }
+{
+    match ending {
+        Ending::Accept => b"accept\n",
+        Ending::Deny => b"deny\n",
+        Ending::Left => b"left\n",
+        Ending::Neighbours => b"neighbours\n",
+    }
+}
+
+// What is written of filters without rules, in the words of their language.
+fn put_endings<O: Out>(filters: &[Filter], out: &mut O) -> Result<(), PutFault>
+    requires open { IsTrue (O.is_open out.old) }
+    requires accepted { All (IsAccepted has_no_rule (λ f. None)) filters.now }
+    requires differ { IsDistinct bytes_eq (flat_map (λ f. words_of f.ending) filters.now) }
+    ensures { EndingsSpell (flat_map (λ f. ending_line f.ending) filters.now)
+        (map (λ f. f.ending) filters.now) }
+{
+    write_all(&Endings, filters, out)
+}
+
+fn chain(alloc: Global, ending: Ending, rules: Rules) -> Result<Filter, Memory>
+    ensures accepted { rules ≡ [] → is_neighbours ending ≡ false
+        → IfOk result (IsAccepted has_no_rule (λ f. None)) }
+    ensures ending { IfOk result (λ f. f.ending ≡ ending) }
+{
+    Ok(Filter {
+        place: Place { file: 1, line: 1 },
+        kind: Kind::Iptables,
+        name: Bytes::from_slice(alloc, b"INPUT")?,
+        families: Families::Inet,
+        hook: Hook::Input,
+        ending,
+        priority: 0,
+        verbose: true,
+        number: 1,
+        rules,
+    })
+}
+
+#[test]
+fn writes_one_section_after_another(rt: HostRuntime) -> Result<(), Fail> {
+    let alloc = rt.alloc();
+    let first = chain(alloc, Ending::Left, Rules::new(alloc))?;
+    let second = chain(alloc, Ending::Accept, Rules::new(alloc))?;
+    let mut out = Whole::new(alloc);
+    put_endings(&[first, second], &mut out)?;
+    assert_eq!(rt; out.as_slice(), b"left\naccept\n".as_slice());
+    Ok(())
+}
+
+fn host(address: u128) -> Prefix {
+    Prefix {
+        family: Family::V4,
+        first: address,
+        len: 32,
+    }
+}
+
+// What of TCP and UDP goes from 0.0.0.1 or 0.0.0.2 to 0.0.0.3, ports 80 to 81 and 443, and begins a
+// connection.
+fn web(alloc: Global) -> Result<Rule, Memory>
+    ensures { IfOk result IsSized }
+{
+    let mut src = Prefixes::new(alloc);
+    src.push(host(1))?;
+    src.push(host(2))?;
+    let mut dst = Prefixes::new(alloc);
+    dst.push(host(3))?;
+    let protos = [Range { low: 6, high: 6 }, Range { low: 17, high: 17 }];
+    let dports = [
+        Range { low: 80, high: 81 },
+        Range {
+            low: 443,
+            high: 443,
+        },
+    ];
+    Ok(Rule {
+        name: Bytes::from_slice(alloc, b"web")?,
+        place: Place { file: 1, line: 2 },
+        note: Bytes::new(alloc),
+        family: Family::V4,
+        src,
+        dst,
+        protos: RangeSet::from_ranges(alloc, 255, &protos)?,
+        sports: RangeSet::all(alloc, 65535)?,
+        dports: RangeSet::from_ranges(alloc, 65535, &dports)?,
+        itypes: RangeSet::all(alloc, 255)?,
+        test: Test::SynNotAck,
+        verdict: Verdict::Accept,
+        log: true,
+    })
+}
+
+// The source, the protocol, and the first port of the destination.
+struct InNumbers;
+
+impl Form<Combination> for InNumbers {
+    ghost item_rows = { λ f c. row 0 (decimal c.src.first ∷ decimal (unwrap_or c.proto 0)
+        ∷ decimal (unwrap_or c.dport (0, 0)).0 ∷ []) ∷ [] };
+
+    fn put_item<O: Out>(&self, item: &Combination, out: &mut O) -> Result<(), PutFault> {
+        let proto = u128::from(item.proto.unwrap_or(0));
+        let (port, _) = item.dport.unwrap_or((0, 0));
+        let first = Number {
+            number: item.src.first,
+        };
+        let proto = Word {
+            piece: Number { number: proto },
+        };
+        let port = Word {
+            piece: Number {
+                number: u128::from(port),
+            },
+        };
+        let line = Row {
+            indent: 0,
+            first,
+            rest: (proto, port),
+        };
+        line.put_rows(out)
+    }
+}
+
+#[test]
+fn writes_each_combination(rt: HostRuntime) -> Result<(), Fail> {
+    let alloc = rt.alloc();
+    let rule = web(alloc)?;
+    let mut out = Whole::new(alloc);
+    put_combinations(&rule, &InNumbers, &mut out)?;
+    assert_eq!(rt;
+        out.as_slice(),
+        b"1 6 80\n1 6 443\n2 6 80\n2 6 443\n1 17 80\n1 17 443\n2 17 80\n2 17 443\n".as_slice()
+    );
+    assert_eq!(rt; count_combinations(&rule), 8);
+    Ok(())
+}
+
+fn syn(family: Family, src: u128, proto: u8, dport: u16, flags: u8) -> Packet {
+    Packet {
+        family,
+        src,
+        dst: 3,
+        proto,
+        sport: 1024,
+        dport,
+        flags,
+        itype: 0,
+        conn: Conn::New,
+    }
+}
+
+#[test]
+fn the_first_rule_or_the_ending_decides(rt: HostRuntime) -> Result<(), Fail> {
+    let alloc = rt.alloc();
+    let mut rules = Rules::new(alloc);
+    rules.push(web(alloc)?)?;
+    let filter = chain(alloc, Ending::Neighbours, rules)?;
+    let held = Outcome {
+        verdict: Verdict::Accept,
+        logged: true,
+    };
+    let denied = Outcome::unlogged(Verdict::Deny);
+    let cases = [
+        (syn(Family::V4, 1, 6, 81, 2), held),
+        (syn(Family::V4, 3, 6, 81, 2), denied),
+        (syn(Family::V4, 1, 132, 81, 2), denied),
+        (syn(Family::V4, 1, 6, 82, 2), denied),
+        (syn(Family::V4, 1, 6, 81, 18), denied),
+        (syn(Family::V6, 1, 6, 81, 2), denied),
+    ];
+    for (packet, outcome) in cases {
+        assert_eq!(rt; filter_outcome(&filter, &packet), outcome);
+    }
+    let mut solicitation = syn(Family::V6, 1, 58, 0, 0);
+    solicitation.itype = 135;
+    let passed = Outcome::unlogged(Verdict::Accept);
+    assert_eq!(rt; filter_outcome(&filter, &solicitation), passed);
+    Ok(())
+}
