@@ -2,7 +2,6 @@ ghost use Rattle.std.specs.Prelude.{◌≡◌, ◌+◌, ◌^◌, ◌≤◌, [], 
 ghost use Rattle.acl_packet.specs.Addresses.{top_address};
 ghost use Rattle.acl_sets.specs.ComputableSets.{cut_all};
 ghost use Rattle.acl_sets.specs.Ranges.{IsNormal};
-ghost use Rattle.acl_terms.specs.Matching.{foreign_of};
 ghost use Rattle.acl_expand.specs.TermRules.{
   client_ports,
   just,
@@ -18,7 +17,7 @@ ghost use Rattle.acl_expand.specs.TermRules.{
 use acl_packet::Family;
 use acl_platform::Test;
 use acl_sets::{Range, RangeSet};
-use acl_terms::Term;
+use acl_terms::{Term, foreign_of};
 use acl_text::{Bytes, Memory};
 use std::alloc::Global;
 
@@ -55,16 +54,6 @@ fn client_ports(alloc: Global) -> Result<RangeSet, Memory>
         high: TOP_PORT,
     };
     RangeSet::from_ranges(alloc, TOP_PORT, &[range])
-}
-
-// The number of the other family's ICMP.
-fn foreign_of(family: Family) -> u8
-    ensures { result ≡ foreign_of family }
-{
-    match family {
-        Family::V4 => 58,
-        Family::V6 => 1,
-    }
 }
 
 #[tactic(auto, using(crate::proofs::SetForms::nothing_cut))]

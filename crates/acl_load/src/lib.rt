@@ -16,4 +16,4 @@ pub use laws::{answers_are_one, answers_are_there, definitions_are_there, loaded
 pub use load_faults::LoadFault;
 pub use loading::load_definitions;
 pub use policy_loading::{Loaded, TermLists, Terms, load};
-pub use policy_texts::policy_fault;
+pub use policy_texts::{label_at, policy_fault};

@@ -22,8 +22,8 @@ pub(crate) struct PolicyText {
     pub(crate) policy: Policy,
 }
 
-// The label of the file of this number.
-fn label_at(sources: &Sources, file: u32) -> &[u8]
+/// The label of the file of this number, and nothing where no file has it.
+pub fn label_at(sources: &Sources, file: u32) -> &[u8]
     ensures { result.now ≡ slice_index_or sources.now.labels file [] }
 {
     match label(sources, file) {

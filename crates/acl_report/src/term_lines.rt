@@ -1,4 +1,4 @@
-ghost use Rattle.std.specs.Prelude.{◌≡◌, ◌<◌, ◌++◌, [], true, codes, flat_map, length, slice_get, slice_index_or, OnOk, Some};
+ghost use Rattle.std.specs.Prelude.{◌≡◌, ◌<◌, ◌++◌, [], true, codes, flat_map, length, slice_get, OnOk, Some};
 ghost use Rattle.acl_host.specs.DaySteps.{date_text};
 ghost use Rattle.acl_shade.specs.ComputableShading.{shading_term};
 ghost use Rattle.acl_report.specs.Reports.{
@@ -13,21 +13,12 @@ ghost use Rattle.acl_report.specs.Reports.{
 
 use crate::conditions::{expires_within, has_expired, is_empty_on};
 use acl_host::{Day, Whole, put_day};
+use acl_load::label_at;
 use acl_shade::shading_term;
-use acl_splice::{Sources, label};
+use acl_splice::Sources;
 use acl_target::{Target, put_target};
 use acl_terms::Term;
 use acl_text::{Out, PutFault, put_number};
-
-// The label of the file of this number.
-fn label_at(sources: &Sources, file: u32) -> &[u8]
-    ensures { result.now ≡ slice_index_or sources.now.labels file [] }
-{
-    match label(sources, file) {
-        Some(label) => label,
-        None => b"",
-    }
-}
 
 // Puts the place and the name of the term.
 #[tactic(auto, unfolding(crate::specs::Reports::term_text))]

@@ -1,7 +1,6 @@
 ghost use Rattle.std.specs.Prelude.{◌≡◌, ℕ, ◌<◌, ◌&&◌, ◌||◌, IfNone, IfSome, length, not, option_map};
 ghost use Rattle.std.specs.List.{list_all, list_any, position};
 ghost use Rattle.acl_sets.specs.ComputableSets.{covers};
-ghost use Rattle.acl_terms.specs.Matching.{foreign_of};
 ghost use Rattle.acl_terms.specs.Resolved.{destination_in, source_in, is_term_live};
 ghost use Rattle.acl_shade.specs.ComputableShading.{
   fits_in,
@@ -23,9 +22,9 @@ ghost use Rattle.acl_shade.specs.Shading.{IsShadedBy, ShadesAt};
 
 use acl_host::Day;
 use acl_packet::Family;
-use acl_sets::{Range, RangeSet};
+use acl_sets::Range;
 use acl_target::Target;
-use acl_terms::{Opt, Term, is_empty_in, is_live};
+use acl_terms::{Opt, Term, destination_in, foreign_of, is_empty_in, is_live, source_in};
 
 // ---- ports, types and options
 
@@ -69,34 +68,6 @@ fn option_covers(earlier: &Term, term: &Term) -> bool
 }
 
 // ---- addresses and protocols
-
-// The number of the other family's ICMP.
-fn foreign_of(family: Family) -> u8
-    ensures { result ≡ foreign_of family }
-{
-    match family {
-        Family::V4 => 58,
-        Family::V6 => 1,
-    }
-}
-
-fn source_in(family: Family, term: &Term) -> &RangeSet
-    ensures { result.now ≡ source_in family term.now }
-{
-    match family {
-        Family::V4 => &term.src4,
-        Family::V6 => &term.src6,
-    }
-}
-
-fn destination_in(family: Family, term: &Term) -> &RangeSet
-    ensures { result.now ≡ destination_in family term.now }
-{
-    match family {
-        Family::V4 => &term.dst4,
-        Family::V6 => &term.dst6,
-    }
-}
 
 fn source_within(family: Family, earlier: &Term, term: &Term) -> bool
     ensures { result ≡ lies_within (source_in family term.now) (source_in family earlier.now) }

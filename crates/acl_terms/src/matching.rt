@@ -70,8 +70,8 @@ fn passes(option: Opt, mode: Mode, dport_named: bool, packet: &Packet) -> bool
 
 // ---- sets
 
-// The number of the other family's ICMP.
-fn foreign_of(family: Family) -> u8
+/// The number of the other family's ICMP: 58 in IPv4, 1 in IPv6 (IANA, Protocol Numbers).
+pub fn foreign_of(family: Family) -> u8
     ensures { result ≡ foreign_of family }
 {
     match family {
@@ -80,7 +80,8 @@ fn foreign_of(family: Family) -> u8
     }
 }
 
-fn source_in(family: Family, term: &Term) -> &RangeSet
+/// The term's sources of the family.
+pub fn source_in(family: Family, term: &Term) -> &RangeSet
     ensures { result.now ≡ source_in family term.now }
 {
     match family {
@@ -89,7 +90,8 @@ fn source_in(family: Family, term: &Term) -> &RangeSet
     }
 }
 
-fn destination_in(family: Family, term: &Term) -> &RangeSet
+/// The term's destinations of the family.
+pub fn destination_in(family: Family, term: &Term) -> &RangeSet
     ensures { result.now ≡ destination_in family term.now }
 {
     match family {
