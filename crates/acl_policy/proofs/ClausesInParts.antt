@@ -1,11 +1,10 @@
 -- A clause may be judged in parts: its first words, where they are many, and then what is still open with the further
 -- ones.
-use Rattle.std.proofs.Common.{◌≡◌, ◌∙◌, ℕ, ℤ, suc, ◌+◌, ◌<◌, ◌≤◌, Bool, true, false, if◌then◌else◌, nat_le, List, [], ◌∷◌, ◌++◌, length, map, Option, None, Some, is_some, IfSome, option_and_then, Result, Ok, Err, refl, sym, subst, ap, arith, codes, append_assoc}
+use Rattle.std.proofs.Common.{◌≡◌, ◌∙◌, ℕ, ℤ, ◌+◌, ◌<◌, ◌≤◌, Bool, true, false, if◌then◌else◌, nat_le, List, [], ◌∷◌, ◌++◌, length, map, Option, None, Some, is_some, IfSome, option_and_then, Result, Ok, Err, refl, sym, subst, ap, arith, codes, append_assoc}
 use Rattle.std.specs.List.{list_any}
 use Rattle.std.specs.Str.{bytes_eq}
 use Rattle.std.proofs.lemmas.List.{map-append}
 use Rattle.acl_packet.specs.declared.addresses.Families.{Families}
-use Rattle.acl_packet.specs.declared.filtering.Hook.{Hook}
 use Rattle.acl_text.specs.declared.faults.Code.TheVariants as codes_of
 use Rattle.acl_text.specs.declared.faults.Slip.{Slip}
 use Rattle.acl_host.specs.NamedDays.{day_named}
@@ -18,7 +17,7 @@ use Rattle.acl_target.specs.declared.targets.Kind.TheVariants.{Cisco, Juniper, I
 use Rattle.acl_target.specs.Clashes.{clash}
 use Rattle.acl_policy.specs.declared.choices.Choices.{Choices}
 use Rattle.acl_policy.specs.declared.raw_terms.RawTerm.{RawTerm}
-use Rattle.acl_policy.specs.declared.raw_terms.Word.{Word}
+use Rattle.acl_words.specs.declared.word_lists.Word.{Word}
 use Rattle.acl_policy.specs.declared.states.Part.{Part}
 use Rattle.acl_policy.specs.declared.states.Part.TheVariants.{Start, Header, InHeader, HeaderEnd, Term, Named, InTerm, TermEnd}
 use Rattle.acl_policy.specs.declared.states.State.{State}
@@ -30,7 +29,7 @@ use Rattle.acl_policy.specs.JudgingSteps.{behind_open, if_keyword, still_open}
 use Rattle.acl_policy.specs.Policies.{most_targets, with_number, with_target, behind_target, behind_header_keyword, behind_word, behind_words, behind_keyword, behind_begin, behind_end, behind_mark}
 use Rattle.acl_policy.specs.Slips.{slip_of, slip_for, slip_with}
 use Rattle.acl_policy.specs.Targets.{is_word, or_slip, single_family, family_word, chain_word, hook_word, name_word, priority_word, no_choices, unless_some, with_policy, with_mark, with_families, with_priority, iptables_choice, nftables_choice, choice, choices_from, last_family, device_line, iptables_line, hooked_line, nftables_line, target_line}
-use Rattle.acl_policy.specs.Terms.{with_comment, with_comments, draft_with_comments, draft_with_owner, draft_with_action, draft_with_logging, draft_with_expiration, term_with_addresses, term_with_protocols, term_with_lists, draft_behind}
+use Rattle.acl_policy.specs.Terms.{with_comment, with_comments, draft_with_comments, term_with_addresses, term_with_protocols, term_with_lists, draft_behind}
 use Rattle.acl_policy.specs.Values.{is_value, word_of, all_values, some_values, words_with, one_value}
 use Rattle.acl_policy.proofs.Outcomes.{Has, bind_has, if_has, some_if, then_has}
 

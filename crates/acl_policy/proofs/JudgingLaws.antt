@@ -1,13 +1,13 @@
 -- What the words that come give behind those that a judge holds.
-use Rattle.std.proofs.Common.{◌≡◌, ◌∙◌, ℕ, ◌≤◌, Bool, true, false, if◌then◌else◌, List, [], ◌∷◌, ◌++◌, length, Option, None, Some, Result, Ok, Err, refl, sym, ap, append_assoc, append-nil}
-use Rattle.acl_text.specs.Answers.{Stops, Gives, Leaves, slip_told}
+use Rattle.std.proofs.Common.{◌≡◌, ◌∙◌, ◌≤◌, Bool, true, false, if◌then◌else◌, List, [], ◌∷◌, ◌++◌, length, Option, Some, Result, Ok, Err, refl, sym, ap, append_assoc, append-nil}
+use Rattle.acl_text.specs.Answers.{Stops, slip_told}
 use Rattle.acl_text.specs.declared.faults.Refusal.{Refusal}
 use Rattle.acl_text.specs.declared.faults.Refusal.TheVariants as refusals
 use Rattle.acl_text.specs.declared.faults.Slip.{Slip}
 use Rattle.acl_text.specs.Steps.{◌>>=◌}
 use Rattle.acl_words.specs.Tokens.{Token}
 use Rattle.acl_policy.specs.declared.states.State.{State}
-use Rattle.acl_policy.specs.JudgingSteps.{behind_open, still_open, rest_behind, Keeps}
+use Rattle.acl_policy.specs.JudgingSteps.{behind_open, still_open, rest_behind}
 use Rattle.acl_policy.specs.Policies.{is_mark, values_of, behind_mark, behind_marks}
 use Rattle.acl_policy.proofs.ClausesInParts.{open_in_parts}
 

@@ -1,7 +1,9 @@
 pub mod ClausesInParts
 pub mod JudgingLaws
+pub mod NameLaws
 pub mod Outcomes
 pub mod PolicyFit
 pub mod SlipPlaces
 pub mod TargetFit
 pub mod TermFit
+pub mod ValueLaws

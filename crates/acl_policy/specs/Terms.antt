@@ -5,7 +5,7 @@ use Rattle.acl_text.specs.declared.faults.Code.TheVariants.{Keyword, Repeated}
 use Rattle.acl_text.specs.declared.faults.Slip.{Slip}
 use Rattle.acl_words.specs.Tokens.{Token}
 use Rattle.acl_policy.specs.declared.term_drafts.Draft.{Draft}
-use Rattle.acl_policy.specs.declared.raw_terms.Word.{Word}
+use Rattle.acl_words.specs.declared.word_lists.Word.{Word}
 use Rattle.acl_policy.specs.declared.raw_terms.RawTerm.{RawTerm}
 use Rattle.acl_policy.specs.declared.values.Takes.TheVariants as takes
 use Rattle.acl_host.specs.NamedDays.{day_named}

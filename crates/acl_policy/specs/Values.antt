@@ -9,7 +9,7 @@ use Rattle.acl_text.specs.Names.{is_name}
 use Rattle.acl_words.specs.declared.forms.Form.{Form}
 use Rattle.acl_words.specs.declared.forms.Form.TheVariants.{Plain, Quoted}
 use Rattle.acl_words.specs.Tokens.{Token}
-use Rattle.acl_policy.specs.declared.raw_terms.Word.{Word}
+use Rattle.acl_words.specs.declared.word_lists.Word.{Word}
 use Rattle.acl_policy.specs.declared.values.Takes.{Takes}
 use Rattle.acl_policy.specs.declared.values.Takes.TheVariants as takes
 use Rattle.acl_host.specs.NamedDays.{day_named}
@@ -58,6 +58,12 @@ abbrev pub form_fits : Takes → Form → Bool
 form_fits takes.String form = is_quoted form
 form_fits takes.Any form = is_plain form || is_quoted form
 form_fits _ form = is_plain form
+
+-- A keyword that takes words, and neither strings nor anything.
+abbrev pub takes_words : Takes → Bool
+takes_words takes.String = false
+takes_words takes.Any = false
+takes_words _ = true
 
 abbrev pub is_value : Takes → Token → Bool
 is_value kind w = form_fits kind w.form && text_fits kind w.text

@@ -1,4 +1,4 @@
-ghost use Rattle.std.specs.Prelude.{◌≡◌, OnOk};
+ghost use Rattle.std.specs.Prelude.{◌≡◌, ◌+◌, ◌<◌, OnOk};
 ghost use Rattle.std.specs.List.{list_any};
 ghost use Rattle.std.specs.Str.{bytes_eq};
 ghost use Rattle.acl_text.specs.Answers.{Leaves, slip_told};
@@ -24,7 +24,7 @@ use crate::copies::copy_target;
 use crate::raw_terms::RawTerm;
 use crate::states::{Part, State};
 use crate::target_lines::{NamedTarget, read_target_line};
-use crate::term_drafts::{draft_of, no_draft};
+use crate::term_drafts::{Draft, draft_of, no_draft};
 use crate::terms::judge_term_keyword;
 use crate::values::{Takes, check_values, is_text, is_value, word_of};
 use crate::word_slips::{slip_at, slip_for, slip_with};
@@ -93,6 +93,19 @@ fn is_name_of(term: &RawTerm, name: &Token<'_>) -> bool
     term.name.text.as_slice() == name.text()
 }
 
+fn begin_term(state: &mut State, draft: Draft)
+    requires { state.old.term_count < 1024 }
+    ensures { state.new ≡ record state.old {
+      draft = draft;
+      term_count = state.old.term_count + 1;
+      part = Part.Named;
+    } }
+{
+    state.draft = draft;
+    state.term_count += 1;
+    state.part = Part::Named;
+}
+
 #[tactic(auto, unfolding(crate::specs::Policies::behind_name))]
 fn judge_name(alloc: Global, state: &mut State, word: &Token<'_>) -> Result<(), Refusal>
     ensures { Leaves slip_told state.new result (behind_name state.old word.now) }
@@ -106,9 +119,7 @@ fn judge_name(alloc: Global, state: &mut State, word: &Token<'_>) -> Result<(), 
     if state.term_count >= MOST_TERMS {
         return Err(Refusal::Slip(slip_at(alloc, Code::TooMany, word)?));
     }
-    state.draft = draft_of(alloc, word_of(alloc, word)?);
-    state.term_count += 1;
-    state.part = Part::Named;
+    begin_term(state, draft_of(alloc, word_of(alloc, word)?));
     Ok(())
 }
 

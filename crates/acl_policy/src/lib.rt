@@ -19,6 +19,7 @@ mod word_slips;
 
 pub use acl_splice::{GatherFault, Sources, gather, label};
 pub use acl_target::{Ending, Kind, Target, Targets, put_target};
+pub use acl_words::{Word, WordList, WordRef, WordsLeft};
 pub use blocks::{Block, Blocks, Policy};
 pub use policy_parsing::parse;
-pub use raw_terms::{RawTerm, RawTerms, Word, Words};
+pub use raw_terms::{RawTerm, RawTerms};

@@ -1,9 +1,9 @@
 ghost use Rattle.std.specs.Prelude.{◌≡◌, [], ◌++◌, IfOk, OnOk};
 ghost use Rattle.acl_policy.specs.Terms.{draft_of, no_draft, with_comment, with_comments};
 
-use crate::raw_terms::{RawTerm, Word};
-use acl_text::{Bytes, Items, Memory, Place};
-use acl_words::Token;
+use crate::raw_terms::RawTerm;
+use acl_text::{Bytes, Memory, Place};
+use acl_words::{Token, Word, WordList};
 use std::alloc::Global;
 
 /// A term whose braces are open, and what stood in it already.
@@ -28,19 +28,19 @@ pub(crate) fn draft_of(alloc: Global, name: Word) -> Draft
         name,
         comments: Bytes::new(alloc),
         action,
-        sources: Items::new(alloc),
-        source_excludes: Items::new(alloc),
-        destinations: Items::new(alloc),
-        destination_excludes: Items::new(alloc),
-        protocols: Items::new(alloc),
-        source_ports: Items::new(alloc),
-        destination_ports: Items::new(alloc),
-        icmp_types: Items::new(alloc),
-        options: Items::new(alloc),
+        sources: WordList::new(alloc),
+        source_excludes: WordList::new(alloc),
+        destinations: WordList::new(alloc),
+        destination_excludes: WordList::new(alloc),
+        protocols: WordList::new(alloc),
+        source_ports: WordList::new(alloc),
+        destination_ports: WordList::new(alloc),
+        icmp_types: WordList::new(alloc),
+        options: WordList::new(alloc),
         logging: false,
         expires: None,
-        platforms: Items::new(alloc),
-        not_platforms: Items::new(alloc),
+        platforms: WordList::new(alloc),
+        not_platforms: WordList::new(alloc),
     };
     Draft {
         term,

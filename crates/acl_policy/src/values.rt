@@ -1,4 +1,5 @@
-ghost use Rattle.std.specs.Prelude.{◌≡◌, ◌++◌, IfOk, OnOk, map};
+ghost use Rattle.std.specs.Prelude.{◌≡◌, ◌++◌, true, IfOk, OnOk, map};
+ghost use Rattle.std.specs.List.{All};
 ghost use Rattle.std.specs.Str.{bytes_eq};
 ghost use Rattle.acl_text.specs.Answers.{Gives, Leaves, slip_told};
 ghost use Rattle.acl_policy.specs.Values.{
@@ -10,6 +11,7 @@ ghost use Rattle.acl_policy.specs.Values.{
   is_quoted,
   text_fits,
   form_fits,
+  takes_words,
   is_value,
   word_of,
   all_values,
@@ -19,12 +21,11 @@ ghost use Rattle.acl_policy.specs.Values.{
 };
 
 use crate::clauses::Clause;
-use crate::raw_terms::{Word, Words};
 use crate::word_slips::{slip_at, slip_for};
 use acl_host::read_day;
 use acl_packet::{Family, icmp_number, protocol_number};
 use acl_text::{Bytes, Code, Memory, Refusal, is_name};
-use acl_words::{Form, Token};
+use acl_words::{Form, Token, Word, WordList};
 use std::alloc::Global;
 
 /// What the values of a keyword are.
@@ -157,27 +158,30 @@ pub(crate) fn check_values(alloc: Global, kind: Takes, clause: &Clause<'_>) -> R
     }
 }
 
-fn push_all(alloc: Global, words: &mut Words, values: &[Token<'_>]) -> Result<(), Memory>
+fn push_all(words: &mut WordList, values: &[Token<'_>]) -> Result<(), Memory>
+    requires { All (λ w. w.form ≡ Form.Plain) values.now }
     ensures { OnOk result (words.new ≡ words.old ++ map word_of values.now) }
 {
     for value in values {
-        words.push(word_of(alloc, value)?)?;
+        words.push(value.place(), value.text())?;
     }
     Ok(())
 }
 
-/// Adds the values of a keyword that takes any number of them.
+/// Adds the values of a keyword that takes any number of words.
+#[tactic(auto, using(crate::proofs::ValueLaws::some_plain))]
 pub(crate) fn push_values(
     alloc: Global,
     kind: Takes,
-    words: &mut Words,
+    words: &mut WordList,
     clause: &Clause<'_>,
 ) -> Result<(), Refusal>
+    requires { takes_words kind ≡ true }
     ensures { Leaves slip_told words.new result
         (words_with kind clause.now.keyword.now clause.now.values.now words.old) }
 {
     check_values(alloc, kind, clause)?;
-    push_all(alloc, words, clause.values)?;
+    push_all(words, clause.values)?;
     Ok(())
 }
 

@@ -1,8 +1,8 @@
 -- The sets of a term that are computed are its sets, and it has no others.
-use Rattle.std.proofs.Common.{◌≡◌, ◌≢◌, ◌⊎◌, ◌↔◌, ℕ, ◌+◌, ◌<◌, ◌≤◌, Bool, true, false, not, ◌&&◌, ◌||◌, nat_le, List, [], ◌∷◌, ◌++◌, length, map, Option, None, Some, inl, inr, refl, ap, sym, ◌∙◌, subst, arith}
+use Rattle.std.proofs.Common.{◌≡◌, ◌≢◌, ◌↔◌, ℕ, ◌≤◌, Bool, true, false, ◌&&◌, ◌||◌, nat_le, List, [], ◌∷◌, ◌++◌, map, Option, None, Some, inl, inr, refl, ap, sym, ◌∙◌, subst, arith}
 use Rattle.std.specs.Prelude.{flat_map, option_to_list}
-use Rattle.std.specs.List.{AllByRecursion, list_any}
-use Rattle.std.proofs.lemmas.Bool.{and_from, or_cases, or_left, or_right, both_ways, cases_lt, le-leb}
+use Rattle.std.specs.List.{AllByRecursion}
+use Rattle.std.proofs.lemmas.Bool.{or_cases, or_left, or_right, both_ways, cases_lt}
 use Rattle.std.proofs.lemmas.List.Folds.{list_any-append}
 use Rattle.acl_packet.specs.declared.addresses.Family.{Family}
 use Rattle.acl_packet.specs.declared.addresses.Family.TheVariants.{V4, V6}
@@ -10,20 +10,19 @@ use Rattle.acl_packet.specs.Addresses.{top_address}
 use Rattle.acl_packet.specs.NumberWords.{protocol_in}
 use Rattle.acl_sets.specs.declared.sets.Range.{Range}
 use Rattle.acl_sets.specs.Ranges.{Numbers, IsNormal, IsRange, holds, inside}
-use Rattle.acl_sets.specs.ComputableSets.{put_all, cut_all}
 use Rattle.acl_sets.proofs.ComputableSetLaws.{put_all-normal, put_all-holds, cut_all-normal, cut_all-holds}
 use Rattle.acl_sets.proofs.RangeLaws.{are_ranges, in_range, one_list, past_top}
 use Rattle.acl_text.proofs.ListLaws.{all_append}
 use Rattle.acl_policy.specs.declared.raw_terms.RawTerm.{RawTerm}
-use Rattle.acl_policy.specs.declared.raw_terms.Word.{Word}
+use Rattle.acl_words.specs.declared.word_lists.Word.{Word}
 use Rattle.acl_naming.specs.Definitions.{Naming}
 use Rattle.acl_naming.specs.Ports.{top_port}
 use Rattle.acl_naming.specs.Reach.{ReachesPort}
 use Rattle.acl_naming.proofs.ComputedReachLaws.{addresses_computed, ports_computed}
-use Rattle.acl_naming.specs.ComputableReach.{addresses_reached, ports_reached}
+use Rattle.acl_naming.specs.ComputableReach.{ports_reached}
 use Rattle.acl_terms.specs.ComputableTerms.{admitted, named, address_set, number_set, port_set, sets_of, word_addresses, word_numbers, word_ports}
 use Rattle.acl_terms.specs.Matching.{Admits, AnyOf, IsAddress, IsPort, NamesAddress, NamesPort, icmp_family, protocols_of, type_in}
-use Rattle.acl_terms.specs.Sets.{AreSetsOf, IsAddressSet, IsSetOf, Sets}
+use Rattle.acl_terms.specs.Sets.{AreSetsOf, IsSetOf, Sets}
 use Rattle.acl_terms.specs.SetSteps.{single}
 use Rattle.acl_terms.proofs.NumberLaws.{one-number, single-held}
 use Rattle.acl_terms.proofs.SetLaws.{less-set}

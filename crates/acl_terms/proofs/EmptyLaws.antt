@@ -1,5 +1,5 @@
 -- When a resolved term is empty in a family.
-use Rattle.std.proofs.Common.{◌≡◌, ◌⊎◌, ◌↔◌, ℕ, ◌+◌, ◌≤◌, Bool, true, false, not, ◌&&◌, ◌||◌, ◌==◌, List, [], ◌∷◌, length, inl, inr, refl, ap, sym, ◌∙◌, arith}
+use Rattle.std.proofs.Common.{◌≡◌, ◌↔◌, ℕ, ◌+◌, Bool, true, false, not, ◌&&◌, ◌||◌, ◌==◌, List, [], ◌∷◌, inl, inr, refl, arith}
 use Rattle.std.specs.List.{list_all}
 use Rattle.std.proofs.lemmas.Bool.{and_from, and_parts, or_cases, or_left, or_right, both_ways, false_from_ne_true, eqb-true, eq-eqb}
 use Rattle.acl_packet.specs.declared.addresses.Family.{Family}
@@ -11,7 +11,7 @@ use Rattle.acl_sets.proofs.ComputableSetLaws.{covers-holds}
 use Rattle.acl_terms.proofs.TestLaws.{true-not}
 use Rattle.acl_terms.specs.declared.terms.Term.{Term}
 use Rattle.acl_terms.specs.Matching.{foreign_of}
-use Rattle.acl_terms.specs.Resolved.{IsEmptyIn, destination_in, has_no_protocol, has_none, has_protocol, is_empty_in, is_just, source_in}
+use Rattle.acl_terms.specs.Resolved.{IsEmptyIn, destination_in, has_no_protocol, has_none, is_empty_in, is_just, source_in}
 use Rattle.acl_sets.specs.ComputableSets.{is_all}
 
 just-held : (k : ℕ) (rs : List Range) (x : ℕ) → list_all (is_just k) rs ≡ true → holds rs x ≡ true → x ≡ k

@@ -1,8 +1,10 @@
 pub mod ComputedLaws
+pub mod DistinctLaws
 pub mod EmptyLaws
 pub mod LifeLaws
 pub mod MatchLaws
 pub mod NumberLaws
+pub mod OnceLaws
 pub mod PolicyLaws
 pub mod PortLaws
 pub mod SetLaws

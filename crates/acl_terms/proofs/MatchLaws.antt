@@ -1,6 +1,6 @@
 -- A resolved term matches as the written one does.
-use Rattle.std.proofs.Common.{◌≡◌, ◌⊎◌, ◌↔◌, ℕ, ◌+◌, ◌-◌, ◌*◌, ◌^◌, ◌<◌, ◌≤◌, Bool, true, false, not, ◌&&◌, ◌||◌, ◌==◌, List, [], ◌∷◌, Some, inl, inr, refl, ap, sym, ◌∙◌, subst, arith}
-use Rattle.std.proofs.lemmas.Bool.{and_from, and_parts, or_cases, or_left, or_right, both_ways, false_from_ne_true}
+use Rattle.std.proofs.Common.{◌≡◌, ◌↔◌, ℕ, ◌^◌, ◌<◌, ◌≤◌, Bool, true, false, not, ◌&&◌, ◌||◌, ◌==◌, List, [], ◌∷◌, Some, refl, ap, sym, ◌∙◌, arith}
+use Rattle.std.proofs.lemmas.Bool.{and_from, and_parts, or_left, both_ways, false_from_ne_true}
 use Rattle.acl_packet.specs.declared.addresses.Family.{Family}
 use Rattle.acl_packet.specs.declared.addresses.Family.TheVariants.{V4, V6}
 use Rattle.acl_packet.specs.declared.packets.Packet.{Packet}
@@ -9,12 +9,12 @@ use Rattle.acl_packet.specs.NumberWords.{protocol_in}
 use Rattle.acl_packet.specs.Packets.{IsPacket}
 use Rattle.acl_sets.specs.Ranges.{Numbers, holds}
 use Rattle.acl_sets.proofs.ComputableSetLaws.{covers-holds}
-use Rattle.acl_policy.specs.declared.raw_terms.Word.{Word}
+use Rattle.acl_words.specs.declared.word_lists.Word.{Word}
 use Rattle.acl_policy.specs.declared.raw_terms.RawTerm.{RawTerm}
 use Rattle.acl_naming.specs.Definitions.{Naming}
 use Rattle.acl_terms.specs.declared.options.Mode.{Mode}
 use Rattle.acl_terms.specs.declared.terms.Term.{Term}
-use Rattle.acl_terms.specs.Matching.{Admits, IsAddress, IsPort, IsProtocol, IsProtocolIn, IsType, Matches, foreign_of, icmp_family, is_written, protocols_of}
+use Rattle.acl_terms.specs.Matching.{IsAddress, IsProtocol, IsProtocolIn, Matches, foreign_of, is_written, protocols_of}
 use Rattle.acl_terms.specs.Options.{option_of, passes}
 use Rattle.acl_terms.specs.Resolved.{IsResolved, destination_in, ends_match, has_protocol, matches, ports_match, sets_in, source_in}
 use Rattle.acl_terms.specs.Sets.{AreSetsOf, IsSetOf}

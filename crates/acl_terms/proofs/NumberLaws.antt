@@ -1,12 +1,12 @@
 -- Sets of the numbers of words.
-use Rattle.std.proofs.Common.{◌≡◌, ◌⊎◌, ◌↔◌, ℕ, ◌≤◌, Bool, true, false, ◌&&◌, ◌||◌, nat_le, List, [], ◌∷◌, ◌++◌, map, Option, None, Some, inl, inr, refl, ap, sym, ◌∙◌, subst, arith}
+use Rattle.std.proofs.Common.{◌≡◌, ◌↔◌, ℕ, true, false, List, [], ◌∷◌, map, Option, None, Some, inl, inr, refl, ap, sym, ◌∙◌, subst, arith}
 use Rattle.std.specs.Prelude.{flat_map, option_to_list, Result, Ok, Err, IfOk, length}
 use Rattle.std.proofs.lemmas.Bool.{or_cases, or_left, or_right, both_ways}
 use Rattle.std.proofs.lemmas.Option.{none-some, same_Some}
 use Rattle.acl_sets.specs.declared.sets.Range.{Range}
 use Rattle.acl_sets.specs.Ranges.{Numbers, IsNormal, holds, inside}
 use Rattle.acl_sets.proofs.RangeLaws.{ends_of, in_range}
-use Rattle.acl_policy.specs.declared.raw_terms.Word.{Word}
+use Rattle.acl_words.specs.declared.word_lists.Word.{Word}
 use Rattle.acl_terms.specs.Matching.{AnyOf, Admits}
 use Rattle.acl_terms.specs.Sets.{IsSetOf}
 use Rattle.acl_terms.specs.SetSteps.{single}
@@ -75,9 +75,9 @@ numbers-result ns top rs (Ok s) e t n exact = numbers-set ns top rs s e t n exac
 numbers-result ns top rs (Err d) e t n exact = tt
 
 pub words-result : {E : Type 0} (f : Word → Option ℕ) (ws : List Word) (ns : List ℕ) (top : ℕ) (r : Result Numbers E)
-    → 1 ≤ length ws → ns ≡ flat_map (λ w. option_to_list (f w)) ws
+    → (first : Word) (behind : List Word) → ws ≡ first ∷ behind → ns ≡ flat_map (λ w. option_to_list (f w)) ws
     → IfOk r (λ s. IsSetOf (λ x. AnyOf (λ n. n ≡ x) ns) top s)
     → IfOk r (λ s. IsSetOf (λ x. Admits (λ w. f w ≡ Some x) ws) top s)
-words-result f [] ns top (Ok s) l e h = absurd (omega arith)
-words-result f (w ∷ ws) ns top (Ok s) l e h = words-set f (w ∷ ws) ns top s e h
-words-result f ws ns top (Err d) l e h = tt
+words-result f [] ns top (Ok s) first behind is e h = absurd (omega (arith, ap length is))
+words-result f (w ∷ ws) ns top (Ok s) first behind is e h = words-set f (w ∷ ws) ns top s e h
+words-result f ws ns top (Err d) first behind is e h = tt

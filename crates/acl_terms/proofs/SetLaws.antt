@@ -1,5 +1,5 @@
 -- Sets that hold exactly the numbers of which a fact holds: union, difference, nothing and all.
-use Rattle.std.proofs.Common.{◌≡◌, ◌≢◌, ◌↔◌, ◌⊎◌, ℕ, ◌+◌, ◌<◌, ◌≤◌, Bool, true, false, not, ◌&&◌, ◌||◌, nat_le, List, [], ◌∷◌, ◌++◌, length, take, get_or, inl, inr, refl, ap, sym, ◌∙◌, arith}
+use Rattle.std.proofs.Common.{◌≡◌, ◌≢◌, ◌↔◌, ◌⊎◌, ℕ, ◌+◌, ◌<◌, ◌≤◌, true, false, not, ◌&&◌, ◌||◌, nat_le, List, [], ◌∷◌, ◌++◌, length, take, get_or, inl, inr, refl, ap, sym, ◌∙◌, arith}
 use Rattle.std.proofs.lemmas.Bool.{and_from, and_parts, or_cases, or_left, or_right, both_ways, false_from_ne_true, le-leb}
 use Rattle.std.proofs.lemmas.List.{take_more}
 use Rattle.acl_sets.specs.declared.sets.Range.{Range}
@@ -82,22 +82,6 @@ less-set P Q top s m u hs hm t n e = record {
   );
 }
 
-pub none-set : (top : ℕ) (s : Numbers) → s.top ≡ top → IsNormal 0 s.top s.ranges
-    → ((x : ℕ) → holds s.ranges x ≡ false) → IsSetOf (λ x. ⊥) top s
-none-set top s t n e = record {
-  top_is = t;
-  normal = n;
-  exact = λ x le. (λ h. both_ways (holds s.ranges x) (e x) h, λ b. absurd b);
-}
-
-pub all-set : (top : ℕ) (s : Numbers) → s.top ≡ top → IsNormal 0 s.top s.ranges
-    → ((x : ℕ) → holds s.ranges x ≡ nat_le x top) → IsSetOf (λ x. Unit {0}) top s
-all-set top s t n e = record {
-  top_is = t;
-  normal = n;
-  exact = λ x le. (λ h. tt, λ u. e x ∙ le-leb x top le);
-}
-
 -- The union with the set of the next item of a list.
 pub more-set : {A : Type 0} (P : ℕ → A → Type 0) (top : ℕ) (xs : List A) (i : ℕ) (a d : A)
     (s m u : Numbers) → i < length xs → a ≡ get_or xs i d
@@ -130,3 +114,58 @@ more-some top s m u normal some e = λ none.
     let p = holds-some m.top m.ranges normal some in
     both_ways false refl (sym (ap (λ rs. holds rs p.0) none) ∙ e p.0
     ∙ or_right (holds s.ranges p.0) (holds m.ranges p.0) p.2)
+
+-- ---- sets of what was given so far
+
+-- What the set holds and what is left make up, up to the top, the numbers of which the fact holds.
+pub record IsSetSoFar (P left : ℕ → Type 0) (top : ℕ) (s : Numbers) : Type 0 where
+  pub top_is : s.top ≡ top
+  pub normal : IsNormal 0 s.top s.ranges
+  pub exact : (x : ℕ) → x ≤ top → ((holds s.ranges x ≡ true) ⊎ left x) ↔ P x
+
+pub begun-set : (P left : ℕ → Type 0) (top : ℕ) (s : Numbers) → s.top ≡ top → IsNormal 0 s.top s.ranges
+    → ((x : ℕ) → holds s.ranges x ≡ false) → ((x : ℕ) → left x ↔ P x) → IsSetSoFar P left top s
+begun-set P left top s t n none same = record {
+  top_is = t;
+  normal = n;
+  exact = λ x le. let q = same x in (
+    λ a. elim a [ inl h ↦ absurd (both_ways (holds s.ranges x) (none x) h) | inr l ↦ q.0 l ],
+    λ p. inr (q.1 p),
+  );
+}
+
+-- The union with the set of the next item.
+pub next-set : (P Q left : ℕ → Type 0) (top : ℕ) (s m u : Numbers) → IsSetSoFar P (λ x. Q x ⊎ left x) top s
+    → IsSetOf Q top m → u.top ≡ s.top → IsNormal 0 u.top u.ranges
+    → ((x : ℕ) → holds u.ranges x ≡ (holds s.ranges x || holds m.ranges x)) → IsSetSoFar P left top u
+next-set P Q left top s m u hs hm t n e = record {
+  top_is = t ∙ hs.top_is;
+  normal = n;
+  exact = λ x le. let a = hs.exact x le in let b = hm.exact x le in (
+    λ h. elim h [
+      | inl k ↦ elim (or_cases (holds s.ranges x) (holds m.ranges x) (sym (e x) ∙ k)) [
+        | inl l ↦ a.0 (inl l)
+        | inr r ↦ a.0 (inr (inl (b.0 r)))
+      ]
+      | inr l ↦ a.0 (inr (inr l))
+    ],
+    λ p. elim (a.1 p) [
+      | inl k ↦ inl (e x ∙ or_left (holds s.ranges x) (holds m.ranges x) k)
+      | inr r ↦ elim r [
+        | inl q ↦ inl (e x ∙ or_right (holds s.ranges x) (holds m.ranges x) (b.1 q))
+        | inr l ↦ inr l
+      ]
+    ],
+  );
+}
+
+pub ended-set : (P left : ℕ → Type 0) (top : ℕ) (s : Numbers) → ((x : ℕ) → left x → ⊥)
+    → IsSetSoFar P left top s → IsSetOf P top s
+ended-set P left top s none h = record {
+  top_is = h.top_is;
+  normal = h.normal;
+  exact = λ x le. let a = h.exact x le in (
+    λ k. a.0 (inl k),
+    λ p. elim (a.1 p) [ inl k ↦ k | inr l ↦ absurd (none x l) ],
+  );
+}

@@ -1,13 +1,13 @@
 -- First answers of lists.
-use Rattle.std.proofs.Common.{◌≡◌, ℕ, ◌+◌, ◌<◌, ◌≤◌, Bool, true, false, not, ◌&&◌, ◌||◌, List, [], ◌∷◌, ◌++◌, length, drop, get_or, Option, None, Some, inl, inr, refl, ap, sym, ◌∙◌, subst, arith}
+use Rattle.std.proofs.Common.{◌≡◌, ℕ, ◌+◌, ◌<◌, Bool, true, false, List, [], ◌∷◌, ◌++◌, length, drop, get_or, Option, None, Some, refl, ap, sym, ◌∙◌}
 use Rattle.std.proofs.lemmas.List.{drop_more}
-use Rattle.std.specs.Prelude.{is_some, ◌≢◌, Result, Ok, Err}
+use Rattle.std.specs.Prelude.{is_some, ◌≢◌, Err}
 use Rattle.std.proofs.lemmas.Bool.{both_ways}
 use Rattle.acl_text.specs.declared.faults.Code.{Code}
 use Rattle.acl_text.specs.declared.faults.Slip.{Slip}
 use Rattle.acl_text.specs.declared.faults.Refusal.{Refusal}
 use Rattle.acl_text.specs.declared.faults.Refusal.TheVariants as refusals
-use Rattle.acl_policy.specs.declared.raw_terms.Word.{Word}
+use Rattle.acl_words.specs.declared.word_lists.Word.{Word}
 use Rattle.acl_policy.specs.declared.raw_terms.RawTerm.{RawTerm}
 use Rattle.acl_naming.specs.Definitions.{Definition}
 use Rattle.acl_naming.specs.Checking.{first_of, IsRefusal}
@@ -26,14 +26,6 @@ first-in-append question [] ys = refl
 first-in-append question (x ∷ xs) ys =
     ap (λ o. first_of (question x) o) (first-in-append question xs ys)
     ∙ sym (first-of-assoc (question x) (first_in question xs) (first_in question ys))
-
-pub slip-more : {A : Type 0} (question : A → Option Slip) (xs : List A) (i : ℕ) (x d : A)
-    → i < length xs → x ≡ get_or xs i d → question x ≡ None
-    → first_in question (drop i xs) ≡ first_in question xs
-    → first_in question (drop (i + 1) xs) ≡ first_in question xs
-slip-more question xs i x d within is none had =
-    sym (ap (λ o. first_of o (first_in question (drop (i + 1) xs))) (sym (ap question is) ∙ none))
-    ∙ sym (ap (first_in question) (drop_more xs i d within)) ∙ had
 
 pub networks_by_ends : (networks : List Definition) (t : RawTerm) → networks_slip networks t ≡ ends_slip networks t
 networks_by_ends networks t =

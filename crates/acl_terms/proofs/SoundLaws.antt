@@ -1,10 +1,9 @@
 -- The sets of a term without a slip fulfil what every term does.
-use Rattle.std.proofs.Common.{◌≡◌, ◌≢◌, ◌⊎◌, ◌↔◌, ℕ, ◌+◌, ◌<◌, ◌≤◌, Bool, true, false, cond, ◌&&◌, ◌||◌, ◌==◌, List, [], ◌∷◌, ◌++◌, Option, None, Some, inl, inr, refl, ap, sym, ◌∙◌, subst, arith}
-use Rattle.std.specs.Prelude.{flat_map, option_to_list, is_some, codes as codes_of}
+use Rattle.std.proofs.Common.{◌≡◌, ◌≢◌, ℕ, ◌≤◌, Bool, true, false, cond, List, [], ◌∷◌, Option, None, Some, inl, refl, ap, sym, ◌∙◌, arith}
+use Rattle.std.specs.Prelude.{is_some, codes as codes_of}
 use Rattle.std.specs.Str.{bytes_eq}
-use Rattle.std.specs.List.{list_all}
-use Rattle.std.proofs.lemmas.Bool.{both_ways, false_from_ne_true, cases_Bool}
-use Rattle.std.proofs.lemmas.Option.{none-some, same_Some}
+use Rattle.std.proofs.lemmas.Bool.{both_ways, false_from_ne_true}
+use Rattle.std.proofs.lemmas.Option.{none-some}
 use Rattle.acl_packet.specs.declared.addresses.Family.{Family}
 use Rattle.acl_packet.specs.declared.addresses.Family.TheVariants.{V4, V6}
 use Rattle.acl_packet.specs.declared.filtering.Verdict.{Verdict}
@@ -15,10 +14,10 @@ use Rattle.acl_text.specs.declared.faults.Code.{Code}
 use Rattle.acl_text.specs.declared.faults.Code.TheVariants as codes
 use Rattle.acl_text.specs.Names.{is_name}
 use Rattle.acl_sets.specs.declared.sets.Range.{Range}
-use Rattle.acl_sets.specs.Ranges.{Numbers, IsNormal, holds}
+use Rattle.acl_sets.specs.Ranges.{Numbers, holds}
 use Rattle.acl_sets.proofs.RangeLaws.{at_top}
 use Rattle.acl_sets.proofs.ComputableSetLaws.{holds-covers}
-use Rattle.acl_policy.specs.declared.raw_terms.Word.{Word}
+use Rattle.acl_words.specs.declared.word_lists.Word.{Word}
 use Rattle.acl_policy.specs.declared.raw_terms.RawTerm.{RawTerm}
 use Rattle.acl_naming.specs.Definitions.{Naming}
 use Rattle.acl_naming.specs.Ports.{top_port}
@@ -27,12 +26,12 @@ use Rattle.acl_terms.specs.declared.options.Opt.TheVariants.{Plain, Established,
 use Rattle.acl_terms.specs.Matching.{AnyOf, Admits, IsProtocol, IsType, NamesPort, only, is_number, icmp_family, type_in, protocols_of, is_written}
 use Rattle.acl_terms.specs.Options.{option_of, verdict_of}
 use Rattle.acl_terms.specs.Sets.{IsSetOf, Sets, AreSetsOf}
-use Rattle.acl_terms.specs.Slips.{unless, first_unless, first_in, slip_of, questions, first_some, type_slip, option_fits, verdict_fits, is_tcp_or_udp, port_words, networks_slip, port_protocol_slip, services_slip, words_slips, types_slip, clash_slip, option_slip, reset_slip}
+use Rattle.acl_terms.specs.Slips.{first_unless, first_in, slip_of, first_some, type_slip, option_fits, verdict_fits, is_tcp_or_udp, port_words, networks_slip, port_protocol_slip, services_slip, words_slips, types_slip, clash_slip, option_slip, reset_slip}
 use Rattle.acl_sets.specs.ComputableSets.{is_all}
 use Rattle.acl_sets.specs.Ranges.{Only}
 use Rattle.acl_terms.specs.Soundness.{IsSound, is_established, needs_tcp, is_reset, is_left}
 use Rattle.acl_text.specs.Notes.{is_note, note_of}
-use Rattle.acl_terms.proofs.WordLaws.{protocol-within, type-within, parts, passed, first-passed, none-more, left-some, right-some, some-only, only-all, any-passes, any-number}
+use Rattle.acl_terms.proofs.WordLaws.{protocol-within, type-within, parts, passed, first-passed, none-more, left-some, right-some, only-all, any-passes, any-number}
 
 -- ---- all numbers
 

@@ -1,5 +1,5 @@
 -- A written term is resolved in one way, and in some way where it has no slip.
-use Rattle.std.proofs.Common.{◌≡◌, ◌≢◌, ℕ, ◌≤◌, Bool, true, ◌&&◌, List, [], ◌∷◌, ◌++◌, Option, None, inl, inr, refl, ap, sym, ◌∙◌, subst}
+use Rattle.std.proofs.Common.{◌≡◌, ◌≢◌, ℕ, Bool, List, [], ◌∷◌, Option, None, inl, refl, ap, sym, ◌∙◌, subst}
 use Rattle.std.proofs.Props.{props}
 use Rattle.std.specs.List.{list_all}
 use Rattle.std.proofs.lemmas.Bool.{and_parts}
@@ -10,9 +10,8 @@ use Rattle.acl_text.specs.declared.faults.Place.{Place}
 use Rattle.acl_text.proofs.NoteLaws.{note_is_safe}
 use Rattle.acl_text.specs.Notes.{note_of}
 use Rattle.acl_host.specs.declared.clocks.Day.{Day}
-use Rattle.acl_sets.specs.Ranges.{holds}
 use Rattle.acl_policy.specs.declared.raw_terms.RawTerm.{RawTerm}
-use Rattle.acl_policy.specs.declared.raw_terms.Word.{Word}
+use Rattle.acl_words.specs.declared.word_lists.Word.{Word}
 use Rattle.acl_policy.specs.Conditions.{IsRawTerm}
 use Rattle.acl_naming.specs.Definitions.{Naming}
 use Rattle.acl_naming.specs.PortLaws.{PortsAreSome}
@@ -24,17 +23,17 @@ use Rattle.acl_terms.specs.declared.terms.Platforms.{Platforms}
 use Rattle.acl_terms.specs.declared.terms.Term.{Term}
 use Rattle.acl_terms.specs.ComputableTerms.{port_set, sets_of}
 use Rattle.acl_terms.specs.Living.{platforms_of, some_platforms}
-use Rattle.acl_terms.specs.Matching.{is_written, only, protocols_of}
+use Rattle.acl_terms.specs.Matching.{is_written, protocols_of}
 use Rattle.acl_terms.specs.Options.{option_of, verdict_of}
 use Rattle.acl_terms.specs.Resolved.{IsResolved, sets_in}
 use Rattle.acl_terms.specs.Sets.{AreSetsOf, Sets}
-use Rattle.acl_terms.specs.Slips.{first_in, first_unless, is_defined, port_words, reaches_protocol, service_slip, services_slip, slip_of, unless}
+use Rattle.acl_terms.specs.Slips.{first_in, is_defined, port_words, reaches_protocol, service_slip, slip_of, unless}
 use Rattle.acl_terms.specs.Soundness.{IsSound, normal-prop}
 use Rattle.acl_terms.proofs.ComputedLaws.{computed-sets, one-of-sets, port-is}
 use Rattle.acl_terms.proofs.PortLaws.{protocol-tested}
 use Rattle.acl_terms.proofs.SetLaws.{holds-some}
 use Rattle.acl_terms.proofs.SlipLaws.{first-in-append, ports-some}
-use Rattle.acl_terms.proofs.SoundLaws.{Passed, passes-all, some-range, sound}
+use Rattle.acl_terms.proofs.SoundLaws.{passes-all, some-range, sound}
 use Rattle.acl_terms.proofs.WordLaws.{left-some, none-more, parts, passed, right-some}
 
 -- ---- one term

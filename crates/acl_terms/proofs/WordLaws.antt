@@ -1,21 +1,20 @@
 -- What the numbers of words are, and what words have that pass all questions.
-use Rattle.std.proofs.Common.{◌≡◌, ◌≢◌, ◌⊎◌, ℕ, ◌+◌, ◌^◌, ◌<◌, ◌≤◌, Bool, true, false, ◌&&◌, nat_le, List, [], ◌∷◌, ◌++◌, Option, None, Some, inl, inr, refl, ap, sym, ◌∙◌, arith}
-use Rattle.std.specs.Prelude.{flat_map, option_to_list, is_some}
+use Rattle.std.proofs.Common.{◌≡◌, ◌≢◌, ℕ, ◌^◌, ◌<◌, ◌≤◌, Bool, true, false, ◌&&◌, nat_le, List, [], ◌∷◌, ◌++◌, Option, None, Some, inl, inr, refl, ap, sym, ◌∙◌, arith}
+use Rattle.std.specs.Prelude.{flat_map, option_to_list}
 use Rattle.std.specs.List.{list_all}
 use Rattle.std.specs.Str.{bytes_eq}
-use Rattle.std.proofs.lemmas.Bool.{and_from, and_parts, both_ways, le-leb, leb-true}
+use Rattle.std.proofs.lemmas.Bool.{and_parts, both_ways, leb-true}
 use Rattle.std.proofs.lemmas.Option.{none-some, same_Some}
 use Rattle.acl_packet.specs.declared.addresses.Family.{Family}
 use Rattle.acl_packet.specs.declared.addresses.Family.TheVariants.{V4, V6}
-use Rattle.acl_packet.specs.NumberWords.{Row, row_of, row_or_number, protocols, types_of, protocol_in, icmp_in, IsNumberWord}
+use Rattle.acl_packet.specs.NumberWords.{Row, row_of, row_or_number, protocols, types_of, protocol_in, icmp_in}
 use Rattle.acl_packet.proofs.ChoiceLaws.{chosen}
 use Rattle.acl_packet.proofs.NumberWordLaws.{word-some}
 use Rattle.acl_text.specs.declared.faults.Code.{Code}
-use Rattle.acl_text.specs.declared.faults.Slip.{Slip}
-use Rattle.acl_policy.specs.declared.raw_terms.Word.{Word}
+use Rattle.acl_words.specs.declared.word_lists.Word.{Word}
 use Rattle.acl_naming.specs.Checking.{first_of}
 use Rattle.acl_terms.specs.Matching.{AnyOf, only, type_in}
-use Rattle.acl_terms.specs.Slips.{unless, first_unless, first_in}
+use Rattle.acl_terms.specs.Slips.{unless, first_unless}
 
 -- ---- the numbers of words
 

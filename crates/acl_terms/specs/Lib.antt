@@ -1,4 +1,5 @@
 pub mod ComputableTerms
+pub mod DistinctSteps
 pub mod Living
 pub mod Matching
 pub mod Options

@@ -1,7 +1,6 @@
 -- What a policy does with a packet: the first live term that matches decides, else the ending of the target.
-use Rattle.std.specs.Prelude.{◌≡◌, ◌↔◌, ◌⊎◌, Bool, true, false, not, ◌&&◌, if◌then◌else◌, List, [], ◌∷◌, Option, None, Some}
+use Rattle.std.specs.Prelude.{◌≡◌, ◌↔◌, ◌⊎◌, Bool, true, ◌&&◌, if◌then◌else◌, List, [], ◌∷◌}
 use Rattle.std.specs.List.{AllZip}
-use Rattle.std.specs.Int.Signed.{lt_z}
 use Rattle.acl_packet.specs.declared.filtering.Outcome.{Outcome}
 use Rattle.acl_packet.specs.declared.filtering.Verdict.{Verdict}
 use Rattle.acl_packet.specs.declared.filtering.Verdict.TheVariants as verdicts

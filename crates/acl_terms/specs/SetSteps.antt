@@ -1,11 +1,11 @@
 -- What private functions give on the way to a term's sets.
-use Rattle.std.specs.Prelude.{◌≡◌, ℕ, List, Option, flat_map, option_to_list}
+use Rattle.std.specs.Prelude.{ℕ, List, Option, flat_map, option_to_list}
 use Rattle.acl_packet.specs.declared.addresses.Family.{Family}
 use Rattle.acl_sets.specs.declared.sets.Range.{Range}
 use Rattle.acl_text.specs.declared.faults.Code.TheVariants as codes
 use Rattle.acl_text.specs.declared.faults.Slip.{Slip}
 use Rattle.acl_policy.specs.declared.raw_terms.RawTerm.{RawTerm}
-use Rattle.acl_policy.specs.declared.raw_terms.Word.{Word}
+use Rattle.acl_words.specs.declared.word_lists.Word.{Word}
 use Rattle.acl_naming.specs.Checking.{first_of}
 use Rattle.acl_naming.specs.Definitions.{Definition}
 use Rattle.acl_terms.specs.Matching.{type_in}

@@ -1,5 +1,5 @@
 -- What every resolved term fulfils, whatever it was made from.
-use Rattle.std.specs.Prelude.{◌≡◌, ◌≢◌, ℕ, ◌≤◌, ◌+◌, Bool, true, false, ◌||◌, ◌==◌, List, [], ◌∷◌}
+use Rattle.std.specs.Prelude.{◌≡◌, ◌≢◌, ℕ, ◌+◌, Bool, true, false, List, [], ◌∷◌}
 use Rattle.std.proofs.Math.Bridge.{le_prop}
 use Rattle.acl_packet.specs.declared.addresses.Family.TheVariants.{V4, V6}
 use Rattle.acl_packet.specs.declared.filtering.Verdict.{Verdict}
@@ -12,7 +12,7 @@ use Rattle.acl_sets.specs.Ranges.{IsNormal, Numbers, Only, holds}
 use Rattle.acl_sets.specs.ComputableSets.{is_all}
 use Rattle.acl_naming.specs.Ports.{top_port}
 use Rattle.acl_terms.specs.declared.options.Opt.{Opt}
-use Rattle.acl_terms.specs.declared.options.Opt.TheVariants.{Plain, Established, TcpEstablished, TcpInitial, Rst}
+use Rattle.acl_terms.specs.declared.options.Opt.TheVariants.{Plain, Established}
 use Rattle.acl_terms.specs.Matching.{is_number}
 use Rattle.acl_terms.specs.Slips.{is_tcp_or_udp}
 use Rattle.acl_text.specs.Notes.{is_note}

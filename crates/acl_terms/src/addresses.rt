@@ -8,9 +8,10 @@ ghost use Rattle.acl_terms.specs.SetSteps.{ends_slip};
 ghost use Rattle.acl_terms.specs.Slips.{Judges, first_in, network_slip, networks_slip};
 
 use crate::checks::refusal_at;
+use crate::new_words::NewWords;
 use acl_naming::{Checked, Lookup, networks_of};
 use acl_packet::Family;
-use acl_policy::{RawTerm, Word};
+use acl_policy::{RawTerm, WordList, WordRef};
 use acl_sets::RangeSet;
 use acl_text::{Code, Refusal};
 use std::alloc::Global;
@@ -30,17 +31,17 @@ pub(crate) struct Ends {
 }
 
 // The addresses of the family that the word's name reaches.
-fn networks_at(
+fn networks_in(
     alloc: Global,
     base: &Checked,
     family: Family,
-    word: &Word,
+    word: &WordRef<'_>,
 ) -> Result<RangeSet, Refusal>
     ensures judged { Judges result (network_slip base.now.networks word.now) }
     ensures set { IfOk result (λ s. IsSetOf (λ x. NamesAddress base.now family x word.now)
         (top_address family) s) }
 {
-    match networks_of(alloc, base, family, word.text.as_slice()) {
+    match networks_of(alloc, base, family, word.text()) {
         Ok(set) => Ok(set),
         Err(Lookup::Unknown) => Err(refusal_at(alloc, Code::UnknownName, word)),
         Err(Lookup::Memory) => Err(Refusal::Memory),
@@ -48,61 +49,49 @@ fn networks_at(
     }
 }
 
-// The addresses that some of the words reach.
-fn named(alloc: Global, base: &Checked, family: Family, words: &[Word]) -> Result<RangeSet, Refusal>
+// The addresses that some of the words reach. A text that came before is not looked up again.
+fn named(alloc: Global, base: &Checked, words: &WordList) -> Result<Addresses, Refusal>
     ensures judged { Judges result (first_in (network_slip base.now.networks) words.now) }
-    ensures set { IfOk result (λ s. IsSetOf (λ x. AnyOf (NamesAddress base.now family x) words.now)
-        (top_address family) s) }
+    ensures v4 { IfOk result (λ a. IsSetOf (λ x. AnyOf (NamesAddress base.now V4 x) words.now)
+        (top_address V4) a.v4) }
+    ensures v6 { IfOk result (λ a. IsSetOf (λ x. AnyOf (NamesAddress base.now V6 x) words.now)
+        (top_address V6) a.v6) }
 {
-    let mut out = RangeSet::empty(alloc, family.top_address());
-    for word in words {
-        let more = networks_at(alloc, base, family, word)?;
-        out = out.union(alloc, &more)?;
+    let mut v4 = RangeSet::empty(alloc, Family::V4.top_address());
+    let mut v6 = RangeSet::empty(alloc, Family::V6.top_address());
+    let mut left = NewWords::new(alloc, words);
+    while let Some(word) = left.next()? {
+        let more4 = networks_in(alloc, base, Family::V4, &word)?;
+        v4 = v4.union(alloc, &more4)?;
+        let more6 = networks_in(alloc, base, Family::V6, &word)?;
+        v6 = v6.union(alloc, &more6)?;
     }
-    Ok(out)
+    Ok(Addresses { v4, v6 })
 }
 
 // The same, or all where no word is written.
-fn admitted(
-    alloc: Global,
-    base: &Checked,
-    family: Family,
-    words: &[Word],
-) -> Result<RangeSet, Refusal>
+fn admitted(alloc: Global, base: &Checked, words: &WordList) -> Result<Addresses, Refusal>
     ensures judged { Judges result (first_in (network_slip base.now.networks) words.now) }
-    ensures set { IfOk result (λ s. IsSetOf (λ x. Admits (NamesAddress base.now family x) words.now)
-        (top_address family) s) }
+    ensures v4 { IfOk result (λ a. IsSetOf (λ x. Admits (NamesAddress base.now V4 x) words.now)
+        (top_address V4) a.v4) }
+    ensures v6 { IfOk result (λ a. IsSetOf (λ x. Admits (NamesAddress base.now V6 x) words.now)
+        (top_address V6) a.v6) }
 {
-    match words {
-        [] => Ok(RangeSet::all(alloc, family.top_address())?),
-        [_, ..] => named(alloc, base, family, words),
+    match words.first() {
+        None => Ok(Addresses {
+            v4: RangeSet::all(alloc, Family::V4.top_address())?,
+            v6: RangeSet::all(alloc, Family::V6.top_address())?,
+        }),
+        Some(_) => named(alloc, base, words),
     }
 }
 
-// The addresses of an end in the family: those of the words, less the excluded ones.
-fn end_in(
-    alloc: Global,
-    base: &Checked,
-    family: Family,
-    words: &[Word],
-    excludes: &[Word],
-) -> Result<RangeSet, Refusal>
-    ensures judged { Judges result (first_of (first_in (network_slip base.now.networks) words.now)
-        (first_in (network_slip base.now.networks) excludes.now)) }
-    ensures set { IfOk result (λ s. IsSetOf (IsAddress base.now family words.now excludes.now)
-        (top_address family) s) }
-{
-    let taken = admitted(alloc, base, family, words)?;
-    let excluded = named(alloc, base, family, excludes)?;
-    Ok(taken.subtract(alloc, &excluded)?)
-}
-
-// The addresses of an end in both families.
+// The addresses of an end: those of the words, less the excluded ones.
 fn end_of(
     alloc: Global,
     base: &Checked,
-    words: &[Word],
-    excludes: &[Word],
+    words: &WordList,
+    excludes: &WordList,
 ) -> Result<Addresses, Refusal>
     ensures judged { Judges result (first_of (first_in (network_slip base.now.networks) words.now)
         (first_in (network_slip base.now.networks) excludes.now)) }
@@ -111,9 +100,12 @@ fn end_of(
     ensures v6 { IfOk result (λ a. IsSetOf (IsAddress base.now V6 words.now excludes.now)
         (top_address V6) a.v6) }
 {
-    let v4 = end_in(alloc, base, Family::V4, words, excludes)?;
-    let v6 = end_in(alloc, base, Family::V6, words, excludes)?;
-    Ok(Addresses { v4, v6 })
+    let taken = admitted(alloc, base, words)?;
+    let excluded = named(alloc, base, excludes)?;
+    Ok(Addresses {
+        v4: taken.v4.subtract(alloc, &excluded.v4)?,
+        v6: taken.v6.subtract(alloc, &excluded.v6)?,
+    })
 }
 
 // The addresses of a term's ends, end by end.
@@ -122,18 +114,8 @@ fn both_ends(alloc: Global, base: &Checked, raw: &RawTerm) -> Result<Ends, Refus
     ensures v4 { IfOk result (λ e. IsAddressSet base.now V4 raw.now e.src.v4 e.dst.v4) }
     ensures v6 { IfOk result (λ e. IsAddressSet base.now V6 raw.now e.src.v6 e.dst.v6) }
 {
-    let src = end_of(
-        alloc,
-        base,
-        raw.sources.as_slice(),
-        raw.source_excludes.as_slice(),
-    )?;
-    let dst = end_of(
-        alloc,
-        base,
-        raw.destinations.as_slice(),
-        raw.destination_excludes.as_slice(),
-    )?;
+    let src = end_of(alloc, base, &raw.sources, &raw.source_excludes)?;
+    let dst = end_of(alloc, base, &raw.destinations, &raw.destination_excludes)?;
     Ok(Ends { src, dst })
 }
 

@@ -27,25 +27,25 @@ ghost use Rattle.acl_terms.specs.Slips.{
 
 use crate::options::Opt;
 use acl_packet::{Family, Verdict, icmp_number};
-use acl_policy::{RawTerm, Word};
+use acl_policy::{RawTerm, WordList, WordRef, WordsLeft};
 use acl_text::{Bytes, Code, Refusal, Slip};
 use std::alloc::Global;
 
 /// The slip at the word, or want of memory for its text.
-pub(crate) fn refusal_at(alloc: Global, code: Code, word: &Word) -> Refusal
+pub(crate) fn refusal_at(alloc: Global, code: Code, word: &WordRef<'_>) -> Refusal
     ensures { IsRefusal (slip_at code word.now) result }
 {
-    match Bytes::from_slice(alloc, word.text.as_slice()) {
+    match Bytes::from_slice(alloc, word.text()) {
         Ok(text) => Refusal::Slip(Slip {
             code,
-            place: word.place,
+            place: word.place(),
             word: text,
         }),
         Err(_) => Refusal::Memory,
     }
 }
 
-fn check(alloc: Global, passed: bool, code: Code, word: &Word) -> Result<(), Refusal>
+fn check(alloc: Global, passed: bool, code: Code, word: &WordRef<'_>) -> Result<(), Refusal>
     ensures { Judges result (unless passed code word.now) }
 {
     if passed {
@@ -55,12 +55,12 @@ fn check(alloc: Global, passed: bool, code: Code, word: &Word) -> Result<(), Ref
     }
 }
 
-fn check_first(alloc: Global, passed: bool, code: Code, words: &[Word]) -> Result<(), Refusal>
+fn check_first(alloc: Global, passed: bool, code: Code, words: &WordList) -> Result<(), Refusal>
     ensures { Judges result (first_unless passed code words.now) }
 {
-    match words {
-        [] => Ok(()),
-        [first, ..] => check(alloc, passed, code, first),
+    match words.first() {
+        None => Ok(()),
+        Some(first) => check(alloc, passed, code, &first),
     }
 }
 
@@ -166,12 +166,12 @@ fn opt_named(text: &[u8]) -> Opt
 }
 
 /// The option of the words of `option::`.
-pub(crate) fn option_of(words: &[Word]) -> Opt
+pub(crate) fn option_of(words: &WordList) -> Opt
     ensures { result ≡ option_of words.now }
 {
-    match words {
-        [] => Opt::Plain,
-        [first, ..] => opt_named(first.text.as_slice()),
+    match words.first() {
+        None => Opt::Plain,
+        Some(first) => opt_named(first.text()),
     }
 }
 
@@ -211,36 +211,37 @@ fn verdict_fits(verdict: Verdict, protos: &[u8]) -> bool
     }
 }
 
-fn check_types(alloc: Global, family: Option<Family>, words: &[Word]) -> Result<(), Refusal>
+fn check_types(alloc: Global, family: Option<Family>, words: &WordList) -> Result<(), Refusal>
     ensures { Judges result (first_in (type_slip family) words.now) }
 {
-    for word in words {
-        let passed = is_type_in(family, word.text.as_slice());
-        check(alloc, passed, Code::IcmpProtocol, word)?;
+    for word in words.iter() {
+        let passed = is_type_in(family, word.text());
+        check(alloc, passed, Code::IcmpProtocol, &word)?;
     }
     Ok(())
 }
 
-fn check_same(alloc: Global, first: &Word, words: &[Word]) -> Result<(), Refusal>
-    ensures { Judges result (first_in (same_slip first.now) words.now) }
+fn check_same(alloc: Global, first: &WordRef<'_>, words: WordsLeft<'_>) -> Result<(), Refusal>
+    ensures { Judges result (first_in (same_slip first.now) words.entry) }
 {
     for word in words {
-        let passed = word.text.as_slice() == first.text.as_slice();
-        check(alloc, passed, Code::OptionClash, word)?;
+        let passed = word.text() == first.text();
+        check(alloc, passed, Code::OptionClash, &word)?;
     }
     Ok(())
 }
 
-fn check_clash(alloc: Global, words: &[Word]) -> Result<(), Refusal>
+fn check_clash(alloc: Global, words: &WordList) -> Result<(), Refusal>
     ensures { Judges result (clash_slip words.now) }
 {
-    match words {
-        [] => Ok(()),
-        [first, rest @ ..] => check_same(alloc, first, rest),
+    let mut left = words.iter();
+    match left.next() {
+        None => Ok(()),
+        Some(first) => check_same(alloc, &first, left),
     }
 }
 
-fn check_option(alloc: Global, protos: &[u8], words: &[Word]) -> Result<(), Refusal>
+fn check_option(alloc: Global, protos: &[u8], words: &WordList) -> Result<(), Refusal>
     ensures { Judges result (option_slip protos.now words.now) }
 {
     check_first(
@@ -251,10 +252,10 @@ fn check_option(alloc: Global, protos: &[u8], words: &[Word]) -> Result<(), Refu
     )
 }
 
-fn check_reset(alloc: Global, protos: &[u8], word: &Word) -> Result<(), Refusal>
+fn check_reset(alloc: Global, protos: &[u8], word: &WordRef<'_>) -> Result<(), Refusal>
     ensures { Judges result (reset_slip protos.now word.now) }
 {
-    let verdict = verdict_of(word.text.as_slice());
+    let verdict = verdict_of(word.text());
     check(
         alloc,
         verdict_fits(verdict, protos),
@@ -267,16 +268,16 @@ fn check_reset(alloc: Global, protos: &[u8], word: &Word) -> Result<(), Refusal>
 pub(crate) fn check_port_protocol(
     alloc: Global,
     protos: &[u8],
-    sources: &[Word],
-    destinations: &[Word],
+    sources: &WordList,
+    destinations: &WordList,
 ) -> Result<(), Refusal>
     ensures { Judges result (first_unless (only has_ports protos.now) codes.PortProtocol
         (sources.now ++ destinations.now)) }
 {
     let passed = only_ports(protos);
-    match sources {
-        [] => check_first(alloc, passed, Code::PortProtocol, destinations),
-        [_, ..] => check_first(alloc, passed, Code::PortProtocol, sources),
+    match sources.first() {
+        None => check_first(alloc, passed, Code::PortProtocol, destinations),
+        Some(_) => check_first(alloc, passed, Code::PortProtocol, sources),
     }
 }
 
@@ -284,8 +285,8 @@ pub(crate) fn check_port_protocol(
 pub(crate) fn check_words(alloc: Global, protos: &[u8], raw: &RawTerm) -> Result<(), Refusal>
     ensures { Judges result (first_some (words_slips protos.now raw.now)) }
 {
-    check_types(alloc, icmp_family(protos), raw.icmp_types.as_slice())?;
-    check_clash(alloc, raw.options.as_slice())?;
-    check_option(alloc, protos, raw.options.as_slice())?;
-    check_reset(alloc, protos, &raw.action)
+    check_types(alloc, icmp_family(protos), &raw.icmp_types)?;
+    check_clash(alloc, &raw.options)?;
+    check_option(alloc, protos, &raw.options)?;
+    check_reset(alloc, protos, &raw.action.borrowed())
 }

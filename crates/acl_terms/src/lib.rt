@@ -3,9 +3,11 @@
 
 mod addresses;
 mod checks;
+mod distinct;
 mod laws;
 mod living;
 mod matching;
+mod new_words;
 mod options;
 mod ports;
 mod protocols;

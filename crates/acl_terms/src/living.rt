@@ -6,7 +6,7 @@ ghost use Rattle.acl_terms.specs.Resolved.{IsTermLive, is_term_live, is_unexpire
 
 use crate::terms::{Platforms, Term};
 use acl_host::Day;
-use acl_policy::Word;
+use acl_policy::WordList;
 use acl_target::Kind;
 
 // ---- platforms by their words
@@ -22,15 +22,20 @@ fn platform_name(kind: Kind) -> &'static [u8]
     }
 }
 
-fn names_platform(kind: Kind, words: &[Word]) -> bool
+fn names_platform(kind: Kind, words: &WordList) -> bool
     ensures { result ≡ names_platform kind words.now }
 {
     let name = platform_name(kind);
-    words.iter().any(|w| w.text.as_slice() == name)
+    for word in words.iter() {
+        if word.text() == name {
+            return true;
+        }
+    }
+    false
 }
 
 /// The platforms that the words name.
-pub(crate) fn platforms_of(words: &[Word]) -> Platforms
+pub(crate) fn platforms_of(words: &WordList) -> Platforms
     ensures { result ≡ platforms_of words.now }
 {
     Platforms {
@@ -42,12 +47,12 @@ pub(crate) fn platforms_of(words: &[Word]) -> Platforms
 }
 
 /// The same, or none where no word is written.
-pub(crate) fn some_platforms(words: &[Word]) -> Option<Platforms>
+pub(crate) fn some_platforms(words: &WordList) -> Option<Platforms>
     ensures { result ≡ some_platforms words.now }
 {
-    match words {
-        [] => None,
-        [_, ..] => Some(platforms_of(words)),
+    match words.first() {
+        None => None,
+        Some(_) => Some(platforms_of(words)),
     }
 }
 

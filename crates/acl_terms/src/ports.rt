@@ -7,8 +7,10 @@ ghost use Rattle.acl_terms.specs.SetSteps.{both_ports_slip, protocol_slip};
 ghost use Rattle.acl_terms.specs.Slips.{Judges, first_in, port_words, service_slip, services_slip};
 
 use crate::checks::refusal_at;
+use crate::distinct::distinct;
+use crate::new_words::NewWords;
 use acl_naming::{Checked, Lookup, ports_of};
-use acl_policy::{RawTerm, Word};
+use acl_policy::{RawTerm, WordList, WordRef};
 use acl_sets::RangeSet;
 use acl_text::{Code, Refusal};
 use std::alloc::Global;
@@ -24,13 +26,18 @@ pub(crate) struct TermPorts {
 }
 
 // The ports that the word's name reaches with the protocol.
-fn ports_at(alloc: Global, base: &Checked, proto: u8, word: &Word) -> Result<RangeSet, Refusal>
+fn ports_at(
+    alloc: Global,
+    base: &Checked,
+    proto: u8,
+    word: &WordRef<'_>,
+) -> Result<RangeSet, Refusal>
     ensures judged { Judges result (protocol_slip base.now.services proto word.now) }
     ensures set { IfOk result (λ s.
         IsSetOf (ReachesPort base.now.services word.now.text proto) top_port s) }
     ensures some { IfOk result (λ s. s.ranges ≢ []) }
 {
-    match ports_of(alloc, base, proto, word.text.as_slice()) {
+    match ports_of(alloc, base, proto, word.text()) {
         Ok(set) => Ok(set),
         Err(Lookup::Unknown) => Err(refusal_at(alloc, Code::UnknownName, word)),
         Err(Lookup::NoPort) => Err(refusal_at(alloc, Code::NoPortForProtocol, word)),
@@ -39,7 +46,12 @@ fn ports_at(alloc: Global, base: &Checked, proto: u8, word: &Word) -> Result<Ran
 }
 
 // The ports that it reaches with some of the protocols.
-fn ports_by(alloc: Global, base: &Checked, protos: &[u8], word: &Word) -> Result<RangeSet, Refusal>
+fn ports_by(
+    alloc: Global,
+    base: &Checked,
+    protos: &[u8],
+    word: &WordRef<'_>,
+) -> Result<RangeSet, Refusal>
     requires { protos.now ≢ [] }
     ensures judged { Judges result (service_slip base.now.services protos.now word.now) }
     ensures set { IfOk result (λ s.
@@ -54,8 +66,13 @@ fn ports_by(alloc: Global, base: &Checked, protos: &[u8], word: &Word) -> Result
     Ok(out)
 }
 
-// The ports that some of the words reach.
-fn named(alloc: Global, base: &Checked, protos: &[u8], words: &[Word]) -> Result<RangeSet, Refusal>
+// The ports that some of the words reach. A text that came before is not looked up again.
+fn named(
+    alloc: Global,
+    base: &Checked,
+    protos: &[u8],
+    words: &WordList,
+) -> Result<RangeSet, Refusal>
     requires { protos.now ≢ [] }
     ensures judged { Judges result
         (first_in (service_slip base.now.services protos.now) words.now) }
@@ -64,8 +81,9 @@ fn named(alloc: Global, base: &Checked, protos: &[u8], words: &[Word]) -> Result
     ensures some { IfOk result (λ s. words.now ≢ [] → s.ranges ≢ []) }
 {
     let mut out = RangeSet::empty(alloc, TOP);
-    for word in words {
-        let more = ports_by(alloc, base, protos, word)?;
+    let mut left = NewWords::new(alloc, words);
+    while let Some(word) = left.next()? {
+        let more = ports_by(alloc, base, protos, &word)?;
         out = out.union(alloc, &more)?;
     }
     Ok(out)
@@ -76,7 +94,7 @@ fn admitted(
     alloc: Global,
     base: &Checked,
     protos: &[u8],
-    words: &[Word],
+    words: &WordList,
 ) -> Result<RangeSet, Refusal>
     requires { words.now ≢ [] → protos.now ≢ [] }
     ensures judged { Judges result
@@ -84,9 +102,9 @@ fn admitted(
     ensures set { IfOk result (λ s. IsSetOf (IsPort base.now protos.now words.now) top_port s) }
     ensures some { IfOk result (λ s. s.ranges ≢ []) }
 {
-    match words {
-        [] => Ok(RangeSet::all(alloc, TOP)?),
-        [_, ..] => named(alloc, base, protos, words),
+    match words.first() {
+        None => Ok(RangeSet::all(alloc, TOP)?),
+        Some(_) => named(alloc, base, protos, words),
     }
 }
 
@@ -106,8 +124,8 @@ fn both_ports(
     ensures some_sports { IfOk result (λ p. p.sports.ranges ≢ []) }
     ensures some_dports { IfOk result (λ p. p.dports.ranges ≢ []) }
 {
-    let sports = admitted(alloc, base, protos, raw.source_ports.as_slice())?;
-    let dports = admitted(alloc, base, protos, raw.destination_ports.as_slice())?;
+    let sports = admitted(alloc, base, protos, &raw.source_ports)?;
+    let dports = admitted(alloc, base, protos, &raw.destination_ports)?;
     Ok(TermPorts { sports, dports })
 }
 
@@ -129,5 +147,6 @@ pub(crate) fn ports_of_term(
     ensures some_sports { IfOk result (λ p. p.sports.ranges ≢ []) }
     ensures some_dports { IfOk result (λ p. p.dports.ranges ≢ []) }
 {
-    both_ports(alloc, base, protos, raw)
+    let protos = distinct(alloc, protos)?;
+    both_ports(alloc, base, &protos, raw)
 }

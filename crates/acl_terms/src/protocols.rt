@@ -6,8 +6,9 @@ ghost use Rattle.acl_terms.specs.Sets.{IsSetOf};
 ghost use Rattle.acl_terms.specs.SetSteps.{single, types_of};
 
 use crate::checks::type_in;
+use crate::distinct::distinct;
 use acl_packet::{Family, protocol_number};
-use acl_policy::Word;
+use acl_policy::WordList;
 use acl_sets::{Range, RangeSet};
 use acl_text::Memory;
 use std::alloc::Global;
@@ -25,22 +26,22 @@ fn push_some(out: &mut Vec<u8>, number: Option<u8>) -> Result<(), Memory>
 }
 
 /// The numbers of the words of `protocol::`.
-pub(crate) fn protocols_of(alloc: Global, words: &[Word]) -> Result<Vec<u8>, Memory>
+pub(crate) fn protocols_of(alloc: Global, words: &WordList) -> Result<Vec<u8>, Memory>
     ensures { IfOk result (λ v. v.items ≡ protocols_of words.now) }
 {
     let mut out = Vec::new(alloc);
-    for word in words {
-        push_some(&mut out, protocol_number(word.text.as_slice()))?;
+    for word in words.iter() {
+        push_some(&mut out, protocol_number(word.text()))?;
     }
     Ok(out)
 }
 
-fn types_of(alloc: Global, family: Option<Family>, words: &[Word]) -> Result<Vec<u8>, Memory>
+fn types_of(alloc: Global, family: Option<Family>, words: &WordList) -> Result<Vec<u8>, Memory>
     ensures { IfOk result (λ v. v.items ≡ types_of family words.now) }
 {
     let mut out = Vec::new(alloc);
-    for word in words {
-        push_some(&mut out, type_in(family, word.text.as_slice()))?;
+    for word in words.iter() {
+        push_some(&mut out, type_in(family, word.text()))?;
     }
     Ok(out)
 }
@@ -64,22 +65,23 @@ fn singles(alloc: Global, numbers: &[u8]) -> Result<Vec<Range>, Memory>
 fn numbers_in(alloc: Global, numbers: &[u8]) -> Result<RangeSet, Memory>
     ensures { IfOk result (λ s. IsSetOf (λ x. AnyOf (λ n. n ≡ x) numbers.now) TOP s) }
 {
-    let ranges = singles(alloc, numbers)?;
+    let numbers = distinct(alloc, numbers)?;
+    let ranges = singles(alloc, &numbers)?;
     RangeSet::from_ranges(alloc, TOP, &ranges)
 }
 
 /// The protocols of a term: all where no word is written.
 pub(crate) fn admitted_protocols(
     alloc: Global,
-    words: &[Word],
+    words: &WordList,
     protos: &[u8],
 ) -> Result<RangeSet, Memory>
     requires { protos.now ≡ protocols_of words.now }
     ensures { IfOk result (λ s. IsSetOf (IsProtocol words.now) TOP s) }
 {
-    match words {
-        [] => RangeSet::all(alloc, TOP),
-        [_, ..] => numbers_in(alloc, protos),
+    match words.first() {
+        None => RangeSet::all(alloc, TOP),
+        Some(_) => numbers_in(alloc, protos),
     }
 }
 
@@ -87,13 +89,13 @@ pub(crate) fn admitted_protocols(
 pub(crate) fn admitted_types(
     alloc: Global,
     family: Option<Family>,
-    words: &[Word],
+    words: &WordList,
 ) -> Result<RangeSet, Memory>
     ensures { IfOk result (λ s. IsSetOf (IsType family words.now) TOP s) }
 {
-    match words {
-        [] => RangeSet::all(alloc, TOP),
-        [_, ..] => {
+    match words.first() {
+        None => RangeSet::all(alloc, TOP),
+        Some(_) => {
             let numbers = types_of(alloc, family, words)?;
             numbers_in(alloc, &numbers)
         }

@@ -13,7 +13,7 @@ use crate::ports::{TermPorts, ports_of_term};
 use crate::protocols::{admitted_protocols, admitted_types, protocols_of};
 use crate::terms::Term;
 use acl_naming::Checked;
-use acl_policy::{RawTerm, Word};
+use acl_policy::{RawTerm, WordList};
 use acl_sets::RangeSet;
 use acl_text::{Bytes, Refusal, note};
 use std::alloc::Global;
@@ -42,31 +42,26 @@ fn parts_of(alloc: Global, base: &Checked, raw: &RawTerm) -> Result<Parts, Refus
       itypes = p.itypes;
     })) }
 {
-    let protos = protocols_of(alloc, raw.protocols.as_slice())?;
+    let protos = protocols_of(alloc, &raw.protocols)?;
     let ends = ends_of(alloc, base, raw)?;
-    check_port_protocol(
-        alloc,
-        &protos,
-        raw.source_ports.as_slice(),
-        raw.destination_ports.as_slice(),
-    )?;
+    check_port_protocol(alloc, &protos, &raw.source_ports, &raw.destination_ports)?;
     let ports = ports_of_term(alloc, base, &protos, raw)?;
     check_words(alloc, &protos, raw)?;
     let family = icmp_family(&protos);
     Ok(Parts {
         ends,
-        protos: admitted_protocols(alloc, raw.protocols.as_slice(), &protos)?,
+        protos: admitted_protocols(alloc, &raw.protocols, &protos)?,
         ports,
-        itypes: admitted_types(alloc, family, raw.icmp_types.as_slice())?,
+        itypes: admitted_types(alloc, family, &raw.icmp_types)?,
     })
 }
 
-fn is_written(words: &[Word]) -> bool
+fn is_written(words: &WordList) -> bool
     ensures { result ≡ is_written words.now }
 {
-    match words {
-        [] => false,
-        [_, ..] => true,
+    match words.first() {
+        None => false,
+        Some(_) => true,
     }
 }
 
@@ -104,13 +99,13 @@ pub fn resolve(alloc: Global, base: &Checked, raw: &RawTerm) -> Result<Term, Ref
         protos,
         sports,
         dports,
-        dport_named: is_written(raw.destination_ports.as_slice()),
+        dport_named: is_written(&raw.destination_ports),
         itypes,
-        option: option_of(raw.options.as_slice()),
+        option: option_of(&raw.options),
         verdict: verdict_of(raw.action.text.as_slice()),
         log: raw.logging,
         expires: raw.expires,
-        only: some_platforms(raw.platforms.as_slice()),
-        never: platforms_of(raw.not_platforms.as_slice()),
+        only: some_platforms(&raw.platforms),
+        never: platforms_of(&raw.not_platforms),
     })
 }

@@ -1,2 +1,5 @@
 pub mod PlaceLaws
 pub mod ReadingLaws
+pub mod RunLaws
+pub mod StepLaws
+pub mod WordTextLaws

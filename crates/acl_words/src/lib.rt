@@ -2,12 +2,15 @@
 #![tactic(auto)]
 
 mod forms;
+mod place_lists;
 mod places;
 mod policy_words;
 mod runs;
 mod scanning;
 mod tokens;
+mod word_lists;
 
 pub use forms::Form;
 pub use policy_words::Words;
 pub use tokens::Token;
+pub use word_lists::{Word, WordList, WordRef, WordsLeft};

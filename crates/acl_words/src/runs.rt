@@ -46,6 +46,7 @@ fn ends_in_colon(text: &[u8]) -> bool
 }
 
 /// The word of a part of a run.
+#[tactic(auto, using(crate::proofs::RunLaws::printed_is_run))]
 pub(crate) fn part_word<'a>(place: Place, form: Form, text: &'a [u8]) -> Token<'a>
     ensures { result ≡ part_word place form text.now }
 {

@@ -3,6 +3,7 @@ ghost use Rattle.acl_lines.specs.Stretches.{places_of};
 ghost use Rattle.acl_words.specs.Bytes.{in_run};
 ghost use Rattle.acl_words.specs.ReadingSteps.{is_blank, reached, words_on};
 ghost use Rattle.acl_words.specs.ScanSteps.{words_left};
+ghost use Rattle.acl_words.specs.Tokens.{IsRun};
 ghost use Rattle.acl_words.specs.Words.{Between, word};
 
 use crate::forms::Form;
@@ -65,7 +66,8 @@ impl<'a> Scan<'a> {
 
     /// The word of one byte.
     fn byte_word(&mut self, form: Form, behind: &'a [u8]) -> Token<'a>
-        requires { 0 < length self.old.rest.now }
+        requires some { 0 < length self.old.rest.now }
+        requires run { IsRun form (take 1 self.old.rest.now) }
         ensures word { result ≡ word self.old.places.place form (take 1 self.old.rest.now) }
         ensures rest { self.new.rest.now ≡ behind.now }
         ensures places { self.new.places ≡ self.old.places }

@@ -1,4 +1,5 @@
 ghost use Rattle.std.specs.Prelude.{◌≡◌};
+ghost use Rattle.acl_words.specs.Tokens.{IsRun};
 ghost use Rattle.acl_words.specs.Words.{word};
 
 use crate::forms::Form;
@@ -19,10 +20,13 @@ impl<'a> Model for Token<'a> {
     ghost Value = { spec.Token };
 
     ghost view = { λ t. record { place = t.place; form = t.form; text = t.text.now } };
+
+    ghost invariant = { λ t. spec.IsRun t.form t.text.now };
 }
 
 impl<'a> Token<'a> {
     pub(crate) fn new(place: Place, form: Form, text: &'a [u8]) -> Token<'a>
+        requires { IsRun form text.now }
         ensures { result ≡ word place form text.now }
     {
         Token { place, form, text }
@@ -42,7 +46,8 @@ impl<'a> Token<'a> {
     }
 
     pub fn text(&self) -> &'a [u8]
-        ensures { result.now ≡ self.now.text }
+        ensures exact { result.now ≡ self.now.text }
+        ensures run { IsRun self.now.form self.now.text }
     {
         self.text
     }

@@ -13,7 +13,7 @@ use Rattle.acl_host.specs.DaySteps.{date_text}
 use Rattle.acl_policy.specs.ValueKinds.{Takes}
 use Rattle.acl_policy.specs.ValueKinds as takes
 use Rattle.acl_policy.specs.declared.raw_terms.RawTerm.{RawTerm}
-use Rattle.acl_policy.specs.declared.raw_terms.Word.{Word}
+use Rattle.acl_words.specs.declared.word_lists.Word.{Word}
 use Rattle.acl_policy.specs.Conditions.{Each, lists_of, IsRawTerm}
 use Rattle.acl_policy.specs.Values.{is_value, word_of, text_fits}
 use Rattle.policy_grammar.specs.TermTexts.{Key, takes_of, stands_once, same_key, Item, values_at, comment_text, some_word, day_meant, term_from, ItemStands, TermText, term_meant, TermStands}

@@ -16,7 +16,7 @@ use Rattle.acl_target.specs.TargetTexts.{families_text}
 use Rattle.acl_policy.specs.ValueKinds.{Takes}
 use Rattle.acl_policy.specs.declared.blocks.Block.{Block}
 use Rattle.acl_policy.specs.declared.raw_terms.RawTerm.{RawTerm}
-use Rattle.acl_policy.specs.declared.raw_terms.Word.{Word}
+use Rattle.acl_words.specs.declared.word_lists.Word.{Word}
 use Rattle.acl_policy.specs.Conditions.{Each, terms_of}
 use Rattle.acl_policy.specs.Values.{is_value, form_fits}
 use Rattle.policy_grammar.specs.TargetTexts.{Choice, choice_text, SaysNew, IsIptablesWord, IsNftablesWord, LineText, family_words, choice_words, line_values, LineStands}

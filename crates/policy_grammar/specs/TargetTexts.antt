@@ -29,7 +29,7 @@ use Rattle.acl_target.specs.declared.targets.Target.{Target}
 use Rattle.acl_target.specs.Clashes.{is_mixed}
 use Rattle.acl_target.specs.TargetData.{chain_text, hook_text}
 use Rattle.acl_target.specs.TargetTexts.{kind_text, families_text}
-use Rattle.acl_policy.specs.declared.raw_terms.Word.{Word}
+use Rattle.acl_words.specs.declared.word_lists.Word.{Word}
 use Rattle.acl_policy.specs.Conditions.{Each}
 
 abbrev pub plain : Place → List ℕ → Token

@@ -14,7 +14,7 @@ use Rattle.acl_words.specs.Words.{word}
 use Rattle.acl_host.specs.declared.clocks.Day.{Day}
 use Rattle.acl_host.specs.NamedDays.{day_named}
 use Rattle.acl_policy.specs.declared.raw_terms.RawTerm.{RawTerm}
-use Rattle.acl_policy.specs.declared.raw_terms.Word.{Word}
+use Rattle.acl_words.specs.declared.word_lists.Word.{Word}
 use Rattle.acl_policy.specs.ValueKinds.{Takes}
 use Rattle.acl_policy.specs.ValueKinds as takes
 use Rattle.acl_policy.specs.Conditions.{Each}

@@ -1,5 +1,5 @@
 use acl_host::{Day, MemTree, Tree, Whole};
-use acl_policy::{Policy, RawTerm, Target, Words, parse, put_target};
+use acl_policy::{Policy, RawTerm, Target, WordList, parse, put_target};
 use acl_splice::{Sources, gather};
 use acl_text::{Bytes, Memory, Refusal, Slip};
 use std::alloc::Global;
@@ -214,9 +214,9 @@ fn targets_and_terms_are_counted(rt: HostRuntime) -> Result<(), Fail> {
     Ok(())
 }
 
-fn add_words(all: &mut String, words: &Words) -> Result<(), Memory> {
-    for word in words.as_slice() {
-        all.push_str(text(word.text.as_slice()))?;
+fn add_words(all: &mut String, words: &WordList) -> Result<(), Memory> {
+    for word in words.iter() {
+        all.push_str(text(word.text()))?;
         all.push_str(" ")?;
     }
     all.push_str("|")?;

@@ -3,7 +3,7 @@ use Rattle.std.specs.Prelude.{ℕ, ◌+◌, ◌*◌, List, [], ◌∷◌, ◌++�
 use Rattle.acl_packet.specs.declared.addresses.Families.TheVariants.{Inet, Mixed}
 use Rattle.acl_packet.specs.declared.filtering.Hook.TheVariants.{Forward}
 use Rattle.acl_text.specs.declared.faults.Place.{Place}
-use Rattle.acl_policy.specs.declared.raw_terms.Word.{Word}
+use Rattle.acl_words.specs.declared.word_lists.Word.{Word}
 use Rattle.policy_grammar.specs.TargetTexts.{Choice, LineText, plain}
 use Rattle.policy_grammar.specs.TermTexts.{Item, Key, TermText}
 use Rattle.policy_grammar.specs.PolicyTexts.{BlockText, HeaderItem}

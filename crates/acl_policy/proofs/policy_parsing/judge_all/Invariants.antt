@@ -1,4 +1,4 @@
-use Rattle.std.proofs.Common.{◌≡◌, ℕ, length}
+use Rattle.std.proofs.Common.{◌≡◌, length}
 use Rattle.acl_policy.specs.JudgingSteps.{rest_of}
 use Rattle.acl_policy.specs.Policies.{last_place}
 use Rattle.acl_policy.specs.Slips.{start_place}

@@ -1,23 +1,45 @@
-use Rattle.std.proofs.Common.{◌<◌, length, arith}
-use Rattle.acl_terms.specs.Matching.{NamesAddress}
-use Rattle.acl_terms.specs.Slips.{network_slip}
-use Rattle.acl_terms.proofs.SetLaws.{more-set}
-use Rattle.acl_terms.proofs.SlipLaws.{slip-more}
+use Rattle.std.proofs.Common.{◌≡◌, ◌∷◌, ap, ◌∙◌}
+use Rattle.acl_packet.specs.declared.addresses.Family.TheVariants.{V4, V6}
 use Rattle.acl_packet.specs.Addresses.{top_address}
+use Rattle.acl_naming.specs.Reach.{ReachesAddress}
+use Rattle.acl_terms.specs.Matching.{AnyOf, NamesAddress}
+use Rattle.acl_terms.specs.Slips.{first_in, network_slip}
+use Rattle.acl_terms.proofs.DistinctLaws.{asks-network, begun-names, given, new-first, next-names, slip-next}
 use Rattle.acl_terms.proofs.addresses.named.Goals as goal
 
-pub loop-word-preserved : goal.loop-word-preserved
-loop-word-preserved c =
+pub loop-left-init : goal.loop-left-init
+loop-left-init c =
+    let networks = c.args.base.now.networks in
     let words = c.args.words.now in
-    let i = c.loop-word.word-index in
-    let word = c.word-item.result in
-    let within : i < length words = omega arith in
-    let had = c.loop-word.invariant in
-    let union = c.in_ok-out.ensures in
     record {
-      set = more-set (NamesAddress c.args.base.now c.args.family) (top_address c.args.family) words i
-          word word c.loop-word.out c.in_ok-more.more c.in_ok-out.out within c.word-item.is had.set
-          c.in_ok-more.ensures.set union.top union.normal union.exact;
-      judged = slip-more (network_slip c.args.base.now.networks) words i word word within
-          c.word-item.is c.in_ok-more.ensures.judged had.judged;
+      v4 = begun-names (λ x text. ReachesAddress networks text V4 x) words c.new-left.result (top_address V4)
+          c.empty-v4.result c.new-left.ensures (c.empty-v4.ensures.top ∙ c.top_address.ensures)
+          c.empty-v4.ensures.normal c.empty-v4.ensures.exact;
+      v6 = begun-names (λ x text. ReachesAddress networks text V6 x) words c.new-left.result (top_address V6)
+          c.empty-v6.result c.new-left.ensures (c.empty-v6.ensures.top ∙ c.top_address-2.ensures)
+          c.empty-v6.ensures.normal c.empty-v6.ensures.exact;
+      judged = ap (first_in (network_slip networks)) c.new-left.ensures
+          ∙ new-first (network_slip networks) (asks-network networks) words;
+    }
+
+pub loop-left-preserved : goal.loop-left-preserved
+loop-left-preserved c =
+    let base = c.args.base.now in
+    let words = c.args.words.now in
+    let old = c.loop-left.left in
+    let left = c.next.new.self in
+    let word = c.in-Some.word in
+    let next : old ≡ word ∷ left = given (λ w. old ≡ w ∷ left) c.in_ok-word.field-0 word c.in-Some.is c.in_ok-word.ensures.some in
+    let had = c.loop-left.invariant in
+    let union4 = c.in_ok-v4.ensures in
+    let union6 = c.in_ok-v6.ensures in
+    record {
+      v4 = next-names (NamesAddress base V4) (λ x. AnyOf (NamesAddress base V4 x) words) old left word
+          (top_address V4) c.loop-left.v4 c.in_ok-more4.more4 c.in_ok-v4.v4 next had.v4
+          c.in_ok-more4.ensures.set union4.top union4.normal union4.exact;
+      v6 = next-names (NamesAddress base V6) (λ x. AnyOf (NamesAddress base V6 x) words) old left word
+          (top_address V6) c.loop-left.v6 c.in_ok-more6.more6 c.in_ok-v6.v6 next had.v6
+          c.in_ok-more6.ensures.set union6.top union6.normal union6.exact;
+      judged = slip-next (network_slip base.networks) word old left (first_in (network_slip base.networks) words) next
+          c.in_ok-more4.ensures.judged had.judged;
     }

@@ -1,14 +1,19 @@
-use Rattle.std.proofs.Common.{◌≡◌, drop, take}
+use Rattle.std.proofs.Common.{◌≡◌, length}
+use Rattle.acl_packet.specs.declared.addresses.Family.TheVariants.{V4, V6}
 use Rattle.acl_packet.specs.Addresses.{top_address}
 use Rattle.acl_terms.specs.Matching.{AnyOf, NamesAddress}
-use Rattle.acl_terms.specs.Sets.{IsSetOf}
 use Rattle.acl_terms.specs.Slips.{first_in, network_slip}
+use Rattle.acl_terms.proofs.SetLaws.{IsSetSoFar}
 use Rattle.acl_terms.proofs.addresses.named.Given as goal
 
-abbrev pub invariant-loop-word : goal.invariant-loop-word
-invariant-loop-word l = record {
-  set : IsSetOf (λ x. AnyOf (NamesAddress l.base l.family x) (take l.word-index l.words))
-      (top_address l.family) l.out;
-  judged : first_in (network_slip l.base.networks) (drop l.word-index l.words)
-      ≡ first_in (network_slip l.base.networks) l.words;
+abbrev pub invariant-loop-left : goal.invariant-loop-left
+invariant-loop-left l = record {
+  v4 : IsSetSoFar (λ x. AnyOf (NamesAddress l.base V4 x) l.words) (λ x. AnyOf (NamesAddress l.base V4 x) l.left)
+      (top_address V4) l.v4;
+  v6 : IsSetSoFar (λ x. AnyOf (NamesAddress l.base V6 x) l.words) (λ x. AnyOf (NamesAddress l.base V6 x) l.left)
+      (top_address V6) l.v6;
+  judged : first_in (network_slip l.base.networks) l.left ≡ first_in (network_slip l.base.networks) l.words;
 }
+
+abbrev pub decreases-loop-left : goal.decreases-loop-left
+decreases-loop-left l = length l.left

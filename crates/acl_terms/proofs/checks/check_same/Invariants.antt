@@ -1,6 +1,6 @@
-use Rattle.std.proofs.Common.{◌≡◌, drop}
+use Rattle.std.proofs.Common.{◌≡◌}
 use Rattle.acl_terms.specs.Slips.{first_in, same_slip}
 use Rattle.acl_terms.proofs.checks.check_same.Given as goal
 
 abbrev pub invariant-loop-word : goal.invariant-loop-word
-invariant-loop-word l = first_in (same_slip l.first) (drop l.word-index l.words) ≡ first_in (same_slip l.first) l.words
+invariant-loop-word l = first_in (same_slip l.first) l.word-iterator ≡ first_in (same_slip l.first) l.fn.words

@@ -1,6 +1,6 @@
-use Rattle.std.proofs.Common.{◌≡◌, drop}
+use Rattle.std.proofs.Common.{◌≡◌}
 use Rattle.acl_terms.specs.Slips.{first_in, type_slip}
 use Rattle.acl_terms.proofs.checks.check_types.Given as goal
 
 abbrev pub invariant-loop-word : goal.invariant-loop-word
-invariant-loop-word l = first_in (type_slip l.family) (drop l.word-index l.words) ≡ first_in (type_slip l.family) l.words
+invariant-loop-word l = first_in (type_slip l.family) l.word-iterator ≡ first_in (type_slip l.family) l.words

@@ -1,4 +1,4 @@
-use Rattle.std.proofs.Common.{◌≡◌, ◌≢◌, ℕ, ◌<◌, true, [], drop, take}
+use Rattle.std.proofs.Common.{◌≡◌, ◌≢◌, ◌<◌, true, [], drop, take}
 use Rattle.std.specs.List.{list_all}
 use Rattle.acl_naming.specs.Ports.{top_port}
 use Rattle.acl_naming.specs.Reach.{ReachesPort}

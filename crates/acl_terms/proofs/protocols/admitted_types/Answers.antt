@@ -3,7 +3,7 @@ use Rattle.acl_terms.specs.Matching.{type_in}
 use Rattle.acl_terms.proofs.NumberLaws.{words-result}
 use Rattle.acl_terms.proofs.protocols.admitted_types.Goals as goal
 
-pub returns-in_ok-numbers-in-len1-up : goal.returns-in_ok-numbers-in-len1-up
-returns-in_ok-numbers-in-len1-up c =
+pub returns-in_ok-numbers-in-Some : goal.returns-in_ok-numbers-in-Some
+returns-in_ok-numbers-in-Some c =
     words-result (λ w. type_in c.args.family w.text) c.args.words.now c.deref.result.now 255 c.numbers_in.result
-    c.in-len1-up.len_at_least (c.deref.ensures.value ∙ c.in_ok-numbers-in-len1-up.ensures) c.numbers_in.ensures
+    _ _ c.in-Some.ensures.some (c.deref.ensures.value ∙ c.in_ok-numbers-in-Some.ensures) c.numbers_in.ensures

@@ -1,6 +1,6 @@
-use Rattle.std.proofs.Common.{◌≡◌, ◌++◌, drop}
+use Rattle.std.proofs.Common.{◌≡◌, ◌++◌}
 use Rattle.acl_terms.specs.Matching.{protocols_of}
 use Rattle.acl_terms.proofs.protocols.protocols_of.Given as goal
 
 abbrev pub invariant-loop-word : goal.invariant-loop-word
-invariant-loop-word l = l.out.items ++ protocols_of (drop l.word-index l.words) ≡ protocols_of l.words
+invariant-loop-word l = l.out.items ++ protocols_of l.word-iterator ≡ protocols_of l.words

@@ -1,6 +1,6 @@
-use Rattle.std.proofs.Common.{◌≡◌, ◌++◌, drop}
+use Rattle.std.proofs.Common.{◌≡◌, ◌++◌}
 use Rattle.acl_terms.specs.SetSteps.{types_of}
 use Rattle.acl_terms.proofs.protocols.types_of.Given as goal
 
 abbrev pub invariant-loop-word : goal.invariant-loop-word
-invariant-loop-word l = l.out.items ++ types_of l.family (drop l.word-index l.words) ≡ types_of l.family l.words
+invariant-loop-word l = l.out.items ++ types_of l.family l.word-iterator ≡ types_of l.family l.words

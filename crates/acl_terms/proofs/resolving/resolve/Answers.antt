@@ -1,6 +1,5 @@
 use Rattle.std.proofs.Common.{ap, ◌∙◌}
-use Rattle.acl_terms.specs.Matching.{is_written}
-use Rattle.acl_terms.specs.Options.{option_of, verdict_of}
+use Rattle.acl_terms.specs.Options.{verdict_of}
 use Rattle.acl_text.specs.Notes.{note_of}
 use Rattle.acl_terms.proofs.ComputedLaws.{sets_computed}
 use Rattle.acl_terms.proofs.SoundLaws.{sound-fields}
@@ -21,9 +20,7 @@ invariant_of-result c =
         itypes = p.itypes;
       }) c.in_ok-name.name c.in_ok-note.note c.is_written.result c.option_of.result c.verdict_of.result
           (c.in_ok-name.ensures ∙ c.as_slice.ensures) (c.in_ok-note.ensures.exact ∙ ap note_of c.as_slice-2.ensures)
-          (c.is_written.ensures ∙ ap is_written c.as_slice-3.ensures)
-          (c.option_of.ensures ∙ ap option_of c.as_slice-4.ensures)
-          (c.verdict_of.ensures ∙ ap verdict_of c.as_slice-5.ensures)
+          c.is_written.ensures c.option_of.ensures (c.verdict_of.ensures ∙ ap verdict_of c.as_slice-3.ensures)
           c.requires.name_is c.in_ok-note.ensures.safe c.in_ok-parts.ensures.judged c.in_ok-parts.ensures.sets;
     }
 

@@ -1,0 +1,16 @@
+use Rattle.std.proofs.Common.{refl, rules}
+use Rattle.acl_terms.proofs.OnceLaws.{nothing-marked, taken-all}
+use Rattle.acl_terms.proofs.distinct.distinct.Goals as goal
+
+pub loop-number-init : goal.loop-number-init
+loop-number-init c = rw c.new-out.ensures.items (
+    let none = nothing-marked c.in_ok-seen.seen.items c.in_ok-seen.ensures in
+    record {
+      marks = none.0;
+      long = none.1;
+      same = λ n. refl;
+    })
+
+pub returns : goal.returns
+returns c = taken-all c.loop-number.out.items c.args.numbers.now c.loop-number.number-index
+    (search rules) c.loop-number.invariant.same

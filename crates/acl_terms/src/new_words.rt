@@ -1,0 +1,50 @@
+ghost use Rattle.std.specs.Prelude.{◌≡◌, [], ◌∷◌, IfNone, IfOk, IfSome};
+ghost use Rattle.acl_terms.specs.DistinctSteps.{new_words};
+
+use acl_policy::{WordList, WordRef, WordsLeft};
+use acl_text::Memory;
+use indexmap::IndexSet;
+use std::alloc::Global;
+use std::marker::Model;
+
+/// The words of a list that are not yet given, of each text but the first one. A contract sees their list.
+#[derive(Drop)]
+pub(crate) struct NewWords<'a> {
+    seen: IndexSet<&'a [u8]>,
+    words: WordsLeft<'a>,
+}
+
+impl<'a> Model for NewWords<'a> {
+    ghost use Rattle.std.specs.Prelude.{List};
+    ghost use Rattle.acl_text.specs.Cuts.{views};
+    ghost use Rattle.acl_words.specs.declared.word_lists.Word.{Word};
+    ghost use Rattle.acl_terms.specs.DistinctSteps.{new_words};
+
+    ghost Value = { List Word };
+
+    ghost view = { λ s. new_words (views s.seen.keys) s.words };
+}
+
+impl<'a> NewWords<'a> {
+    pub(crate) fn new(alloc: Global, words: &'a WordList) -> NewWords<'a>
+        ensures { result ≡ new_words [] words.now }
+    {
+        NewWords {
+            seen: IndexSet::new(alloc),
+            words: words.iter(),
+        }
+    }
+
+    /// The next word whose text was not given before.
+    pub(crate) fn next(&mut self) -> Result<Option<WordRef<'a>>, Memory>
+        ensures some { IfOk result (λ o. IfSome o (λ w. self.old ≡ w ∷ self.new)) }
+        ensures none { IfOk result (λ o. IfNone o (self.old ≡ [])) }
+    {
+        while let Some(word) = self.words.next() {
+            if self.seen.insert(word.text())? {
+                return Ok(Some(word));
+            }
+        }
+        Ok(None)
+    }
+}

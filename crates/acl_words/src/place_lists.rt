@@ -1,0 +1,182 @@
+ghost use Rattle.std.specs.Prelude.{◌≡◌, [], ◌∷◌, ◌++◌, OnOk, OnErr, IfSome, IfNone};
+ghost use Rattle.acl_words.specs.PlaceSteps.{added, left_by, next_line, place_by};
+
+use acl_text::{Memory, Place};
+use std::alloc::Global;
+use std::marker::Model;
+
+/// How the place of an item follows from that of the item before it.
+#[derive(Clone, Copy, Debug, PartialEq, Eq)]
+pub(crate) enum Step {
+    /// The same line.
+    Same,
+    /// The next line of the file.
+    Next,
+    /// Any other line, which is kept.
+    Own,
+}
+
+/// A list of places, most of which follow from the ones before them. A contract sees the list.
+#[derive(Debug, Drop)]
+pub(crate) struct PlaceList {
+    steps: Vec<Step>,
+    own: Vec<Place>,
+    last: Place,
+}
+
+impl Model for PlaceList {
+    ghost use Rattle.std.specs.Prelude.{List};
+    ghost use Rattle.acl_text.specs.declared.faults.Place.{Place};
+    ghost use Rattle.acl_words.specs.PlaceSteps.{AreStepped, places_by, start};
+
+    ghost Value = { List Place };
+
+    ghost view = { λ s. places_by start s.own.items s.steps.items };
+
+    ghost invariant = { λ s. AreStepped s.last s.own.items s.steps.items };
+}
+
+/// The line behind the one at the place.
+fn next_line(place: Place) -> Place
+    ensures { result ≡ next_line place }
+{
+    if place.line == u32::MAX {
+        Place {
+            file: place.file,
+            line: 0,
+        }
+    } else {
+        Place {
+            file: place.file,
+            line: place.line + 1,
+        }
+    }
+}
+
+/// The step from one place to another.
+fn step_to(last: Place, place: Place) -> Step
+    ensures { place_by result last (added result place) ≡ place }
+{
+    if place == last {
+        Step::Same
+    } else if place == next_line(last) {
+        Step::Next
+    } else {
+        Step::Own
+    }
+}
+
+/// Adds the step, and its place where that is kept.
+fn push_step(
+    steps: &mut Vec<Step>,
+    own: &mut Vec<Place>,
+    step: Step,
+    place: Place,
+) -> Result<(), Memory>
+    ensures steps { OnOk result (steps.new.items ≡ steps.old.items ++ step ∷ []) }
+    ensures own { OnOk result (own.new.items ≡ own.old.items ++ added step place) }
+{
+    steps.push(step)?;
+    if step == Step::Own {
+        own.push(place)?;
+    }
+    Ok(())
+}
+
+impl PlaceList {
+    /// No places.
+    pub(crate) fn new(alloc: Global) -> PlaceList
+        ensures { result ≡ [] }
+    {
+        PlaceList {
+            steps: Vec::new(alloc),
+            own: Vec::new(alloc),
+            last: Place { file: 0, line: 0 },
+        }
+    }
+
+    /// No places are left.
+    pub(crate) fn clear(&mut self)
+        ensures { self.new ≡ [] }
+    {
+        self.steps.clear();
+        self.own.clear();
+        self.last = Place { file: 0, line: 0 };
+    }
+
+    /// Adds the place at the end. Where memory is wanted no place is left.
+    pub(crate) fn push(&mut self, place: Place) -> Result<(), Memory>
+        ensures ok { OnOk result (self.new ≡ self.old ++ place ∷ []) }
+        ensures err { OnErr result (self.new ≡ []) }
+    {
+        let step = step_to(self.last, place);
+        match push_step(&mut self.steps, &mut self.own, step, place) {
+            Ok(()) => {
+                self.last = place;
+                Ok(())
+            }
+            Err(memory) => {
+                self.steps.clear();
+                self.own.clear();
+                self.last = Place { file: 0, line: 0 };
+                Err(memory)
+            }
+        }
+    }
+
+    /// The places in order.
+    pub(crate) fn iter(&self) -> PlacesLeft<'_>
+        ensures { result ≡ self.now }
+    {
+        PlacesLeft {
+            here: Place { file: 0, line: 0 },
+            steps: self.steps.as_slice(),
+            own: self.own.as_slice(),
+        }
+    }
+}
+
+/// The place to which the step leads, and the kept places that are left behind it.
+fn step_from(step: Step, here: Place, own: &[Place]) -> (Place, &[Place])
+    ensures place { result.0 ≡ place_by step here own.now }
+    ensures left { result.1.now ≡ left_by step own.now }
+{
+    match (step, own) {
+        (Step::Same, _) | (Step::Own, []) => (here, own),
+        (Step::Next, _) => (next_line(here), own),
+        (Step::Own, [first, behind @ ..]) => (*first, behind),
+    }
+}
+
+/// The places of a list that are not yet given.
+#[derive(Drop)]
+pub(crate) struct PlacesLeft<'a> {
+    here: Place,
+    steps: &'a [Step],
+    own: &'a [Place],
+}
+
+impl<'a> Model for PlacesLeft<'a> {
+    ghost use Rattle.std.specs.Prelude.{List};
+    ghost use Rattle.acl_text.specs.declared.faults.Place.{Place};
+    ghost use Rattle.acl_words.specs.PlaceSteps.{places_by};
+
+    ghost Value = { List Place };
+
+    ghost view = { λ s. places_by s.here s.own.now s.steps.now };
+}
+
+impl<'a> PlacesLeft<'a> {
+    /// The next place. `None` exactly where none is left.
+    pub(crate) fn next(&mut self) -> Option<Place>
+        ensures some { IfSome result (λ p. self.old ≡ p ∷ self.new) }
+        ensures none { IfNone result ((self.old ≡ []) × (self.new ≡ [])) }
+    {
+        let (step, steps) = self.steps.split_first()?;
+        self.steps = steps;
+        let (here, own) = step_from(*step, self.here, self.own);
+        self.here = here;
+        self.own = own;
+        Some(here)
+    }
+}

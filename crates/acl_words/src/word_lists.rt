@@ -1,0 +1,173 @@
+ghost use Rattle.std.specs.Prelude.{◌≡◌, [], ◌∷◌, ◌++◌, IfSome, IfNone, OnOk, OnErr, drop};
+ghost use Rattle.acl_lines.specs.LineTexts.{HasNoFeed};
+
+use crate::place_lists::{PlaceList, PlacesLeft};
+use acl_text::{Bytes, Memory, Place, split_at_byte};
+use std::alloc::Global;
+use std::marker::Model;
+
+/// A word of a policy, or the bytes of a string, and where it stands.
+#[derive(Debug, Drop)]
+pub struct Word {
+    pub place: Place,
+    pub text: Bytes,
+}
+
+/// The same, with bytes that another holds.
+#[derive(Debug, Drop)]
+pub struct WordRef<'a> {
+    place: Place,
+    text: &'a [u8],
+}
+
+impl<'a> Model for WordRef<'a> {
+    ghost use Rattle.acl_words.specs.declared.word_lists.Word.{Word};
+
+    ghost Value = { Word };
+
+    ghost view = { λ w. record { place = w.place; text = w.text.now } };
+}
+
+impl Word {
+    /// The word, without its bytes.
+    pub fn borrowed(&self) -> WordRef<'_>
+        ensures { result ≡ self.now }
+    {
+        WordRef {
+            place: self.place,
+            text: self.text.as_slice(),
+        }
+    }
+}
+
+impl<'a> WordRef<'a> {
+    /// The place of the line where the word begins.
+    pub fn place(&self) -> Place
+        ensures { result ≡ self.now.place }
+    {
+        self.place
+    }
+
+    pub fn text(&self) -> &'a [u8]
+        ensures { result.now ≡ self.now.text }
+    {
+        self.text
+    }
+}
+
+/// A list of words without line feeds, kept as one text with a line feed behind each word, and the steps that tell
+/// their places: some three bytes a word beside its own. A contract sees the list of the words.
+#[derive(Debug, Drop)]
+pub struct WordList {
+    text: Vec<u8>,
+    places: PlaceList,
+}
+
+impl Model for WordList {
+    ghost use Rattle.std.specs.Prelude.{List};
+    ghost use Rattle.acl_words.specs.declared.word_lists.Word.{Word};
+    ghost use Rattle.acl_words.specs.WordTextSteps.{AreKept, words_at};
+
+    ghost Value = { List Word };
+
+    ghost view = { λ s. words_at s.places s.text.items };
+
+    ghost invariant = { λ s. AreKept (words_at s.places s.text.items) s.places s.text.items };
+}
+
+/// Adds the word to the text and the places.
+fn push_word(
+    all: &mut Vec<u8>,
+    places: &mut PlaceList,
+    place: Place,
+    text: &[u8],
+) -> Result<(), Memory>
+    ensures text { OnOk result (all.new.items ≡ all.old.items ++ text.now ++ 10 ∷ []) }
+    ensures places { OnOk result (places.new ≡ places.old ++ place ∷ []) }
+{
+    all.extend_from_slice(text)?;
+    all.push(b'\n')?;
+    places.push(place)
+}
+
+impl WordList {
+    /// No words.
+    pub fn new(alloc: Global) -> WordList
+        ensures { result ≡ [] }
+    {
+        WordList {
+            text: Vec::new(alloc),
+            places: PlaceList::new(alloc),
+        }
+    }
+
+    /// Adds a word at the end. Where memory is wanted no word is left.
+    pub fn push(&mut self, place: Place, text: &[u8]) -> Result<(), Memory>
+        requires { HasNoFeed text.now }
+        ensures ok { OnOk result (self.new
+            ≡ self.old ++ record { place = place; text = text.now } ∷ []) }
+        ensures err { OnErr result (self.new ≡ []) }
+    {
+        match push_word(&mut self.text, &mut self.places, place, text) {
+            Ok(()) => Ok(()),
+            Err(memory) => {
+                self.text.clear();
+                self.places.clear();
+                Err(memory)
+            }
+        }
+    }
+
+    /// The words in order.
+    pub fn iter(&self) -> WordsLeft<'_>
+        ensures { result ≡ self.now }
+    {
+        WordsLeft {
+            rest: self.text.as_slice(),
+            places: self.places.iter(),
+        }
+    }
+
+    /// The first word. `None` exactly where there is none.
+    pub fn first(&self) -> Option<WordRef<'_>>
+        ensures some { IfSome result (λ w. self.now ≡ w ∷ drop 1 self.now) }
+        ensures none { IfNone result (self.now ≡ []) }
+    {
+        self.iter().next()
+    }
+}
+
+/// The words of a list that are not yet given. A contract sees their list.
+#[derive(Drop)]
+pub struct WordsLeft<'a> {
+    rest: &'a [u8],
+    places: PlacesLeft<'a>,
+}
+
+impl<'a> Model for WordsLeft<'a> {
+    ghost use Rattle.std.specs.Prelude.{List};
+    ghost use Rattle.acl_words.specs.declared.word_lists.Word.{Word};
+    ghost use Rattle.acl_words.specs.WordTextSteps.{words_at};
+
+    ghost Value = { List Word };
+
+    ghost view = { λ s. words_at s.places s.rest.now };
+}
+
+impl<'a> Iterator for WordsLeft<'a> {
+    type Item = WordRef<'a>;
+
+    ghost use Rattle.std.specs.Iterator.{YieldsFirst, item_count};
+
+    ghost next_gives = { YieldsFirst (λ s. s) };
+
+    ghost remaining = { item_count (λ s. s) };
+
+    #[tactic(auto, using(crate::proofs::WordTextLaws::front_left, crate::proofs::WordTextLaws::nothing_left))]
+    fn next(&mut self) -> Option<WordRef<'a>> {
+        let (text, rest) = split_at_byte(self.rest, b'\n')?;
+        self.rest = rest;
+        let place = self.places.next()?;
+        Some(WordRef { place, text })
+    }
+}
