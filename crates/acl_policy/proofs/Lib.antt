@@ -1,3 +1,4 @@
+pub mod ClashLaws
 pub mod ClausesInParts
 pub mod JudgingLaws
 pub mod NameLaws

@@ -35,7 +35,7 @@ use Rattle.acl_policy.specs.declared.states.State.{State}
 use Rattle.acl_policy.specs.declared.target_lines.NamedTarget.{NamedTarget}
 use Rattle.acl_policy.specs.declared.values.Takes.{Takes}
 use Rattle.acl_policy.specs.declared.values.Takes.TheVariants as takes
-use Rattle.acl_target.specs.Clashes.{share_lists, clash, clash_on, same_kind}
+use Rattle.acl_target.specs.Clashes.{clash, same_kind}
 use Rattle.acl_policy.specs.Conditions.{lists_of, IsRawTerm, Each, StandsBehind, NumbersDiffer, NameIsNew, IsBlock, targets_of, terms_of, IsPolicy}
 use Rattle.acl_target.specs.TargetData.{IsTarget, FitsPlatform}
 use Rattle.acl_policy.specs.Policies.{start, with_number, behind_target, behind_header_keyword, behind_name, with_block, behind_word, behind_words, behind_keyword, behind_begin, behind_end, behind_mark, is_mark, values_of, behind_marks, behind_all, last_place, end_of, policy_of}
@@ -44,6 +44,7 @@ use Rattle.acl_policy.specs.Slips.{start_place}
 use Rattle.acl_policy.specs.Targets.{is_word, target_line}
 use Rattle.acl_policy.specs.Terms.{no_word, draft_behind}
 use Rattle.acl_policy.specs.Values.{is_plain, is_value, word_of, some_values, text_fits}
+use Rattle.acl_policy.proofs.ClashLaws.{any_same, clash_same}
 use Rattle.acl_policy.proofs.Outcomes.{Has, bind_has, if_has, at_other, and_right, not_false}
 use Rattle.acl_policy.proofs.TargetFit.{IsNamed, line_good, renumbered}
 use Rattle.acl_policy.proofs.TermFit.{Stand, Fits, ListFits, Sound, some_fit, draft_sound, term_sound}
@@ -100,24 +101,6 @@ target_is : (earlier : List Target) (t : Target) → length earlier < 64 → Fit
 target_is earlier t h g =
     let most = count_by-le-length (λ e. same_kind e.kind t.kind) earlier in
     record { platform = renumbered t.kind t _ g; number_from = omega arith; number_to = omega arith }
-
-any_same : {A : Type 0} (p q : A → Bool) (xs : List A) → ((x : A) → p x ≡ q x) → list_any p xs ≡ list_any q xs
-any_same p q [] h = refl
-any_same p q (x ∷ xs) h =
-    let e : p x ≡ q x = h x in
-    let f : list_any p xs ≡ list_any q xs = any_same p q xs h in
-    cc
-
-clash_on_same : (kind : Kind) (e t : Target) (m : ℕ) → clash_on kind e (record t { number = m }) ≡ clash_on kind e t
-unfolding share_lists
-clash_on_same Cisco e t m = refl
-clash_on_same Juniper e t m = refl
-clash_on_same Iptables e t m = refl
-clash_on_same Nftables e t m = refl
-
-clash_same : (e t : Target) (m : ℕ) → clash e (record t { number = m }) ≡ clash e t
-unfolding clash
-clash_same e t m = ap (λ c. same_kind e.kind t.kind && c) (clash_on_same e.kind e t m)
 
 stands_behind : (earlier : List Target) (t : Target) → list_any (λ e. clash e t) earlier ≡ false
     → StandsBehind earlier (with_number earlier t)

@@ -1,5 +1,5 @@
 -- When the sets of one term lie within those of another: what is computed says what the relation says.
-use Rattle.std.proofs.Common.{◌≡◌, ◌↔◌, ℕ, ◌+◌, ◌-◌, ◌≤◌, min, max, Bool, true, false, not, ◌&&◌, ◌||◌, ◌==◌, nat_le, List, [], ◌∷◌, inl, inr, refl, subst, arith}
+use Rattle.std.proofs.Common.{◌≡◌, ◌↔◌, ℕ, ◌+◌, ◌-◌, ◌≤◌, min, max, Bool, true, false, not, ◌&&◌, ◌||◌, ◌==◌, nat_le, List, [], ◌∷◌, length, get_or, inl, inr, refl, subst, arith}
 use Rattle.std.specs.List.{list_all}
 use Rattle.std.proofs.lemmas.Bool.{and_from, and_parts, both_ways, cases_Bool, cases_lt, eq-eqb, eqb-false, false_from_ne_true, le-leb, leb-true, ne_eqb, or_cases, or_left, or_right}
 use Rattle.acl_packet.specs.declared.addresses.Family.{Family}
@@ -7,7 +7,7 @@ use Rattle.acl_packet.specs.declared.addresses.Family.TheVariants.{V4, V6}
 use Rattle.acl_packet.specs.Addresses.{top_address}
 use Rattle.acl_sets.specs.declared.sets.Range.{Range}
 use Rattle.acl_sets.specs.Ranges.{IsNormal, Numbers, holds, inside}
-use Rattle.acl_sets.specs.ComputableSets.{covers, is_all}
+use Rattle.acl_sets.specs.ComputableSets.{all_covered, covers, is_all}
 use Rattle.acl_sets.proofs.RangeLaws.{at_top, ends_of, in_range}
 use Rattle.acl_sets.proofs.ComputableSetLaws.{covered-subset, covers-holds, holds-covers, subset-covered}
 use Rattle.acl_terms.specs.declared.terms.Term.{Term}
@@ -29,6 +29,16 @@ within-law top s other n m = (
   λ h x held. covered-subset s.ranges other.ranges x h held,
   λ h. subset-covered 0 0 top s.ranges other.ranges n m (λ x _ held. h x held),
 )
+
+-- A set whose first number is not in the other does not lie within it.
+pub begins-apart : (top : ℕ) (rs qs : List Range) (d : Range) → 1 ≤ length rs → IsNormal 0 top rs
+    → holds qs (get_or rs 0 d).low ≡ false → all_covered rs qs ≡ false
+begins-apart top [] qs d some n h = absurd (omega arith)
+begins-apart top (r ∷ rs) qs d some n h =
+    let held : holds (r ∷ rs) r.low ≡ true =
+        or_left (inside r r.low) (holds rs r.low) (in_range r.low r.high r.low (omega arith) n.1) in
+    false_from_ne_true (all_covered (r ∷ rs) qs)
+    (λ e. both_ways (holds qs r.low) h (covered-subset (r ∷ rs) qs r.low e held))
 
 source-normal : (f : Family) (t : Term) → IsNormal 0 (top_address f) (source_in f t).ranges
 source-normal V4 t = normal-at t.src4 (top_address V4) t.sound.src4_top t.sound.src4_normal

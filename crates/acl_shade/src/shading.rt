@@ -1,4 +1,4 @@
-ghost use Rattle.std.specs.Prelude.{◌≡◌, ℕ, ◌<◌, ◌&&◌, ◌||◌, IfNone, IfSome, length, not, option_map};
+ghost use Rattle.std.specs.Prelude.{◌≡◌, ℕ, ◌<◌, ◌&&◌, ◌||◌, false, IfNone, IfSome, length, not, option_map};
 ghost use Rattle.std.specs.List.{list_all, list_any, position};
 ghost use Rattle.acl_sets.specs.ComputableSets.{covers};
 ghost use Rattle.acl_terms.specs.Resolved.{destination_in, source_in, is_term_live};
@@ -22,7 +22,7 @@ ghost use Rattle.acl_shade.specs.Shading.{IsShadedBy, ShadesAt};
 
 use acl_host::Day;
 use acl_packet::Family;
-use acl_sets::Range;
+use acl_sets::{Range, RangeSet};
 use acl_target::Target;
 use acl_terms::{Opt, Term, destination_in, foreign_of, is_empty_in, is_live, source_in};
 
@@ -69,17 +69,36 @@ fn option_covers(earlier: &Term, term: &Term) -> bool
 
 // ---- addresses and protocols
 
+// Whether the first number of the set, where there is one, is in the other. It is found at once, where the sets are
+// walked through to their first difference.
+fn begins_within(set: &RangeSet, other: &RangeSet) -> bool
+    ensures { result ≡ false → lies_within set.now other.now ≡ false }
+{
+    match set.ranges() {
+        [] => true,
+        [first, ..] => other.contains(first.low),
+    }
+}
+
+// Most sets that do not lie within another differ in their first number.
+fn lies_within(set: &RangeSet, other: &RangeSet) -> bool
+    requires { set.now.top ≡ other.now.top }
+    ensures { result ≡ lies_within set.now other.now }
+{
+    begins_within(set, other) && set.subset_of(other)
+}
+
 fn source_within(family: Family, earlier: &Term, term: &Term) -> bool
     ensures { result ≡ lies_within (source_in family term.now) (source_in family earlier.now) }
 {
-    source_in(family, term).subset_of(source_in(family, earlier))
+    lies_within(source_in(family, term), source_in(family, earlier))
 }
 
 fn destination_within(family: Family, earlier: &Term, term: &Term) -> bool
     ensures { result ≡ lies_within (destination_in family term.now)
         (destination_in family earlier.now) }
 {
-    destination_in(family, term).subset_of(destination_in(family, earlier))
+    lies_within(destination_in(family, term), destination_in(family, earlier))
 }
 
 fn covers(ranges: &[Range], low: u128, high: u128) -> bool

@@ -8,7 +8,9 @@ use Rattle.acl_policy.specs.declared.raw_terms.RawTerm.{RawTerm}
 use Rattle.acl_words.specs.declared.word_lists.Word.{Word}
 use Rattle.acl_naming.specs.Checking.{first_of}
 use Rattle.acl_naming.specs.Definitions.{Definition}
+use Rattle.acl_terms.specs.declared.resolving.Parts.{Parts}
 use Rattle.acl_terms.specs.Matching.{type_in}
+use Rattle.acl_terms.specs.Sets.{Sets}
 use Rattle.acl_terms.specs.Slips.{first_in, is_defined, network_slip, reaches_protocol, service_slip, unless}
 
 -- The numbers of the words of `icmp-type::`.
@@ -36,3 +38,16 @@ abbrev pub both_ports_slip : List Definition → List ℕ → RawTerm → Option
 both_ports_slip services protos t =
     first_of (first_in (service_slip services protos) t.source_ports)
     (first_in (service_slip services protos) t.destination_ports)
+
+-- The sets of a term from its parts.
+abbrev pub sets_by : Parts → Sets
+sets_by p = record {
+  src4 = p.ends.src.v4;
+  src6 = p.ends.src.v6;
+  dst4 = p.ends.dst.v4;
+  dst6 = p.ends.dst.v6;
+  protos = p.protos;
+  sports = p.ports.sports;
+  dports = p.ports.dports;
+  itypes = p.itypes;
+}

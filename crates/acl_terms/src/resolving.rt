@@ -4,6 +4,7 @@ ghost use Rattle.acl_terms.specs.ComputableTerms.{sets_of};
 ghost use Rattle.acl_terms.specs.Matching.{is_written};
 ghost use Rattle.acl_terms.specs.Resolved.{AreFieldsOf, GivesValue, IsResolved, sets_in};
 ghost use Rattle.acl_terms.specs.Sets.{AreSetsOf};
+ghost use Rattle.acl_terms.specs.SetSteps.{sets_by};
 ghost use Rattle.acl_terms.specs.Slips.{Judges, slip_of};
 
 use crate::addresses::{Ends, ends_of};
@@ -31,16 +32,7 @@ struct Parts {
 #[tactic(auto, unfolding(crate::specs::Slips::slip_of))]
 fn parts_of(alloc: Global, base: &Checked, raw: &RawTerm) -> Result<Parts, Refusal>
     ensures judged { Judges result (slip_of base.now raw.now) }
-    ensures sets { IfOk result (λ p. AreSetsOf base.now raw.now (record {
-      src4 = p.ends.src.v4;
-      src6 = p.ends.src.v6;
-      dst4 = p.ends.dst.v4;
-      dst6 = p.ends.dst.v6;
-      protos = p.protos;
-      sports = p.ports.sports;
-      dports = p.ports.dports;
-      itypes = p.itypes;
-    })) }
+    ensures sets { IfOk result (λ p. AreSetsOf base.now raw.now (sets_by p)) }
 {
     let protos = protocols_of(alloc, &raw.protocols)?;
     let ends = ends_of(alloc, base, raw)?;

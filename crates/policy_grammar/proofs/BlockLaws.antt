@@ -22,6 +22,7 @@ use Rattle.acl_policy.specs.Policies.{start, with_number, with_target, behind_ta
 use Rattle.acl_policy.specs.Slips.{start_place, slip_of, slip_with}
 use Rattle.acl_policy.specs.Terms.{no_draft}
 use Rattle.acl_policy.specs.Values.{is_value, some_values}
+use Rattle.acl_policy.proofs.ClashLaws.{any_same, clash_same}
 use Rattle.policy_grammar.specs.TargetTexts.{plain, LineText, TargetText, target_values, line_meant, target_meant}
 use Rattle.policy_grammar.specs.TermTexts.{TermText, term_words, term_meant, TermStands}
 use Rattle.policy_grammar.specs.PolicyTexts.{HeaderItem, header_item_words, header_item_targets, HeaderItemStands, BlockText, block_meant, BlockStands, text_words, blocks_meant, text_meant, TextStands}
@@ -31,25 +32,6 @@ use Rattle.policy_grammar.proofs.Units.{walk, walk_word, walk_begin, walk_end, w
 use Rattle.policy_grammar.proofs.ItemLaws.{all_read}
 use Rattle.policy_grammar.proofs.TargetLineLaws.{line_reads, line_unmarked}
 use Rattle.policy_grammar.proofs.TermLaws.{values_unmarked, TermMayStand, behind_terms, terms_read}
-
--- A number is no part of a clash.
-any_same : {A : Type 0} (p q : A → Bool) (xs : List A) → ((x : A) → p x ≡ q x) → list_any p xs ≡ list_any q xs
-any_same p q [] h = refl
-any_same p q (x ∷ xs) h =
-    let e : p x ≡ q x = h x in
-    let f : list_any p xs ≡ list_any q xs = any_same p q xs h in
-    cc
-
-clash_on_same : (kind : Kind) (e t : Target) (m : ℕ) → clash_on kind e (record t { number = m }) ≡ clash_on kind e t
-unfolding share_lists
-clash_on_same Cisco e t m = refl
-clash_on_same Juniper e t m = refl
-clash_on_same Iptables e t m = refl
-clash_on_same Nftables e t m = refl
-
-clash_same : (e t : Target) (m : ℕ) → clash e (record t { number = m }) ≡ clash e t
-unfolding clash
-clash_same e t m = ap (λ c. same_kind e.kind t.kind && c) (clash_on_same e.kind e t m)
 
 pub renumbered : (place : Place) (n m : ℕ) (l : LineText) → record (line_meant place n l) { number = m } ≡ line_meant place m l
 renumbered place n m (LineText.CiscoLine name family) = refl

@@ -1,5 +1,6 @@
 use Rattle.std.proofs.Common.{ap, ◌∙◌}
 use Rattle.acl_terms.specs.Options.{verdict_of}
+use Rattle.acl_terms.specs.SetSteps.{sets_by}
 use Rattle.acl_text.specs.Notes.{note_of}
 use Rattle.acl_terms.proofs.ComputedLaws.{sets_computed}
 use Rattle.acl_terms.proofs.SoundLaws.{sound-fields}
@@ -9,16 +10,7 @@ pub invariant_of-result : goal.invariant_of-result
 invariant_of-result c =
     let p = c.in_ok-parts.parts in
     record {
-      sound = sound-fields c.args.base.now c.args.raw.now (record {
-        src4 = p.ends.src.v4;
-        src6 = p.ends.src.v6;
-        dst4 = p.ends.dst.v4;
-        dst6 = p.ends.dst.v6;
-        protos = p.protos;
-        sports = p.ports.sports;
-        dports = p.ports.dports;
-        itypes = p.itypes;
-      }) c.in_ok-name.name c.in_ok-note.note c.is_written.result c.option_of.result c.verdict_of.result
+      sound = sound-fields c.args.base.now c.args.raw.now (sets_by p) c.in_ok-name.name c.in_ok-note.note c.is_written.result c.option_of.result c.verdict_of.result
           (c.in_ok-name.ensures ∙ c.as_slice.ensures) (c.in_ok-note.ensures.exact ∙ ap note_of c.as_slice-2.ensures)
           c.is_written.ensures c.option_of.ensures (c.verdict_of.ensures ∙ ap verdict_of c.as_slice-3.ensures)
           c.requires.name_is c.in_ok-note.ensures.safe c.in_ok-parts.ensures.judged c.in_ok-parts.ensures.sets;
@@ -27,13 +19,4 @@ invariant_of-result c =
 pub returns-clause-computed : goal.returns-clause-computed
 returns-clause-computed c =
     let p = c.in_ok-parts.parts in
-    sets_computed c.args.base.now c.args.raw.now (record {
-      src4 = p.ends.src.v4;
-      src6 = p.ends.src.v6;
-      dst4 = p.ends.dst.v4;
-      dst6 = p.ends.dst.v6;
-      protos = p.protos;
-      sports = p.ports.sports;
-      dports = p.ports.dports;
-      itypes = p.itypes;
-    }) c.in_ok-parts.ensures.sets
+    sets_computed c.args.base.now c.args.raw.now (sets_by p) c.in_ok-parts.ensures.sets
