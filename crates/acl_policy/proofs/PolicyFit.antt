@@ -1,5 +1,5 @@
 -- A policy that is read fulfils its conditions, and stands where its words do.
-use Rattle.std.proofs.Common.{map, ◌≡◌, ◌≢◌, ℕ, ◌+◌, ◌<◌, ◌≤◌, ◌==◌, Bool, true, false, cond, if◌then◌else◌, not, ◌&&◌, nat_le, List, [], ◌∷◌, ◌++◌, length, get_or, Result, Ok, Err, IfOk, IfSome, inl, inr, refl, ap, sym, ◌∙◌, subst, append_assoc, append-nil, length-append, codes, arith}
+use Rattle.std.proofs.Common.{map, ◌≡◌, ◌≢◌, ℕ, ◌+◌, ◌<◌, ◌≤◌, ◌==◌, Bool, true, false, cond, if◌then◌else◌, not, nat_le, List, [], ◌∷◌, ◌++◌, length, get_or, Result, Ok, Err, IfOk, IfSome, inl, inr, refl, ap, sym, ◌∙◌, subst, append_assoc, append-nil, length-append, codes, arith}
 use Rattle.std.specs.Prelude.{◌⊎◌}
 use Rattle.std.specs.List.{All, list_any, count_by}
 use Rattle.std.specs.Result.{IfErr}

@@ -36,7 +36,7 @@ pub begins-apart : (top : ℕ) (rs qs : List Range) (d : Range) → 1 ≤ length
 begins-apart top [] qs d some n h = absurd (omega arith)
 begins-apart top (r ∷ rs) qs d some n h =
     let held : holds (r ∷ rs) r.low ≡ true =
-        or_left (inside r r.low) (holds rs r.low) (in_range r.low r.high r.low (omega arith) n.1) in
+    or_left (inside r r.low) (holds rs r.low) (in_range r.low r.high r.low (omega arith) n.1) in
     false_from_ne_true (all_covered (r ∷ rs) qs)
     (λ e. both_ways (holds qs r.low) h (covered-subset (r ∷ rs) qs r.low e held))
 

@@ -98,7 +98,10 @@ fn destination_within(family: Family, earlier: &Term, term: &Term) -> bool
     ensures { result ≡ lies_within (destination_in family term.now)
         (destination_in family earlier.now) }
 {
-    lies_within(destination_in(family, term), destination_in(family, earlier))
+    lies_within(
+        destination_in(family, term),
+        destination_in(family, earlier),
+    )
 }
 
 fn covers(ranges: &[Range], low: u128, high: u128) -> bool

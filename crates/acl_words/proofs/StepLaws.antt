@@ -1,9 +1,9 @@
 -- One more step.
-use Rattle.std.proofs.Common.{◌≡◌, ℕ, zero, suc, List, [], ◌∷◌, ◌++◌, length, refl, ap, sym, ◌∙◌, arith}
+use Rattle.std.proofs.Common.{◌≡◌, zero, suc, List, [], ◌∷◌, ◌++◌, length, refl, ap, sym, ◌∙◌, arith}
 use Rattle.acl_text.specs.declared.faults.Place.{Place}
 use Rattle.acl_words.specs.declared.place_lists.Step.{Step}
 use Rattle.acl_words.specs.declared.place_lists.Step.TheVariants.{Same, Next, Own}
-use Rattle.acl_words.specs.PlaceSteps.{AreStepped, added, kept_by, last_by, left_by, next_line, place_by, places_by, start}
+use Rattle.acl_words.specs.PlaceSteps.{AreStepped, added, kept_by, last_by, next_line, place_by, places_by, start}
 
 -- What steps lead to, with one more behind them.
 pub record IsStepped (p : Place) (own : List Place) (steps : List Step) (s : Step) (q : Place) : Type 0 where

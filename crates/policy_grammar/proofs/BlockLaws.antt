@@ -1,5 +1,5 @@
 -- Headers, blocks and policies: the words of a text that stands are read as what it means.
-use Rattle.std.proofs.Common.{◌≡◌, ℕ, ◌+◌, ◌<◌, ◌≤◌, ◌==◌, Bool, true, false, ◌&&◌, nat_le, if◌then◌else◌, List, [], ◌∷◌, ◌++◌, map, flat_map, length, Ok, Err, refl, ap, sym, subst, ◌∙◌, append_assoc, append-nil, length-append, codes, arith}
+use Rattle.std.proofs.Common.{◌≡◌, ℕ, ◌+◌, ◌<◌, ◌≤◌, ◌==◌, true, false, nat_le, if◌then◌else◌, List, [], ◌∷◌, ◌++◌, map, flat_map, length, Ok, Err, refl, ap, sym, subst, ◌∙◌, append_assoc, append-nil, length-append, codes, arith}
 use Rattle.std.specs.List.{AllByRecursion, list_all, list_any, count_by}
 use Rattle.std.proofs.lemmas.Bool.Decides.{nat_tests}
 use Rattle.std.proofs.lemmas.List.{length-map}
@@ -10,9 +10,8 @@ use Rattle.acl_words.specs.declared.forms.Form.TheVariants as forms
 use Rattle.acl_words.specs.Tokens.{Token}
 use Rattle.acl_words.specs.Words.{word}
 use Rattle.acl_target.specs.declared.targets.Kind.{Kind}
-use Rattle.acl_target.specs.declared.targets.Kind.TheVariants.{Cisco, Juniper, Iptables, Nftables}
 use Rattle.acl_target.specs.declared.targets.Target.{Target}
-use Rattle.acl_target.specs.Clashes.{clash, clash_on, same_kind, share_lists}
+use Rattle.acl_target.specs.Clashes.{clash, same_kind}
 use Rattle.acl_policy.specs.declared.blocks.Block.{Block}
 use Rattle.acl_policy.specs.ReadingParts.{Header, InHeader, HeaderEnd, TermEnd}
 use Rattle.acl_policy.specs.ReadingParts.{State}

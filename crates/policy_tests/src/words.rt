@@ -94,6 +94,9 @@ fn a_list_keeps_words_and_places(rt: HostRuntime) -> Result<(), Fail> {
         place: Place { file: 0, line: 1 },
         text: Bytes::from_slice(alloc, b"a")?,
     };
-    assert_eq!(rt; kept(alloc, &first)?.as_str(), kept(alloc, &own.borrowed())?.as_str());
+    assert_eq!(rt;
+        kept(alloc, &first)?.as_str(),
+        kept(alloc, &own.borrowed())?.as_str()
+    );
     Ok(())
 }
