@@ -1,5 +1,5 @@
 -- A section's first line, and the names of the tables of targets that differ in number.
-use Rattle.std.proofs.Common.{◌≡◌, ◌≢◌, ℕ, suc, ◌+◌, ◌<◌, ◌≤◌, Bool, false, List, [], ◌∷◌, ◌++◌, length, get_or, map, flat_map, codes, AllPairs, refl, append-nil, ap, sym, subst, ◌∙◌, arith}
+use Rattle.std.proofs.Common.{◌≡◌, ◌≢◌, ℕ, suc, ◌<◌, ◌≤◌, Bool, false, List, [], ◌∷◌, ◌++◌, length, get_or, map, flat_map, codes, AllPairs, refl, append-nil, ap, sym, subst, ◌∙◌, arith}
 use Rattle.std.specs.Fmt.{decimal}
 use Rattle.std.specs.List.{AllByRecursion, IsDistinct}
 use Rattle.std.specs.Str.{bytes_eq}
@@ -12,16 +12,16 @@ use Rattle.acl_packet.specs.declared.addresses.Families.TheVariants.{Inet, Inet6
 use Rattle.acl_packet.specs.declared.filtering.Hook.{Hook}
 use Rattle.acl_packet.specs.declared.filtering.Hook.TheVariants.{Input, Output, Forward}
 use Rattle.acl_text.specs.Output.{joined}
-use Rattle.acl_grammar.specs.Rows.{Row, row_text, text_of_rows}
+use Rattle.acl_grammar.specs.Rows.{row_text, text_of_rows}
 use Rattle.acl_target.specs.declared.targets.Kind.{Kind}
 use Rattle.acl_target.specs.declared.targets.Kind.TheVariants.{Nftables}
 use Rattle.acl_target.specs.declared.targets.Target.{Target}
-use Rattle.acl_target.specs.TargetData.{FitsPlatform, hook_text, IsTarget}
+use Rattle.acl_target.specs.TargetData.{FitsPlatform, hook_text}
 use Rattle.acl_target.specs.TargetTexts.{families_text, kind_text, target_text}
 use Rattle.acl_platform.specs.declared.filters.Filter.{Filter}
 use Rattle.acl_platform.specs.SoundFilters.{target_of}
 use Rattle.nft_lang.specs.Documents.{table_name}
-use Rattle.nft_lang.specs.Texts.{head_rows, section_rows, target_row, text_of}
+use Rattle.nft_lang.specs.Texts.{head_rows, section_rows, target_row}
 use Rattle.gen_nftables.specs.SectionNames.{FirstLine, table_body, TablesDiffer}
 use Rattle.gen_nftables.specs.Sections.{section_names, section_of}
 

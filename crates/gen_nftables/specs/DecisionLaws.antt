@@ -8,12 +8,10 @@ use Rattle.acl_packet.specs.declared.addresses.Families.{Families}
 use Rattle.acl_packet.specs.declared.addresses.Family.{Family}
 use Rattle.acl_packet.specs.declared.addresses.Prefix.{Prefix}
 use Rattle.acl_packet.specs.declared.filtering.Outcome.{Outcome}
-use Rattle.acl_packet.specs.declared.packets.Conn.{Conn}
-use Rattle.acl_packet.specs.declared.packets.Conn.TheVariants.{New, Established, Related, Invalid}
 use Rattle.acl_packet.specs.declared.packets.Packet.{Packet}
-use Rattle.acl_packet.specs.Addresses.{covers, has_address, same_family, width_of}
+use Rattle.acl_packet.specs.Addresses.{has_address, same_family, width_of}
 use Rattle.acl_packet.specs.Outcomes.{unlogged}
-use Rattle.acl_packet.specs.Packets.{has_flag, is_initial, IsPacket, is_tracked}
+use Rattle.acl_packet.specs.Packets.{has_flag, is_initial, IsPacket}
 use Rattle.acl_grammar.proofs.DecisionLaws.{family_decides}
 use Rattle.acl_sets.specs.ComputableSets.{is_all}
 use Rattle.acl_sets.specs.LeastLists.{any_has}

@@ -29,7 +29,7 @@ use Rattle.acl_platform.proofs.CombinationFacts.{all-weaker, OfNumbers}
 use Rattle.acl_platform.proofs.ElementLaws.{addresses-are, numbers-are, ports-are}
 use Rattle.acl_platform.proofs.RuleNumbers.{type-most}
 use Rattle.acl_grammar.specs.PortRanges.{IsPortRange}
-use Rattle.nft_lang.specs.Documents.{flags_fit, has_port_proto, IsAddresses, is_empty, is_proto, IsRule, IsSet, IsType, parts_fit, ports_fit, ports_overlap, prefixes_overlap, types_fit, verdict_fits}
+use Rattle.nft_lang.specs.Documents.{flags_fit, has_port_proto, IsAddresses, is_empty, is_proto, IsRule, IsSet, IsType, ports_fit, ports_overlap, prefixes_overlap, types_fit, verdict_fits}
 use Rattle.gen_nftables.specs.Sections.{chain_rule, flags_of}
 
 -- ---- the protocol

@@ -2,7 +2,6 @@
 -- joined: proved here, and need not be believed.
 use Rattle.std.proofs.Common.{lit≤, ◌≡◌, ℕ, ◌^◌, Bool, true, false, nat_le, nat_lt, T, ℤ, pos, negsuc, List, [], ◌∷◌, ◌++◌, map, flat_map, refl, ap, sym, ◌∙◌}
 use Rattle.std.specs.List.{AllByRecursion, IsDistinct}
-use Rattle.std.specs.Str.{bytes_eq}
 use Rattle.std.proofs.lemmas.Bool.{lt-ltb}
 use Rattle.std.proofs.Math.Nat.{le_trans, suc-le-suc_iff}
 use Rattle.acl_packet.specs.declared.addresses.Families.{Families}
@@ -21,7 +20,6 @@ use Rattle.acl_platform.specs.SoundFilters.{IsSoundRule, target_of}
 use Rattle.acl_platform.proofs.AcceptedFilters.{rules-are, target-fits}
 use Rattle.acl_platform.proofs.CombinationFacts.{all-map, all-numbers, all-weaker, OfNumbers}
 use Rattle.acl_platform.proofs.RuleNames.{name-safe, notes-safe}
-use Rattle.nft_lang.specs.declared.documents.Item.{Item}
 use Rattle.nft_lang.specs.declared.documents.Item.TheVariants.{Remark, Rule as ARule}
 use Rattle.nft_lang.specs.declared.documents.Section.{Section}
 use Rattle.nft_lang.specs.Documents.{fits_i32, IsItem, names_of}

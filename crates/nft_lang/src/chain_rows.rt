@@ -6,7 +6,7 @@ ghost use Rattle.nft_lang.specs.Texts.{address_word, end_rows, ending_words, fam
 ghost use Rattle.nft_lang.specs.Documents.{table_name};
 
 use crate::documents::{Flags, Item, Rule, Section};
-use crate::sets::ElementSet;
+use crate::sets::{ElementSet, PortsWord, PrefixWord, TypeWord};
 use acl_grammar::{Each, Form, FreeText, Number, Piece, Row, Rows, Word, Words, put_words};
 use acl_packet::{Families, Family, Hook, Prefix, Verdict};
 use acl_text::{Out, PutFault};
@@ -449,11 +449,13 @@ impl<'a> Words for AddressSets<'a> {
             front: address_word(self.family),
             key: b"saddr".as_slice(),
             elements: self.src,
+            form: PrefixWord,
         };
         let destination = ElementSet {
             front: address_word(self.family),
             key: b"daddr".as_slice(),
             elements: self.dst,
+            form: PrefixWord,
         };
         (source, destination).put_spaced(out)
     }
@@ -484,11 +486,13 @@ impl<'a> Words for PortSets<'a> {
             front: port_word(self.proto),
             key: b"sport".as_slice(),
             elements: self.sports,
+            form: PortsWord,
         };
         let destination = ElementSet {
             front: port_word(self.proto),
             key: b"dport".as_slice(),
             elements: self.dports,
+            form: PortsWord,
         };
         (source, destination).put_spaced(out)
     }
@@ -528,6 +532,7 @@ impl<'a> Words for TypeSet<'a> {
             front: icmp_word(self.family),
             key: b"type".as_slice(),
             elements: self.itypes,
+            form: TypeWord,
         };
         set.put_spaced(out)
     }

@@ -21,4 +21,5 @@ pub use laws::{
     the_empty_text_has_no_section,
 };
 pub use reading::read;
+pub use sets::{ElementSet, PrefixWord};
 pub use walking::{outcome, sections};

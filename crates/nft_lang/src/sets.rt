@@ -3,37 +3,33 @@ ghost use Rattle.acl_text.specs.AddressTexts.{prefix_text};
 ghost use Rattle.acl_text.specs.Output.{Puts};
 ghost use Rattle.nft_lang.specs.Texts.{ports_word, set_words, with_commas};
 
-use acl_grammar::{Number, Piece, PortRange, Words, put_words};
+use acl_grammar::{Number, Piece, PortRange, WordForm, Words, put_words};
 use acl_packet::Prefix;
 use acl_text::{Out, PutFault, put_prefix};
 
-/// An element of a set, which is one word.
-pub(crate) trait Element {
-    ghost word: { Self → List ℕ };
+/// A prefix as an element of a set.
+#[derive(Clone, Copy)]
+pub struct PrefixWord;
 
-    /// Puts the word.
-    fn put_word<O: Out>(&self, out: &mut O) -> Result<(), PutFault>
-        requires { IsTrue (O.is_open out.old) }
-        ensures { Puts O.told O.faults O.refusals O.is_open O.keeps_rest out.old out.new
-            (word self.now) result };
-}
+impl WordForm<Prefix> for PrefixWord {
+    ghost item_text = { λ f p. prefix_text p };
 
-impl Element for Prefix {
-    ghost word = { prefix_text };
-
-    fn put_word<O: Out>(&self, out: &mut O) -> Result<(), PutFault> {
-        put_prefix(out, self)
+    fn put_item_into<O: Out>(&self, prefix: &Prefix, out: &mut O) -> Result<(), PutFault> {
+        put_prefix(out, prefix)
     }
 }
 
 /// Ports, from the first to the last.
-impl Element for (u16, u16) {
-    ghost word = { ports_word };
+#[derive(Clone, Copy)]
+pub(crate) struct PortsWord;
 
-    fn put_word<O: Out>(&self, out: &mut O) -> Result<(), PutFault> {
+impl WordForm<(u16, u16)> for PortsWord {
+    ghost item_text = { λ f ports. ports_word ports };
+
+    fn put_item_into<O: Out>(&self, ports: &(u16, u16), out: &mut O) -> Result<(), PutFault> {
         let range = PortRange {
-            low: u128::from(self.0),
-            high: u128::from(self.1),
+            low: u128::from(ports.0),
+            high: u128::from(ports.1),
             separator: b'-',
         };
         range.put_into(out)
@@ -41,35 +37,43 @@ impl Element for (u16, u16) {
 }
 
 /// A type of ICMP.
-impl Element for u8 {
-    ghost word = { λ n. decimal n };
+#[derive(Clone, Copy)]
+pub(crate) struct TypeWord;
 
-    fn put_word<O: Out>(&self, out: &mut O) -> Result<(), PutFault> {
-        let number = u128::from(*self);
+impl WordForm<u8> for TypeWord {
+    ghost item_text = { λ f n. decimal n };
+
+    fn put_item_into<O: Out>(&self, itype: &u8, out: &mut O) -> Result<(), PutFault> {
+        let number = u128::from(*itype);
         Number { number }.put_into(out)
     }
 }
 
-/// A set, behind the words of what is matched. One without elements is not written.
+/// A set, behind the words of what is matched, each element in the form. One without elements is not written.
 #[derive(Drop)]
-pub(crate) struct ElementSet<'a, T> {
-    pub(crate) front: &'a [u8],
-    pub(crate) key: &'a [u8],
-    pub(crate) elements: &'a [T],
+pub struct ElementSet<'a, T, F> {
+    pub front: &'a [u8],
+    pub key: &'a [u8],
+    pub elements: &'a [T],
+    pub form: F,
 }
 
-impl<'a, T: Element> Words for ElementSet<'a, T> {
-    ghost words = { λ s. set_words s.front.now s.key.now (map T.word s.elements.now) };
+impl<'a, T, F: WordForm<T>> Words for ElementSet<'a, T, F> {
+    ghost words = { λ s.
+        set_words s.front.now s.key.now (map (F.item_text s.form) s.elements.now) };
 
     #[tactic(auto, unfolding(crate::specs::Texts::set_words))]
     fn put_spaced<O: Out>(&self, out: &mut O) -> Result<(), PutFault> {
         match self.elements {
             [] => Ok(()),
             [_, ..] => {
-                let elements = self.elements;
+                let listing = Listing {
+                    elements: self.elements,
+                    form: &self.form,
+                };
                 let key: &[&[u8]] = &[self.front, self.key, b"{"];
                 let end: &[&[u8]] = &[b"}"];
-                (key, (Listing { elements }, end)).put_spaced(out)
+                (key, (listing, end)).put_spaced(out)
             }
         }
     }
@@ -77,60 +81,67 @@ impl<'a, T: Element> Words for ElementSet<'a, T> {
 
 // The elements, with a comma behind each but the last.
 #[derive(Drop)]
-struct Listing<'a, T> {
+struct Listing<'a, T, F> {
     elements: &'a [T],
+    form: &'a F,
 }
 
-impl<'a, T: Element> Words for Listing<'a, T> {
-    ghost words = { λ l. with_commas (map T.word l.elements.now) };
+impl<'a, T, F: WordForm<T>> Words for Listing<'a, T, F> {
+    ghost words = { λ l. with_commas (map (F.item_text l.form.now) l.elements.now) };
 
     fn put_spaced<O: Out>(&self, out: &mut O) -> Result<(), PutFault> {
         match self.elements {
             [] => Ok(()),
-            [first, others @ ..] => {
+            [element, elements @ ..] => {
+                let form = self.form;
                 let space: &[u8] = b" ";
-                let first = One { element: first };
-                (space, (first, Others { elements: others })).put_into(out)
+                (space, (One { element, form }, Others { elements, form })).put_into(out)
             }
         }
     }
 }
 
 #[derive(Drop)]
-struct One<'a, T> {
+struct One<'a, T, F> {
     element: &'a T,
+    form: &'a F,
 }
 
-impl<'a, T: Element> Piece for One<'a, T> {
-    ghost text = { λ o. T.word o.element.now };
+impl<'a, T, F: WordForm<T>> Piece for One<'a, T, F> {
+    ghost text = { λ o. F.item_text o.form.now o.element.now };
 
     fn put_into<O: Out>(&self, out: &mut O) -> Result<(), PutFault> {
-        self.element.put_word(out)
+        self.form.put_item_into(self.element, out)
     }
 }
 
 // The elements, each behind a comma and a space.
 #[derive(Drop)]
-struct Others<'a, T> {
+struct Others<'a, T, F> {
     elements: &'a [T],
+    form: &'a F,
 }
 
-impl<'a, T: Element> Piece for Others<'a, T> {
-    ghost text = { λ o. flat_map (λ e. codes ", " ++ T.word e) o.elements.now };
+impl<'a, T, F: WordForm<T>> Piece for Others<'a, T, F> {
+    ghost text = { λ o. flat_map (λ e. codes ", " ++ F.item_text o.form.now e) o.elements.now };
 
     fn put_into<O: Out>(&self, out: &mut O) -> Result<(), PutFault> {
-        put_others(self.elements, out)
+        put_others(self.elements, self.form, out)
     }
 }
 
-fn put_others<T: Element, O: Out>(elements: &[T], out: &mut O) -> Result<(), PutFault>
+fn put_others<T, F: WordForm<T>, O: Out>(
+    elements: &[T],
+    form: &F,
+    out: &mut O,
+) -> Result<(), PutFault>
     requires { IsTrue (O.is_open out.old) }
     ensures { Puts O.told O.faults O.refusals O.is_open O.keeps_rest out.old out.new
-        (flat_map (λ e. codes ", " ++ T.word e) elements.now) result }
+        (flat_map (λ e. codes ", " ++ F.item_text form.now e) elements.now) result }
 {
     let comma: &[u8] = b", ";
     for element in elements {
-        (comma, One { element }).put_into(out)?;
+        (comma, One { element, form }).put_into(out)?;
     }
     Ok(())
 }

@@ -6,7 +6,7 @@ use Rattle.nft_lang.proofs.sets.put_others.Goals as goal
 
 pub returns-in_err-put_into : goal.returns-in_err-put_into
 returns-in_err-put_into g c =
-    let f = λ (e : g.row.T.Denot). codes ", " ++ g.T.Element.word e in
+    let f = λ (e : g.row.T.Denot). codes ", " ++ g.F.WordForm.item_text c.args.form.now e in
     let all = c.args.elements.now in
     let i = c.loop-element.element-index in
     let element = c.element-item.result in

@@ -7,4 +7,4 @@ abbrev pub invariant-loop-element : goal.invariant-loop-element
 invariant-loop-element g l =
     let o = g.O.Out in
     Puts o.told o.faults o.refusals o.is_open o.keeps_rest l.initial.out l.out
-    (flat_map (λ e. codes ", " ++ g.T.Element.word e) (take l.element-index l.elements)) done
+    (flat_map (λ e. codes ", " ++ g.F.WordForm.item_text l.form e) (take l.element-index l.elements)) done
