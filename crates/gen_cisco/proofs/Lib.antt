@@ -1,4 +1,3 @@
 pub mod EntryCounts
 pub mod ListNames
 pub mod Rows
-pub mod TwoSections

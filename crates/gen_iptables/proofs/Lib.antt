@@ -2,4 +2,3 @@ pub mod EntryCounts
 pub mod GroupSteps
 pub mod NameLaws
 pub mod Rows
-pub mod TwoSections

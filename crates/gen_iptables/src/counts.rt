@@ -15,8 +15,9 @@ use crate::rule_rows::{backs_of, fronts_of};
 use acl_platform::{Choices, Filter, Rule};
 
 /// The number of entries of the section that the filter becomes; a number that does not fit stands
-/// at the greatest one that does.
-pub(crate) fn entry_count(filter: &Filter) -> u64
+/// at the greatest one that does. Protocols and types of its rules have to be numbers below 256, ports
+/// below 65,536.
+pub fn entry_count(filter: &Filter) -> u64
     requires { All IsSized filter.now.rules }
     ensures { result ≡ min (entry_count filter.now) COUNT_END }
 {

@@ -1,4 +1,3 @@
 pub mod EntryCounts
 pub mod NameLaws
 pub mod Rows
-pub mod TwoSections

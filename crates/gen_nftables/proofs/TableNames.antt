@@ -54,7 +54,7 @@ first-line f stateful kind target =
 
 -- ---- names
 
-names-apart : (m n : ℕ) → m ≤ 64 → n ≤ 64 → m ≢ n → bytes_eq (table_name m) (table_name n) ≡ false
+pub names-apart : (m n : ℕ) → m ≤ 64 → n ≤ 64 → m ≢ n → bytes_eq (table_name m) (table_name n) ≡ false
 names-apart m n h k differ = false_from_ne_true (bytes_eq (table_name m) (table_name n)) (λ e.
     differ (decimal_injective m n (omega (arith, h)) (omega (arith, k))
     (append_cancel_left (codes "aclgen_") (decimal m) (decimal n) ((bytes_eq-Decides (table_name m) (table_name n)).0 e))))
@@ -89,10 +89,3 @@ all-differ (f ∷ fs) stateful h d =
     let t = target_of stateful f in
     let ts = map (target_of stateful) fs in
     (all-apart f stateful fs h.0 h.1 (first-pairs Differ t ts d), all-differ fs stateful h.1 (later-pairs Differ t ts d))
-
--- two numbers that are given
-pub two-differ : (f g : Filter) → f.number ≡ 1 → g.number ≡ 2
-    → IsDistinct bytes_eq (flat_map (λ h. section_names (section_of h)) (f ∷ g ∷ []))
-unfolding IsDistinct
-two-differ f g e h =
-    ((names-apart f.number g.number (omega (arith, e)) (omega (arith, h)) (λ same. absurd (omega (arith, e, h, same))), tt), (tt, tt))

@@ -7,11 +7,11 @@ mod nftables;
 mod rule_words;
 mod section_rows;
 mod sets;
-#[cfg(test)]
-mod tests;
 mod types;
 
+pub use counts::entry_count;
 pub use laws::{
     a_section_begins_with_its_target, targets_of_different_numbers_have_different_tables,
 };
 pub use nftables::Nftables;
+pub use section_rows::put_section;

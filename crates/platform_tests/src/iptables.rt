@@ -1,4 +1,4 @@
-ghost use Rattle.std.specs.Prelude.{◌≡◌, [], IfOk, None, false, true};
+ghost use Rattle.std.specs.Prelude.{◌≡◌, [], IfOk, false, true};
 ghost use Rattle.std.specs.List.{All};
 ghost use Rattle.acl_target.specs.Clashes.{is_mixed};
 ghost use Rattle.acl_target.specs.TargetData.{chain_text, is_neighbours};
@@ -6,122 +6,16 @@ ghost use Rattle.acl_platform.specs.Combinations.{IsSized};
 ghost use Rattle.acl_platform.specs.Platforms.{IsAccepted};
 ghost use Rattle.gen_iptables.specs.Limits.{is_for_iptables, limit_of};
 
-use crate::Iptables;
-use crate::counts::entry_count;
-use crate::section_rows::put_section;
+use crate::samples::{ANY, Lines, Sample, every_second_host, rule_from, rules};
 use acl_host::Whole;
-use acl_packet::{Families, Family, Hook, Prefix, Verdict};
-use acl_platform::{
-    Filter, Limit, Platform, Rule, Rules, Test, count_in_limit, first_limit, write_all,
-};
-use acl_sets::{Prefixes, Range, RangeSet};
+use acl_packet::{Families, Family, Hook, Verdict};
+use acl_platform::{Filter, Limit, Platform, Rules, Test, count_in_limit, first_limit, write_all};
 use acl_target::{Ending, Kind};
-use acl_text::{Bytes, Memory, Out, Place, PutFault, contains_byte};
+use acl_text::{Bytes, Memory, Place, PutFault};
+use gen_iptables::{Iptables, entry_count, put_section};
 use ipt_lang::{read, sections};
 use std::alloc::Global;
 use std::test::Fail;
-
-// The ends of ranges of numbers; the first addresses of prefixes and their lengths.
-type Ranges = &'static [(u128, u128)];
-
-type Addresses = &'static [(u128, u8)];
-
-// A rule as the tests write it.
-#[derive(Clone, Copy)]
-struct Sample {
-    name: &'static [u8],
-    note: &'static [u8],
-    family: Family,
-    src: Addresses,
-    dst: Addresses,
-    protos: Ranges,
-    sports: Ranges,
-    dports: Ranges,
-    itypes: Ranges,
-    test: Test,
-    verdict: Verdict,
-    log: bool,
-}
-
-const EVERYWHERE: Addresses = &[(0, 0)];
-
-const ALL_PORTS: Ranges = &[(0, 65535)];
-
-const ALL_BYTES: Ranges = &[(0, 255)];
-
-// All of IPv4: denied.
-const ANY: Sample = Sample {
-    name: b"a",
-    note: b"",
-    family: Family::V4,
-    src: EVERYWHERE,
-    dst: EVERYWHERE,
-    protos: ALL_BYTES,
-    sports: ALL_PORTS,
-    dports: ALL_PORTS,
-    itypes: ALL_BYTES,
-    test: Test::Plain,
-    verdict: Verdict::Deny,
-    log: false,
-};
-
-fn list(alloc: Global, family: Family, addresses: &[(u128, u8)]) -> Result<Prefixes, Memory> {
-    let mut prefixes = Prefixes::new(alloc);
-    for (first, len) in addresses {
-        prefixes.push(Prefix {
-            family,
-            first: *first,
-            len: *len,
-        })?;
-    }
-    Ok(prefixes)
-}
-
-fn set(alloc: Global, top: u128, ends: &[(u128, u128)]) -> Result<RangeSet, Memory>
-    ensures { IfOk result (λ s. s.top ≡ top) }
-{
-    let mut ranges = Vec::new(alloc);
-    for (low, high) in ends {
-        if *low <= *high && *high <= top {
-            ranges.push(Range {
-                low: *low,
-                high: *high,
-            })?;
-        }
-    }
-    RangeSet::from_ranges(alloc, top, ranges.as_slice())
-}
-
-fn rule(alloc: Global, sample: &Sample, src: Prefixes) -> Result<Rule, Memory>
-    ensures { IfOk result IsSized }
-{
-    Ok(Rule {
-        name: Bytes::from_slice(alloc, sample.name)?,
-        place: Place { file: 1, line: 2 },
-        note: Bytes::from_slice(alloc, sample.note)?,
-        family: sample.family,
-        src,
-        dst: list(alloc, sample.family, sample.dst)?,
-        protos: set(alloc, 255, sample.protos)?,
-        sports: set(alloc, 65535, sample.sports)?,
-        dports: set(alloc, 65535, sample.dports)?,
-        itypes: set(alloc, 255, sample.itypes)?,
-        test: sample.test,
-        verdict: sample.verdict,
-        log: sample.log,
-    })
-}
-
-fn rules(alloc: Global, samples: &[Sample]) -> Result<Rules, Memory>
-    ensures { IfOk result (λ rs. All IsSized rs) }
-{
-    let mut rules = Rules::new(alloc);
-    for sample in samples {
-        let src = list(alloc, sample.family, sample.src)?;
-        rules.push(rule(alloc, sample, src)?)?;
-    }
-    Ok(rules)
-}
 
 // A filter as the tests write it, the text of its section with its lines, and how many entries it has.
 struct Case {
@@ -207,13 +101,13 @@ const EDGE_RULES: &[Sample] = &[
             (0xac10_0000, 12),
             (0xc0a8_0000, 16),
         ],
+        verdict: Verdict::Deny,
         ..ANY
     },
     Sample {
         name: b"established",
         protos: &[(6, 6), (17, 17)],
         test: Test::State,
-        verdict: Verdict::Accept,
         ..ANY
     },
     Sample {
@@ -221,7 +115,6 @@ const EDGE_RULES: &[Sample] = &[
         dst: &[(0xc000_0235, 32)],
         protos: &[(6, 6), (17, 17)],
         dports: &[(53, 53)],
-        verdict: Verdict::Accept,
         ..ANY
     },
     Sample {
@@ -229,11 +122,11 @@ const EDGE_RULES: &[Sample] = &[
         dst: &[(0xc000_020a, 31)],
         protos: &[(6, 6)],
         dports: &[(80, 80), (443, 443)],
-        verdict: Verdict::Accept,
         ..ANY
     },
     Sample {
         name: b"default-deny",
+        verdict: Verdict::Deny,
         log: true,
         ..ANY
     },
@@ -293,18 +186,17 @@ const SPLIT_RULES: &[Sample] = &[
             (30, 39),
             (50, 50),
         ],
-        verdict: Verdict::Accept,
         ..ANY
     },
     Sample {
         name: b"e",
         protos: &[(6, 6)],
         test: Test::AckOrRst,
-        verdict: Verdict::Accept,
         ..ANY
     },
     Sample {
         note: b"iptables INPUT inet",
+        verdict: Verdict::Deny,
         ..ANY
     },
 ];
@@ -335,7 +227,6 @@ const FORWARD_RULES: &[Sample] = &[
         protos: &[(58, 58)],
         itypes: &[(1, 1), (128, 128)],
         test: Test::State,
-        verdict: Verdict::Accept,
         ..ANY
     },
     Sample {
@@ -378,41 +269,6 @@ const FORWARD: &str = "## iptables FORWARD inet6
 -A FORWARD -j F_calls
 ";
 
-// The lines that were put; whether each put was within one line.
-#[derive(Drop)]
-struct Lines {
-    count: u64,
-    within: bool,
-}
-
-impl Out for Lines {
-    ghost told = { λ l. None };
-
-    ghost faults = { λ l. 0 };
-
-    ghost refusals = { λ l. 0 };
-
-    ghost is_open = { λ l. true };
-
-    ghost keeps_rest = { λ x y. Unit {0} };
-
-    fn put(&mut self, bytes: &[u8]) -> Result<(), PutFault> {
-        if let Some((last, front)) = bytes.split_last() {
-            if contains_byte(front, b'\n') {
-                self.within = false;
-            }
-            if *last == b'\n' {
-                self.count = self.count.saturating_add(1);
-            }
-        }
-        Ok(())
-    }
-
-    ghost rest_same = { λ x. tt };
-
-    ghost rest_goes_on = { λ x y z h k. tt };
-}
-
 fn filter_of(alloc: Global, case: &Case) -> Result<Filter, Memory>
     ensures { IfOk result (λ f. All IsSized f.rules) }
 {
@@ -435,16 +291,13 @@ fn text_of(alloc: Global, filter: &Filter) -> Result<Whole, PutFault>
     Ok(out)
 }
 
-// How many lines were put, and whether each put was within one line.
-fn lines_of(filter: &Filter) -> Result<(u64, bool), PutFault>
+// The lines of the section.
+fn lines_of(filter: &Filter) -> Result<Lines, PutFault>
     requires { All IsSized filter.now.rules }
 {
-    let mut lines = Lines {
-        count: 0,
-        within: true,
-    };
+    let mut lines = Lines::new();
     put_section(filter, &mut lines)?;
-    Ok((lines.count, lines.within))
+    Ok(lines)
 }
 
 fn sections_of(alloc: Global, text: &[u8]) -> Result<Option<usize>, Memory> {
@@ -460,7 +313,7 @@ fn is_written(alloc: Global, case: &Case) -> Result<bool, Fail> {
         text.as_slice() == case.text.as_bytes()
             && sections_of(alloc, text.as_slice())? == Some(1)
             && entry_count(&own) == case.entries
-            && lines_of(&own)? == (case.lines, true),
+            && lines_of(&own)?.is_of(case.lines),
     )
 }
 
@@ -472,22 +325,10 @@ fn writes_each_part_of_a_section(rt: HostRuntime) -> Result<(), Fail> {
     Ok(())
 }
 
-fn every_second_host(alloc: Global, count: u32) -> Result<Prefixes, Memory> {
-    let mut prefixes = Prefixes::new(alloc);
-    for place in 0..count {
-        prefixes.push(Prefix {
-            family: Family::V4,
-            first: u128::from(place) * 2,
-            len: 32,
-        })?;
-    }
-    Ok(prefixes)
-}
-
 fn entries_of_hosts(alloc: Global, count: u32) -> Result<u64, Memory> {
     let hosts = every_second_host(alloc, count)?;
     let mut rules = Rules::new(alloc);
-    rules.push(rule(alloc, &ANY, hosts)?)?;
+    rules.push(rule_from(alloc, &ANY, hosts)?)?;
     let ending = Ending::Left;
     let own = filter(
         alloc,

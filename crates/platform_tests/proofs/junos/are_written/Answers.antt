@@ -1,14 +1,14 @@
 use Rattle.std.proofs.Common.{◌∷◌, [], refl}
 use Rattle.std.proofs.lemmas.List.Elements.{All-from_recursion}
 use Rattle.acl_platform.specs.Platforms.{IsAccepted}
-use Rattle.gen_cisco.specs.Limits.{is_for_cisco, limit_of}
-use Rattle.gen_cisco.proofs.TwoSections.{two-differ}
-use Rattle.gen_cisco.proofs.tests.are_written.Goals as goal
+use Rattle.gen_junos.specs.Limits.{is_for_junos, limit_of}
+use Rattle.platform_tests.proofs.JunosSections.{two-differ}
+use Rattle.platform_tests.proofs.junos.are_written.Goals as goal
 
 pub write_all-requires-clause-accepted : goal.write_all-requires-clause-accepted
 write_all-requires-clause-accepted c =
-    All-from_recursion (IsAccepted is_for_cisco limit_of) (c.in_ok-edge.edge ∷ c.in_ok-core.core ∷ [])
-    (c.in_ok-edge.ensures.accepted refl c.new.ensures, (c.in_ok-core.ensures.accepted refl c.new-2.ensures, tt))
+    All-from_recursion (IsAccepted is_for_junos limit_of) (c.in_ok-edge.edge ∷ c.in_ok-core.core ∷ [])
+    (c.in_ok-edge.ensures.accepted refl refl c.new.ensures, (c.in_ok-core.ensures.accepted refl refl c.new-2.ensures, tt))
 
 pub write_all-requires-clause-names_differ : goal.write_all-requires-clause-names_differ
 write_all-requires-clause-names_differ c =

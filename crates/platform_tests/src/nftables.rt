@@ -1,19 +1,18 @@
-ghost use Rattle.std.specs.Prelude.{◌≡◌, ◌≤◌, [], IfOk, None, true};
+ghost use Rattle.std.specs.Prelude.{◌≡◌, ◌≤◌, [], IfOk};
 ghost use Rattle.std.specs.List.{All};
 ghost use Rattle.acl_target.specs.TargetData.{hook_text};
 ghost use Rattle.acl_platform.specs.Combinations.{IsSized};
 ghost use Rattle.acl_platform.specs.Platforms.{IsAccepted};
 ghost use Rattle.gen_nftables.specs.Limits.{is_for_nftables, limit_of};
 
-use crate::Nftables;
-use crate::counts::entry_count;
-use crate::section_rows::put_section;
+use crate::samples::{ANY, Lines, Sample, every_second_host, rule_from, rules};
 use acl_host::Whole;
 use acl_packet::{Families, Family, Hook, Prefix, Verdict};
-use acl_platform::{Filter, Limit, Platform, Rule, Rules, Test, count_in_limit, write_all};
-use acl_sets::{Prefixes, Range, RangeSet};
+use acl_platform::{Filter, Limit, Platform, Rules, Test, count_in_limit, write_all};
+use acl_sets::Prefixes;
 use acl_target::{Ending, Kind};
-use acl_text::{Bytes, Memory, Out, Place, PutFault, contains_byte};
+use acl_text::{Bytes, Memory, Place, PutFault};
+use gen_nftables::{Nftables, entry_count, put_section};
 use nft_lang::{read, sections};
 use std::alloc::Global;
 use std::test::Fail;
@@ -46,110 +45,10 @@ fn filter(
     })
 }
 
-// The ends of ranges of numbers; the first addresses of prefixes and their lengths.
-type Ranges = &'static [(u128, u128)];
-
-type Addresses = &'static [(u128, u8)];
-
-// A rule as the tests write it.
-#[derive(Clone, Copy)]
-struct Sample {
-    name: &'static [u8],
-    note: &'static [u8],
-    family: Family,
-    src: Addresses,
-    dst: Addresses,
-    protos: Ranges,
-    dports: Ranges,
-    itypes: Ranges,
-    test: Test,
-    verdict: Verdict,
-    log: bool,
-}
-
-const EVERYWHERE: Addresses = &[(0, 0)];
-
-const ALL_PORTS: Ranges = &[(0, 65535)];
-
-const ALL_BYTES: Ranges = &[(0, 255)];
-
-// All of IPv4: accepted.
-const ANY: Sample = Sample {
-    name: b"a",
-    note: b"",
-    family: Family::V4,
-    src: EVERYWHERE,
-    dst: EVERYWHERE,
-    protos: ALL_BYTES,
-    dports: ALL_PORTS,
-    itypes: ALL_BYTES,
-    test: Test::Plain,
-    verdict: Verdict::Accept,
-    log: false,
-};
-
 const ANY_OF_SIX: Sample = Sample {
     family: Family::V6,
     ..ANY
 };
-
-fn list(alloc: Global, family: Family, addresses: &[(u128, u8)]) -> Result<Prefixes, Memory> {
-    let mut prefixes = Prefixes::new(alloc);
-    for (first, len) in addresses {
-        prefixes.push(Prefix {
-            family,
-            first: *first,
-            len: *len,
-        })?;
-    }
-    Ok(prefixes)
-}
-
-fn set(alloc: Global, top: u128, ends: &[(u128, u128)]) -> Result<RangeSet, Memory>
-    ensures { IfOk result (λ s. s.top ≡ top) }
-{
-    let mut ranges = Vec::new(alloc);
-    for (low, high) in ends {
-        if *low <= *high && *high <= top {
-            ranges.push(Range {
-                low: *low,
-                high: *high,
-            })?;
-        }
-    }
-    RangeSet::from_ranges(alloc, top, ranges.as_slice())
-}
-
-fn rule(alloc: Global, sample: &Sample, src: Prefixes) -> Result<Rule, Memory>
-    ensures { IfOk result IsSized }
-{
-    Ok(Rule {
-        name: Bytes::from_slice(alloc, sample.name)?,
-        place: Place { file: 1, line: 2 },
-        note: Bytes::from_slice(alloc, sample.note)?,
-        family: sample.family,
-        src,
-        dst: list(alloc, sample.family, sample.dst)?,
-        protos: set(alloc, 255, sample.protos)?,
-        sports: RangeSet::all(alloc, 65535)?,
-        dports: set(alloc, 65535, sample.dports)?,
-        itypes: set(alloc, 255, sample.itypes)?,
-        test: sample.test,
-        verdict: sample.verdict,
-        log: sample.log,
-    })
-}
-
-fn rules(alloc: Global, samples: &[Sample]) -> Result<Rules, Memory>
-    ensures { IfOk result (λ rs. All IsSized rs) }
-{
-    let mut rules = Rules::new(alloc);
-    for sample in samples {
-        let src = list(alloc, sample.family, sample.src)?;
-        rules.push(rule(alloc, sample, src)?)?;
-    }
-    Ok(rules)
-}
 
 // All addresses of IPv6 but the last.
 fn all_but_the_last(alloc: Global) -> Result<Prefixes, Memory> {
@@ -165,53 +64,6 @@ fn all_but_the_last(alloc: Global) -> Result<Prefixes, Memory> {
     Ok(prefixes)
 }
 
-fn every_second_host(alloc: Global, count: u32) -> Result<Prefixes, Memory> {
-    let mut prefixes = Prefixes::new(alloc);
-    for place in 0..count {
-        prefixes.push(Prefix {
-            family: Family::V4,
-            first: u128::from(place) * 2,
-            len: 32,
-        })?;
-    }
-    Ok(prefixes)
-}
-
-// The lines that were put; whether each put was within one line.
-#[derive(Drop)]
-struct Lines {
-    count: u64,
-    within: bool,
-}
-
-impl Out for Lines {
-    ghost told = { λ l. None };
-
-    ghost faults = { λ l. 0 };
-
-    ghost refusals = { λ l. 0 };
-
-    ghost is_open = { λ l. true };
-
-    ghost keeps_rest = { λ x y. Unit {0} };
-
-    fn put(&mut self, bytes: &[u8]) -> Result<(), PutFault> {
-        if let Some((last, front)) = bytes.split_last() {
-            if contains_byte(front, b'\n') {
-                self.within = false;
-            }
-            if *last == b'\n' {
-                self.count = self.count.saturating_add(1);
-            }
-        }
-        Ok(())
-    }
-
-    ghost rest_same = { λ x. tt };
-
-    ghost rest_goes_on = { λ x y z h k. tt };
-}
-
 fn text_of(alloc: Global, filter: &Filter) -> Result<Whole, PutFault>
     requires { All IsSized filter.now.rules }
 {
@@ -220,16 +72,13 @@ fn text_of(alloc: Global, filter: &Filter) -> Result<Whole, PutFault>
     Ok(out)
 }
 
-// How many lines were put, and whether each put was within one line.
-fn lines_of(filter: &Filter) -> Result<(u64, bool), PutFault>
+// The lines of the section.
+fn lines_of(filter: &Filter) -> Result<Lines, PutFault>
     requires { All IsSized filter.now.rules }
 {
-    let mut lines = Lines {
-        count: 0,
-        within: true,
-    };
+    let mut lines = Lines::new();
     put_section(filter, &mut lines)?;
-    Ok((lines.count, lines.within))
+    Ok(lines)
 }
 
 const EDGE_RULES: &[Sample] = &[
@@ -303,7 +152,7 @@ fn is_edge_written(alloc: Global) -> Result<bool, Fail> {
     let all = edge(alloc, true)?;
     Ok(
         text_of(alloc, &all)?.as_slice() == EDGE.as_bytes()
-            && lines_of(&all)? == (16, true)
+            && lines_of(&all)?.is_of(16)
             && entry_count(&all) == 15,
     )
 }
@@ -311,7 +160,7 @@ fn is_edge_written(alloc: Global) -> Result<bool, Fail> {
 // Without its remarks it has four lines less, and as many entries.
 fn is_bare_edge_written(alloc: Global) -> Result<bool, Fail> {
     let bare = edge(alloc, false)?;
-    Ok(lines_of(&bare)? == (12, true) && entry_count(&bare) == 15)
+    Ok(lines_of(&bare)?.is_of(12) && entry_count(&bare) == 15)
 }
 
 #[test]
@@ -378,7 +227,7 @@ fn from(alloc: Global, families: Families, sample: &Sample, src: Prefixes) -> Re
     ensures { IfOk result (λ f. All IsSized f.rules) }
 {
     let mut rules = Rules::new(alloc);
-    rules.push(rule(alloc, sample, src)?)?;
+    rules.push(rule_from(alloc, sample, src)?)?;
     filter(alloc, b"input", Hook::Input, families, 1, rules)
 }
 

@@ -2,8 +2,8 @@ use Rattle.std.proofs.Common.{◌∷◌, [], refl}
 use Rattle.std.proofs.lemmas.List.Elements.{All-from_recursion}
 use Rattle.acl_platform.specs.Platforms.{IsAccepted}
 use Rattle.gen_iptables.specs.Limits.{is_for_iptables, limit_of}
-use Rattle.gen_iptables.proofs.TwoSections.{two-differ}
-use Rattle.gen_iptables.proofs.tests.are_written.Goals as goal
+use Rattle.platform_tests.proofs.IptablesSections.{two-differ}
+use Rattle.platform_tests.proofs.iptables.are_written.Goals as goal
 
 pub write_all-requires-clause-accepted : goal.write_all-requires-clause-accepted
 write_all-requires-clause-accepted c =

@@ -1,6 +1,6 @@
 use Rattle.std.specs.List.{All}
 use Rattle.acl_sets.specs.Ranges.{IsRange}
-use Rattle.gen_junos.proofs.tests.set.Given as goal
+use Rattle.platform_tests.proofs.samples.set.Given as goal
 
 abbrev pub invariant-loop-low : goal.invariant-loop-low
 invariant-loop-low l = All (λ r. IsRange l.top r) l.ranges.items

@@ -1,70 +1,35 @@
-ghost use Rattle.std.specs.Prelude.{◌≡◌, [], IfOk, None, true};
+ghost use Rattle.std.specs.Prelude.{◌≡◌, [], IfOk, true};
 ghost use Rattle.std.specs.List.{All};
 ghost use Rattle.acl_text.specs.Names.{is_filter_name};
 ghost use Rattle.acl_platform.specs.Combinations.{IsSized};
 ghost use Rattle.acl_platform.specs.Platforms.{IsAccepted};
 ghost use Rattle.gen_cisco.specs.Limits.{is_for_cisco, limit_of};
 
-use crate::Cisco;
-use crate::counts::entry_count;
-use crate::section_rows::put_section;
+use crate::samples::{ANY, Addresses, DNS, LONGER_NAME, LONGEST_NAME, Lines, Sample, rules};
 use acl_host::Whole;
-use acl_packet::{Families, Family, Hook, Prefix, Verdict};
-use acl_platform::{
-    Filter, Limit, Platform, Rule, Rules, Test, count_in_limit, first_limit, write_all,
-};
-use acl_sets::{Prefixes, Range, RangeSet};
+use acl_packet::{Families, Family, Hook, Verdict};
+use acl_platform::{Filter, Limit, Platform, Rules, Test, count_in_limit, first_limit, write_all};
 use acl_target::{Ending, Kind};
-use acl_text::{Bytes, Memory, Out, Place, PutFault, contains_byte};
+use acl_text::{Bytes, Memory, Place, PutFault};
 use cisco_lang::{read, sections};
+use gen_cisco::{Cisco, entry_count, put_section};
 use std::alloc::Global;
 use std::test::Fail;
-
-// The ends of ranges of numbers; the first addresses of prefixes and their lengths.
-type Ranges = &'static [(u128, u128)];
-
-type Addresses = &'static [(u128, u8)];
-
-// A rule as the tests write it.
-#[derive(Clone, Copy)]
-struct Sample {
-    name: &'static [u8],
-    note: &'static [u8],
-    family: Family,
-    dst: Addresses,
-    protos: Ranges,
-    dports: Ranges,
-    itypes: Ranges,
-    test: Test,
-    verdict: Verdict,
-    log: bool,
-}
-
-const EVERYWHERE: Addresses = &[(0, 0)];
 
 // 192.0.2.10/31 and 2001:db8::10.
 const PAIR: Addresses = &[(0xc000_020a, 31)];
 
 const HOST: Addresses = &[(0x2001_0db8_0000_0000_0000_0000_0000_0010, 128)];
 
-const ALL_PORTS: Ranges = &[(0, 65535)];
-
-const DNS: Ranges = &[(53, 53)];
-
-const ALL_TYPES: Ranges = &[(0, 255)];
-
 // The first packets of TCP from everywhere: permitted, and logged.
 const TO_PAIR: Sample = Sample {
     name: b"web",
     note: b"Not ours.",
-    family: Family::V4,
     dst: PAIR,
     protos: &[(6, 6)],
-    dports: ALL_PORTS,
-    itypes: ALL_TYPES,
     test: Test::SynNotAck,
-    verdict: Verdict::Accept,
     log: true,
+    ..ANY
 };
 
 const TO_HOST: Sample = Sample {
@@ -72,63 +37,6 @@ const TO_HOST: Sample = Sample {
     dst: HOST,
     ..TO_PAIR
 };
-
-fn list(alloc: Global, family: Family, addresses: &[(u128, u8)]) -> Result<Prefixes, Memory> {
-    let mut prefixes = Prefixes::new(alloc);
-    for (first, len) in addresses {
-        prefixes.push(Prefix {
-            family,
-            first: *first,
-            len: *len,
-        })?;
-    }
-    Ok(prefixes)
-}
-
-fn set(alloc: Global, top: u128, ends: &[(u128, u128)]) -> Result<RangeSet, Memory>
-    ensures { IfOk result (λ s. s.top ≡ top) }
-{
-    let mut ranges = Vec::new(alloc);
-    for (low, high) in ends {
-        if *low <= *high && *high <= top {
-            ranges.push(Range {
-                low: *low,
-                high: *high,
-            })?;
-        }
-    }
-    RangeSet::from_ranges(alloc, top, ranges.as_slice())
-}
-
-fn rule(alloc: Global, sample: &Sample) -> Result<Rule, Memory>
-    ensures { IfOk result IsSized }
-{
-    Ok(Rule {
-        name: Bytes::from_slice(alloc, sample.name)?,
-        place: Place { file: 1, line: 2 },
-        note: Bytes::from_slice(alloc, sample.note)?,
-        family: sample.family,
-        src: list(alloc, sample.family, EVERYWHERE)?,
-        dst: list(alloc, sample.family, sample.dst)?,
-        protos: set(alloc, 255, sample.protos)?,
-        sports: RangeSet::all(alloc, 65535)?,
-        dports: set(alloc, 65535, sample.dports)?,
-        itypes: set(alloc, 255, sample.itypes)?,
-        test: sample.test,
-        verdict: sample.verdict,
-        log: sample.log,
-    })
-}
-
-fn rules(alloc: Global, samples: &[Sample]) -> Result<Rules, Memory>
-    ensures { IfOk result (λ rs. All IsSized rs) }
-{
-    let mut rules = Rules::new(alloc);
-    for sample in samples {
-        rules.push(rule(alloc, sample)?)?;
-    }
-    Ok(rules)
-}
 
 fn filter(alloc: Global, name: &[u8], families: Families, rules: Rules) -> Result<Filter, Memory>
     ensures accepted { is_filter_name name.now ≡ true → rules ≡ []
@@ -185,41 +93,6 @@ ipv6 access-list ipv6-edge
 exit
 ";
 
-// The lines that were put; whether each put was within one line.
-#[derive(Drop)]
-struct Lines {
-    count: u64,
-    within: bool,
-}
-
-impl Out for Lines {
-    ghost told = { λ l. None };
-
-    ghost faults = { λ l. 0 };
-
-    ghost refusals = { λ l. 0 };
-
-    ghost is_open = { λ l. true };
-
-    ghost keeps_rest = { λ x y. Unit {0} };
-
-    fn put(&mut self, bytes: &[u8]) -> Result<(), PutFault> {
-        if let Some((last, front)) = bytes.split_last() {
-            if contains_byte(front, b'\n') {
-                self.within = false;
-            }
-            if *last == b'\n' {
-                self.count = self.count.saturating_add(1);
-            }
-        }
-        Ok(())
-    }
-
-    ghost rest_same = { λ x. tt };
-
-    ghost rest_goes_on = { λ x y z h k. tt };
-}
-
 fn edge(alloc: Global) -> Result<Filter, Memory>
     ensures { IfOk result (λ f. All IsSized f.rules) }
 {
@@ -234,16 +107,13 @@ fn text_of(alloc: Global, filter: &Filter) -> Result<Whole, PutFault>
     Ok(out)
 }
 
-// How many lines were put, and whether each put was within one line.
-fn lines_of(filter: &Filter) -> Result<(u64, bool), PutFault>
+// The lines of the section.
+fn lines_of(filter: &Filter) -> Result<Lines, PutFault>
     requires { All IsSized filter.now.rules }
 {
-    let mut lines = Lines {
-        count: 0,
-        within: true,
-    };
+    let mut lines = Lines::new();
     put_section(filter, &mut lines)?;
-    Ok((lines.count, lines.within))
+    Ok(lines)
 }
 
 // Whether the section is written and counted, each put within one line.
@@ -252,7 +122,7 @@ fn is_written(alloc: Global) -> Result<bool, Fail> {
     Ok(
         text_of(alloc, &own)?.as_slice() == EDGE.as_bytes()
             && entry_count(&own) == 4
-            && lines_of(&own)? == (14, true),
+            && lines_of(&own)?.is_of(14),
     )
 }
 
@@ -266,15 +136,14 @@ fn limit_of(alloc: Global, samples: &[Sample]) -> Result<Option<Limit>, Memory> 
     Ok(first_limit(&Cisco, rules(alloc, samples)?.as_slice()))
 }
 
-// A name of 64 bytes, and one of 65.
 const LONGEST: Sample = Sample {
-    name: b"aaaaaaaaaaaaaaaaaaaaaaaaaaaaaaaaaaaaaaaaaaaaaaaaaaaaaaaaaaaaaaaa",
+    name: LONGEST_NAME,
     dports: DNS,
     ..TO_PAIR
 };
 
 const LONGER: Sample = Sample {
-    name: b"aaaaaaaaaaaaaaaaaaaaaaaaaaaaaaaaaaaaaaaaaaaaaaaaaaaaaaaaaaaaaaaaa",
+    name: LONGER_NAME,
     ..TO_HOST
 };
 

@@ -2,8 +2,8 @@ use Rattle.std.proofs.Common.{◌∷◌, []}
 use Rattle.std.proofs.lemmas.List.Elements.{All-from_recursion}
 use Rattle.acl_platform.specs.Platforms.{IsAccepted}
 use Rattle.gen_nftables.specs.Limits.{is_for_nftables, limit_of}
-use Rattle.gen_nftables.proofs.TableNames.{two-differ}
-use Rattle.gen_nftables.proofs.tests.are_written.Goals as goal
+use Rattle.platform_tests.proofs.NftablesSections.{two-differ}
+use Rattle.platform_tests.proofs.nftables.are_written.Goals as goal
 
 pub write_all-requires-clause-accepted : goal.write_all-requires-clause-accepted
 write_all-requires-clause-accepted c =

@@ -1,0 +1,4 @@
+pub mod CiscoSections
+pub mod IptablesSections
+pub mod JunosSections
+pub mod NftablesSections

@@ -1,0 +1,183 @@
+ghost use Rattle.std.specs.Prelude.{◌≡◌, IfOk, None, true};
+ghost use Rattle.std.specs.List.{All};
+ghost use Rattle.acl_platform.specs.Combinations.{IsSized};
+
+use acl_packet::{Family, Prefix, Verdict};
+use acl_platform::{Rule, Rules, Test};
+use acl_sets::{Prefixes, Range, RangeSet};
+use acl_text::{Bytes, Memory, Out, Place, PutFault, contains_byte};
+use std::alloc::Global;
+
+// The ends of ranges of numbers; the first addresses of prefixes and their lengths.
+pub(crate) type Ranges = &'static [(u128, u128)];
+
+pub(crate) type Addresses = &'static [(u128, u8)];
+
+// A rule as the tests write it.
+#[derive(Clone, Copy)]
+pub(crate) struct Sample {
+    pub(crate) name: &'static [u8],
+    pub(crate) note: &'static [u8],
+    pub(crate) family: Family,
+    pub(crate) src: Addresses,
+    pub(crate) dst: Addresses,
+    pub(crate) protos: Ranges,
+    pub(crate) sports: Ranges,
+    pub(crate) dports: Ranges,
+    pub(crate) itypes: Ranges,
+    pub(crate) test: Test,
+    pub(crate) verdict: Verdict,
+    pub(crate) log: bool,
+}
+
+const EVERYWHERE: Addresses = &[(0, 0)];
+
+const ALL_PORTS: Ranges = &[(0, 65535)];
+
+const ALL_BYTES: Ranges = &[(0, 255)];
+
+pub(crate) const DNS: Ranges = &[(53, 53)];
+
+// The longest name that Cisco and Junos take, of 64 bytes, and one of 65.
+pub(crate) const LONGEST_NAME: &[u8] =
+    b"aaaaaaaaaaaaaaaaaaaaaaaaaaaaaaaaaaaaaaaaaaaaaaaaaaaaaaaaaaaaaaaa";
+
+pub(crate) const LONGER_NAME: &[u8] =
+    b"aaaaaaaaaaaaaaaaaaaaaaaaaaaaaaaaaaaaaaaaaaaaaaaaaaaaaaaaaaaaaaaaa";
+
+// All of IPv4: accepted, without a log. The other samples say what they have otherwise.
+pub(crate) const ANY: Sample = Sample {
+    name: b"a",
+    note: b"",
+    family: Family::V4,
+    src: EVERYWHERE,
+    dst: EVERYWHERE,
+    protos: ALL_BYTES,
+    sports: ALL_PORTS,
+    dports: ALL_PORTS,
+    itypes: ALL_BYTES,
+    test: Test::Plain,
+    verdict: Verdict::Accept,
+    log: false,
+};
+
+fn list(alloc: Global, family: Family, addresses: &[(u128, u8)]) -> Result<Prefixes, Memory> {
+    let mut prefixes = Prefixes::new(alloc);
+    for (first, len) in addresses {
+        prefixes.push(Prefix {
+            family,
+            first: *first,
+            len: *len,
+        })?;
+    }
+    Ok(prefixes)
+}
+
+fn set(alloc: Global, top: u128, ends: &[(u128, u128)]) -> Result<RangeSet, Memory>
+    ensures { IfOk result (λ s. s.top ≡ top) }
+{
+    let mut ranges = Vec::new(alloc);
+    for (low, high) in ends {
+        if *low <= *high && *high <= top {
+            ranges.push(Range {
+                low: *low,
+                high: *high,
+            })?;
+        }
+    }
+    RangeSet::from_ranges(alloc, top, ranges.as_slice())
+}
+
+// The rule of a sample, from these prefixes in place of the sample's.
+pub(crate) fn rule_from(alloc: Global, sample: &Sample, src: Prefixes) -> Result<Rule, Memory>
+    ensures { IfOk result IsSized }
+{
+    Ok(Rule {
+        name: Bytes::from_slice(alloc, sample.name)?,
+        place: Place { file: 1, line: 2 },
+        note: Bytes::from_slice(alloc, sample.note)?,
+        family: sample.family,
+        src,
+        dst: list(alloc, sample.family, sample.dst)?,
+        protos: set(alloc, 255, sample.protos)?,
+        sports: set(alloc, 65535, sample.sports)?,
+        dports: set(alloc, 65535, sample.dports)?,
+        itypes: set(alloc, 255, sample.itypes)?,
+        test: sample.test,
+        verdict: sample.verdict,
+        log: sample.log,
+    })
+}
+
+pub(crate) fn rules(alloc: Global, samples: &[Sample]) -> Result<Rules, Memory>
+    ensures { IfOk result (λ rs. All IsSized rs) }
+{
+    let mut rules = Rules::new(alloc);
+    for sample in samples {
+        let src = list(alloc, sample.family, sample.src)?;
+        rules.push(rule_from(alloc, sample, src)?)?;
+    }
+    Ok(rules)
+}
+
+// As many hosts of IPv4, of which no two make a prefix together.
+pub(crate) fn every_second_host(alloc: Global, count: u32) -> Result<Prefixes, Memory> {
+    let mut prefixes = Prefixes::new(alloc);
+    for place in 0..count {
+        prefixes.push(Prefix {
+            family: Family::V4,
+            first: u128::from(place) * 2,
+            len: 32,
+        })?;
+    }
+    Ok(prefixes)
+}
+
+// An output that counts the lines that are put, and sees whether each put is within one line.
+#[derive(Drop)]
+pub(crate) struct Lines {
+    count: u64,
+    within: bool,
+}
+
+impl Lines {
+    pub(crate) fn new() -> Lines {
+        Lines {
+            count: 0,
+            within: true,
+        }
+    }
+
+    // Whether so many lines were put, each put within one line.
+    pub(crate) fn is_of(&self, count: u64) -> bool {
+        self.within && self.count == count
+    }
+}
+
+impl Out for Lines {
+    ghost told = { λ l. None };
+
+    ghost faults = { λ l. 0 };
+
+    ghost refusals = { λ l. 0 };
+
+    ghost is_open = { λ l. true };
+
+    ghost keeps_rest = { λ x y. Unit {0} };
+
+    fn put(&mut self, bytes: &[u8]) -> Result<(), PutFault> {
+        if let Some((last, front)) = bytes.split_last() {
+            if contains_byte(front, b'\n') {
+                self.within = false;
+            }
+            if *last == b'\n' {
+                self.count = self.count.saturating_add(1);
+            }
+        }
+        Ok(())
+    }
+
+    ghost rest_same = { λ x. tt };
+
+    ghost rest_goes_on = { λ x y z h k. tt };
+}
