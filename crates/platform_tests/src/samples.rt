@@ -148,7 +148,7 @@ impl Lines {
         }
     }
 
-    // Whether so many lines were put, each put within one line.
+    // Whether this many lines were put, each put within one line.
     pub(crate) fn is_of(&self, count: u64) -> bool {
         self.within && self.count == count
     }
