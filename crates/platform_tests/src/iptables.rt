@@ -1,4 +1,4 @@
-ghost use Rattle.std.specs.Prelude.{◌≡◌, [], IfOk, false, true};
+ghost use Rattle.std.specs.Prelude.{◌≡◌, [], IfOk, false};
 ghost use Rattle.std.specs.List.{All};
 ghost use Rattle.acl_target.specs.Clashes.{is_mixed};
 ghost use Rattle.acl_target.specs.TargetData.{chain_text, is_neighbours};
