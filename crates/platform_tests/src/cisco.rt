@@ -8,7 +8,7 @@ ghost use Rattle.gen_cisco.specs.Limits.{is_for_cisco, limit_of};
 use crate::samples::{ANY, Addresses, DNS, LONGER_NAME, LONGEST_NAME, Lines, Sample, rules};
 use acl_host::Whole;
 use acl_packet::{Families, Family, Hook, Verdict};
-use acl_platform::{Filter, Limit, Platform, Rules, Test, count_in_limit, first_limit, write_all};
+use acl_platform::{Filter, Limit, Platform, Rules, Test, first_limit, write_all};
 use acl_target::{Ending, Kind};
 use acl_text::{Bytes, Memory, Place, PutFault};
 use cisco_lang::{read, sections};
@@ -194,18 +194,6 @@ static LIMITS: [(&[Sample], Option<Limit>); 5] = [
 fn judges_rules_in_order(rt: HostRuntime) -> Result<(), Fail> {
     for (samples, limit) in &LIMITS {
         assert_eq!(rt; limit_of(rt.alloc(), samples)?, *limit);
-    }
-    Ok(())
-}
-
-#[test]
-fn takes_as_many_entries_as_a_device_is_given(rt: HostRuntime) -> Result<(), Fail> {
-    let limits = [
-        (100_000, Ok(100_000)),
-        (100_001, Err(Limit::TooManyEntries)),
-    ];
-    for (count, limit) in limits {
-        assert_eq!(rt; count_in_limit(count), limit);
     }
     Ok(())
 }

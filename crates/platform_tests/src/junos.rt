@@ -9,7 +9,7 @@ ghost use Rattle.gen_junos.specs.Limits.{is_for_junos, limit_of};
 use crate::samples::{ANY, DNS, LONGER_NAME, LONGEST_NAME, Lines, Sample, rules};
 use acl_host::Whole;
 use acl_packet::{Families, Family, Hook, Verdict};
-use acl_platform::{Filter, Limit, Platform, Rules, Test, count_in_limit, first_limit, write_all};
+use acl_platform::{Filter, Limit, Platform, Rules, Test, first_limit, write_all};
 use acl_target::{Ending, Kind};
 use acl_text::{Bytes, Memory, Place, PutFault};
 use gen_junos::{Junos, entry_count, put_section};
@@ -242,18 +242,6 @@ static LIMITS: [(&[Sample], Option<Limit>); 5] = [
 fn judges_rules_in_order(rt: HostRuntime) -> Result<(), Fail> {
     for (samples, limit) in &LIMITS {
         assert_eq!(rt; limit_of(rt.alloc(), samples)?, *limit);
-    }
-    Ok(())
-}
-
-#[test]
-fn takes_as_many_entries_as_a_device_is_given(rt: HostRuntime) -> Result<(), Fail> {
-    let limits = [
-        (100_000, Ok(100_000)),
-        (100_001, Err(Limit::TooManyEntries)),
-    ];
-    for (count, limit) in limits {
-        assert_eq!(rt; count_in_limit(count), limit);
     }
     Ok(())
 }

@@ -24,8 +24,8 @@ use acl_grammar::{Form, Number, Row, Rows, Word};
 use acl_host::Whole;
 use acl_packet::{Conn, Families, Family, Hook, Outcome, Packet, Prefix, Verdict};
 use acl_platform::{
-    Combination, Filter, Limit, Platform, Rule, Rules, Test, count_combinations, filter_outcome,
-    put_combinations, write_all,
+    Combination, Filter, Limit, Platform, Rule, Rules, Test, count_combinations, count_in_limit,
+    filter_outcome, put_combinations, write_all,
 };
 use acl_sets::{Prefixes, Range, RangeSet};
 use acl_target::{Ending, Kind};
@@ -257,5 +257,17 @@ fn the_first_rule_or_the_ending_decides(rt: HostRuntime) -> Result<(), Fail> {
     solicitation.itype = 135;
     let passed = Outcome::unlogged(Verdict::Accept);
     assert_eq!(rt; filter_outcome(&filter, &solicitation), passed);
+    Ok(())
+}
+
+#[test]
+fn takes_as_many_entries_as_a_device_is_given(rt: HostRuntime) -> Result<(), Fail> {
+    let limits = [
+        (100_000, Ok(100_000)),
+        (100_001, Err(Limit::TooManyEntries)),
+    ];
+    for (count, limit) in limits {
+        assert_eq!(rt; count_in_limit(count), limit);
+    }
     Ok(())
 }
