@@ -9,7 +9,7 @@ use acl_packet::Family;
 use acl_platform::{address_elements, range_elements};
 use acl_sets::{Prefixes, Range, RangeSet};
 use acl_text::{Out, PutFault};
-use nft_lang::{ElementSet, PrefixWord};
+use nft_lang::{ElementSet, PrefixWord, address_word, port_word};
 
 /// The addresses of a rule, unless they are all.
 #[derive(Drop)]
@@ -35,15 +35,6 @@ impl<'a> Words for AddressSet<'a> {
     }
 }
 
-fn address_word(family: Family) -> &'static [u8]
-    ensures { result.now ≡ address_word family }
-{
-    match family {
-        Family::V4 => b"ip",
-        Family::V6 => b"ip6",
-    }
-}
-
 /// The ports of a rule for a protocol, unless they are all.
 #[derive(Drop)]
 pub(crate) struct PortSet<'a> {
@@ -64,17 +55,6 @@ impl<'a> Words for PortSet<'a> {
             form: RangeWord,
         };
         set.put_spaced(out)
-    }
-}
-
-#[tactic(auto, unfolding(nft_lang::specs::Texts::port_word))]
-fn port_word(proto: Option<u8>) -> &'static [u8]
-    ensures { result.now ≡ port_word proto }
-{
-    match proto {
-        Some(17) => b"udp",
-        Some(132) => b"sctp",
-        _ => b"tcp",
     }
 }
 

@@ -12,6 +12,7 @@ use acl_packet::Family;
 use acl_platform::range_elements;
 use acl_sets::{Range, RangeSet};
 use acl_text::{Out, PutFault};
+use nft_lang::icmp_word;
 
 /// The types of ICMP of a rule, unless they are all.
 #[derive(Drop)]
@@ -54,15 +55,6 @@ impl<'a> Words for NumberSet<'a> {
                 (key, (Numbers { ranges }, end)).put_spaced(out)
             }
         }
-    }
-}
-
-fn icmp_word(family: Family) -> &'static [u8]
-    ensures { result.now ≡ icmp_word family }
-{
-    match family {
-        Family::V4 => b"icmp",
-        Family::V6 => b"icmpv6",
     }
 }
 

@@ -6,8 +6,11 @@ ghost use Rattle.nft_lang.specs.Texts.{address_word, end_rows, ending_words, fam
 ghost use Rattle.nft_lang.specs.Documents.{table_name};
 
 use crate::documents::{Flags, Item, Rule, Section};
+use crate::rule_words::{
+    Ending, FlagTest, PacketFamily, Protocol, address_word, icmp_word, port_word,
+};
 use crate::sets::{ElementSet, PortsWord, PrefixWord, TypeWord};
-use acl_grammar::{Each, Form, FreeText, Number, Piece, Row, Rows, Word, Words, put_words};
+use acl_grammar::{Each, Form, FreeText, Number, Piece, Row, Rows, Word, Words};
 use acl_packet::{Families, Family, Hook, Prefix, Verdict};
 use acl_text::{Out, PutFault};
 use itoa::Buffer;
@@ -66,7 +69,7 @@ impl<'a> Rows for RuleRow<'a> {
             family,
             itypes: self.itypes,
         };
-        let test = Test { flags: self.flags };
+        let test = FlagTest { flags: self.flags };
         let ending = Ending {
             state: self.state,
             log: self.log,
@@ -377,63 +380,6 @@ impl Piece for Priority {
 }
 
 #[derive(Drop)]
-struct PacketFamily {
-    families: Families,
-    family: Family,
-}
-
-impl Words for PacketFamily {
-    ghost words = { λ p. family_words p.families p.family };
-
-    #[tactic(auto, unfolding(crate::specs::Texts::family_words))]
-    fn put_spaced<O: Out>(&self, out: &mut O) -> Result<(), PutFault> {
-        match self.families {
-            Families::Mixed => {
-                let key: &[&[u8]] = &[b"meta", b"nfproto"];
-                let family = Word {
-                    piece: family_word(self.family),
-                };
-                (key, family).put_spaced(out)
-            }
-            Families::Inet | Families::Inet6 => Ok(()),
-        }
-    }
-}
-
-fn family_word(family: Family) -> &'static [u8]
-    ensures { result.now ≡ family_word family }
-{
-    match family {
-        Family::V4 => b"ipv4",
-        Family::V6 => b"ipv6",
-    }
-}
-
-#[derive(Drop)]
-struct Protocol {
-    number: Option<u8>,
-}
-
-impl Words for Protocol {
-    ghost words = { λ p. proto_words p.number };
-
-    #[tactic(auto, unfolding(crate::specs::Texts::proto_words))]
-    fn put_spaced<O: Out>(&self, out: &mut O) -> Result<(), PutFault> {
-        match self.number {
-            None => Ok(()),
-            Some(number) => {
-                let key: &[&[u8]] = &[b"meta", b"l4proto"];
-                let number = u128::from(number);
-                let number = Word {
-                    piece: Number { number },
-                };
-                (key, number).put_spaced(out)
-            }
-        }
-    }
-}
-
-#[derive(Drop)]
 struct AddressSets<'a> {
     family: Family,
     src: &'a [Prefix],
@@ -458,15 +404,6 @@ impl<'a> Words for AddressSets<'a> {
             form: PrefixWord,
         };
         (source, destination).put_spaced(out)
-    }
-}
-
-fn address_word(family: Family) -> &'static [u8]
-    ensures { result.now ≡ address_word family }
-{
-    match family {
-        Family::V4 => b"ip",
-        Family::V6 => b"ip6",
     }
 }
 
@@ -498,26 +435,6 @@ impl<'a> Words for PortSets<'a> {
     }
 }
 
-#[tactic(auto, unfolding(crate::specs::Texts::port_word))]
-fn port_word(proto: Option<u8>) -> &'static [u8]
-    ensures { result.now ≡ port_word proto }
-{
-    match proto {
-        Some(17) => b"udp",
-        Some(132) => b"sctp",
-        _ => b"tcp",
-    }
-}
-
-fn icmp_word(family: Family) -> &'static [u8]
-    ensures { result.now ≡ icmp_word family }
-{
-    match family {
-        Family::V4 => b"icmp",
-        Family::V6 => b"icmpv6",
-    }
-}
-
 #[derive(Drop)]
 struct TypeSet<'a> {
     family: Family,
@@ -535,108 +452,6 @@ impl<'a> Words for TypeSet<'a> {
             form: TypeWord,
         };
         set.put_spaced(out)
-    }
-}
-
-#[derive(Drop)]
-struct Test {
-    flags: Option<Flags>,
-}
-
-impl Words for Test {
-    ghost words = { λ t. flags_words t.flags };
-
-    #[tactic(auto, unfolding(crate::specs::Texts::flags_words))]
-    fn put_spaced<O: Out>(&self, out: &mut O) -> Result<(), PutFault> {
-        match self.flags {
-            None => Ok(()),
-            Some(Flags::Rst) => { put_words(&[b"tcp", b"flags", b"&", b"rst", b"==", b"rst"], out) }
-            Some(Flags::SynNotAck) => put_words(
-                &[
-                    b"tcp", b"flags", b"&", b"(syn", b"|", b"ack)", b"==", b"syn",
-                ],
-                out,
-            ),
-        }
-    }
-}
-
-#[derive(Drop)]
-struct Ending {
-    state: bool,
-    log: bool,
-    verdict: Verdict,
-}
-
-impl Words for Ending {
-    ghost words = { λ e. ending_words e.state e.log e.verdict };
-
-    #[tactic(auto, unfolding(crate::specs::Texts::ending_words))]
-    fn put_spaced<O: Out>(&self, out: &mut O) -> Result<(), PutFault> {
-        let state = State { state: self.state };
-        let log = Log { log: self.log };
-        let decision = Decision {
-            verdict: self.verdict,
-        };
-        (state, (log, decision)).put_spaced(out)
-    }
-}
-
-#[derive(Drop)]
-struct State {
-    state: bool,
-}
-
-impl Words for State {
-    ghost words = { λ s. state_words s.state };
-
-    #[tactic(auto, unfolding(crate::specs::Texts::state_words))]
-    fn put_spaced<O: Out>(&self, out: &mut O) -> Result<(), PutFault> {
-        if self.state {
-            put_words(
-                &[b"ct", b"state", b"{", b"established,", b"related", b"}"],
-                out,
-            )
-        } else {
-            Ok(())
-        }
-    }
-}
-
-#[derive(Drop)]
-struct Log {
-    log: bool,
-}
-
-impl Words for Log {
-    ghost words = { λ l. log_words l.log };
-
-    #[tactic(auto, unfolding(crate::specs::Texts::log_words))]
-    fn put_spaced<O: Out>(&self, out: &mut O) -> Result<(), PutFault> {
-        if self.log {
-            put_words(&[b"log"], out)
-        } else {
-            Ok(())
-        }
-    }
-}
-
-#[derive(Drop)]
-struct Decision {
-    verdict: Verdict,
-}
-
-impl Words for Decision {
-    ghost words = { λ d. verdict_words d.verdict };
-
-    #[tactic(auto, unfolding(crate::specs::Texts::verdict_words))]
-    fn put_spaced<O: Out>(&self, out: &mut O) -> Result<(), PutFault> {
-        match self.verdict {
-            Verdict::Accept => put_words(&[b"accept"], out),
-            Verdict::Deny | Verdict::Left => put_words(&[b"drop"], out),
-            Verdict::Reject => put_words(&[b"reject"], out),
-            Verdict::Reset => put_words(&[b"reject", b"with", b"tcp", b"reset"], out),
-        }
     }
 }
 

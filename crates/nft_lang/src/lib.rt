@@ -9,6 +9,7 @@ mod laws;
 mod overlaps;
 mod reading;
 mod rule_drafts;
+mod rule_words;
 mod sets;
 mod validity;
 mod walking;
@@ -21,5 +22,8 @@ pub use laws::{
     the_empty_text_has_no_section,
 };
 pub use reading::read;
+pub use rule_words::{
+    Ending, FlagTest, PacketFamily, Protocol, address_word, icmp_word, port_word,
+};
 pub use sets::{ElementSet, PrefixWord};
 pub use walking::{outcome, sections};

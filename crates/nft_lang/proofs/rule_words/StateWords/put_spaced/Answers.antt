@@ -1,5 +1,5 @@
 use Rattle.nft_lang.specs.Texts.{state_words}
-use Rattle.nft_lang.proofs.chain_rows.StateWords.put_spaced.Goals as goal
+use Rattle.nft_lang.proofs.rule_words.StateWords.put_spaced.Goals as goal
 
 pub returns-then-self : goal.returns-then-self
 unfolding state_words
