@@ -1,9 +1,10 @@
 -- What is loaded of a policy: lists whose items belong together, and one step behind the other.
-use Rattle.std.proofs.Common.{◌≡◌, ℕ, ◌+◌, ◌<◌, List, [], ◌∷◌, ◌++◌, length, take, get_or, Option, None, Some, Result, Ok, Err, IfSome, refl, ap, sym, subst, ◌∙◌}
+use Rattle.std.proofs.Common.{◌≡◌, ℕ, ◌+◌, ◌<◌, List, [], ◌∷◌, ◌++◌, length, take, drop, get_or, Option, None, Some, Result, Ok, Err, IfSome, refl, ap, sym, subst, ◌∙◌}
 use Rattle.std.specs.Prelude.{IsErrAnd}
 use Rattle.std.specs.List.{AllZip}
-use Rattle.std.proofs.lemmas.List.{take_more}
+use Rattle.std.proofs.lemmas.List.{drop_more, take_more}
 use Rattle.acl_text.specs.declared.faults.Fault.{Fault}
+use Rattle.acl_text.specs.declared.faults.Slip.{Slip}
 use Rattle.acl_text.specs.Answers.{Answers, Gives}
 use Rattle.acl_host.specs.Files.{File}
 use Rattle.acl_host.specs.WholeFiles.{read_told}
@@ -13,6 +14,8 @@ use Rattle.acl_naming.specs.Definitions.{Naming}
 use Rattle.acl_splice.specs.Splices.{Splice}
 use Rattle.acl_policy.specs.declared.blocks.Policy.{Policy}
 use Rattle.acl_policy.specs.PolicyPlaces.{PolicyStands}
+use Rattle.acl_terms.specs.Slips.{first_in}
+use Rattle.acl_terms.proofs.DistinctLaws.{slip-next}
 use Rattle.acl_load.specs.declared.policy_loading.Loaded.{Loaded}
 use Rattle.acl_load.specs.declared.policy_texts.PolicyText.{PolicyText}
 use Rattle.acl_load.specs.LoadFaults.{load_told, of_reading}
@@ -36,6 +39,15 @@ zip-more R xs i x d ys next y within is pushed holds had =
     let one_more = ap (λ z. take i xs ++ z ∷ []) is ∙ sym (take_more xs i d within) in
     subst (AllZip R (take (i + 1) xs)) (sym pushed)
     (subst (λ l. AllZip R l (ys ++ y ∷ [])) one_more (zip-push R (take i xs) ys x y had holds))
+
+-- The next of the items has passed.
+pub slip-more : {A : Type 0} (question : A → Option Slip) (xs : List A) (i : ℕ) (x d : A)
+    → i < length xs → x ≡ get_or xs i d → question x ≡ None
+    → first_in question (drop i xs) ≡ first_in question xs
+    → first_in question (drop (i + 1) xs) ≡ first_in question xs
+slip-more question xs i x d within is none had =
+    slip-next question x (drop i xs) (drop (i + 1) xs) (first_in question xs)
+    (drop_more xs i d within ∙ ap (λ y. y ∷ drop (i + 1) xs) (sym is)) none had
 
 -- ---- one step behind the other
 

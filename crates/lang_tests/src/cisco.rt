@@ -1,8 +1,8 @@
+use crate::languages::{Cisco, is_read, outcome_in};
 use crate::packets::{ACCEPTED, DENIED, packet};
-use acl_packet::{Families, Family, Outcome, Packet, Prefix, Verdict, is_packet};
-use acl_text::{Bytes, Items, Memory};
+use acl_packet::{Families, Family, Outcome, Packet, Prefix, is_packet};
+use acl_text::{Bytes, Items};
 use cisco_lang::{AccessList, Doc, Entry, Flags, Item, Section, outcome, read, sections};
-use std::alloc::Global;
 use std::test::Fail;
 
 const EDGE: &str = "! cisco edge-in extended
@@ -32,27 +32,6 @@ fn any_of(family: Family) -> Prefix {
         first: 0,
         len: 0,
     }
-}
-
-// What the text's section does to the packet. `None` also for what is no text and no packet.
-fn outcome_in(
-    alloc: Global,
-    text: &str,
-    which: usize,
-    packet: &Packet,
-) -> Result<Option<Outcome>, Memory> {
-    let Some(doc) = read(alloc, text.as_bytes())? else {
-        return Ok(None);
-    };
-    if is_packet(packet) {
-        Ok(outcome(&doc, which, packet))
-    } else {
-        Ok(None)
-    }
-}
-
-fn is_read(alloc: Global, text: &str) -> Result<bool, Memory> {
-    Ok(read(alloc, text.as_bytes())?.is_some())
 }
 
 #[test]
@@ -98,14 +77,18 @@ fn refuses_other_texts(rt: HostRuntime) -> Result<(), Fail> {
     ];
     for (line, good) in cases {
         let text = format!(in rt.alloc(); "{list}{line}\nexit\n")?;
-        assert_eq!(rt; is_read(rt.alloc(), text.as_str())?, good, "at {line}");
+        assert_eq!(rt;
+            is_read::<Cisco>(rt.alloc(), text.as_str())?,
+            good,
+            "at {line}"
+        );
     }
-    assert_eq!(rt; is_read(rt.alloc(), "")?, true);
-    assert_eq!(rt; is_read(rt.alloc(), MIXED)?, true);
+    assert_eq!(rt; is_read::<Cisco>(rt.alloc(), "")?, true);
+    assert_eq!(rt; is_read::<Cisco>(rt.alloc(), MIXED)?, true);
     let twice = format!(in rt.alloc(); "{EDGE}{EDGE}")?;
-    assert_eq!(rt; is_read(rt.alloc(), twice.as_str())?, false);
+    assert_eq!(rt; is_read::<Cisco>(rt.alloc(), twice.as_str())?, false);
     let both = format!(in rt.alloc(); "{EDGE}{MIXED}")?;
-    assert_eq!(rt; is_read(rt.alloc(), both.as_str())?, true);
+    assert_eq!(rt; is_read::<Cisco>(rt.alloc(), both.as_str())?, true);
     Ok(())
 }
 
@@ -116,29 +99,35 @@ fn walks_lists_to_their_ends(rt: HostRuntime) -> Result<(), Fail> {
         ..packet(Family::V6, 58)
     };
     assert_eq!(rt;
-        outcome_in(rt.alloc(), MIXED, 0, &solicitation)?,
+        outcome_in::<Cisco>(rt.alloc(), MIXED, 0, &solicitation)?,
         Some(ACCEPTED)
     );
     assert_eq!(rt;
-        outcome_in(rt.alloc(), MIXED, 0, &packet(Family::V4, 6))?,
+        outcome_in::<Cisco>(rt.alloc(), MIXED, 0, &packet(Family::V4, 6))?,
         Some(DENIED)
     );
-    assert_eq!(rt; outcome_in(rt.alloc(), MIXED, 1, &solicitation)?, None);
-    assert_eq!(rt; outcome_in(rt.alloc(), EDGE, 0, &solicitation)?, None);
+    assert_eq!(rt;
+        outcome_in::<Cisco>(rt.alloc(), MIXED, 1, &solicitation)?,
+        None
+    );
+    assert_eq!(rt;
+        outcome_in::<Cisco>(rt.alloc(), EDGE, 0, &solicitation)?,
+        None
+    );
     let six =
         "! cisco six inet6\nno ipv6 access-list six\nipv6 access-list six\n permit tcp any host 2001:db8::10\nexit\n";
     assert_eq!(rt;
-        outcome_in(rt.alloc(), six, 0, &solicitation)?,
+        outcome_in::<Cisco>(rt.alloc(), six, 0, &solicitation)?,
         Some(ACCEPTED)
     );
     assert_eq!(rt;
-        outcome_in(rt.alloc(), six, 0, &packet(Family::V6, 17))?,
+        outcome_in::<Cisco>(rt.alloc(), six, 0, &packet(Family::V6, 17))?,
         Some(DENIED)
     );
     let remarks =
         "! cisco e extended\nno ip access-list extended e\nip access-list extended e\n remark old\nexit\n";
     assert_eq!(rt;
-        outcome_in(rt.alloc(), remarks, 0, &packet(Family::V4, 6))?,
+        outcome_in::<Cisco>(rt.alloc(), remarks, 0, &packet(Family::V4, 6))?,
         Some(ACCEPTED)
     );
     let logged =
@@ -148,7 +137,7 @@ fn walks_lists_to_their_ends(rt: HostRuntime) -> Result<(), Fail> {
         ..DENIED
     };
     assert_eq!(rt;
-        outcome_in(rt.alloc(), logged, 0, &packet(Family::V4, 6))?,
+        outcome_in::<Cisco>(rt.alloc(), logged, 0, &packet(Family::V4, 6))?,
         Some(denied)
     );
     Ok(())

@@ -1,8 +1,8 @@
+use crate::languages::{Iptables, is_read, outcome_in};
 use crate::packets::{outcome_of, packet};
-use acl_packet::{Conn, Family, Hook, Outcome, Packet, Verdict, is_packet};
-use acl_text::{Bytes, Items, Memory};
+use acl_packet::{Conn, Family, Hook, Packet, Verdict, is_packet};
+use acl_text::{Bytes, Items};
 use ipt_lang::{Act, Chain, Doc, Flags, Rule, Section, outcome, read, sections};
-use std::alloc::Global;
 use std::test::Fail;
 
 const WEB: &str = "## iptables INPUT inet
@@ -25,27 +25,6 @@ const MANY: &str = "## iptables FORWARD inet6
 -A FORWARD -j F_m
 ";
 
-// What the text's section does to the packet. `None` also for what is no text and no packet.
-fn outcome_in(
-    alloc: Global,
-    text: &str,
-    which: usize,
-    packet: &Packet,
-) -> Result<Option<Outcome>, Memory> {
-    let Some(doc) = read(alloc, text.as_bytes())? else {
-        return Ok(None);
-    };
-    if is_packet(packet) {
-        Ok(outcome(&doc, which, packet))
-    } else {
-        Ok(None)
-    }
-}
-
-fn is_read(alloc: Global, text: &str) -> Result<bool, Memory> {
-    Ok(read(alloc, text.as_bytes())?.is_some())
-}
-
 #[test]
 fn reads_a_section_of_one_chain(rt: HostRuntime) -> Result<(), Fail> {
     let doc = read(rt.alloc(), WEB.as_bytes())?.expect(&rt, "a text");
@@ -59,7 +38,7 @@ fn reads_a_section_of_one_chain(rt: HostRuntime) -> Result<(), Fail> {
     assert_eq!(rt; rule.proto, Some(6));
     assert_eq!(rt; rule.dports.as_slice().len(), 1);
     assert_eq!(rt; rule.act, Act::Decide(Verdict::Accept));
-    assert_eq!(rt; is_read(rt.alloc(), "")?, true);
+    assert_eq!(rt; is_read::<Iptables>(rt.alloc(), "")?, true);
     Ok(())
 }
 
@@ -129,7 +108,11 @@ fn refuses_other_rules(rt: HostRuntime) -> Result<(), Fail> {
         let text = format!(in rt.alloc();
             "## iptables OUTPUT inet\n-N O_a\n-A O_a {rule}\n-A OUTPUT -j O_a\n"
         )?;
-        assert_eq!(rt; is_read(rt.alloc(), text.as_str())?, good, "at {rule}");
+        assert_eq!(rt;
+            is_read::<Iptables>(rt.alloc(), text.as_str())?,
+            good,
+            "at {rule}"
+        );
     }
     Ok(())
 }
@@ -176,12 +159,16 @@ fn refuses_other_sections(rt: HostRuntime) -> Result<(), Fail> {
     ];
     for (policy, chain, end, good) in cases {
         let text = format!(in rt.alloc(); "## iptables INPUT inet\n{policy}{chain}{end}")?;
-        assert_eq!(rt; is_read(rt.alloc(), text.as_str())?, good, "at {text}");
+        assert_eq!(rt;
+            is_read::<Iptables>(rt.alloc(), text.as_str())?,
+            good,
+            "at {text}"
+        );
     }
     let twice = format!(in rt.alloc(); "{WEB}{WEB}")?;
-    assert_eq!(rt; is_read(rt.alloc(), twice.as_str())?, false);
+    assert_eq!(rt; is_read::<Iptables>(rt.alloc(), twice.as_str())?, false);
     let both = format!(in rt.alloc(); "{MANY}{WEB}")?;
-    assert_eq!(rt; is_read(rt.alloc(), both.as_str())?, true);
+    assert_eq!(rt; is_read::<Iptables>(rt.alloc(), both.as_str())?, true);
     Ok(())
 }
 
@@ -234,7 +221,10 @@ fn walks_rules_to_the_end_of_the_hook(rt: HostRuntime) -> Result<(), Fail> {
         ),
     ];
     for (text, which, packet, wanted) in cases {
-        assert_eq!(rt; outcome_in(rt.alloc(), text, which, &packet)?, wanted);
+        assert_eq!(rt;
+            outcome_in::<Iptables>(rt.alloc(), text, which, &packet)?,
+            wanted
+        );
     }
     Ok(())
 }

@@ -1,5 +1,6 @@
+use crate::languages::{Junos, is_read, outcome_in};
 use crate::packets::{outcome_of, packet};
-use acl_packet::{Family, Outcome, Packet, Prefix, Verdict, is_packet};
+use acl_packet::{Family, Packet, Prefix, Verdict, is_packet};
 use acl_text::{Bytes, Items, Memory};
 use junos_lang::{Doc, JTerm, JTest, Section, outcome, read, sections};
 use std::alloc::Global;
@@ -167,27 +168,6 @@ fn web_packet(proto: u8, src: u128, dport: u16) -> Packet {
     }
 }
 
-// What the text's section does to the packet. `None` also for what is no text and no packet.
-fn outcome_in(
-    alloc: Global,
-    text: &str,
-    which: usize,
-    packet: &Packet,
-) -> Result<Option<Outcome>, Memory> {
-    let Some(doc) = read(alloc, text.as_bytes())? else {
-        return Ok(None);
-    };
-    if is_packet(packet) {
-        Ok(outcome(&doc, which, packet))
-    } else {
-        Ok(None)
-    }
-}
-
-fn is_read(alloc: Global, text: &str) -> Result<bool, Memory> {
-    Ok(read(alloc, text.as_bytes())?.is_some())
-}
-
 // A filter for IPv4 of one term, whose lines are given.
 fn filter(alloc: Global, lines: &str) -> Result<String, Memory> {
     let text = format!(in alloc;
@@ -216,7 +196,7 @@ fn is_term_read(alloc: Global, conditions: &str, action: &str) -> Result<bool, M
 "
     )?;
     let text = filter(alloc, lines.as_str())?;
-    is_read(alloc, text.as_str())
+    is_read::<Junos>(alloc, text.as_str())
 }
 
 #[test]
@@ -321,7 +301,7 @@ fn reads_addresses_and_refuses_others(rt: HostRuntime) -> Result<(), Fail> {
 #[test]
 fn reads_whole_texts_and_refuses_others(rt: HostRuntime) -> Result<(), Fail> {
     for text in ["", EDGE, ESTABLISHED, SIX, NOTED, WHOLE] {
-        assert_eq!(rt; is_read(rt.alloc(), text)?, true, "at {text}");
+        assert_eq!(rt; is_read::<Junos>(rt.alloc(), text)?, true, "at {text}");
     }
     let term =
         "            term a {\n                then {\n                    accept;\n                }\n            }\n";
@@ -342,20 +322,24 @@ fn reads_whole_texts_and_refuses_others(rt: HostRuntime) -> Result<(), Fail> {
     for (front, good) in cases {
         let lines = format!(in rt.alloc(); "{front}{term}")?;
         let text = filter(rt.alloc(), lines.as_str())?;
-        assert_eq!(rt; is_read(rt.alloc(), text.as_str())?, good, "at {front}");
+        assert_eq!(rt;
+            is_read::<Junos>(rt.alloc(), text.as_str())?,
+            good,
+            "at {front}"
+        );
         let open = text.as_str().strip_suffix("}\n").unwrap_or("");
         assert_eq!(rt; open.is_empty(), false);
-        assert_eq!(rt; is_read(rt.alloc(), open)?, false, "at {front}");
+        assert_eq!(rt; is_read::<Junos>(rt.alloc(), open)?, false, "at {front}");
     }
     let unended = EDGE.strip_suffix("\n").unwrap_or("");
     assert_eq!(rt; unended.is_empty(), false);
-    assert_eq!(rt; is_read(rt.alloc(), unended)?, false);
+    assert_eq!(rt; is_read::<Junos>(rt.alloc(), unended)?, false);
     let none = filter(rt.alloc(), "")?;
-    assert_eq!(rt; is_read(rt.alloc(), none.as_str())?, false);
+    assert_eq!(rt; is_read::<Junos>(rt.alloc(), none.as_str())?, false);
     let twice = format!(in rt.alloc(); "{EDGE}{WHOLE}")?;
-    assert_eq!(rt; is_read(rt.alloc(), twice.as_str())?, false);
+    assert_eq!(rt; is_read::<Junos>(rt.alloc(), twice.as_str())?, false);
     let both = format!(in rt.alloc(); "{EDGE}{SIX}")?;
-    assert_eq!(rt; is_read(rt.alloc(), both.as_str())?, true);
+    assert_eq!(rt; is_read::<Junos>(rt.alloc(), both.as_str())?, true);
     Ok(())
 }
 
@@ -389,28 +373,34 @@ fn walks_filters_to_their_ends(rt: HostRuntime) -> Result<(), Fail> {
         (reset, outcome_of(Verdict::Accept, false)),
     ];
     for (packet, expected) in cases {
-        assert_eq!(rt; outcome_in(rt.alloc(), WHOLE, 0, &packet)?, expected);
+        assert_eq!(rt;
+            outcome_in::<Junos>(rt.alloc(), WHOLE, 0, &packet)?,
+            expected
+        );
     }
     let web = web_packet(6, 0xc633_6401, 80);
     assert_eq!(rt;
-        outcome_in(rt.alloc(), EDGE, 0, &web)?,
+        outcome_in::<Junos>(rt.alloc(), EDGE, 0, &web)?,
         outcome_of(Verdict::Accept, false)
     );
     assert_eq!(rt;
-        outcome_in(rt.alloc(), ESTABLISHED, 0, &web)?,
+        outcome_in::<Junos>(rt.alloc(), ESTABLISHED, 0, &web)?,
         outcome_of(Verdict::Deny, false)
     );
-    assert_eq!(rt; outcome_in(rt.alloc(), EDGE, 1, &web)?, None);
+    assert_eq!(rt; outcome_in::<Junos>(rt.alloc(), EDGE, 1, &web)?, None);
     let solicitation = Packet {
         family: Family::V6,
         itype: 135,
         ..web_packet(58, 1, 0)
     };
     assert_eq!(rt;
-        outcome_in(rt.alloc(), SIX, 0, &solicitation)?,
+        outcome_in::<Junos>(rt.alloc(), SIX, 0, &solicitation)?,
         outcome_of(Verdict::Deny, false)
     );
-    assert_eq!(rt; outcome_in(rt.alloc(), EDGE, 0, &solicitation)?, None);
+    assert_eq!(rt;
+        outcome_in::<Junos>(rt.alloc(), EDGE, 0, &solicitation)?,
+        None
+    );
     Ok(())
 }
 

@@ -10,6 +10,8 @@ mod iptables;
 #[cfg(test)]
 mod junos;
 #[cfg(test)]
+mod languages;
+#[cfg(test)]
 mod nftables;
 #[cfg(test)]
 mod packets;

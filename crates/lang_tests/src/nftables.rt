@@ -1,3 +1,4 @@
+use crate::languages::{Nftables, is_read, outcome_in};
 use crate::packets::{ACCEPTED, DENIED, packet};
 use acl_packet::{Conn, Families, Family, Hook, Outcome, Packet, Prefix, Verdict, is_packet};
 use acl_text::{Bytes, Items, Memory};
@@ -43,27 +44,6 @@ table ip6 aclgen_1 {
 }
 ";
 
-// What the text's section does to the packet. `None` also for what is no text and no packet.
-fn outcome_in(
-    alloc: Global,
-    text: &str,
-    which: usize,
-    packet: &Packet,
-) -> Result<Option<Outcome>, Memory> {
-    let Some(doc) = read(alloc, text.as_bytes())? else {
-        return Ok(None);
-    };
-    if is_packet(packet) {
-        Ok(outcome(&doc, which, packet))
-    } else {
-        Ok(None)
-    }
-}
-
-fn is_read(alloc: Global, text: &str) -> Result<bool, Memory> {
-    Ok(read(alloc, text.as_bytes())?.is_some())
-}
-
 #[test]
 fn reads_a_section_of_one_rule(rt: HostRuntime) -> Result<(), Fail> {
     let doc = read(rt.alloc(), WEB.as_bytes())?.expect(&rt, "a text");
@@ -79,7 +59,7 @@ fn reads_a_section_of_one_rule(rt: HostRuntime) -> Result<(), Fail> {
     } else {
         assert!(rt; false);
     }
-    assert_eq!(rt; is_read(rt.alloc(), "")?, true);
+    assert_eq!(rt; is_read::<Nftables>(rt.alloc(), "")?, true);
     Ok(())
 }
 
@@ -155,7 +135,11 @@ fn refuses_other_rules(rt: HostRuntime) -> Result<(), Fail> {
     ];
     for (line, good) in cases {
         let text = format!(in rt.alloc(); "{head}{line}\n    }}\n}}\n")?;
-        assert_eq!(rt; is_read(rt.alloc(), text.as_str())?, good, "at {line}");
+        assert_eq!(rt;
+            is_read::<Nftables>(rt.alloc(), text.as_str())?,
+            good,
+            "at {line}"
+        );
     }
     Ok(())
 }
@@ -212,12 +196,16 @@ fn refuses_other_sections(rt: HostRuntime) -> Result<(), Fail> {
     ];
     for (table, chain, ends, good) in cases {
         let text = section_of(rt.alloc(), table, chain, ends)?;
-        assert_eq!(rt; is_read(rt.alloc(), text.as_str())?, good, "at {text}");
+        assert_eq!(rt;
+            is_read::<Nftables>(rt.alloc(), text.as_str())?,
+            good,
+            "at {text}"
+        );
     }
     let twice = format!(in rt.alloc(); "{WEB}{WEB}")?;
-    assert_eq!(rt; is_read(rt.alloc(), twice.as_str())?, false);
+    assert_eq!(rt; is_read::<Nftables>(rt.alloc(), twice.as_str())?, false);
     let both = format!(in rt.alloc(); "{BOTH}{WEB}")?;
-    assert_eq!(rt; is_read(rt.alloc(), both.as_str())?, true);
+    assert_eq!(rt; is_read::<Nftables>(rt.alloc(), both.as_str())?, true);
     Ok(())
 }
 
@@ -267,7 +255,10 @@ fn walks_chains_to_their_ends(rt: HostRuntime) -> Result<(), Fail> {
         (BOTH, 0, packet(Family::V6, 132), Some(ACCEPTED)),
     ];
     for (text, which, packet, wanted) in cases {
-        assert_eq!(rt; outcome_in(rt.alloc(), text, which, &packet)?, wanted);
+        assert_eq!(rt;
+            outcome_in::<Nftables>(rt.alloc(), text, which, &packet)?,
+            wanted
+        );
     }
     Ok(())
 }

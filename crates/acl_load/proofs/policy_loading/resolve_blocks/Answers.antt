@@ -1,9 +1,8 @@
 use Rattle.std.proofs.Common.{List, ◌<◌, length, arith}
 use Rattle.acl_policy.specs.declared.blocks.Block.{Block}
 use Rattle.acl_terms.specs.declared.terms.Term.{Term}
-use Rattle.acl_terms.proofs.SlipLaws.{slip-more}
 use Rattle.acl_load.specs.LoadedPolicies.{AreResolved, terms_slip}
-use Rattle.acl_load.proofs.LoadedLaws.{zip-more}
+use Rattle.acl_load.proofs.LoadedLaws.{slip-more, zip-more}
 use Rattle.acl_load.proofs.policy_loading.resolve_blocks.Goals as goal
 
 pub loop-block-preserved : goal.loop-block-preserved

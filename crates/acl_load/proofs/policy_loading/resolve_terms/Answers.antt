@@ -1,8 +1,7 @@
 use Rattle.std.proofs.Common.{◌<◌, length, arith}
 use Rattle.acl_terms.specs.Resolved.{IsResolved}
 use Rattle.acl_terms.specs.Slips.{slip_of}
-use Rattle.acl_terms.proofs.SlipLaws.{slip-more}
-use Rattle.acl_load.proofs.LoadedLaws.{zip-more}
+use Rattle.acl_load.proofs.LoadedLaws.{slip-more, zip-more}
 use Rattle.acl_load.proofs.policy_loading.resolve_terms.Goals as goal
 
 pub loop-raw-preserved : goal.loop-raw-preserved
