@@ -1,5 +1,5 @@
 -- When the sets of one term lie within those of another: what is computed says what the relation says.
-use Rattle.std.proofs.Common.{◌≡◌, ◌↔◌, ℕ, ◌+◌, ◌-◌, ◌≤◌, min, max, Bool, true, false, not, ◌&&◌, ◌||◌, ◌==◌, nat_le, List, [], ◌∷◌, length, get_or, inl, inr, refl, subst, arith}
+use Rattle.std.proofs.Common.{◌≡◌, ◌↔◌, ℕ, zero, suc, ◌+◌, ◌-◌, ◌<◌, ◌≤◌, min, max, Bool, true, false, not, ◌&&◌, ◌||◌, ◌==◌, nat_le, List, [], ◌∷◌, length, get_or, inl, inr, refl, ap, subst, ◌∙◌, arith}
 use Rattle.std.specs.List.{list_all}
 use Rattle.std.proofs.lemmas.Bool.{and_from, and_parts, both_ways, cases_Bool, cases_lt, eq-eqb, eqb-false, false_from_ne_true, le-leb, leb-true, ne_eqb, or_cases, or_left, or_right}
 use Rattle.acl_packet.specs.declared.addresses.Family.{Family}
@@ -30,15 +30,23 @@ within-law top s other n m = (
   λ h. subset-covered 0 0 top s.ranges other.ranges n m (λ x _ held. h x held),
 )
 
--- A set whose first number is not in the other does not lie within it.
-pub begins-apart : (top : ℕ) (rs qs : List Range) (d : Range) → 1 ≤ length rs → IsNormal 0 top rs
-    → holds qs (get_or rs 0 d).low ≡ false → all_covered rs qs ≡ false
-begins-apart top [] qs d some n h = absurd (omega arith)
-begins-apart top (r ∷ rs) qs d some n h =
-    let held : holds (r ∷ rs) r.low ≡ true =
-    or_left (inside r r.low) (holds rs r.low) (in_range r.low r.high r.low (omega arith) n.1) in
-    false_from_ne_true (all_covered (r ∷ rs) qs)
-    (λ e. both_ways (holds qs r.low) h (covered-subset (r ∷ rs) qs r.low e held))
+-- The first number of each range is in the set.
+holds-at : (floor top : ℕ) (rs : List Range) (k : ℕ) (d : Range) → k < length rs → IsNormal floor top rs
+    → holds rs (get_or rs k d).low ≡ true
+holds-at floor top [] k d within n = absurd (omega arith)
+holds-at floor top (r ∷ rs) zero d within n =
+    or_left (inside r r.low) (holds rs r.low) (in_range r.low r.high r.low (omega arith) n.1)
+holds-at floor top (r ∷ rs) (suc k) d within n =
+    or_right (inside r (get_or rs k d).low) (holds rs (get_or rs k d).low)
+    (holds-at (r.high + 2) top rs k d (omega arith) n.3)
+
+-- A set does not lie within another that lacks the first number of one of its ranges.
+pub number-apart : (top : ℕ) (rs qs : List Range) (k : ℕ) (r : Range) → k < length rs → r ≡ get_or rs k r
+    → IsNormal 0 top rs → holds qs r.low ≡ false → all_covered rs qs ≡ false
+number-apart top rs qs k r within is n h =
+    let held : holds rs r.low ≡ true = ap (λ (x : Range). holds rs x.low) is ∙ holds-at 0 top rs k r within n in
+    false_from_ne_true (all_covered rs qs)
+    (λ e. both_ways (holds qs r.low) h (covered-subset rs qs r.low e held))
 
 source-normal : (f : Family) (t : Term) → IsNormal 0 (top_address f) (source_in f t).ranges
 source-normal V4 t = normal-at t.src4 (top_address V4) t.sound.src4_top t.sound.src4_normal
