@@ -1,8 +1,11 @@
 -- Words of numbers: what is read is the word's number, and a number's word is read.
-use Rattle.std.proofs.Common.{◌≡◌, ℕ, ◌^◌, ◌<◌, ◌≤◌, ◌⊎◌, nat_lt, List, Option, None, Some, IfSome, IfNone, decimal, inl, inr, refl, ap, sym, ◌∙◌, arith}
-use Rattle.std.proofs.lemmas.Bool.{cond-false, le-ltb, ltb-false}
+use Rattle.std.proofs.Common.{◌≡◌, ℕ, ◌^◌, ◌<◌, ◌≤◌, ◌⊎◌, nat_lt, true, false, List, [], ◌∷◌, Option, None, Some, IfSome, IfNone, inl, inr, refl, ap, sym, ◌∙◌, arith}
+use Rattle.std.specs.Str.{bytes_eq}
+use Rattle.std.proofs.lemmas.Bool.{cond-false, le-ltb, ltb-false, false≢true, false_from_ne_true}
+use Rattle.std.proofs.lemmas.Slice.Eq.{bytes_eq-Decides}
 use Rattle.std.proofs.lemmas.Option.{none-some, same_Some}
 use Rattle.acl_packet.specs.Decimals.{number_in}
+use Rattle.acl_packet.specs.NumberWordSteps.{IsOfNames, begins_with_digit}
 use Rattle.acl_packet.specs.NumberWords.{Row, row_of, IsNumberWord, not_below, or_else, row_or_number}
 use Rattle.acl_packet.proofs.ChoiceLaws.{refused}
 use Rattle.acl_packet.proofs.DecimalLaws.{number-found, number-again}
@@ -53,3 +56,11 @@ pub word-none : (table : List Row) (least most : ℕ) (word : List ℕ) (o : Opt
     → IfNone o ((n : ℕ) → IsNumberWord table least most word n → ⊥)
 word-none table least most word None l e = λ n h. none-some n (e ∙ word-again table least most n word l h)
 word-none table least most word (Some m) l e = tt
+
+-- a word that begins with a digit has no row
+pub digits_have_no_row : (table : List Row) (word : List ℕ) → IsOfNames table → begins_with_digit word ≡ true → row_of table word ≡ None
+digits_have_no_row [] word h d = refl
+digits_have_no_row (r ∷ rs) word h d =
+    let other : bytes_eq word r.0 ≡ false =
+    false_from_ne_true (bytes_eq word r.0) (λ e. false≢true (sym h.0 ∙ ap begins_with_digit (sym ((bytes_eq-Decides word r.0).0 e)) ∙ d)) in
+    cond-false (bytes_eq word r.0) (Some r.1) (row_of rs word) other ∙ digits_have_no_row rs word h.1 d

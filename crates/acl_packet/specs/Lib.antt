@@ -1,5 +1,6 @@
 pub mod Addresses
 pub mod Decimals
+pub mod NumberWordSteps
 pub mod NumberWords
 pub mod Outcomes
 pub mod Packets

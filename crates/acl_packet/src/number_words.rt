@@ -1,4 +1,5 @@
 ghost use Rattle.std.specs.Prelude.{◌≡◌, ℕ, IfNone, IfSome, map};
+ghost use Rattle.acl_packet.specs.NumberWordSteps.{IsOfNames, begins_with_digit};
 ghost use Rattle.acl_packet.specs.NumberWords.{
   IsProtocolWord,
   IsTypeWord,
@@ -90,15 +91,28 @@ fn type_of(family: Family, word: &[u8]) -> Option<u8>
     }
 }
 
-#[tactic(auto, unfolding(crate::specs::NumberWords::row_or_number))]
+// No name begins with a digit, so a word that does is looked for in no row.
+#[tactic(auto, unfolding(crate::specs::NumberWords::row_or_number), using(crate::proofs::NumberWordLaws::digits_have_no_row))]
 fn number_by(table: &[(&[u8], u8)], least: u8, most: u8, word: &[u8]) -> Option<u8>
+    requires { IsOfNames (map (λ r. (r.0.now, r.1)) table.now) }
     ensures { result ≡ row_or_number (map (λ r. (r.0.now, r.1)) table.now) least most word.now }
 {
-    if let Some(number) = row_of(table, word) {
-        return Some(number);
+    if !begins_with_digit(word) {
+        if let Some(number) = row_of(table, word) {
+            return Some(number);
+        }
     }
     let number = read_u8(word, most)?;
     if number < least { None } else { Some(number) }
+}
+
+fn begins_with_digit(word: &[u8]) -> bool
+    ensures { result ≡ begins_with_digit word.now }
+{
+    match word {
+        [first, ..] => first.is_ascii_digit(),
+        [] => false,
+    }
 }
 
 fn row_of(table: &[(&[u8], u8)], word: &[u8]) -> Option<u8>
