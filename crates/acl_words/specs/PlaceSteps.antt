@@ -7,7 +7,7 @@ use Rattle.acl_words.specs.declared.place_lists.Step.TheVariants.{Same, Next, Ow
 abbrev pub start : Place
 start = record { file = 0; line = 0 }
 
--- The line behind the one at the place. None is behind the last that has a number.
+-- The next line of the file. Behind the last number that a line can have, counting starts again at 0.
 abbrev pub next_line : Place → Place
 next_line p = if p.line == 4294967295 then record p { line = 0 } else record p { line = p.line + 1 }
 

@@ -29,7 +29,7 @@ impl<'a> Model for WordRef<'a> {
 }
 
 impl Word {
-    /// The word, without its bytes.
+    /// The same word, whose bytes stay here.
     pub fn borrowed(&self) -> WordRef<'_>
         ensures { result ≡ self.now }
     {
