@@ -13,10 +13,11 @@ use Rattle.acl_words.specs.declared.word_lists.Word.{Word}
 use Rattle.acl_policy.specs.declared.raw_terms.RawTerm.{RawTerm}
 use Rattle.acl_naming.specs.Checking.{first_of}
 use Rattle.acl_naming.specs.Definitions.{Definition, Naming}
+use Rattle.acl_naming.specs.Ports.{top_port}
 use Rattle.acl_naming.specs.Reach.{ReachesPort}
 use Rattle.acl_terms.specs.DistinctSteps.{AreSame, has, new_words}
 use Rattle.acl_terms.specs.Matching.{AnyOf, IsPort, NamesPort}
-use Rattle.acl_terms.specs.Sets.{IsSetOf}
+use Rattle.acl_terms.specs.Sets.{IsPortSet, IsSetOf}
 use Rattle.acl_terms.specs.Slips.{first_in, is_defined, port_words, reaches_protocol, network_slip, service_slip, services_slip, unless}
 use Rattle.acl_terms.proofs.SetLaws.{IsSetSoFar, any-join, begun-set, next-set, same-set}
 use Rattle.acl_terms.proofs.SlipLaws.{both-passed, unless-passed}
@@ -208,11 +209,20 @@ same-port n ms ns (w ∷ ws) x same h =
     same-admitted (NamesPort n ms x) (NamesPort n ns x) (w ∷ ws)
     (λ v. same-any (λ q. ReachesPort n.services v.text q x) ms ns same) h
 
-pub same-ports : (n : Naming) (ms ns : List ℕ) (words : List Word) (top : ℕ) (s : Numbers) → AreSame ms ns
-    → IsSetOf (IsPort n ms words) top s → IsSetOf (IsPort n ns words) top s
-same-ports n ms ns words top s same h =
-    same-set (IsPort n ms words) (IsPort n ns words) top s
+same-set-of-ports : (n : Naming) (ms ns : List ℕ) (words : List Word) (s : Numbers) → AreSame ms ns
+    → IsSetOf (IsPort n ms words) top_port s → IsSetOf (IsPort n ns words) top_port s
+same-set-of-ports n ms ns words s same h =
+    same-set (IsPort n ms words) (IsPort n ns words) top_port s
     (λ x. (λ p. same-port n ms ns words x same p, λ p. same-port n ns ms words x (λ m. sym (same m)) p)) h
+
+pub same-ports : (n : Naming) (ms ns : List ℕ) (t : RawTerm) (sports dports : Numbers) → AreSame ms ns
+    → IsPortSet n ms t sports dports → IsPortSet n ns t sports dports
+same-ports n ms ns t sports dports same h = (
+  same-set-of-ports n ms ns t.source_ports sports same h.0,
+  same-set-of-ports n ms ns t.destination_ports dports same h.1,
+  h.2,
+  h.3,
+)
 
 -- ---- questions on names
 

@@ -1,5 +1,5 @@
 -- The sets of a term: they hold exactly the numbers that the words of the term name.
-use Rattle.std.specs.Prelude.{◌≡◌, ◌≢◌, ◌↔◌, ℕ, ◌≤◌, true, []}
+use Rattle.std.specs.Prelude.{◌≡◌, ◌≢◌, ◌↔◌, ℕ, ◌≤◌, true, List, []}
 use Rattle.acl_packet.specs.declared.addresses.Family.{Family}
 use Rattle.acl_packet.specs.declared.addresses.Family.TheVariants.{V4, V6}
 use Rattle.acl_packet.specs.Addresses.{top_address}
@@ -20,11 +20,11 @@ IsAddressSet n f t src dst =
     IsSetOf (IsAddress n f t.sources t.source_excludes) (top_address f) src
     × IsSetOf (IsAddress n f t.destinations t.destination_excludes) (top_address f) dst
 
--- Ports are some, where some protocol is named wherever ports are.
-abbrev pub IsPortSet : Naming → RawTerm → Numbers → Numbers → Type 0
-IsPortSet n t sports dports =
-    IsSetOf (IsPort n (protocols_of t.protocols) t.source_ports) top_port sports
-    × IsSetOf (IsPort n (protocols_of t.protocols) t.destination_ports) top_port dports
+-- The ports with the protocols. They are some, where some protocol is named wherever ports are.
+abbrev pub IsPortSet : Naming → List ℕ → RawTerm → Numbers → Numbers → Type 0
+IsPortSet n protos t sports dports =
+    IsSetOf (IsPort n protos t.source_ports) top_port sports
+    × IsSetOf (IsPort n protos t.destination_ports) top_port dports
     × (sports.ranges ≢ []) × (dports.ranges ≢ [])
 
 -- The sets of a term: addresses by family, protocols, ports and types.
@@ -42,6 +42,6 @@ pub record AreSetsOf (n : Naming) (t : RawTerm) (s : Sets) : Type 0 where
   pub ipv4 : IsAddressSet n V4 t s.src4 s.dst4
   pub ipv6 : IsAddressSet n V6 t s.src6 s.dst6
   pub protos_are : IsSetOf (IsProtocol t.protocols) 255 s.protos
-  pub ports : IsPortSet n t s.sports s.dports
+  pub ports : IsPortSet n (protocols_of t.protocols) t s.sports s.dports
   pub itypes_are : IsSetOf (IsType (icmp_family (protocols_of t.protocols)) t.icmp_types) 255
       s.itypes

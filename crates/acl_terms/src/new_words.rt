@@ -7,7 +7,8 @@ use indexmap::IndexSet;
 use std::alloc::Global;
 use std::marker::Model;
 
-/// The words of a list that are not yet given, of each text but the first one. A contract sees their list.
+/// The words of a list that are not yet given. Where a text stands more than once, only its first word is
+/// given. A contract sees the list of the words to come.
 #[derive(Drop)]
 pub(crate) struct NewWords<'a> {
     seen: IndexSet<&'a [u8]>,

@@ -2,7 +2,7 @@ ghost use Rattle.std.specs.Prelude.{◌≡◌, ◌≢◌, [], IfOk};
 ghost use Rattle.acl_naming.specs.Ports.{top_port};
 ghost use Rattle.acl_naming.specs.Reach.{ReachesPort};
 ghost use Rattle.acl_terms.specs.Matching.{Admits, AnyOf, IsPort, NamesPort};
-ghost use Rattle.acl_terms.specs.Sets.{IsSetOf};
+ghost use Rattle.acl_terms.specs.Sets.{IsPortSet, IsSetOf};
 ghost use Rattle.acl_terms.specs.SetSteps.{both_ports_slip, protocol_slip};
 ghost use Rattle.acl_terms.specs.Slips.{Judges, first_in, port_words, service_slip, services_slip};
 
@@ -117,12 +117,8 @@ fn both_ports(
 ) -> Result<TermPorts, Refusal>
     requires { port_words raw.now ≢ [] → protos.now ≢ [] }
     ensures judged { Judges result (both_ports_slip base.now.services protos.now raw.now) }
-    ensures sports { IfOk result (λ p.
-        IsSetOf (IsPort base.now protos.now raw.now.source_ports) top_port p.sports) }
-    ensures dports { IfOk result (λ p.
-        IsSetOf (IsPort base.now protos.now raw.now.destination_ports) top_port p.dports) }
-    ensures some_sports { IfOk result (λ p. p.sports.ranges ≢ []) }
-    ensures some_dports { IfOk result (λ p. p.dports.ranges ≢ []) }
+    ensures ports { IfOk result (λ p.
+        IsPortSet base.now protos.now raw.now p.sports p.dports) }
 {
     let sports = admitted(alloc, base, protos, &raw.source_ports)?;
     let dports = admitted(alloc, base, protos, &raw.destination_ports)?;
@@ -140,12 +136,8 @@ pub(crate) fn ports_of_term(
 ) -> Result<TermPorts, Refusal>
     requires { port_words raw.now ≢ [] → protos.now ≢ [] }
     ensures judged { Judges result (services_slip base.now.services protos.now raw.now) }
-    ensures sports { IfOk result (λ p.
-        IsSetOf (IsPort base.now protos.now raw.now.source_ports) top_port p.sports) }
-    ensures dports { IfOk result (λ p.
-        IsSetOf (IsPort base.now protos.now raw.now.destination_ports) top_port p.dports) }
-    ensures some_sports { IfOk result (λ p. p.sports.ranges ≢ []) }
-    ensures some_dports { IfOk result (λ p. p.dports.ranges ≢ []) }
+    ensures ports { IfOk result (λ p.
+        IsPortSet base.now protos.now raw.now p.sports p.dports) }
 {
     let protos = distinct(alloc, protos)?;
     both_ports(alloc, base, &protos, raw)

@@ -1,8 +1,6 @@
 use Rattle.std.proofs.Common.{subst, sym, ◌∙◌}
-use Rattle.acl_naming.specs.Ports.{top_port}
 use Rattle.acl_terms.specs.DistinctSteps.{AreSame}
-use Rattle.acl_terms.specs.Matching.{IsPort}
-use Rattle.acl_terms.specs.Sets.{IsSetOf}
+use Rattle.acl_terms.specs.Sets.{IsPortSet}
 use Rattle.acl_terms.specs.Slips.{Judges}
 use Rattle.acl_terms.proofs.DistinctLaws.{if-ok, same-ports, same-services, same-some}
 use Rattle.acl_terms.proofs.SlipLaws.{services_by_ends}
@@ -23,20 +21,12 @@ returns-clause-judged c =
     (subst (λ ns. AreSame ns c.args.protos.now) (sym c.deref.ensures.value) c.in_ok-protos.ensures))
     c.both_ports.ensures.judged
 
-pub returns-clause-sports : goal.returns-clause-sports
-returns-clause-sports c =
-    let words = c.args.raw.now.source_ports in
-    if-ok (λ p. IsSetOf (IsPort c.args.base.now c.deref.result.now words) top_port p.sports)
-    (λ p. IsSetOf (IsPort c.args.base.now c.args.protos.now words) top_port p.sports) c.both_ports.result
-    (λ p h. same-ports c.args.base.now c.deref.result.now c.args.protos.now words top_port p.sports
+pub returns-clause-ports : goal.returns-clause-ports
+returns-clause-ports c =
+    let base = c.args.base.now in
+    let raw = c.args.raw.now in
+    if-ok (λ p. IsPortSet base c.deref.result.now raw p.sports p.dports)
+    (λ p. IsPortSet base c.args.protos.now raw p.sports p.dports) c.both_ports.result
+    (λ p h. same-ports base c.deref.result.now c.args.protos.now raw p.sports p.dports
     (subst (λ ns. AreSame ns c.args.protos.now) (sym c.deref.ensures.value) c.in_ok-protos.ensures) h)
-    c.both_ports.ensures.sports
-
-pub returns-clause-dports : goal.returns-clause-dports
-returns-clause-dports c =
-    let words = c.args.raw.now.destination_ports in
-    if-ok (λ p. IsSetOf (IsPort c.args.base.now c.deref.result.now words) top_port p.dports)
-    (λ p. IsSetOf (IsPort c.args.base.now c.args.protos.now words) top_port p.dports) c.both_ports.result
-    (λ p h. same-ports c.args.base.now c.deref.result.now c.args.protos.now words top_port p.dports
-    (subst (λ ns. AreSame ns c.args.protos.now) (sym c.deref.ensures.value) c.in_ok-protos.ensures) h)
-    c.both_ports.ensures.dports
+    c.both_ports.ensures.ports
