@@ -187,14 +187,10 @@ word_reads Start s ws w h = if_ok (Reads (ws ++ w ∷ [])) (is_word w (codes "he
       };
     })
     (λ _. tt)
-word_reads Header s ws w h = tt
-word_reads InHeader s ws w h = tt
 word_reads HeaderEnd s ws w h = if_ok (Reads (ws ++ w ∷ [])) (is_word w (codes "term")) _ _
     (λ c. term_word_reads HeaderEnd s ws w h h.is_open.block refl h.is_open.is_open h.is_open.words_are c)
     (λ _. if_ok (Reads (ws ++ w ∷ [])) (is_word w (codes "header")) _ _ (λ _. tt) (λ _. tt))
 word_reads Term s ws w h = name_reads s ws w h
-word_reads Named s ws w h = tt
-word_reads InTerm s ws w h = tt
 word_reads TermEnd s ws w h = if_ok (Reads (ws ++ w ∷ [])) (is_word w (codes "term")) _ _
     (λ c. term_word_reads TermEnd s ws w h h.is_open.block refl h.is_open.is_open h.is_open.words_are c)
     (λ _. if_ok (Reads (ws ++ w ∷ [])) (is_word w (codes "header")) _ _
@@ -219,6 +215,7 @@ word_reads TermEnd s ws w h = if_ok (Reads (ws ++ w ∷ [])) (is_word w (codes "
       };
     })
     (λ _. tt))
+word_reads _ s ws w h = tt
 
 words_read : (s : State) (before ws : List Token) → Reads before s → IfOk (behind_words s ws) (Reads (before ++ ws))
 words_read s before [] h = subst (λ xs. Reads xs s) (sym (append-nil before)) h
@@ -229,8 +226,8 @@ words_read s before (w ∷ ws) h =
     (words_read t (before ++ w ∷ []) ws g))
 
 -- A keyword of a header.
-keyword_is : (k : Token) (text : List ℕ) → k.form ≡ forms.Keyword → k.text ≡ text → k ≡ word k.place forms.Keyword text
-keyword_is k text f t = λ i. record { place = k.place; form = f i; text = t i }
+mark_is : (m : Token) (form : Form) (text : List ℕ) → m.form ≡ form → m.text ≡ text → m ≡ word m.place form text
+mark_is m form text f t = λ i. record { place = m.place; form = f i; text = t i }
 
 bytes_are : (a b : List ℕ) → bytes_eq a b ≡ true → a ≡ b
 bytes_are a b h = (bytes_eq-Decides a b).0 h
@@ -268,7 +265,7 @@ remark_reads s ws k vs p h f t =
         targets_are = h.is_open.targets_are ∙ sym (append-nil (flat_map header_item_targets h.is_open.items))
             ∙ sym (flat_push header_item_targets h.is_open.items i);
         no_terms = h.is_open.no_terms;
-        words_are = item_more s ws h i k vs (λ j. keyword_is k (codes "comment::") f t j ∷ v.words_are j);
+        words_are = item_more s ws h i k vs (λ j. mark_is k forms.Keyword (codes "comment::") f t j ∷ v.words_are j);
       };
     }))
 
@@ -339,7 +336,7 @@ target_reads s ws k vs p h f t =
                 (λ j. h.is_open.targets_are j ++ given j ∷ [])
                 ∙ sym (flat_push header_item_targets h.is_open.items i);
             no_terms = h.is_open.no_terms;
-            words_are = item_more s ws h i k vs (λ j. keyword_is k (codes "target::") f t_text j ∷ m.words_are j);
+            words_are = item_more s ws h i k vs (λ j. mark_is k forms.Keyword (codes "target::") f t_text j ∷ m.words_are j);
           };
         }
       where
@@ -376,7 +373,7 @@ item_of name items k vs days f = by_key (draft_behind d k vs) refl (draft_keyed 
         (λ _ v. let i : Item = record { place = k.place; key = key; first = v.first; more = v.more } in record {
           item = i;
           stands = record { values_are = v.values_are; one_value = v.one_value; first_time = v.first_time };
-          words_are = λ j. keyword_is k (key_text key) f e j ∷ v.words_are j;
+          words_are = λ j. mark_is k forms.Keyword (key_text key) f e j ∷ v.words_are j;
           draft_is =
               ap (λ ws. draft_from name (pushed (values_at items) key (map word_of ws))) v.words_are
               ∙ ap (draft_from name) (values_push items i);
@@ -430,20 +427,14 @@ keyword_reads : (p : Part) (s : State) (ws : List Token) (k : Token) (vs : List 
     → k.form ≡ forms.Keyword
     → IfOk (behind_keyword p s k vs) (Reads (ws ++ k ∷ vs))
 unfolding behind_keyword
-keyword_reads Start s ws k vs e h f = tt
-keyword_reads Header s ws k vs e h f = tt
 keyword_reads InHeader s ws k vs e h f = header_keyword_reads s ws k vs e h f
-keyword_reads HeaderEnd s ws k vs e h f = tt
-keyword_reads Term s ws k vs e h f = tt
-keyword_reads Named s ws k vs e h f = tt
 keyword_reads InTerm s ws k vs e h f = item_reads_on s ws k vs e h f
-keyword_reads TermEnd s ws k vs e h f = tt
+keyword_reads _ s ws k vs e h f = tt
 
 -- Braces.
 begin_reads : (p : Part) (s : State) (ws : List Token) (m : Token) → ReadsAt p s ws → m ≡ word m.place forms.Begin (codes "{")
     → IfOk (behind_begin p s m) (Reads (ws ++ m ∷ []))
 unfolding behind_begin
-begin_reads Start s ws m h e = tt
 begin_reads Header s ws m h e = record {
   blocks = h.blocks;
   kept = same_kept s (record s { part = InHeader }) h.blocks refl refl refl refl h.kept;
@@ -461,9 +452,6 @@ begin_reads Header s ws m h e = record {
         (word m.place forms.Begin (codes "{") ∷ []);
   };
 }
-begin_reads InHeader s ws m h e = tt
-begin_reads HeaderEnd s ws m h e = tt
-begin_reads Term s ws m h e = tt
 begin_reads Named s ws m h e = record {
   blocks = h.blocks;
   kept = same_kept s (record s { part = InTerm }) h.blocks refl refl refl refl h.kept;
@@ -487,8 +475,7 @@ begin_reads Named s ws m h e = record {
         (word m.place forms.Begin (codes "{") ∷ []);
   };
 }
-begin_reads InTerm s ws m h e = tt
-begin_reads TermEnd s ws m h e = tt
+begin_reads _ s ws m h e = tt
 
 some_is : (n : ℕ) → (n == 0) ≡ false → 0 < n
 some_is n h = grind (arith, nat_tests)
@@ -569,19 +556,11 @@ term_closes s ws m h e acted =
 end_reads : (p : Part) (s : State) (ws : List Token) (m : Token) → ReadsAt p s ws → m ≡ word m.place forms.End (codes "}")
     → IfOk (behind_end p s m) (Reads (ws ++ m ∷ []))
 unfolding behind_end
-end_reads Start s ws m h e = tt
-end_reads Header s ws m h e = tt
 end_reads InHeader s ws m h e = if_ok (Reads (ws ++ m ∷ [])) (length s.targets == 0) _ _ (λ _. tt) (λ c. header_closes s ws m h e c)
-end_reads HeaderEnd s ws m h e = tt
-end_reads Term s ws m h e = tt
-end_reads Named s ws m h e = tt
 end_reads InTerm s ws m h e = if_ok (Reads (ws ++ m ∷ [])) s.draft.has_action _ _ (λ c. term_closes s ws m h e c) (λ _. tt)
-end_reads TermEnd s ws m h e = tt
+end_reads _ s ws m h e = tt
 
 -- A keyword or a brace, and the words behind it.
-brace_is : (m : Token) (form : Form) (text : List ℕ) → m.form ≡ form → m.text ≡ text → m ≡ word m.place form text
-brace_is m form text f t = λ i. record { place = m.place; form = f i; text = t i }
-
 brace_reads : (ws : List Token) (m : Token) (vs : List Token) (r : Result State Slip) → IfOk r (Reads (ws ++ m ∷ []))
     → IfOk (r >>= λ t. behind_words t vs) (Reads (ws ++ m ∷ vs))
 brace_reads ws m vs r h = bind_ok (Reads (ws ++ m ∷ [])) (Reads (ws ++ m ∷ vs)) r (λ t. behind_words t vs) h
@@ -594,25 +573,10 @@ unfolding behind_mark
 mark_reads forms.Keyword s ws m vs h e k b = keyword_reads s.part s ws m vs refl h e
 mark_reads forms.Begin s ws m vs h e k b =
     brace_reads ws m vs (behind_begin s.part s m)
-    (begin_reads s.part s ws m h (brace_is m forms.Begin (codes "{") e (b.begin_is e)))
+    (begin_reads s.part s ws m h (mark_is m forms.Begin (codes "{") e (b.begin_is e)))
 mark_reads forms.End s ws m vs h e k b =
-    brace_reads ws m vs (behind_end s.part s m) (end_reads s.part s ws m h (brace_is m forms.End (codes "}") e (b.end_is e)))
-mark_reads forms.Plain s ws m vs h e k b = absurd (not_marked k)
-  where
-    not_marked : false ≡ true → ⊥
-    not_marked p = cc
-mark_reads forms.Quoted s ws m vs h e k b = absurd (not_marked k)
-  where
-    not_marked : false ≡ true → ⊥
-    not_marked p = cc
-mark_reads forms.Unclosed s ws m vs h e k b = absurd (not_marked k)
-  where
-    not_marked : false ≡ true → ⊥
-    not_marked p = cc
-mark_reads forms.Bad s ws m vs h e k b = absurd (not_marked k)
-  where
-    not_marked : false ≡ true → ⊥
-    not_marked p = cc
+    brace_reads ws m vs (behind_end s.part s m) (end_reads s.part s ws m h (mark_is m forms.End (codes "}") e (b.end_is e)))
+mark_reads _ s ws m vs h e k b = cc
 
 -- The words from the first keyword or brace on.
 abbrev from_mark : List Token → List Token
@@ -679,14 +643,8 @@ ended_text s ws h =
 
 end_has_text : (p : Part) (s : State) (ws : List Token) (place : Place) → ReadsAt p s ws → IfOk (end_of p s place) (HasText ws)
 unfolding end_of
-end_has_text Start s ws place h = tt
-end_has_text Header s ws place h = tt
-end_has_text InHeader s ws place h = tt
-end_has_text HeaderEnd s ws place h = tt
-end_has_text Term s ws place h = tt
-end_has_text Named s ws place h = tt
-end_has_text InTerm s ws place h = tt
 end_has_text TermEnd s ws place h = ended_text s ws h
+end_has_text _ s ws place h = tt
 
 pub read_has_text : (ws : List Token) → AllByRecursion IsBraceText ws → IfOk (policy_of ws) (HasText ws)
 unfolding policy_of

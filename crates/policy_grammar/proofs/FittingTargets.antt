@@ -1,5 +1,5 @@
 -- A target that fits its platform is what a target line means.
-use Rattle.std.proofs.Common.{◌≡◌, ℕ, ◌+◌, ◌-◌, ◌==◌, Bool, true, false, ℤ, pos, negsuc, List, [], ◌∷◌, ◌++◌, map, None, Some, decimal, option_map, option_and_then, refl, ap, sym, ◌∙◌, arith}
+use Rattle.std.proofs.Common.{◌≡◌, ℕ, ◌+◌, ◌-◌, ◌==◌, Bool, true, false, ℤ, pos, negsuc, List, [], ◌∷◌, ◌++◌, None, Some, decimal, option_map, option_and_then, refl, ap, sym, subst, ◌∙◌, arith}
 use Rattle.std.specs.Char.{is_ascii_digit}
 use Rattle.std.specs.Str.{all_ascii_digits}
 use Rattle.std.proofs.lemmas.Bool.{ne_eqb}
@@ -8,8 +8,8 @@ use Rattle.std.proofs.lemmas.Int.{ints}
 use Rattle.acl_packet.specs.Decimals.{IsNumber, number_in}
 use Rattle.acl_packet.proofs.DecimalLaws.{number-is, number-again}
 use Rattle.acl_packet.specs.declared.addresses.Families.{Families}
-use Rattle.acl_packet.specs.declared.addresses.Families.TheVariants.{Inet, Inet6, Mixed}
-use Rattle.acl_packet.specs.declared.filtering.Hook.{Hook}
+use Rattle.acl_packet.specs.declared.addresses.Families.TheVariants.{Inet6, Mixed}
+use Rattle.acl_packet.specs.declared.filtering.Hook.TheVariants as hooks
 use Rattle.acl_text.specs.declared.faults.Place.{Place}
 use Rattle.acl_text.specs.SignedNumbers.{IsSignedWord, negative, below_zero_in, from_zero_in, signed_in}
 use Rattle.acl_text.proofs.SignedLaws.{signed_some}
@@ -19,8 +19,8 @@ use Rattle.acl_target.specs.declared.targets.Kind.{Kind}
 use Rattle.acl_target.specs.declared.targets.Kind.TheVariants.{Cisco, Juniper, Iptables, Nftables}
 use Rattle.acl_target.specs.declared.targets.Target.{Target}
 use Rattle.acl_target.specs.Clashes.{is_mixed}
-use Rattle.acl_target.specs.TargetData.{chain_text, hook_text, is_verdict, is_neighbours, IsPriority, FitsPlatform}
-use Rattle.policy_grammar.specs.TargetTexts.{Choice, IsIptablesWord, IsNftablesWord, ChoicesStand, LineText, TargetText, chain_meant, hook_meant, line_meant, target_meant, LineStands}
+use Rattle.acl_target.specs.TargetData.{IsDevice, chain_text, hook_text, is_verdict, is_neighbours, IsPriority, FitsPlatform}
+use Rattle.policy_grammar.specs.TargetTexts.{Choice, LineText, TargetText, line_meant, target_meant, LineStands}
 use Rattle.policy_grammar.proofs.Outcomes.{and_left, if_false}
 
 -- The text of a number.
@@ -86,154 +86,75 @@ line_for Nftables t = LineText.NftablesLine t.place t.families t.place t.hook
 abbrev pub target_for : Target → TargetText
 target_for t = record { place = t.place; platform = t.place; line = line_for t.kind t; number = t.number }
 
--- Their words stand, and mean what the target does.
-record ChainFits (place : Place) (number : ℕ) (chain : Hook) (ending : Ending) (stateful : Bool)
-    (families : Families) : Type 0 where
-  stand : ChoicesStand IsIptablesWord (policy_words place ending ++ (state_words place stateful ++ chain_family place families))
-  means : chain_meant place number chain
-      (map (λ c. c.1) (policy_words place ending ++ (state_words place stateful ++ chain_family place families))) ≡ record {
-        place = place;
-        kind = Iptables;
-        name = chain_text chain;
-        families = families;
-        hook = chain;
-        stateful = stateful;
-        ending = ending;
-        priority = pos 0;
-        verbose = true;
-        number = number;
-      }
-
-chain_fits : (place : Place) (number : ℕ) (chain : Hook) (ending : Ending) (stateful : Bool) (families : Families)
-    → is_neighbours ending ≡ false → is_mixed families ≡ false → ChainFits place number chain ending stateful families
-chain_fits place number chain endings.Accept true Inet h k = record { stand = ((tt, refl), ((tt, refl), tt)); means = refl }
-chain_fits place number chain endings.Accept true Inet6 h k = record { stand = ((tt, refl), ((tt, refl), tt)); means = refl }
-chain_fits place number chain endings.Accept true Mixed h k = cc
-chain_fits place number chain endings.Accept false Inet h k =
-    record { stand = ((tt, refl), ((tt, refl), ((tt, refl), tt))); means = refl }
-chain_fits place number chain endings.Accept false Inet6 h k =
-    record { stand = ((tt, refl), ((tt, refl), ((tt, refl), tt))); means = refl }
-chain_fits place number chain endings.Accept false Mixed h k = cc
-chain_fits place number chain endings.Deny true Inet h k = record { stand = ((tt, refl), ((tt, refl), tt)); means = refl }
-chain_fits place number chain endings.Deny true Inet6 h k = record { stand = ((tt, refl), ((tt, refl), tt)); means = refl }
-chain_fits place number chain endings.Deny true Mixed h k = cc
-chain_fits place number chain endings.Deny false Inet h k =
-    record { stand = ((tt, refl), ((tt, refl), ((tt, refl), tt))); means = refl }
-chain_fits place number chain endings.Deny false Inet6 h k =
-    record { stand = ((tt, refl), ((tt, refl), ((tt, refl), tt))); means = refl }
-chain_fits place number chain endings.Deny false Mixed h k = cc
-chain_fits place number chain endings.Left true Inet h k = record { stand = ((tt, refl), tt); means = refl }
-chain_fits place number chain endings.Left true Inet6 h k = record { stand = ((tt, refl), tt); means = refl }
-chain_fits place number chain endings.Left true Mixed h k = cc
-chain_fits place number chain endings.Left false Inet h k = record { stand = ((tt, refl), ((tt, refl), tt)); means = refl }
-chain_fits place number chain endings.Left false Inet6 h k = record { stand = ((tt, refl), ((tt, refl), tt)); means = refl }
-chain_fits place number chain endings.Left false Mixed h k = cc
-chain_fits place number chain endings.Neighbours stateful families h k = cc
-
-record HookFits (place : Place) (number : ℕ) (families : Families) (hook : Hook) (ending : Ending) (z : ℤ)
-    (verbose : Bool) : Type 0 where
-  stand : ChoicesStand IsNftablesWord
-      (policy_words place ending ++ ((place, Choice.PriorityWord (signed_text z) z) ∷ comment_words place verbose))
-  means : hook_meant place number families hook
-      (map (λ c. c.1) (policy_words place ending ++
-      ((place, Choice.PriorityWord (signed_text z) z) ∷ comment_words place verbose))) ≡ record {
-        place = place;
-        kind = Nftables;
-        name = hook_text hook;
-        families = families;
-        hook = hook;
-        stateful = true;
-        ending = ending;
-        priority = z;
-        verbose = verbose;
-        number = number;
-      }
-
-hook_fits : (place : Place) (number : ℕ) (families : Families) (hook : Hook) (ending : Ending) (z : ℤ) (verbose : Bool)
-    → is_verdict ending ≡ true → IsSignedWord 32768 32767 (signed_text z) z
-    → HookFits place number families hook ending z verbose
-hook_fits place number families hook endings.Accept z true h r = record { stand = ((tt, refl), ((r, refl), tt)); means = refl }
-hook_fits place number families hook endings.Accept z false h r =
-    record { stand = ((tt, refl), ((r, refl), ((tt, refl), tt))); means = refl }
-hook_fits place number families hook endings.Deny z true h r = record { stand = ((tt, refl), ((r, refl), tt)); means = refl }
-hook_fits place number families hook endings.Deny z false h r =
-    record { stand = ((tt, refl), ((r, refl), ((tt, refl), tt))); means = refl }
-hook_fits place number families hook endings.Left z verbose h r = cc
-hook_fits place number families hook endings.Neighbours z verbose h r = cc
-
--- A target of the platform.
+-- The line's words stand, and mean the target.
 record TargetFits (kind : Kind) (t : Target) : Type 0 where
   stands : LineStands (line_for kind t)
   means : line_meant t.place t.number (line_for kind t) ≡ t
 
+device_fits : (kind : Kind) (ending : Ending) (t : Target) → t.kind ≡ kind → IsDevice ending t
+    → record t { kind = kind; hook = hooks.Input; stateful = false; ending = ending; priority = pos 0; verbose = true } ≡ t
+device_fits kind ending t e h = λ i. record t {
+  kind = sym e i;
+  hook = sym h.hook_is i;
+  stateful = sym h.stateless i;
+  ending = sym h.ending_is i;
+  priority = sym h.priority_is i;
+  verbose = sym h.verbose_is i;
+}
+
+-- A target of iptables, and one of nftables, by what its words say.
+abbrev chain_of : Target → Ending → Bool → Families → Target
+chain_of t ending stateful families = record t {
+  kind = Iptables;
+  name = chain_text t.hook;
+  families = families;
+  stateful = stateful;
+  ending = ending;
+  priority = pos 0;
+  verbose = true;
+}
+
+chain_fits : (t : Target) (ending : Ending) (stateful : Bool) (families : Families) → is_neighbours ending ≡ false
+    → is_mixed families ≡ false → TargetFits Iptables (chain_of t ending stateful families)
+chain_fits t endings.Neighbours _ _ h k = cc
+chain_fits t _ _ Mixed h k = cc
+chain_fits t endings.Left true _ h k = record { stands = ((tt, refl), tt); means = refl }
+chain_fits t endings.Left false _ h k = record { stands = ((tt, refl), ((tt, refl), tt)); means = refl }
+chain_fits t _ true _ h k = record { stands = ((tt, refl), ((tt, refl), tt)); means = refl }
+chain_fits t _ false _ h k = record { stands = ((tt, refl), ((tt, refl), ((tt, refl), tt))); means = refl }
+
+abbrev hook_of : Target → Ending → ℤ → Bool → Target
+hook_of t ending z verbose = record t {
+  kind = Nftables;
+  name = hook_text t.hook;
+  stateful = true;
+  ending = ending;
+  priority = z;
+  verbose = verbose;
+}
+
+hook_fits : (t : Target) (ending : Ending) (z : ℤ) (verbose : Bool) → is_verdict ending ≡ true
+    → IsSignedWord 32768 32767 (signed_text z) z → TargetFits Nftables (hook_of t ending z verbose)
+hook_fits t endings.Left z _ h r = cc
+hook_fits t endings.Neighbours z _ h r = cc
+hook_fits t _ z true h r = record { stands = ((tt, refl), ((r, refl), tt)); means = refl }
+hook_fits t _ z false h r = record { stands = ((tt, refl), ((r, refl), ((tt, refl), tt))); means = refl }
+
 by_platform : (kind : Kind) (t : Target) → t.kind ≡ kind → FitsPlatform kind t → TargetFits kind t
-by_platform Cisco t e h = record {
-  stands = h.name_is;
-  means = λ i. record {
-    place = t.place;
-    kind = sym e i;
-    name = t.name;
-    families = t.families;
-    hook = sym h.hook_is i;
-    stateful = sym h.stateless i;
-    ending = sym h.ending_is i;
-    priority = sym h.priority_is i;
-    verbose = sym h.verbose_is i;
-    number = t.number;
-  };
-}
-by_platform Juniper t e h = record {
-  stands = (h.0.name_is, h.1);
-  means = λ i. record {
-    place = t.place;
-    kind = sym e i;
-    name = t.name;
-    families = t.families;
-    hook = sym h.0.hook_is i;
-    stateful = sym h.0.stateless i;
-    ending = sym h.0.ending_is i;
-    priority = sym h.0.priority_is i;
-    verbose = sym h.0.verbose_is i;
-    number = t.number;
-  };
-}
-by_platform Iptables t e h =
-    let fits : ChainFits t.place t.number t.hook t.ending t.stateful t.families =
-    chain_fits t.place t.number t.hook t.ending t.stateful t.families h.ending_is h.one_family in
-    record {
-      stands = fits.stand;
-      means = fits.means ∙ (λ i. record {
-        place = t.place;
-        kind = sym e i;
-        name = sym h.name_is i;
-        families = t.families;
-        hook = t.hook;
-        stateful = t.stateful;
-        ending = t.ending;
-        priority = sym h.priority_is i;
-        verbose = sym h.verbose_is i;
-        number = t.number;
-      });
-    }
-by_platform Nftables t e h =
-    let fits : HookFits t.place t.number t.families t.hook t.ending t.priority t.verbose =
-    hook_fits t.place t.number t.families t.hook t.ending t.priority t.verbose h.ending_is
-    (signed_some 32768 32767 (signed_text t.priority) (Some t.priority) (sym (signed_read t.priority h.priority_is))) in
-    record {
-      stands = fits.stand;
-      means = fits.means ∙ (λ i. record {
-        place = t.place;
-        kind = sym e i;
-        name = sym h.name_is i;
-        families = t.families;
-        hook = t.hook;
-        stateful = sym h.stateful_is i;
-        ending = t.ending;
-        priority = t.priority;
-        verbose = t.verbose;
-        number = t.number;
-      });
-    }
+by_platform Cisco t e h = record { stands = h.name_is; means = device_fits Cisco endings.Neighbours t e h }
+by_platform Juniper t e h = record { stands = (h.0.name_is, h.1); means = device_fits Juniper endings.Deny t e h.0 }
+by_platform Iptables t e h = subst (TargetFits Iptables)
+    (λ i. record t {
+      kind = sym e i;
+      name = sym h.name_is i;
+      priority = sym h.priority_is i;
+      verbose = sym h.verbose_is i;
+    })
+    (chain_fits t t.ending t.stateful t.families h.ending_is h.one_family)
+by_platform Nftables t e h = subst (TargetFits Nftables)
+    (λ i. record t { kind = sym e i; name = sym h.name_is i; stateful = sym h.stateful_is i })
+    (hook_fits t t.ending t.priority t.verbose h.ending_is
+    (signed_some 32768 32767 (signed_text t.priority) (Some t.priority) (sym (signed_read t.priority h.priority_is))))
 
 pub target_stands : (t : Target) → FitsPlatform t.kind t → LineStands (target_for t).line
 target_stands t h = (by_platform t.kind t refl h).stands

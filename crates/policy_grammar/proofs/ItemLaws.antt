@@ -20,7 +20,7 @@ use Rattle.acl_policy.specs.ValueKinds.{Takes}
 use Rattle.acl_policy.specs.ValueKinds as takes
 use Rattle.acl_policy.specs.Slips.{slip_of, slip_for}
 use Rattle.acl_policy.specs.Terms.{with_comments, comment_with, draft_behind, term_with_lists, term_with_protocols, term_with_addresses}
-use Rattle.acl_policy.specs.Values.{is_value, word_of, all_values, some_values, one_value}
+use Rattle.acl_policy.specs.Values.{is_value, word_of, all_values, some_values, words_with, one_value}
 use Rattle.policy_grammar.specs.TermTexts.{Key, key_text, takes_of, stands_once, same_key, comment_text, first_word, some_word, day_meant, term_from}
 use Rattle.policy_grammar.proofs.Outcomes.{bind_ok, if_ok, weaker_ok, always_ok, and_left, and_right, and_both, if_true}
 
@@ -52,10 +52,26 @@ item_checked key at k ws =
 abbrev pub DayFits : (Key → List Word) → Type 0
 DayFits at = is_some (day_meant (at Key.ExpirationKey)) ≡ some_word (at Key.ExpirationKey)
 
-list_read : (x : Result (Unit {0}) Slip) (v : List Word) (f : List Word → RawTerm) (d : Draft)
-    → (((x >>= λ _. Ok v) >>= λ xs. Ok (f xs)) >>= λ t. Ok (record d { term = t })) ≡ (x >>= λ _. Ok (record d { term = f v }))
-list_read (Ok u) v f d = refl
-list_read (Err e) v f d = refl
+-- A keyword whose words stand behind those of a list, by what the term is with the longer list.
+list_read : (key : Key) (name : Word) (at : Key → List Word) (place : Place) (form : Form) (ws : List Token)
+    (next : List Word → RawTerm)
+    → ((words_with (takes_of key) (word place form (key_text key)) ws (at key) >>= λ xs. Ok (next xs))
+    >>= λ t. Ok (record (draft_from name at) { term = t }))
+    ≡ (some_values (takes_of key) (word place form (key_text key)) ws
+    >>= λ _. Ok (record (draft_from name at) { term = next (at key ++ map word_of ws) }))
+list_read key name at place form ws next = by_result (some_values (takes_of key) (word place form (key_text key)) ws)
+  where
+    d : Draft
+    d = draft_from name at
+
+    v : List Word
+    v = at key ++ map word_of ws
+
+    by_result : (x : Result (Unit {0}) Slip)
+        → (((x >>= λ _. Ok v) >>= λ xs. Ok (next xs)) >>= λ t. Ok (record d { term = t }))
+        ≡ (x >>= λ _. Ok (record d { term = next v }))
+    by_result (Ok u) = refl
+    by_result (Err e) = refl
 
 -- A keyword that stands once.
 one_read : (kind : Takes) (k : Token) (ws : List Token) (F : List Word → Draft) (next : Word → Draft)
@@ -157,94 +173,15 @@ expiration_reads name at place form ws h =
     ∙ once_read (at Key.ExpirationKey) takes.Day k ws
     (λ b. record (draft_from name at) { term = record (term_from name at) { expires = day_meant b } }) next (λ _. refl)
 
-source_reads : KeyReads Key.SourceKey
-unfolding draft_behind term_with_lists term_with_protocols term_with_addresses
-source_reads name at place form ws h =
-    list_read (some_values takes.Name (word place form (codes "source-address::")) ws) (at Key.SourceKey ++ map word_of ws)
-    (λ xs. record (term_from name at) { sources = xs }) (draft_from name at)
-
-source_exclude_reads : KeyReads Key.SourceExcludeKey
-unfolding draft_behind term_with_lists term_with_protocols term_with_addresses
-source_exclude_reads name at place form ws h =
-    list_read (some_values takes.Name (word place form (codes "source-exclude::")) ws) (at Key.SourceExcludeKey ++ map word_of ws)
-    (λ xs. record (term_from name at) { source_excludes = xs }) (draft_from name at)
-
-destination_reads : KeyReads Key.DestinationKey
-unfolding draft_behind term_with_lists term_with_protocols term_with_addresses
-destination_reads name at place form ws h =
-    list_read (some_values takes.Name (word place form (codes "destination-address::")) ws)
-    (at Key.DestinationKey ++ map word_of ws)
-    (λ xs. record (term_from name at) { destinations = xs }) (draft_from name at)
-
-destination_exclude_reads : KeyReads Key.DestinationExcludeKey
-unfolding draft_behind term_with_lists term_with_protocols term_with_addresses
-destination_exclude_reads name at place form ws h =
-    list_read (some_values takes.Name (word place form (codes "destination-exclude::")) ws)
-    (at Key.DestinationExcludeKey ++ map word_of ws)
-    (λ xs. record (term_from name at) { destination_excludes = xs }) (draft_from name at)
-
-protocol_reads : KeyReads Key.ProtocolKey
-unfolding draft_behind term_with_lists term_with_protocols
-protocol_reads name at place form ws h =
-    list_read (some_values takes.Protocol (word place form (codes "protocol::")) ws) (at Key.ProtocolKey ++ map word_of ws)
-    (λ xs. record (term_from name at) { protocols = xs }) (draft_from name at)
-
-source_port_reads : KeyReads Key.SourcePortKey
-unfolding draft_behind term_with_lists term_with_protocols
-source_port_reads name at place form ws h =
-    list_read (some_values takes.Name (word place form (codes "source-port::")) ws) (at Key.SourcePortKey ++ map word_of ws)
-    (λ xs. record (term_from name at) { source_ports = xs }) (draft_from name at)
-
-destination_port_reads : KeyReads Key.DestinationPortKey
-unfolding draft_behind term_with_lists term_with_protocols
-destination_port_reads name at place form ws h =
-    list_read (some_values takes.Name (word place form (codes "destination-port::")) ws)
-    (at Key.DestinationPortKey ++ map word_of ws)
-    (λ xs. record (term_from name at) { destination_ports = xs }) (draft_from name at)
-
-icmp_type_reads : KeyReads Key.IcmpTypeKey
-unfolding draft_behind term_with_lists term_with_protocols
-icmp_type_reads name at place form ws h =
-    list_read (some_values takes.IcmpType (word place form (codes "icmp-type::")) ws) (at Key.IcmpTypeKey ++ map word_of ws)
-    (λ xs. record (term_from name at) { icmp_types = xs }) (draft_from name at)
-
-option_reads : KeyReads Key.OptionKey
-unfolding draft_behind term_with_lists
-option_reads name at place form ws h =
-    list_read (some_values takes.Opt (word place form (codes "option::")) ws) (at Key.OptionKey ++ map word_of ws)
-    (λ xs. record (term_from name at) { options = xs }) (draft_from name at)
-
-platform_reads : KeyReads Key.PlatformKey
-unfolding draft_behind term_with_lists
-platform_reads name at place form ws h =
-    list_read (some_values takes.Name (word place form (codes "platform::")) ws) (at Key.PlatformKey ++ map word_of ws)
-    (λ xs. record (term_from name at) { platforms = xs }) (draft_from name at)
-
-platform_exclude_reads : KeyReads Key.PlatformExcludeKey
-unfolding draft_behind term_with_lists
-platform_exclude_reads name at place form ws h =
-    list_read (some_values takes.Name (word place form (codes "platform-exclude::")) ws)
-    (at Key.PlatformExcludeKey ++ map word_of ws)
-    (λ xs. record (term_from name at) { not_platforms = xs }) (draft_from name at)
-
--- Each keyword.
+-- Each keyword. Those of lists are read alike, and the field that takes the words stands in the goal.
 key_reads : (key : Key) → KeyReads key
-key_reads Key.CommentKey = comment_reads
-key_reads Key.OwnerKey = owner_reads
-key_reads Key.ActionKey = action_reads
-key_reads Key.LoggingKey = logging_reads
-key_reads Key.ExpirationKey = expiration_reads
-key_reads Key.SourceKey = source_reads
-key_reads Key.SourceExcludeKey = source_exclude_reads
-key_reads Key.DestinationKey = destination_reads
-key_reads Key.DestinationExcludeKey = destination_exclude_reads
-key_reads Key.ProtocolKey = protocol_reads
-key_reads Key.SourcePortKey = source_port_reads
-key_reads Key.DestinationPortKey = destination_port_reads
-key_reads Key.IcmpTypeKey = icmp_type_reads
-key_reads Key.OptionKey = option_reads
-key_reads Key.PlatformKey = platform_reads
-key_reads Key.PlatformExcludeKey = platform_exclude_reads
+unfolding draft_behind term_with_lists term_with_protocols term_with_addresses
+key_reads Key.CommentKey name at place form ws h = comment_reads name at place form ws h
+key_reads Key.OwnerKey name at place form ws h = owner_reads name at place form ws h
+key_reads Key.ActionKey name at place form ws h = action_reads name at place form ws h
+key_reads Key.LoggingKey name at place form ws h = logging_reads name at place form ws h
+key_reads Key.ExpirationKey name at place form ws h = expiration_reads name at place form ws h
+key_reads key name at place form ws h = list_read key name at place form ws _
 
 pub item_reads : (name : Word) (at : Key → List Word) (k : Token) (key : Key) (ws : List Token) → DayFits at → k.text ≡ key_text key
     → draft_behind (draft_from name at) k ws

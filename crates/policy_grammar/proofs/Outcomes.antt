@@ -1,7 +1,7 @@
 -- Steps that give a value or a slip, one behind the other, and what holds of the values that they give.
 use Rattle.std.proofs.Common.{◌≡◌, Bool, true, false, not, ◌&&◌, if◌then◌else◌, Option, None, Some, Result, Ok, Err, IfOk, IfSome, refl, ap, ◌∙◌}
 use Rattle.acl_text.specs.Steps.{◌>>=◌}
-pub use Rattle.acl_policy.proofs.Outcomes.{some_if, and_right}
+pub use Rattle.acl_policy.proofs.Outcomes.{some_if, then_has, and_right}
 
 pub bind_assoc : {A B C E : Type 0} (x : Result A E) (f : A → Result B E) (g : B → Result C E)
     → ((x >>= f) >>= g) ≡ (x >>= λ a. f a >>= g)

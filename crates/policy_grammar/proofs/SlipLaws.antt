@@ -1,5 +1,5 @@
 -- Slips: one that is found at a word stays, whatever stands behind it.
-use Rattle.std.proofs.Common.{◌≡◌, Bool, true, false, nat_le, if◌then◌else◌, List, [], ◌∷◌, ◌++◌, map, length, is_some, Result, Ok, Err, IfErr, refl, ap, sym, subst, ◌∙◌, codes}
+use Rattle.std.proofs.Common.{◌≡◌, ℕ, Bool, true, false, nat_le, if◌then◌else◌, List, [], ◌∷◌, ◌++◌, map, length, is_some, Result, Ok, Err, IfErr, refl, ap, sym, subst, ◌∙◌, codes}
 use Rattle.std.specs.Str.{bytes_eq}
 use Rattle.std.specs.List.{list_any}
 use Rattle.acl_packet.specs.declared.addresses.Families.{Families}
@@ -17,7 +17,7 @@ use Rattle.acl_policy.specs.ReadingParts.{Choices}
 use Rattle.acl_policy.specs.declared.raw_terms.RawTerm.{RawTerm}
 use Rattle.acl_words.specs.declared.word_lists.Word.{Word}
 use Rattle.acl_policy.specs.ReadingParts.{Part}
-use Rattle.acl_policy.specs.ReadingParts.{Start, Header, InHeader, HeaderEnd, Term, Named, InTerm, TermEnd}
+use Rattle.acl_policy.specs.ReadingParts.{InHeader, InTerm}
 use Rattle.acl_policy.specs.ReadingParts.{State}
 use Rattle.acl_policy.specs.ReadingParts.{Draft}
 use Rattle.acl_policy.specs.ValueKinds.{Takes}
@@ -143,55 +143,54 @@ words_stay : (kind : Takes) (k : Token) (xs ys : List Token) (before : List Word
 words_stay kind k xs ys before = first_stays (some_values kind k xs) (some_values kind k (xs ++ ys)) _ _ (some_stay kind k xs ys)
     (never (λ _. before ++ map word_of xs))
 
--- Keywords of terms.
+-- Keywords of terms: one of a list, and one that stands once.
+list_stays : (text : List ℕ) (kind : Takes) (k : Token) (xs ys : List Token) (before : List Word) (next : List Word → RawTerm)
+    (rest rest' : Result RawTerm Slip) → Stays rest rest'
+    → Stays (if bytes_eq k.text text then (words_with kind k xs before >>= λ ws. Ok (next ws)) else rest)
+    (if bytes_eq k.text text then (words_with kind k (xs ++ ys) before >>= λ ws. Ok (next ws)) else rest')
+list_stays text kind k xs ys before next rest rest' h = if_stays (bytes_eq k.text text) _ _ _ _
+    (first_stays (words_with kind k xs before) (words_with kind k (xs ++ ys) before) _ _ (words_stay kind k xs ys before)
+    (never next))
+    h
+
+once_stays : (text : List ℕ) (seen : Bool) (kind : Takes) (k : Token) (xs ys : List Token) (next : Word → Draft)
+    (rest rest' : Result Draft Slip) → Stays rest rest'
+    → Stays (if bytes_eq k.text text then (if seen then Err (slip_of codes_of.Repeated k) else
+    (one_value kind k xs >>= λ w. Ok (next w))) else rest)
+    (if bytes_eq k.text text then (if seen then Err (slip_of codes_of.Repeated k) else
+    (one_value kind k (xs ++ ys) >>= λ w. Ok (next w))) else rest')
+once_stays text seen kind k xs ys next rest rest' h = if_stays (bytes_eq k.text text) _ _ _ _
+    (if_stays seen _ _ _ _ (same _)
+    (first_stays (one_value kind k xs) (one_value kind k (xs ++ ys)) _ _ (one_stays kind k xs ys) (never next)))
+    h
+
 addresses_stay : (t : RawTerm) (k : Token) (xs ys : List Token)
     → Stays (term_with_addresses t k xs) (term_with_addresses t k (xs ++ ys))
 unfolding term_with_addresses
 addresses_stay t k xs ys =
-    if_stays (bytes_eq k.text (codes "source-address::")) _ _ _ _
-    (first_stays (words_with takes.Name k xs t.sources) _ _ _ (words_stay takes.Name k xs ys t.sources)
-    (never (λ ws. record t { sources = ws })))
-    (if_stays (bytes_eq k.text (codes "source-exclude::")) _ _ _ _
-    (first_stays (words_with takes.Name k xs t.source_excludes) _ _ _ (words_stay takes.Name k xs ys t.source_excludes)
-    (never (λ ws. record t { source_excludes = ws })))
-    (if_stays (bytes_eq k.text (codes "destination-address::")) _ _ _ _
-    (first_stays (words_with takes.Name k xs t.destinations) _ _ _ (words_stay takes.Name k xs ys t.destinations)
-    (never (λ ws. record t { destinations = ws })))
-    (if_stays (bytes_eq k.text (codes "destination-exclude::")) _ _ _ _
-    (first_stays (words_with takes.Name k xs t.destination_excludes) _ _ _
-    (words_stay takes.Name k xs ys t.destination_excludes) (never (λ ws. record t { destination_excludes = ws })))
-    (same _))))
+    list_stays (codes "source-address::") takes.Name k xs ys t.sources (λ ws. record t { sources = ws }) _ _
+    (list_stays (codes "source-exclude::") takes.Name k xs ys t.source_excludes (λ ws. record t { source_excludes = ws }) _ _
+    (list_stays (codes "destination-address::") takes.Name k xs ys t.destinations (λ ws. record t { destinations = ws }) _ _
+    (list_stays (codes "destination-exclude::") takes.Name k xs ys t.destination_excludes
+    (λ ws. record t { destination_excludes = ws }) _ _ (same _))))
 
 protocols_stay : (t : RawTerm) (k : Token) (xs ys : List Token)
     → Stays (term_with_protocols t k xs) (term_with_protocols t k (xs ++ ys))
 unfolding term_with_protocols
 protocols_stay t k xs ys =
-    if_stays (bytes_eq k.text (codes "protocol::")) _ _ _ _
-    (first_stays (words_with takes.Protocol k xs t.protocols) _ _ _ (words_stay takes.Protocol k xs ys t.protocols)
-    (never (λ ws. record t { protocols = ws })))
-    (if_stays (bytes_eq k.text (codes "source-port::")) _ _ _ _
-    (first_stays (words_with takes.Name k xs t.source_ports) _ _ _ (words_stay takes.Name k xs ys t.source_ports)
-    (never (λ ws. record t { source_ports = ws })))
-    (if_stays (bytes_eq k.text (codes "destination-port::")) _ _ _ _
-    (first_stays (words_with takes.Name k xs t.destination_ports) _ _ _ (words_stay takes.Name k xs ys t.destination_ports)
-    (never (λ ws. record t { destination_ports = ws })))
-    (if_stays (bytes_eq k.text (codes "icmp-type::")) _ _ _ _
-    (first_stays (words_with takes.IcmpType k xs t.icmp_types) _ _ _ (words_stay takes.IcmpType k xs ys t.icmp_types)
-    (never (λ ws. record t { icmp_types = ws })))
+    list_stays (codes "protocol::") takes.Protocol k xs ys t.protocols (λ ws. record t { protocols = ws }) _ _
+    (list_stays (codes "source-port::") takes.Name k xs ys t.source_ports (λ ws. record t { source_ports = ws }) _ _
+    (list_stays (codes "destination-port::") takes.Name k xs ys t.destination_ports
+    (λ ws. record t { destination_ports = ws }) _ _
+    (list_stays (codes "icmp-type::") takes.IcmpType k xs ys t.icmp_types (λ ws. record t { icmp_types = ws }) _ _
     (addresses_stay t k xs ys))))
 
 lists_stay : (t : RawTerm) (k : Token) (xs ys : List Token) → Stays (term_with_lists t k xs) (term_with_lists t k (xs ++ ys))
 unfolding term_with_lists
 lists_stay t k xs ys =
-    if_stays (bytes_eq k.text (codes "option::")) _ _ _ _
-    (first_stays (words_with takes.Opt k xs t.options) _ _ _ (words_stay takes.Opt k xs ys t.options)
-    (never (λ ws. record t { options = ws })))
-    (if_stays (bytes_eq k.text (codes "platform::")) _ _ _ _
-    (first_stays (words_with takes.Name k xs t.platforms) _ _ _ (words_stay takes.Name k xs ys t.platforms)
-    (never (λ ws. record t { platforms = ws })))
-    (if_stays (bytes_eq k.text (codes "platform-exclude::")) _ _ _ _
-    (first_stays (words_with takes.Name k xs t.not_platforms) _ _ _ (words_stay takes.Name k xs ys t.not_platforms)
-    (never (λ ws. record t { not_platforms = ws })))
+    list_stays (codes "option::") takes.Opt k xs ys t.options (λ ws. record t { options = ws }) _ _
+    (list_stays (codes "platform::") takes.Name k xs ys t.platforms (λ ws. record t { platforms = ws }) _ _
+    (list_stays (codes "platform-exclude::") takes.Name k xs ys t.not_platforms (λ ws. record t { not_platforms = ws }) _ _
     (protocols_stay t k xs ys)))
 
 draft_stays : (d : Draft) (k : Token) (xs ys : List Token) → Stays (draft_behind d k xs) (draft_behind d k (xs ++ ys))
@@ -199,17 +198,13 @@ unfolding draft_behind
 draft_stays d k xs ys =
     if_stays (bytes_eq k.text (codes "comment::")) _ _ _ _
     (first_stays (some_values takes.String k xs) _ _ _ (some_stay takes.String k xs ys) (never (λ _. with_comments d xs)))
-    (if_stays (bytes_eq k.text (codes "owner::")) _ _ _ _ (if_stays d.has_owner _ _ _ _ (same _)
-    (first_stays (one_value takes.Any k xs) _ _ _ (one_stays takes.Any k xs ys) (never (λ _. record d { has_owner = true }))))
-    (if_stays (bytes_eq k.text (codes "action::")) _ _ _ _ (if_stays d.has_action _ _ _ _ (same _)
-    (first_stays (one_value takes.Action k xs) _ _ _ (one_stays takes.Action k xs ys)
-    (never (λ w. record d { term = record d.term { action = w }; has_action = true }))))
-    (if_stays (bytes_eq k.text (codes "logging::")) _ _ _ _ (if_stays d.term.logging _ _ _ _ (same _)
-    (first_stays (one_value takes.Logging k xs) _ _ _ (one_stays takes.Logging k xs ys)
-    (never (λ _. record d { term = record d.term { logging = true } }))))
-    (if_stays (bytes_eq k.text (codes "expiration::")) _ _ _ _ (if_stays (is_some d.term.expires) _ _ _ _ (same _)
-    (first_stays (one_value takes.Day k xs) _ _ _ (one_stays takes.Day k xs ys)
-    (never (λ w. record d { term = record d.term { expires = day_named w.text } }))))
+    (once_stays (codes "owner::") d.has_owner takes.Any k xs ys (λ _. record d { has_owner = true }) _ _
+    (once_stays (codes "action::") d.has_action takes.Action k xs ys
+    (λ w. record d { term = record d.term { action = w }; has_action = true }) _ _
+    (once_stays (codes "logging::") d.term.logging takes.Logging k xs ys
+    (λ _. record d { term = record d.term { logging = true } }) _ _
+    (once_stays (codes "expiration::") (is_some d.term.expires) takes.Day k xs ys
+    (λ w. record d { term = record d.term { expires = day_named w.text } }) _ _
     (first_stays (term_with_lists d.term k xs) _ _ _ (lists_stay d.term k xs ys) (never (λ t. record d { term = t })))))))
 
 -- Target lines.
@@ -283,15 +278,10 @@ header_stays s k xs ys =
 keyword_stays : (p : Part) (s : State) (k : Token) (xs ys : List Token)
     → Stays (behind_keyword p s k xs) (behind_keyword p s k (xs ++ ys))
 unfolding behind_keyword
-keyword_stays Start s k xs ys = same _
-keyword_stays Header s k xs ys = same _
 keyword_stays InHeader s k xs ys = header_stays s k xs ys
-keyword_stays HeaderEnd s k xs ys = same _
-keyword_stays Term s k xs ys = same _
-keyword_stays Named s k xs ys = same _
 keyword_stays InTerm s k xs ys =
     first_stays (draft_behind s.draft k xs) _ _ _ (draft_stays s.draft k xs ys) (never (λ d. record s { draft = d }))
-keyword_stays TermEnd s k xs ys = same _
+keyword_stays _ s k xs ys = same _
 
 -- Words, braces and all.
 run_stays : (s : State) (xs ys : List Token) → Stays (behind_words s xs) (behind_words s (xs ++ ys))
@@ -305,11 +295,7 @@ mark_stays : (f : Form) (s : State) (m : Token) (xs ys : List Token) → Stays (
 unfolding behind_mark
 mark_stays forms.Keyword s m xs ys = keyword_stays s.part s m xs ys
 mark_stays forms.Begin s m xs ys = then_stays (behind_begin s.part s m) _ _ (λ t. run_stays t xs ys)
-mark_stays forms.End s m xs ys = end_stays s m xs ys
-mark_stays forms.Plain s m xs ys = end_stays s m xs ys
-mark_stays forms.Quoted s m xs ys = end_stays s m xs ys
-mark_stays forms.Unclosed s m xs ys = end_stays s m xs ys
-mark_stays forms.Bad s m xs ys = end_stays s m xs ys
+mark_stays _ s m xs ys = end_stays s m xs ys
 
 abbrev has_mark : List Token → Bool
 has_mark [] = false
@@ -346,44 +332,30 @@ marks_none s (w ∷ ws) h = by_mark (is_mark w.form) h (marks_none s ws)
 none_mends : (ws : List Token) → has_mark ws ≡ false → Mends (λ (s : State). behind_marks s ws)
 none_mends ws h s e p = no_slip s e (behind_marks s ws) (marks_none s ws h) p
 
+-- A step at the values before the first mark, and the marks behind it.
+values_stay : (step : List Token → Result State Slip) (ws more : List Token)
+    → ((xs ys : List Token) → Stays (step xs) (step (xs ++ ys)))
+    → ((t : State) → Stays (behind_marks t ws) (behind_marks t (ws ++ more)))
+    → Stays (step (values_of ws) >>= λ t. behind_marks t ws) (step (values_of (ws ++ more)) >>= λ t. behind_marks t (ws ++ more))
+values_stay step ws more here behind = by_rest (has_mark ws) refl
+  where
+    StayAt : List Token → Type 0
+    StayAt xs = Stays (step (values_of ws) >>= λ t. behind_marks t ws) (step xs >>= λ t. behind_marks t (ws ++ more))
+
+    by_rest : (b : Bool) → has_mark ws ≡ b → StayAt (values_of (ws ++ more))
+    by_rest true h = subst StayAt (sym (values_cut ws more h)) (then_stays (step (values_of ws)) _ _ behind)
+    by_rest false h = subst StayAt (sym (values_run ws more h))
+        (first_stays (step (values_of ws)) (step (values_of ws ++ values_of more)) (λ t. behind_marks t ws) _
+        (here (values_of ws) (values_of more)) (none_mends ws h))
+
 marks_stay : (s : State) (ws more : List Token) → Stays (behind_marks s ws) (behind_marks s (ws ++ more))
 marks_stay s [] more = λ e p k. no_slip s e (behind_marks s []) refl p
 marks_stay s (w ∷ ws) more =
-    if_stays (is_mark w.form) _ _ _ _ (by_rest (has_mark ws) refl (λ t. marks_stay t ws more)) (marks_stay s ws more)
-  where
-    by_rest : (b : Bool) → has_mark ws ≡ b → ((t : State) → Stays (behind_marks t ws) (behind_marks t (ws ++ more)))
-        → Stays (behind_mark w.form s w (values_of ws) >>= λ t. behind_marks t ws)
-        (behind_mark w.form s w (values_of (ws ++ more)) >>= λ t. behind_marks t (ws ++ more))
-    by_rest true h go = subst
-        (λ xs. Stays (behind_mark w.form s w (values_of ws) >>= λ t. behind_marks t ws)
-        (behind_mark w.form s w xs >>= λ t. behind_marks t (ws ++ more)))
-        (sym (values_cut ws more h))
-        (then_stays (behind_mark w.form s w (values_of ws)) (λ t. behind_marks t ws) (λ t. behind_marks t (ws ++ more)) go)
-    by_rest false h go = subst
-        (λ xs. Stays (behind_mark w.form s w (values_of ws) >>= λ t. behind_marks t ws)
-        (behind_mark w.form s w xs >>= λ t. behind_marks t (ws ++ more)))
-        (sym (values_run ws more h))
-        (first_stays (behind_mark w.form s w (values_of ws)) (behind_mark w.form s w (values_of ws ++ values_of more))
-        (λ t. behind_marks t ws) (λ t. behind_marks t (ws ++ more))
-        (mark_stays w.form s w (values_of ws) (values_of more)) (none_mends ws h))
+    if_stays (is_mark w.form) _ _ _ _
+    (values_stay (behind_mark w.form s w) ws more (mark_stays w.form s w) (λ t. marks_stay t ws more)) (marks_stay s ws more)
 
 whole_stays : (ws more : List Token) → Stays (behind_all ws) (behind_all (ws ++ more))
-whole_stays ws more = by_rest (has_mark ws) refl
-  where
-    by_rest : (b : Bool) → has_mark ws ≡ b
-        → Stays (behind_words start (values_of ws) >>= λ s. behind_marks s ws)
-        (behind_words start (values_of (ws ++ more)) >>= λ s. behind_marks s (ws ++ more))
-    by_rest true h = subst (λ xs. Stays (behind_words start (values_of ws) >>= λ s. behind_marks s ws)
-        (behind_words start xs >>= λ s. behind_marks s (ws ++ more)))
-        (sym (values_cut ws more h))
-        (then_stays (behind_words start (values_of ws)) (λ s. behind_marks s ws) (λ s. behind_marks s (ws ++ more))
-        (λ s. marks_stay s ws more))
-    by_rest false h = subst (λ xs. Stays (behind_words start (values_of ws) >>= λ s. behind_marks s ws)
-        (behind_words start xs >>= λ s. behind_marks s (ws ++ more)))
-        (sym (values_run ws more h))
-        (first_stays (behind_words start (values_of ws)) (behind_words start (values_of ws ++ values_of more))
-        (λ s. behind_marks s ws) (λ s. behind_marks s (ws ++ more))
-        (run_stays start (values_of ws) (values_of more)) (none_mends ws h))
+whole_stays ws more = values_stay (behind_words start) ws more (run_stays start) (λ s. marks_stay s ws more)
 
 pub other_slips_stay : (ws more : List Token) (e : Slip) → behind_all ws ≡ Err e → may_be_mended e.code ≡ false
     → policy_of (ws ++ more) ≡ Err e

@@ -32,41 +32,21 @@ use Rattle.policy_grammar.proofs.ItemLaws.{draft_from, pushed, DayFits, item_rea
 -- A value is no keyword and no brace.
 plain_unmarked : (f : Form) → is_plain f ≡ true → is_mark f ≡ false
 plain_unmarked forms.Plain h = refl
-plain_unmarked forms.Keyword h = cc
-plain_unmarked forms.Begin h = cc
-plain_unmarked forms.End h = cc
-plain_unmarked forms.Quoted h = refl
-plain_unmarked forms.Unclosed h = refl
-plain_unmarked forms.Bad h = refl
+plain_unmarked _ h = cc
 
 quoted_unmarked : (f : Form) → is_quoted f ≡ true → is_mark f ≡ false
-quoted_unmarked forms.Plain h = refl
-quoted_unmarked forms.Keyword h = cc
-quoted_unmarked forms.Begin h = cc
-quoted_unmarked forms.End h = cc
 quoted_unmarked forms.Quoted h = refl
-quoted_unmarked forms.Unclosed h = refl
-quoted_unmarked forms.Bad h = refl
+quoted_unmarked _ h = cc
 
 any_unmarked : (f : Form) → (is_plain f || is_quoted f) ≡ true → is_mark f ≡ false
 any_unmarked forms.Plain h = refl
-any_unmarked forms.Keyword h = cc
-any_unmarked forms.Begin h = cc
-any_unmarked forms.End h = cc
 any_unmarked forms.Quoted h = refl
-any_unmarked forms.Unclosed h = refl
-any_unmarked forms.Bad h = refl
+any_unmarked _ h = cc
 
 form_unmarked : (kind : Takes) (f : Form) → form_fits kind f ≡ true → is_mark f ≡ false
 form_unmarked takes.String f h = quoted_unmarked f h
 form_unmarked takes.Any f h = any_unmarked f h
-form_unmarked takes.Name f h = plain_unmarked f h
-form_unmarked takes.Action f h = plain_unmarked f h
-form_unmarked takes.Protocol f h = plain_unmarked f h
-form_unmarked takes.IcmpType f h = plain_unmarked f h
-form_unmarked takes.Opt f h = plain_unmarked f h
-form_unmarked takes.Logging f h = plain_unmarked f h
-form_unmarked takes.Day f h = plain_unmarked f h
+form_unmarked _ f h = plain_unmarked f h
 
 pub values_unmarked : (kind : Takes) (ws : List Token) → list_all (is_value kind) ws ≡ true → no_marks ws ≡ true
 values_unmarked kind [] h = refl
