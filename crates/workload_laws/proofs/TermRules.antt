@@ -93,13 +93,18 @@ rule4 kind i = rule_at kind i V4 (least4 i) (everywhere V4)
 abbrev pub rule6 : Kind → ℕ → Rule
 rule6 kind i = rule_at kind i V6 (least6 i) (everywhere V6)
 
-rule4_is : (kind : Kind) (i : ℕ) → i < 1024
-    → rule_at kind i V4 (halved_space V4 (source4 i)) (halved_space V4 (range 0 (top_address V4) ∷ [])) ≡ rule4 kind i
-rule4_is kind i below = ap (λ src. rule_at kind i V4 src (halved_space V4 (range 0 (top_address V4) ∷ []))) (halved4 i below) ∙ ap (rule_at kind i V4 (least4 i)) all4
+-- The rules by the networks and the list of all addresses, which the least lists are.
+abbrev found4 : Kind → ℕ → Rule
+found4 kind i = rule_at kind i V4 (halved_space V4 (source4 i)) (halved_space V4 (range 0 (top_address V4) ∷ []))
 
-rule6_is : (kind : Kind) (i : ℕ) → i < 1024
-    → rule_at kind i V6 (halved_space V6 (source6 i)) (halved_space V6 (range 0 (top_address V6) ∷ [])) ≡ rule6 kind i
-rule6_is kind i below = ap (λ src. rule_at kind i V6 src (halved_space V6 (range 0 (top_address V6) ∷ []))) (halved6 i below) ∙ ap (rule_at kind i V6 (least6 i)) all6
+abbrev found6 : Kind → ℕ → Rule
+found6 kind i = rule_at kind i V6 (halved_space V6 (source6 i)) (halved_space V6 (range 0 (top_address V6) ∷ []))
+
+rule4_is : (kind : Kind) (i : ℕ) → i < 1024 → found4 kind i ≡ rule4 kind i
+rule4_is kind i below = λ j. rule_at kind i V4 (halved4 i below j) (all4 j)
+
+rule6_is : (kind : Kind) (i : ℕ) → i < 1024 → found6 kind i ≡ rule6 kind i
+rule6_is kind i below = λ j. rule_at kind i V6 (halved6 i below j) (all6 j)
 
 -- What a workload's terms are on a target: they have these rules, which have few prefixes, and no extension header.
 pub record Expands (target : Target) (rules_at : ℕ → List Rule) : Type 0 where
@@ -113,39 +118,41 @@ inet_rules kind i = rule4 kind i ∷ []
 abbrev pub mixed_rules : Kind → ℕ → List Rule
 mixed_rules kind i = rule4 kind i ∷ rule6 kind i ∷ []
 
+-- A target with such rules for each term, and no extension header.
+record Finds (target : Target) (found : ℕ → List Rule) : Type 0 where
+  rules_are : (today : Day) (i : ℕ) (below : i < 1024) → term_rules target today (resolved_term i below) ≡ found i
+  no_header : (today : Day) (i : ℕ) (below : i < 1024) → header_slip target today (resolved_term i below) ≡ None
+
+inet_expands : (kind : Kind) (target : Target) → Finds target (λ i. found4 kind i ∷ []) → Expands target (inet_rules kind)
+inet_expands kind target finds = record {
+  rules_are = λ today i below. finds.rules_are today i below ∙ ap (λ r. r ∷ []) (rule4_is kind i below);
+  few_prefixes = λ i. omega arith;
+  no_header = finds.no_header;
+}
+
+mixed_expands : (kind : Kind) (target : Target) → Finds target (λ i. found4 kind i ∷ found6 kind i ∷ [])
+    → Expands target (mixed_rules kind)
+mixed_expands kind target finds = record {
+  rules_are = λ today i below. finds.rules_are today i below ∙ (λ j. rule4_is kind i below j ∷ rule6_is kind i below j ∷ []);
+  few_prefixes = λ i. omega arith;
+  no_header = finds.no_header;
+}
+
 pub cisco_expands : Expands cisco (mixed_rules Cisco)
 unfolding term_rules family_rules is_empty_in is_term_live header_slip
-cisco_expands = record {
-  rules_are = λ today i below. ap (λ r. r ∷ rule_at Cisco i V6 (halved_space V6 (source6 i)) (halved_space V6 (range 0 (top_address V6) ∷ [])) ∷ []) (rule4_is Cisco i below)
-      ∙ ap (λ r. rule4 Cisco i ∷ r ∷ []) (rule6_is Cisco i below);
-  few_prefixes = λ i. omega arith;
-  no_header = λ today i below. refl;
-}
+cisco_expands = mixed_expands Cisco cisco (record { rules_are = λ today i below. refl; no_header = λ today i below. refl })
 
 pub juniper_expands : Expands juniper (inet_rules Juniper)
 unfolding term_rules family_rules is_empty_in is_term_live header_slip
-juniper_expands = record {
-  rules_are = λ today i below. ap (λ r. r ∷ []) (rule4_is Juniper i below);
-  few_prefixes = λ i. omega arith;
-  no_header = λ today i below. refl;
-}
+juniper_expands = inet_expands Juniper juniper (record { rules_are = λ today i below. refl; no_header = λ today i below. refl })
 
 pub iptables_expands : Expands iptables (inet_rules Iptables)
 unfolding term_rules family_rules is_empty_in is_term_live header_slip
-iptables_expands = record {
-  rules_are = λ today i below. ap (λ r. r ∷ []) (rule4_is Iptables i below);
-  few_prefixes = λ i. omega arith;
-  no_header = λ today i below. refl;
-}
+iptables_expands = inet_expands Iptables iptables (record { rules_are = λ today i below. refl; no_header = λ today i below. refl })
 
 pub nftables_expands : Expands nftables (mixed_rules Nftables)
 unfolding term_rules family_rules is_empty_in is_term_live header_slip
-nftables_expands = record {
-  rules_are = λ today i below. ap (λ r. r ∷ rule_at Nftables i V6 (halved_space V6 (source6 i)) (halved_space V6 (range 0 (top_address V6) ∷ [])) ∷ []) (rule4_is Nftables i below)
-      ∙ ap (λ r. rule4 Nftables i ∷ r ∷ []) (rule6_is Nftables i below);
-  few_prefixes = λ i. omega arith;
-  no_header = λ today i below. refl;
-}
+nftables_expands = mixed_expands Nftables nftables (record { rules_are = λ today i below. refl; no_header = λ today i below. refl })
 
 -- ---- all terms
 
