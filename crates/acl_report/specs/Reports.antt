@@ -1,5 +1,5 @@
 -- The report on standard output: what is told of the terms of a policy, and the counts of its filters.
-use Rattle.std.specs.Prelude.{ℕ, ◌*◌, ℤ, pos, ◌+ℤ◌, Bool, not, ◌&&◌, if◌then◌else◌, List, [], ◌++◌, zip, flat_map, slice_index_or, codes, decimal, Option, None, Some}
+use Rattle.std.specs.Prelude.{ℕ, ◌*◌, pos, ◌+ℤ◌, Bool, ◌&&◌, if◌then◌else◌, List, [], ◌++◌, zip, flat_map, slice_index_or, codes, decimal, Option, None, Some}
 use Rattle.std.specs.List.{enumerate_from}
 use Rattle.std.specs.Int.Signed.{le_z, lt_z}
 use Rattle.acl_packet.specs.declared.addresses.Families.{Families}

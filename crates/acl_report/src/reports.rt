@@ -1,37 +1,13 @@
 ghost use Rattle.std.specs.Prelude.{◌≡◌, ◌++◌, true, flat_map, zip, IfOk, OnOk};
-ghost use Rattle.std.specs.List.{enumerate_from};
-ghost use Rattle.acl_report.specs.Reports.{block_lines, term_lines, terms_report};
+ghost use Rattle.acl_report.specs.Reports.{block_lines, terms_report};
 
-use crate::term_lines::put_term_lines;
+use crate::term_lines::BlockLines;
 use acl_host::{Day, Whole};
 use acl_load::{Loaded, Terms};
 use acl_policy::Block;
 use acl_splice::Sources;
-use acl_target::Target;
-use acl_terms::Term;
 use acl_text::{Memory, PutFault};
 use std::alloc::Global;
-
-// Puts the lines on the terms of a block with these targets.
-fn put_terms(
-    report: &mut Whole,
-    sources: &Sources,
-    today: Day,
-    weeks: u16,
-    targets: &[Target],
-    terms: &[Term],
-) -> Result<(), PutFault>
-    requires { report.old.is_open ≡ true }
-    ensures text { OnOk result (report.new.bytes ≡ report.old.bytes
-        ++ flat_map (term_lines sources.now.labels today weeks targets.now terms.now)
-        (enumerate_from 0 terms.now)) }
-    ensures opened { OnOk result (report.new.is_open ≡ true) }
-{
-    for (place, term) in terms.iter().enumerate() {
-        put_term_lines(report, sources, today, weeks, targets, terms, place, term)?;
-    }
-    Ok(())
-}
 
 // Puts the lines on the terms of each block, which are those of the list at its place.
 #[tactic(auto, unfolding(crate::specs::Reports::block_lines))]
@@ -49,8 +25,14 @@ fn put_blocks(
     ensures opened { OnOk result (report.new.is_open ≡ true) }
 {
     for (block, terms) in blocks.iter().zip(lists) {
-        let targets = block.targets.as_slice();
-        put_terms(report, sources, today, weeks, targets, terms.as_slice())?;
+        let lines = BlockLines {
+            sources,
+            today,
+            weeks,
+            targets: block.targets.as_slice(),
+            terms: terms.as_slice(),
+        };
+        lines.put_into(report)?;
     }
     Ok(())
 }

@@ -1,4 +1,5 @@
 ghost use Rattle.std.specs.Prelude.{◌≡◌, ◌<◌, ◌++◌, [], true, codes, flat_map, length, slice_get, OnOk, Some};
+ghost use Rattle.std.specs.List.{enumerate_from};
 ghost use Rattle.acl_host.specs.DaySteps.{date_text};
 ghost use Rattle.acl_shade.specs.ComputableShading.{shading_term};
 ghost use Rattle.acl_report.specs.Reports.{
@@ -54,131 +55,124 @@ fn put_on_day(
     report.put(b"\n")
 }
 
-// Puts that the term expired, where it did.
-fn put_expired(
-    report: &mut Whole,
-    sources: &Sources,
-    today: Day,
-    term: &Term,
-) -> Result<(), PutFault>
-    requires { report.old.is_open ≡ true }
-    ensures text { OnOk result (report.new.bytes ≡ report.old.bytes
-        ++ expired_lines sources.now.labels today term.now term.now.expires) }
-    ensures opened { OnOk result (report.new.is_open ≡ true) }
-{
-    match term.expires {
-        Some(day) if has_expired(today, day) => {
-            put_on_day(report, sources, term, b" expired on ", day)
-        }
-        _ => Ok(()),
-    }
+/// A block, of whose terms the lines are put.
+#[derive(Clone, Copy)]
+pub(crate) struct BlockLines<'a> {
+    /// The labels of the files that the terms stand in.
+    pub(crate) sources: &'a Sources,
+    pub(crate) today: Day,
+    /// How many weeks before its day of expiry a term is told of.
+    pub(crate) weeks: u16,
+    pub(crate) targets: &'a [Target],
+    pub(crate) terms: &'a [Term],
 }
 
-// Puts that the term expires, where it does within so many weeks.
-fn put_expires(
-    report: &mut Whole,
-    sources: &Sources,
-    today: Day,
-    weeks: u16,
-    term: &Term,
-) -> Result<(), PutFault>
-    requires { report.old.is_open ≡ true }
-    ensures text { OnOk result (report.new.bytes ≡ report.old.bytes
-        ++ expires_lines sources.now.labels today weeks term.now term.now.expires) }
-    ensures opened { OnOk result (report.new.is_open ≡ true) }
-{
-    match term.expires {
-        Some(day) if expires_within(today, weeks, day) => {
-            put_on_day(report, sources, term, b" expires on ", day)
-        }
-        _ => Ok(()),
-    }
-}
-
-// Puts which term shades the one at the place, where one does.
-fn put_shaded(
-    report: &mut Whole,
-    sources: &Sources,
-    today: Day,
-    targets: &[Target],
-    terms: &[Term],
-    place: usize,
-    term: &Term,
-) -> Result<(), PutFault>
-    requires open { report.old.is_open ≡ true }
-    requires there { place < length terms.now }
-    ensures text { OnOk result (report.new.bytes ≡ report.old.bytes
-        ++ shaded_lines sources.now.labels term.now (shading_term targets.now today terms.now place)) }
-    ensures opened { OnOk result (report.new.is_open ≡ true) }
-{
-    let Some(other) = shading_term(terms, targets, today, place) else {
-        return Ok(());
-    };
-    put_term(report, sources, term)?;
-    report.put(b" shaded by ")?;
-    report.put(other.name.as_slice())?;
-    report.put(b"\n")
-}
-
-// Puts that the term is empty on the target.
-fn put_empty(
-    report: &mut Whole,
-    sources: &Sources,
-    term: &Term,
-    target: &Target,
-) -> Result<(), PutFault>
-    requires { report.old.is_open ≡ true }
-    ensures text { OnOk result (report.new.bytes
-        ≡ report.old.bytes ++ empty_line sources.now.labels term.now target.now) }
-    ensures opened { OnOk result (report.new.is_open ≡ true) }
-{
-    put_term(report, sources, term)?;
-    report.put(b" empty on ")?;
-    put_target(report, target)?;
-    report.put(b"\n")
-}
-
-// Puts on which of the targets the term is empty.
-fn put_empties(
-    report: &mut Whole,
-    sources: &Sources,
-    today: Day,
-    targets: &[Target],
-    term: &Term,
-) -> Result<(), PutFault>
-    requires { report.old.is_open ≡ true }
-    ensures text { OnOk result (report.new.bytes ≡ report.old.bytes
-        ++ flat_map (empty_lines sources.now.labels today term.now) targets.now) }
-    ensures opened { OnOk result (report.new.is_open ≡ true) }
-{
-    for target in targets {
-        if is_empty_on(today, target, term) {
-            put_empty(report, sources, term, target)?;
+impl<'a> BlockLines<'a> {
+    // Puts that the term expired, where it did.
+    fn put_expired(&self, report: &mut Whole, term: &Term) -> Result<(), PutFault>
+        requires { report.old.is_open ≡ true }
+        ensures text { OnOk result (report.new.bytes ≡ report.old.bytes
+            ++ expired_lines self.now.sources.now.labels self.now.today term.now term.now.expires) }
+        ensures opened { OnOk result (report.new.is_open ≡ true) }
+    {
+        match term.expires {
+            Some(day) if has_expired(self.today, day) => {
+                put_on_day(report, self.sources, term, b" expired on ", day)
+            }
+            _ => Ok(()),
         }
     }
-    Ok(())
-}
 
-/// Puts the lines on the term at a place of a block with these targets.
-#[tactic(auto, unfolding(crate::specs::Reports::term_lines))]
-pub(crate) fn put_term_lines(
-    report: &mut Whole,
-    sources: &Sources,
-    today: Day,
-    weeks: u16,
-    targets: &[Target],
-    terms: &[Term],
-    place: usize,
-    term: &Term,
-) -> Result<(), PutFault>
-    requires open { report.old.is_open ≡ true }
-    requires there { place < length terms.now }
-    ensures text { OnOk result (report.new.bytes ≡ report.old.bytes
-        ++ term_lines sources.now.labels today weeks targets.now terms.now (place, term.now)) }
-    ensures opened { OnOk result (report.new.is_open ≡ true) }
-{
-    put_expired(report, sources, today, term)?;
-    put_expires(report, sources, today, weeks, term)?;
-    put_shaded(report, sources, today, targets, terms, place, term)?;
-    put_empties(report, sources, today, targets, term)
+    // Puts that the term expires, where it does within so many weeks.
+    fn put_expires(&self, report: &mut Whole, term: &Term) -> Result<(), PutFault>
+        requires { report.old.is_open ≡ true }
+        ensures text { OnOk result (report.new.bytes ≡ report.old.bytes
+            ++ expires_lines self.now.sources.now.labels self.now.today self.now.weeks term.now
+            term.now.expires) }
+        ensures opened { OnOk result (report.new.is_open ≡ true) }
+    {
+        match term.expires {
+            Some(day) if expires_within(self.today, self.weeks, day) => {
+                put_on_day(report, self.sources, term, b" expires on ", day)
+            }
+            _ => Ok(()),
+        }
+    }
+
+    // Puts which term shades the one at the place, where one does.
+    fn put_shaded(&self, report: &mut Whole, place: usize, term: &Term) -> Result<(), PutFault>
+        requires open { report.old.is_open ≡ true }
+        requires there { place < length self.now.terms.now }
+        ensures text { OnOk result (report.new.bytes ≡ report.old.bytes
+            ++ shaded_lines self.now.sources.now.labels term.now
+            (shading_term self.now.targets.now self.now.today self.now.terms.now place)) }
+        ensures opened { OnOk result (report.new.is_open ≡ true) }
+    {
+        let Some(other) = shading_term(self.terms, self.targets, self.today, place) else {
+            return Ok(());
+        };
+        put_term(report, self.sources, term)?;
+        report.put(b" shaded by ")?;
+        report.put(other.name.as_slice())?;
+        report.put(b"\n")
+    }
+
+    // Puts that the term is empty on the target.
+    fn put_empty(&self, report: &mut Whole, term: &Term, target: &Target) -> Result<(), PutFault>
+        requires { report.old.is_open ≡ true }
+        ensures text { OnOk result (report.new.bytes
+            ≡ report.old.bytes ++ empty_line self.now.sources.now.labels term.now target.now) }
+        ensures opened { OnOk result (report.new.is_open ≡ true) }
+    {
+        put_term(report, self.sources, term)?;
+        report.put(b" empty on ")?;
+        put_target(report, target)?;
+        report.put(b"\n")
+    }
+
+    // Puts on which of the targets the term is empty.
+    fn put_empties(&self, report: &mut Whole, term: &Term) -> Result<(), PutFault>
+        requires { report.old.is_open ≡ true }
+        ensures text { OnOk result (report.new.bytes ≡ report.old.bytes
+            ++ flat_map (empty_lines self.now.sources.now.labels self.now.today term.now)
+            self.now.targets.now) }
+        ensures opened { OnOk result (report.new.is_open ≡ true) }
+    {
+        for target in self.targets {
+            if is_empty_on(self.today, target, term) {
+                self.put_empty(report, term, target)?;
+            }
+        }
+        Ok(())
+    }
+
+    /// Puts the lines on the term at the place.
+    #[tactic(auto, unfolding(crate::specs::Reports::term_lines))]
+    fn put_term_lines(&self, report: &mut Whole, place: usize, term: &Term) -> Result<(), PutFault>
+        requires open { report.old.is_open ≡ true }
+        requires there { place < length self.now.terms.now }
+        ensures text { OnOk result (report.new.bytes ≡ report.old.bytes
+            ++ term_lines self.now.sources.now.labels self.now.today self.now.weeks
+            self.now.targets.now self.now.terms.now (place, term.now)) }
+        ensures opened { OnOk result (report.new.is_open ≡ true) }
+    {
+        self.put_expired(report, term)?;
+        self.put_expires(report, term)?;
+        self.put_shaded(report, place, term)?;
+        self.put_empties(report, term)
+    }
+
+    /// Puts the lines on the terms of the block.
+    pub(crate) fn put_into(&self, report: &mut Whole) -> Result<(), PutFault>
+        requires { report.old.is_open ≡ true }
+        ensures text { OnOk result (report.new.bytes ≡ report.old.bytes
+            ++ flat_map (term_lines self.now.sources.now.labels self.now.today self.now.weeks
+            self.now.targets.now self.now.terms.now) (enumerate_from 0 self.now.terms.now)) }
+        ensures opened { OnOk result (report.new.is_open ≡ true) }
+    {
+        for (place, term) in self.terms.iter().enumerate() {
+            self.put_term_lines(report, place, term)?;
+        }
+        Ok(())
+    }
 }

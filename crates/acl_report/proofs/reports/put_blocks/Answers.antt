@@ -17,8 +17,8 @@ unfolding block_lines
 loop-block-preserved c =
     let f = block_lines c.args.sources.now.labels c.args.today c.args.weeks in
     let e = pairs-more c.loop-block.block-iterator c.next.new.self c.next.result (c.in-Some.block, c.in-Some.terms) c.in-Some.is c.next.ensures.steps in
-    let h : c.put_terms.new.report.bytes ≡ c.loop-block.report.bytes ++ f (c.in-Some.block.now, c.in-Some.terms.now) = search rules in
-    record { text = put-more f _ _ _ _ _ _ e h c.loop-block.invariant.text; opened = c.in_ok-put_terms.ensures.opened }
+    let h : c.put_into.new.report.bytes ≡ c.loop-block.report.bytes ++ f (c.in-Some.block.now, c.in-Some.terms.now) = search rules in
+    record { text = put-more f _ _ _ _ _ _ e h c.loop-block.invariant.text; opened = c.in_ok-put_into.ensures.opened }
 
 pub returns-clause-text : goal.returns-clause-text
 returns-clause-text c =
