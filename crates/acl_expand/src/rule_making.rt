@@ -100,132 +100,104 @@ fn rule_name(alloc: Global, term: &Term, suffix: &Bytes) -> Result<Bytes, Memory
     Ok(name)
 }
 
-fn rule_of(
-    alloc: Global,
+// A term in one of its families, on a platform of the kind.
+#[derive(Clone, Copy)]
+struct FamilyTerm<'a> {
     kind: Kind,
     family: Family,
-    term: &Term,
-    conditions: Conditions,
-) -> Result<Rule, Memory>
-    ensures { IfOk result (λ r. r ≡ rule_of kind family term.now conditions) }
-{
-    Ok(Rule {
-        name: rule_name(alloc, term, &conditions.suffix)?,
-        place: term.place,
-        note: Bytes::from_slice(alloc, term.note.as_slice())?,
-        family,
-        src: sources(alloc, family, term)?,
-        dst: destinations(alloc, family, term)?,
-        protos: conditions.protos,
-        sports: term.sports.copy(alloc)?,
-        dports: conditions.dports,
-        itypes: term.itypes.copy(alloc)?,
-        test: conditions.test,
-        verdict: verdict_on(kind, term.verdict),
-        log: term.log,
-    })
+    term: &'a Term,
 }
 
-// Adds the rule of the term with the conditions at the end.
-fn push_rule(
-    alloc: Global,
-    rules: &mut Rules,
-    kind: Kind,
-    family: Family,
-    term: &Term,
-    conditions: Conditions,
-) -> Result<(), Memory>
-    ensures { OnOk result (rules.new ≡ rules.old ++ rule_of kind family term.now conditions ∷ []) }
-{
-    rules.push(rule_of(alloc, kind, family, term, conditions)?)
-}
-
-// The same with the term's own protocols and ports, and a test.
-fn push_whole(
-    alloc: Global,
-    rules: &mut Rules,
-    kind: Kind,
-    family: Family,
-    term: &Term,
-    test: Test,
-) -> Result<(), Memory>
-    ensures { OnOk result (rules.new ≡ rules.old ++ rule_of kind family term.now (whole family term.now test) ∷ []) }
-{
-    let conditions = whole(alloc, family, term, test)?;
-    push_rule(alloc, rules, kind, family, term, conditions)
-}
-
-// The two rules of `established` over TCP and UDP, where connections are not known.
-fn push_halves(
-    alloc: Global,
-    rules: &mut Rules,
-    kind: Kind,
-    family: Family,
-    term: &Term,
-) -> Result<(), Memory>
-    ensures { OnOk result (rules.new ≡ rules.old
-        ++ map (rule_of kind family term.now) (tcp_half term.now ∷ udp_half term.now ∷ [])) }
-{
-    let tcp = tcp_half(alloc, term)?;
-    push_rule(alloc, rules, kind, family, term, tcp)?;
-    let udp = udp_half(alloc, term)?;
-    push_rule(alloc, rules, kind, family, term, udp)
-}
-
-fn push_udp(
-    alloc: Global,
-    rules: &mut Rules,
-    kind: Kind,
-    family: Family,
-    term: &Term,
-) -> Result<(), Memory>
-    ensures { OnOk result (rules.new ≡ rules.old ++ rule_of kind family term.now (udp_alone family term.now) ∷ []) }
-{
-    let udp = udp_alone(alloc, family, term)?;
-    push_rule(alloc, rules, kind, family, term, udp)
-}
-
-// The rules of `established` where connections are not known.
-fn push_established(
-    alloc: Global,
-    rules: &mut Rules,
-    kind: Kind,
-    family: Family,
-    term: &Term,
-) -> Result<(), Memory>
-    ensures { OnOk result (rules.new ≡ rules.old ++ map (rule_of kind family term.now)
-        (conditions_by Opt.Established Mode.Stateless family term.now)) }
-{
-    match (term.protos.contains(6), term.protos.contains(17)) {
-        (true, true) => push_halves(alloc, rules, kind, family, term),
-        (true, false) => push_whole(alloc, rules, kind, family, term, Test::AckOrRst),
-        (false, _) => push_udp(alloc, rules, kind, family, term),
+impl<'a> FamilyTerm<'a> {
+    // The rule of the term with the conditions.
+    fn rule(&self, alloc: Global, conditions: Conditions) -> Result<Rule, Memory>
+        ensures { IfOk result (λ r. r
+            ≡ rule_of self.now.kind self.now.family self.now.term.now conditions) }
+    {
+        let term = self.term;
+        Ok(Rule {
+            name: rule_name(alloc, term, &conditions.suffix)?,
+            place: term.place,
+            note: Bytes::from_slice(alloc, term.note.as_slice())?,
+            family: self.family,
+            src: sources(alloc, self.family, term)?,
+            dst: destinations(alloc, self.family, term)?,
+            protos: conditions.protos,
+            sports: term.sports.copy(alloc)?,
+            dports: conditions.dports,
+            itypes: term.itypes.copy(alloc)?,
+            test: conditions.test,
+            verdict: verdict_on(self.kind, term.verdict),
+            log: term.log,
+        })
     }
-}
 
-// The rules of the term in a family in which it is not empty.
-fn push_by_option(
-    alloc: Global,
-    rules: &mut Rules,
-    kind: Kind,
-    mode: Mode,
-    family: Family,
-    term: &Term,
-) -> Result<(), Memory>
-    ensures { OnOk result (rules.new ≡ rules.old
-        ++ map (rule_of kind family term.now) (conditions_by term.now.option mode family term.now)) }
-{
-    let test = match (term.option, mode) {
-        (Opt::Established, Mode::Stateless) => {
-            return push_established(alloc, rules, kind, family, term);
+    // Adds that rule at the end.
+    fn push(&self, alloc: Global, rules: &mut Rules, conditions: Conditions) -> Result<(), Memory>
+        ensures { OnOk result (rules.new ≡ rules.old
+            ++ rule_of self.now.kind self.now.family self.now.term.now conditions ∷ []) }
+    {
+        rules.push(self.rule(alloc, conditions)?)
+    }
+
+    // The same with the term's own protocols and ports, and a test.
+    fn push_whole(&self, alloc: Global, rules: &mut Rules, test: Test) -> Result<(), Memory>
+        ensures { OnOk result (rules.new ≡ rules.old ++ rule_of self.now.kind self.now.family
+            self.now.term.now (whole self.now.family self.now.term.now test) ∷ []) }
+    {
+        let conditions = whole(alloc, self.family, self.term, test)?;
+        self.push(alloc, rules, conditions)
+    }
+
+    // The two rules of `established` over TCP and UDP, where connections are not known.
+    fn push_halves(&self, alloc: Global, rules: &mut Rules) -> Result<(), Memory>
+        ensures { OnOk result (rules.new ≡ rules.old
+            ++ map (rule_of self.now.kind self.now.family self.now.term.now)
+            (tcp_half self.now.term.now ∷ udp_half self.now.term.now ∷ [])) }
+    {
+        let tcp = tcp_half(alloc, self.term)?;
+        self.push(alloc, rules, tcp)?;
+        let udp = udp_half(alloc, self.term)?;
+        self.push(alloc, rules, udp)
+    }
+
+    fn push_udp(&self, alloc: Global, rules: &mut Rules) -> Result<(), Memory>
+        ensures { OnOk result (rules.new ≡ rules.old ++ rule_of self.now.kind self.now.family
+            self.now.term.now (udp_alone self.now.family self.now.term.now) ∷ []) }
+    {
+        let udp = udp_alone(alloc, self.family, self.term)?;
+        self.push(alloc, rules, udp)
+    }
+
+    // The rules of `established` where connections are not known.
+    fn push_established(&self, alloc: Global, rules: &mut Rules) -> Result<(), Memory>
+        ensures { OnOk result (rules.new ≡ rules.old
+            ++ map (rule_of self.now.kind self.now.family self.now.term.now)
+            (conditions_by Opt.Established Mode.Stateless self.now.family self.now.term.now)) }
+    {
+        match (self.term.protos.contains(6), self.term.protos.contains(17)) {
+            (true, true) => self.push_halves(alloc, rules),
+            (true, false) => self.push_whole(alloc, rules, Test::AckOrRst),
+            (false, _) => self.push_udp(alloc, rules),
         }
-        (Opt::Plain, _) => Test::Plain,
-        (Opt::Established | Opt::TcpEstablished, Mode::Stateful) => Test::State,
-        (Opt::TcpEstablished, Mode::Stateless) => Test::AckOrRst,
-        (Opt::TcpInitial, _) => Test::SynNotAck,
-        (Opt::Rst, _) => Test::Rst,
-    };
-    push_whole(alloc, rules, kind, family, term, test)
+    }
+
+    // The rules of the term in a family in which it is not empty.
+    fn push_by_option(&self, alloc: Global, rules: &mut Rules, mode: Mode) -> Result<(), Memory>
+        ensures { OnOk result (rules.new ≡ rules.old
+            ++ map (rule_of self.now.kind self.now.family self.now.term.now)
+            (conditions_by self.now.term.now.option mode self.now.family self.now.term.now)) }
+    {
+        let test = match (self.term.option, mode) {
+            (Opt::Established, Mode::Stateless) => return self.push_established(alloc, rules),
+            (Opt::Plain, _) => Test::Plain,
+            (Opt::Established | Opt::TcpEstablished, Mode::Stateful) => Test::State,
+            (Opt::TcpEstablished, Mode::Stateless) => Test::AckOrRst,
+            (Opt::TcpInitial, _) => Test::SynNotAck,
+            (Opt::Rst, _) => Test::Rst,
+        };
+        self.push_whole(alloc, rules, test)
+    }
 }
 
 fn mode_of(target: &Target) -> Mode
@@ -252,7 +224,12 @@ fn push_family(
     if is_empty_in(term, family) {
         return Ok(());
     }
-    push_by_option(alloc, rules, target.kind, mode_of(target), family, term)
+    let term = FamilyTerm {
+        kind: target.kind,
+        family,
+        term,
+    };
+    term.push_by_option(alloc, rules, mode_of(target))
 }
 
 // Adds the rules of the term in each family of the target.
