@@ -1,9 +1,10 @@
 -- Documents of sections, the bytes that spell one, and what its sections do to a packet.
-use Rattle.std.specs.Prelude.{◌≡◌, ℕ, List, Option, slice_get, option_and_then}
+use Rattle.std.specs.Prelude.{◌≡◌, ℕ, List, Option, flat_map, slice_get, option_and_then}
 use Rattle.std.specs.List.{AllByRecursion, IsDistinct}
 use Rattle.std.specs.Str.{bytes_eq}
 use Rattle.acl_packet.specs.declared.filtering.Outcome.{Outcome}
 use Rattle.acl_packet.specs.declared.packets.Packet.{Packet}
+use Rattle.acl_grammar.specs.Rows.{Row, text_of_rows}
 
 -- A document is its sections, each of which is valid, and no two of whose names are the same.
 pub record IsDocumentOf {S : Type 0} (IsSection : S → Type 0) (names_of : List S → List (List ℕ))
@@ -16,6 +17,13 @@ pub record IsSpelling {S : Type 0} (IsDocument : List S → Type 0) (text_of : L
     (bytes : List ℕ) (doc : List S) : Type 0 where
   pub valid : IsDocument doc
   pub written : bytes ≡ text_of doc
+
+-- The bytes spell the document of sections that are written as rows: it is valid, and they are the
+-- text of its rows.
+abbrev pub SpellsRows : {S : Type 0} → (S → Type 0) → (List S → List (List ℕ)) → (S → List Row)
+    → List ℕ → List S → Type 0
+SpellsRows IsSection names_of rows bytes doc =
+    IsSpelling (IsDocumentOf IsSection names_of) (λ d. text_of_rows (flat_map rows d)) bytes doc
 
 -- What the section at that place does; nothing where there is none.
 abbrev pub outcome_at : {S : Type 0} → (S → Packet → Option Outcome) → List S → ℕ → Packet

@@ -1,5 +1,6 @@
 pub mod ComparingSteps
 pub mod Documents
+pub mod FamilyWords
 pub mod Naming
 pub mod NamingSteps
 pub mod PortRangeSteps
@@ -7,3 +8,4 @@ pub mod PortRanges
 pub mod PrefixCheckSteps
 pub mod RowSteps
 pub mod Rows
+pub mod RuleParts

@@ -3,23 +3,37 @@
 #![tactic(auto)]
 
 mod comparing;
+mod document_sections;
 mod drafts;
 mod each_word;
+mod family_words;
+mod laws;
 mod named;
 mod naming;
 mod pieces;
 mod port_ranges;
 mod prefix_checks;
 mod rows;
+mod rule_parts;
 mod splitting;
 
 pub use comparing::is_text_of;
+pub use document_sections::{DocumentSection, outcome, read_document, sections};
 pub use drafts::{Draft, read_rows};
 pub use each_word::{EachWord, WordForm};
+pub use family_words::{families_of, family_of};
+pub use laws::{
+    a_document_has_one_text, a_text_has_one_document, joined_documents_keep_outcomes,
+    joined_texts_spell_joined_documents, the_empty_text_has_no_section,
+};
 pub use named::{Named, have_distinct_names};
 pub use naming::are_distinct;
 pub use pieces::{Address, FreeText, Number, Piece, Wildcard, Word, Words, put_words};
-pub use port_ranges::{PortRange, are_port_ranges, is_port_range};
+pub use port_ranges::{PortRange, RangeWords, are_port_ranges, is_port_range};
 pub use prefix_checks::is_prefix_of;
-pub use rows::{Each, Form, Row, Rows};
+pub use rows::{AsRows, Each, Form, Row, Rows};
+pub use rule_parts::{
+    ACK, End, LogWord, RST, SYN, admits_address, admits_port, has_port_proto, is_empty, is_proto,
+    number_holds, state_holds,
+};
 pub use splitting::join_words;

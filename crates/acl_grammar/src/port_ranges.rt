@@ -3,6 +3,7 @@ ghost use Rattle.std.specs.List.{AllByRecursion, list_all};
 ghost use Rattle.acl_grammar.specs.PortRangeSteps.{is_port_range};
 ghost use Rattle.acl_grammar.specs.PortRanges.{IsPortRange, range_text};
 
+use crate::each_word::WordForm;
 use crate::pieces::{Number, Piece};
 use acl_text::{Out, PutFault};
 
@@ -28,6 +29,26 @@ impl Piece for PortRange {
             let separator: &[u8] = &[self.separator];
             (low, (separator, high)).put_into(out)
         }
+    }
+}
+
+/// Ranges of ports, each as its word.
+#[derive(Clone, Copy)]
+pub struct RangeWords {
+    /// The byte between a low and a high port.
+    pub separator: u8,
+}
+
+impl WordForm<(u16, u16)> for RangeWords {
+    ghost item_text = { λ f ports. range_text f.separator ports };
+
+    fn put_item_into<O: Out>(&self, ports: &(u16, u16), out: &mut O) -> Result<(), PutFault> {
+        let range = PortRange {
+            low: u128::from(ports.0),
+            high: u128::from(ports.1),
+            separator: self.separator,
+        };
+        range.put_into(out)
     }
 }
 

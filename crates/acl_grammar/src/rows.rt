@@ -77,6 +77,18 @@ pub trait Form<T> {
             (text_of_rows (item_rows self.now item.now)) result };
 }
 
+/// Items that are rows are written as their own.
+#[derive(Clone, Copy)]
+pub struct AsRows;
+
+impl<T: Rows> Form<T> for AsRows {
+    ghost item_rows = { λ f item. T.rows item };
+
+    fn put_item<O: Out>(&self, item: &T, out: &mut O) -> Result<(), PutFault> {
+        item.put_rows(out)
+    }
+}
+
 /// Items in a form, one behind the other.
 #[derive(Clone, Copy)]
 pub struct Each<'a, T, F> {

@@ -1,12 +1,11 @@
 -- What follows from a filter's having no limit, and from its being accepted.
-use Rattle.std.proofs.Common.{◌≡◌, ℕ, ◌<◌, ◌≤◌, ◌+◌, Bool, true, false, ◌||◌, cond, nat_lt, List, [], ◌∷◌, ◌++◌, length, map, take, drop, get_or, Option, None, Some, is_some, inl, inr, refl, ap, sym, subst, ◌∙◌, append_assoc, append-nil, arith, min}
+use Rattle.std.proofs.Common.{◌≡◌, ℕ, ◌≤◌, Bool, true, false, ◌||◌, cond, nat_lt, List, [], ◌∷◌, ◌++◌, map, Option, None, Some, inl, inr, refl, sym, subst, ◌∙◌, append_assoc, append-nil}
 use Rattle.std.specs.List.{AllByRecursion, IsDistinct}
 use Rattle.std.specs.Option.{option_or}
 use Rattle.std.specs.Str.{bytes_eq}
-use Rattle.std.proofs.lemmas.Bool.{cases_lt, false≢true, le-ltb, lt-ltb, or_from, or_parts}
-use Rattle.std.proofs.lemmas.List.{drop_all, drop_more, map-append, take_more}
+use Rattle.std.proofs.lemmas.Bool.{cases_lt, false≢true, lt-ltb, or_from, or_parts}
+use Rattle.std.proofs.lemmas.List.{map-append}
 use Rattle.std.proofs.lemmas.Option.{none-some}
-use Rattle.acl_text.specs.Output.{COUNT_END}
 use Rattle.acl_grammar.specs.Naming.{in_common}
 use Rattle.acl_grammar.proofs.NamingLaws.{distinct-append}
 use Rattle.acl_target.specs.declared.targets.Kind.{Kind}
@@ -15,10 +14,9 @@ use Rattle.acl_target.specs.Clashes.{same_kind}
 use Rattle.acl_target.specs.TargetData.{FitsPlatform}
 use Rattle.acl_platform.specs.declared.filters.Filter.{Filter}
 use Rattle.acl_platform.specs.declared.filters.Limit.{Limit}
-use Rattle.acl_platform.specs.declared.filters.Limit.TheVariants.{TooManyEntries}
 use Rattle.acl_platform.specs.declared.rules.Rule.{Rule}
 use Rattle.acl_platform.specs.Limits.{count_limit, filter_limit, first_limit, is_for, is_name_taken}
-use Rattle.acl_platform.specs.Platforms.{IsAccepted, judged}
+use Rattle.acl_platform.specs.Platforms.{IsAccepted}
 use Rattle.acl_platform.specs.SoundFilters.{IsSoundRule, target_of}
 
 -- ---- its kind
@@ -117,48 +115,3 @@ pub names-differ : (limit : List Rule → Rule → Option Limit)
 unfolding IsDistinct
 names-differ limit each count f h =
     all-differ limit each [] f.rules tt (both-none (first_limit limit [] f.rules) (count_limit count) h).0
-
--- ---- the answer of a check
-
--- a count that stands at its end is above the greatest number of entries
-pub judged-many : (entries count : ℕ) → count ≡ min entries COUNT_END → 100000 < count → judged (Some TooManyEntries) entries ≡ judged (count_limit entries) entries
-judged-many entries count e h =
-    ap (λ b. judged (cond b (Some TooManyEntries) None) entries) (sym (lt-ltb 100000 entries (omega (arith, e, h))))
-
-pub judged-few : (entries count : ℕ) → count ≡ min entries COUNT_END → count ≤ 100000 → judged None count ≡ judged (count_limit entries) entries
-judged-few entries count e h =
-    let same : count ≡ entries = omega (arith, e, h) in
-    ap (judged None) same ∙ ap (λ b. judged (cond b (Some TooManyEntries) None) entries) (sym (le-ltb 100000 entries (omega (arith, h, same))))
-
-pub limit-first : (limit : List Rule → Rule → Option Limit) (f : Filter) (l : Limit) (count : ℕ) → Some l ≡ first_limit limit [] f.rules
-    → judged (Some l) count ≡ judged (filter_limit limit count f) count
-limit-first limit f l count e = ap (λ o. judged (option_or o (count_limit count)) count) e
-
-pub limit-last : (limit : List Rule → Rule → Option Limit) (f : Filter) (count : ℕ) → None ≡ first_limit limit [] f.rules
-    → judged (count_limit count) count ≡ judged (filter_limit limit count f) count
-limit-last limit f count e = ap (λ o. judged (option_or o (count_limit count)) count) e
-
--- ---- the first limit, from one rule on
-
-pub passed-rule : (limit : List Rule → Rule → Option Limit) (rules : List Rule) (i : ℕ) (r : Rule) (o : Option Limit)
-    → i < length rules → r ≡ get_or rules i r → o ≡ limit (take i rules) r
-    → first_limit limit (take i rules) (drop i rules) ≡ option_or o (first_limit limit (take (i + 1) rules) (drop (i + 1) rules))
-passed-rule limit rules i r o within is e =
-    let earlier = take i rules in
-    let later = drop (i + 1) rules in
-    let rest = first_limit limit (take (i + 1) rules) later in
-    ap (first_limit limit earlier) (drop_more rules i r within)
-    ∙ ap (λ t. option_or (limit earlier (get_or rules i r)) (first_limit limit t later)) (sym (take_more rules i r within))
-    ∙ ap (λ q. option_or (limit earlier q) rest) (sym is) ∙ ap (λ p. option_or p rest) (sym e)
-
-pub past-rules : (limit : List Rule → Rule → Option Limit) (earlier rules : List Rule) (i : ℕ) → length rules ≤ i
-    → first_limit limit earlier (drop i rules) ≡ None
-past-rules limit earlier rules i h = ap (first_limit limit earlier) (drop_all i rules h)
-
-pub found : (o rest : Option Limit) → is_some o ≡ true → option_or o rest ≡ o
-found None rest h = absurd (false≢true h)
-found (Some l) rest h = refl
-
-pub not-found : (o rest : Option Limit) → is_some o ≡ false → option_or o rest ≡ rest
-not-found None rest h = refl
-not-found (Some l) rest h = absurd (false≢true (sym h))

@@ -1,82 +1,28 @@
--- The choices of a set: which numbers some choice holds, what is written of them, and how many there are.
-use Rattle.std.proofs.Common.{◌≡◌, ◌≢◌, ℕ, zero, suc, ◌+◌, ◌-◌, ◌<◌, ◌≤◌, min, Bool, true, false, ◌||◌, ◌==◌, nat_le, cond, List, [], ◌∷◌, ◌++◌, length, map, flat_map, drop, get_or, Option, None, Some, inl, inr, refl, ap, sym, subst, ◌∙◌, append-nil, add-zero, zero-add, arith}
+-- The choices of a set: what is written of them, and which numbers some choice holds.
+use Rattle.std.proofs.Common.{◌≡◌, ◌≢◌, ℕ, zero, suc, ◌+◌, ◌-◌, ◌<◌, ◌≤◌, Bool, true, false, ◌||◌, ◌==◌, nat_le, cond, List, [], ◌∷◌, ◌++◌, map, flat_map, Option, None, Some, inl, inr, refl, ap, sym, subst, ◌∙◌, arith}
 use Rattle.std.specs.Bool.{Decides}
 use Rattle.std.specs.List.{All, AllByRecursion, list_any, range_with_len}
 use Rattle.std.proofs.lemmas.Bool.{cases_lt, eqb-true, false≢true, or_cases, or_left, or_right}
 use Rattle.std.proofs.lemmas.Bool.Decides.{Decides-and, Decides-eqb, Decides-like, same_from_decides}
-use Rattle.std.proofs.lemmas.List.{drop_all, drop_more, length-append}
 use Rattle.std.proofs.lemmas.List.Elements.{All-from_recursion}
 use Rattle.std.proofs.lemmas.List.Folds.{flat_map-map, list_any-append}
-use Rattle.std.proofs.lemmas.Grind.{flat_map-append}
-use Rattle.acl_grammar.specs.Rows.{Row, text_of_rows}
+use Rattle.acl_grammar.specs.Rows.{Row, row_text, text_of_rows}
 use Rattle.acl_grammar.proofs.DecisionLaws.{le_decides}
 use Rattle.acl_grammar.proofs.ListLaws.{flat_twice}
-use Rattle.acl_grammar.proofs.PutLaws.{rows_append}
-use Rattle.acl_text.specs.Output.{COUNT_END}
 use Rattle.acl_sets.specs.declared.sets.Range.{Range}
 use Rattle.acl_sets.specs.ComputableSets.{is_all}
 use Rattle.acl_sets.specs.Ranges.{holds, inside, IsNormal, IsRange, Numbers}
 use Rattle.acl_sets.proofs.ComputableSetLaws.{covers-holds}
 use Rattle.acl_platform.specs.Choices.{in_range, is_chosen, number_choices, numbers_in, numbers_of, range_choices}
-use Rattle.acl_platform.specs.ChoiceSteps.{number_rows}
-
--- ---- numbers in a row
-
-pub split-range : (a m k : ℕ) → range_with_len a m ++ range_with_len (a + m) k ≡ range_with_len a (m + k)
-split-range a zero k = ap (λ n. range_with_len n k) (add-zero a) ∙ ap (range_with_len a) (sym (zero-add k))
-split-range a (suc m) k =
-    let e : a + suc m ≡ (a + 1) + m = omega arith in
-    let d : suc (m + k) ≡ suc m + k = omega arith in
-    ap (λ n. a ∷ (range_with_len (a + 1) m ++ range_with_len n k)) e ∙ ap (λ t. a ∷ t) (split-range (a + 1) m k)
-    ∙ ap (range_with_len a) d
-
-pub one-more : {B : Type 0} (f : ℕ → List B) (first number : ℕ) → first ≤ number
-    → flat_map f (range_with_len first (number - first)) ++ f number ≡ flat_map f (range_with_len first (number + 1 - first))
-one-more f first number h =
-    let k = number - first in
-    let here : first + k ≡ number = omega (arith, h) in
-    let more : k + 1 ≡ number + 1 - first = omega (arith, h) in
-    ap (λ t. flat_map f (range_with_len first k) ++ t) (sym (append-nil (f number)) ∙ ap (λ n. f n ++ []) (sym here))
-    ∙ sym (flat_map-append f (range_with_len first k) (range_with_len (first + k) 1))
-    ∙ ap (flat_map f) (split-range first k 1 ∙ ap (range_with_len first) more)
-
--- the rows of the numbers before one, of that one, and of those behind it
-pub number-text : (f : ℕ → List Row) (first number : ℕ) → first ≤ number
-    → text_of_rows (flat_map f (range_with_len first (number - first))) ++ text_of_rows (f number)
-    ≡ text_of_rows (flat_map f (range_with_len first (number + 1 - first)))
-number-text f first number h =
-    rows_append (flat_map f (range_with_len first (number - first))) (f number) ∙ ap text_of_rows (one-more f first number h)
-
-pub numbers-text : (f : ℕ → List Row) (first number end : ℕ) → first ≤ number → number < end
-    → (text_of_rows (flat_map f (range_with_len first (number - first))) ++ text_of_rows (f number))
-    ++ text_of_rows (flat_map f (range_with_len (number + 1) (end - (number + 1))))
-    ≡ text_of_rows (flat_map f (range_with_len first (end - first)))
-numbers-text f first number end h k =
-    let m = number + 1 - first in
-    let rest = end - (number + 1) in
-    let behind : number + 1 ≡ first + m = omega (arith, h) in
-    let whole : m + rest ≡ end - first = omega (arith, h, k) in
-    ap (λ t. t ++ text_of_rows (flat_map f (range_with_len (number + 1) rest))) (number-text f first number h)
-    ∙ rows_append (flat_map f (range_with_len first m)) (flat_map f (range_with_len (number + 1) rest))
-    ∙ ap text_of_rows (sym (flat_map-append f (range_with_len first m) (range_with_len (number + 1) rest)))
-    ∙ ap (λ t. text_of_rows (flat_map f t))
-    (ap (λ n. range_with_len first m ++ range_with_len n rest) behind ∙ split-range first m rest ∙ ap (range_with_len first) whole)
 
 -- ---- what is written of a set's choices
 
-pub all-written : (rows : Option ℕ → List Row) (s : Numbers) → is_all s ≡ true → rows None ≡ flat_map rows (number_choices s)
-all-written rows s e =
-    sym (append-nil (rows None)) ∙ ap (λ b. flat_map rows (cond b (None ∷ []) (map (λ n. Some n) (numbers_of s.ranges)))) (sym e)
-
 pub numbers-written : (rows : Option ℕ → List Row) (s : Numbers) → is_all s ≡ false
-    → flat_map (number_rows rows) s.ranges ≡ flat_map rows (number_choices s)
+    → flat_map (λ n. text_of_rows (rows (Some n))) (numbers_of s.ranges) ≡ text_of_rows (flat_map rows (number_choices s))
 numbers-written rows s e =
-    flat_twice (λ n. rows (Some n)) numbers_in s.ranges ∙ sym (flat_map-map rows (λ n. Some n) (numbers_of s.ranges))
-    ∙ ap (λ b. flat_map rows (cond b (None ∷ []) (map (λ n. Some n) (numbers_of s.ranges)))) (sym e)
-
-pub all-ports-written : (rows : Option (ℕ × ℕ) → List Row) (s : Numbers) → is_all s ≡ true → rows None ≡ flat_map rows (range_choices s)
-all-ports-written rows s e =
-    sym (append-nil (rows None)) ∙ ap (λ b. flat_map rows (cond b (None ∷ []) (map (λ r. Some (r.low, r.high)) s.ranges))) (sym e)
+    flat_twice row_text (λ n. rows (Some n)) (numbers_of s.ranges)
+    ∙ ap text_of_rows (sym (flat_map-map rows (λ n. Some n) (numbers_of s.ranges))
+    ∙ ap (λ b. flat_map rows (cond b (None ∷ []) (map (λ n. Some n) (numbers_of s.ranges)))) (sym e))
 
 pub ranges-written : (rows : Option (ℕ × ℕ) → List Row) (s : Numbers) → is_all s ≡ false
     → flat_map (λ r. rows (Some (r.low, r.high))) s.ranges ≡ flat_map rows (range_choices s)
@@ -96,21 +42,6 @@ pub ranges-fit : (floor top most : ℕ) (rs ranges : List Range) → IsNormal fl
 ranges-fit floor top most rs ranges h k e =
     let P : List Range → Type 0 = λ l. All (λ r. IsRange most r) l in
     subst P (sym e) (All-from_recursion (λ (r : Range). IsRange most r) rs (fit floor top most rs h k))
-
--- ---- how many
-
-pub count-on : (count size more : ℕ) (rs : List Range) (i : ℕ) (r : Range) → i < length rs → r ≡ get_or rs i r
-    → size ≡ length (numbers_in r) → more ≡ min (count + size) COUNT_END
-    → min (more + length (numbers_of (drop (i + 1) rs))) COUNT_END ≡ min (count + length (numbers_of (drop i rs))) COUNT_END
-count-on count size more rs i r within is here plus =
-    let rest = numbers_of (drop (i + 1) rs) in
-    let step : length (numbers_of (drop i rs)) ≡ length (numbers_in r ++ rest) =
-    ap (λ l. length (numbers_of l)) (drop_more rs i r within) ∙ ap (λ (x : Range). length (numbers_in x ++ rest)) (sym is) in
-    let both = length-append (numbers_in r) rest in
-    omega (arith, step, both, here, plus)
-
-pub none-left : (rs : List Range) (i : ℕ) → length rs ≤ i → length (numbers_of (drop i rs)) ≡ 0
-none-left rs i h = ap (λ l. length (numbers_of l)) (drop_all i rs h)
 
 -- ---- which numbers some choice holds
 

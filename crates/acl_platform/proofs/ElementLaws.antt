@@ -28,6 +28,12 @@ some-any : {A : Type 0} (test : A → Bool) (xs : List A) → xs ≢ [] → (is_
 some-any test [] h = absurd (h refl)
 some-any test (x ∷ xs) h = refl
 
+-- ---- ranges
+
+pub each-range : {A : Type 0} (f : ℕ × ℕ → A) (rs : List Range) → map (λ r. f (r.low, r.high)) rs ≡ map f (map (λ r. (r.low, r.high)) rs)
+each-range f [] = refl
+each-range f (r ∷ rs) = ap (λ xs. f (r.low, r.high) ∷ xs) (each-range f rs)
+
 -- ---- addresses
 
 holds-all : (f : Family) (p : Prefix) (a : ℕ) → IsPrefixOf f p → p.len ≡ 0 → a < 2 ^ width_of f → has_address p a ≡ true

@@ -5,6 +5,9 @@ pub mod CombinationLaws
 pub mod ElementLaws
 pub mod EntryLaws
 mod NameSlotLaws
+pub mod NamedNumbers
+mod NumberLaws
+pub mod OneName
 pub mod PairLaws
 mod RuleOutcomes
 pub mod RuleNames

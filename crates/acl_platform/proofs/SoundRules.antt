@@ -1,7 +1,5 @@
 -- What follows from a rule's soundness.
-use Rattle.std.proofs.Common.{ℕ, ◌≤◌, List, [], ◌∷◌, arith}
-use Rattle.std.specs.List.{All, AllByRecursion}
-use Rattle.std.proofs.lemmas.List.Elements.{All-from_recursion}
+use Rattle.std.proofs.Common.{ℕ, ◌≤◌, arith}
 use Rattle.acl_packet.specs.declared.addresses.Families.{Families}
 use Rattle.acl_packet.specs.declared.packets.Packet.{Packet}
 use Rattle.acl_packet.specs.Packets.{IsPacket}
@@ -21,15 +19,6 @@ sized kind families r h = record {
   destination_ports = below 65535 r.dports h.destination_ports;
   types = below 255 r.itypes h.types;
 }
-
-each-sized : (kind : Kind) (families : Families) (rules : List Rule) → AllByRecursion (IsSoundRule kind families) rules
-    → AllByRecursion IsSized rules
-each-sized kind families [] h = tt
-each-sized kind families (r ∷ rules) h = (sized kind families r h.0, each-sized kind families rules h.1)
-
-pub all-sized : (kind : Kind) (families : Families) (rules : List Rule) → AllByRecursion (IsSoundRule kind families) rules
-    → All IsSized rules
-all-sized kind families rules h = All-from_recursion IsSized rules (each-sized kind families rules h)
 
 -- the parts of a packet are within the tops of the sets
 pub record IsInTops (r : Rule) (p : Packet) : Type 0 where

@@ -1,12 +1,27 @@
--- Texts that are put item by item.
-use Rattle.std.proofs.Common.{◌≡◌, ℕ, ◌+◌, ◌<◌, List, ◌∷◌, ◌++◌, length, take, drop, get_or, flat_map, ap, sym, ◌∙◌, append_assoc}
-use Rattle.std.proofs.lemmas.List.{drop_more, take-append-drop}
-use Rattle.std.proofs.lemmas.Grind.{flat_map-append}
+-- Texts that are put item by item, up to one that is refused.
+use Rattle.std.proofs.Common.{◌≡◌, ℕ, ◌+◌, ◌<◌, Bool, List, ◌++◌, length, take, drop, get_or, flat_map, Option, Result, Err, IsErrAnd, refl, ap, ◌∙◌}
+use Rattle.std.proofs.lemmas.Result.{err_from_is_err_and}
+use Rattle.acl_text.specs.declared.output.PutFault.{PutFault}
+use Rattle.acl_text.specs.Output.{Puts}
+use Rattle.acl_text.proofs.Putting.{done, goes_on, stops}
+use Rattle.acl_grammar.specs.Rows.{Row, text_of_rows}
+use Rattle.acl_grammar.proofs.PutLaws.{each_split, retold}
 
--- what items before one give, what that one gives, and what those behind it give
-pub front-split : {A B : Type 0} (f : A → List B) (xs : List A) (i : ℕ) (d : A) → i < length xs
-    → (flat_map f (take i xs) ++ f (get_or xs i d)) ++ flat_map f (drop (i + 1) xs) ≡ flat_map f xs
-front-split f xs i d h =
-    append_assoc (flat_map f (take i xs)) (f (get_or xs i d)) (flat_map f (drop (i + 1) xs))
-    ∙ sym (flat_map-append f (take i xs) (get_or xs i d ∷ drop (i + 1) xs))
-    ∙ ap (λ ys. flat_map f (take i xs ++ ys)) (sym (drop_more xs i d h)) ∙ ap (flat_map f) (take-append-drop i xs)
+-- the rows of the items before one, of that one, and of those behind it
+pub item-split : {A : Type 0} (rows : A → List Row) (xs : List A) (i : ℕ) (x : A) → x ≡ get_or xs i x → i < length xs
+    → (text_of_rows (flat_map rows (take i xs)) ++ text_of_rows (rows x)) ++ text_of_rows (flat_map rows (drop (i + 1) xs))
+    ≡ text_of_rows (flat_map rows xs)
+item-split rows xs i x is within =
+    let before = text_of_rows (flat_map rows (take i xs)) in
+    let behind = text_of_rows (flat_map rows (drop (i + 1) xs)) in
+    ap (λ y. (before ++ text_of_rows (rows y)) ++ behind) is ∙ each_split rows xs i x within
+
+-- what was put before a text that is refused, and a front of that text, are a front of the whole
+pub refused : {S T : Type 0} {told : S → Option (List ℕ)} {faults refusals : S → ℕ} {is_open : S → Bool} {keeps : S → S → Type 0}
+    {old mid new : S} {before here : List ℕ} {whole : List ℕ} {e : PutFault} (rest : List ℕ) (r : Result T PutFault)
+    → (before ++ here) ++ rest ≡ whole → ((x y z : S) → keeps x y → keeps y z → keeps x z)
+    → Puts told faults refusals is_open keeps old mid before done → Puts {T = T} told faults refusals is_open keeps mid new here (Err e)
+    → IsErrAnd r (λ f. f ≡ e) → Puts told faults refusals is_open keeps old new whole r
+refused rest r all law p q h =
+    let err = err_from_is_err_and r h in
+    rw (err.1, err.2) (retold all (stops rest (goes_on law p q) refl))

@@ -2,6 +2,7 @@ pub mod ChoiceSteps
 pub mod Choices
 pub mod Combinations
 pub mod Elements
+pub mod Families
 pub mod Limits
 pub mod NameSlots
 pub mod Platforms

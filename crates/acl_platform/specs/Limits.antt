@@ -1,6 +1,6 @@
 -- Why a platform does not take a filter: its rules are judged one after the other, and the number of
 -- entries after all of them. The greatest number of entries is aclgen's own.
-use Rattle.std.specs.Prelude.{ℕ, Bool, not, ◌&&◌, nat_lt, if◌then◌else◌, List, [], ◌∷◌, ◌++◌, Option, None, Some}
+use Rattle.std.specs.Prelude.{ℕ, Bool, not, ◌&&◌, nat_lt, if◌then◌else◌, List, [], ◌∷◌, ◌++◌, length, Option, None, Some}
 use Rattle.std.specs.List.{list_any}
 use Rattle.std.specs.Option.{option_or}
 use Rattle.std.specs.Str.{bytes_eq}
@@ -10,7 +10,7 @@ use Rattle.acl_target.specs.declared.targets.Kind.{Kind}
 use Rattle.acl_target.specs.Clashes.{same_kind}
 use Rattle.acl_platform.specs.declared.filters.Filter.{Filter}
 use Rattle.acl_platform.specs.declared.filters.Limit.{Limit}
-use Rattle.acl_platform.specs.declared.filters.Limit.TheVariants.{TooManyEntries}
+use Rattle.acl_platform.specs.declared.filters.Limit.TheVariants.{NameClash, NameLength, TooManyEntries}
 use Rattle.acl_platform.specs.declared.rules.Rule.{Rule}
 
 abbrev pub is_for : Kind → Filter → Bool
@@ -19,6 +19,13 @@ is_for kind f = same_kind f.kind kind
 -- One of the earlier rules has the rule's name.
 abbrev pub is_name_taken : List Rule → Rule → Bool
 is_name_taken earlier r = list_any (λ e. bytes_eq e.name r.name) earlier
+
+-- The rule's name is longer than the longest one, or an earlier rule has it.
+abbrev pub name_limit : ℕ → List Rule → Rule → Option Limit
+name_limit longest earlier r =
+    if nat_lt longest (length r.name) then Some (NameLength (length earlier))
+    else if is_name_taken earlier r then Some (NameClash (length earlier))
+    else None
 
 -- The rule holds SCTP, 132 (IANA, Protocol Numbers), and not all of its ports.
 abbrev pub names_sctp_ports : Rule → Bool

@@ -3,16 +3,16 @@ ghost use Rattle.std.specs.List.{All};
 ghost use Rattle.acl_text.specs.Output.{COUNT_END, Puts};
 ghost use Rattle.acl_grammar.specs.Rows.{text_of_rows};
 ghost use Rattle.acl_sets.specs.Ranges.{IsRange};
-ghost use Rattle.acl_platform.specs.ChoiceSteps.{number_rows, range_rows};
+ghost use Rattle.acl_platform.specs.ChoiceSteps.{range_rows};
 ghost use Rattle.acl_platform.specs.Choices.{
   number_choices,
-  numbers_in,
-  numbers_of,
   pairs,
   range_choices,
 };
 
-use acl_grammar::Form;
+use crate::elements::ranges_of;
+use crate::numbers::{NumberForm, count_numbers, put_numbers};
+use acl_grammar::{Each, Form, Rows};
 use acl_sets::{Range, RangeSet};
 use acl_text::{Out, PutFault};
 
@@ -42,7 +42,11 @@ impl<'a, T: Copy> Choices for &'a [T] {
     ghost items = { λ s. s.now };
 
     fn put_each<F: Form<T>, O: Out>(&self, form: &F, out: &mut O) -> Result<(), PutFault> {
-        put_items(self, form, out)
+        let each = Each {
+            items: self,
+            form: Shared { form },
+        };
+        each.put_rows(out)
     }
 
     fn count(&self) -> u64 {
@@ -50,15 +54,18 @@ impl<'a, T: Copy> Choices for &'a [T] {
     }
 }
 
-fn put_items<T, F: Form<T>, O: Out>(items: &[T], form: &F, out: &mut O) -> Result<(), PutFault>
-    requires { IsTrue (O.is_open out.old) }
-    ensures { Puts O.told O.faults O.refusals O.is_open O.keeps_rest out.old out.new
-        (text_of_rows (flat_map (F.item_rows form.now) items.now)) result }
-{
-    for item in items {
-        form.put_item(item, out)?;
+// A form that stands elsewhere.
+#[derive_where(Clone, Copy)]
+struct Shared<'a, F> {
+    form: &'a F,
+}
+
+impl<'a, T, F: Form<T>> Form<T> for Shared<'a, F> {
+    ghost item_rows = { λ s item. F.item_rows s.form.now item };
+
+    fn put_item<O: Out>(&self, item: &T, out: &mut O) -> Result<(), PutFault> {
+        self.form.put_item(item, out)
     }
-    Ok(())
 }
 
 /// The numbers of a set of numbers below 256, or no condition where it has all up to its top.
@@ -77,7 +84,7 @@ impl<'a> Choices for NumberChoices<'a> {
         if self.set.is_all() {
             form.put_item(&None, out)
         } else {
-            put_numbers(self.set.ranges(), form, out)
+            put_numbers(ranges_of(self.set), &AsChoice { form }, out)
         }
     }
 
@@ -85,63 +92,23 @@ impl<'a> Choices for NumberChoices<'a> {
         if self.set.is_all() {
             1
         } else {
-            count_numbers(self.set.ranges())
+            count_numbers(ranges_of(self.set))
         }
     }
 }
 
-fn put_numbers<F: Form<Option<u8>>, O: Out>(
-    ranges: &[Range],
-    form: &F,
-    out: &mut O,
-) -> Result<(), PutFault>
-    requires open { IsTrue (O.is_open out.old) }
-    requires ranges { All (λ r. IsRange 255 r) ranges.now }
-    ensures { Puts O.told O.faults O.refusals O.is_open O.keeps_rest out.old out.new
-        (text_of_rows (flat_map (number_rows (F.item_rows form.now)) ranges.now)) result }
-{
-    for range in ranges {
-        put_range(range, form, out)?;
-    }
-    Ok(())
+// A number, written as the choice that it is.
+#[derive_where(Clone, Copy)]
+struct AsChoice<'a, F> {
+    form: &'a F,
 }
 
-fn put_range<F: Form<Option<u8>>, O: Out>(
-    range: &Range,
-    form: &F,
-    out: &mut O,
-) -> Result<(), PutFault>
-    requires open { IsTrue (O.is_open out.old) }
-    requires range { IsRange 255 range.now }
-    ensures { Puts O.told O.faults O.refusals O.is_open O.keeps_rest out.old out.new
-        (text_of_rows (number_rows (F.item_rows form.now) range.now)) result }
-{
-    let first = range.low as u16;
-    let end = range.high as u16 + 1;
-    for number in first..end {
-        form.put_item(&Some(number as u8), out)?;
-    }
-    Ok(())
-}
+impl<'a, F: Form<Option<u8>>> NumberForm for AsChoice<'a, F> {
+    ghost number_text = { λ c number. text_of_rows (F.item_rows c.form.now (Some number)) };
 
-/// How many numbers the ranges have; a number that does not fit stands at the greatest one that
-/// does.
-pub fn count_numbers(ranges: &[Range]) -> u64
-    requires { All (λ r. IsRange 255 r) ranges.now }
-    ensures { result ≡ min (length (numbers_of ranges.now)) COUNT_END }
-{
-    let mut count: u64 = 0;
-    for range in ranges {
-        count = count.saturating_add(range_size(range));
+    fn put_number<O: Out>(&self, number: u8, out: &mut O) -> Result<(), PutFault> {
+        self.form.put_item(&Some(number), out)
     }
-    count
-}
-
-fn range_size(range: &Range) -> u64
-    requires { IsRange 255 range.now }
-    ensures { result ≡ length (numbers_in range.now) }
-{
-    range.high as u64 + 1 - range.low as u64
 }
 
 /// The ranges of a set of numbers below 65,536, or no condition where it has all up to its top.
@@ -164,7 +131,7 @@ impl<'a> Choices for RangeChoices<'a> {
         if self.set.is_all() {
             form.put_item(&None, out)
         } else {
-            put_ranges(self.set.ranges(), form, out)
+            put_ranges(ranges_of(self.set), form, out)
         }
     }
 

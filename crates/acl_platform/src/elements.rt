@@ -1,6 +1,6 @@
-ghost use Rattle.std.specs.Prelude.{◌≡◌, ◌==◌};
-ghost use Rattle.std.specs.List.{list_any};
-ghost use Rattle.acl_sets.specs.Ranges.{IsNormal};
+ghost use Rattle.std.specs.Prelude.{◌≡◌, ◌==◌, ◌≤◌, ℕ};
+ghost use Rattle.std.specs.List.{All, list_any};
+ghost use Rattle.acl_sets.specs.Ranges.{IsNormal, IsRange};
 ghost use Rattle.acl_platform.specs.Elements.{address_elements, range_elements};
 
 use acl_packet::Prefix;
@@ -27,6 +27,16 @@ fn has_all_addresses(prefixes: &[Prefix]) -> bool
 pub fn range_elements(set: &RangeSet) -> &[Range]
     ensures exact { result.now ≡ range_elements set.now }
     ensures normal { IsNormal 0 set.now.top result.now }
+    ensures fit { (most : ℕ) → set.now.top ≤ most → All (λ r. IsRange most r) result.now }
 {
-    if set.is_all() { &[] } else { set.ranges() }
+    if set.is_all() { &[] } else { ranges_of(set) }
+}
+
+/// All ranges of a set.
+pub(crate) fn ranges_of(set: &RangeSet) -> &[Range]
+    ensures exact { result.now ≡ set.now.ranges }
+    ensures normal { IsNormal 0 set.now.top result.now }
+    ensures fit { (most : ℕ) → set.now.top ≤ most → All (λ r. IsRange most r) result.now }
+{
+    set.ranges()
 }

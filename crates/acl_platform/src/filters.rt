@@ -1,5 +1,8 @@
+ghost use Rattle.std.specs.Prelude.{◌≡◌};
+ghost use Rattle.acl_platform.specs.Families.{family_of};
+
 use crate::rules::Rules;
-use acl_packet::{Families, Hook};
+use acl_packet::{Families, Family, Hook};
 use acl_target::{Ending, Kind};
 use acl_text::{Bytes, Place};
 
@@ -32,4 +35,15 @@ pub enum Limit {
     Unsupported(usize),
     /// The filter would have more entries than a device is given.
     TooManyEntries,
+}
+
+/// The family of a filter that has one; IPv4 for a filter of both.
+pub fn family_of(families: Families) -> Family
+    ensures { result ≡ family_of families }
+{
+    match families {
+        Families::Inet => Family::V4,
+        Families::Inet6 => Family::V6,
+        Families::Mixed => Family::V4,
+    }
 }

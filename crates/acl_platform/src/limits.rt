@@ -8,6 +8,7 @@ ghost use Rattle.acl_platform.specs.Limits.{
   count_limit,
   first_limit,
   is_name_taken,
+  name_limit,
   names_sctp_ports,
 };
 ghost use Rattle.acl_platform.specs.NameSlots.{IsSeen};
@@ -61,6 +62,21 @@ impl<'a> Earlier<'a> {
         ensures { result ≡ is_name_taken self.now rule.now }
     {
         is_name_taken(self.rules, self.names, rule)
+    }
+
+    /// Why the rule's name is not taken: it is longer than the longest one, or one of these rules has
+    /// it.
+    pub fn name_limit(&self, longest: usize, rule: &Rule) -> Option<Limit>
+        ensures { result ≡ name_limit longest self.now rule.now }
+    {
+        let place = self.count();
+        if rule.name.as_slice().len() > longest {
+            Some(Limit::NameLength(place))
+        } else if self.have_name_of(rule) {
+            Some(Limit::NameClash(place))
+        } else {
+            None
+        }
     }
 }
 

@@ -19,7 +19,7 @@ use Rattle.acl_platform.specs.declared.filters.Limit.{Limit}
 use Rattle.acl_platform.specs.declared.filters.Limit.TheVariants.{NameClash, NameLength, TooManyEntries, Unsupported}
 use Rattle.acl_platform.specs.declared.rules.Rule.{Rule}
 use Rattle.acl_platform.specs.Limits.{count_limit, filter_limit, first_limit, is_name_taken, names_sctp_ports}
-use Rattle.gen_cisco.specs.CountSteps.{combinations_in, rule_count}
+use Rattle.gen_cisco.specs.CountSteps.{rule_count}
 use Rattle.gen_cisco.specs.Limits as cisco
 use Rattle.gen_cisco.specs.Sections.{list_items}
 use Rattle.gen_cisco.proofs.EntryCounts.{closing-list, entries, inet-count, inet6-count, lists-count, mixed-count, rule-list}
@@ -122,9 +122,9 @@ abbrev KeepsFamilies : List Rule → List Rule → Type 0
 KeepsFamilies fs gs = (family : Family) → list_any (λ r. same_family r.family family) fs ≡ true
     → list_any (λ r. same_family r.family family) gs ≡ true
 
-combinations-fewer : (family : Family) (gs fs : List Rule) → IsLeftOf gs fs → combinations_in family gs ≤ combinations_in family fs
-unfolding combinations_in
-combinations-fewer family gs fs h = left-count (combinations_in family) (rule_count family) refl (λ r rules. refl) gs fs h
+combinations-fewer : (family : Family) (gs fs : List Rule) → IsLeftOf gs fs → sum_by (rule_count family) gs ≤ sum_by (rule_count family) fs
+combinations-fewer family gs fs h =
+    left-count (sum_by (rule_count family)) (rule_count family) refl (sum_by-cons (rule_count family)) gs fs h
 
 list-fewer : (family : Family) (gs fs : List Rule) → IsLeftOf gs fs → KeepsFamilies fs gs
     → entries (list_items family gs) ≤ entries (list_items family fs)
@@ -179,9 +179,9 @@ ipt-fewer gs fs h =
     left-count (λ rules. sum_by chain_size (map chain_of rules)) (λ r. chain_size (chain_of r)) refl
     (λ r rules. sum_by-cons chain_size (chain_of r) (map chain_of rules)) gs fs h
 
-nft-rules-fewer : (gs fs : List Rule) → IsLeftOf gs fs → nft_steps.rules_count gs ≤ nft_steps.rules_count fs
-unfolding nft_steps.rules_count
-nft-rules-fewer gs fs h = left-count nft_steps.rules_count nft_steps.rule_count refl (λ r rules. refl) gs fs h
+nft-rules-fewer : (gs fs : List Rule) → IsLeftOf gs fs → sum_by nft_steps.rule_count gs ≤ sum_by nft_steps.rule_count fs
+nft-rules-fewer gs fs h =
+    left-count (sum_by nft_steps.rule_count) nft_steps.rule_count refl (sum_by-cons nft_steps.rule_count) gs fs h
 
 nft-fewer : (f g : Filter) → IsLeftOf g.rules f.rules → nft_sections.entry_count g ≤ nft_sections.entry_count f
 nft-fewer f g h =

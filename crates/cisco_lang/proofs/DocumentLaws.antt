@@ -1,5 +1,5 @@
 -- What is written of a document is read again.
-use Rattle.std.proofs.Common.{◌≡◌, ℕ, Bool, true, false, List, [], ◌∷◌, ◌++◌, map, flat_map, codes, Some, refl, ap, sym, subst, ◌∙◌, append-nil}
+use Rattle.std.proofs.Common.{◌≡◌, ℕ, Bool, true, false, List, [], ◌∷◌, ◌++◌, map, flat_map, codes, refl, ap, ◌∙◌, append-nil}
 use Rattle.std.specs.List.{fold, AllByRecursion}
 use Rattle.std.proofs.lemmas.List.Splits.{join_with_byte-slice_split}
 use Rattle.std.proofs.lemmas.List.Sums.{fold-append}
@@ -8,16 +8,18 @@ use Rattle.acl_packet.specs.declared.addresses.Family.TheVariants.{V4, V6}
 use Rattle.acl_packet.specs.declared.addresses.Families.{Families}
 use Rattle.acl_packet.specs.declared.addresses.Families.TheVariants.{Inet, Inet6, Mixed}
 use Rattle.acl_grammar.specs.Rows.{Row}
-use Rattle.acl_grammar.specs.RowSteps.{row_in, rows_in}
+use Rattle.acl_grammar.specs.RowSteps.{row_in}
 use Rattle.acl_grammar.proofs.RowLaws.{fold-again, fold-members}
+use Rattle.acl_grammar.specs.RuleParts.{log_words}
+use Rattle.acl_grammar.specs.FamilyWords.{families_in}
 use Rattle.cisco_lang.specs.declared.documents.Section.{Section}
 use Rattle.cisco_lang.specs.declared.documents.AccessList.{AccessList}
 use Rattle.cisco_lang.specs.declared.documents.Item.{Item}
 use Rattle.cisco_lang.specs.declared.documents.Item.TheVariants.{Remark, Entry as AnEntry}
 use Rattle.cisco_lang.specs.declared.document_drafts.DocumentDraft.{DocumentDraft}
 use Rattle.cisco_lang.specs.Documents.{IsItem, IsList, heads_of, IsSection}
-use Rattle.cisco_lang.specs.Texts.{action_word, proto_word, end_words, type_words, flags_words, log_words, entry_words, item_rows, head_rows, end_rows, list_rows, families_word, section_rows, Spells}
-use Rattle.cisco_lang.specs.ReadingSteps.{no_list, no_section, no_draft, families_in, entry_in, item_in, is_last, end_section, end_list, take_four, take_outer, take_inner, take_row, document_in}
+use Rattle.cisco_lang.specs.Texts.{action_word, proto_word, end_words, type_words, flags_words, entry_words, item_rows, head_rows, end_rows, list_rows, families_word, section_rows, text_of}
+use Rattle.cisco_lang.specs.ReadingSteps.{no_list, no_section, no_draft, entry_in, item_in, is_last, end_section, end_list, take_four, take_outer, take_inner, take_row, document_in}
 use Rattle.cisco_lang.proofs.ValidityLaws.{head_of}
 use Rattle.cisco_lang.proofs.EntryReadingLaws.{entry_again}
 use Rattle.cisco_lang.proofs.SafeRows.{sections_safe}
@@ -125,18 +127,8 @@ empty_row : (d : DocumentDraft) → take_row d (row_in []) ≡ d
 unfolding row_in take_row take_outer
 empty_row d = refl
 
-pub document_again : (bytes : List ℕ) (doc : List Section) → Spells bytes doc → document_in bytes ≡ doc
+pub document_again : (doc : List Section) → AllByRecursion IsSection doc → document_in (text_of doc) ≡ doc
 unfolding document_in
-document_again bytes doc h =
+document_again doc h =
     let end = at doc no_section no_list in
-    ap (λ t. (read no_draft (rows_in t)).sections) h.written
-    ∙ ap (λ d. d.sections) (fold-again take_row no_draft end (flat_map section_rows doc) (sections_safe doc h.valid.sections) (sections_read [] doc h.valid.sections) (empty_row end))
-
-pub read_all : (bytes : List ℕ) (draft doc : List Section) → draft ≡ document_in bytes → Spells bytes doc → Some draft ≡ Some doc
-read_all bytes draft doc e h = ap Some (e ∙ document_again bytes doc h)
-
-pub read_other : (bytes : List ℕ) (draft doc : List Section) → draft ≡ document_in bytes → (Spells bytes draft → ⊥) → Spells bytes doc → ⊥
-read_other bytes draft doc e n h = n (subst (Spells bytes) (sym (e ∙ document_again bytes doc h)) h)
-
-pub one_document : (bytes : List ℕ) (a b : List Section) → Spells bytes a → Spells bytes b → a ≡ b
-one_document bytes a b h k = sym (document_again bytes a h) ∙ document_again bytes b k
+    ap (λ d. d.sections) (fold-again take_row no_draft end (flat_map section_rows doc) (sections_safe doc h) (sections_read [] doc h) (empty_row end))

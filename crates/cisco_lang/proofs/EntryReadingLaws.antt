@@ -22,15 +22,16 @@ use Rattle.acl_text.specs.Ipv6.{ipv6_in, side_in, groups_in, group_in, last_in, 
 use Rattle.acl_text.specs.AddressTexts.{address_in, address_text, spelled_prefix_in, prefix_in, full_in, block_in, prefix_text, wildcard_text}
 use Rattle.acl_text.proofs.AddressLaws.{address-again, spelled-again}
 use Rattle.acl_grammar.specs.PortRanges.{IsPortRange}
+use Rattle.acl_grammar.specs.RuleParts.{log_words}
 use Rattle.cisco_lang.specs.declared.documents.Entry.{Entry}
 use Rattle.cisco_lang.specs.declared.documents.Flags.{Flags}
 use Rattle.cisco_lang.specs.declared.documents.Flags.TheVariants.{Established, Rst, SynNotAck}
-use Rattle.cisco_lang.specs.declared.entry_drafts.End.{End}
-use Rattle.cisco_lang.specs.declared.entry_drafts.End.TheVariants.{Source, Destination}
+use Rattle.acl_grammar.specs.declared.rule_parts.End.{End}
+use Rattle.acl_grammar.specs.declared.rule_parts.End.TheVariants.{Source, Destination}
 use Rattle.cisco_lang.specs.declared.entry_drafts.Next.TheVariants.{Place, Wildcard, Port, Low, Tests}
 use Rattle.cisco_lang.specs.declared.entry_drafts.EntryDraft.{EntryDraft}
 use Rattle.cisco_lang.specs.Documents.{IsEntry}
-use Rattle.cisco_lang.specs.Texts.{action_word, proto_word, masked_words, address_words, ports_words, type_words, flags_words, log_words, end_words, entry_words}
+use Rattle.cisco_lang.specs.Texts.{action_word, proto_word, masked_words, address_words, ports_words, type_words, flags_words, end_words, entry_words}
 use Rattle.cisco_lang.specs.ReadingSteps.{draft, everywhere, no_entry, with_place, with_ports, ports_of, after, proto_named, proto_in, host_in, place_in, length_in, port_in, begun, place_named, take_place, test_named, take_test, take_as, take_word, entry_in}
 
 abbrev read : EntryDraft → List (List ℕ) → EntryDraft

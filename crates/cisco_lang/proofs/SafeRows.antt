@@ -17,6 +17,7 @@ use Rattle.acl_grammar.specs.PortRanges.{IsPortRange}
 use Rattle.acl_grammar.specs.RowSteps.{begins, IsRow, IsWord, AreWords, AreRows}
 use Rattle.acl_grammar.proofs.ListLaws.{all_flat}
 use Rattle.acl_grammar.proofs.WordLaws.{word, decimal_word, address_word, wildcard_word, prefix_word, name_word, text_words}
+use Rattle.acl_grammar.specs.RuleParts.{log_words}
 use Rattle.cisco_lang.specs.declared.documents.Section.{Section}
 use Rattle.cisco_lang.specs.declared.documents.AccessList.{AccessList}
 use Rattle.cisco_lang.specs.declared.documents.Item.{Item}
@@ -25,7 +26,7 @@ use Rattle.cisco_lang.specs.declared.documents.Entry.{Entry}
 use Rattle.cisco_lang.specs.declared.documents.Flags.{Flags}
 use Rattle.cisco_lang.specs.declared.documents.Flags.TheVariants.{Established, Rst, SynNotAck}
 use Rattle.cisco_lang.specs.Documents.{IsEntry, IsItem, IsList, heads_of, IsSection}
-use Rattle.cisco_lang.specs.Texts.{action_word, proto_word, masked_words, address_words, ports_words, type_words, flags_words, log_words, end_words, entry_words, item_rows, head_words, head_rows, end_rows, list_rows, families_word, section_rows}
+use Rattle.cisco_lang.specs.Texts.{action_word, proto_word, masked_words, address_words, ports_words, type_words, flags_words, end_words, entry_words, item_rows, head_words, head_rows, end_rows, list_rows, families_word, section_rows}
 use Rattle.cisco_lang.proofs.ValidityLaws.{head_of}
 
 -- ---- entries

@@ -1,7 +1,7 @@
 -- Documents of Cisco IOS access lists, and which of them are valid.
 -- Sources: Cisco IOS Security Command Reference, "access-list (IP extended)" and "ip access-list";
 -- Cisco IOS IPv6 Command Reference, "ipv6 access-list", "permit (IPv6)" and "deny (IPv6)".
-use Rattle.std.specs.Prelude.{◌≡◌, ℕ, ◌≤◌, Bool, true, false, ◌&&◌, ◌||◌, ◌==◌, List, [], ◌∷◌, ◌++◌, map, flat_map, codes, Option, None, Some, IfSome, is_none}
+use Rattle.std.specs.Prelude.{◌≡◌, ℕ, ◌≤◌, Bool, true, false, ◌&&◌, ◌||◌, List, [], ◌∷◌, ◌++◌, map, flat_map, codes, Option, Some, IfSome, is_none}
 use Rattle.std.specs.List.{AllByRecursion}
 use Rattle.acl_packet.specs.declared.addresses.Family.{Family}
 use Rattle.acl_packet.specs.declared.addresses.Family.TheVariants.{V4, V6}
@@ -12,6 +12,7 @@ use Rattle.acl_packet.specs.Packets.{icmp_of}
 use Rattle.acl_text.specs.Names.{is_filter_name, is_safe_text}
 use Rattle.acl_grammar.specs.Documents.{IsDocumentOf}
 use Rattle.acl_grammar.specs.PortRanges.{IsPortRange}
+use Rattle.acl_grammar.specs.RuleParts.{is_proto}
 use Rattle.cisco_lang.specs.declared.documents.Section.{Section}
 use Rattle.cisco_lang.specs.declared.documents.AccessList.{AccessList}
 use Rattle.cisco_lang.specs.declared.documents.Item.{Item}
@@ -19,10 +20,6 @@ use Rattle.cisco_lang.specs.declared.documents.Item.TheVariants.{Remark, Entry a
 use Rattle.cisco_lang.specs.declared.documents.Entry.{Entry}
 use Rattle.cisco_lang.specs.declared.documents.Flags.{Flags}
 use Rattle.cisco_lang.specs.declared.documents.Flags.TheVariants.{SynNotAck}
-
-abbrev pub is_proto : Option ℕ → ℕ → Bool
-is_proto None number = false
-is_proto (Some proto) number = proto == number
 
 -- Ports belong to TCP or UDP, a type to the family's ICMP, flags to TCP, and `match-all` to IPv4
 -- lists.

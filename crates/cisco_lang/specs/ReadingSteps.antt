@@ -7,7 +7,7 @@ use Rattle.std.specs.Str.{bytes_eq}
 use Rattle.acl_packet.specs.declared.addresses.Family.{Family}
 use Rattle.acl_packet.specs.declared.addresses.Family.TheVariants.{V4, V6}
 use Rattle.acl_packet.specs.declared.addresses.Families.{Families}
-use Rattle.acl_packet.specs.declared.addresses.Families.TheVariants.{Inet, Inet6, Mixed}
+use Rattle.acl_packet.specs.declared.addresses.Families.TheVariants.{Inet, Mixed}
 use Rattle.acl_packet.specs.declared.addresses.Prefix.{Prefix}
 use Rattle.acl_packet.specs.Addresses.{width_of}
 use Rattle.acl_packet.specs.Decimals.{number_in}
@@ -15,6 +15,7 @@ use Rattle.acl_packet.specs.Packets.{icmp_of}
 use Rattle.acl_text.specs.AddressTexts.{address_in, spelled_prefix_in}
 use Rattle.acl_grammar.specs.Rows.{Row}
 use Rattle.acl_grammar.specs.RowSteps.{rows_in}
+use Rattle.acl_grammar.specs.FamilyWords.{families_in}
 use Rattle.cisco_lang.specs.declared.documents.Section.{Section}
 use Rattle.cisco_lang.specs.declared.documents.AccessList.{AccessList}
 use Rattle.cisco_lang.specs.declared.documents.Item.{Item}
@@ -22,8 +23,8 @@ use Rattle.cisco_lang.specs.declared.documents.Item.TheVariants.{Remark, Entry a
 use Rattle.cisco_lang.specs.declared.documents.Entry.{Entry}
 use Rattle.cisco_lang.specs.declared.documents.Flags.{Flags}
 use Rattle.cisco_lang.specs.declared.documents.Flags.TheVariants.{Established, Rst, SynNotAck}
-use Rattle.cisco_lang.specs.declared.entry_drafts.End.{End}
-use Rattle.cisco_lang.specs.declared.entry_drafts.End.TheVariants.{Source, Destination}
+use Rattle.acl_grammar.specs.declared.rule_parts.End.{End}
+use Rattle.acl_grammar.specs.declared.rule_parts.End.TheVariants.{Source, Destination}
 use Rattle.cisco_lang.specs.declared.entry_drafts.Next.{Next}
 use Rattle.cisco_lang.specs.declared.entry_drafts.Next.TheVariants.{Action, Protocol, Place, Host, Wildcard, Port, Low, High, Tests}
 use Rattle.cisco_lang.specs.declared.entry_drafts.EntryDraft.{EntryDraft}
@@ -170,12 +171,6 @@ no_list = record { family = V4; name = []; items = [] }
 
 abbrev pub no_section : Section
 no_section = record { name = []; families = Inet; lists = [] }
-
-unfoldable pub families_in : List ℕ → Families
-families_in w =
-    if bytes_eq w (codes "inet6") then Inet6
-    else if bytes_eq w (codes "mixed") then Mixed
-    else Inet
 
 unfoldable pub item_in : Family → List (List ℕ) → Item
 item_in family [] = AnEntry (entry_in family [])

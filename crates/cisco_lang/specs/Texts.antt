@@ -11,6 +11,7 @@ use Rattle.acl_packet.specs.declared.addresses.Families.TheVariants.{Inet, Inet6
 use Rattle.acl_packet.specs.declared.addresses.Prefix.{Prefix}
 use Rattle.acl_packet.specs.Addresses.{width_of}
 use Rattle.acl_text.specs.AddressTexts.{address_text, prefix_text, wildcard_text}
+use Rattle.acl_grammar.specs.RuleParts.{log_words}
 use Rattle.cisco_lang.specs.declared.documents.Section.{Section}
 use Rattle.cisco_lang.specs.declared.documents.AccessList.{AccessList}
 use Rattle.cisco_lang.specs.declared.documents.Item.{Item}
@@ -66,10 +67,6 @@ flags_words None = []
 flags_words (Some Established) = codes "established" ∷ []
 flags_words (Some Rst) = codes "rst" ∷ []
 flags_words (Some SynNotAck) = codes "match-all" ∷ codes "+syn" ∷ codes "-ack" ∷ []
-
-unfoldable pub log_words : Bool → List (List ℕ)
-log_words true = codes "log" ∷ []
-log_words false = []
 
 -- An end of the packets, where they come from or go to, is an address and its ports.
 unfoldable pub end_words : Family → Prefix → Option (ℕ × ℕ) → List (List ℕ)

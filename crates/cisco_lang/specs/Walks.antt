@@ -15,6 +15,7 @@ use Rattle.acl_packet.specs.Addresses.{covers, has_address, same_family}
 use Rattle.acl_packet.specs.Outcomes.{unlogged}
 use Rattle.acl_packet.specs.Packets.{has_flag}
 use Rattle.acl_grammar.specs.Documents.{outcome_at}
+use Rattle.acl_grammar.specs.RuleParts.{number_holds}
 use Rattle.cisco_lang.specs.declared.documents.Section.{Section}
 use Rattle.cisco_lang.specs.declared.documents.AccessList.{AccessList}
 use Rattle.cisco_lang.specs.declared.documents.Item.{Item}
@@ -24,10 +25,6 @@ use Rattle.cisco_lang.specs.declared.documents.Flags.{Flags}
 use Rattle.cisco_lang.specs.declared.documents.Flags.TheVariants.{Established, Rst, SynNotAck}
 
 -- A part of an entry that is not written holds every packet.
-abbrev pub proto_holds : Option ℕ → ℕ → Bool
-proto_holds None proto = true
-proto_holds (Some wanted) proto = proto == wanted
-
 abbrev pub port_holds : Option (ℕ × ℕ) → ℕ → Bool
 port_holds None port = true
 port_holds (Some range) port = nat_le range.0 port && nat_le port range.1
@@ -42,13 +39,13 @@ flags_hold (Some SynNotAck) flags = has_flag flags 2 && not (has_flag flags 16)
 -- An entry holds a packet where each of its parts does: protocol and addresses, ports, type and
 -- flags.
 abbrev pub ends_hold : Entry → Packet → Bool
-ends_hold e p = proto_holds e.proto p.proto && (has_address e.src p.src && has_address e.dst p.dst)
+ends_hold e p = number_holds e.proto p.proto && (has_address e.src p.src && has_address e.dst p.dst)
 
 abbrev pub ports_hold : Entry → Packet → Bool
 ports_hold e p = port_holds e.sport p.sport && port_holds e.dport p.dport
 
 abbrev pub tests_hold : Entry → Packet → Bool
-tests_hold e p = proto_holds e.itype p.itype && flags_hold e.flags p.flags
+tests_hold e p = number_holds e.itype p.itype && flags_hold e.flags p.flags
 
 abbrev pub entry_holds : Entry → Packet → Bool
 entry_holds e p = ends_hold e p && (ports_hold e p && tests_hold e p)

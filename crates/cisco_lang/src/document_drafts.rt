@@ -1,10 +1,11 @@
 ghost use Rattle.std.specs.Prelude.{◌≡◌, ◌∷◌, [], OnOk, IfOk, true};
 ghost use Rattle.acl_text.specs.Cuts.{views};
-ghost use Rattle.cisco_lang.specs.ReadingSteps.{no_list, no_section, families_in, item_in, is_last, no_draft, end_section, end_list, begin_list, begin_section, take_four, take_outer, take_inner, take_row};
+ghost use Rattle.acl_grammar.specs.FamilyWords.{families_in};
+ghost use Rattle.cisco_lang.specs.ReadingSteps.{no_list, no_section, item_in, is_last, no_draft, end_section, end_list, begin_list, begin_section, take_four, take_outer, take_inner, take_row};
 
 use crate::documents::{AccessList, Doc, Item, Section};
 use crate::entry_drafts::entry_of;
-use acl_grammar::{Draft, join_words};
+use acl_grammar::{Draft, families_of, join_words};
 use acl_packet::{Families, Family};
 use acl_text::{Bytes, Items, Memory};
 use std::alloc::Global;
@@ -164,19 +165,6 @@ fn is_last(families: Families, family: Family) -> bool
     match (families, family) {
         (Families::Mixed, Family::V4) => false,
         _ => true,
-    }
-}
-
-#[tactic(auto, unfolding(crate::specs::ReadingSteps::families_in))]
-fn families_of(word: &[u8]) -> Families
-    ensures { result ≡ families_in word.now }
-{
-    if word == b"inet6".as_slice() {
-        Families::Inet6
-    } else if word == b"mixed".as_slice() {
-        Families::Mixed
-    } else {
-        Families::Inet
     }
 }
 

@@ -5,15 +5,9 @@ ghost use Rattle.acl_text.specs.Cuts.{views};
 ghost use Rattle.cisco_lang.specs.ReadingSteps.{draft, everywhere, no_entry, with_place, with_ports, place_of, ports_of, after, proto_in, host_in, place_in, length_in, port_in, port_pair, begun, ports_begin, place_named, take_place, test_named, with_test, take_test, take_as, take_word, entry_in};
 
 use crate::documents::{Entry, Flags};
+use acl_grammar::End;
 use acl_packet::{Family, Prefix};
 use acl_text::{read_address, read_spelled_prefix, read_u8, read_u16};
-
-/// The end of the packets that an address and ports are of.
-#[derive(Clone, Copy)]
-pub(crate) enum End {
-    Source,
-    Destination,
-}
 
 /// What the next word of an entry is.
 #[derive(Clone, Copy)]

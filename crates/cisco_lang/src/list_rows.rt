@@ -2,12 +2,14 @@ ghost use Rattle.std.specs.Prelude.{◌≡◌, ◌∷◌, [], codes, IsTrue};
 ghost use Rattle.acl_text.specs.Cuts.{views};
 ghost use Rattle.acl_text.specs.Output.{Puts};
 ghost use Rattle.acl_grammar.specs.Rows.{row, spaced, text_of_rows, words_in};
+ghost use Rattle.acl_grammar.specs.RuleParts.{log_words};
 ghost use Rattle.cisco_lang.specs.declared.documents.Item.TheVariants.{Entry as AnEntry};
-ghost use Rattle.cisco_lang.specs.Texts.{action_word, any_word, families_word, proto_word, masked_words, address_words, ports_words, type_words, flags_words, log_words, end_words, entry_words, item_rows, head_rows, end_rows, list_rows, section_row, section_rows};
+ghost use Rattle.cisco_lang.specs.Texts.{action_word, any_word, families_word, proto_word, masked_words, address_words, ports_words, type_words, flags_words, end_words, entry_words, item_rows, head_rows, end_rows, list_rows, section_row, section_rows};
 
 use crate::documents::{AccessList, Entry, Flags, Item, Section};
 use acl_grammar::{
-    Address, Each, Form, FreeText, Number, Piece, Row, Rows, Wildcard, Word, Words, put_words,
+    Address, AsRows, Each, Form, FreeText, LogWord, Number, Piece, Row, Rows, Wildcard, Word,
+    Words, put_words,
 };
 use acl_packet::{Families, Family, Prefix};
 use acl_text::{Out, PutFault};
@@ -40,7 +42,7 @@ impl Rows for EntryRow {
             IcmpType {
                 number: entry.itype,
             },
-            (Test { flags: entry.flags }, Log { log: entry.log }),
+            (Test { flags: entry.flags }, LogWord { log: entry.log }),
         );
         let protocol = Word {
             piece: Protocol {
@@ -357,24 +359,6 @@ impl Words for Test {
     }
 }
 
-#[derive(Drop)]
-struct Log {
-    log: bool,
-}
-
-impl Words for Log {
-    ghost words = { λ l. log_words l.log };
-
-    #[tactic(auto, unfolding(crate::specs::Texts::log_words))]
-    fn put_spaced<O: Out>(&self, out: &mut O) -> Result<(), PutFault> {
-        if self.log {
-            put_words(&[b"log"], out)
-        } else {
-            Ok(())
-        }
-    }
-}
-
 // The items of a list of the family.
 #[derive(Drop)]
 struct OfFamily {
@@ -400,44 +384,37 @@ impl Form<Item> for OfFamily {
     }
 }
 
-#[derive(Drop)]
-struct Lists;
-
-impl Form<AccessList> for Lists {
-    ghost item_rows = { λ f l. list_rows l };
+impl Rows for AccessList {
+    ghost rows = { list_rows };
 
     #[tactic(auto, unfolding(crate::specs::Texts::list_rows))]
-    fn put_item<O: Out>(&self, list: &AccessList, out: &mut O) -> Result<(), PutFault> {
+    fn put_rows<O: Out>(&self, out: &mut O) -> Result<(), PutFault> {
         let head = ListHead {
-            family: list.family,
-            name: list.name.as_slice(),
+            family: self.family,
+            name: self.name.as_slice(),
         };
         let items = Each {
-            items: list.items.as_slice(),
+            items: self.items.as_slice(),
             form: OfFamily {
-                family: list.family,
+                family: self.family,
             },
         };
         (head, (items, ListEnd)).put_rows(out)
     }
 }
 
-/// The sections of a document.
-#[derive(Drop)]
-pub(crate) struct Sections;
-
-impl Form<Section> for Sections {
-    ghost item_rows = { λ f s. section_rows s };
+impl Rows for Section {
+    ghost rows = { section_rows };
 
     #[tactic(auto, unfolding(crate::specs::Texts::section_rows))]
-    fn put_item<O: Out>(&self, section: &Section, out: &mut O) -> Result<(), PutFault> {
+    fn put_rows<O: Out>(&self, out: &mut O) -> Result<(), PutFault> {
         let head = SectionHead {
-            name: section.name.as_slice(),
-            families: section.families,
+            name: self.name.as_slice(),
+            families: self.families,
         };
         let lists = Each {
-            items: section.lists.as_slice(),
-            form: Lists,
+            items: self.lists.as_slice(),
+            form: AsRows,
         };
         (head, lists).put_rows(out)
     }

@@ -1,11 +1,12 @@
 ghost use Rattle.std.specs.Prelude.{◌≡◌, ◌++◌, ◌&&◌, ◌↔◌, IfOk, OnOk, IsTrue, bytes_eq, codes, map};
 ghost use Rattle.std.specs.List.{list_all};
 ghost use Rattle.acl_text.specs.Cuts.{views};
-ghost use Rattle.cisco_lang.specs.Documents.{IsDocument, flags_fit, is_proto, match_all_fits, names_of, parts_fit, ports_fit, type_fits};
+ghost use Rattle.acl_grammar.specs.RuleParts.{is_proto};
+ghost use Rattle.cisco_lang.specs.Documents.{IsDocument, flags_fit, match_all_fits, names_of, parts_fit, ports_fit, type_fits};
 ghost use Rattle.cisco_lang.specs.ValiditySteps.{are_headed, are_ports, are_sections, is_end, is_entry, is_headed, is_item, is_list, is_number, is_section};
 
 use crate::documents::{AccessList, Entry, Flags, Item, Section};
-use acl_grammar::{are_distinct, is_port_range, is_prefix_of};
+use acl_grammar::{are_distinct, is_port_range, is_prefix_of, is_proto};
 use acl_packet::{Families, Family, Prefix};
 use acl_text::{Memory, behind, is_filter_name, is_safe_text};
 use std::alloc::Global;
@@ -186,14 +187,5 @@ fn match_all_fits(family: Family, flags: Option<Flags>) -> bool
     match (family, flags) {
         (Family::V6, Some(Flags::SynNotAck)) => false,
         _ => true,
-    }
-}
-
-fn is_proto(proto: Option<u8>, number: u8) -> bool
-    ensures { result ≡ is_proto proto number }
-{
-    match proto {
-        Some(proto) => proto == number,
-        None => false,
     }
 }

@@ -1,46 +1,14 @@
 ghost use Rattle.std.specs.Prelude.{◌≡◌, length};
 ghost use Rattle.acl_packet.specs.Packets.{IsPacket};
-ghost use Rattle.cisco_lang.specs.Walks.{proto_holds, port_holds, flags_hold, entry_holds, ends_hold, ports_hold, tests_hold, is_entry, verdict_of, decided_by, is_neighbour, ending, first_holding, has_entries, walk, items_of, section_outcome, outcome_of};
+ghost use Rattle.acl_grammar.specs.RuleParts.{number_holds};
+ghost use Rattle.cisco_lang.specs.Walks.{port_holds, flags_hold, entry_holds, ends_hold, ports_hold, tests_hold, is_entry, verdict_of, decided_by, is_neighbour, ending, first_holding, has_entries, walk, items_of, section_outcome, outcome_of};
 
 use crate::documents::{AccessList, Doc, Entry, Flags, Item, Section};
+use acl_grammar::{ACK, RST, SYN, number_holds};
 use acl_packet::{Family, Outcome, Packet, Verdict, has_flag};
 
-const SYN: u8 = 2;
-
-const RST: u8 = 4;
-
-const ACK: u8 = 16;
-
-/// The number of sections of a document.
-pub fn sections(doc: &Doc) -> usize
-    ensures { result ≡ length doc.now }
-{
-    doc.as_slice().len()
-}
-
-/// What the section at that place, counted from 0, does to the packet. `None` exactly where there is
-/// no such section, or the packet's family is none of the section's.
-pub fn outcome(doc: &Doc, which: usize, packet: &Packet) -> Option<Outcome>
-    requires { IsPacket packet.now }
-    ensures { result ≡ outcome_of doc.now which packet.now }
-{
-    section_outcome(doc.as_slice().get(which)?, packet)
-}
-
-#[tactic(auto, unfolding(crate::specs::Walks::section_outcome))]
-fn section_outcome(section: &Section, packet: &Packet) -> Option<Outcome>
-    ensures { result ≡ section_outcome section.now packet.now }
-{
-    if section.families.covers(packet.family) {
-        let items = items_of(packet.family, section.lists.as_slice());
-        Some(walk(packet.family, items, packet))
-    } else {
-        None
-    }
-}
-
 #[tactic(auto, unfolding(crate::specs::Walks::items_of))]
-fn items_of(family: Family, lists: &[AccessList]) -> &[Item]
+pub(crate) fn items_of(family: Family, lists: &[AccessList]) -> &[Item]
     ensures { result.now ≡ items_of family lists.now }
 {
     for list in lists {
@@ -52,7 +20,7 @@ fn items_of(family: Family, lists: &[AccessList]) -> &[Item]
 }
 
 #[tactic(auto, unfolding(crate::specs::Walks::walk))]
-fn walk(family: Family, items: &[Item], packet: &Packet) -> Outcome
+pub(crate) fn walk(family: Family, items: &[Item], packet: &Packet) -> Outcome
     ensures { result ≡ walk family items.now packet.now }
 {
     if !has_entries(items) {
@@ -136,7 +104,7 @@ fn entry_holds(entry: &Entry, packet: &Packet) -> bool
 fn ends_hold(entry: &Entry, packet: &Packet) -> bool
     ensures { result ≡ ends_hold entry.now packet.now }
 {
-    proto_holds(entry.proto, packet.proto)
+    number_holds(entry.proto, packet.proto)
         && entry.src.contains(packet.src)
         && entry.dst.contains(packet.dst)
 }
@@ -150,17 +118,7 @@ fn ports_hold(entry: &Entry, packet: &Packet) -> bool
 fn tests_hold(entry: &Entry, packet: &Packet) -> bool
     ensures { result ≡ tests_hold entry.now packet.now }
 {
-    proto_holds(entry.itype, packet.itype) && flags_hold(entry.flags, packet.flags)
-}
-
-// Also whether a type is the wanted one.
-fn proto_holds(wanted: Option<u8>, number: u8) -> bool
-    ensures { result ≡ proto_holds wanted number }
-{
-    match wanted {
-        Some(wanted) => number == wanted,
-        None => true,
-    }
+    number_holds(entry.itype, packet.itype) && flags_hold(entry.flags, packet.flags)
 }
 
 fn port_holds(range: Option<(u16, u16)>, port: u16) -> bool

@@ -1,8 +1,7 @@
 -- How many entries a section has.
-use Rattle.std.proofs.Common.{◌≡◌, ℕ, ◌+◌, ◌<◌, ◌≤◌, min, Bool, true, false, ◌||◌, cond, List, [], ◌∷◌, ◌++◌, length, map, flat_map, count_by, drop, get_or, refl, ap, sym, ◌∙◌, append-nil, arith}
-use Rattle.std.specs.List.{list_any}
+use Rattle.std.proofs.Common.{◌≡◌, ℕ, ◌+◌, min, Bool, true, false, ◌||◌, cond, List, [], ◌∷◌, ◌++◌, length, map, flat_map, count_by, refl, ap, sym, ◌∙◌, append-nil, arith}
+use Rattle.std.specs.List.{list_any, sum_by}
 use Rattle.std.proofs.lemmas.Bool.{or_parts, true≢false}
-use Rattle.std.proofs.lemmas.List.{drop_all, drop_more}
 use Rattle.std.proofs.lemmas.List.Sums.{sum_by-append, sum_by-cons}
 use Rattle.acl_packet.specs.declared.addresses.Families.{Families}
 use Rattle.acl_packet.specs.declared.addresses.Families.TheVariants.{Inet, Inet6, Mixed}
@@ -18,7 +17,7 @@ use Rattle.cisco_lang.specs.declared.documents.Item.{Item}
 use Rattle.cisco_lang.specs.declared.documents.Item.TheVariants.{Remark, Entry as AnEntry}
 use Rattle.cisco_lang.specs.Documents.{heads_of}
 use Rattle.cisco_lang.specs.Walks.{is_entry}
-use Rattle.gen_cisco.specs.CountSteps.{closing_count, combinations_in, rule_count}
+use Rattle.gen_cisco.specs.CountSteps.{closing_count, rule_count}
 use Rattle.gen_cisco.specs.Sections.{closed, closing_entries, entry_of, items_in, list_items, list_of, rule_items}
 
 abbrev pub entries : List Item → ℕ
@@ -58,14 +57,14 @@ entries-by : (r : Rule) (b : Bool) → entries (cond b (rule_items r) []) ≡ co
 entries-by r true = entries-of r
 entries-by r false = refl
 
-entries-in : (family : Family) (rules : List Rule) → entries (flat_map (items_in family) rules) ≡ combinations_in family rules
-unfolding combinations_in
+entries-in : (family : Family) (rules : List Rule) → entries (flat_map (items_in family) rules) ≡ sum_by (rule_count family) rules
 entries-in family [] = refl
 entries-in family (r ∷ rules) =
     let both = entries-append (items_in family r) (flat_map (items_in family) rules) in
     let here = entries-by r (same_family r.family family) in
     let rest = entries-in family rules in
-    omega (arith, both, here, rest)
+    let all = sum_by-cons (rule_count family) r rules in
+    omega (arith, both, here, rest, all)
 
 -- ---- the closing entries stand in a list without a rule alone
 
@@ -108,7 +107,7 @@ closing-min V4 = omega arith
 closing-min V6 = omega arith
 
 pub rule-list : (family : Family) (rules : List Rule) → list_any (λ r. same_family r.family family) rules ≡ true
-    → entries (list_items family rules) ≡ combinations_in family rules
+    → entries (list_items family rules) ≡ sum_by (rule_count family) rules
 rule-list family rules h = ap entries (same-items family rules h) ∙ entries-in family rules
 
 -- ---- a section
@@ -126,23 +125,3 @@ pub mixed-count : (rules : List Rule) (name : List ℕ) → lists-count Mixed ru
 mixed-count rules name =
     entries-append (list_items V4 rules) (list_items V6 rules ++ [])
     ∙ ap (λ items. entries (list_items V4 rules) + entries items) (append-nil (list_items V6 rules))
-
-pub sum-min : (m n : ℕ) → min (min m COUNT_END + min n COUNT_END) COUNT_END ≡ min (m + n) COUNT_END
-sum-min m n = omega arith
-
--- ---- steps of the loops
-
-pub count-on : (family : Family) (count here more whole : ℕ) (rules : List Rule) (i : ℕ) (r : Rule)
-    → i < length rules → r ≡ get_or rules i r → here ≡ min (rule_count family r) COUNT_END → more ≡ min (count + here) COUNT_END
-    → min (count + combinations_in family (drop i rules)) COUNT_END ≡ whole
-    → min (more + combinations_in family (drop (i + 1) rules)) COUNT_END ≡ whole
-unfolding combinations_in
-count-on family count here more whole rules i r within is size plus before =
-    let rest = combinations_in family (drop (i + 1) rules) in
-    let step : combinations_in family (drop i rules) ≡ rule_count family r + rest =
-    ap (combinations_in family) (drop_more rules i r within) ∙ ap (λ (q : Rule). rule_count family q + rest) (sym is) in
-    omega (arith, step, size, plus, before)
-
-pub none-left : (family : Family) (rules : List Rule) (i : ℕ) → length rules ≤ i → combinations_in family (drop i rules) ≡ 0
-unfolding combinations_in
-none-left family rules i h = ap (combinations_in family) (drop_all i rules h)

@@ -1,5 +1,5 @@
 -- A section's first line, and the names of the lists of targets that do not clash.
-use Rattle.std.proofs.Common.{◌≡◌, ℕ, Bool, false, ◌&&◌, List, [], ◌∷◌, ◌++◌, map, flat_map, codes, refl, append-nil, append_assoc, ap, sym, ◌∙◌}
+use Rattle.std.proofs.Common.{◌≡◌, ℕ, Bool, false, List, [], ◌∷◌, ◌++◌, map, flat_map, codes, refl, append-nil, append_assoc, ap, sym, ◌∙◌}
 use Rattle.std.specs.List.{AllByRecursion, IsDistinct}
 use Rattle.std.specs.Set.{is_member}
 use Rattle.std.specs.Str.{bytes_eq}
@@ -13,11 +13,12 @@ use Rattle.acl_grammar.specs.Rows.{Row, row_text, text_of_rows}
 use Rattle.acl_grammar.proofs.NamingLaws.{distinct-append}
 use Rattle.acl_target.specs.declared.targets.Kind.{Kind}
 use Rattle.acl_target.specs.declared.targets.Kind.TheVariants.{Cisco}
-use Rattle.acl_target.specs.Clashes.{clash, clash_on, is_mixed, list_names as target_lists, same_kind, share_lists}
+use Rattle.acl_target.specs.Clashes.{clash, is_mixed, list_names as target_lists, share_lists}
 use Rattle.acl_target.specs.TargetTexts.{families_text, kind_text, target_text}
 use Rattle.acl_platform.specs.declared.filters.Filter.{Filter}
 use Rattle.acl_platform.specs.declared.rules.Rule.{Rule}
 use Rattle.acl_platform.specs.SoundFilters.{target_of}
+use Rattle.acl_platform.proofs.OneName.{clash-of}
 use Rattle.cisco_lang.specs.Documents.{heads_of}
 use Rattle.cisco_lang.specs.Texts.{list_rows, section_row, section_rows}
 use Rattle.gen_cisco.specs.SectionLaws.{lists-differ}
@@ -68,12 +69,11 @@ none-of-both (x ∷ xs) ys zs h k =
 
 none-shared : (f g : Filter) (stateful : Bool) → f.kind ≡ Cisco → g.kind ≡ Cisco → clash (target_of stateful f) (target_of stateful g) ≡ false
     → in_common (list_names (section_of f)) (list_names (section_of g)) ≡ false
-unfolding clash share_lists
+unfolding share_lists
 none-shared f g stateful h k e =
-    let test : Kind → Kind → Bool = λ i j. same_kind i j && clash_on i (target_of stateful f) (target_of stateful g) in
     ap (λ xs. in_common xs (list_names (section_of g))) (names-of f)
     ∙ ap (in_common (target_lists (is_mixed f.families) f.name)) (names-of g)
-    ∙ sym (ap (λ i. test i g.kind) h ∙ ap (test Cisco) k) ∙ e
+    ∙ sym (clash-of Cisco f g stateful h k) ∙ e
 
 none-later : (f : Filter) (stateful : Bool) (fs : List Filter) → f.kind ≡ Cisco → AllByRecursion (λ g. g.kind ≡ Cisco) fs
     → AllByRecursion (λ t. clash (target_of stateful f) t ≡ false) (map (target_of stateful) fs)

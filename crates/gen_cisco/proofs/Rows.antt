@@ -14,39 +14,37 @@ use Rattle.acl_grammar.proofs.DecisionLaws.{family_decides}
 use Rattle.acl_grammar.proofs.ListLaws.{flat_twice}
 use Rattle.acl_platform.specs.declared.rules.Rule.{Rule}
 use Rattle.acl_platform.specs.Combinations.{combinations}
-use Rattle.acl_platform.specs.Remarks.{notes, remarks}
+use Rattle.acl_platform.specs.Remarks.{remarks}
+use Rattle.acl_platform.specs.declared.combinations.Combination.{Combination}
+use Rattle.cisco_lang.specs.declared.documents.Item.{Item}
 use Rattle.cisco_lang.specs.declared.documents.Item.TheVariants.{Remark, Entry as AnEntry}
 use Rattle.cisco_lang.specs.Documents.{heads_of}
 use Rattle.cisco_lang.specs.Texts.{head_rows, item_rows, list_rows, section_row, section_rows, text_of}
-use Rattle.gen_cisco.specs.RowSteps.{items_rows, list_body, remark_row}
+use Rattle.gen_cisco.specs.RowSteps.{items_rows, list_body}
 use Rattle.gen_cisco.specs.Sections.{entry_of, items_in, list_items, list_of, rule_items}
 use Rattle.gen_cisco.proofs.EntryCounts.{same-items}
 
-remark-rows : (family : Family) (texts : List (List ℕ)) → map remark_row texts ≡ items_rows family (map (λ text. Remark text) texts)
-unfolding item_rows
-remark-rows family [] = refl
-remark-rows family (text ∷ texts) = ap (λ rows. remark_row text ∷ rows) (remark-rows family texts)
+-- the rows of a rule: those of its remarks, and one for each entry
+rule-rows : (family : Family) (r : Rule)
+    → flat_map (λ text. item_rows family (Remark text)) (remarks r) ++ flat_map (λ c. item_rows family (AnEntry (entry_of r c))) (combinations r)
+    ≡ items_rows family (rule_items r)
+rule-rows family r =
+    let entry : Combination → Item = λ c. AnEntry (entry_of r c) in
+    ap (λ rows. flat_map (λ text. item_rows family (Remark text)) (remarks r) ++ rows) (sym (flat_map-map (item_rows family) entry (combinations r)))
+    ∙ ap (λ rows. rows ++ items_rows family (map entry (combinations r))) (sym (flat_map-map (item_rows family) (λ text. Remark text) (remarks r)))
+    ∙ sym (flat_map-append (item_rows family) (map (λ text. Remark text) (remarks r)) (map entry (combinations r)))
 
--- the rows of a rule: a row for the name, for the note, and for each entry
-pub rule-rows : (r : Rule)
-    → remark_row r.name ∷ [] ++ (map remark_row (notes r.note) ++ flat_map (λ c. item_rows r.family (AnEntry (entry_of r c))) (combinations r))
-    ≡ items_rows r.family (rule_items r)
-rule-rows r =
-    let texts = map (λ text. Remark text) (remarks r) in
-    let entries = map (λ c. AnEntry (entry_of r c)) (combinations r) in
-    ap (λ rows. map remark_row (remarks r) ++ rows) (sym (flat_map-map (item_rows r.family) (λ c. AnEntry (entry_of r c)) (combinations r)))
-    ∙ ap (λ rows. rows ++ items_rows r.family entries) (remark-rows r.family (remarks r))
-    ∙ sym (flat_map-append (item_rows r.family) texts entries)
-
-own-by : (family : Family) (r : Rule) (b : Bool) → same_family r.family family ≡ b → b ≡ true
-    → items_rows r.family (rule_items r) ≡ items_rows family (cond b (rule_items r) [])
-own-by family r true e h = ap (λ f. items_rows f (rule_items r)) ((family_decides r.family family).0 e)
-own-by family r false e h = absurd (false≢true h)
+own-by : (family : Family) (r : Rule) (b : Bool) → b ≡ true → items_rows family (rule_items r) ≡ items_rows family (cond b (rule_items r) [])
+own-by family r true h = refl
+own-by family r false h = absurd (false≢true h)
 
 pub own-rule : (family : Family) (r : Rule) → same_family r.family family ≡ true
-    → remark_row r.name ∷ [] ++ (map remark_row (notes r.note) ++ flat_map (λ c. item_rows r.family (AnEntry (entry_of r c))) (combinations r))
+    → flat_map (λ text. item_rows family (Remark text)) (remarks r) ++ flat_map (λ c. item_rows r.family (AnEntry (entry_of r c))) (combinations r)
     ≡ items_rows family (items_in family r)
-own-rule family r e = rule-rows r ∙ own-by family r (same_family r.family family) refl e
+own-rule family r e =
+    let same = (family_decides r.family family).0 e in
+    ap (λ f. flat_map (λ text. item_rows family (Remark text)) (remarks r) ++ flat_map (λ c. item_rows f (AnEntry (entry_of r c))) (combinations r)) same
+    ∙ rule-rows family r ∙ own-by family r (same_family r.family family) e
 
 pub own-rows : (family : Family) (rules : List Rule) → list_any (λ r. same_family r.family family) rules ≡ true
     → flat_map (λ r. items_rows family (items_in family r)) rules ≡ items_rows family (list_items family rules)

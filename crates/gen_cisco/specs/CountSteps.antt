@@ -1,5 +1,5 @@
--- How many entries the rules give a list of a family, and how many close one without a rule.
-use Rattle.std.specs.Prelude.{ℕ, ◌+◌, if◌then◌else◌, List, [], ◌∷◌, length}
+-- How many entries a rule gives a list of a family, and how many close one without a rule.
+use Rattle.std.specs.Prelude.{ℕ, if◌then◌else◌, length}
 use Rattle.acl_packet.specs.declared.addresses.Family.{Family}
 use Rattle.acl_packet.specs.declared.addresses.Family.TheVariants.{V4, V6}
 use Rattle.acl_packet.specs.Addresses.{same_family}
@@ -12,7 +12,3 @@ closing_count V6 = 3
 
 abbrev pub rule_count : Family → Rule → ℕ
 rule_count family r = if same_family r.family family then length (combinations r) else 0
-
-unfoldable pub combinations_in : Family → List Rule → ℕ
-combinations_in family [] = 0
-combinations_in family (r ∷ rules) = rule_count family r + combinations_in family rules

@@ -1,8 +1,8 @@
 -- The entries of a rule that has no limit are entries of a list: proved here, and need not be
 -- believed.
-use Rattle.std.proofs.Common.{zero-le, subst, ◌≡◌, ℕ, zero, suc, ◌≤◌, Bool, true, false, not, ◌&&◌, ◌||◌, ◌==◌, Option, None, Some, IfSome, is_none, inl, inr, refl, ap, sym, ◌∙◌}
-use Rattle.std.proofs.lemmas.Bool.{and_from, cases_lt, eqb-true, false_from_ne_true, false≢true, or_parts}
-use Rattle.std.proofs.Math.Nat.{le_antisymm, le_of_suc-le-suc, suc-le-suc_iff}
+use Rattle.std.proofs.Common.{subst, ◌≡◌, ℕ, ◌≤◌, true, false, ◌&&◌, ◌||◌, Option, None, Some, IfSome, is_none, refl, ap, sym, ◌∙◌}
+use Rattle.std.proofs.lemmas.Bool.{and_from, false≢true, or_parts}
+use Rattle.std.proofs.Math.Nat.{suc-le-suc_iff}
 use Rattle.acl_packet.specs.declared.addresses.Families.{Families}
 use Rattle.acl_packet.specs.declared.addresses.Family.{Family}
 use Rattle.acl_packet.specs.declared.addresses.Family.TheVariants.{V4, V6}
@@ -10,8 +10,6 @@ use Rattle.acl_packet.specs.Addresses.{same_family}
 use Rattle.acl_packet.specs.Packets.{has_ports, icmp_of, is_icmp}
 use Rattle.acl_sets.specs.ComputableSets.{is_all}
 use Rattle.acl_sets.specs.Ranges.{holds, Numbers, Only}
-use Rattle.acl_sets.proofs.ComputableSetLaws.{covers-holds}
-use Rattle.acl_sets.proofs.RangeLaws.{at_top}
 use Rattle.acl_grammar.specs.PortRanges.{IsPortRange}
 use Rattle.acl_target.specs.declared.targets.Kind.TheVariants.{Cisco}
 use Rattle.acl_platform.specs.declared.combinations.Combination.{Combination}
@@ -19,45 +17,16 @@ use Rattle.acl_platform.specs.declared.rules.Rule.{Rule}
 use Rattle.acl_platform.specs.declared.rules.Test.{Test}
 use Rattle.acl_platform.specs.declared.rules.Test.TheVariants.{Plain, AckOrRst, SynNotAck, Rst, State}
 use Rattle.acl_platform.specs.Limits.{names_sctp_ports}
-use Rattle.acl_platform.specs.SoundFilters.{is_named_protocol, is_tcp, IsSoundRule, tests_flags}
+use Rattle.acl_platform.specs.SoundFilters.{is_tcp, IsSoundRule, tests_flags}
 use Rattle.acl_platform.proofs.CombinationFacts.{IsCombinationOf, OfNumbers, OfRanges}
-use Rattle.acl_platform.proofs.RuleNumbers.{no-destination, no-source, tcp-or-udp, type-most}
-use Rattle.cisco_lang.specs.Documents.{flags_fit, IsEntry, is_proto, match_all_fits, ports_fit, type_fits}
+use Rattle.acl_platform.proofs.NamedNumbers.{named, no-icmp, protocol-is, type-is}
+use Rattle.acl_platform.proofs.RuleNumbers.{no-destination, no-source, tcp-or-udp}
+use Rattle.acl_grammar.specs.RuleParts.{is_proto}
+use Rattle.cisco_lang.specs.Documents.{flags_fit, IsEntry, match_all_fits, ports_fit, type_fits}
 use Rattle.gen_cisco.specs.Limits.{asks_initial, is_unsupported}
 use Rattle.gen_cisco.specs.Sections.{entry_of, flags_of}
 
--- ---- the protocol
-
-positive : (f : Family) (n : ℕ) → is_named_protocol f n ≡ true → 1 ≤ n
-positive V4 zero h = absurd (false≢true h)
-positive V6 zero h = absurd (false≢true h)
-positive f (suc n) h = suc-le-suc_iff.1 zero-le
-
-protocol-is : (families : Families) (r : Rule) (o : Option ℕ) → IsSoundRule Cisco families r → OfNumbers r.protos o
-    → IfSome o (λ n. (1 ≤ n) × (n ≤ 255))
-protocol-is families r None h k = tt
-protocol-is families r (Some n) h k =
-    (positive r.family n (h.protocols_named k.0 n k.1), at_top 0 255 r.protos.ranges n h.protocols.normal k.1)
-
--- The protocol that is named, where the rule's protocols pass a test and 0 does not.
-abbrev Named : (ℕ → Bool) → Numbers → Option ℕ → Type 0
-Named test s o = (n : ℕ) × ((o ≡ Some n) × ((holds s.ranges n ≡ true) × (test n ≡ true)))
-
-named : (test : ℕ → Bool) (s : Numbers) (o : Option ℕ) → OfNumbers s o → test 0 ≡ false → Only test s → Named test s o
-named test s None h none only =
-    absurd (false≢true (sym none ∙ only 0 (covers-holds s.ranges 0 s.top 0 h zero-le zero-le)))
-named test s (Some n) h none only = (n, (refl, (h.1, only n h.1)))
-
 -- ---- the type
-
-type-is : (families : Families) (r : Rule) (o : Option ℕ) → IsSoundRule Cisco families r → OfNumbers r.itypes o
-    → IfSome o (λ n. n ≤ 254)
-type-is families r None h k = tt
-type-is families r (Some n) h k = type-most r.itypes n h.types.normal (h.types_named k.0) k.1
-
-no-icmp : (f : Family) → is_icmp f 0 ≡ false
-no-icmp V4 = refl
-no-icmp V6 = refl
 
 types-fit : (families : Families) (r : Rule) (proto o : Option ℕ) → IsSoundRule Cisco families r → OfNumbers r.protos proto → OfNumbers r.itypes o
     → (is_none o || is_proto proto (icmp_of r.family)) ≡ true
@@ -122,12 +91,12 @@ entry-is families r c h u k =
     let e = entry_of r c in
     let initial = (or_parts (same_family r.family V6 && asks_initial r.test) (names_sctp_ports r) u).0 in
     record {
-      protocol = protocol-is families r c.proto h k.protocol;
+      protocol = protocol-is Cisco families r c.proto h k.protocol;
       source = k.source;
       source_ports = range-is r.sports c.sport h.source_ports.top_is k.source_ports;
       destination = k.destination;
       destination_ports = range-is r.dports c.dport h.destination_ports.top_is k.destination_ports;
-      icmp_type = type-is families r c.itype h k.type_of_icmp;
+      icmp_type = type-is Cisco families r c.itype h k.type_of_icmp;
       fit = and_from (ports_fit e) (type_fits r.family e && flags_fit r.family e)
           (ports-fit families r c.proto c.sport c.dport h u k.protocol k.source_ports k.destination_ports)
           (and_from (type_fits r.family e) (flags_fit r.family e) (types-fit families r c.proto c.itype h k.protocol k.type_of_icmp)

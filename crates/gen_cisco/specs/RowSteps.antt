@@ -1,14 +1,11 @@
 -- The rows of a list's items, and those behind its head.
-use Rattle.std.specs.Prelude.{ℕ, List, ◌∷◌, ◌++◌, flat_map, codes}
+use Rattle.std.specs.Prelude.{List, ◌++◌, flat_map}
 use Rattle.acl_packet.specs.declared.addresses.Family.{Family}
 use Rattle.acl_platform.specs.declared.rules.Rule.{Rule}
-use Rattle.acl_grammar.specs.Rows.{Row, row, words_in}
+use Rattle.acl_grammar.specs.Rows.{Row}
 use Rattle.cisco_lang.specs.declared.documents.Item.{Item}
 use Rattle.cisco_lang.specs.Texts.{end_rows, item_rows}
 use Rattle.gen_cisco.specs.Sections.{list_items}
-
-abbrev pub remark_row : List ℕ → Row
-remark_row text = row 1 (codes "remark" ∷ words_in text)
 
 abbrev pub items_rows : Family → List Item → List Row
 items_rows family items = flat_map (item_rows family) items

@@ -1,5 +1,5 @@
 -- The section of an accepted filter is a document: proved here, and need not be believed.
-use Rattle.std.proofs.Common.{◌≡◌, ℕ, suc, lit≤, ◌+◌, ◌≤◌, Bool, true, false, cond, nat_lt, List, [], ◌∷◌, ◌++◌, length, map, flat_map, codes, Option, None, Some, inl, inr, refl, ap, sym, subst, append-nil, ◌∙◌}
+use Rattle.std.proofs.Common.{◌≡◌, ℕ, suc, lit≤, ◌≤◌, Bool, true, false, cond, nat_lt, List, [], ◌∷◌, ◌++◌, length, map, flat_map, codes, None, Some, refl, ap, sym, subst, append-nil}
 use Rattle.std.specs.List.{AllByRecursion, IsDistinct}
 use Rattle.std.specs.Str.{bytes_eq}
 use Rattle.std.proofs.lemmas.Bool.{false_from_ne_true}
@@ -30,7 +30,7 @@ use Rattle.acl_platform.specs.Remarks.{remarks}
 use Rattle.acl_platform.specs.SoundFilters.{IsRuleName, IsSoundRule, target_of}
 use Rattle.cisco_lang.specs.declared.documents.Item.{Item}
 use Rattle.cisco_lang.specs.declared.documents.Item.TheVariants.{Remark, Entry as AnEntry}
-use Rattle.cisco_lang.specs.Documents.{heads_of, IsEntry, IsItem, IsList}
+use Rattle.cisco_lang.specs.Documents.{heads_of, IsEntry, IsItem, IsList, match_all_fits}
 use Rattle.cisco_lang.specs.Texts.{Spells, text_of}
 use Rattle.gen_cisco.specs.EntryLaws.{entry-is}
 use Rattle.gen_cisco.specs.Limits.{is_for_cisco, is_unsupported, limit_of, rule_limit}
@@ -88,24 +88,19 @@ rules-valid families family (r ∷ rules) h w =
     all_append (IsItem family) (items_in family r) (flat_map (items_in family) rules)
     (valid-by families family r (same_family r.family family) refl h.0 w.0) (rules-valid families family rules h.1 w.1)
 
+no-flags : (family : Family) → match_all_fits family None ≡ true
+no-flags V4 = refl
+no-flags V6 = refl
+
 denial-is : (family : Family) → IsEntry family (wide_entry family false None None)
-denial-is V4 = record {
+denial-is family = record {
   protocol = tt;
-  source = everywhere_is V4;
+  source = everywhere_is family;
   source_ports = tt;
-  destination = everywhere_is V4;
+  destination = everywhere_is family;
   destination_ports = tt;
   icmp_type = tt;
-  fit = refl;
-}
-denial-is V6 = record {
-  protocol = tt;
-  source = everywhere_is V6;
-  source_ports = tt;
-  destination = everywhere_is V6;
-  destination_ports = tt;
-  icmp_type = tt;
-  fit = refl;
+  fit = no-flags family;
 }
 
 neighbours-are : (itype : ℕ) → itype ≤ 254 → IsEntry V6 (wide_entry V6 true (Some 58) (Some itype))

@@ -1,8 +1,7 @@
 ghost use Rattle.std.specs.Prelude.{◌≡◌, ◌∷◌, []};
 ghost use Rattle.cisco_lang.specs.Texts.{Spells, text_of};
 ghost use Rattle.cisco_lang.specs.Walks.{section_outcome};
-ghost use Rattle.cisco_lang.proofs.DocumentLaws.{one_document};
-ghost use Rattle.cisco_lang.proofs.JoinLaws.{joined_documents, nothing_is_spelled};
+ghost use Rattle.cisco_lang.proofs.JoinLaws.{spelling_laws};
 ghost use Rattle.gen_cisco.specs.DecisionLaws.{section_decides};
 ghost use Rattle.gen_cisco.specs.Limits.{is_for_cisco, limit_of};
 ghost use Rattle.gen_cisco.specs.SectionLaws.{section_is_spelled};
@@ -51,11 +50,11 @@ impl Platform for Cisco {
         put_section(filter, out)
     }
 
-    ghost one_document = { one_document };
+    ghost one_document = { spelling_laws.one_document };
 
-    ghost nothing_is_spelled = { nothing_is_spelled };
+    ghost nothing_is_spelled = { spelling_laws.nothing_is_spelled };
 
-    ghost joined_are_spelled = { joined_documents };
+    ghost joined_are_spelled = { spelling_laws.joined_documents };
 
     ghost section_is_spelled = { section_is_spelled };
 

@@ -4,11 +4,11 @@ ghost use Rattle.acl_packet.specs.Addresses.{same_family};
 ghost use Rattle.acl_text.specs.Output.{COUNT_END};
 ghost use Rattle.acl_platform.specs.Combinations.{IsSized};
 ghost use Rattle.cisco_lang.specs.Walks.{is_entry};
-ghost use Rattle.gen_cisco.specs.CountSteps.{closing_count, combinations_in, rule_count};
+ghost use Rattle.gen_cisco.specs.CountSteps.{closing_count, rule_count};
 ghost use Rattle.gen_cisco.specs.Sections.{entry_count, list_items};
 
 use acl_packet::{Families, Family};
-use acl_platform::{Filter, Rule, count_combinations};
+use acl_platform::{Filter, Rule, RuleCount, count_combinations, count_rules};
 
 /// The number of entries of the section that the filter becomes; a number that does not fit stands
 /// at the greatest one that does. Protocols and types of its rules have to be numbers below 256, ports
@@ -32,7 +32,7 @@ fn list_count(family: Family, rules: &[Rule]) -> u64
     ensures { result ≡ min (count_by is_entry (list_items family rules.now)) COUNT_END }
 {
     if has_rule(family, rules) {
-        combinations_in(family, rules)
+        count_rules(rules, &InFamily { family })
     } else {
         closing_count(family)
     }
@@ -61,24 +61,20 @@ fn closing_count(family: Family) -> u64
     }
 }
 
-fn combinations_in(family: Family, rules: &[Rule]) -> u64
-    requires { All IsSized rules.now }
-    ensures { result ≡ min (combinations_in family rules.now) COUNT_END }
-{
-    let mut count: u64 = 0;
-    for rule in rules {
-        count = count.saturating_add(rule_count(family, rule));
-    }
-    count
+// A rule, as the entries that it gives the list of a family.
+#[derive(Drop)]
+struct InFamily {
+    family: Family,
 }
 
-fn rule_count(family: Family, rule: &Rule) -> u64
-    requires { IsSized rule.now }
-    ensures { result ≡ min (rule_count family rule.now) COUNT_END }
-{
-    if is_of(family, rule) {
-        count_combinations(rule)
-    } else {
-        0
+impl RuleCount for InFamily {
+    ghost entries = { λ f rule. rule_count f.family rule };
+
+    fn count_rule(&self, rule: &Rule) -> u64 {
+        if is_of(self.family, rule) {
+            count_combinations(rule)
+        } else {
+            0
+        }
     }
 }

@@ -4,11 +4,10 @@ ghost use Rattle.acl_text.specs.Output.{Puts};
 ghost use Rattle.acl_grammar.specs.Rows.{row, text_of_rows, words_in};
 ghost use Rattle.acl_packet.specs.declared.addresses.Family.TheVariants.{V6};
 ghost use Rattle.acl_platform.specs.Combinations.{IsSized, combinations};
-ghost use Rattle.acl_platform.specs.Remarks.{notes};
 ghost use Rattle.cisco_lang.specs.declared.documents.Flags.{Flags};
-ghost use Rattle.cisco_lang.specs.declared.documents.Item.TheVariants.{Entry as AnEntry};
+ghost use Rattle.cisco_lang.specs.declared.documents.Item.TheVariants.{Entry as AnEntry, Remark};
 ghost use Rattle.cisco_lang.specs.Texts.{end_rows, head_rows, item_rows, text_of};
-ghost use Rattle.gen_cisco.specs.RowSteps.{items_rows, remark_row};
+ghost use Rattle.gen_cisco.specs.RowSteps.{items_rows};
 ghost use Rattle.gen_cisco.specs.Sections.{
   closing_entries,
   entry_of,
@@ -24,7 +23,9 @@ ghost use Rattle.gen_cisco.specs.Sections.{
 use crate::counts::{has_rule, is_of};
 use acl_grammar::{Form, Row, Rows, Word};
 use acl_packet::{Families, Family, Prefix, Verdict};
-use acl_platform::{Combination, Filter, Rule, RuleForm, Test, put_combinations, put_rules};
+use acl_platform::{
+    Combination, Filter, RemarkForm, RemarkRows, Rule, RuleForm, Test, put_combinations, put_rules,
+};
 use acl_text::{Out, PutFault};
 use cisco_lang::{Entry, EntryRow, Flags, ListEnd, ListHead, RemarkRow, SectionHead};
 
@@ -190,34 +191,20 @@ impl RuleForm for InFamily {
 
     fn put_rule<O: Out>(&self, rule: &Rule, out: &mut O) -> Result<(), PutFault> {
         if is_of(self.family, rule) {
-            let name = RemarkRow {
-                text: rule.name.as_slice(),
-            };
-            let note = NoteRow {
-                text: rule.note.as_slice(),
-            };
-            (name, (note, Entries { rule })).put_rows(out)
+            let remarks = RemarkRows { rule, form: self };
+            (remarks, Entries { rule }).put_rows(out)
         } else {
             Ok(())
         }
     }
 }
 
-// A remark where there is a note.
-#[derive(Drop)]
-struct NoteRow<'a> {
-    text: &'a [u8],
-}
+impl RemarkForm for InFamily {
+    ghost remark_rows = { λ f text. item_rows f.family (Remark text) };
 
-impl<'a> Rows for NoteRow<'a> {
-    ghost rows = { λ n. map remark_row (notes n.text.now) };
-
-    fn put_rows<O: Out>(&self, out: &mut O) -> Result<(), PutFault> {
-        if self.text.is_empty() {
-            Ok(())
-        } else {
-            RemarkRow { text: self.text }.put_rows(out)
-        }
+    #[tactic(auto, unfolding(cisco_lang::specs::Texts::item_rows))]
+    fn put_remark<O: Out>(&self, text: &[u8], out: &mut O) -> Result<(), PutFault> {
+        RemarkRow { text }.put_rows(out)
     }
 }
 

@@ -1,13 +1,13 @@
 -- How many entries a section has.
-use Rattle.std.proofs.Common.{◌≡◌, ℕ, ◌+◌, ◌*◌, ◌<◌, ◌≤◌, min, Bool, true, false, cond, List, [], ◌∷◌, length, map, flat_map, sum_by, drop, get_or, refl, ap, sym, ◌∙◌, arith}
-use Rattle.std.proofs.lemmas.List.{drop_all, drop_more, length-append}
+use Rattle.std.proofs.Common.{◌≡◌, ℕ, ◌+◌, ◌*◌, min, Bool, true, false, cond, List, [], ◌∷◌, length, map, flat_map, sum_by, refl, ap, ◌∙◌, arith}
+use Rattle.std.proofs.lemmas.List.{length-append}
 use Rattle.std.proofs.lemmas.List.Sums.{sum_by-cons}
 use Rattle.acl_text.specs.Output.{COUNT_END}
 use Rattle.acl_platform.specs.declared.rules.Rule.{Rule}
 use Rattle.acl_platform.specs.Choices.{pairs}
 use Rattle.acl_platform.proofs.PairLaws.{length-pairs, product-min}
 use Rattle.ipt_lang.specs.declared.documents.Act.TheVariants.{Log, Decide}
-use Rattle.gen_iptables.specs.CountSteps.{act_count, combination_count, rule_count, rules_count}
+use Rattle.gen_iptables.specs.CountSteps.{act_count, combination_count, rule_count}
 use Rattle.gen_iptables.specs.Groups.{group_choices}
 use Rattle.gen_iptables.specs.Sections.{backs, chain_of, chain_rule, chain_size, combinations, fronts, Parts, rules_for}
 
@@ -41,33 +41,16 @@ chain-counted : (r : Rule) → chain_size (chain_of r) ≡ rule_count r
 chain-counted r =
     ap (λ n. n + 1) (rules-counted r (combinations r) ∙ ap (λ n. n * act_count r.log) (combinations-counted r))
 
-pub all-counted : (rules : List Rule) → sum_by chain_size (map chain_of rules) ≡ rules_count rules
-unfolding rules_count
+pub all-counted : (rules : List Rule) → sum_by chain_size (map chain_of rules) ≡ sum_by rule_count rules
 all-counted [] = refl
 all-counted (r ∷ rules) =
-    sum_by-cons chain_size (chain_of r) (map chain_of rules)
-    ∙ ap (λ n. n + sum_by chain_size (map chain_of rules)) (chain-counted r) ∙ ap (λ n. rule_count r + n) (all-counted rules)
+    let here = sum_by-cons chain_size (chain_of r) (map chain_of rules) in
+    let chain = chain-counted r in
+    let all = sum_by-cons rule_count r rules in
+    let rest = all-counted rules in
+    omega (arith, here, chain, all, rest)
 
--- ---- the loop over rules
-
-added : (count here more whole n rest all : ℕ) → all ≡ n + rest → here ≡ min n COUNT_END → more ≡ min (count + here) COUNT_END
-    → min (count + all) COUNT_END ≡ whole → min (more + rest) COUNT_END ≡ whole
-added count here more whole n rest all step size plus before = omega (arith, step, size, plus, before)
-
-pub count-on : (count here more whole : ℕ) (rules : List Rule) (i : ℕ) (r : Rule)
-    → i < length rules → r ≡ get_or rules i r → here ≡ min (rule_count r) COUNT_END → more ≡ min (count + here) COUNT_END
-    → min (count + rules_count (drop i rules)) COUNT_END ≡ whole
-    → min (more + rules_count (drop (i + 1) rules)) COUNT_END ≡ whole
-unfolding rules_count
-count-on count here more whole rules i r within is size plus before =
-    let rest = rules_count (drop (i + 1) rules) in
-    let step : rules_count (drop i rules) ≡ rule_count r + rest =
-    ap rules_count (drop_more rules i r within) ∙ ap (λ (q : Rule). rule_count q + rest) (sym is) in
-    added count here more whole (rule_count r) rest (rules_count (drop i rules)) step size plus before
-
-pub none-left : (rules : List Rule) (i : ℕ) → length rules ≤ i → rules_count (drop i rules) ≡ 0
-unfolding rules_count
-none-left rules i h = ap rules_count (drop_all i rules h)
+-- ---- counts that stand still at their end
 
 -- a product of two counts that stand still at their end
 pub product : (a b : ℕ) {x y z : ℕ} → x ≡ min a COUNT_END → y ≡ min b COUNT_END → z ≡ min (x * y) COUNT_END → z ≡ min (a * b) COUNT_END

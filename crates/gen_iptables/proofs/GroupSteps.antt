@@ -1,5 +1,5 @@
 -- The groups of a list, one after the other.
-use Rattle.std.proofs.Common.{◌≡◌, ℕ, ◌+◌, ◌-◌, ◌<◌, ◌≤◌, min, List, [], ◌∷◌, ◌++◌, length, take, drop, flat_map, ap, sym, ◌∙◌, append_assoc, append-nil, arith}
+use Rattle.std.proofs.Common.{◌≡◌, ℕ, ◌+◌, ◌-◌, ◌<◌, ◌≤◌, min, List, [], ◌∷◌, ◌++◌, length, take, drop, flat_map, ap, sym, subst, ◌∙◌, append_assoc, append-nil, arith}
 use Rattle.std.proofs.lemmas.List.{drop-drop, drop_all, length-drop}
 use Rattle.std.proofs.lemmas.Grind.{flat_map-append}
 use Rattle.acl_text.specs.Output.{COUNT_END}
@@ -9,13 +9,6 @@ use Rattle.acl_sets.specs.declared.sets.Range.{Range}
 use Rattle.acl_sets.specs.Groups.{group_length}
 use Rattle.gen_iptables.specs.GroupLaws.{groups-step}
 use Rattle.gen_iptables.specs.Groups.{behind_group, first_group, groups, groups_up_to}
-
--- the group that is put: the ranges from one place up to another
-pub put-group : (rs : List Range) (from end : ℕ) → end ≡ from + group_length 15 (drop from rs)
-    → take (end - from) (drop from rs) ≡ first_group (drop from rs)
-put-group rs from end e =
-    let size : end - from ≡ group_length 15 (drop from rs) = omega (arith, e) in
-    ap (λ k. take k (drop from rs)) size
 
 first-of : (rs : List Range) → 0 < length rs → groups rs ≡ first_group rs ∷ groups (behind_group rs)
 first-of [] h = absurd (omega (arith, h))
@@ -35,10 +28,21 @@ no-groups rs from h = ap groups (drop_all from rs h)
 
 -- ---- what is written
 
+-- the group that is put: the ranges from one place up to another
+pub group-text : (f : List Range → List Row) (ranges rs : List Range) (from end : ℕ) → ranges ≡ rs → end ≡ from + group_length 15 (drop from rs)
+    → text_of_rows (f (take (end - from) (drop from ranges))) ≡ text_of_rows (f (first_group (drop from rs)))
+group-text f ranges rs from end is e =
+    let size : end - from ≡ group_length 15 (drop from rs) = omega (arith, e) in
+    ap (λ l. text_of_rows (f (take (end - from) (drop from l)))) is ∙ ap (λ k. text_of_rows (f (take k (drop from rs)))) size
+
 -- some groups, one more, and the rest
-pub one-further : {A : Type 0} (front : List A) (g : A) {rest later all : List A} → rest ≡ g ∷ later → front ++ rest ≡ all
-    → (front ++ g ∷ []) ++ later ≡ all
-one-further front g {later = later} e h = append_assoc front (g ∷ []) later ∙ ap (λ t. front ++ t) (sym e) ∙ h
+pub one-further : (front : List (List Range)) (ranges rs : List Range) (from end : ℕ) → ranges ≡ rs → from < length ranges
+    → end ≡ from + group_length 15 (drop from rs) → front ++ groups (drop from rs) ≡ groups rs
+    → (front ++ first_group (drop from rs) ∷ []) ++ groups (drop end rs) ≡ groups rs
+one-further front ranges rs from end is h e before =
+    let P : List Range → Type 0 = λ l. from < length l in
+    let group = first_group (drop from rs) in
+    append_assoc front (group ∷ []) (groups (drop end rs)) ∙ ap (λ t. front ++ t) (sym (groups-from rs from end (subst P is h) e)) ∙ before
 
 pub more-text : {A : Type 0} (f : A → List Row) (front : List A) (g : A)
     → text_of_rows (flat_map f front) ++ text_of_rows (f g) ≡ text_of_rows (flat_map f (front ++ g ∷ []))

@@ -1,6 +1,5 @@
 -- A section's first line, and the names of the sections of targets that do not clash.
-use Rattle.std.proofs.Common.{◌≡◌, ℕ, Bool, false, ◌&&◌, List, [], ◌∷◌, ◌++◌, map, flat_map, codes, refl, append-nil, ap, sym, subst, ◌∙◌}
-use Rattle.std.specs.List.{AllByRecursion, IsDistinct}
+use Rattle.std.proofs.Common.{◌≡◌, ℕ, Bool, false, ◌&&◌, List, [], ◌∷◌, ◌++◌, codes, refl, append-nil, ap, sym, subst, ◌∙◌}
 use Rattle.std.specs.Str.{bytes_eq}
 use Rattle.std.proofs.lemmas.Bool.{false≢true}
 use Rattle.acl_packet.specs.declared.addresses.Families.{Families}
@@ -11,15 +10,17 @@ use Rattle.acl_text.specs.Output.{joined}
 use Rattle.acl_grammar.specs.Rows.{Row, row_text, text_of_rows}
 use Rattle.acl_target.specs.declared.targets.Kind.{Kind}
 use Rattle.acl_target.specs.declared.targets.Kind.TheVariants.{Iptables}
-use Rattle.acl_target.specs.Clashes.{clash, clash_on, is_mixed, same_families, same_hook, same_kind}
+use Rattle.acl_target.specs.Clashes.{clash, is_mixed, same_families, same_hook}
 use Rattle.acl_target.specs.TargetData.{chain_text, FitsPlatform, IsChain}
 use Rattle.acl_target.specs.TargetTexts.{families_text, kind_text, target_text}
 use Rattle.acl_platform.specs.declared.filters.Filter.{Filter}
 use Rattle.acl_platform.specs.SoundFilters.{target_of}
+use Rattle.acl_platform.proofs.OneName
 use Rattle.ipt_lang.specs.Documents.{family_word, hook_word, name_of}
 use Rattle.ipt_lang.specs.Texts.{head_rows, section_rows, target_row}
 use Rattle.gen_iptables.specs.SectionNames.{FirstLine, IsOfIptables, section_body, SectionsDiffer}
-use Rattle.gen_iptables.specs.Sections.{family_of, section_names, section_of}
+use Rattle.acl_platform.specs.Families.{family_of}
+use Rattle.gen_iptables.specs.Sections.{section_of}
 
 -- ---- the first line
 
@@ -85,19 +86,9 @@ names-same i j Mixed gs m n = absurd (false≢true (sym m))
 
 not-same : (f g : Filter) (stateful : Bool) → IsOfIptables f → IsOfIptables g → clash (target_of stateful f) (target_of stateful g) ≡ false
     → bytes_eq (name_of (section_of f)) (name_of (section_of g)) ≡ false
-unfolding clash
 not-same f g stateful h k e =
-    let test : Kind → Kind → Bool = λ i j. same_kind i j && clash_on i (target_of stateful f) (target_of stateful g) in
     names-same f.hook g.hook f.families g.families h.1 k.1
-    ∙ sym (ap (λ i. test i g.kind) h.0 ∙ ap (test Iptables) k.0) ∙ e
-
-none-later : (f : Filter) (stateful : Bool) (fs : List Filter) → IsOfIptables f → AllByRecursion IsOfIptables fs
-    → AllByRecursion (λ t. clash (target_of stateful f) t ≡ false) (map (target_of stateful) fs)
-    → AllByRecursion (λ n. bytes_eq (name_of (section_of f)) n ≡ false) (flat_map (λ g. section_names (section_of g)) fs)
-none-later f stateful [] h k e = tt
-none-later f stateful (g ∷ fs) h k e = (not-same f g stateful h k.0 e.0, none-later f stateful fs h k.1 e.1)
+    ∙ sym (OneName.clash-of Iptables f g stateful h.0 k.0) ∙ e
 
 pub all-differ : SectionsDiffer
-unfolding IsDistinct
-all-differ [] stateful h d = tt
-all-differ (f ∷ fs) stateful h d = (none-later f stateful fs h.0 h.1 d.0, all-differ fs stateful h.1 d.1)
+all-differ fs stateful h d = OneName.all-differ IsOfIptables (λ f. name_of (section_of f)) stateful (λ f g. not-same f g stateful) fs h d

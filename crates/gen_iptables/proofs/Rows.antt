@@ -9,7 +9,8 @@ use Rattle.acl_grammar.proofs.ListLaws.{flat_twice}
 use Rattle.acl_platform.specs.declared.filters.Filter.{Filter}
 use Rattle.acl_platform.specs.declared.rules.Rule.{Rule}
 use Rattle.acl_platform.specs.Choices.{pairs}
-use Rattle.acl_platform.specs.Remarks.{notes}
+use Rattle.acl_platform.specs.Remarks.{remarks}
+use Rattle.acl_platform.proofs.ElementLaws.{each-range}
 use Rattle.acl_platform.proofs.PairLaws.{over-pairs}
 use Rattle.acl_sets.specs.declared.sets.Range.{Range}
 use Rattle.ipt_lang.specs.declared.chain_rows.SectionHead.{SectionHead}
@@ -17,13 +18,10 @@ use Rattle.ipt_lang.specs.declared.documents.Act.{Act}
 use Rattle.ipt_lang.specs.Texts.{back_words, chain_row, chain_rows, front_words, head_rows, jump_row, ports_words, range_word, remark_rows, rule_row, rule_rows, rule_words, section_rows, text_of}
 use Rattle.gen_iptables.specs.Groups.{group_choices}
 use Rattle.gen_iptables.specs.RowSteps.{combination_rows, head_of, rows_behind_front, rows_behind_sources}
-use Rattle.gen_iptables.specs.Sections.{address_of, asks_state, Back, backs, chain_of, chain_rule, combinations, ends_of, family_of, Front, fronts, Parts, rules_for, section_of}
+use Rattle.acl_platform.specs.Families.{family_of}
+use Rattle.gen_iptables.specs.Sections.{address_of, asks_state, Back, backs, chain_of, chain_rule, combinations, ends_of, Front, fronts, Parts, rules_for, section_of}
 
 -- ---- a rule of a chain
-
-pub range-words : (rs : List Range) → map (λ r. range_word (ends_of r)) rs ≡ map range_word (map ends_of rs)
-range-words [] = refl
-range-words (r ∷ rs) = ap (λ ws. range_word (ends_of r) ∷ ws) (range-words rs)
 
 pub rule-text : (hook : Hook) (family : Family) (r : Rule) (c : Parts) (act : Act) {name : List ℕ} {src dst : Option Prefix} {state : Bool}
     → name ≡ r.name → src ≡ address_of c.0.1.0 → dst ≡ address_of c.0.1.1 → state ≡ asks_state r.test
@@ -43,8 +41,8 @@ rule-text hook family r c act {name = name} {src = src} {dst = dst} {state = sta
     let test = asks_state r.test in
     ap (λ n. text n src dst sports dports state) e ∙ ap (λ s. text r.name s dst sports dports state) h
     ∙ ap (λ d. text r.name from d sports dports state) k ∙ ap (text r.name from into sports dports) l
-    ∙ ap (λ i. text r.name from into i dports test) (range-words c.1.0)
-    ∙ ap (λ o. text r.name from into (map range_word (map ends_of c.1.0)) o test) (range-words c.1.1.0)
+    ∙ ap (λ i. text r.name from into i dports test) (each-range range_word c.1.0)
+    ∙ ap (λ o. text r.name from into (map range_word (map ends_of c.1.0)) o test) (each-range range_word c.1.1.0)
 
 -- ---- the rules of a chain, part by part
 
@@ -70,17 +68,16 @@ all-parts hook family r =
 
 -- ---- a chain, and a section
 
-pub chain-text : (hook : Hook) (family : Family) (r : Rule) {name note : List ℕ} → name ≡ r.name → note ≡ r.note
-    → text_of_rows ((remark_rows name ++ flat_map remark_rows (notes note))
+pub chain-text : (hook : Hook) (family : Family) (r : Rule) {name : List ℕ} → name ≡ r.name
+    → text_of_rows (flat_map remark_rows (remarks r)
     ++ (chain_row hook name ∷ [] ++ (flat_map (combination_rows hook family r) (combinations r) ++ jump_row hook name ∷ [])))
     ≡ text_of_rows (chain_rows hook family (chain_of r))
 unfolding chain_rows
-chain-text hook family r {name = name} {note = note} e h =
-    let text : List ℕ → List ℕ → List Row → List ℕ = λ n t rows.
-    text_of_rows ((remark_rows n ++ flat_map remark_rows (notes t)) ++ (chain_row hook n ∷ [] ++ (rows ++ jump_row hook n ∷ []))) in
+chain-text hook family r {name = name} e =
+    let text : List ℕ → List Row → List ℕ = λ n rows.
+    text_of_rows (flat_map remark_rows (remarks r) ++ (chain_row hook n ∷ [] ++ (rows ++ jump_row hook n ∷ []))) in
     let rules = flat_map (combination_rows hook family r) (combinations r) in
-    ap (λ n. text n note rules) e ∙ ap (λ t. text r.name t rules) h
-    ∙ ap (text r.name r.note) (flat_twice (rule_rows hook family r.name) (rules_for r) (combinations r))
+    ap (λ n. text n rules) e ∙ ap (text r.name) (flat_twice (rule_rows hook family r.name) (rules_for r) (combinations r))
 
 pub section-text : (f : Filter) {head : SectionHead} {family : Family} {rules : List Rule} → head ≡ head_of f → family ≡ family_of f.families → rules ≡ f.rules
     → text_of_rows (head_rows head.hook head.family head.accept ++ flat_map (λ r. chain_rows f.hook family (chain_of r)) rules)

@@ -1,5 +1,5 @@
--- How many entries the rules of a filter give.
-use Rattle.std.specs.Prelude.{ℕ, ◌+◌, ◌*◌, Bool, if◌then◌else◌, List, [], ◌∷◌, length}
+-- How many entries a rule gives.
+use Rattle.std.specs.Prelude.{ℕ, ◌+◌, ◌*◌, Bool, if◌then◌else◌, length}
 use Rattle.acl_platform.specs.declared.rules.Rule.{Rule}
 use Rattle.gen_iptables.specs.Groups.{group_choices}
 use Rattle.gen_iptables.specs.Sections.{backs, fronts}
@@ -14,7 +14,3 @@ combination_count r = length (fronts r)
 
 abbrev pub rule_count : Rule → ℕ
 rule_count r = combination_count r * act_count r.log + 1
-
-unfoldable pub rules_count : List Rule → ℕ
-rules_count [] = 0
-rules_count (r ∷ rules) = rule_count r + rules_count rules

@@ -35,14 +35,16 @@ use Rattle.acl_platform.proofs.ElementLaws.{addresses-hold, is_nil}
 use Rattle.acl_platform.proofs.EntryLaws.{over-entries}
 use Rattle.acl_platform.proofs.PairLaws.{any-pairs}
 use Rattle.acl_platform.proofs.SoundRules.{in-tops}
+use Rattle.acl_grammar.specs.RuleParts.{number_holds, state_holds}
 use Rattle.ipt_lang.specs.declared.documents.Act.TheVariants.{Log, Decide}
 use Rattle.ipt_lang.specs.declared.documents.Flags.{Flags}
 use Rattle.ipt_lang.specs.declared.documents.Rule.{Rule as ChainRule}
-use Rattle.ipt_lang.specs.Walks.{address_holds, chains_walk, flags_hold, go_on, is_left, met, number_holds, policy_verdict, port_holds, rules_walk, section_outcome, state_holds, walk}
+use Rattle.ipt_lang.specs.Walks.{address_holds, chains_walk, flags_hold, go_on, is_left, met, policy_verdict, port_holds, rules_walk, section_outcome, walk}
 use Rattle.gen_iptables.specs.GroupLaws.{any-group}
 use Rattle.gen_iptables.specs.Groups.{group_choices}
 use Rattle.gen_iptables.specs.SectionLaws.{chain-target, IsTaken, one-family, sound-rules}
-use Rattle.gen_iptables.specs.Sections.{address_of, asks_state, Back, backs, chain_of, chain_rule, chain_rules, combinations, ends_of, family_of, flag_choices, Front, fronts, Parts, policy_of, rules_for, section_of}
+use Rattle.acl_platform.specs.Families.{family_of}
+use Rattle.gen_iptables.specs.Sections.{address_of, asks_state, Back, backs, chain_of, chain_rule, chain_rules, combinations, ends_of, flag_choices, Front, fronts, Parts, policy_of, rules_for, section_of}
 
 -- ---- addresses
 

@@ -17,8 +17,9 @@ use Rattle.acl_sets.proofs.GroupLaws.{group_end-of}
 use Rattle.acl_platform.specs.SoundFilters.{IsFull}
 use Rattle.acl_platform.proofs.ChoiceLaws.{fit}
 use Rattle.acl_platform.proofs.CombinationFacts.{all-weaker, all-map}
+use Rattle.acl_grammar.specs.RuleParts.{has_port}
 use Rattle.ipt_lang.specs.Documents.{IsPortList, weight as ports_weight, weight_of as ports_weight_of}
-use Rattle.ipt_lang.specs.Walks.{has_port, port_holds}
+use Rattle.ipt_lang.specs.Walks.{port_holds}
 use Rattle.gen_iptables.specs.Groups.{behind_group, first_group, group_choices, groups, groups_up_to}
 use Rattle.gen_iptables.specs.Sections.{ends_of}
 

@@ -1,13 +1,12 @@
 -- Which filters are for iptables, and why one of them is not taken. The name of a chain is that of
 -- its rule, so that no two rules have the same. The greatest length of a name is aclgen's own, as it
 -- is the language's.
-use Rattle.std.specs.Prelude.{Bool, nat_lt, if◌then◌else◌, List, length, Option, None, Some}
+use Rattle.std.specs.Prelude.{Bool, List, Option}
 use Rattle.acl_target.specs.declared.targets.Kind.TheVariants.{Iptables}
 use Rattle.acl_platform.specs.declared.filters.Filter.{Filter}
 use Rattle.acl_platform.specs.declared.filters.Limit.{Limit}
-use Rattle.acl_platform.specs.declared.filters.Limit.TheVariants.{NameLength, NameClash}
 use Rattle.acl_platform.specs.declared.rules.Rule.{Rule}
-use Rattle.acl_platform.specs.Limits.{filter_limit, is_for, is_name_taken}
+use Rattle.acl_platform.specs.Limits.{filter_limit, is_for, name_limit}
 use Rattle.gen_iptables.specs.Sections.{entry_count}
 
 abbrev pub is_for_iptables : Filter → Bool
@@ -16,10 +15,7 @@ is_for_iptables f = is_for Iptables f
 -- The limit of a rule behind earlier ones. A name, with the suffix that it may have, has at most 24
 -- bytes, and no earlier rule has it.
 abbrev pub rule_limit : List Rule → Rule → Option Limit
-rule_limit earlier r =
-    if nat_lt 24 (length r.name) then Some (NameLength (length earlier))
-    else if is_name_taken earlier r then Some (NameClash (length earlier))
-    else None
+rule_limit earlier r = name_limit 24 earlier r
 
 abbrev pub limit_of : Filter → Option Limit
 limit_of f = filter_limit rule_limit (entry_count f) f

@@ -5,7 +5,6 @@ use Rattle.std.proofs.lemmas.Bool.{and_from, false≢true, or_right}
 use Rattle.std.proofs.Math.Nat.{suc-le-suc_iff}
 use Rattle.acl_packet.specs.declared.addresses.Families.{Families}
 use Rattle.acl_packet.specs.declared.addresses.Family.{Family}
-use Rattle.acl_packet.specs.declared.addresses.Family.TheVariants.{V4, V6}
 use Rattle.acl_packet.specs.declared.addresses.Prefix.{Prefix}
 use Rattle.acl_packet.specs.declared.filtering.Verdict.{Verdict}
 use Rattle.acl_packet.specs.declared.filtering.Verdict.TheVariants.{Accept, Deny, Reject, Reset, Left}
@@ -14,22 +13,21 @@ use Rattle.acl_packet.specs.Packets.{has_ports, icmp_of, is_icmp}
 use Rattle.acl_sets.specs.declared.sets.Range.{Range}
 use Rattle.acl_sets.specs.ComputableSets.{is_all}
 use Rattle.acl_sets.specs.Ranges.{Numbers, Only}
-use Rattle.acl_sets.proofs.ComputableSetLaws.{covers-holds}
-use Rattle.acl_sets.proofs.RangeLaws.{at_top}
 use Rattle.acl_target.specs.declared.targets.Kind.TheVariants.{Iptables}
 use Rattle.acl_platform.specs.declared.rules.Rule.{Rule}
 use Rattle.acl_platform.specs.declared.rules.Test.{Test}
 use Rattle.acl_platform.specs.declared.rules.Test.TheVariants.{Plain, AckOrRst, SynNotAck, Rst, State}
 use Rattle.acl_platform.specs.Choices.{number_choices, pairs}
-use Rattle.acl_platform.specs.SoundFilters.{has_verdict, is_named_protocol, is_tcp, IsSoundRule, tests_flags}
+use Rattle.acl_platform.specs.SoundFilters.{has_verdict, is_tcp, IsSoundRule, tests_flags}
 use Rattle.acl_platform.proofs.CombinationFacts.{all-numbers, all-prefixes, OfNumbers}
 use Rattle.acl_platform.proofs.PairLaws.{all-pairs}
-use Rattle.acl_platform.proofs.RuleNumbers.{type-most}
+use Rattle.acl_platform.proofs.NamedNumbers.{named, no-icmp, protocol-is, type-is}
 use Rattle.acl_grammar.proofs.ListLaws.{all_flat}
+use Rattle.acl_grammar.specs.RuleParts.{has_port_proto, is_empty, is_proto}
 use Rattle.ipt_lang.specs.declared.documents.Act.{Act}
 use Rattle.ipt_lang.specs.declared.documents.Act.TheVariants.{Log, Decide}
 use Rattle.ipt_lang.specs.declared.documents.Flags.{Flags}
-use Rattle.ipt_lang.specs.Documents.{act_fits, flags_fit, has_port_proto, is_empty, IsAddresses, is_proto, IsRule, ports_fit, type_fits}
+use Rattle.ipt_lang.specs.Documents.{act_fits, flags_fit, IsAddresses, IsRule, ports_fit, type_fits}
 use Rattle.gen_iptables.specs.GroupLaws.{all-groups, IsGroupOf}
 use Rattle.gen_iptables.specs.Groups.{group_choices}
 use Rattle.gen_iptables.specs.Sections.{address_of, Back, backs, chain_rule, chain_rules, combinations, ends_of, flag_choices, Front, fronts, Parts, rules_for}
@@ -69,18 +67,7 @@ parts-are families r h =
     (all-pairs (IsGroupOf r.dports) (OfBack r) (group_choices r.dports) (backs r) (all-groups r.dports h.destination_ports)
     (all-pairs (OfNumbers r.itypes) (OfTest r.test) (number_choices r.itypes) (flag_choices r.test) (all-numbers r.itypes) (flags-are r.test))))
 
--- ---- protocol, addresses and type
-
-named-positive : (f : Family) (n : ℕ) → is_named_protocol f n ≡ true → 1 ≤ n
-named-positive V4 zero h = absurd (false≢true h)
-named-positive V6 zero h = absurd (false≢true h)
-named-positive f (suc n) h = suc-le-suc_iff.1 zero-le
-
-protocol-is : (families : Families) (r : Rule) (o : Option ℕ) → IsSoundRule Iptables families r → OfNumbers r.protos o
-    → IfSome o (λ n. (1 ≤ n) × (n ≤ 255))
-protocol-is families r None h k = tt
-protocol-is families r (Some n) h k =
-    (named-positive r.family n (h.protocols_named k.0 n k.1), at_top 0 255 r.protos.ranges n h.protocols.normal k.1)
+-- ---- addresses
 
 some-bits : (n : ℕ) → (n == 0) ≡ false → 1 ≤ n
 some-bits zero h = absurd (false≢true (sym h))
@@ -93,25 +80,12 @@ address-by f p false e h = record { of_family = h; some_bits = some-bits p.len e
 address-is : (f : Family) (p : Prefix) → IsPrefixOf f p → IfSome (address_of p) (IsAddresses f)
 address-is f p h = address-by f p (p.len == 0) refl h
 
-type-is : (families : Families) (r : Rule) (o : Option ℕ) → IsSoundRule Iptables families r → OfNumbers r.itypes o → IfSome o (λ n. n ≤ 254)
-type-is families r None h k = tt
-type-is families r (Some n) h k = type-most r.itypes n h.types.normal (h.types_named k.0) k.1
-
 -- ---- what belongs to a protocol
-
--- the protocol that is named, where the rule's protocols pass a test and 0 does not
-abbrev Named : (ℕ → Bool) → Option ℕ → Type 0
-Named test o = (n : ℕ) × ((o ≡ Some n) × (test n ≡ true))
-
-named : (test : ℕ → Bool) (s : Numbers) (o : Option ℕ) → OfNumbers s o → test 0 ≡ false → Only test s → Named test o
-named test s None h none only =
-    absurd (false≢true (sym none ∙ only 0 (covers-holds s.ranges 0 s.top 0 h zero-le zero-le)))
-named test s (Some n) h none only = (n, (refl, only n h.1))
 
 port-protocol : (protos : Numbers) (proto : Option ℕ) → OfNumbers protos proto → Only has_ports protos → has_port_proto proto ≡ true
 port-protocol protos proto h only =
     let one = named has_ports protos proto h refl only in
-    ap has_port_proto one.1.0 ∙ one.1.1
+    ap has_port_proto one.1.0 ∙ one.1.1.1
 
 ports-fit-by : (s d protos : Numbers) (proto : Option ℕ) (g e : List Range) (b c : Bool) → is_all s ≡ b → is_all d ≡ c → OfNumbers protos proto
     → IsGroupOf s g → IsGroupOf d e → (is_all s ≡ false → Only has_ports protos) → (is_all d ≡ false → Only has_ports protos)
@@ -124,21 +98,17 @@ ports-fit-by s d protos proto g e false c i j h u v k l =
 ports-fit-by s d protos proto g e true false i j h u v k l =
     or_right (is_empty (map ends_of g) && is_empty (map ends_of e)) (has_port_proto proto) (port-protocol protos proto h (l j))
 
-no-icmp : (f : Family) → is_icmp f 0 ≡ false
-no-icmp V4 = refl
-no-icmp V6 = refl
-
 type-fits-by : (f : Family) (s protos : Numbers) (proto o : Option ℕ) → OfNumbers protos proto → OfNumbers s o
     → (is_all s ≡ false → Only (is_icmp f) protos) → (is_none o || is_proto proto (icmp_of f)) ≡ true
 type-fits-by f s protos proto None h k only = refl
 type-fits-by f s protos proto (Some n) h k only =
     let one = named (is_icmp f) protos proto h (no-icmp f) (only k.0) in
-    ap (λ q. is_proto q (icmp_of f)) one.1.0 ∙ one.1.1
+    ap (λ q. is_proto q (icmp_of f)) one.1.0 ∙ one.1.1.1
 
 only-tcp : (protos : Numbers) (proto : Option ℕ) → OfNumbers protos proto → Only is_tcp protos → is_proto proto 6 ≡ true
 only-tcp protos proto h only =
     let one = named is_tcp protos proto h refl only in
-    ap (λ o. is_proto o 6) one.1.0 ∙ one.1.1
+    ap (λ o. is_proto o 6) one.1.0 ∙ one.1.1.1
 
 flags-fit-by : (test : Test) (o : Option Flags) (proto : Option ℕ) → OfTest test o → (tests_flags test ≡ true → is_proto proto 6 ≡ true)
     → (is_none o || is_proto proto 6) ≡ true
@@ -161,12 +131,12 @@ rule-is families r c act h k fits =
     let rule = chain_rule r c act in
     let proto = c.0.0 in
     record {
-      protocol = protocol-is families r proto h k.0.0;
+      protocol = protocol-is Iptables families r proto h k.0.0;
       source = address-is r.family c.0.1.0 k.0.1.0;
       destination = address-is r.family c.0.1.1 k.0.1.1;
       source_ports = k.1.0.ports;
       destination_ports = k.1.1.0.ports;
-      icmp_type = type-is families r c.1.1.1.0 h k.1.1.1.0;
+      icmp_type = type-is Iptables families r c.1.1.1.0 h k.1.1.1.0;
       fit = and_from (ports_fit rule && type_fits r.family rule) (flags_fit rule && act_fits proto act)
           (and_from (ports_fit rule) (type_fits r.family rule)
           (ports-fit-by r.sports r.dports r.protos proto c.1.0 c.1.1.0 (is_all r.sports) (is_all r.dports) refl refl k.0.0 k.1.0 k.1.1.0

@@ -1,6 +1,6 @@
 -- The section of an accepted filter is a document, and documents whose sections have other names can
 -- be joined: proved here, and need not be believed.
-use Rattle.std.proofs.Common.{lit≤, ◌≡◌, ℕ, ◌≤◌, Bool, true, false, cond, nat_le, nat_lt, List, [], ◌∷◌, ◌++◌, length, map, flat_map, None, Some, refl, ap, sym, subst, ◌∙◌}
+use Rattle.std.proofs.Common.{lit≤, ◌≡◌, ℕ, ◌≤◌, Bool, true, false, cond, nat_le, nat_lt, List, [], ◌∷◌, ◌++◌, length, map, flat_map, None, Some, refl, ap, sym, subst}
 use Rattle.std.specs.List.{AllByRecursion, IsDistinct}
 use Rattle.std.specs.Str.{bytes_eq}
 use Rattle.std.proofs.lemmas.Bool.{and_from, false≢true}
@@ -21,17 +21,18 @@ use Rattle.acl_platform.specs.declared.filters.Limit.TheVariants.{NameLength, Na
 use Rattle.acl_platform.specs.declared.rules.Rule.{Rule}
 use Rattle.acl_platform.specs.Limits.{is_name_taken}
 use Rattle.acl_platform.specs.Platforms.{IsAccepted}
-use Rattle.acl_platform.specs.Remarks.{remarks}
+use Rattle.acl_platform.proofs.OneName.{none-shared}
 use Rattle.acl_platform.specs.SoundFilters.{IsRuleName, IsSoundRule, target_of}
 use Rattle.acl_platform.proofs.AcceptedFilters.{names-differ, not-limited, rules-are, rules-within, short-name, target-fits}
 use Rattle.acl_platform.proofs.RuleNames.{name-safe, notes-safe, rule-name}
 use Rattle.ipt_lang.specs.declared.documents.Section.{Section}
-use Rattle.ipt_lang.specs.Documents.{chain_names, IsChain, name_of, names_of}
+use Rattle.ipt_lang.specs.Documents.{chain_names, IsChain, name_of}
 use Rattle.ipt_lang.specs.Texts.{Spells, text_of}
-use Rattle.ipt_lang.proofs.JoinLaws.{joined_documents}
+use Rattle.ipt_lang.proofs.JoinLaws.{spelling_laws}
 use Rattle.gen_iptables.specs.Limits.{is_for_iptables, limit_of, rule_limit}
 use Rattle.gen_iptables.specs.RuleLaws.{rules-are-valid}
-use Rattle.gen_iptables.specs.Sections.{chain_of, entry_count, family_of, section_names, section_of}
+use Rattle.acl_platform.specs.Families.{family_of}
+use Rattle.gen_iptables.specs.Sections.{chain_of, entry_count, section_names, section_of}
 
 -- ---- an accepted filter
 
@@ -120,12 +121,6 @@ section_is_spelled f h =
 
 -- ---- joined documents
 
-names-same : (doc : List Section) → flat_map section_names doc ≡ names_of doc
-names-same [] = refl
-names-same (s ∷ doc) = ap (λ names. name_of s ∷ names) (names-same doc)
-
 pub joined_are_spelled : (bytes more : List ℕ) (a b : List Section) → Spells bytes a → Spells more b
     → in_common (flat_map section_names a) (flat_map section_names b) ≡ false → Spells (bytes ++ more) (a ++ b)
-joined_are_spelled bytes more a b h k n =
-    joined_documents bytes more a b h k
-    (ap (λ names. in_common names (names_of b)) (sym (names-same a)) ∙ ap (in_common (flat_map section_names a)) (sym (names-same b)) ∙ n)
+joined_are_spelled bytes more a b h k n = spelling_laws.joined_documents bytes more a b h k (none-shared name_of a b n)

@@ -1,10 +1,6 @@
 -- The section of a document of iptables rules that a filter becomes, and how many entries it has.
 -- The form of a section is aclgen's own; what its lines mean is said by the language.
 use Rattle.std.specs.Prelude.{ℕ, ◌+◌, Bool, true, false, ◌==◌, if◌then◌else◌, List, [], ◌∷◌, length, map, flat_map, sum_by, Option, None, Some}
-use Rattle.acl_packet.specs.declared.addresses.Families.{Families}
-use Rattle.acl_packet.specs.declared.addresses.Families.TheVariants.{Inet, Inet6, Mixed}
-use Rattle.acl_packet.specs.declared.addresses.Family.{Family}
-use Rattle.acl_packet.specs.declared.addresses.Family.TheVariants.{V4, V6}
 use Rattle.acl_packet.specs.declared.addresses.Prefix.{Prefix}
 use Rattle.acl_sets.specs.declared.sets.Range.{Range}
 use Rattle.acl_target.specs.declared.targets.Ending.{Ending}
@@ -14,6 +10,7 @@ use Rattle.acl_platform.specs.declared.rules.Rule.{Rule}
 use Rattle.acl_platform.specs.declared.rules.Test.{Test}
 use Rattle.acl_platform.specs.declared.rules.Test.TheVariants.{Plain, AckOrRst, SynNotAck, Rst, State}
 use Rattle.acl_platform.specs.Choices.{number_choices, pairs}
+use Rattle.acl_platform.specs.Families.{family_of}
 use Rattle.acl_platform.specs.Remarks.{remarks}
 use Rattle.ipt_lang.specs.declared.documents.Section.{Section}
 use Rattle.ipt_lang.specs.declared.documents.Chain.{Chain}
@@ -100,12 +97,6 @@ chain_rules r = flat_map (rules_for r) (combinations r)
 abbrev pub chain_of : Rule → Chain
 chain_of r = record { remarks = remarks r; name = r.name; rules = chain_rules r }
 
--- A filter for iptables has one family.
-abbrev pub family_of : Families → Family
-family_of Inet = V4
-family_of Inet6 = V6
-family_of Mixed = V4
-
 -- The policy of the hook is the filter's ending; one that leaves packets to others says none.
 abbrev pub policy_of : Ending → Option Bool
 policy_of endings.Accept = Some true
@@ -113,6 +104,7 @@ policy_of endings.Deny = Some false
 policy_of endings.Left = None
 policy_of endings.Neighbours = None
 
+-- A filter for iptables has one family.
 abbrev pub section_of : Filter → Section
 section_of f = record {
   hook = f.hook;

@@ -6,13 +6,13 @@ ghost use Rattle.gen_iptables.specs.CountSteps.{
   act_count,
   combination_count,
   rule_count,
-  rules_count,
 };
 ghost use Rattle.gen_iptables.specs.Sections.{entry_count};
 
 use crate::groups::count_groups;
+use crate::iptables::Iptables;
 use crate::rule_rows::{backs_of, fronts_of};
-use acl_platform::{Choices, Filter, Rule};
+use acl_platform::{Choices, Filter, Rule, RuleCount, count_rules};
 
 /// The number of entries of the section that the filter becomes; a number that does not fit stands
 /// at the greatest one that does. Protocols and types of its rules have to be numbers below 256, ports
@@ -21,28 +21,18 @@ pub fn entry_count(filter: &Filter) -> u64
     requires { All IsSized filter.now.rules }
     ensures { result ≡ min (entry_count filter.now) COUNT_END }
 {
-    rules_count(filter.rules.as_slice())
+    count_rules(filter.rules.as_slice(), &Iptables)
 }
 
-fn rules_count(rules: &[Rule]) -> u64
-    requires { All IsSized rules.now }
-    ensures { result ≡ min (rules_count rules.now) COUNT_END }
-{
-    let mut count: u64 = 0;
-    for rule in rules {
-        count = count.saturating_add(rule_count(rule));
+impl RuleCount for Iptables {
+    ghost entries = { λ i rule. rule_count rule };
+
+    // The rules of the chain, and the jump to it.
+    fn count_rule(&self, rule: &Rule) -> u64 {
+        combination_count(rule)
+            .saturating_mul(act_count(rule.log))
+            .saturating_add(1)
     }
-    count
-}
-
-// The rules of the chain, and the jump to it.
-fn rule_count(rule: &Rule) -> u64
-    requires { IsSized rule.now }
-    ensures { result ≡ min (rule_count rule.now) COUNT_END }
-{
-    combination_count(rule)
-        .saturating_mul(act_count(rule.log))
-        .saturating_add(1)
 }
 
 fn combination_count(rule: &Rule) -> u64

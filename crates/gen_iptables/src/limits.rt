@@ -9,13 +9,6 @@ impl RuleLimits for Iptables {
     ghost limit = { rule_limit };
 
     fn rule_limit(&self, earlier: &Earlier<'_>, rule: &Rule) -> Option<Limit> {
-        let place = earlier.count();
-        if rule.name.as_slice().len() > LONGEST_NAME {
-            Some(Limit::NameLength(place))
-        } else if earlier.have_name_of(rule) {
-            Some(Limit::NameClash(place))
-        } else {
-            None
-        }
+        earlier.name_limit(LONGEST_NAME, rule)
     }
 }

@@ -2,15 +2,15 @@ ghost use Rattle.std.specs.Prelude.{◌≡◌, ◌∷◌, [], IsTrue, flat_map};
 ghost use Rattle.std.specs.List.{All};
 ghost use Rattle.acl_text.specs.Output.{Puts};
 ghost use Rattle.acl_platform.specs.Combinations.{IsSized};
-ghost use Rattle.acl_platform.specs.Remarks.{notes};
+ghost use Rattle.acl_platform.specs.Families.{family_of};
 ghost use Rattle.ipt_lang.specs.Texts.{chain_rows, remark_rows, text_of};
 ghost use Rattle.gen_iptables.specs.RowSteps.{head_of};
-ghost use Rattle.gen_iptables.specs.Sections.{chain_of, family_of, policy_of, section_of};
+ghost use Rattle.gen_iptables.specs.Sections.{chain_of, policy_of, section_of};
 
 use crate::rule_rows::ChainRules;
 use acl_grammar::Rows;
-use acl_packet::{Families, Family, Hook};
-use acl_platform::{Filter, Rule, RuleForm, put_rules};
+use acl_packet::{Family, Hook};
+use acl_platform::{Filter, RemarkForm, RemarkRows, Rule, RuleForm, family_of, put_rules};
 use acl_target::Ending;
 use acl_text::{Out, PutFault};
 use ipt_lang::{ChainHead, JumpRow, RemarkRow, SectionHead};
@@ -38,16 +38,6 @@ fn head_of(filter: &Filter) -> SectionHead
         hook: filter.hook,
         family: family_of(filter.families),
         accept: policy_of(filter.ending),
-    }
-}
-
-fn family_of(families: Families) -> Family
-    ensures { result ≡ family_of families }
-{
-    match families {
-        Families::Inet => Family::V4,
-        Families::Inet6 => Family::V6,
-        Families::Mixed => Family::V4,
     }
 }
 
@@ -95,10 +85,7 @@ impl RuleForm for OfHook {
     fn put_rule<O: Out>(&self, rule: &Rule, out: &mut O) -> Result<(), PutFault> {
         let hook = self.hook;
         let name = rule.name.as_slice();
-        let own_name = RemarkRow { text: name };
-        let note = NoteRow {
-            text: rule.note.as_slice(),
-        };
+        let remarks = RemarkRows { rule, form: self };
         let rules = ChainRules {
             hook,
             family: self.family,
@@ -106,24 +93,14 @@ impl RuleForm for OfHook {
         };
         let jump = JumpRow { hook, name };
         let chain = (ChainHead { hook, name }, (rules, jump));
-        ((own_name, note), chain).put_rows(out)
+        (remarks, chain).put_rows(out)
     }
 }
 
-// A remark where there is a note.
-#[derive(Drop)]
-struct NoteRow<'a> {
-    text: &'a [u8],
-}
+impl RemarkForm for OfHook {
+    ghost remark_rows = { λ f text. remark_rows text };
 
-impl<'a> Rows for NoteRow<'a> {
-    ghost rows = { λ n. flat_map remark_rows (notes n.text.now) };
-
-    fn put_rows<O: Out>(&self, out: &mut O) -> Result<(), PutFault> {
-        if self.text.is_empty() {
-            Ok(())
-        } else {
-            RemarkRow { text: self.text }.put_rows(out)
-        }
+    fn put_remark<O: Out>(&self, text: &[u8], out: &mut O) -> Result<(), PutFault> {
+        RemarkRow { text }.put_rows(out)
     }
 }

@@ -1,3 +1,2 @@
-pub mod EntryCounts
 pub mod NameLaws
 pub mod Rows

@@ -32,7 +32,8 @@ use Rattle.acl_platform.proofs.ElementLaws.{addresses-hold, numbers-hold, ports-
 use Rattle.acl_platform.proofs.SoundRules.{in-tops}
 use Rattle.junos_lang.specs.Walks.{section_outcome, term_holds, test_holds, walk}
 use Rattle.gen_junos.specs.Limits.{is_for_junos, limit_of}
-use Rattle.gen_junos.specs.Sections.{default_term, family_of, section_of, term_of, terms_of, test_of}
+use Rattle.acl_platform.specs.Families.{family_of}
+use Rattle.gen_junos.specs.Sections.{default_term, section_of, term_of, terms_of, test_of}
 
 -- ---- a rule
 

@@ -1,6 +1,5 @@
 pub mod DecisionLaws
 pub mod Limits
-pub mod RowSteps
 pub mod SectionLaws
 pub mod SectionNames
 pub mod Sections

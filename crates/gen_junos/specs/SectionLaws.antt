@@ -1,10 +1,9 @@
 -- The section of an accepted filter is a document: proved here, and need not be believed.
-use Rattle.std.proofs.Common.{◌≡◌, ℕ, ◌≤◌, false, cond, nat_lt, List, [], ◌∷◌, ◌++◌, length, map, flat_map, None, Some, refl, ap, sym, subst, ◌∙◌}
+use Rattle.std.proofs.Common.{◌≡◌, ℕ, ◌≤◌, false, cond, nat_lt, List, [], ◌∷◌, ◌++◌, length, map, flat_map, None, Some, refl, ap, subst}
 use Rattle.std.specs.List.{AllByRecursion, IsDistinct}
 use Rattle.std.specs.Str.{bytes_eq}
 use Rattle.acl_packet.specs.declared.addresses.Families.{Families}
 use Rattle.acl_packet.specs.declared.addresses.Family.{Family}
-use Rattle.acl_packet.specs.declared.addresses.Family.TheVariants.{V4, V6}
 use Rattle.acl_grammar.specs.Naming.{in_common}
 use Rattle.acl_target.specs.declared.targets.Kind.TheVariants.{Juniper}
 use Rattle.acl_target.specs.Clashes.{is_mixed}
@@ -13,16 +12,19 @@ use Rattle.acl_platform.specs.declared.filters.Limit.TheVariants.{NameLength, Na
 use Rattle.acl_platform.specs.declared.rules.Rule.{Rule}
 use Rattle.acl_platform.specs.Limits.{is_name_taken, names_sctp_ports}
 use Rattle.acl_platform.specs.Platforms.{IsAccepted}
+use Rattle.acl_platform.proofs.OneName.{none-shared}
 use Rattle.acl_platform.specs.SoundFilters.{IsSoundRule}
 use Rattle.acl_platform.proofs.AcceptedFilters.{names-differ, not-limited, rules-are, rules-within, short-name, target-fits}
+use Rattle.acl_grammar.specs.RuleParts.{is_empty}
 use Rattle.junos_lang.specs.declared.documents.Section.{Section}
-use Rattle.junos_lang.specs.Documents.{is_empty, IsTerm, name_of, names_of}
+use Rattle.junos_lang.specs.Documents.{IsTerm, name_of}
 use Rattle.junos_lang.specs.Texts.{Spells, text_of}
-use Rattle.junos_lang.proofs.JoinLaws.{joined_documents}
+use Rattle.junos_lang.proofs.JoinLaws.{spelling_laws}
 use Rattle.gen_junos.specs.DecisionLaws.{one-family}
 use Rattle.gen_junos.specs.Limits.{is_for_junos, limit_of, rule_limit}
 use Rattle.gen_junos.specs.SectionNames.{names}
-use Rattle.gen_junos.specs.Sections.{default_term, entry_count, family_of, section_of, term_of, terms_of}
+use Rattle.acl_platform.specs.Families.{family_of}
+use Rattle.gen_junos.specs.Sections.{default_term, entry_count, section_of, term_of, terms_of}
 use Rattle.gen_junos.specs.TermLaws.{term-is}
 
 -- ---- a rule without a limit
@@ -60,18 +62,7 @@ terms-valid fs (r ∷ rules) m h w =
     (subst (λ f. IsTerm f (term_of r)) (one-family fs r.family m h.0.family) (term-is fs r h.0 w.0.0 w.0.1), terms-valid fs rules m h.1 w.1)
 
 default-is : (f : Family) → IsTerm f default_term
-default-is V4 = record {
-  noted = tt;
-  named = refl;
-  sources = tt;
-  destinations = tt;
-  protocols = tt;
-  source_ports = tt;
-  destination_ports = tt;
-  icmp_types = tt;
-  fit = refl;
-}
-default-is V6 = record {
+default-is f = record {
   noted = tt;
   named = refl;
   sources = tt;
@@ -126,12 +117,6 @@ section_is_spelled f h =
 
 -- ---- joined documents
 
-pub each-name : (doc : List Section) → flat_map names doc ≡ names_of doc
-each-name [] = refl
-each-name (s ∷ doc) = ap (λ ns. name_of s ∷ ns) (each-name doc)
-
 pub joined_are_spelled : (bytes more : List ℕ) (a b : List Section) → Spells bytes a → Spells more b
     → in_common (flat_map names a) (flat_map names b) ≡ false → Spells (bytes ++ more) (a ++ b)
-joined_are_spelled bytes more a b h k n =
-    joined_documents bytes more a b h k
-    (ap (λ ns. in_common ns (names_of b)) (sym (each-name a)) ∙ ap (in_common (flat_map names a)) (sym (each-name b)) ∙ n)
+joined_are_spelled bytes more a b h k n = spelling_laws.joined_documents bytes more a b h k (none-shared name_of a b n)

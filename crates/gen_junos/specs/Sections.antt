@@ -1,27 +1,19 @@
 -- The section of a Junos document that a filter becomes, and how many entries it has. The form of a
 -- section is aclgen's own; what its lines mean is said by the language.
-use Rattle.std.specs.Prelude.{ℕ, ◌+◌, false, List, [], ◌∷◌, length, map, codes, Option, None, Some}
+use Rattle.std.specs.Prelude.{ℕ, ◌+◌, List, [], ◌∷◌, length, map, codes, Option, None, Some}
 use Rattle.std.specs.List.{sum_by}
-use Rattle.acl_packet.specs.declared.addresses.Families.{Families}
-use Rattle.acl_packet.specs.declared.addresses.Families.TheVariants.{Inet, Inet6, Mixed}
-use Rattle.acl_packet.specs.declared.addresses.Family.{Family}
-use Rattle.acl_packet.specs.declared.addresses.Family.TheVariants.{V4, V6}
 use Rattle.acl_packet.specs.declared.filtering.Verdict.TheVariants.{Deny}
 use Rattle.acl_platform.specs.declared.filters.Filter.{Filter}
 use Rattle.acl_platform.specs.declared.rules.Rule.{Rule}
 use Rattle.acl_platform.specs.declared.rules.Test.{Test}
 use Rattle.acl_platform.specs.declared.rules.Test.TheVariants.{Plain, AckOrRst, SynNotAck, Rst, State}
+use Rattle.acl_platform.specs.Families.{family_of}
 use Rattle.acl_platform.specs.Elements.{address_elements, number_elements, port_elements}
 use Rattle.junos_lang.specs.declared.documents.JTerm.{JTerm}
 use Rattle.junos_lang.specs.declared.documents.JTest.{JTest}
 use Rattle.junos_lang.specs.declared.documents.JTest.TheVariants as tests
 use Rattle.junos_lang.specs.declared.documents.Section.{Section}
-
--- A filter for Junos has one family.
-abbrev pub family_of : Families → Family
-family_of Inet = V4
-family_of Inet6 = V6
-family_of Mixed = V4
+use Rattle.junos_lang.specs.Documents.{bare_term}
 
 -- The test of a term. A router follows no connection, so that no rule for it asks for one.
 abbrev pub test_of : Test → Option JTest
@@ -54,24 +46,13 @@ term_of r = record {
 
 -- A filter has a term on Junos, so that one without a rule has a term that does what its end does.
 abbrev pub default_term : JTerm
-default_term = record {
-  note = None;
-  name = codes "default-deny";
-  src = [];
-  dst = [];
-  protos = [];
-  sports = [];
-  dports = [];
-  itypes = [];
-  test = None;
-  syslog = false;
-  verdict = Deny;
-}
+default_term = bare_term (codes "default-deny") Deny
 
 abbrev pub terms_of : List Rule → List JTerm
 terms_of [] = default_term ∷ []
 terms_of (r ∷ rules) = map term_of (r ∷ rules)
 
+-- A filter for Junos has one family.
 abbrev pub section_of : Filter → Section
 section_of f =
     record { family = family_of f.families; name = f.name; terms = terms_of f.rules }

@@ -6,8 +6,6 @@ use Rattle.std.proofs.Math.Nat.{le_trans}
 use Rattle.std.proofs.lemmas.Bool.{and_from, false≢true, or_right}
 use Rattle.std.proofs.lemmas.Bool.Decides.{Decides-eqb}
 use Rattle.acl_packet.specs.declared.addresses.Families.{Families}
-use Rattle.acl_packet.specs.declared.addresses.Family.{Family}
-use Rattle.acl_packet.specs.declared.addresses.Family.TheVariants.{V4, V6}
 use Rattle.acl_packet.specs.declared.filtering.Verdict.{Verdict}
 use Rattle.acl_packet.specs.declared.filtering.Verdict.TheVariants.{Accept, Deny, Reject, Reset, Left}
 use Rattle.acl_packet.specs.Packets.{has_ports as with_ports, icmp_of}
@@ -26,9 +24,11 @@ use Rattle.acl_platform.specs.SoundFilters.{has_verdict, IsFull, IsSoundRule, te
 use Rattle.acl_platform.proofs.ChoiceLaws.{some-numbers}
 use Rattle.acl_platform.proofs.CombinationFacts.{all-weaker}
 use Rattle.acl_platform.proofs.ElementLaws.{addresses-are, alone, not-all, not-all-elements, numbers-are, numbers-small, ports-are}
+use Rattle.acl_platform.proofs.NamedNumbers.{no-icmp}
 use Rattle.acl_platform.proofs.RuleNames.{rule-name}
 use Rattle.acl_platform.proofs.RuleNumbers.{no-destination, no-source, tcp-or-udp, type-most}
-use Rattle.junos_lang.specs.Documents.{has_ports, is_alone, is_empty, IsTerm, ports_fit, test_fits, types_fit, verdict_fits}
+use Rattle.acl_grammar.specs.RuleParts.{is_empty}
+use Rattle.junos_lang.specs.Documents.{has_ports, is_alone, IsTerm, ports_fit, test_fits, types_fit, verdict_fits}
 use Rattle.gen_junos.specs.Sections.{note_of, term_of, test_of}
 
 -- ---- protocols that pass a test which 0 does not
@@ -38,10 +38,6 @@ itself n = (Decides-eqb n n).1 refl
 
 is-alone : (s : Numbers) (k : ℕ) → IsFull 255 s → (0 == k) ≡ false → Only (λ n. n == k) s → is_alone (number_elements s) k ≡ true
 is-alone s k h none only = ap (λ ns. is_alone ns k) (alone s k h none only) ∙ itself k
-
-no-icmp : (f : Family) → (0 == icmp_of f) ≡ false
-no-icmp V4 = refl
-no-icmp V6 = refl
 
 -- ---- ports
 

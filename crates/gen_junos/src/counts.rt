@@ -1,5 +1,5 @@
 ghost use Rattle.std.specs.Prelude.{◌≡◌, ◌+◌, length, min};
-ghost use Rattle.std.specs.List.{All, sum_by};
+ghost use Rattle.std.specs.List.{All};
 ghost use Rattle.acl_text.specs.Output.{COUNT_END};
 ghost use Rattle.acl_platform.specs.Combinations.{IsSized};
 ghost use Rattle.acl_platform.specs.Elements.{
@@ -9,7 +9,10 @@ ghost use Rattle.acl_platform.specs.Elements.{
 };
 ghost use Rattle.gen_junos.specs.Sections.{entry_count, term_count, term_of};
 
-use acl_platform::{Filter, Rule, address_elements, count_numbers, range_elements};
+use crate::junos::Junos;
+use acl_platform::{
+    Filter, Rule, RuleCount, address_elements, count_numbers, count_rules, range_elements,
+};
 
 /// The number of entries of the section that the filter becomes; a number that does not fit stands
 /// at the greatest one that does. Protocols and types of its rules have to be numbers below 256, ports
@@ -22,30 +25,20 @@ pub fn entry_count(filter: &Filter) -> u64
     if rules.is_empty() {
         1
     } else {
-        count_terms(rules)
+        count_rules(rules, &Junos)
     }
 }
 
-fn count_terms(rules: &[Rule]) -> u64
-    requires { All IsSized rules.now }
-    ensures { result ≡ min (sum_by (λ r. term_count (term_of r)) rules.now) COUNT_END }
-{
-    let mut count: u64 = 0;
-    for rule in rules {
-        count = count.saturating_add(term_count(rule));
-    }
-    count
-}
+impl RuleCount for Junos {
+    ghost entries = { λ j rule. term_count (term_of rule) };
 
-fn term_count(rule: &Rule) -> u64
-    requires { IsSized rule.now }
-    ensures { result ≡ min (term_count (term_of rule.now)) COUNT_END }
-{
-    let addresses = address_count(rule);
-    let numbers = number_count(rule);
-    let ports = port_count(rule);
-    let elements = addresses.saturating_add(numbers).saturating_add(ports);
-    elements.saturating_add(1)
+    fn count_rule(&self, rule: &Rule) -> u64 {
+        let addresses = address_count(rule);
+        let numbers = number_count(rule);
+        let ports = port_count(rule);
+        let elements = addresses.saturating_add(numbers).saturating_add(ports);
+        elements.saturating_add(1)
+    }
 }
 
 fn address_count(rule: &Rule) -> u64

@@ -9,15 +9,11 @@ impl RuleLimits for Junos {
     ghost limit = { rule_limit };
 
     fn rule_limit(&self, earlier: &Earlier<'_>, rule: &Rule) -> Option<Limit> {
-        let place = earlier.count();
-        if rule.name.as_slice().len() > LONGEST_NAME {
-            Some(Limit::NameLength(place))
-        } else if earlier.have_name_of(rule) {
-            Some(Limit::NameClash(place))
-        } else if names_sctp_ports(rule) {
-            Some(Limit::Unsupported(place))
+        let limit = earlier.name_limit(LONGEST_NAME, rule);
+        if limit.is_none() && names_sctp_ports(rule) {
+            Some(Limit::Unsupported(earlier.count()))
         } else {
-            None
+            limit
         }
     }
 }

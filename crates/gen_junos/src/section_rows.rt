@@ -2,20 +2,19 @@ ghost use Rattle.std.specs.Prelude.{◌≡◌, ◌∷◌, [], flat_map, IsTrue};
 ghost use Rattle.std.specs.List.{All};
 ghost use Rattle.acl_text.specs.Output.{Puts};
 ghost use Rattle.acl_platform.specs.Combinations.{IsSized};
-ghost use Rattle.junos_lang.specs.Texts.{note_rows, term_rows, text_of};
+ghost use Rattle.acl_platform.specs.Families.{family_of};
+ghost use Rattle.junos_lang.specs.Texts.{note_row, term_rows, text_of};
 ghost use Rattle.gen_junos.specs.Sections.{
   default_term,
-  family_of,
-  note_of,
   section_of,
   term_of,
   terms_of,
 };
 
-use crate::condition_rows::FromPart;
+use crate::condition_rows::RuleConditions;
 use acl_grammar::Rows;
-use acl_packet::{Families, Family, Verdict};
-use acl_platform::{Filter, Rule, RuleForm, put_rules};
+use acl_packet::{Family, Verdict};
+use acl_platform::{Filter, NoteRows, RemarkForm, Rule, RuleForm, family_of, put_rules};
 use acl_text::{Out, PutFault};
 use junos_lang::{NoteRow, SectionEnd, SectionHead, TermEnd, TermHead, ThenRows};
 
@@ -37,16 +36,6 @@ pub fn put_section<O: Out>(filter: &Filter, out: &mut O) -> Result<(), PutFault>
         rules: filter.rules.as_slice(),
     };
     (head, (terms, SectionEnd)).put_rows(out)
-}
-
-fn family_of(families: Families) -> Family
-    ensures { result ≡ family_of families }
-{
-    match families {
-        Families::Inet => Family::V4,
-        Families::Inet6 => Family::V6,
-        Families::Mixed => Family::V4,
-    }
 }
 
 // The terms of rules.
@@ -101,13 +90,14 @@ impl RuleForm for InFamily {
     ghost rule_rows = { λ f rule. term_rows f.family (term_of rule) };
 
     fn put_rule<O: Out>(&self, rule: &Rule, out: &mut O) -> Result<(), PutFault> {
-        let note = Note {
-            text: rule.note.as_slice(),
+        let note = NoteRows {
+            note: rule.note.as_slice(),
+            form: self,
         };
         let head = TermHead {
             name: rule.name.as_slice(),
         };
-        let conditions = FromPart {
+        let conditions = RuleConditions {
             family: self.family,
             rule,
         };
@@ -119,20 +109,10 @@ impl RuleForm for InFamily {
     }
 }
 
-// A comment where there is a note.
-#[derive(Drop)]
-struct Note<'a> {
-    text: &'a [u8],
-}
+impl RemarkForm for InFamily {
+    ghost remark_rows = { λ f text. note_row text ∷ [] };
 
-impl<'a> Rows for Note<'a> {
-    ghost rows = { λ n. note_rows (note_of n.text.now) };
-
-    fn put_rows<O: Out>(&self, out: &mut O) -> Result<(), PutFault> {
-        if self.text.is_empty() {
-            Ok(())
-        } else {
-            NoteRow { text: self.text }.put_rows(out)
-        }
+    fn put_remark<O: Out>(&self, text: &[u8], out: &mut O) -> Result<(), PutFault> {
+        NoteRow { text }.put_rows(out)
     }
 }

@@ -1,13 +1,11 @@
 -- How many entries a section has.
-use Rattle.std.proofs.Common.{◌≡◌, ℕ, suc, zero-add, ◌+◌, ◌*◌, ◌<◌, ◌≤◌, min, Bool, List, [], ◌∷◌, length, map, flat_map, sum_by, drop, get_or, Option, None, refl, ap, sym, ◌∙◌, arith}
-use Rattle.std.proofs.lemmas.List.{drop_all, drop_more}
+use Rattle.std.proofs.Common.{◌≡◌, ℕ, suc, zero-add, ◌+◌, ◌*◌, Bool, List, [], ◌∷◌, length, map, flat_map, sum_by, Option, None, refl, ap, sym, ◌∙◌, arith}
 use Rattle.std.proofs.lemmas.List.Sums.{sum_by-append, sum_by-cons}
-use Rattle.acl_text.specs.Output.{COUNT_END}
 use Rattle.acl_platform.specs.declared.rules.Rule.{Rule}
 use Rattle.acl_platform.specs.Choices.{number_choices}
 use Rattle.nft_lang.specs.declared.documents.Item.{Item}
 use Rattle.nft_lang.specs.declared.documents.Item.TheVariants.{Remark, Rule as ARule}
-use Rattle.gen_nftables.specs.CountSteps.{rule_count, rules_count}
+use Rattle.gen_nftables.specs.CountSteps.{rule_count}
 use Rattle.gen_nftables.specs.Sections.{chain_rule, item_size, remarks_in, rule_items, rule_size}
 
 abbrev sizes : List Item → ℕ
@@ -37,29 +35,9 @@ rule-sizes verbose r =
     sum_by-append item_size (map (λ text. Remark text) (remarks_in verbose r)) rules
     ∙ ap (λ n. n + sizes rules) (remark-sizes (remarks_in verbose r)) ∙ zero-add (sizes rules) ∙ protocol-sizes r (number_choices r.protos)
 
-pub all-sizes : (verbose : Bool) (rules : List Rule) → sizes (flat_map (rule_items verbose) rules) ≡ rules_count rules
-unfolding rules_count
+pub all-sizes : (verbose : Bool) (rules : List Rule) → sizes (flat_map (rule_items verbose) rules) ≡ sum_by rule_count rules
 all-sizes verbose [] = refl
 all-sizes verbose (r ∷ rules) =
     sum_by-append item_size (rule_items verbose r) (flat_map (rule_items verbose) rules)
     ∙ ap (λ n. n + sizes (flat_map (rule_items verbose) rules)) (rule-sizes verbose r)
-    ∙ ap (λ n. rule_count r + n) (all-sizes verbose rules)
-
-pub count-on : (count here more whole : ℕ) (rules : List Rule) (i : ℕ) (r : Rule)
-    → i < length rules → r ≡ get_or rules i r → here ≡ min (rule_count r) COUNT_END → more ≡ min (count + here) COUNT_END
-    → min (count + rules_count (drop i rules)) COUNT_END ≡ whole
-    → min (more + rules_count (drop (i + 1) rules)) COUNT_END ≡ whole
-unfolding rules_count
-count-on count here more whole rules i r within is size plus before =
-    let rest = rules_count (drop (i + 1) rules) in
-    let n = rule_count r in
-    let step : rules_count (drop i rules) ≡ n + rest =
-    ap rules_count (drop_more rules i r within) ∙ ap (λ (q : Rule). rule_count q + rest) (sym is) in
-    counted count here more whole n rest (rules_count (drop i rules)) step size plus before where
-      counted : (count here more whole n rest all : ℕ) → all ≡ n + rest → here ≡ min n COUNT_END → more ≡ min (count + here) COUNT_END
-          → min (count + all) COUNT_END ≡ whole → min (more + rest) COUNT_END ≡ whole
-      counted count here more whole n rest all step size plus before = omega (arith, step, size, plus, before)
-
-pub none-left : (rules : List Rule) (i : ℕ) → length rules ≤ i → rules_count (drop i rules) ≡ 0
-unfolding rules_count
-none-left rules i h = ap rules_count (drop_all i rules h)
+    ∙ ap (λ n. rule_count r + n) (all-sizes verbose rules) ∙ sym (sum_by-cons rule_count r rules)

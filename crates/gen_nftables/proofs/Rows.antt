@@ -1,5 +1,5 @@
 -- The rows of a section as they are put.
-use Rattle.std.proofs.Common.{◌≡◌, ℕ, Bool, List, [], ◌∷◌, ◌++◌, map, flat_map, append-nil, refl, ap, sym, ◌∙◌}
+use Rattle.std.proofs.Common.{◌≡◌, ℕ, Bool, List, [], ◌∷◌, ◌++◌, map, flat_map, Option, append-nil, ap, sym, ◌∙◌}
 use Rattle.std.proofs.lemmas.List.Folds.{flat_map-map}
 use Rattle.std.proofs.lemmas.Grind.{flat_map-append}
 use Rattle.acl_packet.specs.declared.addresses.Families.{Families}
@@ -9,26 +9,23 @@ use Rattle.acl_platform.specs.declared.filters.Filter.{Filter}
 use Rattle.acl_platform.specs.declared.rules.Rule.{Rule}
 use Rattle.acl_platform.specs.Choices.{number_choices}
 use Rattle.nft_lang.specs.declared.chain_rows.SectionHead.{SectionHead}
+use Rattle.nft_lang.specs.declared.documents.Item.{Item}
 use Rattle.nft_lang.specs.declared.documents.Item.TheVariants.{Remark, Rule as ARule}
 use Rattle.nft_lang.specs.Texts.{end_rows, head_rows, item_rows, section_rows, text_of}
-use Rattle.gen_nftables.specs.RowSteps.{head_of, items_rows, remark_row}
+use Rattle.gen_nftables.specs.RowSteps.{head_of, items_rows}
 use Rattle.gen_nftables.specs.Sections.{chain_rule, remarks_in, rule_items, section_of}
-
-remark-rows : (families : Families) (texts : List (List ℕ)) → map remark_row texts ≡ items_rows families (map (λ text. Remark text) texts)
-unfolding item_rows
-remark-rows families [] = refl
-remark-rows families (text ∷ texts) = ap (λ rows. remark_row text ∷ rows) (remark-rows families texts)
 
 -- the rows of a rule: those of its remarks, and one for each protocol
 pub rule-rows : (families : Families) (verbose : Bool) (r : Rule)
-    → map remark_row (remarks_in verbose r) ++ flat_map (λ o. item_rows families (ARule (chain_rule r o))) (number_choices r.protos)
+    → flat_map (λ text. item_rows families (Remark text)) (remarks_in verbose r) ++ flat_map (λ o. item_rows families (ARule (chain_rule r o))) (number_choices r.protos)
     ≡ items_rows families (rule_items verbose r)
 rule-rows families verbose r =
-    let texts = map (λ text. Remark text) (remarks_in verbose r) in
-    let rules = map (λ o. ARule (chain_rule r o)) (number_choices r.protos) in
-    ap (λ rows. map remark_row (remarks_in verbose r) ++ rows) (sym (flat_map-map (item_rows families) (λ o. ARule (chain_rule r o)) (number_choices r.protos)))
-    ∙ ap (λ rows. rows ++ items_rows families rules) (remark-rows families (remarks_in verbose r))
-    ∙ sym (flat_map-append (item_rows families) texts rules)
+    let rule : Option ℕ → Item = λ o. ARule (chain_rule r o) in
+    let texts = remarks_in verbose r in
+    let protocols = number_choices r.protos in
+    ap (λ rows. flat_map (λ text. item_rows families (Remark text)) texts ++ rows) (sym (flat_map-map (item_rows families) rule protocols))
+    ∙ ap (λ rows. rows ++ items_rows families (map rule protocols)) (sym (flat_map-map (item_rows families) (λ text. Remark text) texts))
+    ∙ sym (flat_map-append (item_rows families) (map (λ text. Remark text) texts) (map rule protocols))
 
 pub all-rows : (families : Families) (verbose : Bool) (rules : List Rule)
     → flat_map (λ r. items_rows families (rule_items verbose r)) rules ≡ items_rows families (flat_map (rule_items verbose) rules)

@@ -34,9 +34,10 @@ use Rattle.acl_platform.specs.SoundFilters.{has_test, IsFull, IsFullList, IsSoun
 use Rattle.acl_platform.proofs.ChoiceLaws.{any-number, numbers-any, some-numbers}
 use Rattle.acl_platform.proofs.ElementLaws.{addresses-hold, is_nil, ports-hold}
 use Rattle.acl_platform.proofs.EntryLaws.{over-entries}
+use Rattle.acl_grammar.specs.RuleParts.{has_port, number_holds, set_holds, state_holds}
 use Rattle.nft_lang.specs.declared.documents.Item.{Item}
 use Rattle.nft_lang.specs.declared.documents.Item.TheVariants.{Remark, Rule as ARule}
-use Rattle.nft_lang.specs.Walks.{first_holding, flags_hold, has_port, policy_verdict, proto_holds, rule_holds as chain_rule_holds, section_outcome, set_holds, state_holds, walk}
+use Rattle.nft_lang.specs.Walks.{first_holding, flags_hold, policy_verdict, rule_holds as chain_rule_holds, section_outcome, walk}
 use Rattle.gen_nftables.specs.SectionLaws.{hooked-is, IsTaken, sound-rules}
 use Rattle.gen_nftables.specs.Sections.{accepts, asks_state, chain_rule, flags_of, remarks_in, rule_items, section_of}
 
@@ -79,7 +80,7 @@ test-same State p h = refl
 
 -- ---- a rule
 
-number-same : (o : Option ℕ) (n : ℕ) → proto_holds o n ≡ is_chosen o n
+number-same : (o : Option ℕ) (n : ℕ) → number_holds o n ≡ is_chosen o n
 number-same None n = refl
 number-same (Some m) n = refl
 
@@ -96,11 +97,11 @@ any-none true rest = refl
 any-none false rest = refl
 
 any-protocol : (family rest : Bool) (n : ℕ) (os : List (Option ℕ))
-    → list_any (λ o. (family && proto_holds o n) && rest) os ≡ ((family && list_any (λ o. is_chosen o n) os) && rest)
+    → list_any (λ o. (family && number_holds o n) && rest) os ≡ ((family && list_any (λ o. is_chosen o n) os) && rest)
 any-protocol family rest n [] = any-none family rest
 any-protocol family rest n (o ∷ os) =
     let later = list_any (λ q. is_chosen q n) os in
-    ap (λ t. ((family && proto_holds o n) && rest) || t) (any-protocol family rest n os)
+    ap (λ t. ((family && number_holds o n) && rest) || t) (any-protocol family rest n os)
     ∙ ap (λ t. ((family && t) && rest) || ((family && later) && rest)) (number-same o n)
     ∙ any-step family (is_chosen o n) later rest
 

@@ -1,16 +1,13 @@
 -- The head of a section, the rows of its items, and the numbers of a set.
-use Rattle.std.specs.Prelude.{ℕ, List, ◌∷◌, ◌++◌, flat_map, codes}
+use Rattle.std.specs.Prelude.{ℕ, List, ◌++◌, flat_map, codes}
 use Rattle.std.specs.Fmt.{decimal}
 use Rattle.acl_packet.specs.declared.addresses.Families.{Families}
-use Rattle.acl_grammar.specs.Rows.{Row, row, words_in}
+use Rattle.acl_grammar.specs.Rows.{Row}
 use Rattle.acl_platform.specs.declared.filters.Filter.{Filter}
 use Rattle.nft_lang.specs.declared.chain_rows.SectionHead.{SectionHead}
 use Rattle.nft_lang.specs.declared.documents.Item.{Item}
 use Rattle.nft_lang.specs.Texts.{item_rows}
 use Rattle.gen_nftables.specs.Sections.{accepts}
-
-abbrev pub remark_row : List ℕ → Row
-remark_row text = row 8 (codes "#" ∷ words_in text)
 
 abbrev pub items_rows : Families → List Item → List Row
 items_rows families items = flat_map (item_rows families) items

@@ -1,12 +1,11 @@
 -- The rules of a chain that a sound rule gives are valid: proved here, and need not be believed.
-use Rattle.std.proofs.Common.{zero-le, add-zero, zero-add, lit≤, ◌≡◌, ℕ, zero, suc, ◌+◌, ◌-◌, ◌<◌, ◌≤◌, Bool, true, false, ◌&&◌, ◌||◌, ◌==◌, cond, nat_eq, nat_le, nat_lt, List, [], ◌∷◌, ◌++◌, map, Option, None, Some, IfSome, is_none, refl, ap, sym, subst, ◌∙◌}
+use Rattle.std.proofs.Common.{add-zero, zero-add, lit≤, ◌≡◌, ℕ, zero, suc, ◌+◌, ◌-◌, ◌<◌, ◌≤◌, Bool, true, false, ◌&&◌, ◌||◌, ◌==◌, cond, nat_eq, nat_le, nat_lt, List, [], ◌∷◌, ◌++◌, map, Option, is_none, refl, ap, sym, subst, ◌∙◌}
 use Rattle.std.specs.List.{AllByRecursion, IsDistinct, list_any, range_with_len}
 use Rattle.std.proofs.lemmas.Bool.{and_from, eqb-true, false_from_ne_true, false≢true, le-ltb, lt-leb, or_right}
 use Rattle.std.proofs.lemmas.Nat.{pow_pos}
-use Rattle.std.proofs.Math.Nat.{add-le-add, add-sub_of_le, add-suc, add_assoc, le-add_right, le_refl, le_trans, not-suc-le_self, suc-add, suc-le-suc_iff}
+use Rattle.std.proofs.Math.Nat.{add-le-add, add-sub_of_le, add-suc, add_assoc, le-add_right, le_refl, le_trans, not-suc-le_self, suc-add}
 use Rattle.acl_packet.specs.declared.addresses.Families.{Families}
 use Rattle.acl_packet.specs.declared.addresses.Family.{Family}
-use Rattle.acl_packet.specs.declared.addresses.Family.TheVariants.{V4, V6}
 use Rattle.acl_packet.specs.declared.addresses.Prefix.{Prefix}
 use Rattle.acl_packet.specs.declared.filtering.Verdict.{Verdict}
 use Rattle.acl_packet.specs.declared.filtering.Verdict.TheVariants.{Accept, Deny, Reject, Reset, Left}
@@ -16,43 +15,21 @@ use Rattle.acl_sets.specs.declared.sets.Range.{Range}
 use Rattle.acl_sets.specs.ComputableSets.{is_all}
 use Rattle.acl_sets.specs.LeastLists.{IsInOrder}
 use Rattle.acl_sets.specs.Ranges.{holds, IsNormal, Numbers, Only}
-use Rattle.acl_sets.proofs.ComputableSetLaws.{covers-holds}
-use Rattle.acl_sets.proofs.RangeLaws.{at_top}
 use Rattle.acl_target.specs.declared.targets.Kind.TheVariants.{Nftables}
 use Rattle.acl_platform.specs.declared.rules.Rule.{Rule}
 use Rattle.acl_platform.specs.declared.rules.Test.{Test}
 use Rattle.acl_platform.specs.declared.rules.Test.TheVariants.{Plain, AckOrRst, SynNotAck, Rst, State}
 use Rattle.acl_platform.specs.Choices.{numbers_of}
 use Rattle.acl_platform.specs.Elements.{address_elements, number_elements, port_elements}
-use Rattle.acl_platform.specs.SoundFilters.{has_verdict, IsFull, IsFullList, is_named_protocol, is_tcp, IsSoundRule, tests_flags}
+use Rattle.acl_platform.specs.SoundFilters.{has_verdict, IsFull, IsFullList, is_tcp, IsSoundRule, tests_flags}
 use Rattle.acl_platform.proofs.CombinationFacts.{all-weaker, OfNumbers}
 use Rattle.acl_platform.proofs.ElementLaws.{addresses-are, numbers-are, ports-are}
+use Rattle.acl_platform.proofs.NamedNumbers.{named, no-icmp, protocol-is}
 use Rattle.acl_platform.proofs.RuleNumbers.{type-most}
 use Rattle.acl_grammar.specs.PortRanges.{IsPortRange}
-use Rattle.nft_lang.specs.Documents.{flags_fit, has_port_proto, IsAddresses, is_empty, is_proto, IsRule, IsSet, IsType, ports_fit, ports_overlap, prefixes_overlap, types_fit, verdict_fits}
+use Rattle.acl_grammar.specs.RuleParts.{has_port_proto, is_empty, is_proto}
+use Rattle.nft_lang.specs.Documents.{flags_fit, IsAddresses, IsRule, IsSet, IsType, ports_fit, ports_overlap, prefixes_overlap, types_fit, verdict_fits}
 use Rattle.gen_nftables.specs.Sections.{chain_rule, flags_of}
-
--- ---- the protocol
-
-named-positive : (f : Family) (n : ℕ) → is_named_protocol f n ≡ true → 1 ≤ n
-named-positive V4 zero h = absurd (false≢true h)
-named-positive V6 zero h = absurd (false≢true h)
-named-positive f (suc n) h = suc-le-suc_iff.1 zero-le
-
-protocol-is : (families : Families) (r : Rule) (o : Option ℕ) → IsSoundRule Nftables families r → OfNumbers r.protos o
-    → IfSome o (λ n. (1 ≤ n) × (n ≤ 255))
-protocol-is families r None h k = tt
-protocol-is families r (Some n) h k =
-    (named-positive r.family n (h.protocols_named k.0 n k.1), at_top 0 255 r.protos.ranges n h.protocols.normal k.1)
-
--- the protocol that is named, where the rule's protocols pass a test and 0 does not
-abbrev Named : (ℕ → Bool) → Option ℕ → Type 0
-Named test o = (n : ℕ) × ((o ≡ Some n) × (test n ≡ true))
-
-named : (test : ℕ → Bool) (s : Numbers) (o : Option ℕ) → OfNumbers s o → test 0 ≡ false → Only test s → Named test o
-named test s None h none only =
-    absurd (false≢true (sym none ∙ only 0 (covers-holds s.ranges 0 s.top 0 h zero-le zero-le)))
-named test s (Some n) h none only = (n, (refl, only n h.1))
 
 -- ---- addresses
 
@@ -189,26 +166,22 @@ ports-fit-by : (s d protos : Numbers) (proto : Option ℕ) (xs ys : List Range) 
 ports-fit-by s d protos proto xs ys true true e f h k l = refl
 ports-fit-by s d protos proto xs ys false c e f h k l =
     let one = named has_ports protos proto h refl (k e) in
-    or_right (is_empty (map ends xs) && is_empty (map ends (cond c [] ys))) (has_port_proto proto) (ap has_port_proto one.1.0 ∙ one.1.1)
+    or_right (is_empty (map ends xs) && is_empty (map ends (cond c [] ys))) (has_port_proto proto) (ap has_port_proto one.1.0 ∙ one.1.1.1)
 ports-fit-by s d protos proto xs ys true false e f h k l =
     let one = named has_ports protos proto h refl (l f) in
-    or_right (is_empty (map ends ys)) (has_port_proto proto) (ap has_port_proto one.1.0 ∙ one.1.1)
-
-no-icmp : (f : Family) → is_icmp f 0 ≡ false
-no-icmp V4 = refl
-no-icmp V6 = refl
+    or_right (is_empty (map ends ys)) (has_port_proto proto) (ap has_port_proto one.1.0 ∙ one.1.1.1)
 
 types-fit-by : (f : Family) (s protos : Numbers) (proto : Option ℕ) (rs : List Range) (b : Bool) → is_all s ≡ b → OfNumbers protos proto
     → (is_all s ≡ false → Only (is_icmp f) protos) → (is_empty (numbers_of (cond b [] rs)) || is_proto proto (icmp_of f)) ≡ true
 types-fit-by f s protos proto rs true e h k = refl
 types-fit-by f s protos proto rs false e h k =
     let one = named (is_icmp f) protos proto h (no-icmp f) (k e) in
-    or_right (is_empty (numbers_of rs)) (is_proto proto (icmp_of f)) (ap (λ o. is_proto o (icmp_of f)) one.1.0 ∙ one.1.1)
+    or_right (is_empty (numbers_of rs)) (is_proto proto (icmp_of f)) (ap (λ o. is_proto o (icmp_of f)) one.1.0 ∙ one.1.1.1)
 
 only-tcp : (protos : Numbers) (proto : Option ℕ) → OfNumbers protos proto → Only is_tcp protos → is_proto proto 6 ≡ true
 only-tcp protos proto h only =
     let one = named is_tcp protos proto h refl only in
-    ap (λ o. is_proto o 6) one.1.0 ∙ one.1.1
+    ap (λ o. is_proto o 6) one.1.0 ∙ one.1.1.1
 
 flags-fit-by : (test : Test) (proto : Option ℕ) → (tests_flags test ≡ true → is_proto proto 6 ≡ true)
     → (is_none (flags_of test) || is_proto proto 6) ≡ true
@@ -234,7 +207,7 @@ rule-is families r o h k =
     let c = chain_rule r o in
     record {
       family = h.family;
-      protocol = protocol-is families r o h k;
+      protocol = protocol-is Nftables families r o h k;
       sources = addresses-set r.family r.src h.sources;
       destinations = addresses-set r.family r.dst h.destinations;
       source_ports = ports-set r.sports h.source_ports;

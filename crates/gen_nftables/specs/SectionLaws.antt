@@ -1,6 +1,6 @@
 -- The section of an accepted filter is a document, and documents whose tables have other names can be
 -- joined: proved here, and need not be believed.
-use Rattle.std.proofs.Common.{lit≤, ◌≡◌, ℕ, ◌^◌, Bool, true, false, nat_le, nat_lt, T, ℤ, pos, negsuc, List, [], ◌∷◌, ◌++◌, map, flat_map, refl, ap, sym, ◌∙◌}
+use Rattle.std.proofs.Common.{lit≤, ◌≡◌, ℕ, ◌^◌, Bool, true, false, nat_le, nat_lt, T, ℤ, pos, negsuc, List, [], ◌∷◌, ◌++◌, map, flat_map, refl}
 use Rattle.std.specs.List.{AllByRecursion, IsDistinct}
 use Rattle.std.proofs.lemmas.Bool.{lt-ltb}
 use Rattle.std.proofs.Math.Nat.{le_trans, suc-le-suc_iff}
@@ -15,6 +15,7 @@ use Rattle.acl_platform.specs.declared.filters.Filter.{Filter}
 use Rattle.acl_platform.specs.declared.rules.Rule.{Rule}
 use Rattle.acl_platform.specs.Choices.{number_choices}
 use Rattle.acl_platform.specs.Platforms.{IsAccepted}
+use Rattle.acl_platform.proofs.OneName.{none-shared}
 use Rattle.acl_platform.specs.Remarks.{notes}
 use Rattle.acl_platform.specs.SoundFilters.{IsSoundRule, target_of}
 use Rattle.acl_platform.proofs.AcceptedFilters.{rules-are, target-fits}
@@ -22,9 +23,9 @@ use Rattle.acl_platform.proofs.CombinationFacts.{all-map, all-numbers, all-weake
 use Rattle.acl_platform.proofs.RuleNames.{name-safe, notes-safe}
 use Rattle.nft_lang.specs.declared.documents.Item.TheVariants.{Remark, Rule as ARule}
 use Rattle.nft_lang.specs.declared.documents.Section.{Section}
-use Rattle.nft_lang.specs.Documents.{fits_i32, IsItem, names_of}
+use Rattle.nft_lang.specs.Documents.{fits_i32, IsItem, table_name}
 use Rattle.nft_lang.specs.Texts.{Spells, text_of}
-use Rattle.nft_lang.proofs.JoinLaws.{joined_documents}
+use Rattle.nft_lang.proofs.JoinLaws.{spelling_laws}
 use Rattle.gen_nftables.specs.Limits.{is_for_nftables, limit_of}
 use Rattle.gen_nftables.specs.RuleLaws.{rule-is}
 use Rattle.gen_nftables.specs.Sections.{chain_rule, remarks_in, rule_items, section_names, section_of}
@@ -86,12 +87,6 @@ section_is_spelled f h =
 
 -- ---- joined documents
 
-names-same : (doc : List Section) → flat_map section_names doc ≡ names_of doc
-names-same [] = refl
-names-same (s ∷ doc) = ap (λ names. section_names s ++ names) (names-same doc)
-
 pub joined_are_spelled : (bytes more : List ℕ) (a b : List Section) → Spells bytes a → Spells more b
     → in_common (flat_map section_names a) (flat_map section_names b) ≡ false → Spells (bytes ++ more) (a ++ b)
-joined_are_spelled bytes more a b h k n =
-    joined_documents bytes more a b h k
-    (ap (λ names. in_common names (names_of b)) (sym (names-same a)) ∙ ap (in_common (flat_map section_names a)) (sym (names-same b)) ∙ n)
+joined_are_spelled bytes more a b h k n = spelling_laws.joined_documents bytes more a b h k (none-shared (λ s. table_name s.number) a b n)

@@ -2,11 +2,13 @@ ghost use Rattle.std.specs.Prelude.{◌≡◌, None, min};
 ghost use Rattle.std.specs.List.{All};
 ghost use Rattle.acl_text.specs.Output.{COUNT_END};
 ghost use Rattle.acl_platform.specs.Combinations.{IsSized};
-ghost use Rattle.gen_nftables.specs.CountSteps.{rule_count, rules_count};
+ghost use Rattle.gen_nftables.specs.CountSteps.{rule_count};
 ghost use Rattle.gen_nftables.specs.Sections.{chain_rule, entry_count, rule_size};
 
+use crate::nftables::Nftables;
 use acl_platform::{
-    Choices, Filter, NumberChoices, Rule, address_elements, count_numbers, range_elements,
+    Choices, Filter, NumberChoices, Rule, RuleCount, address_elements, count_numbers, count_rules,
+    range_elements,
 };
 
 /// The number of entries of the section that the filter becomes; a number that does not fit stands
@@ -16,26 +18,16 @@ pub fn entry_count(filter: &Filter) -> u64
     requires { All IsSized filter.now.rules }
     ensures { result ≡ min (entry_count filter.now) COUNT_END }
 {
-    rules_count(filter.rules.as_slice())
+    count_rules(filter.rules.as_slice(), &Nftables)
 }
 
-fn rules_count(rules: &[Rule]) -> u64
-    requires { All IsSized rules.now }
-    ensures { result ≡ min (rules_count rules.now) COUNT_END }
-{
-    let mut count: u64 = 0;
-    for rule in rules {
-        count = count.saturating_add(rule_count(rule));
+impl RuleCount for Nftables {
+    ghost entries = { λ n rule. rule_count rule };
+
+    fn count_rule(&self, rule: &Rule) -> u64 {
+        let protocols = NumberChoices { set: &rule.protos };
+        protocols.count().saturating_mul(rule_size(rule))
     }
-    count
-}
-
-fn rule_count(rule: &Rule) -> u64
-    requires { IsSized rule.now }
-    ensures { result ≡ min (rule_count rule.now) COUNT_END }
-{
-    let protocols = NumberChoices { set: &rule.protos };
-    protocols.count().saturating_mul(rule_size(rule))
 }
 
 // The rule is as great for each of its protocols.

@@ -1,8 +1,7 @@
 ghost use Rattle.std.specs.Prelude.{◌≡◌, ◌∷◌, []};
 ghost use Rattle.nft_lang.specs.Texts.{Spells, text_of};
 ghost use Rattle.nft_lang.specs.Walks.{section_outcome};
-ghost use Rattle.nft_lang.proofs.DocumentLaws.{one_document};
-ghost use Rattle.nft_lang.proofs.JoinLaws.{nothing_is_spelled};
+ghost use Rattle.nft_lang.proofs.JoinLaws.{spelling_laws};
 ghost use Rattle.gen_nftables.specs.DecisionLaws.{section_decides};
 ghost use Rattle.gen_nftables.specs.Limits.{is_for_nftables, limit_of};
 ghost use Rattle.gen_nftables.specs.SectionLaws.{joined_are_spelled, section_is_spelled};
@@ -48,9 +47,9 @@ impl Platform for Nftables {
         put_section(filter, out)
     }
 
-    ghost one_document = { one_document };
+    ghost one_document = { spelling_laws.one_document };
 
-    ghost nothing_is_spelled = { nothing_is_spelled };
+    ghost nothing_is_spelled = { spelling_laws.nothing_is_spelled };
 
     ghost joined_are_spelled = { joined_are_spelled };
 

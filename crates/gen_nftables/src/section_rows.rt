@@ -4,10 +4,9 @@ ghost use Rattle.acl_text.specs.Output.{Puts};
 ghost use Rattle.acl_grammar.specs.Rows.{row, text_of_rows};
 ghost use Rattle.acl_platform.specs.Choices.{number_choices};
 ghost use Rattle.acl_platform.specs.Combinations.{IsSized};
-ghost use Rattle.nft_lang.specs.declared.documents.Item.TheVariants.{Rule as ARule};
+ghost use Rattle.nft_lang.specs.declared.documents.Item.TheVariants.{Remark, Rule as ARule};
 ghost use Rattle.nft_lang.specs.Texts.{item_rows, text_of};
-ghost use Rattle.gen_nftables.specs.RowSteps.{head_of, items_rows, remark_row};
-ghost use Rattle.acl_platform.specs.Remarks.{notes};
+ghost use Rattle.gen_nftables.specs.RowSteps.{head_of, items_rows};
 ghost use Rattle.gen_nftables.specs.Sections.{
   accepts,
   chain_rule,
@@ -19,7 +18,9 @@ ghost use Rattle.gen_nftables.specs.Sections.{
 use crate::rule_words::RuleWords;
 use acl_grammar::{Form, Row, Rows};
 use acl_packet::Families;
-use acl_platform::{Choices, Filter, NumberChoices, Rule, RuleForm, put_rules};
+use acl_platform::{
+    Choices, Filter, NumberChoices, RemarkForm, RemarkRows, Rule, RuleForm, put_rules,
+};
 use acl_target::Ending;
 use acl_text::{Out, PutFault};
 use nft_lang::{RemarkRow, SectionEnd, SectionHead};
@@ -90,54 +91,41 @@ impl RuleForm for InChain {
     ghost rule_rows = { λ f rule. items_rows f.families (rule_items f.verbose rule) };
 
     fn put_rule<O: Out>(&self, rule: &Rule, out: &mut O) -> Result<(), PutFault> {
-        let remarks = Remarks {
-            verbose: self.verbose,
-            rule,
-        };
+        let remarks = Remarks { form: self, rule };
         let families = self.families;
         (remarks, ChainRules { families, rule }).put_rows(out)
+    }
+}
+
+impl RemarkForm for InChain {
+    ghost remark_rows = { λ f text. item_rows f.families (Remark text) };
+
+    #[tactic(auto, unfolding(nft_lang::specs::Texts::item_rows))]
+    fn put_remark<O: Out>(&self, text: &[u8], out: &mut O) -> Result<(), PutFault> {
+        RemarkRow { text }.put_rows(out)
     }
 }
 
 // The remarks of a rule, where they are asked for.
 #[derive(Drop)]
 struct Remarks<'a> {
-    verbose: bool,
+    form: &'a InChain,
     rule: &'a Rule,
 }
 
 impl<'a> Rows for Remarks<'a> {
-    ghost rows = { λ r. map remark_row (remarks_in r.verbose r.rule.now) };
+    ghost rows = { λ r. flat_map (λ text. item_rows r.form.now.families (Remark text))
+        (remarks_in r.form.now.verbose r.rule.now) };
 
     fn put_rows<O: Out>(&self, out: &mut O) -> Result<(), PutFault> {
-        if self.verbose {
-            let name = RemarkRow {
-                text: self.rule.name.as_slice(),
+        if self.form.verbose {
+            let remarks = RemarkRows {
+                rule: self.rule,
+                form: self.form,
             };
-            let note = NoteRow {
-                text: self.rule.note.as_slice(),
-            };
-            (name, note).put_rows(out)
+            remarks.put_rows(out)
         } else {
             Ok(())
-        }
-    }
-}
-
-// A remark where there is a note.
-#[derive(Drop)]
-struct NoteRow<'a> {
-    text: &'a [u8],
-}
-
-impl<'a> Rows for NoteRow<'a> {
-    ghost rows = { λ n. map remark_row (notes n.text.now) };
-
-    fn put_rows<O: Out>(&self, out: &mut O) -> Result<(), PutFault> {
-        if self.text.is_empty() {
-            Ok(())
-        } else {
-            RemarkRow { text: self.text }.put_rows(out)
         }
     }
 }

@@ -9,7 +9,7 @@ ghost use Rattle.acl_platform.specs.Elements.{number_elements};
 
 use acl_grammar::{Number, Piece, Words};
 use acl_packet::Family;
-use acl_platform::range_elements;
+use acl_platform::{NumberForm, put_numbers, put_numbers_from, range_elements};
 use acl_sets::{Range, RangeSet};
 use acl_text::{Out, PutFault};
 use nft_lang::icmp_word;
@@ -91,13 +91,14 @@ struct NumbersBetween {
     first: u16,
     end: u16,
     ghost ends: { first ≤ end },
+    ghost small: { end ≤ 256 },
 }
 
 impl Piece for NumbersBetween {
     ghost text = { λ n. other_numbers (range_with_len n.first (n.end - n.first)) };
 
     fn put_into<O: Out>(&self, out: &mut O) -> Result<(), PutFault> {
-        put_numbers(self.first, self.end, out)
+        put_numbers_from(self.first, self.end, &BehindComma, out)
     }
 }
 
@@ -112,32 +113,18 @@ impl<'a> Piece for NumbersIn<'a> {
     ghost text = { λ n. other_numbers (numbers_of n.ranges.now) };
 
     fn put_into<O: Out>(&self, out: &mut O) -> Result<(), PutFault> {
-        put_ranges(self.ranges, out)
+        put_numbers(self.ranges, &BehindComma, out)
     }
 }
 
-fn put_ranges<O: Out>(ranges: &[Range], out: &mut O) -> Result<(), PutFault>
-    requires open { IsTrue (O.is_open out.old) }
-    requires ranges { All (λ r. IsRange 255 r) ranges.now }
-    ensures { Puts O.told O.faults O.refusals O.is_open O.keeps_rest out.old out.new
-        (other_numbers (numbers_of ranges.now)) result }
-{
-    for range in ranges {
-        put_numbers(range.low as u16, range.high as u16 + 1, out)?;
-    }
-    Ok(())
-}
+struct BehindComma;
 
-fn put_numbers<O: Out>(first: u16, end: u16, out: &mut O) -> Result<(), PutFault>
-    requires open { IsTrue (O.is_open out.old) }
-    requires ends { first ≤ end }
-    ensures { Puts O.told O.faults O.refusals O.is_open O.keeps_rest out.old out.new
-        (other_numbers (range_with_len first (end - first))) result }
-{
-    let comma: &[u8] = b", ";
-    for number in first..end {
+impl NumberForm for BehindComma {
+    ghost number_text = { λ f number. codes ", " ++ decimal number };
+
+    fn put_number<O: Out>(&self, number: u8, out: &mut O) -> Result<(), PutFault> {
+        let comma: &[u8] = b", ";
         let number = u128::from(number);
-        (comma, Number { number }).put_into(out)?;
+        (comma, Number { number }).put_into(out)
     }
-    Ok(())
 }

@@ -1,5 +1,5 @@
 -- What is written of a document is read again.
-use Rattle.std.proofs.Common.{◌≡◌, ℕ, Bool, true, false, cond, List, [], ◌∷◌, ◌++◌, flat_map, codes, Option, None, Some, refl, ap, sym, subst, ◌∙◌, append_assoc, append-nil}
+use Rattle.std.proofs.Common.{◌≡◌, ℕ, Bool, true, false, cond, List, [], ◌∷◌, ◌++◌, flat_map, codes, Option, None, Some, refl, ap, sym, ◌∙◌, append_assoc, append-nil}
 use Rattle.std.specs.List.{fold, AllByRecursion}
 use Rattle.std.specs.Str.{bytes_eq}
 use Rattle.std.proofs.lemmas.List.Splits.{join_with_byte-slice_split}
@@ -9,15 +9,16 @@ use Rattle.acl_packet.specs.declared.addresses.Family.TheVariants.{V4, V6}
 use Rattle.acl_packet.specs.declared.filtering.Hook.{Hook}
 use Rattle.acl_packet.specs.declared.filtering.Hook.TheVariants.{Input, Output, Forward}
 use Rattle.acl_grammar.specs.Rows.{Row}
-use Rattle.acl_grammar.specs.RowSteps.{row_in, rows_in}
+use Rattle.acl_grammar.specs.RowSteps.{row_in}
 use Rattle.acl_grammar.proofs.RowLaws.{fold-again, fold-members}
+use Rattle.acl_grammar.specs.FamilyWords.{family_in}
 use Rattle.ipt_lang.specs.declared.documents.Section.{Section}
 use Rattle.ipt_lang.specs.declared.documents.Chain.{Chain}
 use Rattle.ipt_lang.specs.declared.documents.Rule.{Rule}
 use Rattle.ipt_lang.specs.declared.document_drafts.DocumentDraft.{DocumentDraft}
 use Rattle.ipt_lang.specs.Documents.{IsRule, IsRemark, IsChain, IsSection, hook_word, family_word}
-use Rattle.ipt_lang.specs.Texts.{rule_words, chain_name, remark_rows, rule_rows, chain_row, jump_row, chain_rows, policy_rows, target_row, head_rows, section_rows, Spells}
-use Rattle.ipt_lang.specs.ReadingSteps.{rule_in, no_chain, no_draft, hook_in, family_in, ended, end_chain, with_rule, take_appended, take_target, take_policy, take_name, take_words, take_row, document_in}
+use Rattle.ipt_lang.specs.Texts.{rule_words, chain_name, remark_rows, rule_rows, chain_row, jump_row, chain_rows, policy_rows, target_row, head_rows, section_rows, text_of}
+use Rattle.ipt_lang.specs.ReadingSteps.{rule_in, no_chain, no_draft, hook_in, ended, end_chain, with_rule, take_appended, take_target, take_policy, take_name, take_words, take_row, document_in}
 use Rattle.ipt_lang.proofs.RuleReadingLaws.{rule_again}
 use Rattle.ipt_lang.proofs.SafeRows.{sections_safe}
 
@@ -93,6 +94,7 @@ hook_again Output = refl
 hook_again Forward = refl
 
 family_again : (f : Family) → family_in (family_word f) ≡ f
+unfolding family_in
 family_again V4 = refl
 family_again V6 = refl
 
@@ -138,20 +140,9 @@ empty_row : (d : DocumentDraft) → take_row d (row_in []) ≡ d
 unfolding row_in take_words
 empty_row d = refl
 
-pub document_again : (bytes : List ℕ) (doc : List Section) → Spells bytes doc → document_in bytes ≡ doc
+pub document_again : (doc : List Section) → AllByRecursion IsSection doc → document_in (text_of doc) ≡ doc
 unfolding document_in
-document_again bytes doc h =
+document_again doc h =
     let rows = flat_map section_rows doc in
     let end = read no_draft rows in
-    ap (λ t. ended (read no_draft (rows_in t))) h.written
-    ∙ ap ended (fold-again take_row no_draft end rows (sections_safe doc h.valid.sections) refl (empty_row end))
-    ∙ sections_read no_draft doc h.valid.sections
-
-pub read_all : (bytes : List ℕ) (draft doc : List Section) → draft ≡ document_in bytes → Spells bytes doc → Some draft ≡ Some doc
-read_all bytes draft doc e h = ap Some (e ∙ document_again bytes doc h)
-
-pub read_other : (bytes : List ℕ) (draft doc : List Section) → draft ≡ document_in bytes → (Spells bytes draft → ⊥) → Spells bytes doc → ⊥
-read_other bytes draft doc e n h = n (subst (Spells bytes) (sym (e ∙ document_again bytes doc h)) h)
-
-pub one_document : (bytes : List ℕ) (a b : List Section) → Spells bytes a → Spells bytes b → a ≡ b
-one_document bytes a b h k = sym (document_again bytes a h) ∙ document_again bytes b k
+    ap ended (fold-again take_row no_draft end rows (sections_safe doc h) refl (empty_row end)) ∙ sections_read no_draft doc h

@@ -1,7 +1,7 @@
 -- Documents of iptables rules, and which of them are valid.
 -- Sources: iptables(8), "COMMANDS" and "PARAMETERS"; iptables-extensions(8), "multiport" (up to 15
 -- ports, a range counts as two), "tcp", "udp", "sctp", "icmp", "icmp6", "state", "REJECT" and "LOG".
-use Rattle.std.specs.Prelude.{◌≡◌, ℕ, ◌≤◌, Bool, true, false, ◌&&◌, ◌||◌, ◌==◌, nat_le, if◌then◌else◌, List, [], ◌∷◌, ◌++◌, length, map, codes, Option, None, Some, IfSome, is_none}
+use Rattle.std.specs.Prelude.{◌≡◌, ℕ, ◌≤◌, Bool, true, false, ◌&&◌, ◌||◌, ◌==◌, nat_le, if◌then◌else◌, List, ◌∷◌, ◌++◌, length, map, codes, Option, IfSome, is_none}
 use Rattle.std.specs.List.{AllByRecursion, IsDistinct, sum_by}
 use Rattle.std.specs.Str.{bytes_eq}
 use Rattle.acl_packet.specs.declared.addresses.Family.{Family}
@@ -11,10 +11,11 @@ use Rattle.acl_packet.specs.declared.filtering.Hook.{Hook}
 use Rattle.acl_packet.specs.declared.filtering.Hook.TheVariants.{Input, Output, Forward}
 use Rattle.acl_packet.specs.declared.filtering.Verdict.TheVariants.{Reset, Left}
 use Rattle.acl_packet.specs.Addresses.{IsPrefixOf}
-use Rattle.acl_packet.specs.Packets.{has_ports, icmp_of}
+use Rattle.acl_packet.specs.Packets.{icmp_of}
 use Rattle.acl_text.specs.Names.{is_name, is_safe_text}
 use Rattle.acl_grammar.specs.Documents.{IsDocumentOf}
 use Rattle.acl_grammar.specs.PortRanges.{IsPortRange}
+use Rattle.acl_grammar.specs.RuleParts.{has_port_proto, is_empty, is_proto}
 use Rattle.ipt_lang.specs.declared.documents.Section.{Section}
 use Rattle.ipt_lang.specs.declared.documents.Chain.{Chain}
 use Rattle.ipt_lang.specs.declared.documents.Rule.{Rule}
@@ -39,19 +40,7 @@ pub record IsAddresses (family : Family) (prefix : Prefix) : Type 0 where
   pub of_family : IsPrefixOf family prefix
   pub some_bits : 1 ≤ prefix.len
 
-abbrev pub is_proto : Option ℕ → ℕ → Bool
-is_proto None number = false
-is_proto (Some proto) number = proto == number
-
-abbrev pub is_empty : {A : Type 0} → List A → Bool
-is_empty [] = true
-is_empty (x ∷ xs) = false
-
 -- Ports belong to TCP, UDP or SCTP, a type to the family's ICMP, flags and a reset to TCP.
-abbrev pub has_port_proto : Option ℕ → Bool
-has_port_proto None = false
-has_port_proto (Some proto) = has_ports proto
-
 abbrev pub ports_fit : Rule → Bool
 ports_fit r = is_empty r.sports && is_empty r.dports || has_port_proto r.proto
 

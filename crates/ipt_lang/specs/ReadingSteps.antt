@@ -4,7 +4,7 @@ use Rattle.std.specs.List.{fold, join_with_byte, slice_split}
 use Rattle.std.specs.Option.{option_or}
 use Rattle.std.specs.Str.{bytes_eq}
 use Rattle.acl_packet.specs.declared.addresses.Family.{Family}
-use Rattle.acl_packet.specs.declared.addresses.Family.TheVariants.{V4, V6}
+use Rattle.acl_packet.specs.declared.addresses.Family.TheVariants.{V4}
 use Rattle.acl_packet.specs.declared.filtering.Hook.{Hook}
 use Rattle.acl_packet.specs.declared.filtering.Hook.TheVariants.{Input, Output, Forward}
 use Rattle.acl_packet.specs.declared.filtering.Verdict.TheVariants.{Accept, Deny, Reject, Reset}
@@ -13,6 +13,7 @@ use Rattle.acl_text.specs.AddressTexts.{spelled_prefix_in}
 use Rattle.acl_text.specs.PortRanges.{ports_in}
 use Rattle.acl_grammar.specs.Rows.{Row}
 use Rattle.acl_grammar.specs.RowSteps.{rows_in}
+use Rattle.acl_grammar.specs.FamilyWords.{family_in}
 use Rattle.ipt_lang.specs.declared.documents.Section.{Section}
 use Rattle.ipt_lang.specs.declared.documents.Chain.{Chain}
 use Rattle.ipt_lang.specs.declared.documents.Rule.{Rule}
@@ -20,8 +21,8 @@ use Rattle.ipt_lang.specs.declared.documents.Act.{Act}
 use Rattle.ipt_lang.specs.declared.documents.Act.TheVariants.{Log, Decide}
 use Rattle.ipt_lang.specs.declared.documents.Flags.{Flags}
 use Rattle.ipt_lang.specs.declared.documents.Flags.TheVariants.{Ack, Rst, SynNotAck}
-use Rattle.ipt_lang.specs.declared.rule_drafts.End.{End}
-use Rattle.ipt_lang.specs.declared.rule_drafts.End.TheVariants.{Source, Destination}
+use Rattle.acl_grammar.specs.declared.rule_parts.End.{End}
+use Rattle.acl_grammar.specs.declared.rule_parts.End.TheVariants.{Source, Destination}
 use Rattle.ipt_lang.specs.declared.rule_drafts.Next.{Next}
 use Rattle.ipt_lang.specs.declared.rule_drafts.Next.TheVariants.{Keyword, Protocol, Address, Ports, IcmpType, Mask, Target}
 use Rattle.ipt_lang.specs.declared.rule_drafts.RuleDraft.{RuleDraft}
@@ -145,9 +146,6 @@ hook_in w =
     if bytes_eq w (codes "OUTPUT") then Output
     else if bytes_eq w (codes "FORWARD") then Forward
     else Input
-
-abbrev pub family_in : List ℕ → Family
-family_in w = if bytes_eq w (codes "inet6") then V6 else V4
 
 -- The sections so far, with the one that has begun.
 abbrev pub ended : DocumentDraft → List Section

@@ -2,17 +2,16 @@
 -- Sources: iptables(8), "TARGETS" (rules in order; a jump enters a chain, whose end returns; the
 -- policy of a built-in chain decides at its end); iptables-extensions(8), "LOG" (a target that does
 -- not end the walk), "tcp" (`--tcp-flags`), "state"; RFC 9293 section 3.1 for flags.
-use Rattle.std.specs.Prelude.{ℕ, Bool, true, false, not, ◌&&◌, ◌||◌, ◌==◌, nat_le, if◌then◌else◌, List, [], ◌∷◌, Option, None, Some}
-use Rattle.std.specs.List.{list_any}
+use Rattle.std.specs.Prelude.{ℕ, Bool, true, false, not, ◌&&◌, if◌then◌else◌, List, [], ◌∷◌, Option, None, Some}
 use Rattle.acl_packet.specs.declared.addresses.Prefix.{Prefix}
-use Rattle.acl_packet.specs.declared.packets.Conn.{Conn}
 use Rattle.acl_packet.specs.declared.packets.Packet.{Packet}
 use Rattle.acl_packet.specs.declared.filtering.Outcome.{Outcome}
 use Rattle.acl_packet.specs.declared.filtering.Verdict.{Verdict}
 use Rattle.acl_packet.specs.declared.filtering.Verdict.TheVariants.{Accept, Deny, Left}
 use Rattle.acl_packet.specs.Addresses.{has_address, same_family}
-use Rattle.acl_packet.specs.Packets.{has_flag, is_tracked}
+use Rattle.acl_packet.specs.Packets.{has_flag}
 use Rattle.acl_grammar.specs.Documents.{outcome_at}
+use Rattle.acl_grammar.specs.RuleParts.{has_port, number_holds, set_holds, state_holds}
 use Rattle.ipt_lang.specs.declared.documents.Section.{Section}
 use Rattle.ipt_lang.specs.declared.documents.Chain.{Chain}
 use Rattle.ipt_lang.specs.declared.documents.Rule.{Rule}
@@ -20,22 +19,14 @@ use Rattle.ipt_lang.specs.declared.documents.Act.{Act}
 use Rattle.ipt_lang.specs.declared.documents.Act.TheVariants.{Log, Decide}
 use Rattle.ipt_lang.specs.declared.documents.Flags.{Flags}
 use Rattle.ipt_lang.specs.declared.documents.Flags.TheVariants.{Ack, Rst, SynNotAck}
-use Rattle.ipt_lang.specs.Documents.{is_empty}
 
 -- A part of a rule that is not written holds every packet.
-abbrev pub number_holds : Option ℕ → ℕ → Bool
-number_holds None number = true
-number_holds (Some wanted) number = number == wanted
-
 abbrev pub address_holds : Option Prefix → ℕ → Bool
 address_holds None address = true
 address_holds (Some prefix) address = has_address prefix address
 
-abbrev pub has_port : ℕ × ℕ → ℕ → Bool
-has_port ports port = nat_le ports.0 port && nat_le port ports.1
-
 abbrev pub port_holds : List (ℕ × ℕ) → ℕ → Bool
-port_holds ranges port = is_empty ranges || list_any (λ r. has_port r port) ranges
+port_holds ranges port = set_holds has_port ranges port
 
 -- SYN is 2, RST 4 and ACK 16.
 abbrev pub flags_hold : Option Flags → ℕ → Bool
@@ -43,10 +34,6 @@ flags_hold None flags = true
 flags_hold (Some Ack) flags = has_flag flags 16
 flags_hold (Some Rst) flags = has_flag flags 4
 flags_hold (Some SynNotAck) flags = has_flag flags 2 && not (has_flag flags 16)
-
-abbrev pub state_holds : Bool → Conn → Bool
-state_holds true conn = is_tracked conn
-state_holds false conn = true
 
 -- A rule holds a packet where each of its parts does: protocol and addresses, ports, type, flags
 -- and state.

@@ -3,9 +3,9 @@ ghost use Rattle.ipt_lang.specs.Documents.{family_word, hook_word};
 ghost use Rattle.ipt_lang.specs.Texts.{back_words, chain_name, chain_row, chain_rows, front_words, head_rows, hook_letter, jump_row, policy_rows, policy_word, remark_rows, rule_row, rule_rows, rule_words, section_rows, target_row};
 
 use crate::documents::{Act, Chain, Flags, Rule, Section};
-use crate::ports::{InRanges, PortLists};
+use crate::ports::PortLists;
 use crate::rule_words::{Back, Front};
-use acl_grammar::{Each, Form, FreeText, Piece, Row, Rows, Word, Words};
+use acl_grammar::{Each, Form, FreeText, Piece, RangeWords, Row, Rows, Word, Words};
 use acl_packet::{Family, Hook, Prefix};
 use acl_text::{Bytes, Out, PutFault};
 
@@ -251,25 +251,21 @@ impl<'a, P: Words + Copy> Rows for RuleRow<'a, P> {
     }
 }
 
-/// The sections of a document.
-#[derive(Drop)]
-pub(crate) struct Sections;
-
-impl Form<Section> for Sections {
-    ghost item_rows = { λ f s. section_rows s };
+impl Rows for Section {
+    ghost rows = { section_rows };
 
     #[tactic(auto, unfolding(crate::specs::Texts::section_rows))]
-    fn put_item<O: Out>(&self, section: &Section, out: &mut O) -> Result<(), PutFault> {
+    fn put_rows<O: Out>(&self, out: &mut O) -> Result<(), PutFault> {
         let head = SectionHead {
-            hook: section.hook,
-            family: section.family,
-            accept: section.accept,
+            hook: self.hook,
+            family: self.family,
+            accept: self.accept,
         };
         let chains = Each {
-            items: section.chains.as_slice(),
+            items: self.chains.as_slice(),
             form: OfHook {
-                hook: section.hook,
-                family: section.family,
+                hook: self.hook,
+                family: self.family,
             },
         };
         (head, chains).put_rows(out)
@@ -337,7 +333,7 @@ impl<'a> Form<Rule> for OfChain<'a> {
         let ports = PortLists {
             sports: rule.sports.as_slice(),
             dports: rule.dports.as_slice(),
-            form: InRanges,
+            form: RangeWords { separator: b':' },
         };
         let row = RuleRow {
             hook: self.hook,

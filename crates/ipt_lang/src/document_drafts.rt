@@ -1,11 +1,12 @@
 ghost use Rattle.std.specs.Prelude.{◌≡◌, IfOk, OnOk};
 ghost use Rattle.acl_text.specs.Cuts.{views};
-ghost use Rattle.ipt_lang.specs.ReadingSteps.{begin_section, end_chain, ended, family_in, hook_in, no_chain, no_draft, no_section, take_appended, take_name, take_policy, take_row, take_target, take_words, with_name, with_policy, with_remark, with_rule};
+ghost use Rattle.acl_grammar.specs.FamilyWords.{family_in};
+ghost use Rattle.ipt_lang.specs.ReadingSteps.{begin_section, end_chain, ended, hook_in, no_chain, no_draft, no_section, take_appended, take_name, take_policy, take_row, take_target, take_words, with_name, with_policy, with_remark, with_rule};
 
 use crate::chain_rows::hook_word;
 use crate::documents::{Chain, Doc, Section};
 use crate::rule_drafts::rule_of;
-use acl_grammar::{Draft, join_words};
+use acl_grammar::{Draft, family_of, join_words};
 use acl_packet::{Family, Hook};
 use acl_text::{Bytes, Items, Memory};
 use std::alloc::Global;
@@ -199,15 +200,5 @@ fn hook_of(word: &[u8]) -> Hook
         Hook::Forward
     } else {
         Hook::Input
-    }
-}
-
-fn family_of(word: &[u8]) -> Family
-    ensures { result ≡ family_in word.now }
-{
-    if word == b"inet6".as_slice() {
-        Family::V6
-    } else {
-        Family::V4
     }
 }

@@ -5,7 +5,6 @@
 mod chain_rows;
 mod document_drafts;
 mod documents;
-mod laws;
 mod ports;
 mod reading;
 mod rule_drafts;
@@ -13,13 +12,8 @@ mod rule_words;
 mod validity;
 mod walking;
 
+pub use acl_grammar::{outcome, sections};
 pub use chain_rows::{ChainHead, JumpRow, RemarkRow, RuleRow, SectionHead};
 pub use documents::{Act, Chain, Doc, Flags, Rule, Section};
-pub use laws::{
-    a_document_has_one_text, a_text_has_one_document, joined_documents_have_joined_names,
-    joined_documents_keep_outcomes, joined_texts_spell_joined_documents,
-    the_empty_text_has_no_section,
-};
 pub use ports::PortLists;
 pub use reading::read;
-pub use walking::{outcome, sections};

@@ -172,20 +172,3 @@ fn put_others<T, F: WordForm<T>, O: Out>(items: &[T], form: &F, out: &mut O) -> 
     }
     Ok(())
 }
-
-/// Ranges of a document.
-#[derive(Clone, Copy)]
-pub(crate) struct InRanges;
-
-impl WordForm<(u16, u16)> for InRanges {
-    ghost item_text = { λ f ports. range_word ports };
-
-    fn put_item_into<O: Out>(&self, ports: &(u16, u16), out: &mut O) -> Result<(), PutFault> {
-        let range = PortRange {
-            low: u128::from(ports.0),
-            high: u128::from(ports.1),
-            separator: b':',
-        };
-        range.put_into(out)
-    }
-}

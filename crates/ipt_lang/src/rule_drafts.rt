@@ -3,16 +3,10 @@ ghost use Rattle.acl_text.specs.Cuts.{views};
 ghost use Rattle.ipt_lang.specs.ReadingSteps.{act_in, draft, flags_in, named_proto_in, next_in, no_rule, proto_in, ranges_among, ranges_in, rule_in, take_word, with_address, with_ports, with_value, with_word};
 
 use crate::documents::{Act, Flags, Rule};
+use acl_grammar::End;
 use acl_packet::{Family, Verdict};
 use acl_text::{Items, Memory, read_ports, read_spelled_prefix, read_u8, split_text};
 use std::alloc::Global;
-
-/// The end of the packets that an address and ports are of.
-#[derive(Clone, Copy)]
-pub(crate) enum End {
-    Source,
-    Destination,
-}
 
 /// What the next word of a rule is.
 #[derive(Clone, Copy)]

@@ -1,11 +1,14 @@
 ghost use Rattle.std.specs.Prelude.{◌≡◌, ◌&&◌, ◌↔◌, IsTrue};
 ghost use Rattle.std.specs.List.{list_all};
 ghost use Rattle.acl_grammar.specs.NamingSteps.{are_distinct};
-ghost use Rattle.ipt_lang.specs.Documents.{IsDocument, act_fits, chain_names, flags_fit, has_port_proto, is_chain_name, is_proto, name_of, parts_fit, ports_fit, type_fits, weight_of};
+ghost use Rattle.acl_grammar.specs.RuleParts.{has_port_proto, is_proto};
+ghost use Rattle.ipt_lang.specs.Documents.{IsDocument, act_fits, chain_names, flags_fit, is_chain_name, name_of, parts_fit, ports_fit, type_fits, weight_of};
 ghost use Rattle.ipt_lang.specs.ValiditySteps.{are_addresses, are_numbers, are_ports, are_remarks, has_room, is_address, is_chain, is_document, is_number, is_port_list, is_rule, is_section};
 
 use crate::documents::{Act, Chain, Rule, Section};
-use acl_grammar::{Named, are_port_ranges, have_distinct_names, is_prefix_of};
+use acl_grammar::{
+    Named, are_port_ranges, has_port_proto, have_distinct_names, is_prefix_of, is_proto,
+};
 use acl_packet::{Family, Hook, Prefix, Verdict};
 use acl_text::{Bytes, is_name, is_safe_text};
 
@@ -183,12 +186,6 @@ fn ports_fit(rule: &Rule) -> bool
         || has_port_proto(rule.proto)
 }
 
-fn has_port_proto(proto: Option<u8>) -> bool
-    ensures { result ≡ has_port_proto proto }
-{
-    is_proto(proto, 6) || is_proto(proto, 17) || is_proto(proto, 132)
-}
-
 fn type_fits(family: Family, rule: &Rule) -> bool
     ensures { result ≡ type_fits family rule.now }
 {
@@ -208,14 +205,5 @@ fn act_fits(proto: Option<u8>, act: Act) -> bool
         Act::Decide(Verdict::Reset) => is_proto(proto, 6),
         Act::Decide(Verdict::Left) => false,
         _ => true,
-    }
-}
-
-fn is_proto(proto: Option<u8>, number: u8) -> bool
-    ensures { result ≡ is_proto proto number }
-{
-    match proto {
-        Some(proto) => proto == number,
-        None => false,
     }
 }

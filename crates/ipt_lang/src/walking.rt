@@ -1,45 +1,14 @@
 ghost use Rattle.std.specs.Prelude.{◌≡◌, length};
 ghost use Rattle.std.specs.List.{list_any};
 ghost use Rattle.acl_packet.specs.Packets.{IsPacket};
-ghost use Rattle.ipt_lang.specs.Documents.{is_empty};
-ghost use Rattle.ipt_lang.specs.Walks.{address_holds, chains_walk, ends_hold, flags_hold, go_on, has_port, met, number_holds, outcome_of, policy_verdict, port_holds, ports_hold, rule_holds, rules_walk, section_outcome, state_holds, tests_hold, walk};
+ghost use Rattle.acl_grammar.specs.RuleParts.{has_port, is_empty, number_holds, state_holds};
+ghost use Rattle.ipt_lang.specs.Walks.{address_holds, chains_walk, ends_hold, flags_hold, go_on, met, outcome_of, policy_verdict, port_holds, ports_hold, rule_holds, rules_walk, section_outcome, tests_hold, walk};
 
 use crate::documents::{Act, Chain, Doc, Flags, Rule, Section};
+use acl_grammar::{ACK, RST, SYN, admits_port, number_holds, state_holds};
 use acl_packet::{Conn, Outcome, Packet, Prefix, Verdict, has_flag};
 
-const SYN: u8 = 2;
-
-const RST: u8 = 4;
-
-const ACK: u8 = 16;
-
-/// The number of sections of a document.
-pub fn sections(doc: &Doc) -> usize
-    ensures { result ≡ length doc.now }
-{
-    doc.as_slice().len()
-}
-
-/// What the section at that place, counted from 0, does to the packet. `None` exactly where there is
-/// no such section, or the packet's family is not the section's.
-pub fn outcome(doc: &Doc, which: usize, packet: &Packet) -> Option<Outcome>
-    requires { IsPacket packet.now }
-    ensures { result ≡ outcome_of doc.now which packet.now }
-{
-    section_outcome(doc.as_slice().get(which)?, packet)
-}
-
-fn section_outcome(section: &Section, packet: &Packet) -> Option<Outcome>
-    ensures { result ≡ section_outcome section.now packet.now }
-{
-    if section.family == packet.family {
-        Some(walk(section.accept, section.chains.as_slice(), packet))
-    } else {
-        None
-    }
-}
-
-fn walk(accept: Option<bool>, chains: &[Chain], packet: &Packet) -> Outcome
+pub(crate) fn walk(accept: Option<bool>, chains: &[Chain], packet: &Packet) -> Outcome
     ensures { result ≡ walk accept chains.now packet.now }
 {
     let behind = chains_walk(chains, packet, false);
@@ -110,15 +79,6 @@ fn ends_hold(rule: &Rule, packet: &Packet) -> bool
         && address_holds(&rule.dst, packet.dst)
 }
 
-fn number_holds(wanted: Option<u8>, number: u8) -> bool
-    ensures { result ≡ number_holds wanted number }
-{
-    match wanted {
-        Some(wanted) => number == wanted,
-        None => true,
-    }
-}
-
 fn address_holds(wanted: &Option<Prefix>, address: u128) -> bool
     ensures { result ≡ address_holds wanted.now address }
 {
@@ -131,22 +91,8 @@ fn address_holds(wanted: &Option<Prefix>, address: u128) -> bool
 fn ports_hold(rule: &Rule, packet: &Packet) -> bool
     ensures { result ≡ ports_hold rule.now packet.now }
 {
-    port_holds(rule.sports.as_slice(), packet.sport)
-        && port_holds(rule.dports.as_slice(), packet.dport)
-}
-
-fn port_holds(ranges: &[(u16, u16)], port: u16) -> bool
-    ensures { result ≡ port_holds ranges.now port }
-{
-    ranges.is_empty() || any_has_port(ranges, port)
-}
-
-fn any_has_port(ranges: &[(u16, u16)], port: u16) -> bool
-    ensures { result ≡ list_any (λ r. has_port r port) ranges.now }
-{
-    ranges
-        .iter()
-        .any(|range| range.0 <= port && port <= range.1)
+    admits_port(rule.sports.as_slice(), packet.sport)
+        && admits_port(rule.dports.as_slice(), packet.dport)
 }
 
 fn tests_hold(rule: &Rule, packet: &Packet) -> bool
@@ -165,14 +111,5 @@ fn flags_hold(test: Option<Flags>, flags: u8) -> bool
         Some(Flags::Ack) => has_flag(flags, ACK),
         Some(Flags::Rst) => has_flag(flags, RST),
         Some(Flags::SynNotAck) => has_flag(flags, SYN) && !has_flag(flags, ACK),
-    }
-}
-
-fn state_holds(wanted: bool, conn: Conn) -> bool
-    ensures { result ≡ state_holds wanted conn }
-{
-    match (wanted, conn) {
-        (true, Conn::New | Conn::Invalid) => false,
-        _ => true,
     }
 }

@@ -1,5 +1,5 @@
 -- What is written of a document is read again.
-use Rattle.std.proofs.Common.{◌≡◌, ℕ, ◌-◌, ◌<◌, ◌≤◌, Bool, true, false, List, [], ◌∷◌, ◌++◌, length, take, map, flat_map, codes, Option, None, Some, refl, ap, sym, subst, ◌∙◌, append_assoc, append-nil, arith}
+use Rattle.std.proofs.Common.{◌≡◌, ℕ, ◌-◌, ◌<◌, ◌≤◌, Bool, true, false, List, [], ◌∷◌, ◌++◌, length, take, map, flat_map, codes, Option, None, Some, refl, ap, sym, ◌∙◌, append_assoc, append-nil, arith}
 use Rattle.std.specs.Fmt.{decimal}
 use Rattle.std.specs.List.{fold, join_with_byte, AllByRecursion}
 use Rattle.std.proofs.Math.Seq.{take-append_seam}
@@ -22,9 +22,10 @@ use Rattle.acl_text.proofs.CutLaws.{cut-again}
 use Rattle.acl_text.proofs.Printed.{IsForeign}
 use Rattle.acl_grammar.specs.PortRanges.{IsPortRange}
 use Rattle.acl_grammar.specs.Rows.{Row, row, words_in}
-use Rattle.acl_grammar.specs.RowSteps.{row_in, rows_in}
+use Rattle.acl_grammar.specs.RowSteps.{row_in}
 use Rattle.acl_grammar.proofs.PortRangeLaws.{range-again}
 use Rattle.acl_grammar.proofs.RowLaws.{fold-again, fold-members}
+use Rattle.acl_grammar.specs.FamilyWords.{family_in}
 use Rattle.junos_lang.specs.declared.documents.Section.{Section}
 use Rattle.junos_lang.specs.declared.documents.JTerm.{JTerm}
 use Rattle.junos_lang.specs.declared.documents.JTest.{JTest}
@@ -34,8 +35,8 @@ use Rattle.junos_lang.specs.declared.conditions.Side.TheVariants.{Source, Destin
 use Rattle.junos_lang.specs.declared.conditions.Condition.TheVariants.{SourcePort, DestinationPort, IcmpType}
 use Rattle.junos_lang.specs.declared.drafts.DocumentDraft.{DocumentDraft}
 use Rattle.junos_lang.specs.Documents.{IsListed, IsTerm, IsSection, ports_fit, types_fit, test_fits, verdict_fits, family_word}
-use Rattle.junos_lang.specs.Texts.{closing, prefix_row, address_rows, protocol_of, list_row, list_rows, range_word, test_rows, condition_rows, from_rows, then_rows, note_row, note_rows, term_row, term_rows, head_rows, end_rows, section_rows, Spells}
-use Rattle.junos_lang.specs.ReadingSteps.{one_or_none, numbers_in, ranges_in, listed_prefix_in, note_in, no_term, with_prefix, with_list, with_word, with_pair, side_in, no_section, no_draft, take_outer, family_in, take_head, take_row, document_in}
+use Rattle.junos_lang.specs.Texts.{closing, prefix_row, address_rows, protocol_of, list_row, list_rows, range_word, test_rows, condition_rows, from_rows, then_rows, note_row, note_rows, term_row, term_rows, head_rows, end_rows, section_rows, text_of}
+use Rattle.junos_lang.specs.ReadingSteps.{one_or_none, numbers_in, ranges_in, listed_prefix_in, note_in, no_term, with_prefix, with_list, with_word, with_pair, side_in, no_section, no_draft, take_outer, take_head, take_row, document_in}
 use Rattle.junos_lang.proofs.SafeRows.{sections_safe}
 
 abbrev draft : List Section → Section → JTerm → Side → DocumentDraft
@@ -301,18 +302,8 @@ empty_row : (d : DocumentDraft) → take_row d (row_in []) ≡ d
 unfolding row_in take_row take_outer
 empty_row d = refl
 
-pub document_again : (bytes : List ℕ) (doc : List Section) → Spells bytes doc → document_in bytes ≡ doc
+pub document_again : (doc : List Section) → AllByRecursion IsSection doc → document_in (text_of doc) ≡ doc
 unfolding document_in
-document_again bytes doc h =
+document_again doc h =
     let end = at doc no_section no_term in
-    ap (λ t. (read no_draft (rows_in t)).sections) h.written
-    ∙ ap (λ d. d.sections) (fold-again take_row no_draft end (flat_map section_rows doc) (sections_safe doc h.valid.sections) (sections_read [] doc h.valid.sections) (empty_row end))
-
-pub read_all : (bytes : List ℕ) (draft doc : List Section) → draft ≡ document_in bytes → Spells bytes doc → Some draft ≡ Some doc
-read_all bytes draft doc e h = ap Some (e ∙ document_again bytes doc h)
-
-pub read_other : (bytes : List ℕ) (draft doc : List Section) → draft ≡ document_in bytes → (Spells bytes draft → ⊥) → Spells bytes doc → ⊥
-read_other bytes draft doc e n h = n (subst (Spells bytes) (sym (e ∙ document_again bytes doc h)) h)
-
-pub one_document : (bytes : List ℕ) (a b : List Section) → Spells bytes a → Spells bytes b → a ≡ b
-one_document bytes a b h k = sym (document_again bytes a h) ∙ document_again bytes b k
+    ap (λ d. d.sections) (fold-again take_row no_draft end (flat_map section_rows doc) (sections_safe doc h) (sections_read [] doc h) (empty_row end))

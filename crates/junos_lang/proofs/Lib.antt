@@ -1,5 +1,5 @@
+pub mod ConditionLaws
 pub mod DocumentLaws
-pub mod FromLaws
 pub mod JoinLaws
 pub mod SafeRows
 pub mod ValidityLaws

@@ -16,9 +16,10 @@ use Rattle.acl_grammar.specs.PrefixCheckSteps.{is_prefix_of}
 use Rattle.acl_grammar.proofs.DecisionLaws.{le_decides, prefix_decides, all_decides}
 use Rattle.acl_grammar.proofs.NamingLaws.{distinct_decides}
 use Rattle.acl_grammar.proofs.PortRangeLaws.{ranges_decide}
+use Rattle.acl_grammar.specs.RuleParts.{is_empty}
 use Rattle.junos_lang.specs.declared.documents.Section.{Section}
 use Rattle.junos_lang.specs.declared.documents.JTerm.{JTerm}
-use Rattle.junos_lang.specs.Documents.{is_empty, parts_fit, IsListed, IsTerm, term_names, IsSection, family_word, names_of, IsDocument}
+use Rattle.junos_lang.specs.Documents.{parts_fit, IsListed, IsTerm, term_names, IsSection, family_word, names_of, IsDocument}
 use Rattle.junos_lang.specs.ValiditySteps.{is_note, is_listed, are_named, are_addresses, are_ports, are_numbers, is_term, is_section, is_document}
 
 -- two names are the same where family and filter's name are

@@ -2,7 +2,7 @@
 -- Source: Juniper, Routing Policies, Firewall Filters, and Traffic Policers User Guide, "Firewall
 -- Filter Match Conditions for IPv4 Traffic", "Firewall Filter Match Conditions for IPv6 Traffic" and
 -- "Firewall Filter Terminating Actions".
-use Rattle.std.specs.Prelude.{◌≡◌, ℕ, ◌<◌, ◌≤◌, Bool, true, false, not, ◌&&◌, ◌||◌, ◌==◌, List, [], ◌∷◌, ◌++◌, map, codes, IfSome, is_none}
+use Rattle.std.specs.Prelude.{◌≡◌, ℕ, ◌<◌, ◌≤◌, Bool, true, false, not, ◌&&◌, ◌||◌, ◌==◌, List, [], ◌∷◌, ◌++◌, map, codes, IfSome, None, is_none}
 use Rattle.std.specs.List.{list_all, AllByRecursion, IsDistinct}
 use Rattle.std.specs.Str.{bytes_eq}
 use Rattle.acl_packet.specs.declared.addresses.Family.{Family}
@@ -15,12 +15,25 @@ use Rattle.acl_packet.specs.Packets.{icmp_of}
 use Rattle.acl_text.specs.Names.{is_name, is_filter_name, is_safe_text}
 use Rattle.acl_grammar.specs.Documents.{IsDocumentOf}
 use Rattle.acl_grammar.specs.PortRanges.{IsPortRange}
+use Rattle.acl_grammar.specs.RuleParts.{is_empty}
 use Rattle.junos_lang.specs.declared.documents.Section.{Section}
 use Rattle.junos_lang.specs.declared.documents.JTerm.{JTerm}
 
-abbrev pub is_empty : {A : Type 0} → List A → Bool
-is_empty [] = true
-is_empty (x ∷ xs) = false
+-- The term that has nothing but a name and a verdict.
+abbrev pub bare_term : List ℕ → Verdict → JTerm
+bare_term name verdict = record {
+  note = None;
+  name = name;
+  src = [];
+  dst = [];
+  protos = [];
+  sports = [];
+  dports = [];
+  itypes = [];
+  test = None;
+  syslog = false;
+  verdict = verdict;
+}
 
 -- The list has that one number.
 abbrev pub is_alone : List ℕ → ℕ → Bool

@@ -1,9 +1,9 @@
 -- Reading leniently: a draft that rows change, and that nothing refuses.
-use Rattle.std.specs.Prelude.{ℕ, ◌-◌, true, false, ◌==◌, if◌then◌else◌, List, [], ◌∷◌, ◌++◌, length, take, drop, flat_map, codes, Option, None, Some}
+use Rattle.std.specs.Prelude.{ℕ, ◌-◌, true, ◌==◌, if◌then◌else◌, List, [], ◌∷◌, ◌++◌, length, take, drop, flat_map, codes, Option, None, Some}
 use Rattle.std.specs.List.{fold, join_with_byte}
 use Rattle.std.specs.Str.{bytes_eq}
 use Rattle.acl_packet.specs.declared.addresses.Family.{Family}
-use Rattle.acl_packet.specs.declared.addresses.Family.TheVariants.{V4, V6}
+use Rattle.acl_packet.specs.declared.addresses.Family.TheVariants.{V4}
 use Rattle.acl_packet.specs.declared.addresses.Prefix.{Prefix}
 use Rattle.acl_packet.specs.declared.filtering.Verdict.TheVariants.{Accept, Deny, Reject, Reset}
 use Rattle.acl_packet.specs.Decimals.{number_in}
@@ -13,12 +13,14 @@ use Rattle.acl_text.specs.OptionSteps.{◌>>=◌}
 use Rattle.acl_text.specs.PortRanges.{ports_in}
 use Rattle.acl_grammar.specs.Rows.{Row}
 use Rattle.acl_grammar.specs.RowSteps.{rows_in}
+use Rattle.acl_grammar.specs.FamilyWords.{family_in}
 use Rattle.junos_lang.specs.declared.documents.Section.{Section}
 use Rattle.junos_lang.specs.declared.documents.JTerm.{JTerm}
 use Rattle.junos_lang.specs.declared.documents.JTest.TheVariants.{Established, Initial, Rst}
 use Rattle.junos_lang.specs.declared.conditions.Side.{Side}
 use Rattle.junos_lang.specs.declared.conditions.Side.TheVariants.{Source, Destination}
 use Rattle.junos_lang.specs.declared.drafts.DocumentDraft.{DocumentDraft}
+use Rattle.junos_lang.specs.Documents.{bare_term}
 
 -- ---- elements of lists
 
@@ -44,19 +46,7 @@ note_in words = join_with_byte 32 (take (length words - 2) (drop 1 words))
 -- ---- the parts of a term
 
 abbrev pub no_term : JTerm
-no_term = record {
-  note = None;
-  name = [];
-  src = [];
-  dst = [];
-  protos = [];
-  sports = [];
-  dports = [];
-  itypes = [];
-  test = None;
-  syslog = false;
-  verdict = Accept;
-}
+no_term = bare_term [] Accept
 
 abbrev pub with_prefix : JTerm → Side → Option Prefix → JTerm
 with_prefix t side None = t
@@ -110,9 +100,6 @@ end_section d = record d { sections = d.sections ++ d.section ∷ []; section = 
 unfoldable pub take_outer : DocumentDraft → List (List ℕ) → DocumentDraft
 take_outer d (w ∷ []) = if bytes_eq w (codes "}") then end_section d else d
 take_outer d words = d
-
-unfoldable pub family_in : List ℕ → Family
-family_in w = if bytes_eq w (codes "inet6") then V6 else V4
 
 abbrev pub take_family : DocumentDraft → List (List ℕ) → DocumentDraft
 take_family d (w ∷ family ∷ brace ∷ []) =

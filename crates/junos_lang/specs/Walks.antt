@@ -3,8 +3,7 @@
 -- Firewall Filters Evaluate Packets" (terms in order, the first whose conditions all hold decides; a
 -- term without a `from` part holds every packet; the implicit discard at the end of a filter) and
 -- "Firewall Filter Match Conditions Based on Bit-Field Values" (`tcp-established`, `tcp-initial`).
-use Rattle.std.specs.Prelude.{ℕ, Bool, true, not, ◌&&◌, ◌||◌, ◌==◌, nat_le, if◌then◌else◌, List, [], ◌∷◌, Option, None, Some}
-use Rattle.std.specs.List.{list_any}
+use Rattle.std.specs.Prelude.{ℕ, Bool, true, not, ◌&&◌, ◌||◌, if◌then◌else◌, List, [], ◌∷◌, Option, None, Some, nat_eq}
 use Rattle.acl_packet.specs.declared.addresses.Prefix.{Prefix}
 use Rattle.acl_packet.specs.declared.packets.Packet.{Packet}
 use Rattle.acl_packet.specs.declared.filtering.Outcome.{Outcome}
@@ -13,22 +12,21 @@ use Rattle.acl_packet.specs.Addresses.{has_address, same_family}
 use Rattle.acl_packet.specs.Outcomes.{unlogged}
 use Rattle.acl_packet.specs.Packets.{has_flag}
 use Rattle.acl_grammar.specs.Documents.{outcome_at}
+use Rattle.acl_grammar.specs.RuleParts.{has_port, set_holds}
 use Rattle.junos_lang.specs.declared.documents.Section.{Section}
 use Rattle.junos_lang.specs.declared.documents.JTerm.{JTerm}
 use Rattle.junos_lang.specs.declared.documents.JTest.{JTest}
 use Rattle.junos_lang.specs.declared.documents.JTest.TheVariants.{Established, Initial, Rst}
-use Rattle.junos_lang.specs.Documents.{is_empty}
 
 -- A condition holds where one of its values does. No values are no condition.
 abbrev pub address_holds : List Prefix → ℕ → Bool
-address_holds prefixes address = is_empty prefixes || list_any (λ p. has_address p address) prefixes
+address_holds prefixes address = set_holds has_address prefixes address
 
 abbrev pub number_holds : List ℕ → ℕ → Bool
-number_holds numbers number = is_empty numbers || list_any (λ n. n == number) numbers
+number_holds numbers number = set_holds nat_eq numbers number
 
 abbrev pub port_holds : List (ℕ × ℕ) → ℕ → Bool
-port_holds ranges port =
-    is_empty ranges || list_any (λ r. nat_le r.0 port && nat_le port r.1) ranges
+port_holds ranges port = set_holds has_port ranges port
 
 -- SYN is 2, RST 4 and ACK 16 (RFC 9293 section 3.1). `tcp-established` wants ACK or RST,
 -- `tcp-initial` SYN without ACK.

@@ -1,8 +1,16 @@
--- Whether a term has conditions.
-use Rattle.std.specs.Prelude.{Bool, ◌&&◌, is_none}
-use Rattle.junos_lang.specs.declared.documents.JTerm.{JTerm}
-use Rattle.junos_lang.specs.Documents.{is_empty}
+-- The conditions of a term, whose values are given as words.
+use Rattle.std.specs.Prelude.{ℕ, List, ◌++◌, Option}
+use Rattle.acl_packet.specs.declared.addresses.Family.{Family}
+use Rattle.acl_packet.specs.declared.addresses.Prefix.{Prefix}
+use Rattle.acl_grammar.specs.Rows.{Row}
+use Rattle.junos_lang.specs.declared.conditions.Condition.TheVariants.{SourcePort, DestinationPort, IcmpType}
+use Rattle.junos_lang.specs.declared.conditions.Side.TheVariants.{Source, Destination}
+use Rattle.junos_lang.specs.declared.documents.JTest.{JTest}
+use Rattle.junos_lang.specs.Texts.{address_rows, list_rows, protocol_of, test_rows}
 
-abbrev pub has_no_conditions : JTerm → Bool
-has_no_conditions t = (is_empty t.src && is_empty t.dst) && ((is_empty t.protos && is_empty t.itypes)
-    && ((is_empty t.sports && is_empty t.dports) && is_none t.test))
+abbrev pub value_rows : Family → List Prefix → List Prefix → List (List ℕ) → List (List ℕ)
+    → List (List ℕ) → List (List ℕ) → Option JTest → List Row
+value_rows family src dst protos sports dports itypes test =
+    address_rows Source src ++ (address_rows Destination dst
+    ++ (list_rows (protocol_of family) protos ++ (list_rows SourcePort sports
+    ++ (list_rows DestinationPort dports ++ (list_rows IcmpType itypes ++ test_rows test)))))

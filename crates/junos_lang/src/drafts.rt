@@ -1,10 +1,11 @@
 ghost use Rattle.std.specs.Prelude.{◌≡◌, ◌∷◌, [], OnOk, IfOk, Some};
 ghost use Rattle.acl_text.specs.Cuts.{views};
-ghost use Rattle.junos_lang.specs.ReadingSteps.{no_term, no_section, no_draft, numbers_in, ranges_in, listed_prefix_in, note_in, with_prefix, with_list, with_word, with_pair, side_in, end_term, end_section, take_outer, family_in, take_family, take_filter, take_head, take_term, take_part, take_address, take_row};
+ghost use Rattle.acl_grammar.specs.FamilyWords.{family_in};
+ghost use Rattle.junos_lang.specs.ReadingSteps.{no_term, no_section, no_draft, numbers_in, ranges_in, listed_prefix_in, note_in, with_prefix, with_list, with_word, with_pair, side_in, end_term, end_section, take_outer, take_family, take_filter, take_head, take_term, take_part, take_address, take_row};
 
 use crate::conditions::Side;
 use crate::documents::{Doc, JTerm, JTest, Section};
-use acl_grammar::{Draft, join_words};
+use acl_grammar::{Draft, family_of, join_words};
 use acl_packet::{Family, Prefix, Verdict};
 use acl_text::{Bytes, Items, Memory, read_ports, read_spelled_prefix, read_u8, split_at_byte};
 use std::alloc::Global;
@@ -58,19 +59,8 @@ impl DocumentDraft {
         ensures { OnOk result (self.new ≡ take_outer self.old (views words.now)) }
     {
         match words {
-            [word] => self.take_brace(alloc, word),
+            [word] if *word == b"}".as_slice() => self.end_section(alloc),
             _ => Ok(()),
-        }
-    }
-
-    #[tactic(auto, unfolding(crate::specs::ReadingSteps::take_outer))]
-    fn take_brace(&mut self, alloc: Global, word: &[u8]) -> Result<(), Memory>
-        ensures { OnOk result (self.new ≡ take_outer self.old (word.now ∷ [])) }
-    {
-        if word == b"}".as_slice() {
-            self.end_section(alloc)
-        } else {
-            Ok(())
         }
     }
 
@@ -249,17 +239,6 @@ fn no_section(alloc: Global) -> Section
         family: Family::V4,
         name: Bytes::new(alloc),
         terms: Items::new(alloc),
-    }
-}
-
-#[tactic(auto, unfolding(crate::specs::ReadingSteps::family_in))]
-fn family_of(word: &[u8]) -> Family
-    ensures { result ≡ family_in word.now }
-{
-    if word == b"inet6".as_slice() {
-        Family::V6
-    } else {
-        Family::V4
     }
 }
 

@@ -3,20 +3,18 @@ ghost use Rattle.acl_text.specs.Cuts.{views};
 ghost use Rattle.acl_text.specs.Output.{Puts};
 ghost use Rattle.acl_grammar.specs.Rows.{row, text_of_rows};
 ghost use Rattle.junos_lang.specs.Documents.{family_word};
-ghost use Rattle.junos_lang.specs.Texts.{address_rows, closing, condition_word, end_rows, head_rows, list_row, note_row, prefix_row, range_word, side_word, syslog_rows, term_row, test_words, then_rows, verdict_words};
+ghost use Rattle.junos_lang.specs.Texts.{closing, end_rows, head_rows, note_row, syslog_rows, term_row, then_rows, verdict_words};
 
-use crate::conditions::{Condition, Side};
-use crate::documents::JTest;
-use acl_grammar::{Each, Form, FreeText, Piece, Row, Rows, Word, Words};
-use acl_packet::{Family, Prefix, Verdict};
+use acl_grammar::{FreeText, Row, Rows, Word};
+use acl_packet::{Family, Verdict};
 use acl_text::{Out, PutFault};
 
-// A line of words that are as they are.
+/// A line of words that are as they are.
 #[derive(Drop)]
-struct Line<'a> {
-    indent: usize,
-    first: &'a [u8],
-    rest: &'a [&'a [u8]],
+pub(crate) struct Line<'a> {
+    pub(crate) indent: usize,
+    pub(crate) first: &'a [u8],
+    pub(crate) rest: &'a [&'a [u8]],
 }
 
 impl<'a> Rows for Line<'a> {
@@ -32,10 +30,10 @@ impl<'a> Rows for Line<'a> {
     }
 }
 
-// The row that ends a block.
+/// The row that ends a block.
 #[derive(Drop)]
-struct Closing {
-    indent: usize,
+pub(crate) struct Closing {
+    pub(crate) indent: usize,
 }
 
 impl Rows for Closing {
@@ -165,176 +163,8 @@ impl Rows for TermEnd {
     }
 }
 
-/// The row that begins the conditions of a term.
-#[derive(Drop)]
-pub struct FromHead;
-
-impl Rows for FromHead {
-    ghost rows = { λ h. row 16 (codes "from" ∷ codes "{" ∷ []) ∷ [] };
-
-    fn put_rows<O: Out>(&self, out: &mut O) -> Result<(), PutFault> {
-        let line = Line {
-            indent: 16,
-            first: b"from",
-            rest: &[b"{"],
-        };
-        line.put_rows(out)
-    }
-}
-
-/// The row that ends the conditions of a term.
-#[derive(Drop)]
-pub struct FromEnd;
-
-impl Rows for FromEnd {
-    ghost rows = { λ e. closing 16 ∷ [] };
-
-    fn put_rows<O: Out>(&self, out: &mut O) -> Result<(), PutFault> {
-        Closing { indent: 16 }.put_rows(out)
-    }
-}
-
-/// The rows of the addresses of a side. None where there are no addresses.
-#[derive(Drop)]
-pub struct AddressRows<'a> {
-    pub side: Side,
-    pub prefixes: &'a [Prefix],
-}
-
-impl<'a> Rows for AddressRows<'a> {
-    ghost rows = { λ a. address_rows a.side a.prefixes.now };
-
-    #[tactic(auto, unfolding(crate::specs::Texts::address_rows))]
-    fn put_rows<O: Out>(&self, out: &mut O) -> Result<(), PutFault> {
-        if self.prefixes.is_empty() {
-            return Ok(());
-        }
-        let head = Line {
-            indent: 20,
-            first: side_word(self.side),
-            rest: &[b"{"],
-        };
-        let prefixes = Each {
-            items: self.prefixes,
-            form: InBlock,
-        };
-        (head, (prefixes, Closing { indent: 20 })).put_rows(out)
-    }
-}
-
-fn side_word(side: Side) -> &'static [u8]
-    ensures { result.now ≡ side_word side }
-{
-    match side {
-        Side::Source => b"source-address",
-        Side::Destination => b"destination-address",
-    }
-}
-
-// The prefixes of a block, a row each.
-#[derive(Drop)]
-struct InBlock;
-
-impl Form<Prefix> for InBlock {
-    ghost item_rows = { λ f p. prefix_row p ∷ [] };
-
-    fn put_item<O: Out>(&self, prefix: &Prefix, out: &mut O) -> Result<(), PutFault> {
-        let none: &[&[u8]] = &[];
-        let row = Row {
-            indent: 24,
-            first: (*prefix, b";".as_slice()),
-            rest: none,
-        };
-        row.put_rows(out)
-    }
-}
-
-/// The row of a condition and its values.
-#[derive(Drop)]
-pub struct ListRow<W> {
-    pub condition: Condition,
-    pub values: W,
-}
-
-impl<W: Words + Copy> Rows for ListRow<W> {
-    ghost rows = { λ l. list_row l.condition (W.words l.values) ∷ [] };
-
-    #[tactic(auto, unfolding(crate::specs::Texts::list_row))]
-    fn put_rows<O: Out>(&self, out: &mut O) -> Result<(), PutFault> {
-        let open = Word {
-            piece: b"[".as_slice(),
-        };
-        let close = Word {
-            piece: b"];".as_slice(),
-        };
-        let row = Row {
-            indent: 20,
-            first: condition_word(self.condition),
-            rest: (open, (self.values, close)),
-        };
-        row.put_rows(out)
-    }
-}
-
-fn condition_word(condition: Condition) -> &'static [u8]
-    ensures { result.now ≡ condition_word condition }
-{
-    match condition {
-        Condition::Protocol => b"protocol",
-        Condition::NextHeader => b"next-header",
-        Condition::SourcePort => b"source-port",
-        Condition::DestinationPort => b"destination-port",
-        Condition::IcmpType => b"icmp-type",
-    }
-}
-
-/// Ports from a low one to a high one: the one port where the two are the same.
-#[derive(Clone, Copy)]
-pub struct PortRange {
-    pub low: u128,
-    pub high: u128,
-}
-
-impl Piece for PortRange {
-    ghost text = { λ r. range_word (r.low, r.high) };
-
-    fn put_into<O: Out>(&self, out: &mut O) -> Result<(), PutFault> {
-        let range = acl_grammar::PortRange {
-            low: self.low,
-            high: self.high,
-            separator: b'-',
-        };
-        range.put_into(out)
-    }
-}
-
-/// The row of a test of flags.
-#[derive(Drop)]
-pub struct TestRow {
-    pub test: JTest,
-}
-
-impl Rows for TestRow {
-    ghost rows = { λ t. row 20 (test_words t.test) ∷ [] };
-
-    fn put_rows<O: Out>(&self, out: &mut O) -> Result<(), PutFault> {
-        match self.test {
-            JTest::Established => put_word(b"tcp-established;", out),
-            JTest::Initial => put_word(b"tcp-initial;", out),
-            JTest::Rst => {
-                let line = Line {
-                    indent: 20,
-                    first: b"tcp-flags",
-                    rest: &[b"\"rst\";"],
-                };
-                line.put_rows(out)
-            }
-        }
-    }
-}
-
-// Puts the row of one word of a part of a term.
-fn put_word<O: Out>(word: &[u8], out: &mut O) -> Result<(), PutFault>
+/// Puts the row of one word of a part of a term.
+pub(crate) fn put_word<O: Out>(word: &[u8], out: &mut O) -> Result<(), PutFault>
     requires { IsTrue (O.is_open out.old) }
     ensures { Puts O.told O.faults O.refusals O.is_open O.keeps_rest out.old out.new
         (text_of_rows (row 20 (word.now ∷ []) ∷ [])) result }

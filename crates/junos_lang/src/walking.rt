@@ -5,42 +5,11 @@ ghost use Rattle.acl_packet.specs.Packets.{IsPacket};
 ghost use Rattle.junos_lang.specs.Walks.{address_holds, number_holds, port_holds, test_holds, addresses_hold, ports_hold, headers_hold, term_holds, decided_by, walk, section_outcome, outcome_of};
 
 use crate::documents::{Doc, JTerm, JTest, Section};
+use acl_grammar::{ACK, RST, SYN, admits_address, admits_port};
 use acl_packet::{Outcome, Packet, Prefix, Verdict, has_flag};
 
-const SYN: u8 = 2;
-
-const RST: u8 = 4;
-
-const ACK: u8 = 16;
-
-/// The number of sections of a document.
-pub fn sections(doc: &Doc) -> usize
-    ensures { result ≡ length doc.now }
-{
-    doc.as_slice().len()
-}
-
-/// What the section at that place, counted from 0, does to the packet. `None` exactly where there is
-/// no such section, or the packet's family is not the section's.
-pub fn outcome(doc: &Doc, which: usize, packet: &Packet) -> Option<Outcome>
-    requires { IsPacket packet.now }
-    ensures { result ≡ outcome_of doc.now which packet.now }
-{
-    section_outcome(doc.as_slice().get(which)?, packet)
-}
-
-fn section_outcome(section: &Section, packet: &Packet) -> Option<Outcome>
-    ensures { result ≡ section_outcome section.now packet.now }
-{
-    if section.family == packet.family {
-        Some(walk(section.terms.as_slice(), packet))
-    } else {
-        None
-    }
-}
-
 #[tactic(auto, unfolding(crate::specs::Walks::walk))]
-fn walk(terms: &[JTerm], packet: &Packet) -> Outcome
+pub(crate) fn walk(terms: &[JTerm], packet: &Packet) -> Outcome
     ensures { result ≡ walk terms.now packet.now }
 {
     for term in terms {
@@ -69,14 +38,15 @@ fn term_holds(term: &JTerm, packet: &Packet) -> bool
 fn addresses_hold(term: &JTerm, packet: &Packet) -> bool
     ensures { result ≡ addresses_hold term.now packet.now }
 {
-    address_holds(term.src.as_slice(), packet.src) && address_holds(term.dst.as_slice(), packet.dst)
+    admits_address(term.src.as_slice(), packet.src)
+        && admits_address(term.dst.as_slice(), packet.dst)
 }
 
 fn ports_hold(term: &JTerm, packet: &Packet) -> bool
     ensures { result ≡ ports_hold term.now packet.now }
 {
-    port_holds(term.sports.as_slice(), packet.sport)
-        && port_holds(term.dports.as_slice(), packet.dport)
+    admits_port(term.sports.as_slice(), packet.sport)
+        && admits_port(term.dports.as_slice(), packet.dport)
 }
 
 fn headers_hold(term: &JTerm, packet: &Packet) -> bool
@@ -85,18 +55,6 @@ fn headers_hold(term: &JTerm, packet: &Packet) -> bool
     number_holds(term.protos.as_slice(), packet.proto)
         && number_holds(term.itypes.as_slice(), packet.itype)
         && test_holds(term.test, packet.flags)
-}
-
-fn address_holds(prefixes: &[Prefix], address: u128) -> bool
-    ensures { result ≡ address_holds prefixes.now address }
-{
-    prefixes.is_empty() || have_address(prefixes, address)
-}
-
-fn have_address(prefixes: &[Prefix], address: u128) -> bool
-    ensures { result ≡ list_any (λ p. has_address p address) prefixes.now }
-{
-    prefixes.iter().any(|prefix| prefix.contains(address))
 }
 
 fn number_holds(numbers: &[u8], number: u8) -> bool
@@ -109,20 +67,6 @@ fn have_number(numbers: &[u8], number: u8) -> bool
     ensures { result ≡ list_any (λ n. n == number) numbers.now }
 {
     numbers.iter().any(|wanted| *wanted == number)
-}
-
-fn port_holds(ranges: &[(u16, u16)], port: u16) -> bool
-    ensures { result ≡ port_holds ranges.now port }
-{
-    ranges.is_empty() || have_port(ranges, port)
-}
-
-fn have_port(ranges: &[(u16, u16)], port: u16) -> bool
-    ensures { result ≡ list_any (λ r. nat_le r.0 port && nat_le port r.1) ranges.now }
-{
-    ranges
-        .iter()
-        .any(|range| range.0 <= port && port <= range.1)
 }
 
 fn test_holds(test: Option<JTest>, flags: u8) -> bool

@@ -1,5 +1,5 @@
 -- What is written of a document is read again.
-use Rattle.std.proofs.Common.{◌≡◌, ℕ, suc, ◌-◌, ◌^◌, ◌<◌, Bool, true, false, cond, not, ◌==◌, ℤ, pos, negsuc, List, [], ◌∷◌, ◌++◌, flat_map, codes, None, Some, option_map, option_and_then, unwrap_or, refl, ap, sym, subst, ◌∙◌, arith}
+use Rattle.std.proofs.Common.{◌≡◌, ℕ, suc, ◌-◌, ◌^◌, ◌<◌, Bool, true, false, cond, not, ◌==◌, ℤ, pos, negsuc, List, [], ◌∷◌, ◌++◌, flat_map, codes, None, Some, option_map, option_and_then, unwrap_or, refl, ap, sym, ◌∙◌, arith}
 use Rattle.std.specs.Fmt.{decimal, signed_decimal}
 use Rattle.std.specs.List.{fold, AllByRecursion, join_with_byte}
 use Rattle.std.specs.Option.{option_map_or}
@@ -18,15 +18,16 @@ use Rattle.acl_text.specs.SignedNumbers.{negative, below_zero_in, from_zero_in, 
 use Rattle.acl_text.proofs.CutLaws.{behind-again}
 use Rattle.acl_text.proofs.DigitLaws.{decimal-lacks}
 use Rattle.acl_grammar.specs.Rows.{Row}
-use Rattle.acl_grammar.specs.RowSteps.{row_in, rows_in}
+use Rattle.acl_grammar.specs.RowSteps.{row_in}
 use Rattle.acl_grammar.proofs.RowLaws.{fold-again, fold-members}
+use Rattle.acl_grammar.specs.FamilyWords.{families_in}
 use Rattle.nft_lang.specs.declared.documents.Section.{Section}
 use Rattle.nft_lang.specs.declared.documents.Item.{Item}
 use Rattle.nft_lang.specs.declared.documents.Item.TheVariants.{Remark, Rule as ARule}
 use Rattle.nft_lang.specs.declared.document_drafts.DocumentDraft.{DocumentDraft}
 use Rattle.nft_lang.specs.Documents.{IsItem, IsSection, fits_i32, table_name}
-use Rattle.nft_lang.specs.Texts.{hook_word, families_word, policy_word, priority_word, rule_words, item_rows, head_rows, end_rows, section_rows, Spells}
-use Rattle.nft_lang.specs.ReadingSteps.{no_section, no_draft, hook_in, families_in, table_in, priority_in, rule_in, item_in, with_item, take_four, take_outer, take_chain, take_inner, take_row, document_in}
+use Rattle.nft_lang.specs.Texts.{hook_word, families_word, policy_word, priority_word, rule_words, item_rows, head_rows, end_rows, section_rows, text_of}
+use Rattle.nft_lang.specs.ReadingSteps.{no_section, no_draft, hook_in, table_in, priority_in, rule_in, item_in, with_item, take_four, take_outer, take_chain, take_inner, take_row, document_in}
 use Rattle.nft_lang.proofs.RuleReadingLaws.{rule_again, up_to_there}
 use Rattle.nft_lang.proofs.SafeRows.{plain_word, BeginsRule, rule_begins, signed_lacks, sections_safe}
 
@@ -164,18 +165,8 @@ empty_row : (d : DocumentDraft) → take_row d (row_in []) ≡ d
 unfolding row_in take_row take_outer
 empty_row d = refl
 
-pub document_again : (bytes : List ℕ) (doc : List Section) → Spells bytes doc → document_in bytes ≡ doc
+pub document_again : (doc : List Section) → AllByRecursion IsSection doc → document_in (text_of doc) ≡ doc
 unfolding document_in
-document_again bytes doc h =
+document_again doc h =
     let end = at doc no_section in
-    ap (λ t. (read no_draft (rows_in t)).sections) h.written
-    ∙ ap (λ d. d.sections) (fold-again take_row no_draft end (flat_map section_rows doc) (sections_safe doc h.valid.sections) (sections_read [] doc h.valid.sections) (empty_row end))
-
-pub read_all : (bytes : List ℕ) (draft doc : List Section) → draft ≡ document_in bytes → Spells bytes doc → Some draft ≡ Some doc
-read_all bytes draft doc e h = ap Some (e ∙ document_again bytes doc h)
-
-pub read_other : (bytes : List ℕ) (draft doc : List Section) → draft ≡ document_in bytes → (Spells bytes draft → ⊥) → Spells bytes doc → ⊥
-read_other bytes draft doc e n h = n (subst (Spells bytes) (sym (e ∙ document_again bytes doc h)) h)
-
-pub one_document : (bytes : List ℕ) (a b : List Section) → Spells bytes a → Spells bytes b → a ≡ b
-one_document bytes a b h k = sym (document_again bytes a h) ∙ document_again bytes b k
+    ap (λ d. d.sections) (fold-again take_row no_draft end (flat_map section_rows doc) (sections_safe doc h) (sections_read [] doc h) (empty_row end))

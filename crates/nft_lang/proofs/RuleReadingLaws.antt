@@ -26,15 +26,16 @@ use Rattle.acl_text.proofs.DigitLaws.{decimal-lacks}
 use Rattle.acl_text.proofs.Printed.{IsForeign}
 use Rattle.acl_grammar.specs.PortRanges.{IsPortRange}
 use Rattle.acl_grammar.proofs.PortRangeLaws.{range-again, range-lacks}
+use Rattle.acl_grammar.specs.RuleParts.{log_words}
 use Rattle.nft_lang.specs.declared.documents.Rule.{Rule}
 use Rattle.nft_lang.specs.declared.documents.Flags.{Flags}
 use Rattle.nft_lang.specs.declared.documents.Flags.TheVariants.{Rst, SynNotAck}
-use Rattle.nft_lang.specs.declared.rule_drafts.End.TheVariants.{Source, Destination}
+use Rattle.acl_grammar.specs.declared.rule_parts.End.TheVariants.{Source, Destination}
 use Rattle.nft_lang.specs.declared.rule_drafts.Next.{Next}
 use Rattle.nft_lang.specs.declared.rule_drafts.Next.TheVariants.{Keyword, Addresses, Ports, Types}
 use Rattle.nft_lang.specs.declared.rule_drafts.RuleDraft.{RuleDraft}
 use Rattle.nft_lang.specs.Documents.{IsAddresses, IsType, IsRule, ports_fit, types_fit, flags_fit, verdict_fits}
-use Rattle.nft_lang.specs.Texts.{with_commas, set_words, ports_word, family_words, proto_words, address_word, icmp_word, port_word, flags_words, state_words, log_words, verdict_words, addresses_words, ports_words, types_words, ending_words, rule_words}
+use Rattle.nft_lang.specs.Texts.{with_commas, set_words, ports_word, family_words, proto_words, address_word, icmp_word, port_word, flags_words, state_words, verdict_words, addresses_words, ports_words, types_words, ending_words, rule_words}
 use Rattle.nft_lang.specs.ReadingSteps.{draft, no_rule, up_to, next_in, with_test, with_verdict, with_address, with_ports, with_type, in_set, take_address, take_ports, take_type, take_as, take_word, first_family, rule_in}
 
 abbrev read : RuleDraft → List (List ℕ) → RuleDraft

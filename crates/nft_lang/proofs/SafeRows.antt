@@ -25,6 +25,7 @@ use Rattle.acl_grammar.specs.RowSteps.{begins, IsRow, IsWord, AreWords, AreRows}
 use Rattle.acl_grammar.proofs.ListLaws.{all_flat, all_map}
 use Rattle.acl_grammar.proofs.PortRangeLaws.{range_word}
 use Rattle.acl_grammar.proofs.WordLaws.{word, decimal_word, prefix_word, text_words}
+use Rattle.acl_grammar.specs.RuleParts.{log_words}
 use Rattle.nft_lang.specs.declared.documents.Section.{Section}
 use Rattle.nft_lang.specs.declared.documents.Item.{Item}
 use Rattle.nft_lang.specs.declared.documents.Item.TheVariants.{Remark, Rule as ARule}
@@ -32,7 +33,7 @@ use Rattle.nft_lang.specs.declared.documents.Rule.{Rule}
 use Rattle.nft_lang.specs.declared.documents.Flags.{Flags}
 use Rattle.nft_lang.specs.declared.documents.Flags.TheVariants.{Rst, SynNotAck}
 use Rattle.nft_lang.specs.Documents.{IsAddresses, IsType, IsRule, IsItem, IsSection, fits_i32, table_name}
-use Rattle.nft_lang.specs.Texts.{with_commas, set_words, ports_word, family_words, proto_words, address_word, icmp_word, port_word, flags_words, state_words, log_words, verdict_words, addresses_words, ports_words, types_words, ending_words, rule_words, item_rows, hook_word, families_word, table_word, policy_word, priority_word, head_rows, end_rows, section_rows}
+use Rattle.nft_lang.specs.Texts.{with_commas, set_words, ports_word, family_words, proto_words, address_word, icmp_word, port_word, flags_words, state_words, verdict_words, addresses_words, ports_words, types_words, ending_words, rule_words, item_rows, hook_word, families_word, table_word, policy_word, priority_word, head_rows, end_rows, section_rows}
 
 -- ---- words that begin a rule, and no remark and no chain
 

@@ -1,6 +1,6 @@
 -- Documents of nftables rules, and which of them are valid.
 -- Source: nft(8), "TABLES", "CHAINS", "RULES", "SETS", "PAYLOAD EXPRESSIONS", "META EXPRESSIONS".
-use Rattle.std.specs.Prelude.{◌≡◌, ℕ, ◌^◌, ◌<◌, ◌≤◌, Bool, true, false, ◌&&◌, ◌||◌, ◌==◌, nat_eq, nat_le, nat_lt, ℤ, pos, negsuc, List, [], ◌∷◌, ◌++◌, map, codes, Option, None, Some, IfSome, is_none}
+use Rattle.std.specs.Prelude.{◌≡◌, ℕ, ◌^◌, ◌<◌, ◌≤◌, Bool, true, false, ◌&&◌, ◌||◌, nat_eq, nat_le, nat_lt, ℤ, pos, negsuc, List, ◌++◌, map, codes, Option, IfSome, is_none}
 use Rattle.std.specs.Fmt.{decimal}
 use Rattle.std.specs.List.{AllByRecursion, IsDistinct}
 use Rattle.acl_packet.specs.declared.addresses.Family.{Family}
@@ -9,10 +9,11 @@ use Rattle.acl_packet.specs.declared.addresses.Prefix.{Prefix}
 use Rattle.acl_packet.specs.declared.filtering.Verdict.{Verdict}
 use Rattle.acl_packet.specs.declared.filtering.Verdict.TheVariants.{Reset, Left}
 use Rattle.acl_packet.specs.Addresses.{IsPrefixOf, covers, has_address}
-use Rattle.acl_packet.specs.Packets.{has_ports, icmp_of}
+use Rattle.acl_packet.specs.Packets.{icmp_of}
 use Rattle.acl_text.specs.Names.{is_safe_text}
 use Rattle.acl_grammar.specs.Documents.{IsDocumentOf}
 use Rattle.acl_grammar.specs.PortRanges.{IsPortRange}
+use Rattle.acl_grammar.specs.RuleParts.{has_port_proto, is_empty, is_proto}
 use Rattle.nft_lang.specs.declared.documents.Section.{Section}
 use Rattle.nft_lang.specs.declared.documents.Item.{Item}
 use Rattle.nft_lang.specs.declared.documents.Item.TheVariants.{Remark, Rule as ARule}
@@ -46,19 +47,7 @@ IsType number = number ≤ 254
 
 -- ---- rules
 
-abbrev pub is_proto : Option ℕ → ℕ → Bool
-is_proto None number = false
-is_proto (Some proto) number = proto == number
-
-abbrev pub is_empty : {A : Type 0} → List A → Bool
-is_empty [] = true
-is_empty (x ∷ xs) = false
-
 -- Ports belong to TCP, UDP or SCTP, types to the family's ICMP, flags and `tcp reset` to TCP.
-abbrev pub has_port_proto : Option ℕ → Bool
-has_port_proto None = false
-has_port_proto (Some proto) = has_ports proto
-
 abbrev pub ports_fit : Rule → Bool
 ports_fit r = is_empty r.sports && is_empty r.dports || has_port_proto r.proto
 

@@ -3,3 +3,4 @@ pub mod ReadingSteps
 pub mod Texts
 pub mod ValiditySteps
 pub mod Walks
+pub mod WritingSteps

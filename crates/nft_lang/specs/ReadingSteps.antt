@@ -18,13 +18,14 @@ use Rattle.acl_text.specs.PortRanges.{ports_in}
 use Rattle.acl_text.specs.SignedNumbers.{signed_in}
 use Rattle.acl_grammar.specs.Rows.{Row}
 use Rattle.acl_grammar.specs.RowSteps.{rows_in}
+use Rattle.acl_grammar.specs.FamilyWords.{families_in}
 use Rattle.nft_lang.specs.declared.documents.Section.{Section}
 use Rattle.nft_lang.specs.declared.documents.Item.{Item}
 use Rattle.nft_lang.specs.declared.documents.Item.TheVariants.{Remark, Rule as ARule}
 use Rattle.nft_lang.specs.declared.documents.Rule.{Rule}
 use Rattle.nft_lang.specs.declared.documents.Flags.TheVariants.{Rst, SynNotAck}
-use Rattle.nft_lang.specs.declared.rule_drafts.End.{End}
-use Rattle.nft_lang.specs.declared.rule_drafts.End.TheVariants.{Source, Destination}
+use Rattle.acl_grammar.specs.declared.rule_parts.End.{End}
+use Rattle.acl_grammar.specs.declared.rule_parts.End.TheVariants.{Source, Destination}
 use Rattle.nft_lang.specs.declared.rule_drafts.Next.{Next}
 use Rattle.nft_lang.specs.declared.rule_drafts.Next.TheVariants.{Keyword, PacketFamily, Protocol, Addresses, Ports, Types}
 use Rattle.nft_lang.specs.declared.rule_drafts.RuleDraft.{RuleDraft}
@@ -153,12 +154,6 @@ hook_in w =
     if bytes_eq w (codes "output") then Output
     else if bytes_eq w (codes "forward") then Forward
     else Input
-
-unfoldable pub families_in : List ℕ → Families
-families_in w =
-    if bytes_eq w (codes "inet6") then Inet6
-    else if bytes_eq w (codes "mixed") then Mixed
-    else Inet
 
 unfoldable pub table_in : List ℕ → ℕ
 table_in w = option_map_or {U = ℕ} (λ digits. unwrap_or (number_in (2 ^ 32 - 1) digits) 0)

@@ -16,6 +16,7 @@ use Rattle.acl_text.specs.AddressTexts.{prefix_text}
 use Rattle.acl_grammar.specs.Documents.{IsSpelling}
 use Rattle.acl_grammar.specs.PortRanges.{range_text}
 use Rattle.acl_grammar.specs.Rows.{Row, row, words_in, text_of_rows}
+use Rattle.acl_grammar.specs.RuleParts.{log_words}
 use Rattle.nft_lang.specs.declared.documents.Section.{Section}
 use Rattle.nft_lang.specs.declared.documents.Item.{Item}
 use Rattle.nft_lang.specs.declared.documents.Item.TheVariants.{Remark, Rule as ARule}
@@ -83,10 +84,6 @@ unfoldable pub state_words : Bool → List (List ℕ)
 state_words true =
     codes "ct" ∷ codes "state" ∷ codes "{" ∷ codes "established," ∷ codes "related" ∷ codes "}" ∷ []
 state_words false = []
-
-unfoldable pub log_words : Bool → List (List ℕ)
-log_words true = codes "log" ∷ []
-log_words false = []
 
 -- No rule that is valid leaves a packet undecided.
 unfoldable pub verdict_words : Verdict → List (List ℕ)

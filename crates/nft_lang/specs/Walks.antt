@@ -1,36 +1,22 @@
 -- What the chains of a document do to a packet.
 -- Sources: nft(8), "CHAINS" (the policy of a base chain), "STATEMENTS" (verdicts end the walk over a
 -- chain's rules, `log` does not), "CONNTRACK EXPRESSIONS" (states); RFC 9293 section 3.1 for flags.
-use Rattle.std.specs.Prelude.{ℕ, Bool, true, false, not, ◌&&◌, ◌||◌, ◌==◌, nat_le, if◌then◌else◌, List, [], ◌∷◌, Option, None, Some, unwrap_or}
-use Rattle.std.specs.List.{list_any}
-use Rattle.acl_packet.specs.declared.packets.Conn.{Conn}
+use Rattle.std.specs.Prelude.{ℕ, Bool, true, not, ◌&&◌, ◌==◌, if◌then◌else◌, List, [], ◌∷◌, Option, None, Some, unwrap_or}
 use Rattle.acl_packet.specs.declared.packets.Packet.{Packet}
 use Rattle.acl_packet.specs.declared.filtering.Outcome.{Outcome}
 use Rattle.acl_packet.specs.declared.filtering.Verdict.{Verdict}
 use Rattle.acl_packet.specs.declared.filtering.Verdict.TheVariants.{Accept, Deny}
 use Rattle.acl_packet.specs.Addresses.{covers, has_address, same_family}
 use Rattle.acl_packet.specs.Outcomes.{unlogged}
-use Rattle.acl_packet.specs.Packets.{has_flag, is_tracked}
+use Rattle.acl_packet.specs.Packets.{has_flag}
 use Rattle.acl_grammar.specs.Documents.{outcome_at}
+use Rattle.acl_grammar.specs.RuleParts.{has_port, number_holds, set_holds, state_holds}
 use Rattle.nft_lang.specs.declared.documents.Section.{Section}
 use Rattle.nft_lang.specs.declared.documents.Item.{Item}
 use Rattle.nft_lang.specs.declared.documents.Item.TheVariants.{Remark, Rule as ARule}
 use Rattle.nft_lang.specs.declared.documents.Rule.{Rule}
 use Rattle.nft_lang.specs.declared.documents.Flags.{Flags}
 use Rattle.nft_lang.specs.declared.documents.Flags.TheVariants.{Rst, SynNotAck}
-use Rattle.nft_lang.specs.Documents.{is_empty}
-
--- A set holds a value that one of its elements holds. One without elements is not written, and holds
--- all.
-abbrev pub set_holds : {A : Type 0} → (A → ℕ → Bool) → List A → ℕ → Bool
-set_holds has elements value = is_empty elements || list_any (λ e. has e value) elements
-
-abbrev pub has_port : ℕ × ℕ → ℕ → Bool
-has_port ports port = nat_le ports.0 port && nat_le port ports.1
-
-abbrev pub proto_holds : Option ℕ → ℕ → Bool
-proto_holds None proto = true
-proto_holds (Some wanted) proto = proto == wanted
 
 -- SYN is 2, RST 4 and ACK 16.
 abbrev pub flags_hold : Option Flags → ℕ → Bool
@@ -38,14 +24,10 @@ flags_hold None flags = true
 flags_hold (Some Rst) flags = has_flag flags 4
 flags_hold (Some SynNotAck) flags = has_flag flags 2 && not (has_flag flags 16)
 
-abbrev pub state_holds : Bool → Conn → Bool
-state_holds true conn = is_tracked conn
-state_holds false conn = true
-
 -- A rule holds a packet where each of its parts does: family and protocol, addresses, ports, types,
 -- flags and state.
 abbrev pub protocol_holds : Rule → Packet → Bool
-protocol_holds r p = same_family r.family p.family && proto_holds r.proto p.proto
+protocol_holds r p = same_family r.family p.family && number_holds r.proto p.proto
 
 abbrev pub addresses_hold : Rule → Packet → Bool
 addresses_hold r p = set_holds has_address r.src p.src && set_holds has_address r.dst p.dst

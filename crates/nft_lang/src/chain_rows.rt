@@ -1,16 +1,18 @@
 ghost use Rattle.std.specs.Prelude.{◌≡◌, ◌∷◌, [], IsTrue, codes};
 ghost use Rattle.acl_text.specs.Output.{Puts};
 ghost use Rattle.acl_grammar.specs.Rows.{row, text_of_rows, words_in};
+ghost use Rattle.acl_grammar.specs.RuleParts.{log_words};
 ghost use Rattle.nft_lang.specs.declared.documents.Item.TheVariants.{Rule as ARule};
-ghost use Rattle.nft_lang.specs.Texts.{address_word, end_rows, ending_words, families_word, family_word, family_words, flags_words, head_rows, hook_word, icmp_word, addresses_words, ports_words, table_rows, target_row, table_row, start_row, chain_rows, types_words, item_rows, log_words, policy_word, port_word, priority_word, proto_words, rule_words, section_rows, state_words, table_word, verdict_words};
+ghost use Rattle.nft_lang.specs.WritingSteps.{rule_of_row};
+ghost use Rattle.nft_lang.specs.Texts.{address_word, end_rows, ending_words, families_word, family_word, family_words, flags_words, head_rows, hook_word, icmp_word, addresses_words, ports_words, table_rows, target_row, table_row, start_row, chain_rows, types_words, item_rows, policy_word, port_word, priority_word, proto_words, rule_words, section_rows, state_words, table_word, verdict_words};
 ghost use Rattle.nft_lang.specs.Documents.{table_name};
 
 use crate::documents::{Flags, Item, Rule, Section};
 use crate::rule_words::{
     Ending, FlagTest, PacketFamily, Protocol, address_word, icmp_word, port_word,
 };
-use crate::sets::{ElementSet, PortsWord, PrefixWord, TypeWord};
-use acl_grammar::{Each, Form, FreeText, Number, Piece, Row, Rows, Word, Words};
+use crate::sets::{ElementSet, PrefixWord, TypeWord};
+use acl_grammar::{Each, Form, FreeText, Number, Piece, RangeWords, Row, Rows, Word, Words};
 use acl_packet::{Families, Family, Hook, Prefix, Verdict};
 use acl_text::{Out, PutFault};
 use itoa::Buffer;
@@ -33,19 +35,7 @@ pub struct RuleRow<'a> {
 }
 
 impl<'a> Rows for RuleRow<'a> {
-    ghost rows = { λ r. item_rows r.families (ARule (record {
-      family = r.family;
-      proto = r.proto;
-      src = r.src.now;
-      dst = r.dst.now;
-      sports = r.sports.now;
-      dports = r.dports.now;
-      itypes = r.itypes.now;
-      flags = r.flags;
-      state = r.state;
-      log = r.log;
-      verdict = r.verdict;
-    })) };
+    ghost rows = { λ r. item_rows r.families (ARule (rule_of_row r)) };
 
     #[tactic(auto, unfolding(crate::specs::Texts::item_rows, crate::specs::Texts::rule_words))]
     fn put_rows<O: Out>(&self, out: &mut O) -> Result<(), PutFault> {
@@ -423,13 +413,13 @@ impl<'a> Words for PortSets<'a> {
             front: port_word(self.proto),
             key: b"sport".as_slice(),
             elements: self.sports,
-            form: PortsWord,
+            form: RangeWords { separator: b'-' },
         };
         let destination = ElementSet {
             front: port_word(self.proto),
             key: b"dport".as_slice(),
             elements: self.dports,
-            form: PortsWord,
+            form: RangeWords { separator: b'-' },
         };
         (source, destination).put_spaced(out)
     }
@@ -499,26 +489,22 @@ fn put_rule<O: Out>(families: Families, rule: &Rule, out: &mut O) -> Result<(), 
     row.put_rows(out)
 }
 
-/// The sections of a document.
-#[derive(Drop)]
-pub(crate) struct Sections;
-
-impl Form<Section> for Sections {
-    ghost item_rows = { λ f s. section_rows s };
+impl Rows for Section {
+    ghost rows = { section_rows };
 
     #[tactic(auto, unfolding(crate::specs::Texts::section_rows))]
-    fn put_item<O: Out>(&self, section: &Section, out: &mut O) -> Result<(), PutFault> {
+    fn put_rows<O: Out>(&self, out: &mut O) -> Result<(), PutFault> {
         let head = SectionHead {
-            hook: section.hook,
-            families: section.families,
-            number: section.number,
-            priority: section.priority,
-            accept: section.accept,
+            hook: self.hook,
+            families: self.families,
+            number: self.number,
+            priority: self.priority,
+            accept: self.accept,
         };
         let items = Each {
-            items: section.items.as_slice(),
+            items: self.items.as_slice(),
             form: OfFamilies {
-                families: section.families,
+                families: self.families,
             },
         };
         (head, (items, SectionEnd)).put_rows(out)

@@ -1,11 +1,12 @@
 ghost use Rattle.std.specs.Prelude.{◌≡◌, ◌∷◌, ◌-◌, ◌^◌, [], OnOk, IfOk};
 ghost use Rattle.acl_text.specs.Cuts.{views};
 ghost use Rattle.acl_text.specs.SignedNumbers.{below_zero_in, from_zero_in, signed_in};
-ghost use Rattle.nft_lang.specs.ReadingSteps.{no_section, hook_in, families_in, table_in, priority_in, begins_with, item_in, begin_section, with_number, with_chain, end_section, take_four, take_outer, take_chain, take_inner, take_row, no_draft};
+ghost use Rattle.acl_grammar.specs.FamilyWords.{families_in};
+ghost use Rattle.nft_lang.specs.ReadingSteps.{no_section, hook_in, table_in, priority_in, begins_with, item_in, begin_section, with_number, with_chain, end_section, take_four, take_outer, take_chain, take_inner, take_row, no_draft};
 
 use crate::documents::{Doc, Item, Section};
 use crate::rule_drafts::{rule_of, up_to};
-use acl_grammar::{Draft, join_words};
+use acl_grammar::{Draft, families_of, join_words};
 use acl_packet::{Families, Hook};
 use acl_text::{Items, Memory, behind, read_number};
 use std::alloc::Global;
@@ -49,23 +50,12 @@ impl DocumentDraft {
         ensures { OnOk result (self.new ≡ take_outer self.old (views words.now)) }
     {
         match words {
-            [word] => self.take_one(alloc, word),
+            [word] if *word == b"}".as_slice() => self.end_section(alloc),
             [word, _, third, fourth] => {
                 self.take_four(alloc, word, third, fourth);
                 Ok(())
             }
             _ => Ok(()),
-        }
-    }
-
-    #[tactic(auto, unfolding(crate::specs::ReadingSteps::take_outer))]
-    fn take_one(&mut self, alloc: Global, word: &[u8]) -> Result<(), Memory>
-        ensures { OnOk result (self.new ≡ take_outer self.old (word.now ∷ [])) }
-    {
-        if word == b"}".as_slice() {
-            self.end_section(alloc)
-        } else {
-            Ok(())
         }
     }
 
@@ -150,19 +140,6 @@ fn hook_of(word: &[u8]) -> Hook
         Hook::Forward
     } else {
         Hook::Input
-    }
-}
-
-#[tactic(auto, unfolding(crate::specs::ReadingSteps::families_in))]
-fn families_of(word: &[u8]) -> Families
-    ensures { result ≡ families_in word.now }
-{
-    if word == b"inet6".as_slice() {
-        Families::Inet6
-    } else if word == b"mixed".as_slice() {
-        Families::Mixed
-    } else {
-        Families::Inet
     }
 }
 

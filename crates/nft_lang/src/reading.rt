@@ -1,55 +1,61 @@
-ghost use Rattle.std.specs.Prelude.{◌≡◌, ◌↔◌, IfNone, IfOk, IfSome, IsTrue, List};
+ghost use Rattle.std.specs.Prelude.{◌≡◌, IfNone, IfOk, IfSome, List};
 ghost use Rattle.nft_lang.specs.declared.documents.Section.{Section};
+ghost use Rattle.nft_lang.specs.Documents.{IsSection, names_of};
 ghost use Rattle.nft_lang.specs.ReadingSteps.{document_in};
-ghost use Rattle.nft_lang.specs.Texts.{Spells, text_of};
+ghost use Rattle.nft_lang.specs.Texts.{Spells};
+ghost use Rattle.nft_lang.specs.Walks.{section_outcome};
 
-use crate::chain_rows::Sections;
 use crate::document_drafts::DocumentDraft;
 use crate::documents::{Doc, Section};
 use crate::validity::is_document;
-use acl_grammar::{Each, is_text_of, read_rows};
+use crate::walking::walk;
+use acl_grammar::{DocumentSection, read_document, read_rows};
+use acl_packet::{Outcome, Packet};
 use acl_text::Memory;
 use std::alloc::Global;
 
+impl DocumentSection for Section {
+    ghost is_section = { IsSection };
+
+    ghost names = { names_of };
+
+    ghost outcome = { section_outcome };
+
+    ghost document_in = { document_in };
+
+    #[tactic(auto, unfolding(crate::specs::ReadingSteps::document_in))]
+    fn read_leniently(alloc: Global, bytes: &[u8]) -> Result<Doc, Memory> {
+        let mut draft = DocumentDraft::new(alloc);
+        read_rows(alloc, &mut draft, bytes)?;
+        Ok(draft.sections)
+    }
+
+    fn are_document(_alloc: Global, sections: &[Section]) -> Result<bool, Memory> {
+        Ok(is_document(sections))
+    }
+
+    #[tactic(auto, unfolding(crate::specs::Walks::section_outcome))]
+    fn outcome(&self, packet: &Packet) -> Option<Outcome> {
+        if self.families.covers(packet.family) {
+            Some(walk(self.accept, self.items.as_slice(), packet))
+        } else {
+            None
+        }
+    }
+
+    #[tactic(auto, using(crate::proofs::DocumentLaws::document_again))]
+    fn a_document_is_read_again() {}
+
+    #[tactic(auto, using(crate::proofs::JoinLaws::joined_names))]
+    fn joined_documents_have_joined_names() {}
+}
+
 /// The document that the bytes spell: `Some` exactly where they spell one, and `None` exactly where
 /// they spell none. The bytes spell a document where it is valid and they are its text.
-#[tactic(auto, using(crate::proofs::DocumentLaws::read_other))]
 pub fn read(alloc: Global, bytes: &[u8]) -> Result<Option<Doc>, Memory>
     ensures some { IfOk result (λ o. IfSome o (λ doc. Spells bytes.now doc)) }
     ensures each { IfOk result (λ o. (doc : List Section) → Spells bytes.now doc → o ≡ Some doc) }
     ensures none { IfOk result (λ o. IfNone o ((doc : List Section) → Spells bytes.now doc → ⊥)) }
 {
-    let doc = read_leniently(alloc, bytes)?;
-    if is_spelled(bytes, doc.as_slice()) {
-        Ok(Some(doc))
-    } else {
-        Ok(None)
-    }
-}
-
-// What the bytes say, whatever they are.
-#[tactic(auto, unfolding(crate::specs::ReadingSteps::document_in))]
-fn read_leniently(alloc: Global, bytes: &[u8]) -> Result<Doc, Memory>
-    ensures { IfOk result (λ doc. doc ≡ document_in bytes.now) }
-{
-    let mut draft = DocumentDraft::new(alloc);
-    read_rows(alloc, &mut draft, bytes)?;
-    Ok(draft.sections)
-}
-
-// Whether the bytes spell the document.
-fn is_spelled(bytes: &[u8], sections: &[Section]) -> bool
-    ensures { IsTrue result ↔ Spells bytes.now sections.now }
-{
-    is_document(sections) && is_written(bytes, sections)
-}
-
-fn is_written(bytes: &[u8], sections: &[Section]) -> bool
-    ensures { IsTrue result ↔ (bytes.now ≡ text_of sections.now) }
-{
-    let rows = Each {
-        items: sections,
-        form: Sections,
-    };
-    is_text_of(bytes, &rows)
+    read_document(alloc, bytes)
 }

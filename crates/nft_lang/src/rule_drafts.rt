@@ -3,16 +3,10 @@ ghost use Rattle.acl_text.specs.Cuts.{views};
 ghost use Rattle.nft_lang.specs.ReadingSteps.{draft, no_rule, up_to, family_in, next_in, with_test, with_verdict, with_address, with_ports, with_type, in_set, take_address, take_ports, take_type, take_as, take_word, first_family, rule_in};
 
 use crate::documents::{Flags, Rule};
+use acl_grammar::End;
 use acl_packet::{Families, Family, Prefix, Verdict};
 use acl_text::{Items, Memory, read_ports, read_spelled_prefix, read_u8, split_at_byte};
 use std::alloc::Global;
-
-/// The end of the packets that addresses and ports are of.
-#[derive(Clone, Copy)]
-pub(crate) enum End {
-    Source,
-    Destination,
-}
 
 /// What the next word of a rule is.
 #[derive(Clone, Copy)]

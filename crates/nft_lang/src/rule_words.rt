@@ -1,8 +1,9 @@
 ghost use Rattle.std.specs.Prelude.{◌≡◌};
-ghost use Rattle.nft_lang.specs.Texts.{address_word, ending_words, family_word, family_words, flags_words, icmp_word, log_words, port_word, proto_words, state_words, verdict_words};
+ghost use Rattle.acl_grammar.specs.RuleParts.{log_words};
+ghost use Rattle.nft_lang.specs.Texts.{address_word, ending_words, family_word, family_words, flags_words, icmp_word, port_word, proto_words, state_words, verdict_words};
 
 use crate::documents::Flags;
-use acl_grammar::{Number, Word, Words, put_words};
+use acl_grammar::{LogWord, Number, Word, Words, put_words};
 use acl_packet::{Families, Family, Verdict};
 use acl_text::{Out, PutFault};
 
@@ -135,7 +136,7 @@ impl Words for Ending {
     #[tactic(auto, unfolding(crate::specs::Texts::ending_words))]
     fn put_spaced<O: Out>(&self, out: &mut O) -> Result<(), PutFault> {
         let state = State { state: self.state };
-        let log = Log { log: self.log };
+        let log = LogWord { log: self.log };
         let decision = Decision {
             verdict: self.verdict,
         };
@@ -158,24 +159,6 @@ impl Words for State {
                 &[b"ct", b"state", b"{", b"established,", b"related", b"}"],
                 out,
             )
-        } else {
-            Ok(())
-        }
-    }
-}
-
-#[derive(Drop)]
-struct Log {
-    log: bool,
-}
-
-impl Words for Log {
-    ghost words = { λ l. log_words l.log };
-
-    #[tactic(auto, unfolding(crate::specs::Texts::log_words))]
-    fn put_spaced<O: Out>(&self, out: &mut O) -> Result<(), PutFault> {
-        if self.log {
-            put_words(&[b"log"], out)
         } else {
             Ok(())
         }

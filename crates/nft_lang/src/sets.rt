@@ -19,23 +19,6 @@ impl WordForm<Prefix> for PrefixWord {
     }
 }
 
-/// Ports, from the first to the last.
-#[derive(Clone, Copy)]
-pub(crate) struct PortsWord;
-
-impl WordForm<(u16, u16)> for PortsWord {
-    ghost item_text = { λ f ports. ports_word ports };
-
-    fn put_item_into<O: Out>(&self, ports: &(u16, u16), out: &mut O) -> Result<(), PutFault> {
-        let range = PortRange {
-            low: u128::from(ports.0),
-            high: u128::from(ports.1),
-            separator: b'-',
-        };
-        range.put_into(out)
-    }
-}
-
 /// A type of ICMP.
 #[derive(Clone, Copy)]
 pub(crate) struct TypeWord;

@@ -1,11 +1,12 @@
 ghost use Rattle.std.specs.Prelude.{◌≡◌, ◌&&◌, ◌^◌, ◌↔◌, IsTrue, nat_le, nat_lt};
 ghost use Rattle.std.specs.List.{list_all};
-ghost use Rattle.nft_lang.specs.Documents.{IsDocument, fits_i32, flags_fit, has_port_proto, is_empty, is_proto, parts_fit, ports_fit, types_fit, verdict_fits};
+ghost use Rattle.acl_grammar.specs.RuleParts.{has_port_proto, is_empty, is_proto};
+ghost use Rattle.nft_lang.specs.Documents.{IsDocument, fits_i32, flags_fit, parts_fit, ports_fit, types_fit, verdict_fits};
 ghost use Rattle.nft_lang.specs.ValiditySteps.{are_addresses, are_ports, are_sections, are_types, has_sets, is_addresses, is_document, is_item, is_protocol, is_rule, is_section};
 
 use crate::documents::{Item, Rule, Section};
 use crate::overlaps::{are_apart, are_ports_apart, are_prefixes_apart};
-use acl_grammar::{are_port_ranges, is_prefix_of};
+use acl_grammar::{are_port_ranges, has_port_proto, is_empty, is_prefix_of, is_proto};
 use acl_packet::{Families, Family, Prefix, Verdict};
 use acl_text::is_safe_text;
 
@@ -129,12 +130,6 @@ fn ports_fit(rule: &Rule) -> bool
         || has_port_proto(rule.proto)
 }
 
-fn has_port_proto(proto: Option<u8>) -> bool
-    ensures { result ≡ has_port_proto proto }
-{
-    is_proto(proto, 6) || is_proto(proto, 17) || is_proto(proto, 132)
-}
-
 fn types_fit(rule: &Rule) -> bool
     ensures { result ≡ types_fit rule.now }
 {
@@ -154,23 +149,5 @@ fn verdict_fits(proto: Option<u8>, verdict: Verdict) -> bool
         Verdict::Reset => is_proto(proto, 6),
         Verdict::Left => false,
         Verdict::Accept | Verdict::Deny | Verdict::Reject => true,
-    }
-}
-
-fn is_proto(proto: Option<u8>, number: u8) -> bool
-    ensures { result ≡ is_proto proto number }
-{
-    match proto {
-        Some(proto) => proto == number,
-        None => false,
-    }
-}
-
-pub(crate) fn is_empty<T>(items: &[T]) -> bool
-    ensures { result ≡ is_empty items.now }
-{
-    match items {
-        [] => true,
-        [_, ..] => false,
     }
 }

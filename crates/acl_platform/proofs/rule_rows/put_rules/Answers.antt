@@ -1,17 +1,13 @@
-use Rattle.std.proofs.Common.{◌+◌, ◌++◌, drop, take, flat_map, refl, ap, ◌∙◌}
-use Rattle.std.proofs.lemmas.Result.{err_from_is_err_and}
-use Rattle.acl_text.proofs.Putting.{goes_on, stops}
+use Rattle.std.proofs.Common.{◌+◌, drop, flat_map}
 use Rattle.acl_grammar.specs.Rows.{text_of_rows}
-use Rattle.acl_grammar.proofs.PutLaws.{retold, each_split}
+use Rattle.acl_platform.proofs.TextFronts.{item-split, refused}
 use Rattle.acl_platform.proofs.rule_rows.put_rules.Goals as goal
 
 pub returns-in_err-put_rule : goal.returns-in_err-put_rule
 returns-in_err-put_rule g c =
-    let f = g.F.RuleForm.rule_rows c.args.form.now in
+    let rows = g.F.RuleForm.rule_rows c.args.form.now in
     let all = c.args.rules.now in
     let i = c.loop-rule.rule-index in
-    let rule = c.rule-item.result in
-    let rest = text_of_rows (flat_map f (drop (i + 1) all)) in
-    let p = err_from_is_err_and c.from_residual.result c.from_residual.ensures.1 in
-    let whole = ap (λ x. (text_of_rows (flat_map f (take i all)) ++ text_of_rows (f x)) ++ rest) c.rule-item.is ∙ each_split f all i rule c.loop-rule-test.true in
-    rw (p.1, p.2) (retold whole (stops rest (goes_on g.met.O.Out.rest_goes_on c.loop-rule.invariant c.in_err-put_rule.ensures) refl))
+    refused (text_of_rows (flat_map rows (drop (i + 1) all))) c.from_residual.result
+    (item-split rows all i c.rule-item.result c.rule-item.is c.loop-rule-test.true) g.met.O.Out.rest_goes_on
+    c.loop-rule.invariant c.in_err-put_rule.ensures c.from_residual.ensures.1

@@ -1,25 +1,21 @@
-use Rattle.std.proofs.Common.{ℕ, List, ◌++◌, ◌+◌, drop, take, flat_map, refl, ap, ◌∙◌}
-use Rattle.std.proofs.lemmas.Result.{err_from_is_err_and}
+use Rattle.std.proofs.Common.{ℕ, List, ◌++◌, ◌+◌, drop, take, flat_map, ap, ◌∙◌}
 use Rattle.std.proofs.lemmas.List.Elements.{recursion_from_All}
-use Rattle.acl_text.proofs.Putting.{goes_on, stops}
-use Rattle.acl_grammar.proofs.PutLaws.{retold}
+use Rattle.acl_grammar.proofs.PutLaws.{split_items}
 use Rattle.acl_platform.specs.declared.filters.Filter.{Filter}
 use Rattle.acl_platform.specs.Platforms.{IsAccepted}
 use Rattle.acl_platform.proofs.Sections.{all-decide, all-spelled}
-use Rattle.acl_platform.proofs.TextFronts.{front-split}
+use Rattle.acl_platform.proofs.TextFronts.{refused}
 use Rattle.acl_platform.proofs.writing.write_all.Goals as goal
 
 pub returns-in_err-emit-clause-puts : goal.returns-in_err-emit-clause-puts
 returns-in_err-emit-clause-puts g c =
     let p = g.P.Platform in
-    let f : Filter → List ℕ = λ x. p.text (p.section x) in
+    let text : Filter → List ℕ = λ f. p.text (p.section f) in
     let all = c.args.filters.now in
     let i = c.loop-filter.filter-index in
-    let filter = c.filter-item.result in
-    let rest = flat_map f (drop (i + 1) all) in
-    let q = err_from_is_err_and c.from_residual.result c.from_residual.ensures.1 in
-    let whole = ap (λ x. (flat_map f (take i all) ++ f x) ++ rest) c.filter-item.is ∙ front-split f all i filter c.loop-filter-test.true in
-    rw (q.1, q.2) (retold whole (stops rest (goes_on g.met.O.Out.rest_goes_on c.loop-filter.invariant c.in_err-emit.ensures) refl))
+    let behind = flat_map text (drop (i + 1) all) in
+    let whole = ap (λ f. (flat_map text (take i all) ++ text f) ++ behind) c.filter-item.is ∙ split_items text all i c.filter-item.result c.loop-filter-test.true in
+    refused behind c.from_residual.result whole g.met.O.Out.rest_goes_on c.loop-filter.invariant c.in_err-emit.ensures c.from_residual.ensures.1
 
 pub returns-in_err-emit-clause-spelled : goal.returns-in_err-emit-clause-spelled
 returns-in_err-emit-clause-spelled g c =

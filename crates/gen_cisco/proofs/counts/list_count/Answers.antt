@@ -5,7 +5,7 @@ use Rattle.gen_cisco.proofs.counts.list_count.Goals as goal
 
 pub returns-then-has_rule : goal.returns-then-has_rule
 returns-then-has_rule c =
-    c.combinations_in.ensures
+    c.count_rules.ensures
     ∙ ap (λ n. min n COUNT_END) (sym (rule-list c.args.family c.args.rules.now (sym c.has_rule.ensures ∙ c.if-has_rule.true)))
 
 pub returns-else-has_rule : goal.returns-else-has_rule

@@ -1,6 +1,5 @@
 use Rattle.std.proofs.Common.{◌<◌, ◌≤◌, List, length, subst, ◌∙◌, arith}
 use Rattle.acl_sets.specs.declared.sets.Range.{Range}
-use Rattle.gen_iptables.specs.Groups.{groups}
 use Rattle.gen_iptables.proofs.GroupSteps.{counted, none-left}
 use Rattle.gen_iptables.proofs.groups.count_each_group.Goals as goal
 

@@ -1,11 +1,11 @@
-use Rattle.std.proofs.Common.{◌-◌, ◌<◌, ◌≤◌, List, [], ◌∷◌, ◌++◌, length, take, drop, flat_map, append-nil, refl, ap, sym, subst, ◌∙◌}
-use Rattle.std.proofs.lemmas.Result.{err_from_is_err_and}
-use Rattle.acl_text.proofs.Putting.{goes_on, stops}
+use Rattle.std.proofs.Common.{◌≤◌, List, [], ◌∷◌, ◌++◌, length, drop, flat_map, append-nil, ap, sym, subst, ◌∙◌}
+use Rattle.acl_text.proofs.Putting.{goes_on}
 use Rattle.acl_grammar.specs.Rows.{text_of_rows}
 use Rattle.acl_grammar.proofs.PutLaws.{retold}
 use Rattle.acl_sets.specs.declared.sets.Range.{Range}
+use Rattle.acl_platform.proofs.TextFronts.{refused}
 use Rattle.gen_iptables.specs.Groups.{first_group, groups}
-use Rattle.gen_iptables.proofs.GroupSteps.{groups-from, more-text, no-groups, one-further, put-group, whole-text}
+use Rattle.gen_iptables.proofs.GroupSteps.{group-text, more-text, no-groups, one-further, whole-text}
 use Rattle.gen_iptables.proofs.groups.put_each_group.Goals as goal
 
 pub returns-in_err-put_group : goal.returns-in_err-put_group
@@ -15,35 +15,28 @@ returns-in_err-put_group g c =
     let from = c.loop-from.from in
     let end = c.group_end-end.result in
     let front = c.loop-from.invariant.1.0 in
-    let group = first_group (drop from rs) in
     let later = groups (drop end rs) in
-    let P : List Range → Type 0 = λ l. from < length l in
-    let inside = subst P c.ranges-ranges.ensures.list c.loop-from-test.true in
-    let own = ap (λ l. take (end - from) (drop from l)) c.ranges-ranges.ensures.list ∙ put-group rs from end c.group_end-end.ensures.computed in
-    let here = retold (ap (λ l. text_of_rows (f l)) own) c.in_err-put_group.ensures in
-    let p = err_from_is_err_and c.from_residual.result c.from_residual.ensures.1 in
-    let whole = whole-text f front group later
-    (one-further front group (groups-from rs from end inside c.group_end-end.ensures.computed) c.loop-from.invariant.1.1.0) in
-    rw (p.1, p.2) (retold whole (stops (text_of_rows (flat_map f later)) (goes_on g.met.O.Out.rest_goes_on c.loop-from.invariant.1.1.1 here) refl))
+    let here = retold (group-text f c.ranges-ranges.result.now rs from end c.ranges-ranges.ensures.list c.group_end-end.ensures.computed) c.in_err-put_group.ensures in
+    let whole = whole-text f front (first_group (drop from rs)) later
+    (one-further front c.ranges-ranges.result.now rs from end c.ranges-ranges.ensures.list c.loop-from-test.true c.group_end-end.ensures.computed c.loop-from.invariant.1.1.0) in
+    refused (text_of_rows (flat_map f later)) c.from_residual.result whole g.met.O.Out.rest_goes_on c.loop-from.invariant.1.1.1 here
+    c.from_residual.ensures.1
 
 pub loop-from-preserved : goal.loop-from-preserved
 loop-from-preserved g c =
     let f = g.F.GroupForm.group_rows c.args.form.now in
     let rs = c.args.set.now.ranges in
-    let from = c.loop-from.from in
-    let end = c.group_end-end.result in
-    let front = c.loop-from.invariant.1.0 in
-    let group = first_group (drop from rs) in
-    let P : List Range → Type 0 = λ l. from < length l in
-    let inside = subst P c.ranges-ranges.ensures.list c.loop-from-test.true in
-    let own = ap (λ l. take (end - from) (drop from l)) c.ranges-ranges.ensures.list ∙ put-group rs from end c.group_end-end.ensures.computed in
-    let here = retold (ap (λ l. text_of_rows (f l)) own) c.in_ok-put_group.ensures in (
-      c.group_end-end.ensures.greatest.within,
+    let at = c.loop-from in
+    let group = first_group (drop at.from rs) in
+    let ranges = c.ranges-ranges in
+    let end = c.group_end-end in
+    let here = retold (group-text f ranges.result.now rs at.from end.result ranges.ensures.list end.ensures.computed) c.in_ok-put_group.ensures in (
+      end.ensures.greatest.within,
       (
-        front ++ group ∷ [],
+        at.invariant.1.0 ++ group ∷ [],
         (
-          one-further front group (groups-from rs from end inside c.group_end-end.ensures.computed) c.loop-from.invariant.1.1.0,
-          retold (more-text f front group) (goes_on g.met.O.Out.rest_goes_on c.loop-from.invariant.1.1.1 here),
+          one-further at.invariant.1.0 ranges.result.now rs at.from end.result ranges.ensures.list c.loop-from-test.true end.ensures.computed at.invariant.1.1.0,
+          retold (more-text f at.invariant.1.0 group) (goes_on g.met.O.Out.rest_goes_on at.invariant.1.1.1 here),
         ),
       ),
     )

@@ -5,7 +5,8 @@ use Rattle.acl_grammar.proofs.PutLaws.{retold}
 use Rattle.acl_platform.specs.declared.rules.Rule.{Rule}
 use Rattle.junos_lang.specs.Documents.{family_word}
 use Rattle.junos_lang.specs.Texts.{end_rows, head_rows, term_rows}
-use Rattle.gen_junos.specs.Sections.{family_of, terms_of}
+use Rattle.acl_platform.specs.Families.{family_of}
+use Rattle.gen_junos.specs.Sections.{terms_of}
 use Rattle.gen_junos.proofs.Rows.{section-text}
 use Rattle.gen_junos.proofs.section_rows.put_section.Goals as goal
 

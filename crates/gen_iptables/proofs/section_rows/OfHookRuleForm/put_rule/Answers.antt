@@ -5,4 +5,4 @@ use Rattle.gen_iptables.proofs.section_rows.OfHookRuleForm.put_rule.Goals as goa
 pub returns : goal.returns
 returns g c =
     let f = c.args.self.now in
-    retold (chain-text f.hook f.family c.args.rule.now c.as_slice-name.ensures c.as_slice.ensures) c.put_rows.ensures
+    retold (chain-text f.hook f.family c.args.rule.now c.as_slice-name.ensures) c.put_rows.ensures

@@ -1,0 +1,42 @@
+-- Parts of rules that several languages have, and which packets they hold.
+use Rattle.std.specs.Prelude.{ℕ, Bool, true, false, ◌&&◌, ◌||◌, ◌==◌, nat_le, List, [], ◌∷◌, Option, None, Some, codes}
+use Rattle.std.specs.List.{list_any}
+use Rattle.acl_packet.specs.declared.packets.Conn.{Conn}
+use Rattle.acl_packet.specs.Packets.{has_ports, is_tracked}
+
+abbrev pub is_empty : {A : Type 0} → List A → Bool
+is_empty [] = true
+is_empty (x ∷ xs) = false
+
+-- A protocol is asked for, and is the one.
+abbrev pub is_proto : Option ℕ → ℕ → Bool
+is_proto None number = false
+is_proto (Some proto) number = proto == number
+
+-- A protocol is asked for, and has ports: TCP, UDP or SCTP.
+abbrev pub has_port_proto : Option ℕ → Bool
+has_port_proto None = false
+has_port_proto (Some proto) = has_ports proto
+
+-- A part that is not written holds every packet.
+abbrev pub number_holds : Option ℕ → ℕ → Bool
+number_holds None number = true
+number_holds (Some wanted) number = number == wanted
+
+-- A list holds a value that one of its elements holds. One without elements is not written, and holds
+-- all.
+abbrev pub set_holds : {A : Type 0} → (A → ℕ → Bool) → List A → ℕ → Bool
+set_holds has elements value = is_empty elements || list_any (λ e. has e value) elements
+
+abbrev pub has_port : ℕ × ℕ → ℕ → Bool
+has_port ports port = nat_le ports.0 port && nat_le port ports.1
+
+-- Where a known connection is asked for, the packet belongs to one.
+abbrev pub state_holds : Bool → Conn → Bool
+state_holds true conn = is_tracked conn
+state_holds false conn = true
+
+-- The word for a log, where one is asked for.
+unfoldable pub log_words : Bool → List (List ℕ)
+log_words true = codes "log" ∷ []
+log_words false = []

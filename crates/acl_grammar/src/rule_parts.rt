@@ -1,0 +1,115 @@
+ghost use Rattle.std.specs.Prelude.{◌≡◌};
+ghost use Rattle.std.specs.List.{list_any};
+ghost use Rattle.acl_packet.specs.Addresses.{has_address};
+ghost use Rattle.acl_grammar.specs.RuleParts.{has_port, has_port_proto, is_empty, is_proto, log_words, number_holds, set_holds, state_holds};
+
+use crate::pieces::{Words, put_words};
+use acl_packet::{Conn, Prefix};
+use acl_text::{Out, PutFault};
+
+/// The bit of SYN among TCP's flags (RFC 9293 section 3.1).
+pub const SYN: u8 = 2;
+
+/// The bit of RST.
+pub const RST: u8 = 4;
+
+/// The bit of ACK.
+pub const ACK: u8 = 16;
+
+/// The end of the packets that addresses and ports are of.
+#[derive(Clone, Copy)]
+pub enum End {
+    Source,
+    Destination,
+}
+
+/// Whether the protocol is asked for.
+pub fn is_proto(proto: Option<u8>, number: u8) -> bool
+    ensures { result ≡ is_proto proto number }
+{
+    match proto {
+        Some(proto) => proto == number,
+        None => false,
+    }
+}
+
+/// Whether a protocol that has ports is asked for: TCP, UDP or SCTP.
+pub fn has_port_proto(proto: Option<u8>) -> bool
+    ensures { result ≡ has_port_proto proto }
+{
+    is_proto(proto, 6) || is_proto(proto, 17) || is_proto(proto, 132)
+}
+
+/// Whether the number is the wanted one, where one is wanted.
+pub fn number_holds(wanted: Option<u8>, number: u8) -> bool
+    ensures { result ≡ number_holds wanted number }
+{
+    match wanted {
+        Some(wanted) => number == wanted,
+        None => true,
+    }
+}
+
+/// Whether one of the prefixes has the address, or none is written.
+pub fn admits_address(prefixes: &[Prefix], address: u128) -> bool
+    ensures { result ≡ set_holds has_address prefixes.now address }
+{
+    is_empty(prefixes) || any_has_address(prefixes, address)
+}
+
+fn any_has_address(prefixes: &[Prefix], address: u128) -> bool
+    ensures { result ≡ list_any (λ e. has_address e address) prefixes.now }
+{
+    prefixes.iter().any(|prefix| prefix.contains(address))
+}
+
+/// Whether one of the ranges has the port, or none is written.
+pub fn admits_port(ranges: &[(u16, u16)], port: u16) -> bool
+    ensures { result ≡ set_holds has_port ranges.now port }
+{
+    is_empty(ranges) || any_has_port(ranges, port)
+}
+
+fn any_has_port(ranges: &[(u16, u16)], port: u16) -> bool
+    ensures { result ≡ list_any (λ e. has_port e port) ranges.now }
+{
+    ranges
+        .iter()
+        .any(|range| range.0 <= port && port <= range.1)
+}
+
+/// Whether nothing is written.
+pub fn is_empty<T>(items: &[T]) -> bool
+    ensures { result ≡ is_empty items.now }
+{
+    items.is_empty()
+}
+
+/// Whether the packet belongs to a known connection, where one is asked for.
+pub fn state_holds(wanted: bool, conn: Conn) -> bool
+    ensures { result ≡ state_holds wanted conn }
+{
+    match (wanted, conn) {
+        (true, Conn::New | Conn::Invalid) => false,
+        _ => true,
+    }
+}
+
+/// The word `log`, where a log is asked for.
+#[derive(Clone, Copy)]
+pub struct LogWord {
+    pub log: bool,
+}
+
+impl Words for LogWord {
+    ghost words = { λ l. log_words l.log };
+
+    #[tactic(auto, unfolding(crate::specs::RuleParts::log_words))]
+    fn put_spaced<O: Out>(&self, out: &mut O) -> Result<(), PutFault> {
+        if self.log {
+            put_words(&[b"log"], out)
+        } else {
+            Ok(())
+        }
+    }
+}

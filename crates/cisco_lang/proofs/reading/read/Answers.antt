@@ -1,5 +1,0 @@
-use Rattle.cisco_lang.proofs.DocumentLaws.{read_all}
-use Rattle.cisco_lang.proofs.reading.read.Goals as goal
-
-pub returns-then-branch-clause-each : goal.returns-then-branch-clause-each
-returns-then-branch-clause-each c = λ doc h. read_all c.args.bytes.now c.in_ok-doc.doc doc c.in_ok-doc.ensures h

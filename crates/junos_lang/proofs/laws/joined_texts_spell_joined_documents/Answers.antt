@@ -1,5 +1,0 @@
-use Rattle.junos_lang.proofs.JoinLaws.{joined_documents}
-use Rattle.junos_lang.proofs.laws.joined_texts_spell_joined_documents.Goals as goal
-
-pub returns : goal.returns
-returns c = joined_documents

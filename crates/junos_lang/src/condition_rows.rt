@@ -1,0 +1,336 @@
+ghost use Rattle.std.specs.Prelude.{◌≡◌, ◌∷◌, [], codes};
+ghost use Rattle.acl_grammar.specs.Rows.{row};
+ghost use Rattle.acl_grammar.specs.RuleParts.{is_empty};
+ghost use Rattle.junos_lang.specs.Texts.{address_rows, closing, condition_word, from_rows, list_row, list_rows, prefix_row, range_word, side_word, test_rows, test_words};
+ghost use Rattle.junos_lang.specs.WritingSteps.{value_rows};
+
+use crate::conditions::{Condition, Side};
+use crate::documents::JTest;
+use crate::filter_rows::{Closing, Line, put_word};
+use acl_grammar::{Each, EachWord, Form, Piece, Row, Rows, Word, WordForm, Words};
+use acl_packet::{Family, Prefix};
+use acl_text::{Out, PutFault};
+
+/// The values of a condition, each of which is a word.
+pub trait Values: Words {
+    /// Whether there are none.
+    fn are_none(&self) -> bool
+        ensures { result ≡ is_empty (Self.words self.now) };
+}
+
+/// The items of a list.
+impl<'a, T, F: WordForm<T>> Values for EachWord<'a, T, F> {
+    fn are_none(&self) -> bool {
+        self.items.is_empty()
+    }
+}
+
+/// The conditions of a term in their block, or nothing where it has none.
+///
+/// A list without values is no condition.
+#[derive(Drop)]
+pub struct FromPart<'a, N, P> {
+    pub family: Family,
+    pub src: &'a [Prefix],
+    pub dst: &'a [Prefix],
+    pub protos: N,
+    pub sports: P,
+    pub dports: P,
+    pub itypes: N,
+    pub test: Option<JTest>,
+}
+
+impl<'a, N: Values + Copy, P: Values + Copy> Rows for FromPart<'a, N, P> {
+    ghost rows = { λ f. from_rows (value_rows f.family f.src.now f.dst.now (N.words f.protos)
+        (P.words f.sports) (P.words f.dports) (N.words f.itypes) f.test) };
+
+    fn put_rows<O: Out>(&self, out: &mut O) -> Result<(), PutFault> {
+        let sources = AddressRows {
+            side: Side::Source,
+            prefixes: self.src,
+        };
+        let destinations = AddressRows {
+            side: Side::Destination,
+            prefixes: self.dst,
+        };
+        let protocols = ListRows {
+            condition: Condition::protocol_of(self.family),
+            values: self.protos,
+        };
+        let source_ports = ListRows {
+            condition: Condition::SourcePort,
+            values: self.sports,
+        };
+        let destination_ports = ListRows {
+            condition: Condition::DestinationPort,
+            values: self.dports,
+        };
+        let types = ListRows {
+            condition: Condition::IcmpType,
+            values: self.itypes,
+        };
+        let test = TestRows { test: self.test };
+        let ports = (source_ports, (destination_ports, (types, test)));
+        let conditions = (sources, (destinations, (protocols, ports)));
+        Block { conditions }.put_rows(out)
+    }
+}
+
+// Rows of which there may be none.
+trait Conditions: Rows {
+    fn is_none(&self) -> bool
+        ensures { result ≡ is_empty (Self.rows self.now) };
+}
+
+impl<A: Conditions, B: Conditions> Conditions for (A, B) {
+    fn is_none(&self) -> bool {
+        self.0.is_none() && self.1.is_none()
+    }
+}
+
+// Conditions in a block, or nothing where there are none.
+#[derive(Drop)]
+struct Block<C> {
+    conditions: C,
+}
+
+impl<C: Conditions + Copy> Rows for Block<C> {
+    ghost rows = { λ b. from_rows (C.rows b.conditions) };
+
+    fn put_rows<O: Out>(&self, out: &mut O) -> Result<(), PutFault> {
+        if self.conditions.is_none() {
+            Ok(())
+        } else {
+            (FromHead, (self.conditions, FromEnd)).put_rows(out)
+        }
+    }
+}
+
+// The row that begins the conditions of a term.
+#[derive(Drop)]
+struct FromHead;
+
+impl Rows for FromHead {
+    ghost rows = { λ h. row 16 (codes "from" ∷ codes "{" ∷ []) ∷ [] };
+
+    fn put_rows<O: Out>(&self, out: &mut O) -> Result<(), PutFault> {
+        let line = Line {
+            indent: 16,
+            first: b"from",
+            rest: &[b"{"],
+        };
+        line.put_rows(out)
+    }
+}
+
+// The row that ends the conditions of a term.
+#[derive(Drop)]
+struct FromEnd;
+
+impl Rows for FromEnd {
+    ghost rows = { λ e. closing 16 ∷ [] };
+
+    fn put_rows<O: Out>(&self, out: &mut O) -> Result<(), PutFault> {
+        Closing { indent: 16 }.put_rows(out)
+    }
+}
+
+// The rows of the addresses of a side. None where there are no addresses.
+#[derive(Clone, Copy)]
+struct AddressRows<'a> {
+    side: Side,
+    prefixes: &'a [Prefix],
+}
+
+impl<'a> Rows for AddressRows<'a> {
+    ghost rows = { λ a. address_rows a.side a.prefixes.now };
+
+    #[tactic(auto, unfolding(crate::specs::Texts::address_rows))]
+    fn put_rows<O: Out>(&self, out: &mut O) -> Result<(), PutFault> {
+        if self.prefixes.is_empty() {
+            return Ok(());
+        }
+        let head = Line {
+            indent: 20,
+            first: side_word(self.side),
+            rest: &[b"{"],
+        };
+        let prefixes = Each {
+            items: self.prefixes,
+            form: InBlock,
+        };
+        (head, (prefixes, Closing { indent: 20 })).put_rows(out)
+    }
+}
+
+impl<'a> Conditions for AddressRows<'a> {
+    #[tactic(auto, using(crate::proofs::ConditionLaws::no_addresses))]
+    fn is_none(&self) -> bool {
+        self.prefixes.is_empty()
+    }
+}
+
+fn side_word(side: Side) -> &'static [u8]
+    ensures { result.now ≡ side_word side }
+{
+    match side {
+        Side::Source => b"source-address",
+        Side::Destination => b"destination-address",
+    }
+}
+
+// The prefixes of a block, a row each.
+#[derive(Drop)]
+struct InBlock;
+
+impl Form<Prefix> for InBlock {
+    ghost item_rows = { λ f p. prefix_row p ∷ [] };
+
+    fn put_item<O: Out>(&self, prefix: &Prefix, out: &mut O) -> Result<(), PutFault> {
+        let none: &[&[u8]] = &[];
+        let row = Row {
+            indent: 24,
+            first: (*prefix, b";".as_slice()),
+            rest: none,
+        };
+        row.put_rows(out)
+    }
+}
+
+// The row of a condition and its values. None where there are no values.
+#[derive(Clone, Copy)]
+struct ListRows<V> {
+    condition: Condition,
+    values: V,
+}
+
+impl<V: Values + Copy> Rows for ListRows<V> {
+    ghost rows = { λ l. list_rows l.condition (V.words l.values) };
+
+    fn put_rows<O: Out>(&self, out: &mut O) -> Result<(), PutFault> {
+        if self.values.are_none() {
+            Ok(())
+        } else {
+            let row = ListRow {
+                condition: self.condition,
+                values: self.values,
+            };
+            row.put_rows(out)
+        }
+    }
+}
+
+impl<V: Values + Copy> Conditions for ListRows<V> {
+    #[tactic(auto, using(crate::proofs::ConditionLaws::no_values))]
+    fn is_none(&self) -> bool {
+        self.values.are_none()
+    }
+}
+
+// The row of a condition and its values.
+#[derive(Drop)]
+struct ListRow<W> {
+    condition: Condition,
+    values: W,
+}
+
+impl<W: Words + Copy> Rows for ListRow<W> {
+    ghost rows = { λ l. list_row l.condition (W.words l.values) ∷ [] };
+
+    #[tactic(auto, unfolding(crate::specs::Texts::list_row))]
+    fn put_rows<O: Out>(&self, out: &mut O) -> Result<(), PutFault> {
+        let open = Word {
+            piece: b"[".as_slice(),
+        };
+        let close = Word {
+            piece: b"];".as_slice(),
+        };
+        let row = Row {
+            indent: 20,
+            first: condition_word(self.condition),
+            rest: (open, (self.values, close)),
+        };
+        row.put_rows(out)
+    }
+}
+
+fn condition_word(condition: Condition) -> &'static [u8]
+    ensures { result.now ≡ condition_word condition }
+{
+    match condition {
+        Condition::Protocol => b"protocol",
+        Condition::NextHeader => b"next-header",
+        Condition::SourcePort => b"source-port",
+        Condition::DestinationPort => b"destination-port",
+        Condition::IcmpType => b"icmp-type",
+    }
+}
+
+/// Ports from a low one to a high one: the one port where the two are the same.
+#[derive(Clone, Copy)]
+pub struct PortRange {
+    pub low: u128,
+    pub high: u128,
+}
+
+impl Piece for PortRange {
+    ghost text = { λ r. range_word (r.low, r.high) };
+
+    fn put_into<O: Out>(&self, out: &mut O) -> Result<(), PutFault> {
+        let range = acl_grammar::PortRange {
+            low: self.low,
+            high: self.high,
+            separator: b'-',
+        };
+        range.put_into(out)
+    }
+}
+
+// The row of a test of flags, where there is one.
+#[derive(Clone, Copy)]
+struct TestRows {
+    test: Option<JTest>,
+}
+
+impl Rows for TestRows {
+    ghost rows = { λ t. test_rows t.test };
+
+    #[tactic(auto, unfolding(crate::specs::Texts::test_rows))]
+    fn put_rows<O: Out>(&self, out: &mut O) -> Result<(), PutFault> {
+        match self.test {
+            Some(test) => TestRow { test }.put_rows(out),
+            None => Ok(()),
+        }
+    }
+}
+
+impl Conditions for TestRows {
+    #[tactic(auto, unfolding(crate::specs::Texts::test_rows))]
+    fn is_none(&self) -> bool {
+        self.test.is_none()
+    }
+}
+
+#[derive(Drop)]
+struct TestRow {
+    test: JTest,
+}
+
+impl Rows for TestRow {
+    ghost rows = { λ t. row 20 (test_words t.test) ∷ [] };
+
+    fn put_rows<O: Out>(&self, out: &mut O) -> Result<(), PutFault> {
+        match self.test {
+            JTest::Established => put_word(b"tcp-established;", out),
+            JTest::Initial => put_word(b"tcp-initial;", out),
+            JTest::Rst => {
+                let line = Line {
+                    indent: 20,
+                    first: b"tcp-flags",
+                    rest: &[b"\"rst\";"],
+                };
+                line.put_rows(out)
+            }
+        }
+    }
+}
