@@ -1,62 +1,44 @@
 ghost use Rattle.std.specs.Prelude.{◌≡◌, IfOk, None};
 ghost use Rattle.acl_host.specs.MemoryTrees.{contents};
 
+use crate::words::words_of;
 use acl_host::{Clock, Day, FixedClock, MemSink, MemTree, Op, Sink, Tree};
 use acl_text::Memory;
 use aclgen_core::{aclgen, status_of};
-use std::alloc::{AllocError, Global};
+use std::alloc::Global;
 use std::process::Abort;
 use std::test::Fail;
 
 const NAMES: &[u8] =
     b"WEB = 192.0.2.10\nLOW = 10.0.0.0/25\nHIGH = 10.0.0.128/25\nSIX = 2001:db8::10\n";
 
-// The words of a run, and which call of the outside fails in it: of the tree the one of this kind and number.
+// The words of a run, in two parts, and which call of the outside fails in it: of the tree the one of this kind and
+// number.
 #[derive(Clone, Copy)]
 struct Run {
     words: &'static str,
+    more: &'static str,
     clock: bool,
     tree: Option<(Op, u32)>,
     out: bool,
     err: bool,
 }
 
-const DATED: &str =
-    "--policy_file pol/a.pol --definitions_directory def --output_directory out --date 2026-01-15";
-
-const UNDATED: &str = "--policy_file pol/a.pol --definitions_directory def --output_directory out";
-
-const EMPTY_DATE: &str =
-    "--policy_file pol/a.pol --definitions_directory def --output_directory out --date ";
-
-const WRONG_DATE: &str =
-    "--policy_file pol/a.pol --definitions_directory def --output_directory out --date 2026-02-30";
-
-const NO_POLICY: &str =
-    "--policy_file pol/b.pol --definitions_directory def --output_directory out --date 2026-01-15";
-
-const EDGE_WORDS: &str =
-    "--policy_file pol/edge.pol --definitions_directory def --output_directory out --date 2026-01-15";
-
-const SHADE_CHECK: &str =
-    "--policy_file pol/a.pol --definitions_directory def --output_directory out --date 2026-01-15 --shade_check";
-
 const PLAIN: Run = Run {
-    words: DATED,
+    words: " --policy_file pol/a.pol --definitions_directory def --output_directory out",
+    more: " --date 2026-01-15",
     clock: true,
     tree: None,
     out: false,
     err: false,
 };
 
-// The words of a text; the last one may be empty.
-fn words_of(alloc: Global, text: &str) -> Result<Vec<String>, AllocError> {
-    let mut words = Vec::new(alloc);
-    for word in text.split(' ') {
-        words.push(String::from_str(alloc, word)?)?;
-    }
-    Ok(words)
-}
+const UNDATED: Run = Run { more: "", ..PLAIN };
+
+const WITHOUT_POLICY: Run = Run {
+    words: " --policy_file pol/b.pol --definitions_directory def --output_directory out",
+    ..PLAIN
+};
 
 // A tree of networks and a policy.
 fn tree_of(alloc: Global, policy: &[u8]) -> Result<MemTree, Memory>
@@ -114,7 +96,8 @@ fn status<T: Tree, O: Sink, E: Sink, C: Clock>(
 fn left_by(alloc: Global, tree: MemTree, run: &Run) -> Result<Left, Memory>
     requires { (contents tree).begun ≡ None }
 {
-    let words = words_of(alloc, run.words)?;
+    let line = format!(in alloc; "{}{}", run.words, run.more)?;
+    let words = words_of(alloc, line.as_str())?;
     let mut tree = failing(tree, run.tree)?;
     let mut out = sink(alloc, run.out)?;
     let mut err = sink(alloc, run.err)?;
@@ -137,6 +120,7 @@ fn left_by(alloc: Global, tree: MemTree, run: &Run) -> Result<Left, Memory>
 
 // A run over a policy, the status that it ends with, and the bytes that it leaves: the filter's file where there
 // is one, and what was written on the two streams.
+#[derive(Clone, Copy)]
 struct Case {
     policy: &'static [u8],
     run: Run,
@@ -230,9 +214,8 @@ static TWO_BLOCKS_CASES: [Case; 2] = [
     Case {
         policy: TWO_BLOCKS,
         run: Run {
-            words: UNDATED,
             clock: false,
-            ..PLAIN
+            ..UNDATED
         },
         file: Some(SECTIONS),
         report: REPORT,
@@ -260,43 +243,43 @@ ip access-list extended edge
 exit
 ";
 
-const FILTERS: &[u8] = b"/* juniper six inet6 */
-firewall {
-    family inet6 {
-        replace: filter six {
-            term web {
-                from {
-                    destination-address {
-                        2001:db8::10/128;
-                    }
-                    next-header [ 6 ];
-                }
-                then {
+// The filter of Junos with this one term.
+fn filter_of_web(
+    alloc: Global,
+    name: &str,
+    family: &str,
+    address: &str,
+    protocol: &str,
+) -> Result<String, Memory> {
+    let text = format!(in alloc;
+        "/* juniper {name} {family} */
+firewall {{
+    family {family} {{
+        replace: filter {name} {{
+            term web {{
+                from {{
+                    destination-address {{
+                        {address};
+                    }}
+                    {protocol} [ 6 ];
+                }}
+                then {{
                     accept;
-                }
-            }
-        }
-    }
+                }}
+            }}
+        }}
+    }}
+}}
+"
+    )?;
+    Ok(text)
 }
-/* juniper edge inet */
-firewall {
-    family inet {
-        replace: filter edge {
-            term web {
-                from {
-                    destination-address {
-                        192.0.2.10/32;
-                    }
-                    protocol [ 6 ];
-                }
-                then {
-                    accept;
-                }
-            }
-        }
-    }
+
+fn filters(alloc: Global) -> Result<String, Memory> {
+    let six = filter_of_web(alloc, "six", "inet6", "2001:db8::10/128", "next-header")?;
+    let edge = filter_of_web(alloc, "edge", "inet", "192.0.2.10/32", "protocol")?;
+    Ok(format!(in alloc; "{six}{edge}")?)
 }
-";
 
 const TABLE: &[u8] = b"## nftables input inet
 add table ip aclgen_1
@@ -325,21 +308,22 @@ out/a.ipt: iptables INPUT inet: entries 2
 out/a.nft: nftables input inet: entries 2
 ";
 
-fn has_each_file(tree: &MemTree) -> bool {
-    tree.file("out/a.acl") == Some(LIST_OF_WEB)
-        && tree.file("out/a.jcl") == Some(FILTERS)
-        && tree.file("out/a.ipt") == Some(CHAINS)
-        && tree.file("out/a.nft") == Some(TABLE)
-}
-
-fn writes_each_file(alloc: Global) -> Result<bool, Memory> {
-    let left = left_by(alloc, tree_of(alloc, FOUR_PLATFORMS)?, &PLAIN)?;
-    Ok(left.status == 0 && left.out.as_slice() == ALL_REPORTS && has_each_file(&left.tree))
+fn has_each_file(alloc: Global, tree: &MemTree) -> Result<bool, Memory> {
+    Ok(
+        tree.file("out/a.acl") == Some(LIST_OF_WEB)
+            && tree.file("out/a.jcl") == Some(filters(alloc)?.as_bytes())
+            && tree.file("out/a.ipt") == Some(CHAINS)
+            && tree.file("out/a.nft") == Some(TABLE),
+    )
 }
 
 #[test]
 fn each_platform_has_its_file(rt: HostRuntime) -> Result<(), Fail> {
-    assert!(rt; writes_each_file(rt.alloc())?);
+    let alloc = rt.alloc();
+    let left = left_by(alloc, tree_of(alloc, FOUR_PLATFORMS)?, &PLAIN)?;
+    assert_eq!(rt; left.status, 0);
+    assert_eq!(rt; left.out.as_slice(), ALL_REPORTS);
+    assert!(rt; has_each_file(alloc, &left.tree)?);
     Ok(())
 }
 
@@ -388,52 +372,31 @@ fn edge_tree(alloc: Global) -> Result<MemTree, Memory>
 }
 
 const EDGE_RUN: Run = Run {
-    words: EDGE_WORDS,
+    words: " --policy_file pol/edge.pol --definitions_directory def --output_directory out",
     ..PLAIN
 };
 
-fn cisco_sections(alloc: Global, text: &[u8]) -> Result<Option<usize>, Memory> {
-    let doc = cisco_lang::read(alloc, text)?;
-    Ok(doc.map(|doc| cisco_lang::sections(&doc)))
-}
-
-fn junos_sections(alloc: Global, text: &[u8]) -> Result<Option<usize>, Memory> {
-    let doc = junos_lang::read(alloc, text)?;
-    Ok(doc.map(|doc| junos_lang::sections(&doc)))
-}
-
-fn iptables_sections(alloc: Global, text: &[u8]) -> Result<Option<usize>, Memory> {
-    let doc = ipt_lang::read(alloc, text)?;
-    Ok(doc.map(|doc| ipt_lang::sections(&doc)))
-}
-
-fn nftables_sections(alloc: Global, text: &[u8]) -> Result<Option<usize>, Memory> {
-    let doc = nft_lang::read(alloc, text)?;
-    Ok(doc.map(|doc| nft_lang::sections(&doc)))
-}
-
 fn is_read_back(alloc: Global, tree: &MemTree) -> Result<bool, Memory> {
-    let lists = tree.file("out/edge.acl").unwrap_or(b"");
-    let filters = tree.file("out/edge.jcl").unwrap_or(b"");
-    let chains = tree.file("out/edge.ipt").unwrap_or(b"");
-    let tables = tree.file("out/edge.nft").unwrap_or(b"");
+    let lists = cisco_lang::read(alloc, tree.file("out/edge.acl").unwrap_or(b""))?;
+    let filters = junos_lang::read(alloc, tree.file("out/edge.jcl").unwrap_or(b""))?;
+    let chains = ipt_lang::read(alloc, tree.file("out/edge.ipt").unwrap_or(b""))?;
+    let tables = nft_lang::read(alloc, tree.file("out/edge.nft").unwrap_or(b""))?;
     Ok(
-        cisco_sections(alloc, lists)? == Some(1)
-            && junos_sections(alloc, filters)? == Some(1)
-            && iptables_sections(alloc, chains)? == Some(1)
-            && nftables_sections(alloc, tables)? == Some(1),
+        lists.map(|doc| cisco_lang::sections(&doc)) == Some(1)
+            && filters.map(|doc| junos_lang::sections(&doc)) == Some(1)
+            && chains.map(|doc| ipt_lang::sections(&doc)) == Some(1)
+            && tables.map(|doc| nft_lang::sections(&doc)) == Some(1),
     )
-}
-
-fn writes_the_edge(alloc: Global) -> Result<bool, Memory> {
-    let left = left_by(alloc, edge_tree(alloc)?, &EDGE_RUN)?;
-    Ok(left.status == 0 && left.out.as_slice() == EDGE_REPORT && is_read_back(alloc, &left.tree)?)
 }
 
 // What is written is read back as one section for each target.
 #[test]
 fn an_edge_policy_is_read_back(rt: HostRuntime) -> Result<(), Fail> {
-    assert!(rt; writes_the_edge(rt.alloc())?);
+    let alloc = rt.alloc();
+    let left = left_by(alloc, edge_tree(alloc)?, &EDGE_RUN)?;
+    assert_eq!(rt; left.status, 0);
+    assert_eq!(rt; left.out.as_slice(), EDGE_REPORT);
+    assert!(rt; is_read_back(alloc, &left.tree)?);
     Ok(())
 }
 
@@ -476,7 +439,7 @@ static REFUSALS: [Case; 7] = [
     },
     Case {
         run: Run {
-            words: WRONG_DATE,
+            more: " --date 2026-02-30",
             ..PLAIN
         },
         status: 2,
@@ -484,10 +447,7 @@ static REFUSALS: [Case; 7] = [
         ..CASE
     },
     Case {
-        run: Run {
-            words: NO_POLICY,
-            ..PLAIN
-        },
+        run: WITHOUT_POLICY,
         status: 1,
         line: b"pol/b.pol: F20 NoFile\n",
         ..CASE
@@ -507,68 +467,37 @@ ip access-list extended edge
 exit
 ";
 
-static FAILURES: [Case; 10] = [
+// The call of the tree that fails, what the filter's file has then, and the line.
+static TREE_FAILURES: [(Op, u32, Option<&[u8]>, &[u8]); 6] = [
+    (Op::List, 1, None, b"aclgen: list failed\n"),
+    (Op::Read, 1, None, b"aclgen: read failed\n"),
+    (Op::Read, 2, None, b"aclgen: read failed\n"),
+    (Op::Begin, 1, None, b"aclgen: write failed\n"),
+    (Op::Append, 1, Some(b""), b"aclgen: write failed\n"),
+    (Op::Finish, 1, Some(LIST), b"aclgen: write failed\n"),
+];
+
+#[test]
+fn each_call_of_the_tree_fails_once(rt: HostRuntime) -> Result<(), Fail> {
+    for (op, nth, file, line) in &TREE_FAILURES {
+        let case = Case {
+            run: Run {
+                tree: Some((*op, *nth)),
+                ..PLAIN
+            },
+            status: 3,
+            file: *file,
+            line,
+            ..CASE
+        };
+        assert!(rt; leaves(rt.alloc(), &case)?, "{op:?} {nth}");
+    }
+    Ok(())
+}
+
+static FAILURES: [Case; 4] = [
     Case {
-        run: Run {
-            tree: Some((Op::List, 1)),
-            ..PLAIN
-        },
-        status: 3,
-        line: b"aclgen: list failed\n",
-        ..CASE
-    },
-    Case {
-        run: Run {
-            tree: Some((Op::Read, 1)),
-            ..PLAIN
-        },
-        status: 3,
-        line: b"aclgen: read failed\n",
-        ..CASE
-    },
-    Case {
-        run: Run {
-            tree: Some((Op::Read, 2)),
-            ..PLAIN
-        },
-        status: 3,
-        line: b"aclgen: read failed\n",
-        ..CASE
-    },
-    Case {
-        run: Run {
-            tree: Some((Op::Begin, 1)),
-            ..PLAIN
-        },
-        status: 3,
-        line: b"aclgen: write failed\n",
-        ..CASE
-    },
-    Case {
-        run: Run {
-            tree: Some((Op::Append, 1)),
-            ..PLAIN
-        },
-        status: 3,
-        file: Some(b""),
-        line: b"aclgen: write failed\n",
-        ..CASE
-    },
-    Case {
-        run: Run {
-            tree: Some((Op::Finish, 1)),
-            ..PLAIN
-        },
-        status: 3,
-        file: Some(LIST),
-        line: b"aclgen: write failed\n",
-        ..CASE
-    },
-    Case {
-        run: Run {
-            words: UNDATED,
-            ..PLAIN
-        },
+        run: UNDATED,
         status: 3,
         line: b"aclgen: clock failed\n",
         ..CASE
@@ -582,7 +511,7 @@ static FAILURES: [Case; 10] = [
     },
     Case {
         run: Run {
-            words: EMPTY_DATE,
+            more: " --date ",
             err: true,
             ..PLAIN
         },
@@ -591,9 +520,8 @@ static FAILURES: [Case; 10] = [
     },
     Case {
         run: Run {
-            words: NO_POLICY,
             err: true,
-            ..PLAIN
+            ..WITHOUT_POLICY
         },
         status: 3,
         ..CASE
@@ -601,7 +529,7 @@ static FAILURES: [Case; 10] = [
 ];
 
 #[test]
-fn each_call_of_the_outside_fails_once(rt: HostRuntime) -> Result<(), Fail> {
+fn the_clock_and_each_stream_fail_once(rt: HostRuntime) -> Result<(), Fail> {
     expect(&rt, rt.alloc(), &FAILURES)
 }
 
@@ -617,20 +545,15 @@ fn has_the_first_file(tree: &MemTree) -> bool {
         && tree.file("out/a.nft").is_none()
 }
 
-fn leaves_the_first_file(alloc: Global) -> Result<bool, Memory> {
-    let left = left_by(alloc, tree_of(alloc, FOUR_PLATFORMS)?, &INTERRUPTED)?;
-    Ok(
-        left.status == 3
-            && has_the_first_file(&left.tree)
-            && left.out.as_slice().is_empty()
-            && left.err.as_slice() == b"aclgen: write failed\n".as_slice(),
-    )
-}
-
 // The second file is not begun: the first is whole, and the others are not there.
 #[test]
 fn an_interrupted_writing_leaves_whole_files(rt: HostRuntime) -> Result<(), Fail> {
-    assert!(rt; leaves_the_first_file(rt.alloc())?);
+    let alloc = rt.alloc();
+    let left = left_by(alloc, tree_of(alloc, FOUR_PLATFORMS)?, &INTERRUPTED)?;
+    assert_eq!(rt; left.status, 3);
+    assert!(rt; has_the_first_file(&left.tree));
+    assert!(rt; left.out.as_slice().is_empty());
+    assert_eq!(rt; left.err.as_slice(), b"aclgen: write failed\n".as_slice());
     Ok(())
 }
 
@@ -655,7 +578,7 @@ static SHADED: [(&[u8], &[u8], &[u8]); 3] = [
 ];
 
 const CHECKED: Run = Run {
-    words: SHADE_CHECK,
+    more: " --date 2026-01-15 --shade_check",
     ..PLAIN
 };
 
@@ -694,7 +617,8 @@ out/w.nft: nftables forward mixed: entries 24
 
 // Neither the tree, whose first call fails, nor the clock is called.
 const TWO: Run = Run {
-    words: "--workload 2",
+    words: " --workload 2",
+    more: "",
     clock: false,
     tree: Some((Op::List, 1)),
     ..PLAIN

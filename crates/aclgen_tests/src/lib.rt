@@ -8,4 +8,6 @@ mod jobs;
 #[cfg(test)]
 mod options;
 #[cfg(test)]
+mod words;
+#[cfg(test)]
 mod workloads;

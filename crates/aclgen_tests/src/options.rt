@@ -1,16 +1,8 @@
+use crate::words::words_of;
 use acl_options::{Options, read_options, read_workload};
 use acl_text::Memory;
 use std::alloc::{AllocError, Global};
 use std::test::Fail;
-
-// The words of a text, each behind a space; two spaces have an empty word between them.
-fn words_of(alloc: Global, text: &str) -> Result<Vec<String>, AllocError> {
-    let mut words = Vec::new(alloc);
-    for word in text.split(' ').skip(1) {
-        words.push(String::from_str(alloc, word)?)?;
-    }
-    Ok(words)
-}
 
 // The one call of the reader.
 fn read(alloc: Global, words: &[String]) -> Result<Option<Options<'_>>, Memory> {

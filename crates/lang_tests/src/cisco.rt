@@ -13,13 +13,13 @@ ip access-list extended edge-in
 exit
 ";
 
-const MIXED: &str = "! cisco edge mixed
-no ip access-list extended edge
-ip access-list extended edge
+const MIXED: &str = "! cisco both mixed
+no ip access-list extended both
+ip access-list extended both
  deny ip any any
 exit
-no ipv6 access-list ipv6-edge
-ipv6 access-list ipv6-edge
+no ipv6 access-list ipv6-both
+ipv6 access-list ipv6-both
  permit icmp any any 136
  permit icmp any any 135
  deny ipv6 any any

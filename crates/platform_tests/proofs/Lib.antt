@@ -1,4 +1,1 @@
-pub mod CiscoSections
-pub mod IptablesSections
-pub mod JunosSections
-pub mod NftablesSections
+pub mod SampleSections

@@ -1,2 +1,3 @@
 pub mod EndingWordLaws
 pub mod EndingWords
+pub mod SampleFilters

@@ -1,89 +1,46 @@
-ghost use Rattle.std.specs.Prelude.{◌≡◌, [], IfOk, false};
-ghost use Rattle.std.specs.List.{All};
-ghost use Rattle.acl_target.specs.Clashes.{is_mixed};
-ghost use Rattle.acl_target.specs.TargetData.{chain_text, is_neighbours};
-ghost use Rattle.acl_platform.specs.Combinations.{IsSized};
-ghost use Rattle.acl_platform.specs.Platforms.{IsAccepted};
-ghost use Rattle.gen_iptables.specs.Limits.{is_for_iptables, limit_of};
-
-use crate::samples::{ANY, Lines, Sample, every_second_host, rule_from, rules};
-use acl_host::Whole;
+use crate::generators::{
+    Case, LimitCase, are_written, expect_limits, expect_most_entries, expect_written,
+};
+use crate::samples::{ANY, DNS, HEAD, Head, PAIR, Sample, filter};
 use acl_packet::{Families, Family, Hook, Verdict};
-use acl_platform::{Filter, Limit, Platform, Rules, Test, count_in_limit, first_limit, write_all};
-use acl_target::{Ending, Kind};
-use acl_text::{Bytes, Memory, Place, PutFault};
-use gen_iptables::{Iptables, entry_count, put_section};
-use ipt_lang::{read, sections};
-use std::alloc::Global;
+use acl_platform::{Limit, Platform, Rules, Test};
+use acl_target::Ending;
+use gen_iptables::Iptables;
 use std::test::Fail;
 
-// A filter as the tests write it, the text of its section with its lines, and how many entries it has.
-struct Case {
-    hook: Hook,
-    name: &'static [u8],
-    families: Families,
-    ending: Ending,
-    rules: &'static [Sample],
-    text: &'static str,
-    lines: u64,
-    entries: u64,
-}
+// The chain with a policy, and that of IPv6.
+const DENYING: Head = Head {
+    ending: Ending::Deny,
+    ..HEAD
+};
 
-fn filter(
-    alloc: Global,
-    hook: Hook,
-    name: &[u8],
-    families: Families,
-    ending: Ending,
-    rules: Rules,
-) -> Result<Filter, Memory>
-    ensures accepted { name.now ≡ chain_text hook → is_mixed families ≡ false
-        → is_neighbours ending ≡ false → rules ≡ []
-        → IfOk result (IsAccepted is_for_iptables limit_of) }
-    ensures hook { IfOk result (λ f. f.hook ≡ hook) }
-    ensures families { IfOk result (λ f. f.families ≡ families) }
-    ensures rules { IfOk result (λ f. f.rules ≡ rules) }
-{
-    Ok(Filter {
-        place: Place { file: 1, line: 1 },
-        kind: Kind::Iptables,
-        name: Bytes::from_slice(alloc, name)?,
-        families,
-        hook,
-        ending,
-        priority: 0,
-        verbose: true,
-        number: 1,
-        rules,
-    })
-}
+const OF_SIX: Head = Head {
+    families: Families::Inet6,
+    ..HEAD
+};
 
 static CASES: [Case; 3] = [
     Case {
-        hook: Hook::Input,
-        name: b"INPUT",
-        families: Families::Inet,
-        ending: Ending::Deny,
+        head: DENYING,
         rules: EDGE_RULES,
         text: EDGE,
         lines: 29,
         entries: 16,
     },
     Case {
-        hook: Hook::Input,
-        name: b"INPUT",
-        families: Families::Inet,
-        ending: Ending::Left,
+        head: HEAD,
         rules: SPLIT_RULES,
         text: SPLIT,
         lines: 16,
         entries: 8,
     },
     Case {
-        hook: Hook::Forward,
-        name: b"FORWARD",
-        families: Families::Inet6,
-        ending: Ending::Accept,
+        head: Head {
+            hook: Hook::Forward,
+            name: b"FORWARD",
+            ending: Ending::Accept,
+            ..OF_SIX
+        },
         rules: FORWARD_RULES,
         text: FORWARD,
         lines: 16,
@@ -114,12 +71,12 @@ const EDGE_RULES: &[Sample] = &[
         name: b"dns",
         dst: &[(0xc000_0235, 32)],
         protos: &[(6, 6), (17, 17)],
-        dports: &[(53, 53)],
+        dports: DNS,
         ..ANY
     },
     Sample {
         name: b"web",
-        dst: &[(0xc000_020a, 31)],
+        dst: PAIR,
         protos: &[(6, 6)],
         dports: &[(80, 80), (443, 443)],
         ..ANY
@@ -269,117 +226,47 @@ const FORWARD: &str = "## iptables FORWARD inet6
 -A FORWARD -j F_calls
 ";
 
-fn filter_of(alloc: Global, case: &Case) -> Result<Filter, Memory>
-    ensures { IfOk result (λ f. All IsSized f.rules) }
-{
-    let rules = rules(alloc, case.rules)?;
-    filter(
-        alloc,
-        case.hook,
-        case.name,
-        case.families,
-        case.ending,
-        rules,
-    )
-}
-
-fn text_of(alloc: Global, filter: &Filter) -> Result<Whole, PutFault>
-    requires { All IsSized filter.now.rules }
-{
-    let mut out = Whole::new(alloc);
-    put_section(filter, &mut out)?;
-    Ok(out)
-}
-
-// The lines of the section.
-fn lines_of(filter: &Filter) -> Result<Lines, PutFault>
-    requires { All IsSized filter.now.rules }
-{
-    let mut lines = Lines::new();
-    put_section(filter, &mut lines)?;
-    Ok(lines)
-}
-
-fn sections_of(alloc: Global, text: &[u8]) -> Result<Option<usize>, Memory> {
-    let doc = read(alloc, text)?;
-    Ok(doc.map(|doc| sections(&doc)))
-}
-
-// Whether the section is written, counted and read back as the case says.
-fn is_written(alloc: Global, case: &Case) -> Result<bool, Fail> {
-    let own = filter_of(alloc, case)?;
-    let text = text_of(alloc, &own)?;
-    Ok(
-        text.as_slice() == case.text.as_bytes()
-            && sections_of(alloc, text.as_slice())? == Some(1)
-            && entry_count(&own) == case.entries
-            && lines_of(&own)?.is_of(case.lines),
-    )
-}
-
 #[test]
 fn writes_each_part_of_a_section(rt: HostRuntime) -> Result<(), Fail> {
-    for case in &CASES {
-        assert!(rt; is_written(rt.alloc(), case)?, "{}", case.text);
-    }
-    Ok(())
+    expect_written(&rt, rt.alloc(), &Iptables, &CASES)
 }
 
-fn entries_of_hosts(alloc: Global, count: u32) -> Result<u64, Memory> {
-    let hosts = every_second_host(alloc, count)?;
-    let mut rules = Rules::new(alloc);
-    rules.push(rule_from(alloc, &ANY, hosts)?)?;
-    let ending = Ending::Left;
-    let own = filter(
-        alloc,
-        Hook::Output,
-        b"OUTPUT",
-        Families::Inet,
-        ending,
-        rules,
-    )?;
-    Ok(entry_count(&own))
-}
+const OUTPUT: Head = Head {
+    hook: Hook::Output,
+    name: b"OUTPUT",
+    ..HEAD
+};
 
 // The jump to the chain is an entry too.
 #[test]
 fn takes_as_many_entries_as_a_device_is_given(rt: HostRuntime) -> Result<(), Fail> {
-    let most = entries_of_hosts(rt.alloc(), 99_999)?;
-    assert_eq!(rt; count_in_limit(most), Ok(100_000));
-    let more = entries_of_hosts(rt.alloc(), 100_000)?;
-    assert_eq!(rt; count_in_limit(more), Err(Limit::TooManyEntries));
-    Ok(())
+    expect_most_entries(&rt, rt.alloc(), &Iptables, &OUTPUT)
 }
 
-fn limit_of_names(
-    alloc: Global,
-    first: &'static [u8],
-    second: &'static [u8],
-) -> Result<Option<Limit>, Memory> {
-    let samples = [
-        Sample { name: first, ..ANY },
-        Sample {
-            name: second,
-            ..ANY
-        },
-    ];
-    let rules = rules(alloc, &samples)?;
-    Ok(first_limit(&Iptables, rules.as_slice()))
-}
+const FIRST: Sample = Sample {
+    name: b"e-tcp",
+    ..ANY
+};
 
-// Names behind the name `e-tcp`.
-static NAMES: [(&[u8], Option<Limit>); 3] = [
-    (b"aaaaaaaaaaaaaaaaaaaaaaaa", None),
-    (b"aaaaaaaaaaaaaaaaaaaaaaaaa", Some(Limit::NameLength(1))),
-    (b"e-tcp", Some(Limit::NameClash(1))),
+const LONGEST: Sample = Sample {
+    name: b"aaaaaaaaaaaaaaaaaaaaaaaa",
+    ..ANY
+};
+
+const LONGER: Sample = Sample {
+    name: b"aaaaaaaaaaaaaaaaaaaaaaaaa",
+    ..ANY
+};
+
+static LIMITS: [LimitCase; 3] = [
+    (&[FIRST, LONGEST], None),
+    (&[FIRST, LONGER], Some(Limit::NameLength(1))),
+    (&[FIRST, FIRST], Some(Limit::NameClash(1))),
 ];
 
 #[test]
 fn takes_short_names_that_differ(rt: HostRuntime) -> Result<(), Fail> {
-    for (name, limit) in &NAMES {
-        assert_eq!(rt; limit_of_names(rt.alloc(), b"e-tcp", name)?, *limit);
-    }
-    Ok(())
+    expect_limits(&rt, rt.alloc(), &Iptables, &LIMITS)
 }
 
 const EMPTY: &str = "## iptables INPUT inet
@@ -387,36 +274,12 @@ const EMPTY: &str = "## iptables INPUT inet
 ## iptables INPUT inet6
 ";
 
-// Whether two filters without rules become two sections that are read back.
-fn are_written(alloc: Global) -> Result<bool, Fail> {
-    let own = filter(
-        alloc,
-        Hook::Input,
-        b"INPUT",
-        Families::Inet,
-        Ending::Deny,
-        Rules::new(alloc),
-    )?;
-    let other = filter(
-        alloc,
-        Hook::Input,
-        b"INPUT",
-        Families::Inet6,
-        Ending::Left,
-        Rules::new(alloc),
-    )?;
-    let has_no_entry = Iptables.check(&own) == Ok(0);
-    let mut out = Whole::new(alloc);
-    write_all(&Iptables, &[own, other], &mut out)?;
-    Ok(
-        has_no_entry
-            && out.as_slice() == EMPTY.as_bytes()
-            && sections_of(alloc, out.as_slice())? == Some(2),
-    )
-}
-
 #[test]
 fn writes_one_section_after_another(rt: HostRuntime) -> Result<(), Fail> {
-    assert!(rt; are_written(rt.alloc())?);
+    let alloc = rt.alloc();
+    let own = filter(alloc, &DENYING, Rules::new(alloc))?;
+    let other = filter(alloc, &OF_SIX, Rules::new(alloc))?;
+    assert_eq!(rt; Iptables.check(&own), Ok(0));
+    assert!(rt; are_written(alloc, &Iptables, &[own, other], EMPTY)?);
     Ok(())
 }

@@ -6,6 +6,8 @@
 #[cfg(test)]
 mod cisco;
 #[cfg(test)]
+mod generators;
+#[cfg(test)]
 mod iptables;
 #[cfg(test)]
 mod junos;

@@ -20,15 +20,16 @@ ghost use Rattle.platform_tests.specs.EndingWords.{
 };
 ghost use Rattle.acl_platform.specs.Platforms.{IsAccepted};
 
+use crate::samples::{HEAD, Head, filter};
 use acl_grammar::{Form, Number, Row, Rows, Word};
 use acl_host::Whole;
-use acl_packet::{Conn, Families, Family, Hook, Outcome, Packet, Prefix, Verdict};
+use acl_packet::{Conn, Family, Outcome, Packet, Prefix, Verdict};
 use acl_platform::{
     Combination, Filter, Limit, Platform, Rule, Rules, Test, count_combinations, count_in_limit,
     filter_outcome, put_combinations, write_all,
 };
 use acl_sets::{Prefixes, Range, RangeSet};
-use acl_target::{Ending, Kind};
+use acl_target::Ending;
 use acl_text::{Bytes, Items, Memory, Out, Place, PutFault};
 use std::alloc::Global;
 use std::test::Fail;
@@ -100,23 +101,13 @@ fn put_endings<O: Out>(filters: &[Filter], out: &mut O) -> Result<(), PutFault>
     write_all(&Endings, filters, out)
 }
 
+// A chain with that ending.
 fn chain(alloc: Global, ending: Ending, rules: Rules) -> Result<Filter, Memory>
     ensures accepted { rules ≡ [] → is_neighbours ending ≡ false
         → IfOk result (IsAccepted has_no_rule (λ f. None)) }
     ensures ending { IfOk result (λ f. f.ending ≡ ending) }
 {
-    Ok(Filter {
-        place: Place { file: 1, line: 1 },
-        kind: Kind::Iptables,
-        name: Bytes::from_slice(alloc, b"INPUT")?,
-        families: Families::Inet,
-        hook: Hook::Input,
-        ending,
-        priority: 0,
-        verbose: true,
-        number: 1,
-        rules,
-    })
+    filter(alloc, &Head { ending, ..HEAD }, rules)
 }
 
 #[test]

@@ -1,10 +1,12 @@
 ghost use Rattle.std.specs.Prelude.{◌≡◌, IfOk, None, true};
 ghost use Rattle.std.specs.List.{All};
 ghost use Rattle.acl_platform.specs.Combinations.{IsSized};
+ghost use Rattle.platform_tests.specs.SampleFilters.{filter_with};
 
-use acl_packet::{Family, Prefix, Verdict};
-use acl_platform::{Rule, Rules, Test};
+use acl_packet::{Families, Family, Hook, Prefix, Verdict};
+use acl_platform::{Filter, Rule, Rules, Test};
 use acl_sets::{Prefixes, Range, RangeSet};
+use acl_target::{Ending, Kind};
 use acl_text::{Bytes, Memory, Out, Place, PutFault, contains_byte};
 use std::alloc::Global;
 
@@ -38,6 +40,11 @@ const ALL_BYTES: Ranges = &[(0, 255)];
 
 pub(crate) const DNS: Ranges = &[(53, 53)];
 
+// 192.0.2.10/31 and 2001:db8::10.
+pub(crate) const PAIR: Addresses = &[(0xc000_020a, 31)];
+
+pub(crate) const HOST: Addresses = &[(0x2001_0db8_0000_0000_0000_0000_0000_0010, 128)];
+
 // The longest name that Cisco and Junos take, of 64 bytes, and one of 65.
 pub(crate) const LONGEST_NAME: &[u8] =
     b"aaaaaaaaaaaaaaaaaaaaaaaaaaaaaaaaaaaaaaaaaaaaaaaaaaaaaaaaaaaaaaaa";
@@ -60,6 +67,64 @@ pub(crate) const ANY: Sample = Sample {
     verdict: Verdict::Accept,
     log: false,
 };
+
+// All that is sent by SCTP, and what is sent by it to the port of names.
+pub(crate) const ALL_OF_SCTP: Sample = Sample {
+    name: b"all",
+    protos: &[(132, 132)],
+    ..ANY
+};
+
+pub(crate) const DNS_BY_SCTP: Sample = Sample {
+    name: b"dns",
+    dports: DNS,
+    ..ALL_OF_SCTP
+};
+
+// What a filter has beside its rules.
+#[derive(Clone, Copy)]
+pub(crate) struct Head {
+    pub(crate) kind: Kind,
+    pub(crate) name: &'static [u8],
+    pub(crate) families: Families,
+    pub(crate) hook: Hook,
+    pub(crate) ending: Ending,
+    pub(crate) priority: i32,
+    pub(crate) verbose: bool,
+    pub(crate) number: u32,
+}
+
+// The chain of iptables for what comes in by IPv4. The other heads say what they have otherwise.
+pub(crate) const HEAD: Head = Head {
+    kind: Kind::Iptables,
+    name: b"INPUT",
+    families: Families::Inet,
+    hook: Hook::Input,
+    ending: Ending::Left,
+    priority: 0,
+    verbose: true,
+    number: 1,
+};
+
+pub(crate) fn filter(alloc: Global, head: &Head, rules: Rules) -> Result<Filter, Memory>
+    ensures made { IfOk result (λ f. f ≡ filter_with head.now.kind head.now.name.now
+        head.now.families head.now.hook head.now.ending head.now.priority head.now.verbose
+        head.now.number rules) }
+    ensures rules { IfOk result (λ f. f.rules ≡ rules) }
+{
+    Ok(Filter {
+        place: Place { file: 1, line: 1 },
+        kind: head.kind,
+        name: Bytes::from_slice(alloc, head.name)?,
+        families: head.families,
+        hook: head.hook,
+        ending: head.ending,
+        priority: head.priority,
+        verbose: head.verbose,
+        number: head.number,
+        rules,
+    })
+}
 
 fn list(alloc: Global, family: Family, addresses: &[(u128, u8)]) -> Result<Prefixes, Memory> {
     let mut prefixes = Prefixes::new(alloc);
@@ -89,7 +154,7 @@ fn set(alloc: Global, top: u128, ends: &[(u128, u128)]) -> Result<RangeSet, Memo
 }
 
 // The rule of a sample, from these prefixes in place of the sample's.
-pub(crate) fn rule_from(alloc: Global, sample: &Sample, src: Prefixes) -> Result<Rule, Memory>
+fn rule_from(alloc: Global, sample: &Sample, src: Prefixes) -> Result<Rule, Memory>
     ensures { IfOk result IsSized }
 {
     Ok(Rule {
@@ -109,6 +174,20 @@ pub(crate) fn rule_from(alloc: Global, sample: &Sample, src: Prefixes) -> Result
     })
 }
 
+// A filter of one rule, from these prefixes in place of the sample's.
+pub(crate) fn filter_from(
+    alloc: Global,
+    head: &Head,
+    sample: &Sample,
+    src: Prefixes,
+) -> Result<Filter, Memory>
+    ensures { IfOk result (λ f. All IsSized f.rules) }
+{
+    let mut rules = Rules::new(alloc);
+    rules.push(rule_from(alloc, sample, src)?)?;
+    filter(alloc, head, rules)
+}
+
 pub(crate) fn rules(alloc: Global, samples: &[Sample]) -> Result<Rules, Memory>
     ensures { IfOk result (λ rs. All IsSized rs) }
 {
@@ -118,6 +197,12 @@ pub(crate) fn rules(alloc: Global, samples: &[Sample]) -> Result<Rules, Memory>
         rules.push(rule_from(alloc, sample, src)?)?;
     }
     Ok(rules)
+}
+
+pub(crate) fn filter_of(alloc: Global, head: &Head, samples: &[Sample]) -> Result<Filter, Memory>
+    ensures { IfOk result (λ f. All IsSized f.rules) }
+{
+    filter(alloc, head, rules(alloc, samples)?)
 }
 
 // As many hosts of IPv4, of which no two make a prefix together.
