@@ -9,7 +9,7 @@ use Rattle.std.proofs.lemmas.Slice.Eq.{bytes_eq-Decides}
 use Rattle.acl_platform.specs.declared.rules.Rule.{Rule}
 use Rattle.acl_platform.specs.declared.filters.Limit.{Limit}
 use Rattle.acl_platform.specs.Limits.{first_limit, is_name_taken}
-use Rattle.acl_platform.specs.NameSlots.{IsSeen, has_slot}
+use Rattle.acl_platform.specs.NameSlotSteps.{IsSeen, has_slot}
 
 other_name : (slots : List Bool) (name new : List ℕ) → has_slot slots name ≡ true → has_slot slots new ≡ false → bytes_eq name new ≡ false
 other_name slots name new seen free = by_test (bytes_eq name new) refl

@@ -4,7 +4,7 @@ pub mod Combinations
 pub mod Elements
 pub mod Families
 pub mod Limits
-pub mod NameSlots
+pub mod NameSlotSteps
 pub mod Platforms
 pub mod Remarks
 pub mod Rules

@@ -11,7 +11,7 @@ ghost use Rattle.acl_platform.specs.Limits.{
   name_limit,
   names_sctp_ports,
 };
-ghost use Rattle.acl_platform.specs.NameSlots.{IsSeen};
+ghost use Rattle.acl_platform.specs.NameSlotSteps.{IsSeen};
 ghost use Rattle.acl_platform.specs.Platforms.{judged};
 
 use crate::filters::Limit;

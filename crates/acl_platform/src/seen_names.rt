@@ -1,5 +1,5 @@
 ghost use Rattle.std.specs.Prelude.{◌≡◌, ◌<◌, ℕ, List, true};
-ghost use Rattle.acl_platform.specs.NameSlots.{has_slot, slot};
+ghost use Rattle.acl_platform.specs.NameSlotSteps.{has_slot, slot};
 
 const SLOTS: usize = 16_384;
 

@@ -32,7 +32,7 @@ use Rattle.acl_platform.specs.Remarks.{remarks}
 use Rattle.acl_platform.specs.Rules.{decided_by, passes, rule_holds, rules_outcome, sets_hold}
 use Rattle.acl_platform.specs.SoundFilters.{has_test, has_verdict, IsSoundRule}
 use Rattle.acl_platform.proofs.CombinationLaws.{any-combination, some-combination}
-use Rattle.acl_platform.proofs.EntryLaws.{over-entries}
+use Rattle.acl_platform.proofs.EntryLaws.{over-items}
 use Rattle.acl_grammar.specs.RuleParts.{number_holds}
 use Rattle.cisco_lang.specs.declared.documents.Item.{Item}
 use Rattle.cisco_lang.specs.declared.documents.Item.TheVariants.{Remark, Entry as AnEntry}
@@ -122,19 +122,10 @@ unfolding first_holding
 one-entry r p h c more =
     ap (λ d. cond (entry_holds (entry_of r c) p) (Some d) (first_holding more p)) (decision-same r.verdict r.log h)
 
-as-flat : {A B : Type 0} (f : A → B) (xs : List A) → map f xs ≡ flat_map (λ x. f x ∷ []) xs
-as-flat f [] = refl
-as-flat f (x ∷ xs) = ap (λ t. f x ∷ t) (as-flat f xs)
-
-all-any : {A : Type 0} (xs : List A) → AllByRecursion (λ x. Unit {0}) xs
-all-any [] = tt
-all-any (x ∷ xs) = (tt, all-any xs)
-
 over-rule : (families : Families) (r : Rule) (rest : List Item) (p : Packet) → IsSoundRule Cisco families r → IsPacket p
     → first_holding (rule_items r ++ rest) p ≡ cond (sets_hold r p && passes r.test p) (Some (decided_by r)) (first_holding rest p)
 over-rule families r rest p h k =
     let entry : Combination → Item = λ c. AnEntry (entry_of r c) in
-    let one : Combination → List Item = λ c. entry c ∷ [] in
     let texts = map (λ text. Remark text) (remarks r) in
     let walk_on : List Item → Option Outcome = λ items. first_holding items p in
     let test : Combination → Bool = λ c. entry_holds (entry_of r c) p in
@@ -142,8 +133,7 @@ over-rule families r rest p h k =
     let d = Some (decided_by r) in
     let later = first_holding rest p in
     ap walk_on (append_assoc texts (map entry (combinations r)) rest) ∙ past-remarks (remarks r) (map entry (combinations r) ++ rest) p
-    ∙ ap (λ items. walk_on (items ++ rest)) (as-flat entry (combinations r))
-    ∙ over-entries walk_on one test (λ c. Unit {0}) d (λ c more u. one-entry r p h.verdict_known c more) (combinations r) rest (all-any (combinations r))
+    ∙ over-items walk_on entry test d (λ c more. one-entry r p h.verdict_known c more) (combinations r) rest
     ∙ ap (λ b. cond b d later) (any-same test (λ c. combination_holds p c && flags) (entry-same r p) (combinations r)
     ∙ any-and (combination_holds p) flags (combinations r)
     ∙ ap (λ b. b && flags) (any-combination Cisco families r p h k)

@@ -215,10 +215,6 @@ acts-by r c p more true =
     skipped false d e rest = refl
 acts-by r c p more false = refl
 
-all-any : {A : Type 0} (xs : List A) → AllByRecursion (λ x. Unit {0}) xs
-all-any [] = tt
-all-any (x ∷ xs) = (tt, all-any xs)
-
 over-chain : (families : Families) (r : Rule) (p : Packet) → IsSoundRule Iptables families r → IsPacket p → r.family ≡ p.family
     → rules_walk (chain_rules r) p false ≡ cond (rule_holds r p) (decided_by r) (met Left false)
 unfolding rules_walk
@@ -227,7 +223,7 @@ over-chain families r p h k e =
     let d = decided_by r in
     let own = sets_hold r p && passes r.test p in
     ap walk_on (sym (append-nil (chain_rules r)))
-    ∙ over-entries walk_on (rules_for r) (parts_hold r p) (λ c. Unit {0}) d (λ c more u. acts-by r c p more r.log) (combinations r) [] (all-any (combinations r))
+    ∙ over-entries walk_on (rules_for r) (parts_hold r p) d (λ c more. acts-by r c p more r.log) (combinations r) []
     ∙ ap (λ b. cond b d (met Left false)) (any-parts families r p h k e
     ∙ sym (ap (λ b. b && own) ((family_decides r.family p.family).1 e)))
 

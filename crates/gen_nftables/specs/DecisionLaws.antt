@@ -33,7 +33,7 @@ use Rattle.acl_platform.specs.Rules.{decided_by, passes, rule_holds, rules_outco
 use Rattle.acl_platform.specs.SoundFilters.{has_test, IsFull, IsFullList, IsSoundRule}
 use Rattle.acl_platform.proofs.ChoiceLaws.{any-number, numbers-any, some-numbers}
 use Rattle.acl_platform.proofs.ElementLaws.{addresses-hold, is_nil, ports-hold}
-use Rattle.acl_platform.proofs.EntryLaws.{over-entries}
+use Rattle.acl_platform.proofs.EntryLaws.{over-items}
 use Rattle.acl_grammar.specs.RuleParts.{has_port, number_holds, set_holds, state_holds}
 use Rattle.nft_lang.specs.declared.documents.Item.{Item}
 use Rattle.nft_lang.specs.declared.documents.Item.TheVariants.{Remark, Rule as ARule}
@@ -172,19 +172,10 @@ one-rule : (r : Rule) (p : Packet) (o : Option ℕ) (more : List Item)
 unfolding first_holding
 one-rule r p o more = refl
 
-as-flat : {A B : Type 0} (f : A → B) (xs : List A) → map f xs ≡ flat_map (λ x. f x ∷ []) xs
-as-flat f [] = refl
-as-flat f (x ∷ xs) = ap (λ t. f x ∷ t) (as-flat f xs)
-
-all-any : {A : Type 0} (xs : List A) → AllByRecursion (λ x. Unit {0}) xs
-all-any [] = tt
-all-any (x ∷ xs) = (tt, all-any xs)
-
 over-rule : (families : Families) (verbose : Bool) (r : Rule) (rest : List Item) (p : Packet) → IsSoundRule Nftables families r → IsPacket p
     → first_holding (rule_items verbose r ++ rest) p ≡ cond (rule_holds r p) (Some (decided_by r)) (first_holding rest p)
 over-rule families verbose r rest p h k =
     let rule : Option ℕ → Item = λ o. ARule (chain_rule r o) in
-    let one : Option ℕ → List Item = λ o. rule o ∷ [] in
     let protocols = number_choices r.protos in
     let texts = map (λ text. Remark text) (remarks_in verbose r) in
     let walk_on : List Item → Option Outcome = λ items. first_holding items p in
@@ -192,8 +183,7 @@ over-rule families verbose r rest p h k =
     let d = Some (decided_by r) in
     let later = first_holding rest p in
     ap walk_on (append_assoc texts (map rule protocols) rest) ∙ past-remarks (remarks_in verbose r) (map rule protocols ++ rest) p
-    ∙ ap (λ items. walk_on (items ++ rest)) (as-flat rule protocols)
-    ∙ over-entries walk_on one test (λ o. Unit {0}) d (λ o more u. one-rule r p o more) protocols rest (all-any protocols)
+    ∙ over-items walk_on rule test d (λ o more. one-rule r p o more) protocols rest
     ∙ ap (λ b. cond b d later) (rule-any families r p h k)
 
 -- ---- all rules

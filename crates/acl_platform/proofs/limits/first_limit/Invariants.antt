@@ -1,6 +1,6 @@
 use Rattle.std.proofs.Common.{◌≡◌, [], All, drop, take}
 use Rattle.acl_platform.specs.Limits.{first_limit}
-use Rattle.acl_platform.specs.NameSlots.{IsSeen}
+use Rattle.acl_platform.specs.NameSlotSteps.{IsSeen}
 use Rattle.acl_platform.proofs.limits.first_limit.Given as goal
 
 abbrev pub invariant-loop-place : goal.invariant-loop-place

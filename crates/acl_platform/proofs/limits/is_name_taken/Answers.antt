@@ -1,5 +1,5 @@
 use Rattle.std.proofs.Common.{ap, sym, ◌∙◌}
-use Rattle.acl_platform.specs.NameSlots.{has_slot}
+use Rattle.acl_platform.specs.NameSlotSteps.{has_slot}
 use Rattle.acl_platform.proofs.NameSlotLaws.{new_by_slot}
 use Rattle.acl_platform.proofs.limits.is_name_taken.Goals as goal
 

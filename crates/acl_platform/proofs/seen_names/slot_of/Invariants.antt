@@ -1,5 +1,5 @@
 use Rattle.std.proofs.Common.{◌≡◌, ◌<◌, drop}
-use Rattle.acl_platform.specs.NameSlots.{slot, slot_from}
+use Rattle.acl_platform.specs.NameSlotSteps.{slot, slot_from}
 use Rattle.acl_platform.proofs.seen_names.slot_of.Given as goal
 
 abbrev pub invariant-loop-byte : goal.invariant-loop-byte
