@@ -1,5 +1,5 @@
--- The tests of a prefix say what it is.
-use Rattle.std.proofs.Common.{◌≡◌, ℕ, ◌*◌, ◌/◌, ◌%◌, ◌^◌, ◌<◌, ◌≤◌, Bool, ◌&&◌, nat_le, List, [], ◌∷◌, refl, ap, ◌∙◌, arith}
+-- The tests of numbers and prefixes say what they are.
+use Rattle.std.proofs.Common.{◌≡◌, ℕ, ◌*◌, ◌/◌, ◌%◌, ◌^◌, ◌<◌, ◌≤◌, Bool, ◌&&◌, nat_le, Option, None, Some, IfSome, List, [], ◌∷◌, refl, ap, ◌∙◌, arith}
 use Rattle.std.specs.Bool.{Decides}
 use Rattle.std.specs.List.{list_all, AllByRecursion}
 use Rattle.std.proofs.lemmas.Bool.{false≢true, leb-true, le-leb}
@@ -11,9 +11,19 @@ use Rattle.acl_packet.specs.declared.addresses.Family.TheVariants.{V4, V6}
 use Rattle.acl_packet.specs.declared.addresses.Prefix.{Prefix}
 use Rattle.acl_packet.specs.Addresses.{same_family, size_of, top_address, width_of, IsPrefixOf}
 use Rattle.acl_grammar.specs.PrefixCheckSteps.{is_aligned, is_prefix_of}
+use Rattle.acl_grammar.specs.RuleParts.{number_fits}
 
 pub le_decides : (m n : ℕ) → Decides (nat_le m n) (m ≤ n)
 le_decides m n = (leb-true m n, le-leb m n)
+
+-- a number that may not be written
+pub number_decides : (least most : ℕ) (o : Option ℕ) → Decides (number_fits least most o) (IfSome o (λ n. (least ≤ n) × (n ≤ most)))
+number_decides least most None = (λ h. tt, λ h. refl)
+number_decides least most (Some n) = Decides-and (nat_le least n) (nat_le n most) (le_decides least n) (le_decides n most)
+
+pub type_decides : (o : Option ℕ) → Decides (number_fits 0 254 o) (IfSome o (λ n. n ≤ 254))
+type_decides None = (λ h. tt, λ h. refl)
+type_decides (Some n) = Decides-like (number_fits 0 254 (Some n)) (λ h. h.1) (λ h. (omega arith, h)) (number_decides 0 254 (Some n))
 
 pub family_decides : (f g : Family) → Decides (same_family f g) (f ≡ g)
 family_decides V4 V4 = (λ h. refl, λ h. refl)

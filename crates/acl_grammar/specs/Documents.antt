@@ -7,10 +7,10 @@ use Rattle.acl_packet.specs.declared.packets.Packet.{Packet}
 use Rattle.acl_grammar.specs.Rows.{Row, text_of_rows}
 
 -- A document is its sections, each of which is valid, and no two of whose names are the same.
-pub record IsDocumentOf {S : Type 0} (IsSection : S → Type 0) (names_of : List S → List (List ℕ))
+pub record IsDocumentOf {S : Type 0} (IsSection : S → Type 0) (names_of : S → List (List ℕ))
     (doc : List S) : Type 0 where
   pub sections : AllByRecursion IsSection doc
-  pub names_differ : IsDistinct bytes_eq (names_of doc)
+  pub names_differ : IsDistinct bytes_eq (flat_map names_of doc)
 
 -- The bytes spell the document: it is valid, and they are its text.
 pub record IsSpelling {S : Type 0} (IsDocument : List S → Type 0) (text_of : List S → List ℕ)
@@ -20,7 +20,7 @@ pub record IsSpelling {S : Type 0} (IsDocument : List S → Type 0) (text_of : L
 
 -- The bytes spell the document of sections that are written as rows: it is valid, and they are the
 -- text of its rows.
-abbrev pub SpellsRows : {S : Type 0} → (S → Type 0) → (List S → List (List ℕ)) → (S → List Row)
+abbrev pub SpellsRows : {S : Type 0} → (S → Type 0) → (S → List (List ℕ)) → (S → List Row)
     → List ℕ → List S → Type 0
 SpellsRows IsSection names_of rows bytes doc =
     IsSpelling (IsDocumentOf IsSection names_of) (λ d. text_of_rows (flat_map rows d)) bytes doc

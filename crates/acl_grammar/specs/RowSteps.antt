@@ -1,6 +1,6 @@
 -- Reading rows leniently: any bytes are rows.
 use Rattle.std.specs.Prelude.{◌≡◌, ℕ, Bool, true, false, ◌==◌, List, [], ◌∷◌, map, drop}
-use Rattle.std.specs.List.{AllByRecursion, prefix_len, slice_split}
+use Rattle.std.specs.List.{AllByRecursion, fold, prefix_len, slice_split}
 use Rattle.acl_text.specs.Cuts.{has_byte}
 use Rattle.acl_grammar.specs.Rows.{Row, row, is_space, words_in}
 
@@ -14,6 +14,10 @@ row_in line = row (prefix_len is_space line) (words_in (drop (prefix_len is_spac
 -- The rows of a text, and one without words for what stands behind the last line feed.
 abbrev pub rows_in : List ℕ → List Row
 rows_in text = map row_in (slice_split is_feed text)
+
+-- What the bytes say, whatever they are: the sections of the draft that their rows leave.
+abbrev pub document_in : {S D : Type 0} → (D → Row → D) → D → (D → List S) → List ℕ → List S
+document_in step empty sections bytes = sections (fold step empty (rows_in bytes))
 
 -- A word that can be found again in its row.
 pub record IsWord (word : List ℕ) : Type 0 where

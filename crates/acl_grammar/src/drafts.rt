@@ -1,11 +1,11 @@
-ghost use Rattle.std.specs.Prelude.{◌≡◌, OnOk};
+ghost use Rattle.std.specs.Prelude.{◌≡◌, IfOk, List, OnOk};
 ghost use Rattle.std.specs.List.{fold};
 ghost use Rattle.acl_text.specs.Cuts.{views};
 ghost use Rattle.acl_grammar.specs.Rows.{Row, row};
 ghost use Rattle.acl_grammar.specs.RowSteps.{rows_in};
 
 use crate::splitting::read_row;
-use acl_text::{Memory, split_text};
+use acl_text::{Items, Memory, split_text};
 use std::alloc::Global;
 
 /// What has been read of a text, row by row. No row is refused: one that means nothing changes
@@ -16,6 +16,21 @@ pub trait Draft {
     /// Takes the next row.
     fn take_row(&mut self, alloc: Global, indent: usize, words: &[&[u8]]) -> Result<(), Memory>
         ensures { OnOk result (self.new ≡ step self.old (row indent (views words.now))) };
+}
+
+/// What has been read of a document, whose rows become sections.
+pub trait DocumentDraft<S: Drop>: Draft + Drop {
+    ghost empty: { Self };
+
+    ghost sections: { Self → List S };
+
+    /// Nothing has been read.
+    fn new(alloc: Global) -> Self
+        ensures { result ≡ empty };
+
+    /// The sections, at the end of the text.
+    fn finish(self) -> Result<Items<S>, Memory>
+        ensures { IfOk result (λ doc. doc ≡ sections self) };
 }
 
 /// Takes the rows of a text.

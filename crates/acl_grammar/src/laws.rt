@@ -1,4 +1,4 @@
-ghost use Rattle.std.specs.Prelude.{◌≡◌, ◌+◌, ◌<◌, ◌++◌, [], ℕ, List, false, length};
+ghost use Rattle.std.specs.Prelude.{◌≡◌, ◌+◌, ◌<◌, ◌++◌, [], ℕ, List, false, flat_map, length};
 ghost use Rattle.acl_packet.specs.declared.packets.Packet.{Packet};
 ghost use Rattle.acl_grammar.specs.Documents.{SpellsRows, outcome_at};
 ghost use Rattle.acl_grammar.specs.Naming.{in_common};
@@ -23,20 +23,16 @@ pub fn a_document_has_one_text<S: DocumentSection>()
 /// The empty text spells the document without sections.
 pub fn the_empty_text_has_no_section<S: DocumentSection>()
     ensures { SpellsRows S.is_section S.names S.rows [] [] }
-{
-    S::joined_documents_have_joined_names();
-}
+{}
 
 /// Two texts whose documents have no name in common spell, joined, the joined document.
 pub fn joined_texts_spell_joined_documents<S: DocumentSection>()
     ensures { (bytes more : List ℕ) (a b : List S)
         → SpellsRows S.is_section S.names S.rows bytes a
         → SpellsRows S.is_section S.names S.rows more b
-        → in_common (S.names a) (S.names b) ≡ false
+        → in_common (flat_map S.names a) (flat_map S.names b) ≡ false
         → SpellsRows S.is_section S.names S.rows (bytes ++ more) (a ++ b) }
-{
-    S::joined_documents_have_joined_names();
-}
+{}
 
 /// A section of two joined documents does what it does in its own.
 pub fn joined_documents_keep_outcomes<S: DocumentSection>()

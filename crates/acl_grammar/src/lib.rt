@@ -1,5 +1,6 @@
 //! What strict readers and writers of device languages share: pieces with a stated text, rows of
-//! words, lenient reading into a draft, and the comparison of bytes with a text.
+//! words, lenient reading into a draft, the comparison of bytes with a text, the sections of a
+//! document with their laws, and the parts of rules that languages have alike.
 #![tactic(auto)]
 
 mod comparing;
@@ -19,7 +20,7 @@ mod splitting;
 
 pub use comparing::is_text_of;
 pub use document_sections::{DocumentSection, outcome, read_document, sections};
-pub use drafts::{Draft, read_rows};
+pub use drafts::{DocumentDraft, Draft};
 pub use each_word::{EachWord, WordForm};
 pub use family_words::{families_of, family_of};
 pub use laws::{
@@ -33,7 +34,7 @@ pub use port_ranges::{PortRange, RangeWords, are_port_ranges, is_port_range};
 pub use prefix_checks::is_prefix_of;
 pub use rows::{AsRows, Each, Form, Row, Rows};
 pub use rule_parts::{
-    ACK, End, LogWord, RST, SYN, admits_address, admits_port, has_port_proto, is_empty, is_proto,
-    number_holds, state_holds,
+    ACK, End, LogWord, RST, SYN, admit_addresses, admit_ports, has_port_proto, is_empty, is_proto,
+    number_fits, number_holds, state_holds,
 };
 pub use splitting::join_words;

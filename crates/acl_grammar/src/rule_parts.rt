@@ -1,10 +1,22 @@
 ghost use Rattle.std.specs.Prelude.{◌≡◌};
 ghost use Rattle.std.specs.List.{list_any};
 ghost use Rattle.acl_packet.specs.Addresses.{has_address};
-ghost use Rattle.acl_grammar.specs.RuleParts.{has_port, has_port_proto, is_empty, is_proto, log_words, number_holds, set_holds, state_holds};
+ghost use Rattle.acl_grammar.specs.RuleParts.{
+  addresses_hold,
+  has_port,
+  has_port_proto,
+  is_empty,
+  is_proto,
+  log_words,
+  number_fits,
+  number_holds,
+  ports_hold,
+  set_holds,
+  state_holds,
+};
 
 use crate::pieces::{Words, put_words};
-use acl_packet::{Conn, Prefix};
+use acl_packet::{Conn, Packet, Prefix};
 use acl_text::{Out, PutFault};
 
 /// The bit of SYN among TCP's flags (RFC 9293 section 3.1).
@@ -50,8 +62,25 @@ pub fn number_holds(wanted: Option<u8>, number: u8) -> bool
     }
 }
 
-/// Whether one of the prefixes has the address, or none is written.
-pub fn admits_address(prefixes: &[Prefix], address: u128) -> bool
+/// Whether the number, where one is written, is neither below the least nor above the most.
+pub fn number_fits(least: u8, most: u8, number: Option<u8>) -> bool
+    ensures { result ≡ number_fits least most number }
+{
+    match number {
+        Some(number) => least <= number && number <= most,
+        None => true,
+    }
+}
+
+/// Whether the prefixes have the packet's addresses, end by end, where they are written.
+pub fn admit_addresses(src: &[Prefix], dst: &[Prefix], packet: &Packet) -> bool
+    ensures { result ≡ addresses_hold src.now dst.now packet.now }
+{
+    admits_address(src, packet.src) && admits_address(dst, packet.dst)
+}
+
+// Whether one of the prefixes has the address, or none is written.
+fn admits_address(prefixes: &[Prefix], address: u128) -> bool
     ensures { result ≡ set_holds has_address prefixes.now address }
 {
     is_empty(prefixes) || any_has_address(prefixes, address)
@@ -63,8 +92,15 @@ fn any_has_address(prefixes: &[Prefix], address: u128) -> bool
     prefixes.iter().any(|prefix| prefix.contains(address))
 }
 
-/// Whether one of the ranges has the port, or none is written.
-pub fn admits_port(ranges: &[(u16, u16)], port: u16) -> bool
+/// Whether the ranges have the packet's ports, end by end, where they are written.
+pub fn admit_ports(sports: &[(u16, u16)], dports: &[(u16, u16)], packet: &Packet) -> bool
+    ensures { result ≡ ports_hold sports.now dports.now packet.now }
+{
+    admits_port(sports, packet.sport) && admits_port(dports, packet.dport)
+}
+
+// Whether one of the ranges has the port, or none is written.
+fn admits_port(ranges: &[(u16, u16)], port: u16) -> bool
     ensures { result ≡ set_holds has_port ranges.now port }
 {
     is_empty(ranges) || any_has_port(ranges, port)

@@ -4,4 +4,4 @@ use Rattle.acl_grammar.proofs.laws.joined_texts_spell_joined_documents.Goals as 
 pub returns : goal.returns
 returns g c =
     let s = g.S.DocumentSection in
-    joined_documents s.is_section s.names g.S.Rows.rows c.joined_documents_have_joined_names.ensures
+    joined_documents s.is_section s.names g.S.Rows.rows

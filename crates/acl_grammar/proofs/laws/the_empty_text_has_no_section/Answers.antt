@@ -4,4 +4,4 @@ use Rattle.acl_grammar.proofs.laws.the_empty_text_has_no_section.Goals as goal
 pub returns : goal.returns
 returns g c =
     let s = g.S.DocumentSection in
-    nothing_is_spelled s.is_section s.names g.S.Rows.rows c.joined_documents_have_joined_names.ensures
+    nothing_is_spelled s.is_section s.names g.S.Rows.rows
