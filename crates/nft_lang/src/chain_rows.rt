@@ -1,10 +1,9 @@
 ghost use Rattle.std.specs.Prelude.{◌≡◌, ◌∷◌, [], IsTrue, codes};
 ghost use Rattle.acl_text.specs.Output.{Puts};
 ghost use Rattle.acl_grammar.specs.Rows.{row, text_of_rows, words_in};
-ghost use Rattle.acl_grammar.specs.RuleParts.{log_words};
 ghost use Rattle.nft_lang.specs.declared.documents.Item.TheVariants.{Rule as ARule};
 ghost use Rattle.nft_lang.specs.RuleRowSteps.{rule_of_row};
-ghost use Rattle.nft_lang.specs.Texts.{address_word, end_rows, ending_words, families_word, family_word, family_words, flags_words, head_rows, hook_word, icmp_word, addresses_words, ports_words, table_rows, target_row, table_row, start_row, chain_rows, types_words, item_rows, policy_word, port_word, priority_word, proto_words, rule_words, section_rows, state_words, table_word, verdict_words};
+ghost use Rattle.nft_lang.specs.Texts.{address_word, end_rows, families_word, head_rows, hook_word, icmp_word, addresses_words, ports_words, table_rows, target_row, table_row, start_row, chain_rows, types_words, item_rows, policy_word, port_word, priority_word, rule_words, section_rows, table_word};
 ghost use Rattle.nft_lang.specs.Documents.{table_name};
 
 use crate::documents::{Flags, Item, Rule, Section};

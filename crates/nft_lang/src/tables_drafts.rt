@@ -1,8 +1,7 @@
-ghost use Rattle.std.specs.Prelude.{◌≡◌, ◌∷◌, ◌-◌, ◌^◌, [], OnOk, IfOk};
+ghost use Rattle.std.specs.Prelude.{◌≡◌, ◌-◌, ◌^◌, [], OnOk, IfOk};
 ghost use Rattle.acl_text.specs.Cuts.{views};
 ghost use Rattle.acl_text.specs.SignedNumbers.{below_zero_in, from_zero_in, signed_in};
-ghost use Rattle.acl_grammar.specs.FamilyWords.{families_in};
-ghost use Rattle.nft_lang.specs.ReadingSteps.{no_section, hook_in, table_in, priority_in, begins_with, item_in, begin_section, with_number, with_chain, end_section, take_four, take_outer, take_chain, take_inner, take_row, no_draft};
+ghost use Rattle.nft_lang.specs.ReadingSteps.{no_section, hook_in, table_in, priority_in, begins_with, item_in, begin_section, with_chain, end_section, take_four, take_outer, take_chain, take_inner, take_row, no_draft};
 
 use crate::documents::{Doc, Item, Section};
 use crate::rule_drafts::{rule_of, up_to};

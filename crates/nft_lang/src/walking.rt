@@ -1,14 +1,13 @@
-ghost use Rattle.std.specs.Prelude.{◌≡◌, ◌==◌, length};
+ghost use Rattle.std.specs.Prelude.{◌≡◌, ◌==◌};
 ghost use Rattle.std.specs.List.{list_any};
-ghost use Rattle.acl_packet.specs.Packets.{IsPacket};
 ghost use Rattle.acl_grammar.specs.RuleParts.{number_holds, set_holds, state_holds};
-ghost use Rattle.nft_lang.specs.Walks.{flags_hold, protocol_holds, tests_hold, rule_holds, policy_verdict, decided_by, first_holding, walk, section_outcome, outcome_of};
+ghost use Rattle.nft_lang.specs.Walks.{flags_hold, protocol_holds, tests_hold, rule_holds, policy_verdict, decided_by, first_holding, walk};
 
-use crate::documents::{Doc, Flags, Item, Rule, Section};
+use crate::documents::{Flags, Item, Rule};
 use acl_grammar::{
     ACK, RST, SYN, admit_addresses, admit_ports, is_empty, number_holds, state_holds,
 };
-use acl_packet::{Conn, Outcome, Packet, Prefix, Verdict, has_flag};
+use acl_packet::{Outcome, Packet, Verdict, has_flag};
 
 pub(crate) fn walk(accept: bool, items: &[Item], packet: &Packet) -> Outcome
     ensures { result ≡ walk accept items.now packet.now }
