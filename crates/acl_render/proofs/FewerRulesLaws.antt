@@ -19,6 +19,7 @@ use Rattle.acl_platform.specs.declared.filters.Limit.{Limit}
 use Rattle.acl_platform.specs.declared.filters.Limit.TheVariants.{NameClash, NameLength, TooManyEntries, Unsupported}
 use Rattle.acl_platform.specs.declared.rules.Rule.{Rule}
 use Rattle.acl_platform.specs.Limits.{count_limit, filter_limit, first_limit, is_name_taken, names_sctp_ports}
+use Rattle.acl_platform.proofs.AcceptedFilters.{both-none, not-limited}
 use Rattle.gen_cisco.specs.CountSteps.{rule_count}
 use Rattle.gen_cisco.specs.Limits as cisco
 use Rattle.gen_cisco.specs.Sections.{list_items}
@@ -28,6 +29,7 @@ use Rattle.gen_junos.specs.Sections.{term_count, term_of, terms_of}
 use Rattle.gen_iptables.specs.Limits as ipt
 use Rattle.gen_iptables.specs.Sections.{chain_of, chain_size}
 use Rattle.gen_nftables.specs.CountSteps as nft_steps
+use Rattle.gen_nftables.specs.Limits as nft
 use Rattle.gen_nftables.specs.Sections as nft_sections
 use Rattle.gen_nftables.proofs.EntryCounts as nft_counts
 use Rattle.acl_render.specs.FewerRules.{FewerRulesFit, HasFewerRules, IsLeftOf}
@@ -35,14 +37,6 @@ use Rattle.acl_render.specs.PlatformFiles.{limit_of, limit_on}
 use Rattle.acl_render.proofs.LeftLaws.{left-append, left-count, left-more, left-none}
 
 -- ---- limits that are not met
-
-pub none-or : (a b : Option Limit) → option_or a b ≡ None → (a ≡ None) × (b ≡ None)
-none-or None b h = (refl, h)
-none-or (Some l) b h = absurd (none-some l (sym h))
-
-none-if : (b : Bool) (l : Limit) (o : Option Limit) → cond b (Some l) o ≡ None → (b ≡ false) × (o ≡ None)
-none-if true l o h = absurd (none-some l (sym h))
-none-if false l o h = (refl, h)
 
 if-none : (b : Bool) (l : Limit) (o : Option Limit) → b ≡ false → o ≡ None → cond b (Some l) o ≡ None
 if-none true l o h k = absurd (false≢true (sym h))
@@ -59,7 +53,7 @@ fewer-limits : (limit : List Rule → Rule → Option Limit) → IsFalling limit
 fewer-limits limit falls fewer earlier [] fs before h none = refl
 fewer-limits limit falls fewer earlier (g ∷ gs) [] before h none = absurd h
 fewer-limits limit falls fewer earlier (g ∷ gs) (f ∷ fs) before h none =
-    let parts = none-or (limit earlier f) (first_limit limit (earlier ++ f ∷ []) fs) none in
+    let parts = both-none (limit earlier f) (first_limit limit (earlier ++ f ∷ []) fs) none in
     elim h [
       | inl p ↦
           let rest = fewer-limits limit falls (fewer ++ f ∷ []) (earlier ++ f ∷ []) gs fs
@@ -76,32 +70,35 @@ name-free fewer earlier r h none = left-none (λ (e : Rule). bytes_eq e.name r.n
 
 cisco-falls : IsFalling cisco.rule_limit
 cisco-falls fewer earlier r h none =
-    let first = none-if (nat_lt 64 (length r.name)) (NameLength (length earlier)) _ none in
-    let second = none-if (cisco.is_unsupported r) (Unsupported (length earlier)) None first.1 in
+    let first = not-limited (nat_lt 64 (length r.name)) (NameLength (length earlier)) _ none in
+    let second = not-limited (cisco.is_unsupported r) (Unsupported (length earlier)) None first.1 in
     if-none (nat_lt 64 (length r.name)) (NameLength (length fewer)) _ first.0
     (if-none (cisco.is_unsupported r) (Unsupported (length fewer)) None second.0 refl)
 
 junos-falls : IsFalling junos.rule_limit
 junos-falls fewer earlier r h none =
-    let first = none-if (nat_lt 64 (length r.name)) (NameLength (length earlier)) _ none in
-    let second = none-if (is_name_taken earlier r) (NameClash (length earlier)) _ first.1 in
-    let third = none-if (names_sctp_ports r) (Unsupported (length earlier)) None second.1 in
+    let first = not-limited (nat_lt 64 (length r.name)) (NameLength (length earlier)) _ none in
+    let second = not-limited (is_name_taken earlier r) (NameClash (length earlier)) _ first.1 in
+    let third = not-limited (names_sctp_ports r) (Unsupported (length earlier)) None second.1 in
     if-none (nat_lt 64 (length r.name)) (NameLength (length fewer)) _ first.0
     (if-none (is_name_taken fewer r) (NameClash (length fewer)) _ (name-free fewer earlier r h second.0)
     (if-none (names_sctp_ports r) (Unsupported (length fewer)) None third.0 refl))
 
 ipt-falls : IsFalling ipt.rule_limit
 ipt-falls fewer earlier r h none =
-    let first = none-if (nat_lt 24 (length r.name)) (NameLength (length earlier)) _ none in
-    let second = none-if (is_name_taken earlier r) (NameClash (length earlier)) None first.1 in
+    let first = not-limited (nat_lt 24 (length r.name)) (NameLength (length earlier)) _ none in
+    let second = not-limited (is_name_taken earlier r) (NameClash (length earlier)) None first.1 in
     if-none (nat_lt 24 (length r.name)) (NameLength (length fewer)) _ first.0
     (if-none (is_name_taken fewer r) (NameClash (length fewer)) None (name-free fewer earlier r h second.0) refl)
+
+nft-falls : IsFalling nft.rule_limit
+nft-falls fewer earlier r h none = refl
 
 -- ---- the limit of the count
 
 -- Where the count meets no limit, it is at most 100,000.
 pub count-fits : (n : ℕ) → count_limit n ≡ None → n ≤ 100000
-count-fits n h = ltb-false 100000 n (none-if (nat_lt 100000 n) TooManyEntries None h).0
+count-fits n h = ltb-false 100000 n (not-limited (nat_lt 100000 n) TooManyEntries None h).0
 
 fewer-fit : (m n : ℕ) → m ≤ n → count_limit n ≡ None → count_limit m ≡ None
 fewer-fit m n h none =
@@ -111,7 +108,7 @@ fewer-fit m n h none =
 fit-both : (limit : List Rule → Rule → Option Limit) → IsFalling limit → (m n : ℕ) (f g : Filter)
     → IsLeftOf g.rules f.rules → m ≤ n → filter_limit limit n f ≡ None → filter_limit limit m g ≡ None
 fit-both limit falls m n f g h le none =
-    let parts = none-or (first_limit limit [] f.rules) (count_limit n) none in
+    let parts = both-none (first_limit limit [] f.rules) (count_limit n) none in
     ap (λ o. option_or o (count_limit m)) (fewer-limits limit falls [] [] g.rules f.rules tt h parts.0)
     ∙ fewer-fit m n le parts.1
 
@@ -202,7 +199,7 @@ fit-on Juniper f g h none =
     fit-both junos.rule_limit junos-falls _ _ f g h.rules (junos-fewer g.rules f.rules h.rules h.kept) none
 fit-on Iptables f g h none =
     fit-both ipt.rule_limit ipt-falls _ _ f g h.rules (ipt-fewer g.rules f.rules h.rules) none
-fit-on Nftables f g h none = fewer-fit _ _ (nft-fewer f g h.rules) none
+fit-on Nftables f g h none = fit-both nft.rule_limit nft-falls _ _ f g h.rules (nft-fewer f g h.rules) none
 
 pub fewer-rules-fit : FewerRulesFit
 unfolding limit_of

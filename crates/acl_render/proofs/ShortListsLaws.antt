@@ -14,9 +14,11 @@ use Rattle.acl_platform.specs.SoundFilters.{IsSoundRule}
 use Rattle.gen_cisco.specs.Limits as cisco
 use Rattle.gen_junos.specs.Limits as junos
 use Rattle.gen_iptables.specs.Limits as ipt
+use Rattle.gen_nftables.specs.Limits as nft
 use Rattle.acl_render.specs.PlatformFiles.{count_of, count_on, limit_of, limit_on}
 use Rattle.acl_render.specs.ShortLists.{TakenFiltersAreShort}
-use Rattle.acl_render.proofs.FewerRulesLaws.{count-fits, none-or}
+use Rattle.acl_platform.proofs.AcceptedFilters.{both-none}
+use Rattle.acl_render.proofs.FewerRulesLaws.{count-fits}
 
 fewest-each : (kind : Kind) (families : Families) (rules : List Rule) → AllByRecursion (IsSoundRule kind families) rules
     → AllByRecursion (λ r. IsFewest r.family (any_has r.src) r.src × IsFewest r.family (any_has r.dst) r.dst) rules
@@ -30,13 +32,13 @@ fewest-each kind families (r ∷ rules) h = (
 )
 
 count-within : (limit : List Rule → Rule → Option Limit) (n : ℕ) (f : Filter) → filter_limit limit n f ≡ None → n ≤ 100000
-count-within limit n f h = count-fits n (none-or (first_limit limit [] f.rules) (count_limit n) h).1
+count-within limit n f h = count-fits n (both-none (first_limit limit [] f.rules) (count_limit n) h).1
 
 within-on : (kind : Kind) (f : Filter) → limit_on kind f ≡ None → count_on kind f ≤ 100000
 within-on Cisco f h = count-within cisco.rule_limit _ f h
 within-on Juniper f h = count-within junos.rule_limit _ f h
 within-on Iptables f h = count-within ipt.rule_limit _ f h
-within-on Nftables f h = count-fits _ h
+within-on Nftables f h = count-within nft.rule_limit _ f h
 
 pub taken-short : TakenFiltersAreShort
 unfolding limit_of count_of

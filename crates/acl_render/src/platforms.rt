@@ -3,7 +3,7 @@ ghost use Rattle.acl_platform.specs.Platforms.{judged};
 ghost use Rattle.acl_platform.specs.SoundFilters.{IsSound};
 ghost use Rattle.acl_render.specs.PlatformFiles.{count_of, limit_of};
 
-use acl_platform::{Filter, Limit, Platform};
+use acl_platform::{Filter, Limit};
 use acl_target::Kind;
 use gen_cisco::Cisco;
 use gen_iptables::Iptables;
@@ -17,9 +17,9 @@ pub fn check(filter: &Filter) -> Result<u64, Limit>
     ensures { result ≡ judged (limit_of filter.now) (count_of filter.now) }
 {
     match filter.kind {
-        Kind::Cisco => Cisco.check(filter),
-        Kind::Juniper => Junos.check(filter),
-        Kind::Iptables => Iptables.check(filter),
-        Kind::Nftables => Nftables.check(filter),
+        Kind::Cisco => acl_platform::check(&Cisco, filter),
+        Kind::Juniper => acl_platform::check(&Junos, filter),
+        Kind::Iptables => acl_platform::check(&Iptables, filter),
+        Kind::Nftables => acl_platform::check(&Nftables, filter),
     }
 }

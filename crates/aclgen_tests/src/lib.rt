@@ -4,10 +4,4 @@
 #![tactic(auto)]
 
 #[cfg(test)]
-mod jobs;
-#[cfg(test)]
-mod options;
-#[cfg(test)]
-mod words;
-#[cfg(test)]
-mod workloads;
+mod tests;

@@ -4,12 +4,4 @@
 #![tactic(auto)]
 
 #[cfg(test)]
-mod names;
-#[cfg(test)]
-mod packets;
-#[cfg(test)]
-mod rows;
-#[cfg(test)]
-mod sets;
-#[cfg(test)]
-mod texts;
+mod tests;

@@ -4,14 +4,4 @@
 #![tactic(auto)]
 
 #[cfg(test)]
-mod cisco;
-#[cfg(test)]
-mod iptables;
-#[cfg(test)]
-mod junos;
-#[cfg(test)]
-mod languages;
-#[cfg(test)]
-mod nftables;
-#[cfg(test)]
-mod packets;
+mod tests;

@@ -4,8 +4,4 @@
 #![tactic(auto)]
 
 #[cfg(test)]
-mod loads;
-#[cfg(test)]
-mod policies;
-#[cfg(test)]
-mod reports;
+mod tests;

@@ -1,3 +1,1 @@
-pub mod EndingWordLaws
-pub mod EndingWords
 pub mod SampleFilters

@@ -4,12 +4,4 @@
 #![tactic(auto)]
 
 #[cfg(test)]
-mod lines;
-#[cfg(test)]
-mod policies;
-#[cfg(test)]
-mod splices;
-#[cfg(test)]
-mod targets;
-#[cfg(test)]
-mod words;
+mod tests;

@@ -4,10 +4,4 @@
 #![tactic(auto)]
 
 #[cfg(test)]
-mod filters;
-#[cfg(test)]
-mod reading;
-#[cfg(test)]
-mod shades;
-#[cfg(test)]
-mod terms;
+mod tests;

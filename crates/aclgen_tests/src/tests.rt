@@ -1,0 +1,4 @@
+mod jobs;
+mod options;
+mod words;
+mod workloads;

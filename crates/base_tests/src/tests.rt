@@ -1,0 +1,5 @@
+mod names;
+mod packets;
+mod rows;
+mod sets;
+mod texts;

@@ -1,0 +1,6 @@
+mod cisco;
+mod iptables;
+mod junos;
+mod languages;
+mod nftables;
+mod packets;

@@ -1,0 +1,3 @@
+mod loads;
+mod policies;
+mod reports;

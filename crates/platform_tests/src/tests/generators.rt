@@ -1,0 +1,138 @@
+ghost use Rattle.std.specs.Prelude.{flat_map, map};
+ghost use Rattle.std.specs.List.{All, IsDistinct};
+ghost use Rattle.std.specs.Str.{bytes_eq};
+ghost use Rattle.acl_platform.specs.Combinations.{IsSized};
+ghost use Rattle.acl_platform.specs.Limits.{filter_limit};
+ghost use Rattle.acl_platform.specs.Platforms.{IsAccepted};
+
+use crate::tests::samples::{
+    ANY, Head, Lines, Sample, every_second_host, filter_from, filter_of, rules,
+};
+use acl_grammar::{read_document, sections};
+use acl_host::Whole;
+use acl_platform::{Filter, Limit, Platform, RuleLimits, count_in_limit, first_limit, write_all};
+use acl_text::{Memory, PutFault};
+use std::alloc::Global;
+use std::process::Abort;
+use std::test::Fail;
+
+// How many sections the text has, where it is one of the platform's language.
+fn sections_of<P: Platform>(alloc: Global, text: &[u8]) -> Result<Option<usize>, Memory> {
+    let doc = read_document::<P::Section>(alloc, text)?;
+    Ok(doc.map(|doc| sections(&doc)))
+}
+
+pub(crate) fn text_of<P: Platform>(
+    alloc: Global,
+    platform: &P,
+    filter: &Filter,
+) -> Result<Whole, PutFault>
+    requires { All IsSized filter.now.rules }
+{
+    let mut out = Whole::new(alloc);
+    platform.put_section(filter, &mut out)?;
+    Ok(out)
+}
+
+// The lines of the section.
+pub(crate) fn lines_of<P: Platform>(platform: &P, filter: &Filter) -> Result<Lines, PutFault>
+    requires { All IsSized filter.now.rules }
+{
+    let mut lines = Lines::new();
+    platform.put_section(filter, &mut lines)?;
+    Ok(lines)
+}
+
+// A filter as the tests write it, the text of its section with its lines, and how many entries it has.
+pub(crate) struct Case {
+    pub(crate) head: Head,
+    pub(crate) rules: &'static [Sample],
+    pub(crate) text: &'static str,
+    pub(crate) lines: u64,
+    pub(crate) entries: u64,
+}
+
+// Whether the section is written, counted and read back as the case says.
+fn is_written<P: Platform>(alloc: Global, platform: &P, case: &Case) -> Result<bool, Fail> {
+    let own = filter_of(alloc, &case.head, case.rules)?;
+    let text = text_of(alloc, platform, &own)?;
+    Ok(
+        text.as_slice() == case.text.as_bytes()
+            && sections_of::<P>(alloc, text.as_slice())? == Some(1)
+            && platform.entry_count(&own) == case.entries
+            && lines_of(platform, &own)?.is_of(case.lines),
+    )
+}
+
+pub(crate) fn expect_written<P: Platform>(
+    rt: &impl Abort,
+    alloc: Global,
+    platform: &P,
+    cases: &[Case],
+) -> Result<(), Fail> {
+    for case in cases {
+        assert!(rt; is_written(alloc, platform, case)?, "{}", case.text);
+    }
+    Ok(())
+}
+
+// Whether the text is what becomes of filters that the platform takes, and is read back as a section for each.
+pub(crate) fn are_written<P: Platform>(
+    alloc: Global,
+    platform: &P,
+    filters: &[Filter],
+    text: &str,
+) -> Result<bool, Fail>
+    requires accepted { All (IsAccepted P.handles (λ f. filter_limit P.limit (P.count f) f))
+        filters.now }
+    requires differ { IsDistinct bytes_eq (flat_map P.Section.names (map P.section filters.now)) }
+{
+    let mut out = Whole::new(alloc);
+    write_all(platform, filters, &mut out)?;
+    Ok(
+        out.as_slice() == text.as_bytes()
+            && sections_of::<P>(alloc, out.as_slice())? == Some(filters.len()),
+    )
+}
+
+// Rules, and the first limit that one of them meets.
+pub(crate) type LimitCase = (&'static [Sample], Option<Limit>);
+
+pub(crate) fn expect_limits<L: RuleLimits>(
+    rt: &impl Abort,
+    alloc: Global,
+    limits: &L,
+    cases: &[LimitCase],
+) -> Result<(), Fail> {
+    for (samples, limit) in cases {
+        let rules = rules(alloc, samples)?;
+        assert_eq!(rt; first_limit(limits, rules.as_slice()), *limit);
+    }
+    Ok(())
+}
+
+// The entries of a filter of one rule, from as many hosts.
+fn entries_of_hosts<P: Platform>(
+    alloc: Global,
+    platform: &P,
+    head: &Head,
+    count: u32,
+) -> Result<u64, Memory> {
+    let hosts = every_second_host(alloc, count)?;
+    let own = filter_from(alloc, head, &ANY, hosts)?;
+    Ok(platform.entry_count(&own))
+}
+
+// A filter of 99,999 hosts has as many entries as a device is given, one of them being no host's.
+pub(crate) fn expect_most_entries<P: Platform>(
+    rt: &impl Abort,
+    alloc: Global,
+    platform: &P,
+    head: &Head,
+) -> Result<(), Fail> {
+    let most = entries_of_hosts(alloc, platform, head, 99_999)?;
+    assert_eq!(rt; count_in_limit(most), Ok(100_000));
+    let more = entries_of_hosts(alloc, platform, head, 100_000)?;
+    assert_eq!(rt; count_in_limit(more), Err(Limit::TooManyEntries));
+    Ok(())
+}

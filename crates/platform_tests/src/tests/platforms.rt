@@ -1,0 +1,163 @@
+ghost use Rattle.std.specs.Prelude.{[], ◌∷◌, IfOk, decimal, unwrap_or};
+ghost use Rattle.acl_grammar.specs.Rows.{row};
+ghost use Rattle.acl_platform.specs.Combinations.{IsSized};
+
+use crate::tests::samples::{HEAD, Head, filter};
+use acl_grammar::{Form, Number, Row, Rows, Word};
+use acl_host::Whole;
+use acl_packet::{Conn, Family, Outcome, Packet, Prefix, Verdict};
+use acl_platform::{
+    Combination, Limit, Rule, Rules, Test, count_combinations, count_in_limit, filter_outcome,
+    put_combinations,
+};
+use acl_sets::{Prefixes, Range, RangeSet};
+use acl_target::Ending;
+use acl_text::{Bytes, Memory, Out, Place, PutFault};
+use std::alloc::Global;
+use std::test::Fail;
+
+fn host(address: u128) -> Prefix {
+    Prefix {
+        family: Family::V4,
+        first: address,
+        len: 32,
+    }
+}
+
+// What of TCP and UDP goes from 0.0.0.1 or 0.0.0.2 to 0.0.0.3, ports 80 to 81 and 443, and begins a
+// connection.
+fn web(alloc: Global) -> Result<Rule, Memory>
+    ensures { IfOk result IsSized }
+{
+    let mut src = Prefixes::new(alloc);
+    src.push(host(1))?;
+    src.push(host(2))?;
+    let mut dst = Prefixes::new(alloc);
+    dst.push(host(3))?;
+    let protos = [Range { low: 6, high: 6 }, Range { low: 17, high: 17 }];
+    let dports = [
+        Range { low: 80, high: 81 },
+        Range {
+            low: 443,
+            high: 443,
+        },
+    ];
+    Ok(Rule {
+        name: Bytes::from_slice(alloc, b"web")?,
+        place: Place { file: 1, line: 2 },
+        note: Bytes::new(alloc),
+        family: Family::V4,
+        src,
+        dst,
+        protos: RangeSet::from_ranges(alloc, 255, &protos)?,
+        sports: RangeSet::all(alloc, 65535)?,
+        dports: RangeSet::from_ranges(alloc, 65535, &dports)?,
+        itypes: RangeSet::all(alloc, 255)?,
+        test: Test::SynNotAck,
+        verdict: Verdict::Accept,
+        log: true,
+    })
+}
+
+// The source, the protocol, and the first port of the destination.
+struct InNumbers;
+
+impl Form<Combination> for InNumbers {
+    ghost item_rows = { λ f c. row 0 (decimal c.src.first ∷ decimal (unwrap_or c.proto 0)
+        ∷ decimal (unwrap_or c.dport (0, 0)).0 ∷ []) ∷ [] };
+
+    fn put_item<O: Out>(&self, item: &Combination, out: &mut O) -> Result<(), PutFault> {
+        let proto = u128::from(item.proto.unwrap_or(0));
+        let (port, _) = item.dport.unwrap_or((0, 0));
+        let first = Number {
+            number: item.src.first,
+        };
+        let proto = Word {
+            piece: Number { number: proto },
+        };
+        let port = Word {
+            piece: Number {
+                number: u128::from(port),
+            },
+        };
+        let line = Row {
+            indent: 0,
+            first,
+            rest: (proto, port),
+        };
+        line.put_rows(out)
+    }
+}
+
+#[test]
+fn writes_each_combination(rt: HostRuntime) -> Result<(), Fail> {
+    let alloc = rt.alloc();
+    let rule = web(alloc)?;
+    let mut out = Whole::new(alloc);
+    put_combinations(&rule, &InNumbers, &mut out)?;
+    assert_eq!(rt;
+        out.as_slice(),
+        b"1 6 80\n1 6 443\n2 6 80\n2 6 443\n1 17 80\n1 17 443\n2 17 80\n2 17 443\n".as_slice()
+    );
+    assert_eq!(rt; count_combinations(&rule), 8);
+    Ok(())
+}
+
+fn syn(family: Family, src: u128, proto: u8, dport: u16, flags: u8) -> Packet {
+    Packet {
+        family,
+        src,
+        dst: 3,
+        proto,
+        sport: 1024,
+        dport,
+        flags,
+        itype: 0,
+        conn: Conn::New,
+    }
+}
+
+#[test]
+fn the_first_rule_or_the_ending_decides(rt: HostRuntime) -> Result<(), Fail> {
+    let alloc = rt.alloc();
+    let mut rules = Rules::new(alloc);
+    rules.push(web(alloc)?)?;
+    let head = Head {
+        ending: Ending::Neighbours,
+        ..HEAD
+    };
+    let filter = filter(alloc, &head, rules)?;
+    let held = Outcome {
+        verdict: Verdict::Accept,
+        logged: true,
+    };
+    let denied = Outcome::unlogged(Verdict::Deny);
+    let cases = [
+        (syn(Family::V4, 1, 6, 81, 2), held),
+        (syn(Family::V4, 3, 6, 81, 2), denied),
+        (syn(Family::V4, 1, 132, 81, 2), denied),
+        (syn(Family::V4, 1, 6, 82, 2), denied),
+        (syn(Family::V4, 1, 6, 81, 18), denied),
+        (syn(Family::V6, 1, 6, 81, 2), denied),
+    ];
+    for (packet, outcome) in cases {
+        assert_eq!(rt; filter_outcome(&filter, &packet), outcome);
+    }
+    let mut solicitation = syn(Family::V6, 1, 58, 0, 0);
+    solicitation.itype = 135;
+    let passed = Outcome::unlogged(Verdict::Accept);
+    assert_eq!(rt; filter_outcome(&filter, &solicitation), passed);
+    Ok(())
+}
+
+#[test]
+fn takes_as_many_entries_as_a_device_is_given(rt: HostRuntime) -> Result<(), Fail> {
+    let limits = [
+        (100_000, Ok(100_000)),
+        (100_001, Err(Limit::TooManyEntries)),
+    ];
+    for (count, limit) in limits {
+        assert_eq!(rt; count_in_limit(count), limit);
+    }
+    Ok(())
+}

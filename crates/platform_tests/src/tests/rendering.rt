@@ -1,0 +1,28 @@
+use crate::tests::samples::{HEAD, Head, filter};
+use acl_host::Whole;
+use acl_platform::Rules;
+use acl_render::{check, render};
+use acl_target::{Ending, Kind};
+use std::test::Fail;
+
+// An IPv4 list of Cisco that denies everything.
+const EDGE_HEAD: Head = Head {
+    kind: Kind::Cisco,
+    name: b"edge",
+    ending: Ending::Neighbours,
+    ..HEAD
+};
+
+#[test]
+fn a_filter_is_checked_and_its_file_rendered(rt: HostRuntime) -> Result<(), Fail> {
+    let alloc = rt.alloc();
+    let edge = filter(alloc, &EDGE_HEAD, Rules::new(alloc))?;
+    assert_eq!(rt; check(&edge), Ok(1));
+    let mut text = Whole::new(alloc);
+    render(Kind::Cisco, &[edge], &mut text)?;
+    assert_eq!(rt;
+        text.as_slice(),
+        b"! cisco edge extended\nno ip access-list extended edge\nip access-list extended edge\n deny ip any any\nexit\n".as_slice()
+    );
+    Ok(())
+}

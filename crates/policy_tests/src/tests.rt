@@ -1,0 +1,5 @@
+mod lines;
+mod policies;
+mod splices;
+mod targets;
+mod words;

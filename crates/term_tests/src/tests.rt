@@ -1,0 +1,4 @@
+mod filters;
+mod reading;
+mod shades;
+mod terms;
