@@ -246,9 +246,15 @@ adds-written today written terms t p q h = record {
   taken = h.taken;
 }
 
-pub blocks-are : (bs : List Block) (b : Block) (more : List Block) (ls : List (List Term)) (l : List Term) (others : List (List Term))
+blocks-are : (bs : List Block) (b : Block) (more : List Block) (ls : List (List Term)) (l : List Term) (others : List (List Term))
     → bs ≡ b ∷ more → ls ≡ l ∷ others → requests_in bs ls ≡ block_requests b l ++ requests_in more others
 blocks-are bs b more ls l others e f = ap (λ xs. requests_in xs ls) e ∙ ap (λ ys. requests_in (b ∷ more) ys) f
+
+-- What is asked for in blocks and their terms: that of the first, and behind it that of the rest.
+pub first-block : (bs : List Block) (b : Block) → 1 ≤ length bs → b ≡ get_or bs 0 b
+    → (ls : List (List Term)) (l : List Term) → 1 ≤ length ls → l ≡ get_or ls 0 l
+    → requests_in bs ls ≡ block_requests b l ++ requests_in (take (length bs - 1) (drop 1 bs)) (take (length ls - 1) (drop 1 ls))
+first-block bs b some is ls l more so = blocks-are bs b _ ls l _ (first-rest bs b some is) (first-rest ls l more so)
 
 -- ---- a whole policy
 

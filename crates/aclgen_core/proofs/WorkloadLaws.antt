@@ -1,5 +1,5 @@
 -- The run of the workload, from what planning and reporting give: it has a plan, and so no fault.
-use Rattle.std.proofs.Common.{◌≡◌, ℕ, ◌<◌, ◌≤◌, pos, List, [], ◌∷◌, ◌++◌, map, flat_map, Option, None, Some, option_map, Result, Ok, Err, inl, refl, ap, sym, subst, ◌∙◌, arith}
+use Rattle.std.proofs.Common.{◌≡◌, ℕ, ◌<◌, ◌≤◌, pos, List, [], ◌∷◌, ◌++◌, map, flat_map, Option, None, Some, IfNone, IfSome, option_map, Result, Ok, Err, inl, refl, ap, sym, subst, ◌∙◌, arith}
 use Rattle.std.specs.List.{AllByRecursion}
 use Rattle.std.proofs.lemmas.Int.{ints}
 use Rattle.acl_text.specs.declared.faults.Fault.{Fault}
@@ -18,17 +18,19 @@ use Rattle.acl_load.specs.declared.load_faults.LoadFault.TheVariants as loads
 use Rattle.acl_load.specs.declared.policy_loading.Loaded.{Loaded}
 use Rattle.acl_expand.specs.Expansions.{filter_of}
 use Rattle.acl_options.specs.CommandLines.{Options}
+use Rattle.acl_options.specs.WorkloadWords.{workload_of}
 use Rattle.acl_render.specs.PlatformFiles.{count_of}
 use Rattle.policy_grammar.specs.PolicyTexts.{block_meant, text_meant}
 use Rattle.workload_laws.specs.LoadedWorkloads.{FilterFits, IsLoadedWorkload, workload_counts, workload_targets}
 use Rattle.workload_laws.specs.WorkloadFiles.{workload_files}
 use Rattle.workload_laws.specs.WorkloadPolicies.{block_text, workload_text}
 use Rattle.workload_laws.proofs.LoadedWorkloads.{workloads_loaded}
+use Rattle.aclgen_core.specs.Endings.{Keeps}
 use Rattle.aclgen_core.specs.FilterRequests.{FilterRequest, check_slip, filter_for, limit_slip, loaded_slip, request_of, request_slip, requests_in, requests_slip}
 use Rattle.aclgen_core.specs.Job.{Plan, Plans, files_on, job_slip, or_slip, plan_of, platforms}
 use Rattle.aclgen_core.specs.PreparingSteps.{MakesWork}
-use Rattle.aclgen_core.specs.WorkloadRuns.{MakesWorkload, PlansWorkload, Reports, ReportsOn, RunsWorkload, WorkloadsHaveNoFault, entries_of, workload_options}
-use Rattle.aclgen_core.specs.Worlds.{Stream}
+use Rattle.aclgen_core.specs.WorkloadRuns.{EndsWorkload, MakesWorkload, PlansWorkload, Reports, ReportsOn, Runs, RunsWorkload, WorkloadsHaveNoFault, entries_of, workload_options}
+use Rattle.aclgen_core.specs.Worlds.{Stream, World}
 use Rattle.aclgen_core.specs.declared.endings.Ended.{Ended}
 use Rattle.aclgen_core.specs.declared.planning.Work.{Work}
 use Rattle.aclgen_core.proofs.OneAnswer.{same-plan}
@@ -125,3 +127,12 @@ reports-plan n work text o o' e e' result is made r = record {
   err_counts = r.err_counts;
   tells = inl (made.0, made.1, subst (λ t. Reports t o o' e e' result) (is ∙ made.2.report_is) r.so);
 }
+
+-- ---- the whole run
+
+-- Where the words do not ask for the workload, the job that they ask for is done.
+pub compiled : (words : List (List ℕ)) (old new : World) (result : Ended) → workload_of words ≡ None → Keeps words old new result → Runs words old new result
+compiled words old new result none keeps = (
+  subst (λ o. IfSome o (λ terms. EndsWorkload terms old new result)) (sym none) tt,
+  subst (λ o. IfNone o (Keeps words old new result)) (sym none) keeps,
+)

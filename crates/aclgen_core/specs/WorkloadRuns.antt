@@ -1,15 +1,17 @@
--- The run of the workload: its texts are compiled over files in memory, and the report is what is left of it.
-use Rattle.std.specs.Prelude.{◌≡◌, ◌⊎◌, ℕ, ◌<◌, ◌≤◌, pos, false, List, [], ◌∷◌, map, codes, Result, Ok, None}
+-- What the program does. The run of the workload: its texts are compiled over files in memory, and the report is what is
+-- left of it.
+use Rattle.std.specs.Prelude.{◌≡◌, ◌⊎◌, ℕ, ◌<◌, ◌≤◌, pos, false, List, [], ◌∷◌, map, codes, Result, Ok, None, IfNone, IfSome}
 use Rattle.acl_text.specs.declared.faults.Fault.{Fault}
 use Rattle.acl_text.specs.Output.{Rose}
 use Rattle.acl_host.specs.declared.clocks.Day.{Day}
 use Rattle.acl_host.specs.Files.{BothTell}
 use Rattle.acl_host.specs.Outside.{AddsFront}
 use Rattle.acl_options.specs.CommandLines.{Options}
+use Rattle.acl_options.specs.WorkloadWords.{workload_of}
 use Rattle.acl_render.specs.PlatformFiles.{count_of}
 use Rattle.workload_laws.specs.LoadedWorkloads.{workload_counts}
 use Rattle.workload_laws.specs.WorkloadFiles.{workload_files, workload_folder, workload_path}
-use Rattle.aclgen_core.specs.Endings.{Got, Tried}
+use Rattle.aclgen_core.specs.Endings.{Got, Keeps, Tried}
 use Rattle.aclgen_core.specs.FaultLines.{outside_line}
 use Rattle.aclgen_core.specs.FilterRequests.{filter_for}
 use Rattle.aclgen_core.specs.Job.{Plan, Plans, report_of}
@@ -63,6 +65,11 @@ pub record EndsWorkload (n : ℕ) (old new : World) (result : Ended) : Type 0 wh
   pub same_disk : new.disk ≡ old.disk
   pub same_clock : new.clock ≡ old.clock
   pub runs : RunsWorkload n old.out new.out old.err new.err result
+
+-- What the program does: the words may ask for the workload, and else for the job that `Keeps` tells of.
+abbrev pub Runs : List (List ℕ) → World → World → Ended → Type 0
+Runs words old new result = IfSome (workload_of words) (λ terms. EndsWorkload terms old new result)
+    × IfNone (workload_of words) (Keeps words old new result)
 
 -- ---- a law
 

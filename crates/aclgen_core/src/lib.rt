@@ -2,7 +2,6 @@
 #![tactic(auto)]
 
 mod acting;
-mod compiling;
 mod deciding;
 mod endings;
 mod fault_lines;

@@ -1,12 +1,12 @@
-ghost use Rattle.std.specs.Prelude.{◌≡◌, map, IfNone, IfSome, None};
+ghost use Rattle.std.specs.Prelude.{◌≡◌, map, None};
 ghost use Rattle.std.specs.String.{string_bytes};
-ghost use Rattle.acl_options.specs.WorkloadWords.{workload_of};
 ghost use Rattle.aclgen_core.specs.Worlds.{disk, stream, watch, world};
-ghost use Rattle.aclgen_core.specs.Endings.{Keeps};
-ghost use Rattle.aclgen_core.specs.WorkloadRuns.{EndsWorkload};
+ghost use Rattle.aclgen_core.specs.WorkloadRuns.{Runs};
 
-use crate::compiling::compile;
+use crate::acting::{carry_out, refuse, tell_outside};
+use crate::deciding::{Decision, decide};
 use crate::endings::Ended;
+use crate::fault_lines::usage_line;
 use crate::workload_runs::run_workload;
 use acl_host::{Clock, Sink, Tree};
 use acl_options::read_workload;
@@ -27,23 +27,22 @@ pub fn aclgen<T: Tree, O: Sink, E: Sink, C: Clock>(
     clock: &mut C,
 ) -> Ended
     requires { T.begun tree.old ≡ None }
-    ensures compiles { IfNone (workload_of (map string_bytes words.now)) (Keeps (map string_bytes words.now)
+    ensures { Runs (map string_bytes words.now)
         (world (disk T.files T.begun T.list_faults T.read_faults T.faults T.refusals tree.old)
         (stream O.told O.faults O.refusals out.old) (stream E.told E.faults E.refusals err.old)
         (watch C.day C.faults clock.old))
         (world (disk T.files T.begun T.list_faults T.read_faults T.faults T.refusals tree.new)
         (stream O.told O.faults O.refusals out.new) (stream E.told E.faults E.refusals err.new)
-        (watch C.day C.faults clock.new)) result) }
-    ensures workload { IfSome (workload_of (map string_bytes words.now)) (λ terms. EndsWorkload terms
-        (world (disk T.files T.begun T.list_faults T.read_faults T.faults T.refusals tree.old)
-        (stream O.told O.faults O.refusals out.old) (stream E.told E.faults E.refusals err.old)
-        (watch C.day C.faults clock.old))
-        (world (disk T.files T.begun T.list_faults T.read_faults T.faults T.refusals tree.new)
-        (stream O.told O.faults O.refusals out.new) (stream E.told E.faults E.refusals err.new)
-        (watch C.day C.faults clock.new)) result) }
+        (watch C.day C.faults clock.new)) result }
 {
-    match read_workload(words) {
-        Some(terms) => run_workload(alloc, terms, out, err),
-        None => compile(alloc, words, tree, out, err, clock),
+    if let Some(terms) = read_workload(words) {
+        return run_workload(alloc, terms, out, err);
+    }
+    match decide(alloc, words, tree, clock) {
+        Decision::Usage => refuse(err, usage_line().as_bytes(), Ended::Usage),
+        Decision::Refused(fault, line) => refuse(err, line.as_slice(), Ended::Rejected(fault)),
+        Decision::Planned(work) => carry_out(&work, tree, out, err),
+        Decision::Outside(which) => tell_outside(err, which),
+        Decision::Memory => Ended::Memory,
     }
 }

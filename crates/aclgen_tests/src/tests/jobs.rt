@@ -78,17 +78,16 @@ struct Left {
     err: MemSink,
 }
 
-// The program is called here alone, whatever the tree, the streams and the clock: each function that calls it
-// proves its whole contract again.
-fn status<T: Tree, O: Sink, E: Sink, C: Clock>(
+// The program is called here alone: each function that calls it proves its whole contract again.
+fn status(
     alloc: Global,
     words: &[String],
-    tree: &mut T,
-    out: &mut O,
-    err: &mut E,
-    clock: &mut C,
+    tree: &mut MemTree,
+    out: &mut MemSink,
+    err: &mut MemSink,
+    clock: &mut FixedClock,
 ) -> u8
-    requires { T.begun tree.old ≡ None }
+    requires { (contents tree.old).begun ≡ None }
 {
     status_of(&aclgen(alloc, words, tree, out, err, clock))
 }
