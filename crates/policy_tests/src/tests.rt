@@ -1,5 +1,4 @@
 mod lines;
 mod policies;
 mod splices;
-mod targets;
 mod words;
