@@ -19,11 +19,11 @@ use Rattle.acl_platform.specs.declared.filters.Filter.{Filter}
 use Rattle.acl_platform.specs.declared.rules.Rule.{Rule}
 use Rattle.acl_platform.specs.SoundFilters.{target_of}
 use Rattle.acl_platform.proofs.OneName.{clash-of}
-use Rattle.cisco_lang.specs.Documents.{heads_of}
+use Rattle.cisco_lang.specs.Documents.{heads_of, list_names}
 use Rattle.cisco_lang.specs.Texts.{list_rows, section_row, section_rows}
 use Rattle.gen_cisco.specs.SectionLaws.{lists-differ}
 use Rattle.gen_cisco.specs.SectionNames.{FirstLine, ListsDiffer}
-use Rattle.gen_cisco.specs.Sections.{list_names, list_of, section_of}
+use Rattle.gen_cisco.specs.Sections.{list_of, section_of}
 
 first-row : (name : List ℕ) (fs : Families) (rows : List Row)
     → text_of_rows (section_row name fs ∷ rows)
@@ -77,15 +77,15 @@ none-shared f g stateful h k e =
 
 none-later : (f : Filter) (stateful : Bool) (fs : List Filter) → f.kind ≡ Cisco → AllByRecursion (λ g. g.kind ≡ Cisco) fs
     → AllByRecursion (λ t. clash (target_of stateful f) t ≡ false) (map (target_of stateful) fs)
-    → in_common (list_names (section_of f)) (flat_map (λ g. list_names (section_of g)) fs) ≡ false
+    → in_common (list_names (section_of f)) (flat_map list_names (map section_of fs)) ≡ false
 none-later f stateful [] h k e = none-of-none (list_names (section_of f))
 none-later f stateful (g ∷ fs) h k e =
-    none-of-both (list_names (section_of f)) (list_names (section_of g)) (flat_map (λ g. list_names (section_of g)) fs)
+    none-of-both (list_names (section_of f)) (list_names (section_of g)) (flat_map list_names (map section_of fs))
     (none-shared f g stateful h k.0 e.0) (none-later f stateful fs h k.1 e.1)
 
 pub all-differ : ListsDiffer
 unfolding IsDistinct
 all-differ [] stateful h d = tt
 all-differ (f ∷ fs) stateful h d =
-    distinct-append (list_names (section_of f)) (flat_map (λ g. list_names (section_of g)) fs) (lists-differ f.rules f.families f.name)
+    distinct-append (list_names (section_of f)) (flat_map list_names (map section_of fs)) (lists-differ f.rules f.families f.name)
     (all-differ fs stateful h.1 d.1) (none-later f stateful fs h.0 h.1 d.0)

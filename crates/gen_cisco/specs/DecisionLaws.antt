@@ -36,11 +36,11 @@ use Rattle.acl_platform.proofs.EntryLaws.{over-items}
 use Rattle.acl_grammar.specs.RuleParts.{number_holds}
 use Rattle.cisco_lang.specs.declared.documents.Item.{Item}
 use Rattle.cisco_lang.specs.declared.documents.Item.TheVariants.{Remark, Entry as AnEntry}
-use Rattle.cisco_lang.specs.Documents.{heads_of}
+use Rattle.cisco_lang.specs.Documents.{everywhere, heads_of}
 use Rattle.cisco_lang.specs.Walks.{ending, entry_holds, first_holding, flags_hold, has_entries, is_entry, items_of, port_holds, section_outcome, verdict_of, walk}
 use Rattle.gen_cisco.specs.Limits.{is_for_cisco, limit_of}
 use Rattle.gen_cisco.specs.SectionLaws.{device-is, rules-are}
-use Rattle.gen_cisco.specs.Sections.{closed, closing_entries, entry_of, everywhere, flags_of, items_in, list_items, list_of, permits, rule_items, section_of, wide_entry}
+use Rattle.gen_cisco.specs.Sections.{closed, closing_entries, entry_of, flags_of, items_in, list_items, list_of, permits, rule_items, section_of, wide_entry}
 
 -- ---- one entry
 

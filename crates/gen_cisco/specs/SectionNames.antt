@@ -8,8 +8,9 @@ use Rattle.acl_target.specs.Clashes.{clash}
 use Rattle.acl_target.specs.TargetTexts.{target_text}
 use Rattle.acl_platform.specs.declared.filters.Filter.{Filter}
 use Rattle.acl_platform.specs.SoundFilters.{target_of}
+use Rattle.cisco_lang.specs.Documents.{list_names}
 use Rattle.cisco_lang.specs.Texts.{list_rows, text_of}
-use Rattle.gen_cisco.specs.Sections.{list_names, section_of}
+use Rattle.gen_cisco.specs.Sections.{section_of}
 
 -- A section is a line of `! ` and its target's text, and behind it the lines of its lists.
 abbrev pub FirstLine : Type 0
@@ -22,4 +23,4 @@ abbrev pub ListsDiffer : Type 0
 ListsDiffer = (filters : List Filter) (stateful : Bool)
     → AllByRecursion (λ f. f.kind ≡ Cisco) filters
     → IsDistinct clash (map (target_of stateful) filters)
-    → IsDistinct bytes_eq (flat_map (λ f. list_names (section_of f)) filters)
+    → IsDistinct bytes_eq (flat_map list_names (map section_of filters))

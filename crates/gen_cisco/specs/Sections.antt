@@ -3,7 +3,6 @@
 use Rattle.std.specs.Prelude.{ℕ, Bool, true, false, if◌then◌else◌, List, [], ◌∷◌, ◌++◌, map, flat_map, count_by, Option, None, Some}
 use Rattle.acl_packet.specs.declared.addresses.Family.{Family}
 use Rattle.acl_packet.specs.declared.addresses.Family.TheVariants.{V4, V6}
-use Rattle.acl_packet.specs.declared.addresses.Prefix.{Prefix}
 use Rattle.acl_packet.specs.declared.filtering.Verdict.{Verdict}
 use Rattle.acl_packet.specs.declared.filtering.Verdict.TheVariants.{Accept}
 use Rattle.acl_packet.specs.Addresses.{same_family}
@@ -21,7 +20,7 @@ use Rattle.cisco_lang.specs.declared.documents.Item.TheVariants.{Remark, Entry a
 use Rattle.cisco_lang.specs.declared.documents.Entry.{Entry}
 use Rattle.cisco_lang.specs.declared.documents.Flags.{Flags}
 use Rattle.cisco_lang.specs.declared.documents.Flags.TheVariants as flags
-use Rattle.cisco_lang.specs.Documents.{heads_of}
+use Rattle.cisco_lang.specs.Documents.{everywhere, heads_of}
 use Rattle.cisco_lang.specs.Walks.{is_entry}
 
 -- The flags of an entry. A router follows no connection, so that no rule for it asks for one.
@@ -54,9 +53,6 @@ entry_of r c = record {
 abbrev pub rule_items : Rule → List Item
 rule_items r = map (λ text. Remark text) (remarks r)
     ++ map (λ c. AnEntry (entry_of r c)) (combinations r)
-
-abbrev pub everywhere : Family → Prefix
-everywhere family = record { family = family; first = 0; len = 0 }
 
 -- An entry for a protocol or all of them, and a type or all of them, from everywhere to everywhere.
 abbrev pub wide_entry : Family → Bool → Option ℕ → Option ℕ → Entry
@@ -103,10 +99,6 @@ section_of f = record {
   families = f.families;
   lists = map (list_of f.rules) (heads_of f.families f.name);
 }
-
--- The names of a section's lists.
-abbrev pub list_names : Section → List (List ℕ)
-list_names s = map (λ l. l.name) s.lists
 
 -- The number of entries of all its lists, closing ones included.
 abbrev pub entry_count : Filter → ℕ

@@ -1,60 +1,41 @@
-ghost use Rattle.std.specs.Prelude.{◌≡◌, ◌∷◌, []};
-ghost use Rattle.cisco_lang.specs.Texts.{Spells, text_of};
-ghost use Rattle.cisco_lang.specs.Walks.{section_outcome};
-ghost use Rattle.cisco_lang.proofs.JoinLaws.{spelling_laws};
 ghost use Rattle.gen_cisco.specs.DecisionLaws.{section_decides};
-ghost use Rattle.gen_cisco.specs.Limits.{is_for_cisco, limit_of};
+ghost use Rattle.gen_cisco.specs.Limits.{is_for_cisco};
 ghost use Rattle.gen_cisco.specs.SectionLaws.{section_is_spelled};
-ghost use Rattle.gen_cisco.specs.Sections.{entry_count, list_names, section_of};
+ghost use Rattle.gen_cisco.specs.Sections.{entry_count, section_of};
 
-use crate::counts::entry_count;
+use crate::counts::list_count;
 use crate::section_rows::put_section;
-use acl_platform::{Filter, Limit, Platform, count_in_limit, first_limit};
+use acl_packet::{Families, Family};
+use acl_platform::{Filter, Platform};
 use acl_text::{Out, PutFault};
-use cisco_lang::{Doc, Section};
+use cisco_lang::Section;
 
 /// The platform of Cisco IOS extended access lists, of IPv4 and of IPv6.
 pub struct Cisco;
 
 impl Platform for Cisco {
-    type Doc = Doc;
-
     type Section = Section;
 
     ghost handles = { is_for_cisco };
 
-    ghost document = { λ sections. sections };
-
-    ghost spells = { λ bytes doc. Spells bytes doc };
-
-    ghost text = { λ section. text_of (section ∷ []) };
-
-    ghost outcome = { section_outcome };
-
-    ghost names = { list_names };
-
-    ghost section = { section_of };
-
     ghost count = { entry_count };
 
-    ghost limit = { limit_of };
-
-    fn check(&self, filter: &Filter) -> Result<u64, Limit> {
-        match first_limit(self, filter.rules.as_slice()) {
-            Some(limit) => Err(limit),
-            None => count_in_limit(entry_count(filter)),
+    fn entry_count(&self, filter: &Filter) -> u64 {
+        let rules = filter.rules.as_slice();
+        match filter.families {
+            Families::Inet => list_count(Family::V4, rules),
+            Families::Inet6 => list_count(Family::V6, rules),
+            Families::Mixed => {
+                list_count(Family::V4, rules).saturating_add(list_count(Family::V6, rules))
+            }
         }
     }
 
-    fn emit<O: Out>(&self, filter: &Filter, out: &mut O) -> Result<(), PutFault> {
+    ghost section = { section_of };
+
+    fn put_section<O: Out>(&self, filter: &Filter, out: &mut O) -> Result<(), PutFault> {
         put_section(filter, out)
     }
-
-    ghost one_document = { spelling_laws.one_document };
-
-    ghost nothing_is_spelled = { spelling_laws.nothing_is_spelled };
-
-    ghost joined_are_spelled = { spelling_laws.joined_documents };
 
     ghost section_is_spelled = { section_is_spelled };
 

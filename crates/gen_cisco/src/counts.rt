@@ -5,29 +5,15 @@ ghost use Rattle.acl_text.specs.Output.{COUNT_END};
 ghost use Rattle.acl_platform.specs.Combinations.{IsSized};
 ghost use Rattle.cisco_lang.specs.Walks.{is_entry};
 ghost use Rattle.gen_cisco.specs.CountSteps.{closing_count, rule_count};
-ghost use Rattle.gen_cisco.specs.Sections.{entry_count, list_items};
+ghost use Rattle.gen_cisco.specs.Sections.{list_items};
 
-use acl_packet::{Families, Family};
-use acl_platform::{Filter, Rule, RuleCount, count_combinations, count_rules};
+use acl_packet::Family;
+use acl_platform::{Rule, RuleCount, count_combinations, count_rules};
 
-/// The number of entries of the section that the filter becomes; a number that does not fit stands
-/// at the greatest one that does. Protocols and types of its rules have to be numbers below 256, ports
-/// below 65,536.
-pub fn entry_count(filter: &Filter) -> u64
-    requires { All IsSized filter.now.rules }
-    ensures { result ≡ min (entry_count filter.now) COUNT_END }
-{
-    let rules = filter.rules.as_slice();
-    match filter.families {
-        Families::Inet => list_count(Family::V4, rules),
-        Families::Inet6 => list_count(Family::V6, rules),
-        Families::Mixed => {
-            list_count(Family::V4, rules).saturating_add(list_count(Family::V6, rules))
-        }
-    }
-}
-
-fn list_count(family: Family, rules: &[Rule]) -> u64
+/// The number of entries of the list of the family; a number that does not fit stands at the
+/// greatest one that does. Protocols and types of its rules have to be numbers below 256, ports below
+/// 65,536.
+pub(crate) fn list_count(family: Family, rules: &[Rule]) -> u64
     requires { All IsSized rules.now }
     ensures { result ≡ min (count_by is_entry (list_items family rules.now)) COUNT_END }
 {

@@ -8,6 +8,4 @@ mod limits;
 mod section_rows;
 
 pub use cisco::Cisco;
-pub use counts::entry_count;
 pub use laws::{a_section_begins_with_its_target, targets_without_clash_have_different_lists};
-pub use section_rows::put_section;

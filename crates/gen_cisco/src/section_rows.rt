@@ -11,7 +11,6 @@ ghost use Rattle.gen_cisco.specs.RowSteps.{items_rows};
 ghost use Rattle.gen_cisco.specs.Sections.{
   closing_entries,
   entry_of,
-  everywhere,
   flags_of,
   items_in,
   list_items,
@@ -22,16 +21,16 @@ ghost use Rattle.gen_cisco.specs.Sections.{
 
 use crate::counts::{has_rule, is_of};
 use acl_grammar::{Form, Row, Rows, Word};
-use acl_packet::{Families, Family, Prefix, Verdict};
+use acl_packet::{Families, Family, Verdict};
 use acl_platform::{
     Combination, Filter, RemarkForm, RemarkRows, Rule, RuleForm, Test, put_combinations, put_rules,
 };
 use acl_text::{Out, PutFault};
-use cisco_lang::{Entry, EntryRow, Flags, ListEnd, ListHead, RemarkRow, SectionHead};
+use cisco_lang::{Entry, EntryRow, Flags, ListEnd, ListHead, RemarkRow, SectionHead, everywhere};
 
 /// Puts the text of the section that the filter becomes, in an output that has to be open. Protocols and
 /// types of its rules have to be numbers below 256, ports below 65,536.
-pub fn put_section<O: Out>(filter: &Filter, out: &mut O) -> Result<(), PutFault>
+pub(crate) fn put_section<O: Out>(filter: &Filter, out: &mut O) -> Result<(), PutFault>
     requires open { IsTrue (O.is_open out.old) }
     requires sized { All IsSized filter.now.rules }
     ensures { Puts O.told O.faults O.refusals O.is_open O.keeps_rest out.old out.new
@@ -167,16 +166,6 @@ fn wide_row(family: Family, permit: bool, proto: Option<u8>, itype: Option<u8>) 
             flags: None,
             log: false,
         },
-    }
-}
-
-fn everywhere(family: Family) -> Prefix
-    ensures { result ≡ everywhere family }
-{
-    Prefix {
-        family,
-        first: 0,
-        len: 0,
     }
 }
 
