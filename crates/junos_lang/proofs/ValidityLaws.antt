@@ -90,6 +90,6 @@ one_each : (doc : List Section) → map name_of doc ≡ flat_map filter_names do
 one_each [] = refl
 one_each (s ∷ doc) = ap (λ names. name_of s ∷ names) (one_each doc)
 
-pub names_decide : (doc : List Section) → Decides (are_distinct (map name_of doc)) (IsDistinct bytes_eq (flat_map filter_names doc))
-names_decide doc =
+pub filter_names_decide : (doc : List Section) → Decides (are_distinct (map name_of doc)) (IsDistinct bytes_eq (flat_map filter_names doc))
+filter_names_decide doc =
     subst (λ names. Decides (are_distinct (map name_of doc)) (IsDistinct bytes_eq names)) (one_each doc) (distinct_decides (map name_of doc))

@@ -1,8 +1,8 @@
 ghost use Rattle.std.specs.Prelude.{◌≡◌, ◌∷◌, [], codes};
 ghost use Rattle.acl_grammar.specs.Rows.{row};
 ghost use Rattle.acl_grammar.specs.RuleParts.{is_empty};
-ghost use Rattle.junos_lang.specs.Texts.{address_rows, closing, condition_word, from_rows, list_row, list_rows, prefix_row, range_word, end_word, test_rows, test_words};
 ghost use Rattle.junos_lang.specs.ConditionSteps.{value_rows};
+ghost use Rattle.junos_lang.specs.Texts.{address_rows, closing, condition_word, end_word, from_rows, list_row, list_rows, prefix_row, range_word, test_rows, test_words};
 
 use crate::conditions::Condition;
 use crate::documents::JTest;

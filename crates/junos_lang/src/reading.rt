@@ -23,7 +23,7 @@ impl DocumentSection for Section {
 
     ghost names = { filter_names };
 
-    #[tactic(auto, using(crate::proofs::ValidityLaws::names_decide))]
+    #[tactic(auto, using(crate::proofs::ValidityLaws::filter_names_decide))]
     fn have_distinct_names(_alloc: Global, sections: &[Section]) -> Result<bool, Memory> {
         Ok(have_distinct_names(sections))
     }
