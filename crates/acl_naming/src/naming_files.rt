@@ -2,6 +2,7 @@ ghost use Rattle.std.specs.Prelude.{◌≡◌, ◌<◌, ◌≤◌, ◌||◌, Boo
 ghost use Rattle.acl_text.specs.Answers.{Leaves, slip_told};
 ghost use Rattle.acl_text.specs.Cursors.{words_of};
 ghost use Rattle.acl_text.specs.Cuts.{has_byte};
+ghost use Rattle.acl_naming.specs.Checking.{IsRefusal, slip};
 ghost use Rattle.acl_naming.specs.NamingFiles.{
   with_items,
   with_definition,
@@ -23,28 +24,6 @@ use std::alloc::Global;
 
 const MOST: usize = 16384;
 
-#[tactic(auto, unfolding(crate::specs::NamingFiles::item_added))]
-fn add_item(
-    alloc: Global,
-    table: &mut Table,
-    kind: Kind,
-    place: Place,
-    word: &[u8],
-) -> Result<(), Refusal>
-    requires { 0 < length table.old }
-    ensures gives { Leaves slip_told table.new result (item_added kind place table.old word.now) }
-    ensures filled { OnOk result (0 < length table.new) }
-{
-    let Some(item) = read_item(alloc, kind, place, word)? else {
-        return Err(refusal(alloc, Code::BadValue, place, word));
-    };
-    if table.items_count() >= MOST {
-        return Err(refusal(alloc, Code::TooMany, place, word));
-    }
-    table.push_item(item)?;
-    Ok(())
-}
-
 // Whether there are as many definitions as a kind may have.
 fn is_full(table: &Table) -> bool
     ensures { result ≡ nat_le most (length table.now) }
@@ -52,119 +31,119 @@ fn is_full(table: &Table) -> bool
     table.len() >= MOST
 }
 
-fn add_items(
+// Reads a line of a file of the kind, which stands at the place.
+#[derive(Clone, Copy)]
+struct LineReader {
     alloc: Global,
-    table: &mut Table,
     kind: Kind,
     place: Place,
-    text: &[u8],
-) -> Result<(), Refusal>
-    requires { 0 < length table.old }
-    ensures gives { Leaves slip_told table.new result
-        (items_added kind place table.old (words_of text.now)) }
-    ensures filled { OnOk result (0 < length table.new) }
-{
-    let mut from = 0;
-    while let Some((start, end)) = next_word(text, from) {
-        add_item(alloc, table, kind, place, &text[start..end])?;
-        from = end;
-    }
-    Ok(())
 }
 
-#[tactic(auto, unfolding(crate::specs::NamingFiles::with_definition))]
-fn define(
-    alloc: Global,
-    table: &mut Table,
-    kind: Kind,
-    place: Place,
-    name: &[u8],
-    rest: &[u8],
-) -> Result<(), Refusal>
-    ensures gives { Leaves slip_told table.new result
-        (with_definition kind place table.old name.now rest.now) }
-    ensures filled { OnOk result (0 < length table.new) }
-{
-    if !is_name(name) {
-        return Err(refusal(alloc, Code::BadName, place, name));
+impl LineReader {
+    fn refusal(self, code: Code, word: &[u8]) -> Refusal
+        ensures { IsRefusal (slip code self.place word.now) result }
+    {
+        refusal(self.alloc, code, self.place, word)
     }
-    if table.index_of(name).is_some() {
-        return Err(refusal(alloc, Code::Twice, place, name));
-    }
-    if is_full(table) {
-        return Err(refusal(alloc, Code::TooMany, place, name));
-    }
-    table.add(name, place)?;
-    add_items(alloc, table, kind, place, rest)
-}
 
-fn go_on(
-    alloc: Global,
-    table: &mut Table,
-    kind: Kind,
-    place: Place,
-    is_open: bool,
-    text: &[u8],
-) -> Result<(), Refusal>
-    requires { is_open ≡ true → 0 < length table.old }
-    ensures gives { Leaves slip_told table.new result
-        (with_items kind place is_open table.old (words_of text.now)) }
-    ensures filled { is_open ≡ true → OnOk result (0 < length table.new) }
-{
-    let Some((start, end)) = next_word(text, 0) else {
-        return Ok(());
-    };
-    if is_open {
-        add_items(alloc, table, kind, place, text)
-    } else {
-        Err(refusal(alloc, Code::NoDefinition, place, &text[start..end]))
-    }
-}
-
-// Whether a definition of the file stands above what follows.
-fn add_split(
-    alloc: Global,
-    table: &mut Table,
-    kind: Kind,
-    place: Place,
-    is_open: bool,
-    text: &[u8],
-) -> Result<bool, Refusal>
-    requires { is_open ≡ true → 0 < length table.old }
-    ensures gives { Leaves slip_told table.new result
-        (split_added kind place is_open table.old text.now) }
-    ensures opened { IfOk result (λ o. o ≡ opens is_open text.now) }
-    ensures filled { IfOk result (λ o. o ≡ true → 0 < length table.new) }
-{
-    match split_at_byte(text, b'=') {
-        Some((name, rest)) => {
-            define(alloc, table, kind, place, trimmed(name), rest)?;
-            Ok(true)
+    #[tactic(auto, unfolding(crate::specs::NamingFiles::item_added))]
+    fn add_item(self, table: &mut Table, word: &[u8]) -> Result<(), Refusal>
+        requires { 0 < length table.old }
+        ensures gives { Leaves slip_told table.new result
+            (item_added self.kind self.place table.old word.now) }
+        ensures filled { OnOk result (0 < length table.new) }
+    {
+        let Some(item) = read_item(self.alloc, self.kind, self.place, word)? else {
+            return Err(self.refusal(Code::BadValue, word));
+        };
+        if table.items_count() >= MOST {
+            return Err(self.refusal(Code::TooMany, word));
         }
-        None => {
-            go_on(alloc, table, kind, place, is_open, text)?;
-            Ok(is_open)
+        table.push_item(item)?;
+        Ok(())
+    }
+
+    fn add_items(self, table: &mut Table, text: &[u8]) -> Result<(), Refusal>
+        requires { 0 < length table.old }
+        ensures gives { Leaves slip_told table.new result
+            (items_added self.kind self.place table.old (words_of text.now)) }
+        ensures filled { OnOk result (0 < length table.new) }
+    {
+        let mut from = 0;
+        while let Some((start, end)) = next_word(text, from) {
+            self.add_item(table, &text[start..end])?;
+            from = end;
+        }
+        Ok(())
+    }
+
+    #[tactic(auto, unfolding(crate::specs::NamingFiles::with_definition))]
+    fn define(self, table: &mut Table, name: &[u8], rest: &[u8]) -> Result<(), Refusal>
+        ensures gives { Leaves slip_told table.new result
+            (with_definition self.kind self.place table.old name.now rest.now) }
+        ensures filled { OnOk result (0 < length table.new) }
+    {
+        if !is_name(name) {
+            return Err(self.refusal(Code::BadName, name));
+        }
+        if table.index_of(name).is_some() {
+            return Err(self.refusal(Code::Twice, name));
+        }
+        if is_full(table) {
+            return Err(self.refusal(Code::TooMany, name));
+        }
+        table.add(name, self.place)?;
+        self.add_items(table, rest)
+    }
+
+    fn go_on(self, table: &mut Table, is_open: bool, text: &[u8]) -> Result<(), Refusal>
+        requires { is_open ≡ true → 0 < length table.old }
+        ensures gives { Leaves slip_told table.new result
+            (with_items self.kind self.place is_open table.old (words_of text.now)) }
+        ensures filled { is_open ≡ true → OnOk result (0 < length table.new) }
+    {
+        let Some((start, end)) = next_word(text, 0) else {
+            return Ok(());
+        };
+        if is_open {
+            self.add_items(table, text)
+        } else {
+            Err(self.refusal(Code::NoDefinition, &text[start..end]))
         }
     }
-}
 
-fn add_line(
-    alloc: Global,
-    table: &mut Table,
-    kind: Kind,
-    place: Place,
-    is_open: bool,
-    text: &[u8],
-) -> Result<bool, Refusal>
-    requires { is_open ≡ true → 0 < length table.old }
-    ensures gives { Leaves slip_told table.new result
-        (line_added kind place is_open table.old text.now) }
-    ensures opened { IfOk result (λ o. o ≡ opens is_open text.now) }
-    ensures filled { IfOk result (λ o. o ≡ true → 0 < length table.new) }
-{
-    match bad_byte(text) {
-        Some(byte) => Err(refusal(alloc, Code::BadByte, place, &[byte])),
-        None => add_split(alloc, table, kind, place, is_open, text),
+    // Whether a definition of the file stands above what follows.
+    fn add_split(self, table: &mut Table, is_open: bool, text: &[u8]) -> Result<bool, Refusal>
+        requires { is_open ≡ true → 0 < length table.old }
+        ensures gives { Leaves slip_told table.new result
+            (split_added self.kind self.place is_open table.old text.now) }
+        ensures opened { IfOk result (λ o. o ≡ opens is_open text.now) }
+        ensures filled { IfOk result (λ o. o ≡ true → 0 < length table.new) }
+    {
+        match split_at_byte(text, b'=') {
+            Some((name, rest)) => {
+                self.define(table, trimmed(name), rest)?;
+                Ok(true)
+            }
+            None => {
+                self.go_on(table, is_open, text)?;
+                Ok(is_open)
+            }
+        }
+    }
+
+    // The same of a line whose bytes are not looked at yet.
+    fn add_line(self, table: &mut Table, is_open: bool, text: &[u8]) -> Result<bool, Refusal>
+        requires { is_open ≡ true → 0 < length table.old }
+        ensures gives { Leaves slip_told table.new result
+            (line_added self.kind self.place is_open table.old text.now) }
+        ensures opened { IfOk result (λ o. o ≡ opens is_open text.now) }
+        ensures filled { IfOk result (λ o. o ≡ true → 0 < length table.new) }
+    {
+        match bad_byte(text) {
+            Some(byte) => Err(self.refusal(Code::BadByte, &[byte])),
+            None => self.add_split(table, is_open, text),
+        }
     }
 }
 
@@ -182,14 +161,9 @@ pub fn add_file(
     let mut cursor = Cursor::new(file, bytes);
     let mut is_open = false;
     while let Some(line) = cursor.line() {
-        is_open = add_line(
-            alloc,
-            table,
-            kind,
-            cursor.place(),
-            is_open,
-            without_comment(line),
-        )?;
+        let place = cursor.place();
+        let reader = LineReader { alloc, kind, place };
+        is_open = reader.add_line(table, is_open, without_comment(line))?;
     }
     Ok(())
 }

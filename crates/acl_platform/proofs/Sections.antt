@@ -1,15 +1,19 @@
 -- The document of the sections of several filters.
-use Rattle.std.proofs.Common.{◌≡◌, ℕ, zero, suc, false, List, [], ◌∷◌, ◌++◌, IfSome, Option, map, flat_map, slice_get, refl, ap, ◌∙◌, append-nil}
+use Rattle.std.proofs.Common.{◌≡◌, ℕ, zero, suc, false, List, [], ◌∷◌, ◌++◌, ◌+◌, ◌<◌, IfSome, Option, drop, get_or, length, map, take, flat_map, slice_get, refl, ap, sym, subst, ◌∙◌, append_assoc, append-nil}
 use Rattle.std.specs.List.{AllByRecursion, IsDistinct}
 use Rattle.std.specs.Set.{is_member}
 use Rattle.std.specs.Str.{bytes_eq}
 use Rattle.std.proofs.lemmas.Bool.{or_from}
-use Rattle.std.proofs.lemmas.List.Folds.{flat_map-map}
+use Rattle.std.proofs.lemmas.List.{drop_more, map-append, take-append-drop}
 use Rattle.acl_packet.specs.declared.packets.Packet.{Packet}
 use Rattle.acl_packet.specs.declared.filtering.Outcome.{Outcome}
+use Rattle.acl_grammar.specs.Documents.{SpellsRows, outcome_at}
 use Rattle.acl_grammar.specs.Naming.{in_common}
+use Rattle.acl_grammar.specs.Rows.{Row, text_of_rows}
+use Rattle.acl_grammar.proofs.JoinLaws.{joined_documents, nothing_is_spelled}
+use Rattle.acl_grammar.proofs.ListLaws.{joined_text}
 use Rattle.acl_platform.specs.declared.filters.Filter.{Filter}
-use Rattle.acl_platform.specs.Platforms.{DecidesAs, outcome_at}
+use Rattle.acl_platform.specs.Platforms.{DecidesAs}
 
 -- names of which no two are the same: a front of them has none in common with the rest
 apart-right : (name : List ℕ) (xs ys : List (List ℕ)) → AllByRecursion (λ other. bytes_eq name other ≡ false) (xs ++ ys)
@@ -29,22 +33,41 @@ unfolding IsDistinct
 distinct-right [] ys h = h
 distinct-right (x ∷ xs) ys h = distinct-right xs ys h.1
 
+-- the texts of sections: of those before a filter, of its own and of those behind it
+module _ {S : Type 0} (rows : S → List Row) (section : Filter → S) where
+  abbrev written : List Filter → List ℕ
+  written fs = text_of_rows (flat_map rows (map section fs))
+
+  joined : (fs gs : List Filter) → written fs ++ written gs ≡ written (fs ++ gs)
+  joined fs gs =
+      joined_text rows (map section fs) (map section gs)
+      ∙ ap (λ sections. text_of_rows (flat_map rows sections)) (sym (map-append section fs gs))
+
+  pub written-split : (fs : List Filter) (i : ℕ) (f : Filter) → i < length fs
+      → (written (take i fs) ++ written (get_or fs i f ∷ [])) ++ written (drop (i + 1) fs) ≡ written fs
+  written-split fs i f h =
+      let here = get_or fs i f ∷ [] in
+      ap (λ text. text ++ written (drop (i + 1) fs)) (joined (take i fs) here)
+      ∙ joined (take i fs ++ here) (drop (i + 1) fs)
+      ∙ ap written (append_assoc (take i fs) here (drop (i + 1) fs)
+      ∙ ap (λ rest. take i fs ++ rest) (sym (drop_more fs i f h)) ∙ take-append-drop i fs)
+
 -- the joined texts of the sections spell the document of the sections
-pub all-spelled : {S D : Type 0} (accepted : Filter → Type 0) (document : List S → D) (spells : List ℕ → D → Type 0) (text : S → List ℕ)
-    (names : S → List (List ℕ)) (section : Filter → S) → spells [] (document [])
-    → ((bytes more : List ℕ) (a b : List S) → spells bytes (document a) → spells more (document b)
-    → in_common (flat_map names a) (flat_map names b) ≡ false → spells (bytes ++ more) (document (a ++ b)))
-    → ((f : Filter) → accepted f → spells (text (section f)) (document (section f ∷ [])))
-    → (fs : List Filter) → AllByRecursion accepted fs → IsDistinct bytes_eq (flat_map (λ f. names (section f)) fs)
-    → spells (flat_map (λ f. text (section f)) fs) (document (map section fs))
-all-spelled accepted document spells text names section nothing joined one [] h d = nothing
-all-spelled {S = S} accepted document spells text names section nothing joined one (f ∷ fs) h d =
+pub all-spelled : {S : Type 0} (accepted : Filter → Type 0) (valid : S → Type 0) (names : S → List (List ℕ)) (rows : S → List Row) (section : Filter → S)
+    → ((f : Filter) → accepted f → SpellsRows valid names rows (text_of_rows (flat_map rows (section f ∷ []))) (section f ∷ []))
+    → (fs : List Filter) → AllByRecursion accepted fs → IsDistinct bytes_eq (flat_map names (map section fs))
+    → SpellsRows valid names rows (text_of_rows (flat_map rows (map section fs))) (map section fs)
+all-spelled accepted valid names rows section one [] h d = nothing_is_spelled valid names rows
+all-spelled {S = S} accepted valid names rows section one (f ∷ fs) h d =
     let here = names (section f) in
-    let later = flat_map (λ g. names (section g)) fs in
-    let rest = all-spelled accepted document spells text names section nothing joined one fs h.1 (distinct-right here later d) in
-    let apart = ap (λ xs. in_common xs (flat_map names (map section fs))) (append-nil here)
-    ∙ ap (λ ys. in_common here ys) (flat_map-map names section fs) ∙ none-in-common here later d in
-    joined (text (section f)) (flat_map (λ g. text (section g)) fs) (section f ∷ []) (map section fs) (one f h.0) rest apart
+    let sections = map section fs in
+    let later = flat_map names sections in
+    let rest = all-spelled accepted valid names rows section one fs h.1 (distinct-right here later d) in
+    let apart = ap (λ xs. in_common xs later) (append-nil here) ∙ none-in-common here later d in
+    let texts = joined_text rows (section f ∷ []) sections in
+    subst (λ bytes. SpellsRows valid names rows bytes (section f ∷ sections)) texts
+    (joined_documents valid names rows (text_of_rows (flat_map rows (section f ∷ []))) (text_of_rows (flat_map rows sections))
+    (section f ∷ []) sections (one f h.0) rest apart)
 
 -- the section at a place decides as the filter there
 pub all-decide : {S : Type 0} (accepted : Filter → Type 0) (outcome : S → Packet → Option Outcome) (section : Filter → S)

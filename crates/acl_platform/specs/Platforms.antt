@@ -1,5 +1,5 @@
 -- What a platform owes for the filters that it takes, and what a document of several filters does.
-use Rattle.std.specs.Prelude.{◌≡◌, ℕ, Bool, true, List, Option, None, Some, Result, Ok, Err, slice_get, option_and_then}
+use Rattle.std.specs.Prelude.{◌≡◌, ℕ, Bool, true, Option, None, Some, Result, Ok, Err}
 use Rattle.acl_packet.specs.declared.packets.Packet.{Packet}
 use Rattle.acl_packet.specs.declared.filtering.Outcome.{Outcome}
 use Rattle.acl_packet.specs.Addresses.{covers}
@@ -25,8 +25,3 @@ pub record IsAccepted (handles : Filter → Bool) (limit : Filter → Option Lim
 abbrev pub DecidesAs : Filter → (Packet → Option Outcome) → Type 0
 DecidesAs f outcome = (p : Packet) → IsPacket p → covers f.families p.family ≡ true
     → outcome p ≡ Some (filter_outcome f p)
-
--- What the section at that place does; nothing where there is none.
-abbrev pub outcome_at : {S : Type 0} → (S → Packet → Option Outcome) → List S → ℕ → Packet
-    → Option Outcome
-outcome_at outcome sections k p = option_and_then (λ s. outcome s p) (slice_get sections k)

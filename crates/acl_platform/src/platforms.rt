@@ -1,72 +1,65 @@
-ghost use Rattle.std.specs.Prelude.{◌≡◌, ℕ, ◌++◌, List, [], ◌∷◌, Bool, true, false, IsTrue, Option, flat_map};
-ghost use Rattle.acl_packet.specs.declared.filtering.Outcome.{Outcome};
-ghost use Rattle.acl_packet.specs.declared.packets.Packet.{Packet};
-ghost use Rattle.acl_text.specs.Output.{Puts};
-ghost use Rattle.acl_grammar.specs.Naming.{in_common};
+ghost use Rattle.std.specs.Prelude.{◌≡◌, ℕ, List, [], ◌∷◌, Bool, IsTrue, flat_map, min};
+ghost use Rattle.std.specs.List.{All};
+ghost use Rattle.acl_text.specs.Output.{COUNT_END, Puts};
+ghost use Rattle.acl_grammar.specs.Documents.{SpellsRows};
+ghost use Rattle.acl_grammar.specs.Rows.{text_of_rows};
 ghost use Rattle.acl_platform.specs.declared.filters.Filter.{Filter};
-ghost use Rattle.acl_platform.specs.declared.filters.Limit.{Limit};
+ghost use Rattle.acl_platform.specs.Combinations.{IsSized};
+ghost use Rattle.acl_platform.specs.Limits.{filter_limit};
 ghost use Rattle.acl_platform.specs.Platforms.{DecidesAs, IsAccepted, judged};
-ghost use Rattle.acl_platform.specs.SoundFilters.{IsSound};
 
 use crate::filters::{Filter, Limit};
+use crate::limits::{RuleLimits, count_in_limit, first_limit};
+use acl_grammar::DocumentSection;
 use acl_text::{Out, PutFault};
 
 /// A platform: a language of documents, and the section of it that a filter becomes.
 ///
-/// `Section` is what a document has for one filter, and `Doc` a document: `document` gives the one
-/// of a list of sections. `spells` says which bytes spell which document, `text` the bytes of a
-/// section, `outcome` what a section does to a packet, and `names` which names it takes, which no
-/// two sections of a document may share. For the filters that it `handles`, `section` is the one
-/// that a filter becomes, `count` the number of its entries, and `limit` why it is not taken.
-pub trait Platform {
-    type Doc;
-
-    type Section;
+/// `Section` is what a document has for one filter. For the filters that the platform `handles`,
+/// `section` is the one that a filter becomes, and `count` the number of its entries. Why a rule is not
+/// taken, `RuleLimits` says.
+pub trait Platform: RuleLimits {
+    type Section: DocumentSection;
 
     ghost handles: { Filter → Bool };
-
-    ghost document: { List Self.Section → Self.Doc };
-
-    ghost spells: { List ℕ → Self.Doc → Type 0 };
-
-    ghost text: { Self.Section → List ℕ };
-
-    ghost outcome: { Self.Section → Packet → Option Outcome };
-
-    ghost names: { Self.Section → List (List ℕ) };
 
     ghost section: { Filter → Self.Section };
 
     ghost count: { Filter → ℕ };
 
-    ghost limit: { Filter → Option Limit };
+    /// The number of entries of the filter's section; a number that does not fit stands at the
+    /// greatest one that does. Protocols and types of its rules have to be numbers below 256, ports
+    /// below 65,536.
+    fn entry_count(&self, filter: &Filter) -> u64
+        requires { All IsSized filter.now.rules }
+        ensures { result ≡ min (count filter.now) COUNT_END };
 
-    /// The number of entries of the filter's section, or the first limit that the filter meets.
-    fn check(&self, filter: &Filter) -> Result<u64, Limit>
-        requires handled { handles filter.now ≡ true }
-        requires sound { IsSound filter.now }
-        ensures { result ≡ judged (limit filter.now) (count filter.now) };
-
-    /// Puts the text of the filter's section.
-    fn emit<O: Out>(&self, filter: &Filter, out: &mut O) -> Result<(), PutFault>
+    /// Puts the text of the filter's section, in an output that has to be open. Protocols and types of
+    /// its rules have to be numbers below 256, ports below 65,536.
+    fn put_section<O: Out>(&self, filter: &Filter, out: &mut O) -> Result<(), PutFault>
         requires open { IsTrue (O.is_open out.old) }
-        requires accepted { IsAccepted handles limit filter.now }
+        requires sized { All IsSized filter.now.rules }
         ensures { Puts O.told O.faults O.refusals O.is_open O.keeps_rest out.old out.new
-            (text (section filter.now)) result };
+            (text_of_rows (flat_map Self.Section.rows (section filter.now ∷ []))) result };
 
-    ghost one_document: { (bytes : List ℕ) (a b : Self.Doc) → spells bytes a → spells bytes b
-        → a ≡ b };
+    ghost section_is_spelled: { (f : Filter)
+        → IsAccepted handles (λ g. filter_limit Self.limit (count g) g) f
+        → SpellsRows Self.Section.is_section Self.Section.names Self.Section.rows
+        (text_of_rows (flat_map Self.Section.rows (section f ∷ []))) (section f ∷ []) };
 
-    ghost nothing_is_spelled: { spells [] (document []) };
+    ghost section_decides: { (f : Filter)
+        → IsAccepted handles (λ g. filter_limit Self.limit (count g) g) f
+        → DecidesAs f (Self.Section.outcome (section f)) };
+}
 
-    ghost joined_are_spelled: { (bytes more : List ℕ) (a b : List Self.Section)
-        → spells bytes (document a) → spells more (document b)
-        → in_common (flat_map names a) (flat_map names b) ≡ false
-        → spells (bytes ++ more) (document (a ++ b)) };
-
-    ghost section_is_spelled: { (f : Filter) → IsAccepted handles limit f
-        → spells (text (section f)) (document (section f ∷ [])) };
-
-    ghost section_decides: { (f : Filter) → IsAccepted handles limit f
-        → DecidesAs f (outcome (section f)) };
+/// The number of entries of the filter's section, or the first limit that the filter meets.
+pub fn check<P: Platform>(platform: &P, filter: &Filter) -> Result<u64, Limit>
+    requires { All IsSized filter.now.rules }
+    ensures { result ≡ judged (filter_limit P.limit (P.count filter.now) filter.now)
+        (P.count filter.now) }
+{
+    match first_limit(platform, filter.rules.as_slice()) {
+        Some(limit) => Err(limit),
+        None => count_in_limit(platform.entry_count(filter)),
+    }
 }

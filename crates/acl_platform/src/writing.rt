@@ -2,7 +2,10 @@ ghost use Rattle.std.specs.Prelude.{◌≡◌, ℕ, List, IsTrue, IfSome, map, f
 ghost use Rattle.std.specs.List.{All, IsDistinct};
 ghost use Rattle.std.specs.Str.{bytes_eq};
 ghost use Rattle.acl_text.specs.Output.{Puts};
-ghost use Rattle.acl_platform.specs.Platforms.{DecidesAs, IsAccepted, outcome_at};
+ghost use Rattle.acl_grammar.specs.Documents.{SpellsRows, outcome_at};
+ghost use Rattle.acl_grammar.specs.Rows.{text_of_rows};
+ghost use Rattle.acl_platform.specs.Limits.{filter_limit};
+ghost use Rattle.acl_platform.specs.Platforms.{DecidesAs, IsAccepted};
 
 use crate::filters::Filter;
 use crate::platforms::Platform;
@@ -17,17 +20,20 @@ pub fn write_all<P: Platform, O: Out>(
     out: &mut O,
 ) -> Result<(), PutFault>
     requires open { IsTrue (O.is_open out.old) }
-    requires accepted { All (IsAccepted P.handles P.limit) filters.now }
-    requires names_differ { IsDistinct bytes_eq (flat_map (λ f. P.names (P.section f)) filters.now) }
+    requires accepted { All (IsAccepted P.handles (λ f. filter_limit P.limit (P.count f) f))
+        filters.now }
+    requires names_differ { IsDistinct bytes_eq
+        (flat_map P.Section.names (map P.section filters.now)) }
     ensures puts { Puts O.told O.faults O.refusals O.is_open O.keeps_rest out.old out.new
-        (flat_map (λ f. P.text (P.section f)) filters.now) result }
-    ensures spelled { P.spells (flat_map (λ f. P.text (P.section f)) filters.now)
-        (P.document (map P.section filters.now)) }
+        (text_of_rows (flat_map P.Section.rows (map P.section filters.now))) result }
+    ensures spelled { SpellsRows P.Section.is_section P.Section.names P.Section.rows
+        (text_of_rows (flat_map P.Section.rows (map P.section filters.now)))
+        (map P.section filters.now) }
     ensures decides { (k : ℕ) → IfSome (slice_get filters.now k)
-        (λ f. DecidesAs f (outcome_at P.outcome (map P.section filters.now) k)) }
+        (λ f. DecidesAs f (outcome_at P.Section.outcome (map P.section filters.now) k)) }
 {
     for filter in filters {
-        platform.emit(filter, out)?;
+        platform.put_section(filter, out)?;
     }
     Ok(())
 }

@@ -11,7 +11,7 @@ use crate::folders::folder_of;
 use crate::line_faults::line_fault;
 use crate::partial_splices::{MOST_OF_FILE, PartialSplice};
 use crate::sources::Sources;
-use crate::splicing::add_file;
+use crate::splicing::SplicedFile;
 use acl_host::{ReadFault, Tree, TreeFault};
 use acl_text::Code;
 use std::alloc::Global;
@@ -62,15 +62,14 @@ fn gather_into<T: Tree>(
     ensures labelled { OnOk result (IsLabelled sources.new) }
 {
     match tree.read(alloc, path, MOST_OF_FILE + 1) {
-        Ok(bytes) => add_file(
-            alloc,
-            tree,
-            sources,
-            folder(path),
-            8,
-            path.as_bytes(),
-            bytes.as_slice(),
-        ),
+        Ok(bytes) => {
+            let policy = SplicedFile {
+                folder: folder(path),
+                levels: 8,
+                label: path.as_bytes(),
+            };
+            policy.add(alloc, tree, sources, bytes.as_slice())
+        }
         Err(TreeFault::Absent) => Err(ReadFault::Fault(line_fault(
             alloc,
             Code::NoFile,

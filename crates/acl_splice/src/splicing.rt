@@ -3,7 +3,7 @@ ghost use Rattle.std.specs.String.{string_bytes};
 ghost use Rattle.acl_lines.specs.LineTexts.{HasNoFeed};
 ghost use Rattle.acl_splice.specs.IncludeLines.{is_path, asked_in};
 ghost use Rattle.acl_splice.specs.Labels.{GoesOn};
-ghost use Rattle.acl_splice.specs.Splicing.{behind_line, behind_file, behind_include};
+ghost use Rattle.acl_splice.specs.Splicing.{behind_line, behind_file, behind_include, fault};
 ghost use Rattle.acl_text.specs.Answers.{Leaves};
 ghost use Rattle.acl_host.specs.WholeFiles.{ReadsFiles, read_told};
 
@@ -11,7 +11,7 @@ use crate::include_lines::{Asked, asked_in};
 use crate::line_faults::line_fault;
 use crate::partial_splices::{MOST_OF_FILE, PartialSplice};
 use acl_host::{ReadFault, Tree, TreeFault};
-use acl_text::{Code, Cursor, Place};
+use acl_text::{Code, Cursor, Fault, Memory, Place};
 use std::alloc::{AllocError, Global};
 use std::str;
 
@@ -39,123 +39,133 @@ fn inner_path(alloc: Global, folder: &str, path: &[u8]) -> Result<String, AllocE
     Ok(inner)
 }
 
-/// The include line is met, where so many levels of files may still stand below.
-#[cycle(includes)]
-#[tactic(auto, unfolding(crate::specs::Splicing::behind_include))]
-fn include_file<T: Tree>(
-    alloc: Global,
-    tree: &mut T,
-    sources: &mut PartialSplice,
-    folder: &str,
-    levels: u32,
-    label: &[u8],
-    line: u32,
-    path: &[u8],
-) -> Result<(), ReadFault>
-    requires { is_path path.now ≡ true }
-    ensures gives { IfSome (T.files tree.old) (λ fs. Leaves read_told sources.new result
-        (behind_include levels fs folder.now label.now line path.now sources.old)) }
-    ensures reads { ReadsFiles T.files T.begun T.faults T.refusals T.list_faults T.read_faults
-        tree.old tree.new result }
-    ensures goes_on { OnOk result (GoesOn sources.old sources.new) }
-{
-    if levels == 0 {
-        return Err(ReadFault::Fault(line_fault(alloc, Code::IncludeDepth, label, line, path)?));
-    }
-    if sources.includes() >= MOST_INCLUDES {
-        return Err(ReadFault::Fault(line_fault(alloc, Code::IncludeCount, label, line, path)?));
-    }
-    sources.count_include();
-    let inner = inner_path(alloc, folder, path)?;
-    match tree.read(alloc, inner.as_str(), MOST_OF_FILE + 1) {
-        Ok(bytes) => add_file(
-            alloc,
-            tree,
-            sources,
-            folder,
-            levels - 1,
-            inner.as_bytes(),
-            bytes.as_slice(),
-        ),
-        Err(TreeFault::Absent) => Err(ReadFault::Fault(line_fault(
-            alloc,
-            Code::NoFile,
-            label,
-            line,
-            path,
-        )?)),
-        Err(TreeFault::Failed) => Err(ReadFault::Outside),
-        Err(TreeFault::Memory) => Err(ReadFault::Memory),
-    }
+/// A file whose lines are spliced in.
+#[derive(Clone, Copy)]
+pub(crate) struct SplicedFile<'a> {
+    /// The folder of the policy, with its slash.
+    pub(crate) folder: &'a str,
+    /// How many levels of files may still stand below.
+    pub(crate) levels: u32,
+    pub(crate) label: &'a [u8],
 }
 
-/// A line of a file: it stands in the splice, or it is an include line.
-#[cycle(includes)]
-fn meet_line<T: Tree>(
-    alloc: Global,
-    tree: &mut T,
-    sources: &mut PartialSplice,
-    folder: &str,
-    levels: u32,
-    label: &[u8],
-    place: Place,
-    text: &[u8],
-) -> Result<(), ReadFault>
-    requires file { place.file < length sources.old.labels }
-    requires text { HasNoFeed text.now }
-    ensures gives { IfSome (T.files tree.old) (λ fs. Leaves read_told sources.new result
-        (behind_line (behind_include levels fs folder.now) label.now place.file place.line text.now
-        (asked_in text.now) sources.old)) }
-    ensures reads { ReadsFiles T.files T.begun T.faults T.refusals T.list_faults T.read_faults
-        tree.old tree.new result }
-    ensures goes_on { OnOk result (GoesOn sources.old sources.new) }
-{
-    match asked_in(text) {
-        Asked::Nothing => {
-            sources.add_line(place, text)?;
-            Ok(())
+impl<'a> SplicedFile<'a> {
+    /// The fault of the code at a line of the file.
+    fn fault(&self, alloc: Global, code: Code, line: u32, word: &[u8]) -> Result<Fault, Memory>
+        ensures { IfOk result (λ f. f ≡ fault code self.now.label.now line word.now) }
+    {
+        line_fault(alloc, code, self.label, line, word)
+    }
+
+    /// The include line is met.
+    #[cycle(includes)]
+    #[tactic(auto, unfolding(crate::specs::Splicing::behind_include))]
+    fn include<T: Tree>(
+        &self,
+        alloc: Global,
+        tree: &mut T,
+        sources: &mut PartialSplice,
+        line: u32,
+        path: &[u8],
+    ) -> Result<(), ReadFault>
+        requires { is_path path.now ≡ true }
+        ensures gives { IfSome (T.files tree.old) (λ fs. Leaves read_told sources.new result
+            (behind_include self.now.levels fs self.now.folder.now self.now.label.now line path.now
+            sources.old)) }
+        ensures reads { ReadsFiles T.files T.begun T.faults T.refusals T.list_faults T.read_faults
+            tree.old tree.new result }
+        ensures goes_on { OnOk result (GoesOn sources.old sources.new) }
+    {
+        if self.levels == 0 {
+            return Err(ReadFault::Fault(self.fault(alloc, Code::IncludeDepth, line, path)?));
         }
-        Asked::Wrong(path) => Err(ReadFault::Fault(line_fault(
-            alloc,
-            Code::IncludePath,
-            label,
-            place.line,
-            path,
-        )?)),
-        Asked::Wanted(path) => include_file(
-            alloc, tree, sources, folder, levels, label, place.line, path,
-        ),
+        if sources.includes() >= MOST_INCLUDES {
+            return Err(ReadFault::Fault(self.fault(alloc, Code::IncludeCount, line, path)?));
+        }
+        sources.count_include();
+        let inner = inner_path(alloc, self.folder, path)?;
+        match tree.read(alloc, inner.as_str(), MOST_OF_FILE + 1) {
+            Ok(bytes) => {
+                let included = SplicedFile {
+                    folder: self.folder,
+                    levels: self.levels - 1,
+                    label: inner.as_bytes(),
+                };
+                included.add(alloc, tree, sources, bytes.as_slice())
+            }
+            Err(TreeFault::Absent) => Err(ReadFault::Fault(self.fault(
+                alloc,
+                Code::NoFile,
+                line,
+                path,
+            )?)),
+            Err(TreeFault::Failed) => Err(ReadFault::Outside),
+            Err(TreeFault::Memory) => Err(ReadFault::Memory),
+        }
     }
-}
 
-/// The lines of a file that was read: all its bytes, or more of them than a file may have.
-#[cycle(includes)]
-#[tactic(auto, using(crate::proofs::FeedLaws::lines_have_none, crate::proofs::FeedLaws::first_has_none, crate::proofs::FeedLaws::others_have_none))]
-pub(crate) fn add_file<T: Tree>(
-    alloc: Global,
-    tree: &mut T,
-    sources: &mut PartialSplice,
-    folder: &str,
-    levels: u32,
-    label: &[u8],
-    bytes: &[u8],
-) -> Result<(), ReadFault>
-    requires room { length sources.old.labels ≤ sources.old.includes }
-    ensures gives { IfSome (T.files tree.old) (λ fs. Leaves read_told sources.new result
-        (behind_file (behind_include levels fs folder.now) label.now bytes.now sources.old)) }
-    ensures reads { ReadsFiles T.files T.begun T.faults T.refusals T.list_faults T.read_faults
-        tree.old tree.new result }
-    ensures goes_on { OnOk result (GoesOn sources.old sources.new) }
-    ensures labels { OnOk result (0 < length sources.new.labels) }
-{
-    if sources.is_too_long(bytes.len()) {
-        return Err(ReadFault::Fault(line_fault(alloc, Code::TooLong, label, 0, b"")?));
+    /// A line of the file: it stands in the splice, or it is an include line.
+    #[cycle(includes)]
+    fn meet_line<T: Tree>(
+        &self,
+        alloc: Global,
+        tree: &mut T,
+        sources: &mut PartialSplice,
+        place: Place,
+        text: &[u8],
+    ) -> Result<(), ReadFault>
+        requires file { place.file < length sources.old.labels }
+        requires text { HasNoFeed text.now }
+        ensures gives { IfSome (T.files tree.old) (λ fs. Leaves read_told sources.new result
+            (behind_line (behind_include self.now.levels fs self.now.folder.now) self.now.label.now
+            place.file place.line text.now (asked_in text.now) sources.old)) }
+        ensures reads { ReadsFiles T.files T.begun T.faults T.refusals T.list_faults T.read_faults
+            tree.old tree.new result }
+        ensures goes_on { OnOk result (GoesOn sources.old sources.new) }
+    {
+        match asked_in(text) {
+            Asked::Nothing => {
+                sources.add_line(place, text)?;
+                Ok(())
+            }
+            Asked::Wrong(path) => Err(ReadFault::Fault(self.fault(
+                alloc,
+                Code::IncludePath,
+                place.line,
+                path,
+            )?)),
+            Asked::Wanted(path) => self.include(alloc, tree, sources, place.line, path),
+        }
     }
-    let file = sources.add_file(alloc, label, bytes.len())?;
-    let mut cursor = Cursor::new(file, bytes);
-    while let Some(text) = cursor.line() {
-        let place = cursor.place();
-        meet_line(alloc, tree, sources, folder, levels, label, place, text)?;
+
+    /// The lines of the file, of which all bytes were read, or more of them than it may have.
+    #[cycle(includes)]
+    #[tactic(auto, using(crate::proofs::FeedLaws::lines_have_none, crate::proofs::FeedLaws::first_has_none, crate::proofs::FeedLaws::others_have_none))]
+    pub(crate) fn add<T: Tree>(
+        &self,
+        alloc: Global,
+        tree: &mut T,
+        sources: &mut PartialSplice,
+        bytes: &[u8],
+    ) -> Result<(), ReadFault>
+        requires room { length sources.old.labels ≤ sources.old.includes }
+        ensures gives { IfSome (T.files tree.old) (λ fs. Leaves read_told sources.new result
+            (behind_file (behind_include self.now.levels fs self.now.folder.now) self.now.label.now
+            bytes.now sources.old)) }
+        ensures reads { ReadsFiles T.files T.begun T.faults T.refusals T.list_faults T.read_faults
+            tree.old tree.new result }
+        ensures goes_on { OnOk result (GoesOn sources.old sources.new) }
+        ensures labels { OnOk result (0 < length sources.new.labels) }
+    {
+        if sources.is_too_long(bytes.len()) {
+            return Err(ReadFault::Fault(self.fault(alloc, Code::TooLong, 0, b"")?));
+        }
+        let file = sources.add_file(alloc, self.label, bytes.len())?;
+        let mut cursor = Cursor::new(file, bytes);
+        while let Some(text) = cursor.line() {
+            let place = cursor.place();
+            self.meet_line(alloc, tree, sources, place, text)?;
+        }
+        Ok(())
     }
-    Ok(())
 }

@@ -8,7 +8,7 @@ use Rattle.acl_packet.specs.declared.addresses.Family.TheVariants.{V4, V6}
 use Rattle.acl_packet.specs.declared.addresses.Families.{Families}
 use Rattle.acl_packet.specs.declared.addresses.Families.TheVariants.{Inet, Inet6, Mixed}
 use Rattle.acl_grammar.specs.Rows.{Row}
-use Rattle.acl_grammar.specs.RowSteps.{row_in}
+use Rattle.acl_grammar.specs.RowSteps.{row_in, document_in}
 use Rattle.acl_grammar.proofs.RowLaws.{fold-again, fold-members}
 use Rattle.acl_grammar.specs.RuleParts.{log_words}
 use Rattle.acl_grammar.specs.FamilyWords.{families_in}
@@ -16,21 +16,21 @@ use Rattle.cisco_lang.specs.declared.documents.Section.{Section}
 use Rattle.cisco_lang.specs.declared.documents.AccessList.{AccessList}
 use Rattle.cisco_lang.specs.declared.documents.Item.{Item}
 use Rattle.cisco_lang.specs.declared.documents.Item.TheVariants.{Remark, Entry as AnEntry}
-use Rattle.cisco_lang.specs.declared.document_drafts.DocumentDraft.{DocumentDraft}
+use Rattle.cisco_lang.specs.declared.lists_drafts.ListsDraft.{ListsDraft}
 use Rattle.cisco_lang.specs.Documents.{IsItem, IsList, heads_of, IsSection}
 use Rattle.cisco_lang.specs.Texts.{action_word, proto_word, end_words, type_words, flags_words, entry_words, item_rows, head_rows, end_rows, list_rows, families_word, section_rows, text_of}
-use Rattle.cisco_lang.specs.ReadingSteps.{no_list, no_section, no_draft, entry_in, item_in, is_last, end_section, end_list, take_four, take_outer, take_inner, take_row, document_in}
+use Rattle.cisco_lang.specs.ReadingSteps.{no_list, no_section, no_draft, entry_in, item_in, is_last, end_section, end_list, take_four, take_outer, take_inner, take_row}
 use Rattle.cisco_lang.proofs.ValidityLaws.{head_of}
 use Rattle.cisco_lang.proofs.EntryReadingLaws.{entry_again}
 use Rattle.cisco_lang.proofs.SafeRows.{sections_safe}
 
-abbrev at : List Section → Section → AccessList → DocumentDraft
+abbrev at : List Section → Section → AccessList → ListsDraft
 at ss s l = record { sections = ss; section = s; list = l }
 
-abbrev read : DocumentDraft → List Row → DocumentDraft
+abbrev read : ListsDraft → List Row → ListsDraft
 read d rows = fold take_row d rows
 
-then : (d m e : DocumentDraft) (xs ys : List Row) → read d xs ≡ m → read m ys ≡ e → read d (xs ++ ys) ≡ e
+then : (d m e : ListsDraft) (xs ys : List Row) → read d xs ≡ m → read m ys ≡ e → read d (xs ++ ys) ≡ e
 then d m e xs ys h k = fold-append take_row d xs ys ∙ ap (λ s. read s ys) h ∙ k
 
 -- ---- items
@@ -123,12 +123,12 @@ sections_read ss doc h =
 
 -- ---- documents
 
-empty_row : (d : DocumentDraft) → take_row d (row_in []) ≡ d
+empty_row : (d : ListsDraft) → take_row d (row_in []) ≡ d
 unfolding row_in take_row take_outer
 empty_row d = refl
 
-pub document_again : (doc : List Section) → AllByRecursion IsSection doc → document_in (text_of doc) ≡ doc
-unfolding document_in
+pub document_again : (doc : List Section) → AllByRecursion IsSection doc
+    → document_in take_row no_draft (λ d. d.sections) (text_of doc) ≡ doc
 document_again doc h =
     let end = at doc no_section no_list in
     ap (λ d. d.sections) (fold-again take_row no_draft end (flat_map section_rows doc) (sections_safe doc h) (sections_read [] doc h) (empty_row end))

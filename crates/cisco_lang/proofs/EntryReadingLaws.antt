@@ -30,9 +30,9 @@ use Rattle.acl_grammar.specs.declared.rule_parts.End.{End}
 use Rattle.acl_grammar.specs.declared.rule_parts.End.TheVariants.{Source, Destination}
 use Rattle.cisco_lang.specs.declared.entry_drafts.Next.TheVariants.{Place, Wildcard, Port, Low, Tests}
 use Rattle.cisco_lang.specs.declared.entry_drafts.EntryDraft.{EntryDraft}
-use Rattle.cisco_lang.specs.Documents.{IsEntry}
+use Rattle.cisco_lang.specs.Documents.{everywhere, IsEntry}
 use Rattle.cisco_lang.specs.Texts.{action_word, proto_word, masked_words, address_words, ports_words, type_words, flags_words, end_words, entry_words}
-use Rattle.cisco_lang.specs.ReadingSteps.{draft, everywhere, no_entry, with_place, with_ports, ports_of, after, proto_named, proto_in, host_in, place_in, length_in, port_in, begun, place_named, take_place, test_named, take_test, take_as, take_word, entry_in}
+use Rattle.cisco_lang.specs.ReadingSteps.{draft, no_entry, with_place, with_ports, ports_of, after, proto_named, proto_in, host_in, place_in, length_in, port_in, begun, place_named, take_place, test_named, take_test, take_as, take_word, entry_in}
 
 abbrev read : EntryDraft → List (List ℕ) → EntryDraft
 read d words = fold take_word d words

@@ -1,7 +1,7 @@
--- The tests of a document say what a valid one is.
-use Rattle.std.proofs.Common.{◌≡◌, ℕ, ◌≤◌, Bool, true, false, ◌&&◌, nat_le, List, [], ◌∷◌, ◌++◌, map, codes, Option, None, Some, IfSome, refl, ap, sym, subst, ◌∙◌, arith}
+-- The tests of a section say what a valid one is.
+use Rattle.std.proofs.Common.{◌≡◌, ℕ, true, false, ◌&&◌, List, [], ◌∷◌, ◌++◌, map, codes, Option, None, Some, IfSome, refl, ap, sym, ◌∙◌}
 use Rattle.std.specs.Bool.{Decides}
-use Rattle.std.specs.List.{list_all, AllByRecursion, IsDistinct}
+use Rattle.std.specs.List.{list_all}
 use Rattle.std.specs.Str.{bytes_eq}
 use Rattle.std.proofs.lemmas.Bool.{false≢true, false_from_ne_true}
 use Rattle.std.proofs.lemmas.Bool.Decides.{same_from_decides, Decides-and, Decides-like}
@@ -19,15 +19,16 @@ use Rattle.acl_text.specs.Names.{is_filter_name}
 use Rattle.acl_text.proofs.CutLaws.{behind-found, behind-again}
 use Rattle.acl_grammar.specs.PrefixCheckSteps.{is_prefix_of}
 use Rattle.acl_grammar.specs.PortRanges.{IsPortRange}
-use Rattle.acl_grammar.proofs.DecisionLaws.{le_decides, family_decides, prefix_decides, all_decides}
+use Rattle.acl_grammar.specs.RuleParts.{number_fits}
+use Rattle.acl_grammar.proofs.DecisionLaws.{number_decides, type_decides, family_decides, prefix_decides, all_decides}
 use Rattle.acl_grammar.proofs.PortRangeLaws.{range_decides}
 use Rattle.cisco_lang.specs.declared.documents.Section.{Section}
 use Rattle.cisco_lang.specs.declared.documents.AccessList.{AccessList}
 use Rattle.cisco_lang.specs.declared.documents.Item.{Item}
 use Rattle.cisco_lang.specs.declared.documents.Item.TheVariants.{Remark, Entry as AnEntry}
 use Rattle.cisco_lang.specs.declared.documents.Entry.{Entry}
-use Rattle.cisco_lang.specs.Documents.{parts_fit, IsEntry, IsItem, IsList, heads_of, IsSection, names_of, IsDocument}
-use Rattle.cisco_lang.specs.ValiditySteps.{is_number, are_ports, is_end, is_entry, is_item, is_list, is_headed, are_headed, is_section, are_sections}
+use Rattle.cisco_lang.specs.Documents.{parts_fit, IsEntry, IsItem, IsList, heads_of, IsSection}
+use Rattle.cisco_lang.specs.ValiditySteps.{are_ports, is_end, is_entry, is_item, is_list, is_headed, are_headed, is_section}
 
 -- ---- a name that is a front and a name
 
@@ -45,14 +46,6 @@ front_none front word name h =
 
 -- ---- entries
 
-number_decides : (least most : ℕ) (o : Option ℕ) → Decides (is_number least most o) (IfSome o (λ n. (least ≤ n) × (n ≤ most)))
-number_decides least most None = (λ h. tt, λ h. refl)
-number_decides least most (Some n) = Decides-and (nat_le least n) (nat_le n most) (le_decides least n) (le_decides n most)
-
-type_decides : (o : Option ℕ) → Decides (is_number 0 254 o) (IfSome o (λ n. n ≤ 254))
-type_decides None = (λ h. tt, λ h. refl)
-type_decides (Some n) = Decides-like (is_number 0 254 (Some n)) (λ h. h.1) (λ h. (omega arith, h)) (number_decides 0 254 (Some n))
-
 ports_decide : (o : Option (ℕ × ℕ)) → Decides (are_ports o) (IfSome o IsPortRange)
 ports_decide None = (λ h. tt, λ h. refl)
 ports_decide (Some ports) = range_decides ports
@@ -63,9 +56,9 @@ end_decides f p o = Decides-and (is_prefix_of f p) (are_ports o) (prefix_decides
 entry_decides : (f : Family) (e : Entry) → Decides (is_entry f e) (IsEntry f e)
 entry_decides f e =
     let ends = Decides-and (is_end f e.src e.sport) (is_end f e.dst e.dport) (end_decides f e.src e.sport) (end_decides f e.dst e.dport) in
-    let numbers = Decides-and (is_number 1 255 e.proto) (is_number 0 254 e.itype) (number_decides 1 255 e.proto) (type_decides e.itype) in
+    let numbers = Decides-and (number_fits 1 255 e.proto) (number_fits 0 254 e.itype) (number_decides 1 255 e.proto) (type_decides e.itype) in
     let fit : Decides (parts_fit f e) (parts_fit f e ≡ true) = (λ h. h, λ h. h) in
-    let tests = Decides-and (is_number 1 255 e.proto && is_number 0 254 e.itype) (parts_fit f e) numbers fit in
+    let tests = Decides-and (number_fits 1 255 e.proto && number_fits 0 254 e.itype) (parts_fit f e) numbers fit in
     Decides-like (is_entry f e)
     (λ h. record {
       protocol = h.1.0.0;
@@ -77,7 +70,7 @@ entry_decides f e =
       fit = h.1.1;
     })
     (λ h. (((h.source, h.source_ports), (h.destination, h.destination_ports)), ((h.protocol, h.icmp_type), h.fit)))
-    (Decides-and (is_end f e.src e.sport && is_end f e.dst e.dport) ((is_number 1 255 e.proto && is_number 0 254 e.itype) && parts_fit f e) ends tests)
+    (Decides-and (is_end f e.src e.sport && is_end f e.dst e.dport) ((number_fits 1 255 e.proto && number_fits 0 254 e.itype) && parts_fit f e) ends tests)
 
 item_decides : (f : Family) (i : Item) → Decides (is_item f i) (IsItem f i)
 item_decides f (Remark text) = (λ h. h, λ h. h)
@@ -119,7 +112,7 @@ heads_decide (l ∷ m ∷ n ∷ ls) Inet name = no_heads (λ e. cc)
 heads_decide (l ∷ m ∷ n ∷ ls) Inet6 name = no_heads (λ e. cc)
 heads_decide (l ∷ m ∷ n ∷ ls) Mixed name = no_heads (λ e. cc)
 
-section_decides : (s : Section) → Decides (is_section s) (IsSection s)
+pub section_decides : (s : Section) → Decides (is_section s) (IsSection s)
 section_decides s =
     let named : Decides (is_filter_name s.name) (is_filter_name s.name ≡ true) = (λ h. h, λ h. h) in
     let heads = heads_decide s.lists s.families s.name in
@@ -127,18 +120,3 @@ section_decides s =
     Decides-like (is_section s) (λ h. record { named = h.0; heads = h.1.0; lists = h.1.1 }) (λ h. (h.named, (h.heads, h.lists)))
     (Decides-and (is_filter_name s.name) (are_headed s.lists s.families s.name && list_all is_list s.lists) named
     (Decides-and (are_headed s.lists s.families s.name) (list_all is_list s.lists) heads lists))
-
-sections_decide : (doc : List Section) → Decides (are_sections doc) (AllByRecursion IsSection doc)
-sections_decide doc = all_decides is_section IsSection section_decides doc
-
--- ---- documents
-
-pub not_document : (doc : List Section) → are_sections doc ≡ false → Decides false (IsDocument doc)
-not_document doc h = (λ f. absurd (false≢true f), λ d. absurd (false≢true (sym h ∙ (sections_decide doc).1 d.sections)))
-
-pub document_decides : (doc : List Section) (names : List (List ℕ)) (b : Bool) → are_sections doc ≡ true → names ≡ names_of doc
-    → Decides b (IsDistinct bytes_eq names) → Decides b (IsDocument doc)
-document_decides doc names b h e d =
-    Decides-like b
-    (λ k. record { sections = (sections_decide doc).0 h; names_differ = subst (IsDistinct bytes_eq) e k })
-    (λ k. subst (IsDistinct bytes_eq) (sym e) k.names_differ) d

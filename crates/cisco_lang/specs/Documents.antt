@@ -1,12 +1,13 @@
 -- Documents of Cisco IOS access lists, and which of them are valid.
 -- Sources: Cisco IOS Security Command Reference, "access-list (IP extended)" and "ip access-list";
 -- Cisco IOS IPv6 Command Reference, "ipv6 access-list", "permit (IPv6)" and "deny (IPv6)".
-use Rattle.std.specs.Prelude.{◌≡◌, ℕ, ◌≤◌, Bool, true, false, ◌&&◌, ◌||◌, List, [], ◌∷◌, ◌++◌, map, flat_map, codes, Option, Some, IfSome, is_none}
+use Rattle.std.specs.Prelude.{◌≡◌, ℕ, ◌≤◌, Bool, true, false, ◌&&◌, ◌||◌, List, [], ◌∷◌, ◌++◌, map, codes, Option, Some, IfSome, is_none}
 use Rattle.std.specs.List.{AllByRecursion}
 use Rattle.acl_packet.specs.declared.addresses.Family.{Family}
 use Rattle.acl_packet.specs.declared.addresses.Family.TheVariants.{V4, V6}
 use Rattle.acl_packet.specs.declared.addresses.Families.{Families}
 use Rattle.acl_packet.specs.declared.addresses.Families.TheVariants.{Inet, Inet6, Mixed}
+use Rattle.acl_packet.specs.declared.addresses.Prefix.{Prefix}
 use Rattle.acl_packet.specs.Addresses.{IsPrefixOf}
 use Rattle.acl_packet.specs.Packets.{icmp_of}
 use Rattle.acl_text.specs.Names.{is_filter_name, is_safe_text}
@@ -39,6 +40,10 @@ flags_fit family e = (is_none e.flags || is_proto e.proto 6) && match_all_fits f
 abbrev pub parts_fit : Family → Entry → Bool
 parts_fit family e = ports_fit e && (type_fits family e && flags_fit family e)
 
+-- The prefix of all the addresses of a family.
+abbrev pub everywhere : Family → Prefix
+everywhere family = record { family = family; first = 0; len = 0 }
+
 -- An entry of a list of the family. Protocol 0 and type 255 have no number here.
 pub record IsEntry (family : Family) (e : Entry) : Type 0 where
   pub protocol : IfSome e.proto (λ n. (1 ≤ n) × (n ≤ 255))
@@ -67,10 +72,10 @@ pub record IsSection (s : Section) : Type 0 where
   pub heads : map (λ l. (l.family, l.name)) s.lists ≡ heads_of s.families s.name
   pub lists : AllByRecursion IsList s.lists
 
--- The names of a document's lists, in order.
-abbrev pub names_of : List Section → List (List ℕ)
-names_of doc = flat_map (λ s. map (λ l. l.name) s.lists) doc
+-- The names of a section's lists, in order.
+abbrev pub list_names : Section → List (List ℕ)
+list_names s = map (λ l. l.name) s.lists
 
 -- A document is its sections, no two of whose lists have the same name.
 abbrev pub IsDocument : List Section → Type 0
-IsDocument doc = IsDocumentOf IsSection names_of doc
+IsDocument doc = IsDocumentOf IsSection list_names doc

@@ -14,7 +14,6 @@ use Rattle.acl_packet.specs.Decimals.{number_in}
 use Rattle.acl_packet.specs.Packets.{icmp_of}
 use Rattle.acl_text.specs.AddressTexts.{address_in, spelled_prefix_in}
 use Rattle.acl_grammar.specs.Rows.{Row}
-use Rattle.acl_grammar.specs.RowSteps.{rows_in}
 use Rattle.acl_grammar.specs.FamilyWords.{families_in}
 use Rattle.cisco_lang.specs.declared.documents.Section.{Section}
 use Rattle.cisco_lang.specs.declared.documents.AccessList.{AccessList}
@@ -28,15 +27,13 @@ use Rattle.acl_grammar.specs.declared.rule_parts.End.TheVariants.{Source, Destin
 use Rattle.cisco_lang.specs.declared.entry_drafts.Next.{Next}
 use Rattle.cisco_lang.specs.declared.entry_drafts.Next.TheVariants.{Action, Protocol, Place, Host, Wildcard, Port, Low, High, Tests}
 use Rattle.cisco_lang.specs.declared.entry_drafts.EntryDraft.{EntryDraft}
-use Rattle.cisco_lang.specs.declared.document_drafts.DocumentDraft.{DocumentDraft}
+use Rattle.cisco_lang.specs.declared.lists_drafts.ListsDraft.{ListsDraft}
+use Rattle.cisco_lang.specs.Documents.{everywhere}
 
 -- ---- the words of an entry
 
 abbrev pub draft : Family → Entry → Next → EntryDraft
 draft family e next = record { family = family; entry = e; next = next }
-
-abbrev pub everywhere : Family → Prefix
-everywhere family = record { family = family; first = 0; len = 0 }
 
 abbrev pub no_entry : Family → Entry
 no_entry family = record {
@@ -183,47 +180,43 @@ abbrev pub is_last : Families → Family → Bool
 is_last Mixed V4 = false
 is_last families family = true
 
-abbrev pub end_section : Bool → DocumentDraft → DocumentDraft
+abbrev pub end_section : Bool → ListsDraft → ListsDraft
 end_section true d = record d { sections = d.sections ++ d.section ∷ []; section = no_section }
 end_section false d = d
 
-unfoldable pub end_list : DocumentDraft → DocumentDraft
+unfoldable pub end_list : ListsDraft → ListsDraft
 end_list d = end_section (is_last d.section.families d.list.family) (record d {
   section = record d.section { lists = d.section.lists ++ d.list ∷ [] };
   list = no_list;
 })
 
-abbrev pub begin_list : DocumentDraft → Family → List ℕ → DocumentDraft
+abbrev pub begin_list : ListsDraft → Family → List ℕ → ListsDraft
 begin_list d family name = record d { list = record { family = family; name = name; items = [] } }
 
-abbrev pub begin_section : DocumentDraft → List ℕ → List ℕ → DocumentDraft
+abbrev pub begin_section : ListsDraft → List ℕ → List ℕ → ListsDraft
 begin_section d name kind =
     record d { section = record { name = name; families = families_in kind; lists = [] } }
 
 -- A row of four words begins a section or an IPv4 list, or takes an IPv6 list away.
-unfoldable pub take_four : DocumentDraft → List ℕ → List ℕ → List ℕ → DocumentDraft
+unfoldable pub take_four : ListsDraft → List ℕ → List ℕ → List ℕ → ListsDraft
 take_four d w name kind =
     if bytes_eq w (codes "!") then begin_section d name kind
     else if bytes_eq w (codes "ip") then begin_list d V4 kind
     else d
 
-unfoldable pub take_outer : DocumentDraft → List (List ℕ) → DocumentDraft
+unfoldable pub take_outer : ListsDraft → List (List ℕ) → ListsDraft
 take_outer d (w ∷ []) = if bytes_eq w (codes "exit") then end_list d else d
 take_outer d (w ∷ v ∷ name ∷ []) = begin_list d V6 name
 take_outer d (w ∷ v ∷ name ∷ kind ∷ []) = take_four d w name kind
 take_outer d words = d
 
-unfoldable pub take_inner : DocumentDraft → List (List ℕ) → DocumentDraft
+unfoldable pub take_inner : ListsDraft → List (List ℕ) → ListsDraft
 take_inner d words = record d {
   list = record d.list { items = d.list.items ++ item_in d.list.family words ∷ [] };
 }
 
-unfoldable pub take_row : DocumentDraft → Row → DocumentDraft
+unfoldable pub take_row : ListsDraft → Row → ListsDraft
 take_row d r = if r.indent == 0 then take_outer d r.words else take_inner d r.words
 
-abbrev pub no_draft : DocumentDraft
+abbrev pub no_draft : ListsDraft
 no_draft = record { sections = []; section = no_section; list = no_list }
-
--- What the bytes say, whatever they are.
-unfoldable pub document_in : List ℕ → List Section
-document_in bytes = (fold take_row no_draft (rows_in bytes)).sections

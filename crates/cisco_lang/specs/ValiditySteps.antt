@@ -1,5 +1,5 @@
 -- Whether a document is valid, test by test.
-use Rattle.std.specs.Prelude.{ℕ, Bool, true, false, ◌&&◌, nat_le, List, [], ◌∷◌, ◌++◌, codes, Option, None, Some}
+use Rattle.std.specs.Prelude.{ℕ, Bool, true, false, ◌&&◌, List, [], ◌∷◌, ◌++◌, codes, Option, None, Some}
 use Rattle.std.specs.List.{list_all}
 use Rattle.std.specs.Str.{bytes_eq}
 use Rattle.acl_packet.specs.declared.addresses.Family.{Family}
@@ -11,16 +11,13 @@ use Rattle.acl_packet.specs.Addresses.{same_family}
 use Rattle.acl_text.specs.Names.{is_filter_name, is_safe_text}
 use Rattle.acl_grammar.specs.PortRangeSteps.{is_port_range}
 use Rattle.acl_grammar.specs.PrefixCheckSteps.{is_prefix_of}
+use Rattle.acl_grammar.specs.RuleParts.{number_fits}
 use Rattle.cisco_lang.specs.declared.documents.Section.{Section}
 use Rattle.cisco_lang.specs.declared.documents.AccessList.{AccessList}
 use Rattle.cisco_lang.specs.declared.documents.Item.{Item}
 use Rattle.cisco_lang.specs.declared.documents.Item.TheVariants.{Remark, Entry as AnEntry}
 use Rattle.cisco_lang.specs.declared.documents.Entry.{Entry}
 use Rattle.cisco_lang.specs.Documents.{parts_fit}
-
-abbrev pub is_number : ℕ → ℕ → Option ℕ → Bool
-is_number least most None = true
-is_number least most (Some n) = nat_le least n && nat_le n most
 
 abbrev pub are_ports : Option (ℕ × ℕ) → Bool
 are_ports None = true
@@ -31,7 +28,7 @@ is_end family p ports = is_prefix_of family p && are_ports ports
 
 abbrev pub is_entry : Family → Entry → Bool
 is_entry family e = (is_end family e.src e.sport && is_end family e.dst e.dport)
-    && ((is_number 1 255 e.proto && is_number 0 254 e.itype) && parts_fit family e)
+    && ((number_fits 1 255 e.proto && number_fits 0 254 e.itype) && parts_fit family e)
 
 abbrev pub is_item : Family → Item → Bool
 is_item family (Remark text) = is_safe_text text
@@ -52,6 +49,3 @@ are_headed lists families name = false
 abbrev pub is_section : Section → Bool
 is_section s = is_filter_name s.name
     && (are_headed s.lists s.families s.name && list_all is_list s.lists)
-
-abbrev pub are_sections : List Section → Bool
-are_sections doc = list_all is_section doc

@@ -2,9 +2,9 @@ ghost use Rattle.std.specs.Prelude.{◌≡◌, Some, IfSome, ◌<◌, ◌^◌};
 ghost use Rattle.std.specs.List.{fold};
 ghost use Rattle.std.specs.Str.{bytes_eq};
 ghost use Rattle.acl_text.specs.Cuts.{views};
-ghost use Rattle.cisco_lang.specs.ReadingSteps.{draft, everywhere, no_entry, with_place, with_ports, place_of, ports_of, after, proto_in, host_in, place_in, length_in, port_in, port_pair, begun, ports_begin, place_named, take_place, test_named, with_test, take_test, take_as, take_word, entry_in};
+ghost use Rattle.cisco_lang.specs.ReadingSteps.{draft, no_entry, with_place, with_ports, place_of, ports_of, after, proto_in, host_in, place_in, length_in, port_in, port_pair, begun, ports_begin, place_named, take_place, test_named, with_test, take_test, take_as, take_word, entry_in};
 
-use crate::documents::{Entry, Flags};
+use crate::documents::{Entry, Flags, everywhere};
 use acl_grammar::End;
 use acl_packet::{Family, Prefix};
 use acl_text::{read_address, read_spelled_prefix, read_u8, read_u16};
@@ -44,16 +44,6 @@ pub(crate) fn entry_of(family: Family, words: &[&[u8]]) -> Entry
         draft = draft.take_word(word);
     }
     draft.entry
-}
-
-fn everywhere(family: Family) -> Prefix
-    ensures { result ≡ everywhere family }
-{
-    Prefix {
-        family,
-        first: 0,
-        len: 0,
-    }
 }
 
 fn is(word: &[u8], text: &str) -> bool

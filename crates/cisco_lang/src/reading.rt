@@ -1,15 +1,14 @@
 ghost use Rattle.std.specs.Prelude.{◌≡◌, IfNone, IfOk, IfSome, List};
 ghost use Rattle.cisco_lang.specs.declared.documents.Section.{Section};
-ghost use Rattle.cisco_lang.specs.Documents.{IsSection, names_of};
-ghost use Rattle.cisco_lang.specs.ReadingSteps.{document_in};
+ghost use Rattle.cisco_lang.specs.Documents.{IsSection, list_names};
 ghost use Rattle.cisco_lang.specs.Texts.{Spells};
 ghost use Rattle.cisco_lang.specs.Walks.{section_outcome};
 
-use crate::document_drafts::DocumentDraft;
 use crate::documents::{Doc, Section};
-use crate::validity::is_document;
+use crate::lists_drafts::ListsDraft;
+use crate::validity::{is_section, list_names_of};
 use crate::walking::{items_of, walk};
-use acl_grammar::{DocumentSection, read_document, read_rows};
+use acl_grammar::{DocumentSection, are_distinct, read_document};
 use acl_packet::{Outcome, Packet};
 use acl_text::Memory;
 use std::alloc::Global;
@@ -17,22 +16,19 @@ use std::alloc::Global;
 impl DocumentSection for Section {
     ghost is_section = { IsSection };
 
-    ghost names = { names_of };
+    #[tactic(auto, using(crate::proofs::ValidityLaws::section_decides))]
+    fn is_valid(&self) -> bool {
+        is_section(self)
+    }
+
+    ghost names = { list_names };
+
+    fn have_distinct_names(alloc: Global, sections: &[Section]) -> Result<bool, Memory> {
+        let names = list_names_of(alloc, sections)?;
+        Ok(are_distinct(names.as_slice()))
+    }
 
     ghost outcome = { section_outcome };
-
-    ghost document_in = { document_in };
-
-    #[tactic(auto, unfolding(crate::specs::ReadingSteps::document_in))]
-    fn read_leniently(alloc: Global, bytes: &[u8]) -> Result<Doc, Memory> {
-        let mut draft = DocumentDraft::new(alloc);
-        read_rows(alloc, &mut draft, bytes)?;
-        Ok(draft.sections)
-    }
-
-    fn are_document(alloc: Global, sections: &[Section]) -> Result<bool, Memory> {
-        is_document(alloc, sections)
-    }
 
     #[tactic(auto, unfolding(crate::specs::Walks::section_outcome))]
     fn outcome(&self, packet: &Packet) -> Option<Outcome> {
@@ -47,8 +43,7 @@ impl DocumentSection for Section {
     #[tactic(auto, using(crate::proofs::DocumentLaws::document_again))]
     fn a_document_is_read_again() {}
 
-    #[tactic(auto, using(crate::proofs::JoinLaws::joined_names))]
-    fn joined_documents_have_joined_names() {}
+    type Draft = ListsDraft;
 }
 
 /// The document that the bytes spell: `Some` exactly where they spell one, and `None` exactly where

@@ -1,56 +1,42 @@
-ghost use Rattle.std.specs.Prelude.{◌≡◌, ◌++◌, ◌&&◌, ◌↔◌, IfOk, OnOk, IsTrue, bytes_eq, codes, map};
+ghost use Rattle.std.specs.Prelude.{◌≡◌, ◌++◌, IfOk, OnOk, bytes_eq, codes, flat_map};
 ghost use Rattle.std.specs.List.{list_all};
 ghost use Rattle.acl_text.specs.Cuts.{views};
 ghost use Rattle.acl_grammar.specs.RuleParts.{is_proto};
-ghost use Rattle.cisco_lang.specs.Documents.{IsDocument, flags_fit, match_all_fits, names_of, parts_fit, ports_fit, type_fits};
-ghost use Rattle.cisco_lang.specs.ValiditySteps.{are_headed, are_ports, are_sections, is_end, is_entry, is_headed, is_item, is_list, is_number, is_section};
+ghost use Rattle.cisco_lang.specs.Documents.{flags_fit, list_names, match_all_fits, parts_fit, ports_fit, type_fits};
+ghost use Rattle.cisco_lang.specs.ValiditySteps.{are_headed, are_ports, is_end, is_entry, is_headed, is_item, is_list, is_section};
 
 use crate::documents::{AccessList, Entry, Flags, Item, Section};
-use acl_grammar::{are_distinct, is_port_range, is_prefix_of, is_proto};
+use acl_grammar::{is_port_range, is_prefix_of, is_proto, number_fits};
 use acl_packet::{Families, Family, Prefix};
 use acl_text::{Memory, behind, is_filter_name, is_safe_text};
 use std::alloc::Global;
 
-/// Whether the document is valid.
-#[tactic(auto, using(crate::proofs::ValidityLaws::not_document, crate::proofs::ValidityLaws::document_decides))]
-pub(crate) fn is_document(alloc: Global, sections: &[Section]) -> Result<bool, Memory>
-    ensures { IfOk result (λ b. IsTrue b ↔ IsDocument sections.now) }
-{
-    if !are_sections(sections) {
-        return Ok(false);
-    }
-    let names = names_of(alloc, sections)?;
-    Ok(are_distinct(names.as_slice()))
-}
-
-// The names of the lists, in order.
-fn names_of<'a>(alloc: Global, sections: &'a [Section]) -> Result<Vec<&'a [u8]>, Memory>
-    ensures { IfOk result (λ names. views names.items ≡ names_of sections.now) }
+/// The names of the lists, in order.
+pub(crate) fn list_names_of<'a>(
+    alloc: Global,
+    sections: &'a [Section],
+) -> Result<Vec<&'a [u8]>, Memory>
+    ensures { IfOk result (λ names. views names.items ≡ flat_map list_names sections.now) }
 {
     let mut names = Vec::new(alloc);
     for section in sections {
-        push_names(&mut names, section.lists.as_slice())?;
+        push_list_names(&mut names, section)?;
     }
     Ok(names)
 }
 
-fn push_names<'a>(names: &mut Vec<&'a [u8]>, lists: &'a [AccessList]) -> Result<(), Memory>
+fn push_list_names<'a>(names: &mut Vec<&'a [u8]>, section: &'a Section) -> Result<(), Memory>
     ensures { OnOk result (views names.new.items
-        ≡ views names.old.items ++ map (λ l. l.name) lists.now) }
+        ≡ views names.old.items ++ list_names section.now) }
 {
-    for list in lists {
+    for list in section.lists.as_slice() {
         names.push(list.name.as_slice())?;
     }
     Ok(())
 }
 
-fn are_sections(sections: &[Section]) -> bool
-    ensures { result ≡ are_sections sections.now }
-{
-    sections.iter().all(|section| is_section(section))
-}
-
-fn is_section(section: &Section) -> bool
+/// Whether the section is valid.
+pub(crate) fn is_section(section: &Section) -> bool
     ensures { result ≡ is_section section.now }
 {
     let name = section.name.as_slice();
@@ -128,22 +114,13 @@ fn is_entry(family: Family, entry: &Entry) -> bool
     if !is_end(family, &entry.src, entry.sport) || !is_end(family, &entry.dst, entry.dport) {
         return false;
     }
-    is_number(1, 255, entry.proto) && is_number(0, 254, entry.itype) && parts_fit(family, entry)
+    number_fits(1, 255, entry.proto) && number_fits(0, 254, entry.itype) && parts_fit(family, entry)
 }
 
 fn is_end(family: Family, place: &Prefix, ports: Option<(u16, u16)>) -> bool
     ensures { result ≡ is_end family place.now ports }
 {
     is_prefix_of(family, place) && are_ports(ports)
-}
-
-fn is_number(least: u8, most: u8, number: Option<u8>) -> bool
-    ensures { result ≡ is_number least most number }
-{
-    match number {
-        Some(number) => least <= number && number <= most,
-        None => true,
-    }
 }
 
 fn are_ports(ports: Option<(u16, u16)>) -> bool

@@ -18,26 +18,26 @@ use Rattle.acl_text.specs.SignedNumbers.{negative, below_zero_in, from_zero_in, 
 use Rattle.acl_text.proofs.CutLaws.{behind-again}
 use Rattle.acl_text.proofs.DigitLaws.{decimal-lacks}
 use Rattle.acl_grammar.specs.Rows.{Row}
-use Rattle.acl_grammar.specs.RowSteps.{row_in}
+use Rattle.acl_grammar.specs.RowSteps.{row_in, document_in}
 use Rattle.acl_grammar.proofs.RowLaws.{fold-again, fold-members}
 use Rattle.acl_grammar.specs.FamilyWords.{families_in}
 use Rattle.nft_lang.specs.declared.documents.Section.{Section}
 use Rattle.nft_lang.specs.declared.documents.Item.{Item}
 use Rattle.nft_lang.specs.declared.documents.Item.TheVariants.{Remark, Rule as ARule}
-use Rattle.nft_lang.specs.declared.document_drafts.DocumentDraft.{DocumentDraft}
+use Rattle.nft_lang.specs.declared.tables_drafts.TablesDraft.{TablesDraft}
 use Rattle.nft_lang.specs.Documents.{IsItem, IsSection, fits_i32, table_name}
 use Rattle.nft_lang.specs.Texts.{hook_word, families_word, policy_word, priority_word, rule_words, item_rows, head_rows, end_rows, section_rows, text_of}
-use Rattle.nft_lang.specs.ReadingSteps.{no_section, no_draft, hook_in, table_in, priority_in, rule_in, item_in, with_item, take_four, take_outer, take_chain, take_inner, take_row, document_in}
+use Rattle.nft_lang.specs.ReadingSteps.{no_section, no_draft, hook_in, table_in, priority_in, rule_in, item_in, with_item, take_four, take_outer, take_chain, take_inner, take_row}
 use Rattle.nft_lang.proofs.RuleReadingLaws.{rule_again, up_to_there}
 use Rattle.nft_lang.proofs.SafeRows.{plain_word, BeginsRule, rule_begins, signed_lacks, sections_safe}
 
-abbrev at : List Section → Section → DocumentDraft
+abbrev at : List Section → Section → TablesDraft
 at ss s = record { sections = ss; section = s }
 
-abbrev read : DocumentDraft → List Row → DocumentDraft
+abbrev read : TablesDraft → List Row → TablesDraft
 read d rows = fold take_row d rows
 
-then : (d m e : DocumentDraft) (xs ys : List Row) → read d xs ≡ m → read m ys ≡ e → read d (xs ++ ys) ≡ e
+then : (d m e : TablesDraft) (xs ys : List Row) → read d xs ≡ m → read m ys ≡ e → read d (xs ++ ys) ≡ e
 then d m e xs ys h k = fold-append take_row d xs ys ∙ ap (λ s. read s ys) h ∙ k
 
 -- ---- items
@@ -56,7 +56,7 @@ plain_parts (b ∷ bs) h =
     (not_true (bytes_eq (b ∷ bs) (codes "#")) p.0, not_true (bytes_eq (b ∷ bs) (codes "type")) p.1)
 
 -- a row that begins as a rule is taken as a rule
-rule_taken : (d : DocumentDraft) (words : List (List ℕ)) → BeginsRule words → take_inner d words ≡ with_item d (ARule (rule_in d.section.families words))
+rule_taken : (d : TablesDraft) (words : List (List ℕ)) → BeginsRule words → take_inner d words ≡ with_item d (ARule (rule_in d.section.families words))
 unfolding take_inner item_in
 rule_taken d words h =
     let w = h.first in
@@ -161,12 +161,12 @@ sections_read ss doc h = fold-members take_row section_rows (λ t. at t no_secti
 
 -- ---- documents
 
-empty_row : (d : DocumentDraft) → take_row d (row_in []) ≡ d
+empty_row : (d : TablesDraft) → take_row d (row_in []) ≡ d
 unfolding row_in take_row take_outer
 empty_row d = refl
 
-pub document_again : (doc : List Section) → AllByRecursion IsSection doc → document_in (text_of doc) ≡ doc
-unfolding document_in
+pub document_again : (doc : List Section) → AllByRecursion IsSection doc
+    → document_in take_row no_draft (λ d. d.sections) (text_of doc) ≡ doc
 document_again doc h =
     let end = at doc no_section in
     ap (λ d. d.sections) (fold-again take_row no_draft end (flat_map section_rows doc) (sections_safe doc h) (sections_read [] doc h) (empty_row end))

@@ -1,5 +1,5 @@
--- The tests of a document say what a valid one is.
-use Rattle.std.proofs.Common.{◌≡◌, ℕ, ◌^◌, ◌≤◌, Bool, true, false, not, ◌&&◌, ◌==◌, nat_eq, nat_le, nat_lt, List, [], ◌∷◌, codes, Option, None, Some, IfSome, refl, ap, sym, ◌∙◌, arith}
+-- The tests say which sections are valid, and where their tables differ.
+use Rattle.std.proofs.Common.{◌≡◌, ◌^◌, Bool, true, false, not, ◌&&◌, ◌==◌, nat_eq, nat_le, nat_lt, List, [], ◌∷◌, flat_map, codes, refl, ap, sym, ◌∙◌, arith}
 use Rattle.std.specs.Bool.{Decides}
 use Rattle.std.specs.Fmt.{decimal}
 use Rattle.std.specs.List.{list_all, list_any, AllByRecursion, IsDistinct}
@@ -16,14 +16,15 @@ use Rattle.acl_packet.specs.Addresses.{covers}
 use Rattle.acl_grammar.specs.PortRangeSteps.{is_port_range}
 use Rattle.acl_grammar.specs.PortRanges.{IsPortRange}
 use Rattle.acl_grammar.specs.PrefixCheckSteps.{is_prefix_of}
-use Rattle.acl_grammar.proofs.DecisionLaws.{le_decides, prefix_decides, all_decides}
+use Rattle.acl_grammar.specs.RuleParts.{number_fits}
+use Rattle.acl_grammar.proofs.DecisionLaws.{le_decides, number_decides, prefix_decides, all_decides}
 use Rattle.acl_grammar.proofs.PortRangeLaws.{range_decides}
 use Rattle.nft_lang.specs.declared.documents.Section.{Section}
 use Rattle.nft_lang.specs.declared.documents.Item.{Item}
 use Rattle.nft_lang.specs.declared.documents.Item.TheVariants.{Remark, Rule as ARule}
 use Rattle.nft_lang.specs.declared.documents.Rule.{Rule}
-use Rattle.nft_lang.specs.Documents.{IsSet, IsAddresses, IsType, IsRule, IsItem, IsSection, IsDocument, prefixes_overlap, ports_overlap, parts_fit, fits_i32, table_name, names_of}
-use Rattle.nft_lang.specs.ValiditySteps.{are_apart, is_addresses, are_addresses, are_ports, are_types, is_protocol, has_sets, is_rule, is_item, is_section, are_sections, same_table, is_document}
+use Rattle.nft_lang.specs.Documents.{IsSet, IsAddresses, IsType, IsRule, IsItem, IsSection, prefixes_overlap, ports_overlap, parts_fit, fits_i32, table_name, table_names}
+use Rattle.nft_lang.specs.ValiditySteps.{are_apart, is_addresses, are_addresses, are_ports, are_types, has_sets, is_rule, is_item, is_section, same_table}
 
 -- ---- sets
 
@@ -63,10 +64,6 @@ addresses_decide f p =
 
 -- ---- rules
 
-protocol_decides : (o : Option ℕ) → Decides (is_protocol o) (IfSome o (λ n. (1 ≤ n) × (n ≤ 255)))
-protocol_decides None = (λ h. tt, λ h. refl)
-protocol_decides (Some n) = Decides-and (nat_le 1 n) (nat_le n 255) (le_decides 1 n) (le_decides n 255)
-
 is_itself : (b : Bool) → Decides b (b ≡ true)
 is_itself b = (λ h. h, λ h. h)
 
@@ -79,7 +76,7 @@ rule_decides fs r =
     let ports = Decides-and (are_ports r.sports) (are_ports r.dports) (port r.sports) (port r.dports) in
     let sets = Decides-and (are_addresses r.family r.src && are_addresses r.family r.dst) ((are_ports r.sports && are_ports r.dports) && are_types r.itypes) addresses
     (Decides-and (are_ports r.sports && are_ports r.dports) (are_types r.itypes) ports types) in
-    let kind = Decides-and (covers fs r.family) (is_protocol r.proto) (is_itself (covers fs r.family)) (protocol_decides r.proto) in
+    let kind = Decides-and (covers fs r.family) (number_fits 1 255 r.proto) (is_itself (covers fs r.family)) (number_decides 1 255 r.proto) in
     Decides-like (is_rule fs r)
     (λ h. record {
       family = h.0.0;
@@ -92,7 +89,7 @@ rule_decides fs r =
       fit = h.1.1;
     })
     (λ h. ((h.family, h.protocol), (((h.sources, h.destinations), ((h.source_ports, h.destination_ports), h.icmp_types)), h.fit)))
-    (Decides-and (covers fs r.family && is_protocol r.proto) (has_sets r && parts_fit r) kind (Decides-and (has_sets r) (parts_fit r) sets (is_itself (parts_fit r))))
+    (Decides-and (covers fs r.family && number_fits 1 255 r.proto) (has_sets r && parts_fit r) kind (Decides-and (has_sets r) (parts_fit r) sets (is_itself (parts_fit r))))
 
 item_decides : (fs : Families) (i : Item) → Decides (is_item fs i) (IsItem fs i)
 item_decides fs (Remark text) = (λ h. h, λ h. h)
@@ -100,15 +97,12 @@ item_decides fs (ARule r) = rule_decides fs r
 
 -- ---- sections
 
-section_decides : (s : Section) → Decides (is_section s) (IsSection s)
+pub section_decides : (s : Section) → Decides (is_section s) (IsSection s)
 section_decides s =
     let items = all_decides (is_item s.families) (IsItem s.families) (item_decides s.families) s.items in
     Decides-like (is_section s) (λ h. record { number = h.0.0; priority = h.0.1; items = h.1 }) (λ h. ((h.number, h.priority), h.items))
     (Decides-and (nat_lt s.number (2 ^ 32) && fits_i32 s.priority) (list_all (is_item s.families) s.items)
     (Decides-and (nat_lt s.number (2 ^ 32)) (fits_i32 s.priority) (Decides-ltb s.number (2 ^ 32)) (is_itself (fits_i32 s.priority))) items)
-
-sections_decide : (doc : List Section) → Decides (are_sections doc) (AllByRecursion IsSection doc)
-sections_decide doc = all_decides is_section IsSection section_decides doc
 
 -- ---- names
 
@@ -125,28 +119,23 @@ same_names s t h k =
     (bytes_eq-Decides (table_name m) (table_name n)))
     (Decides-eqb m n)
 
-names_apart : (s : Section) (doc : List Section) → IsSection s → AllByRecursion IsSection doc → Apart same_table s doc → Apart bytes_eq (table_name s.number) (names_of doc)
+names_apart : (s : Section) (doc : List Section) → IsSection s → AllByRecursion IsSection doc → Apart same_table s doc → Apart bytes_eq (table_name s.number) (flat_map table_names doc)
 names_apart s [] h k a = tt
 names_apart s (t ∷ doc) h k a = (same_names s t h k.0 ∙ a.0, names_apart s doc h k.1 a.1)
 
-tables_apart : (s : Section) (doc : List Section) → IsSection s → AllByRecursion IsSection doc → Apart bytes_eq (table_name s.number) (names_of doc) → Apart same_table s doc
+tables_apart : (s : Section) (doc : List Section) → IsSection s → AllByRecursion IsSection doc → Apart bytes_eq (table_name s.number) (flat_map table_names doc) → Apart same_table s doc
 tables_apart s [] h k a = tt
 tables_apart s (t ∷ doc) h k a = (sym (same_names s t h k.0) ∙ a.0, tables_apart s doc h k.1 a.1)
 
-names_differ : (doc : List Section) → AllByRecursion IsSection doc → IsDistinct same_table doc → IsDistinct bytes_eq (names_of doc)
+names_differ : (doc : List Section) → AllByRecursion IsSection doc → IsDistinct same_table doc → IsDistinct bytes_eq (flat_map table_names doc)
 unfolding IsDistinct
 names_differ [] k d = tt
 names_differ (s ∷ doc) k d = (names_apart s doc k.0 k.1 d.0, names_differ doc k.1 d.1)
 
-tables_differ : (doc : List Section) → AllByRecursion IsSection doc → IsDistinct bytes_eq (names_of doc) → IsDistinct same_table doc
+tables_differ : (doc : List Section) → AllByRecursion IsSection doc → IsDistinct bytes_eq (flat_map table_names doc) → IsDistinct same_table doc
 unfolding IsDistinct
 tables_differ [] k d = tt
 tables_differ (s ∷ doc) k d = (tables_apart s doc k.0 k.1 d.0, tables_differ doc k.1 d.1)
 
--- ---- documents
-
-pub document_decides : (doc : List Section) → Decides (is_document doc) (IsDocument doc)
-document_decides doc =
-    Decides-like (is_document doc) (λ h. record { sections = h.0; names_differ = names_differ doc h.0 h.1 })
-    (λ h. (h.sections, tables_differ doc h.sections h.names_differ))
-    (Decides-and (are_sections doc) (are_apart same_table doc) (sections_decide doc) (apart_decides same_table doc))
+pub tables_decide : (doc : List Section) → AllByRecursion IsSection doc → Decides (are_apart same_table doc) (IsDistinct bytes_eq (flat_map table_names doc))
+tables_decide doc h = Decides-like (are_apart same_table doc) (names_differ doc h) (tables_differ doc h) (apart_decides same_table doc)

@@ -1,6 +1,6 @@
 -- Documents of nftables rules, and which of them are valid.
 -- Source: nft(8), "TABLES", "CHAINS", "RULES", "SETS", "PAYLOAD EXPRESSIONS", "META EXPRESSIONS".
-use Rattle.std.specs.Prelude.{◌≡◌, ℕ, ◌^◌, ◌<◌, ◌≤◌, Bool, true, false, ◌&&◌, ◌||◌, nat_eq, nat_le, nat_lt, ℤ, pos, negsuc, List, ◌++◌, map, codes, Option, IfSome, is_none}
+use Rattle.std.specs.Prelude.{◌≡◌, ℕ, ◌^◌, ◌<◌, ◌≤◌, Bool, true, false, ◌&&◌, ◌||◌, nat_eq, nat_le, nat_lt, ℤ, pos, negsuc, List, [], ◌∷◌, ◌++◌, codes, Option, IfSome, is_none}
 use Rattle.std.specs.Fmt.{decimal}
 use Rattle.std.specs.List.{AllByRecursion, IsDistinct}
 use Rattle.acl_packet.specs.declared.addresses.Family.{Family}
@@ -97,10 +97,10 @@ pub record IsSection (s : Section) : Type 0 where
 abbrev pub table_name : ℕ → List ℕ
 table_name number = codes "aclgen_" ++ decimal number
 
--- The names of a document's tables, in order.
-abbrev pub names_of : List Section → List (List ℕ)
-names_of doc = map (λ s. table_name s.number) doc
+-- The names that a section takes: the one of its table.
+abbrev pub table_names : Section → List (List ℕ)
+table_names s = table_name s.number ∷ []
 
 -- A document is its sections, no two of whose tables have the same name.
 abbrev pub IsDocument : List Section → Type 0
-IsDocument doc = IsDocumentOf IsSection names_of doc
+IsDocument doc = IsDocumentOf IsSection table_names doc

@@ -1,6 +1,6 @@
 pub mod Documents
 pub mod ReadingSteps
+pub mod RuleRowSteps
 pub mod Texts
 pub mod ValiditySteps
 pub mod Walks
-pub mod WritingSteps

@@ -17,7 +17,6 @@ use Rattle.acl_text.specs.Cuts.{behind, cut_at}
 use Rattle.acl_text.specs.PortRanges.{ports_in}
 use Rattle.acl_text.specs.SignedNumbers.{signed_in}
 use Rattle.acl_grammar.specs.Rows.{Row}
-use Rattle.acl_grammar.specs.RowSteps.{rows_in}
 use Rattle.acl_grammar.specs.FamilyWords.{families_in}
 use Rattle.nft_lang.specs.declared.documents.Section.{Section}
 use Rattle.nft_lang.specs.declared.documents.Item.{Item}
@@ -29,7 +28,7 @@ use Rattle.acl_grammar.specs.declared.rule_parts.End.TheVariants.{Source, Destin
 use Rattle.nft_lang.specs.declared.rule_drafts.Next.{Next}
 use Rattle.nft_lang.specs.declared.rule_drafts.Next.TheVariants.{Keyword, PacketFamily, Protocol, Addresses, Ports, Types}
 use Rattle.nft_lang.specs.declared.rule_drafts.RuleDraft.{RuleDraft}
-use Rattle.nft_lang.specs.declared.document_drafts.DocumentDraft.{DocumentDraft}
+use Rattle.nft_lang.specs.declared.tables_drafts.TablesDraft.{TablesDraft}
 
 -- ---- the words of a rule
 
@@ -173,15 +172,15 @@ item_in families (w ∷ words) =
     if bytes_eq w (codes "#") then Remark (join_with_byte 32 words)
     else ARule (rule_in families (w ∷ words))
 
-abbrev pub begin_section : DocumentDraft → List ℕ → List ℕ → DocumentDraft
+abbrev pub begin_section : TablesDraft → List ℕ → List ℕ → TablesDraft
 begin_section d hook families = record d {
   section = record no_section { hook = hook_in hook; families = families_in families };
 }
 
-abbrev pub with_number : DocumentDraft → List ℕ → DocumentDraft
+abbrev pub with_number : TablesDraft → List ℕ → TablesDraft
 with_number d name = record d { section = record d.section { number = table_in name } }
 
-abbrev pub with_chain : DocumentDraft → List ℕ → List ℕ → DocumentDraft
+abbrev pub with_chain : TablesDraft → List ℕ → List ℕ → TablesDraft
 with_chain d priority policy = record d {
   section = record d.section {
     priority = priority_in priority;
@@ -189,42 +188,38 @@ with_chain d priority policy = record d {
   };
 }
 
-abbrev pub with_item : DocumentDraft → Item → DocumentDraft
+abbrev pub with_item : TablesDraft → Item → TablesDraft
 with_item d item = record d { section = record d.section { items = d.section.items ++ item ∷ [] } }
 
-abbrev pub end_section : DocumentDraft → DocumentDraft
+abbrev pub end_section : TablesDraft → TablesDraft
 end_section d = record { sections = d.sections ++ d.section ∷ []; section = no_section }
 
 -- A row of four words begins a section or its table, or takes a table away.
-unfoldable pub take_four : DocumentDraft → List ℕ → List ℕ → List ℕ → DocumentDraft
+unfoldable pub take_four : TablesDraft → List ℕ → List ℕ → List ℕ → TablesDraft
 take_four d w third fourth =
     if bytes_eq w (codes "##") then begin_section d third fourth
     else if bytes_eq w (codes "table") then with_number d third
     else d
 
-unfoldable pub take_outer : DocumentDraft → List (List ℕ) → DocumentDraft
+unfoldable pub take_outer : TablesDraft → List (List ℕ) → TablesDraft
 take_outer d (w ∷ []) = if bytes_eq w (codes "}") then end_section d else d
 take_outer d (w ∷ v ∷ third ∷ fourth ∷ []) = take_four d w third fourth
 take_outer d words = d
 
-unfoldable pub take_chain : DocumentDraft → List (List ℕ) → DocumentDraft
+unfoldable pub take_chain : TablesDraft → List (List ℕ) → TablesDraft
 take_chain d (t ∷ f ∷ h ∷ hook ∷ p ∷ priority ∷ q ∷ policy ∷ []) = with_chain d priority policy
 take_chain d words = d
 
-unfoldable pub take_inner : DocumentDraft → List (List ℕ) → DocumentDraft
+unfoldable pub take_inner : TablesDraft → List (List ℕ) → TablesDraft
 take_inner d words =
     if begins_with (codes "type") words then take_chain d words
     else with_item d (item_in d.section.families words)
 
-unfoldable pub take_row : DocumentDraft → Row → DocumentDraft
+unfoldable pub take_row : TablesDraft → Row → TablesDraft
 take_row d r =
     if r.indent == 0 then take_outer d r.words
     else if r.indent == 8 then take_inner d r.words
     else d
 
-abbrev pub no_draft : DocumentDraft
+abbrev pub no_draft : TablesDraft
 no_draft = record { sections = []; section = no_section }
-
--- What the bytes say, whatever they are.
-unfoldable pub document_in : List ℕ → List Section
-document_in bytes = (fold take_row no_draft (rows_in bytes)).sections

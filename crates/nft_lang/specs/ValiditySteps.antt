@@ -1,5 +1,5 @@
--- Whether a document is valid, test by test.
-use Rattle.std.specs.Prelude.{ℕ, ◌^◌, Bool, true, not, ◌&&◌, ◌==◌, nat_eq, nat_le, nat_lt, List, [], ◌∷◌, Option, None, Some}
+-- Whether sections are valid, test by test, and their tables apart.
+use Rattle.std.specs.Prelude.{ℕ, ◌^◌, Bool, true, not, ◌&&◌, ◌==◌, nat_eq, nat_le, nat_lt, List, [], ◌∷◌}
 use Rattle.std.specs.List.{list_all, list_any}
 use Rattle.acl_packet.specs.declared.addresses.Family.{Family}
 use Rattle.acl_packet.specs.declared.addresses.Families.{Families}
@@ -8,6 +8,7 @@ use Rattle.acl_packet.specs.Addresses.{covers, has_address}
 use Rattle.acl_text.specs.Names.{is_safe_text}
 use Rattle.acl_grammar.specs.PortRangeSteps.{is_port_range}
 use Rattle.acl_grammar.specs.PrefixCheckSteps.{is_prefix_of}
+use Rattle.acl_grammar.specs.RuleParts.{number_fits}
 use Rattle.nft_lang.specs.declared.documents.Section.{Section}
 use Rattle.nft_lang.specs.declared.documents.Item.{Item}
 use Rattle.nft_lang.specs.declared.documents.Item.TheVariants.{Remark, Rule as ARule}
@@ -48,16 +49,13 @@ are_ports ranges = list_all is_port_range ranges && are_apart ports_overlap rang
 abbrev pub are_types : List ℕ → Bool
 are_types numbers = list_all (λ n. nat_le n 254) numbers && are_apart nat_eq numbers
 
-abbrev pub is_protocol : Option ℕ → Bool
-is_protocol None = true
-is_protocol (Some n) = nat_le 1 n && nat_le n 255
-
 abbrev pub has_sets : Rule → Bool
 has_sets r = (are_addresses r.family r.src && are_addresses r.family r.dst)
     && ((are_ports r.sports && are_ports r.dports) && are_types r.itypes)
 
 abbrev pub is_rule : Families → Rule → Bool
-is_rule families r = (covers families r.family && is_protocol r.proto) && (has_sets r && parts_fit r)
+is_rule families r = (covers families r.family && number_fits 1 255 r.proto)
+    && (has_sets r && parts_fit r)
 
 abbrev pub is_item : Families → Item → Bool
 is_item families (Remark text) = is_safe_text text
@@ -66,12 +64,6 @@ is_item families (ARule r) = is_rule families r
 abbrev pub is_section : Section → Bool
 is_section s = (nat_lt s.number (2 ^ 32) && fits_i32 s.priority) && list_all (is_item s.families) s.items
 
-abbrev pub are_sections : List Section → Bool
-are_sections doc = list_all is_section doc
-
 -- Two tables of one name have one number.
 abbrev pub same_table : Section → Section → Bool
 same_table s t = s.number == t.number
-
-abbrev pub is_document : List Section → Bool
-is_document doc = are_sections doc && are_apart same_table doc

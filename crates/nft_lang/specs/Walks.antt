@@ -6,11 +6,11 @@ use Rattle.acl_packet.specs.declared.packets.Packet.{Packet}
 use Rattle.acl_packet.specs.declared.filtering.Outcome.{Outcome}
 use Rattle.acl_packet.specs.declared.filtering.Verdict.{Verdict}
 use Rattle.acl_packet.specs.declared.filtering.Verdict.TheVariants.{Accept, Deny}
-use Rattle.acl_packet.specs.Addresses.{covers, has_address, same_family}
+use Rattle.acl_packet.specs.Addresses.{covers, same_family}
 use Rattle.acl_packet.specs.Outcomes.{unlogged}
 use Rattle.acl_packet.specs.Packets.{has_flag}
 use Rattle.acl_grammar.specs.Documents.{outcome_at}
-use Rattle.acl_grammar.specs.RuleParts.{has_port, number_holds, set_holds, state_holds}
+use Rattle.acl_grammar.specs.RuleParts.{addresses_hold, number_holds, ports_hold, set_holds, state_holds}
 use Rattle.nft_lang.specs.declared.documents.Section.{Section}
 use Rattle.nft_lang.specs.declared.documents.Item.{Item}
 use Rattle.nft_lang.specs.declared.documents.Item.TheVariants.{Remark, Rule as ARule}
@@ -29,19 +29,13 @@ flags_hold (Some SynNotAck) flags = has_flag flags 2 && not (has_flag flags 16)
 abbrev pub protocol_holds : Rule → Packet → Bool
 protocol_holds r p = same_family r.family p.family && number_holds r.proto p.proto
 
-abbrev pub addresses_hold : Rule → Packet → Bool
-addresses_hold r p = set_holds has_address r.src p.src && set_holds has_address r.dst p.dst
-
-abbrev pub ports_hold : Rule → Packet → Bool
-ports_hold r p = set_holds has_port r.sports p.sport && set_holds has_port r.dports p.dport
-
 abbrev pub tests_hold : Rule → Packet → Bool
 tests_hold r p = set_holds (λ t n. n == t) r.itypes p.itype
     && (flags_hold r.flags p.flags && state_holds r.state p.conn)
 
 abbrev pub rule_holds : Rule → Packet → Bool
-rule_holds r p =
-    protocol_holds r p && (addresses_hold r p && (ports_hold r p && tests_hold r p))
+rule_holds r p = protocol_holds r p
+    && (addresses_hold r.src r.dst p && (ports_hold r.sports r.dports p && tests_hold r p))
 
 -- What a rule decides, with its log.
 abbrev pub decided_by : Rule → Outcome

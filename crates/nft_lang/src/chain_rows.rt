@@ -1,10 +1,9 @@
 ghost use Rattle.std.specs.Prelude.{◌≡◌, ◌∷◌, [], IsTrue, codes};
 ghost use Rattle.acl_text.specs.Output.{Puts};
 ghost use Rattle.acl_grammar.specs.Rows.{row, text_of_rows, words_in};
-ghost use Rattle.acl_grammar.specs.RuleParts.{log_words};
 ghost use Rattle.nft_lang.specs.declared.documents.Item.TheVariants.{Rule as ARule};
-ghost use Rattle.nft_lang.specs.WritingSteps.{rule_of_row};
-ghost use Rattle.nft_lang.specs.Texts.{address_word, end_rows, ending_words, families_word, family_word, family_words, flags_words, head_rows, hook_word, icmp_word, addresses_words, ports_words, table_rows, target_row, table_row, start_row, chain_rows, types_words, item_rows, policy_word, port_word, priority_word, proto_words, rule_words, section_rows, state_words, table_word, verdict_words};
+ghost use Rattle.nft_lang.specs.RuleRowSteps.{rule_of_row};
+ghost use Rattle.nft_lang.specs.Texts.{address_word, end_rows, families_word, head_rows, hook_word, icmp_word, addresses_words, ports_words, table_rows, target_row, table_row, start_row, chain_rows, types_words, item_rows, policy_word, port_word, priority_word, rule_words, section_rows, table_word};
 ghost use Rattle.nft_lang.specs.Documents.{table_name};
 
 use crate::documents::{Flags, Item, Rule, Section};
@@ -81,11 +80,11 @@ impl<'a> Rows for RuleRow<'a> {
 
 /// The row of a remark.
 #[derive(Drop)]
-pub struct RemarkRow<'a> {
+pub struct CommentRow<'a> {
     pub text: &'a [u8],
 }
 
-impl<'a> Rows for RemarkRow<'a> {
+impl<'a> Rows for CommentRow<'a> {
     ghost rows = { λ r. row 8 (codes "#" ∷ words_in r.text.now) ∷ [] };
 
     fn put_rows<O: Out>(&self, out: &mut O) -> Result<(), PutFault> {
@@ -101,7 +100,7 @@ impl<'a> Rows for RemarkRow<'a> {
 /// The rows that begin a section: its target, its table, which takes an older one of its name away,
 /// and its chain.
 #[derive(Drop)]
-pub struct SectionHead {
+pub struct TableHead {
     pub hook: Hook,
     pub families: Families,
     pub number: u32,
@@ -110,12 +109,12 @@ pub struct SectionHead {
     pub accept: bool,
 }
 
-impl Rows for SectionHead {
+impl Rows for TableHead {
     ghost rows = { λ h. head_rows h.hook h.families h.number h.priority h.accept };
 
     #[tactic(auto, unfolding(crate::specs::Texts::head_rows))]
     fn put_rows<O: Out>(&self, out: &mut O) -> Result<(), PutFault> {
-        let table = TableHead {
+        let table = NewTable {
             hook: self.hook,
             families: self.families,
             number: self.number,
@@ -130,13 +129,13 @@ impl Rows for SectionHead {
 }
 
 #[derive(Drop)]
-struct TableHead {
+struct NewTable {
     hook: Hook,
     families: Families,
     number: u32,
 }
 
-impl Rows for TableHead {
+impl Rows for NewTable {
     ghost rows = { λ h. table_rows h.hook h.families h.number };
 
     fn put_rows<O: Out>(&self, out: &mut O) -> Result<(), PutFault> {
@@ -457,7 +456,7 @@ impl Form<Item> for OfFamilies {
     #[tactic(auto, unfolding(crate::specs::Texts::item_rows))]
     fn put_item<O: Out>(&self, item: &Item, out: &mut O) -> Result<(), PutFault> {
         match item {
-            Item::Remark(text) => RemarkRow {
+            Item::Remark(text) => CommentRow {
                 text: text.as_slice(),
             }
             .put_rows(out),
@@ -494,7 +493,7 @@ impl Rows for Section {
 
     #[tactic(auto, unfolding(crate::specs::Texts::section_rows))]
     fn put_rows<O: Out>(&self, out: &mut O) -> Result<(), PutFault> {
-        let head = SectionHead {
+        let head = TableHead {
             hook: self.hook,
             families: self.families,
             number: self.number,

@@ -3,18 +3,18 @@
 #![tactic(auto)]
 
 mod chain_rows;
-mod document_drafts;
 mod documents;
 mod overlaps;
 mod reading;
 mod rule_drafts;
 mod rule_words;
 mod sets;
+mod tables_drafts;
 mod validity;
 mod walking;
 
 pub use acl_grammar::{outcome, sections};
-pub use chain_rows::{RemarkRow, RuleRow, SectionEnd, SectionHead};
+pub use chain_rows::{CommentRow, RuleRow, SectionEnd, TableHead};
 pub use documents::{Doc, Flags, Item, Rule, Section};
 pub use reading::read;
 pub use rule_words::{

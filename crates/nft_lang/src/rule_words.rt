@@ -1,5 +1,4 @@
 ghost use Rattle.std.specs.Prelude.{◌≡◌};
-ghost use Rattle.acl_grammar.specs.RuleParts.{log_words};
 ghost use Rattle.nft_lang.specs.Texts.{address_word, ending_words, family_word, family_words, flags_words, icmp_word, port_word, proto_words, state_words, verdict_words};
 
 use crate::documents::Flags;

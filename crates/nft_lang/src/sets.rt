@@ -1,9 +1,9 @@
-ghost use Rattle.std.specs.Prelude.{◌≡◌, ◌++◌, ◌∷◌, List, ℕ, IsTrue, codes, decimal, map, flat_map};
+ghost use Rattle.std.specs.Prelude.{◌++◌, IsTrue, codes, decimal, map, flat_map};
 ghost use Rattle.acl_text.specs.AddressTexts.{prefix_text};
 ghost use Rattle.acl_text.specs.Output.{Puts};
-ghost use Rattle.nft_lang.specs.Texts.{ports_word, set_words, with_commas};
+ghost use Rattle.nft_lang.specs.Texts.{set_words, with_commas};
 
-use acl_grammar::{Number, Piece, PortRange, WordForm, Words, put_words};
+use acl_grammar::{Number, Piece, WordForm, Words};
 use acl_packet::Prefix;
 use acl_text::{Out, PutFault, put_prefix};
 

@@ -1,36 +1,17 @@
-ghost use Rattle.std.specs.Prelude.{◌≡◌, ◌&&◌, ◌^◌, ◌↔◌, IsTrue, nat_le, nat_lt};
+ghost use Rattle.std.specs.Prelude.{◌≡◌, ◌&&◌, ◌^◌, nat_le, nat_lt};
 ghost use Rattle.std.specs.List.{list_all};
 ghost use Rattle.acl_grammar.specs.RuleParts.{has_port_proto, is_empty, is_proto};
-ghost use Rattle.nft_lang.specs.Documents.{IsDocument, fits_i32, flags_fit, parts_fit, ports_fit, types_fit, verdict_fits};
-ghost use Rattle.nft_lang.specs.ValiditySteps.{are_addresses, are_ports, are_sections, are_types, has_sets, is_addresses, is_document, is_item, is_protocol, is_rule, is_section};
+ghost use Rattle.nft_lang.specs.Documents.{fits_i32, flags_fit, parts_fit, ports_fit, types_fit, verdict_fits};
+ghost use Rattle.nft_lang.specs.ValiditySteps.{are_addresses, are_ports, are_types, has_sets, is_addresses, is_item, is_rule, is_section};
 
 use crate::documents::{Item, Rule, Section};
 use crate::overlaps::{are_apart, are_ports_apart, are_prefixes_apart};
-use acl_grammar::{are_port_ranges, has_port_proto, is_empty, is_prefix_of, is_proto};
+use acl_grammar::{are_port_ranges, has_port_proto, is_empty, is_prefix_of, is_proto, number_fits};
 use acl_packet::{Families, Family, Prefix, Verdict};
 use acl_text::is_safe_text;
 
-/// Whether the document is valid.
-#[tactic(auto, using(crate::proofs::ValidityLaws::document_decides))]
-pub(crate) fn is_document(sections: &[Section]) -> bool
-    ensures { IsTrue result ↔ IsDocument sections.now }
-{
-    passes(sections)
-}
-
-fn passes(sections: &[Section]) -> bool
-    ensures { result ≡ is_document sections.now }
-{
-    are_sections(sections) && are_apart(sections)
-}
-
-fn are_sections(sections: &[Section]) -> bool
-    ensures { result ≡ are_sections sections.now }
-{
-    sections.iter().all(|section| is_section(section))
-}
-
-fn is_section(section: &Section) -> bool
+/// Whether the section is valid.
+pub(crate) fn is_section(section: &Section) -> bool
     ensures { result ≡ is_section section.now }
 {
     fits(section.number, section.priority) && are_items(section.families, section.items.as_slice())
@@ -62,13 +43,10 @@ fn is_item(families: Families, item: &Item) -> bool
 fn is_rule(families: Families, rule: &Rule) -> bool
     ensures { result ≡ is_rule families rule.now }
 {
-    families.covers(rule.family) && is_protocol(rule.proto) && has_sets(rule) && parts_fit(rule)
-}
-
-fn is_protocol(proto: Option<u8>) -> bool
-    ensures { result ≡ is_protocol proto }
-{
-    proto != Some(0)
+    families.covers(rule.family)
+        && number_fits(1, 255, rule.proto)
+        && has_sets(rule)
+        && parts_fit(rule)
 }
 
 fn has_sets(rule: &Rule) -> bool

@@ -1,15 +1,13 @@
-ghost use Rattle.std.specs.Prelude.{◌≡◌, ◌==◌, length};
+ghost use Rattle.std.specs.Prelude.{◌≡◌, ◌==◌};
 ghost use Rattle.std.specs.List.{list_any};
-ghost use Rattle.acl_packet.specs.Addresses.{has_address};
-ghost use Rattle.acl_packet.specs.Packets.{IsPacket};
-ghost use Rattle.acl_grammar.specs.RuleParts.{has_port, number_holds, set_holds, state_holds};
-ghost use Rattle.nft_lang.specs.Walks.{flags_hold, protocol_holds, addresses_hold, ports_hold, tests_hold, rule_holds, policy_verdict, decided_by, first_holding, walk, section_outcome, outcome_of};
+ghost use Rattle.acl_grammar.specs.RuleParts.{number_holds, set_holds, state_holds};
+ghost use Rattle.nft_lang.specs.Walks.{flags_hold, protocol_holds, tests_hold, rule_holds, policy_verdict, decided_by, first_holding, walk};
 
-use crate::documents::{Doc, Flags, Item, Rule, Section};
+use crate::documents::{Flags, Item, Rule};
 use acl_grammar::{
-    ACK, RST, SYN, admits_address, admits_port, is_empty, number_holds, state_holds,
+    ACK, RST, SYN, admit_addresses, admit_ports, is_empty, number_holds, state_holds,
 };
-use acl_packet::{Conn, Outcome, Packet, Prefix, Verdict, has_flag};
+use acl_packet::{Outcome, Packet, Verdict, has_flag};
 
 pub(crate) fn walk(accept: bool, items: &[Item], packet: &Packet) -> Outcome
     ensures { result ≡ walk accept items.now packet.now }
@@ -57,8 +55,8 @@ fn rule_holds(rule: &Rule, packet: &Packet) -> bool
     ensures { result ≡ rule_holds rule.now packet.now }
 {
     protocol_holds(rule, packet)
-        && addresses_hold(rule, packet)
-        && ports_hold(rule, packet)
+        && admit_addresses(rule.src.as_slice(), rule.dst.as_slice(), packet)
+        && admit_ports(rule.sports.as_slice(), rule.dports.as_slice(), packet)
         && tests_hold(rule, packet)
 }
 
@@ -66,20 +64,6 @@ fn protocol_holds(rule: &Rule, packet: &Packet) -> bool
     ensures { result ≡ protocol_holds rule.now packet.now }
 {
     rule.family == packet.family && number_holds(rule.proto, packet.proto)
-}
-
-fn addresses_hold(rule: &Rule, packet: &Packet) -> bool
-    ensures { result ≡ addresses_hold rule.now packet.now }
-{
-    admits_address(rule.src.as_slice(), packet.src)
-        && admits_address(rule.dst.as_slice(), packet.dst)
-}
-
-fn ports_hold(rule: &Rule, packet: &Packet) -> bool
-    ensures { result ≡ ports_hold rule.now packet.now }
-{
-    admits_port(rule.sports.as_slice(), packet.sport)
-        && admits_port(rule.dports.as_slice(), packet.dport)
 }
 
 fn tests_hold(rule: &Rule, packet: &Packet) -> bool

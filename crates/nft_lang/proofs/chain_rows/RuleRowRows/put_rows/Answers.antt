@@ -1,6 +1,6 @@
 use Rattle.acl_grammar.proofs.PutLaws.{retold}
 use Rattle.nft_lang.specs.Texts.{rule_words}
-use Rattle.nft_lang.specs.WritingSteps.{rule_of_row}
+use Rattle.nft_lang.specs.RuleRowSteps.{rule_of_row}
 use Rattle.nft_lang.proofs.SafeRows.{row_begun}
 use Rattle.nft_lang.proofs.chain_rows.RuleRowRows.put_rows.Goals as goal
 

@@ -5,7 +5,7 @@ ghost use Rattle.cisco_lang.specs.ReadingSteps.{no_list, no_section, item_in, is
 
 use crate::documents::{AccessList, Doc, Item, Section};
 use crate::entry_drafts::entry_of;
-use acl_grammar::{Draft, families_of, join_words};
+use acl_grammar::{DocumentDraft, Draft, families_of, join_words};
 use acl_packet::{Families, Family};
 use acl_text::{Bytes, Items, Memory};
 use std::alloc::Global;
@@ -14,13 +14,13 @@ use std::mem;
 /// What has been read of a document's rows: the sections that have ended, the next one, and its next
 /// list.
 #[derive(Drop)]
-pub(crate) struct DocumentDraft {
-    pub(crate) sections: Doc,
+pub struct ListsDraft {
+    sections: Doc,
     section: Section,
     list: AccessList,
 }
 
-impl Draft for DocumentDraft {
+impl Draft for ListsDraft {
     ghost step = { take_row };
 
     #[tactic(auto, unfolding(crate::specs::ReadingSteps::take_row))]
@@ -33,18 +33,25 @@ impl Draft for DocumentDraft {
     }
 }
 
-impl DocumentDraft {
-    /// Nothing has been read.
-    pub(crate) fn new(alloc: Global) -> DocumentDraft
-        ensures { result ≡ no_draft }
-    {
-        DocumentDraft {
+impl DocumentDraft<Section> for ListsDraft {
+    ghost empty = { no_draft };
+
+    ghost sections = { λ d. d.sections };
+
+    fn new(alloc: Global) -> ListsDraft {
+        ListsDraft {
             sections: Items::new(alloc),
             section: no_section(alloc),
             list: no_list(alloc),
         }
     }
 
+    fn finish(self) -> Result<Doc, Memory> {
+        Ok(self.sections)
+    }
+}
+
+impl ListsDraft {
     #[tactic(auto, unfolding(crate::specs::ReadingSteps::take_outer))]
     fn take_outer(&mut self, alloc: Global, words: &[&[u8]]) -> Result<(), Memory>
         ensures { OnOk result (self.new ≡ take_outer self.old (views words.now)) }

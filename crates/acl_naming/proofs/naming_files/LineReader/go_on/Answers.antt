@@ -6,11 +6,11 @@ use Rattle.acl_text.proofs.CursorLaws.{words_next, words_none}
 use Rattle.acl_naming.specs.Checking.{slip}
 use Rattle.acl_naming.specs.NamingFiles.{with_items}
 use Rattle.acl_naming.proofs.ReadLaws.{refuses_slip}
-use Rattle.acl_naming.proofs.naming_files.go_on.Goals as goal
+use Rattle.acl_naming.proofs.naming_files.LineReader.go_on.Goals as goal
 
 pub returns-in_default-clause-gives : goal.returns-in_default-clause-gives
 returns-in_default-clause-gives c =
-    ap (with_items c.args.kind c.args.place c.args.is_open c.args.table.now) (words_none c.args.text.now 0 c.in_default.ensures.exact)
+    ap (with_items c.args.self.kind c.args.self.place c.args.is_open c.args.table.now) (words_none c.args.text.now 0 c.in_default.ensures.exact)
 
 pub returns-else-is_open-clause-gives : goal.returns-else-is_open-clause-gives
 returns-else-is_open-clause-gives c =
@@ -18,7 +18,7 @@ returns-else-is_open-clause-gives c =
     let word = slice_range text c.in-Some.start c.in-Some.end in
     let fits : 0 ≤ length text = omega arith in
     let n = words_next text 0 c.in-Some.start c.in-Some.end fits c.in-Some.ensures.exact in
-    refuses_slip (slip codes.NoDefinition c.args.place word) c.refusal.result
-    (with_items c.args.kind c.args.place c.args.is_open c.args.table.now (words_of text)) c.refusal.ensures
-    (ap (with_items c.args.kind c.args.place c.args.is_open c.args.table.now) n.2
-    ∙ ap (λ (b : Bool). with_items c.args.kind c.args.place b c.args.table.now (word ∷ words_of (drop c.in-Some.end text))) c.if-is_open.false)
+    refuses_slip (slip codes.NoDefinition c.args.self.place word) c.refusal.result
+    (with_items c.args.self.kind c.args.self.place c.args.is_open c.args.table.now (words_of text)) c.refusal.ensures
+    (ap (with_items c.args.self.kind c.args.self.place c.args.is_open c.args.table.now) n.2
+    ∙ ap (λ (b : Bool). with_items c.args.self.kind c.args.self.place b c.args.table.now (word ∷ words_of (drop c.in-Some.end text))) c.if-is_open.false)

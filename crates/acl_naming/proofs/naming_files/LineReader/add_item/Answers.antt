@@ -1,7 +1,7 @@
 use Rattle.std.proofs.Common.{List, length, ap, arith}
 use Rattle.acl_naming.specs.Definitions.{Definition}
 use Rattle.acl_naming.proofs.TableLaws.{length_one}
-use Rattle.acl_naming.proofs.naming_files.add_item.Goals as goal
+use Rattle.acl_naming.proofs.naming_files.LineReader.add_item.Goals as goal
 
 pub returns-clause-filled : goal.returns-clause-filled
 returns-clause-filled c =

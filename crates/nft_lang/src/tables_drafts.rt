@@ -1,12 +1,11 @@
-ghost use Rattle.std.specs.Prelude.{◌≡◌, ◌∷◌, ◌-◌, ◌^◌, [], OnOk, IfOk};
+ghost use Rattle.std.specs.Prelude.{◌≡◌, ◌-◌, ◌^◌, [], OnOk, IfOk};
 ghost use Rattle.acl_text.specs.Cuts.{views};
 ghost use Rattle.acl_text.specs.SignedNumbers.{below_zero_in, from_zero_in, signed_in};
-ghost use Rattle.acl_grammar.specs.FamilyWords.{families_in};
-ghost use Rattle.nft_lang.specs.ReadingSteps.{no_section, hook_in, table_in, priority_in, begins_with, item_in, begin_section, with_number, with_chain, end_section, take_four, take_outer, take_chain, take_inner, take_row, no_draft};
+ghost use Rattle.nft_lang.specs.ReadingSteps.{no_section, hook_in, table_in, priority_in, begins_with, item_in, begin_section, with_chain, end_section, take_four, take_outer, take_chain, take_inner, take_row, no_draft};
 
 use crate::documents::{Doc, Item, Section};
 use crate::rule_drafts::{rule_of, up_to};
-use acl_grammar::{Draft, families_of, join_words};
+use acl_grammar::{DocumentDraft, Draft, families_of, join_words};
 use acl_packet::{Families, Hook};
 use acl_text::{Items, Memory, behind, read_number};
 use std::alloc::Global;
@@ -14,12 +13,12 @@ use std::mem;
 
 /// What has been read of a document's rows: the sections that have ended, and the next one.
 #[derive(Drop)]
-pub(crate) struct DocumentDraft {
-    pub(crate) sections: Doc,
+pub struct TablesDraft {
+    sections: Doc,
     section: Section,
 }
 
-impl Draft for DocumentDraft {
+impl Draft for TablesDraft {
     ghost step = { take_row };
 
     #[tactic(auto, unfolding(crate::specs::ReadingSteps::take_row))]
@@ -34,17 +33,24 @@ impl Draft for DocumentDraft {
     }
 }
 
-impl DocumentDraft {
-    /// Nothing has been read.
-    pub(crate) fn new(alloc: Global) -> DocumentDraft
-        ensures { result ≡ no_draft }
-    {
-        DocumentDraft {
+impl DocumentDraft<Section> for TablesDraft {
+    ghost empty = { no_draft };
+
+    ghost sections = { λ d. d.sections };
+
+    fn new(alloc: Global) -> TablesDraft {
+        TablesDraft {
             sections: Items::new(alloc),
             section: no_section(alloc),
         }
     }
 
+    fn finish(self) -> Result<Doc, Memory> {
+        Ok(self.sections)
+    }
+}
+
+impl TablesDraft {
     #[tactic(auto, unfolding(crate::specs::ReadingSteps::take_outer))]
     fn take_outer(&mut self, alloc: Global, words: &[&[u8]]) -> Result<(), Memory>
         ensures { OnOk result (self.new ≡ take_outer self.old (views words.now)) }

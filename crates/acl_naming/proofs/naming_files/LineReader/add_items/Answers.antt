@@ -11,7 +11,7 @@ use Rattle.acl_naming.specs.NamingFiles.{Outcome, item_added, items_added}
 use Rattle.acl_text.proofs.AnswerLaws.{step_stops, stops_whole}
 use Rattle.acl_text.specs.Answers.{slip_told}
 use Rattle.acl_text.specs.Steps.{◌>>=◌}
-use Rattle.acl_naming.proofs.naming_files.add_items.Goals as goal
+use Rattle.acl_naming.proofs.naming_files.LineReader.add_items.Goals as goal
 
 abbrev added_behind : Kind → Place → List ℕ → ℕ → List Definition → Outcome
 added_behind kind place text end more = items_added kind place more (words_of (drop end text))
@@ -25,12 +25,12 @@ next_added kind place ds text from start end h e = ap (items_added kind place ds
 pub returns-in_err-add_item-clause-gives : goal.returns-in_err-add_item-clause-gives
 returns-in_err-add_item-clause-gives c =
     let text = c.args.text.now in
-    let part : Outcome = item_added c.args.kind c.args.place c.loop-start.table (slice_range text c.in-Some.start c.in-Some.end) in
-    let rest : List Definition → Outcome = added_behind c.args.kind c.args.place text c.in-Some.end in
-    let all : Outcome = items_added c.args.kind c.args.place c.args.table.now (words_of text) in
+    let part : Outcome = item_added c.args.self.kind c.args.self.place c.loop-start.table (slice_range text c.in-Some.start c.in-Some.end) in
+    let rest : List Definition → Outcome = added_behind c.args.self.kind c.args.self.place text c.in-Some.end in
+    let all : Outcome = items_added c.args.self.kind c.args.self.place c.args.table.now (words_of text) in
     let whole : all ≡ (part >>= rest) =
     sym c.loop-start.invariant.goes
-    ∙ next_added c.args.kind c.args.place c.loop-start.table text c.loop-start.from c.in-Some.start c.in-Some.end c.loop-start.invariant.within c.in-Some.ensures.exact in
+    ∙ next_added c.args.self.kind c.args.self.place c.loop-start.table text c.loop-start.from c.in-Some.start c.in-Some.end c.loop-start.invariant.within c.in-Some.ensures.exact in
     let p = err_from_is_err_and c.from_residual.result c.from_residual.ensures.1 in
     rw (p.1, p.2)
     (stops_whole slip_told c.in_err-add_item.field-0.0 part all c.in_err-add_item.ensures.gives (λ (s : Slip) h. whole ∙ step_stops part rest s h))
@@ -39,12 +39,12 @@ pub loop-start-preserved : goal.loop-start-preserved
 loop-start-preserved c = record {
   within = (words_next c.args.text.now c.loop-start.from c.in-Some.start c.in-Some.end c.loop-start.invariant.within c.in-Some.ensures.exact).1;
   filled = c.in_ok-add_item.ensures.filled;
-  goes = sym (ap (λ (o : Outcome). o >>= added_behind c.args.kind c.args.place c.args.text.now c.in-Some.end) c.in_ok-add_item.ensures.gives)
-      ∙ sym (next_added c.args.kind c.args.place c.loop-start.table c.args.text.now c.loop-start.from c.in-Some.start c.in-Some.end c.loop-start.invariant.within c.in-Some.ensures.exact)
+  goes = sym (ap (λ (o : Outcome). o >>= added_behind c.args.self.kind c.args.self.place c.args.text.now c.in-Some.end) c.in_ok-add_item.ensures.gives)
+      ∙ sym (next_added c.args.self.kind c.args.self.place c.loop-start.table c.args.text.now c.loop-start.from c.in-Some.start c.in-Some.end c.loop-start.invariant.within c.in-Some.ensures.exact)
       ∙ c.loop-start.invariant.goes;
 }
 
 pub returns-clause-gives : goal.returns-clause-gives
 returns-clause-gives c =
     sym c.loop-start.invariant.goes
-    ∙ ap (items_added c.args.kind c.args.place c.loop-start.table) (words_none c.args.text.now c.loop-start.from c.in_default.ensures.exact)
+    ∙ ap (items_added c.args.self.kind c.args.self.place c.loop-start.table) (words_none c.args.text.now c.loop-start.from c.in_default.ensures.exact)
