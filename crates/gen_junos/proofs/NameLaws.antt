@@ -69,4 +69,4 @@ not-same f g stateful h k e =
     ∙ sym (OneName.clash-of Juniper f g stateful h.0 k.0) ∙ e
 
 pub all-differ : NamesDiffer
-all-differ fs stateful h d = OneName.all-differ IsOfJunos (λ f. name_of (section_of f)) stateful (λ f g. not-same f g stateful) fs h d
+all-differ fs stateful h d = OneName.all-differ IsOfJunos name_of section_of stateful (λ f g. not-same f g stateful) fs h d

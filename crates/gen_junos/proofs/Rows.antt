@@ -20,7 +20,7 @@ use Rattle.acl_platform.proofs.ElementLaws.{each-range}
 use Rattle.acl_grammar.specs.RuleParts.{is_empty}
 use Rattle.junos_lang.specs.Documents.{family_word}
 use Rattle.junos_lang.specs.Texts.{address_rows, closing, condition_rows, end_rows, from_rows, head_rows, list_rows, note_row, note_rows, range_word, section_rows, term_row, term_rows, test_rows, text_of, then_rows}
-use Rattle.junos_lang.specs.WritingSteps.{value_rows}
+use Rattle.junos_lang.specs.ConditionSteps.{value_rows}
 use Rattle.junos_lang.proofs.ConditionLaws.{conditions_are}
 use Rattle.acl_platform.specs.Families.{family_of}
 use Rattle.gen_junos.specs.Sections.{default_term, note_of, section_of, term_of, terms_of, test_of}

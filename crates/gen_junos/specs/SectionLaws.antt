@@ -1,10 +1,9 @@
 -- The section of an accepted filter is a document: proved here, and need not be believed.
-use Rattle.std.proofs.Common.{◌≡◌, ℕ, ◌≤◌, false, cond, nat_lt, List, [], ◌∷◌, ◌++◌, length, map, flat_map, None, Some, refl, ap, subst}
+use Rattle.std.proofs.Common.{◌≡◌, ◌≤◌, false, cond, nat_lt, List, [], ◌∷◌, length, map, None, Some, refl, ap, subst}
 use Rattle.std.specs.List.{AllByRecursion, IsDistinct}
 use Rattle.std.specs.Str.{bytes_eq}
 use Rattle.acl_packet.specs.declared.addresses.Families.{Families}
 use Rattle.acl_packet.specs.declared.addresses.Family.{Family}
-use Rattle.acl_grammar.specs.Naming.{in_common}
 use Rattle.acl_target.specs.declared.targets.Kind.TheVariants.{Juniper}
 use Rattle.acl_target.specs.Clashes.{is_mixed}
 use Rattle.acl_platform.specs.declared.filters.Filter.{Filter}
@@ -12,17 +11,13 @@ use Rattle.acl_platform.specs.declared.filters.Limit.TheVariants.{NameLength, Na
 use Rattle.acl_platform.specs.declared.rules.Rule.{Rule}
 use Rattle.acl_platform.specs.Limits.{is_name_taken, names_sctp_ports}
 use Rattle.acl_platform.specs.Platforms.{IsAccepted}
-use Rattle.acl_platform.proofs.OneName.{none-shared}
 use Rattle.acl_platform.specs.SoundFilters.{IsSoundRule}
 use Rattle.acl_platform.proofs.AcceptedFilters.{names-differ, not-limited, rules-are, rules-within, short-name, target-fits}
 use Rattle.acl_grammar.specs.RuleParts.{is_empty}
-use Rattle.junos_lang.specs.declared.documents.Section.{Section}
-use Rattle.junos_lang.specs.Documents.{IsTerm, name_of}
+use Rattle.junos_lang.specs.Documents.{IsTerm}
 use Rattle.junos_lang.specs.Texts.{Spells, text_of}
-use Rattle.junos_lang.proofs.JoinLaws.{spelling_laws}
 use Rattle.gen_junos.specs.DecisionLaws.{one-family}
 use Rattle.gen_junos.specs.Limits.{is_for_junos, limit_of, rule_limit}
-use Rattle.gen_junos.specs.SectionNames.{names}
 use Rattle.acl_platform.specs.Families.{family_of}
 use Rattle.gen_junos.specs.Sections.{default_term, entry_count, section_of, term_of, terms_of}
 use Rattle.gen_junos.specs.TermLaws.{term-is}
@@ -114,9 +109,3 @@ section_is_spelled f h =
       };
       written = refl;
     }
-
--- ---- joined documents
-
-pub joined_are_spelled : (bytes more : List ℕ) (a b : List Section) → Spells bytes a → Spells more b
-    → in_common (flat_map names a) (flat_map names b) ≡ false → Spells (bytes ++ more) (a ++ b)
-joined_are_spelled bytes more a b h k n = spelling_laws.joined_documents bytes more a b h k (none-shared name_of a b n)

@@ -7,14 +7,9 @@ use Rattle.acl_target.specs.Clashes.{clash, is_mixed}
 use Rattle.acl_target.specs.TargetTexts.{target_text}
 use Rattle.acl_platform.specs.declared.filters.Filter.{Filter}
 use Rattle.acl_platform.specs.SoundFilters.{target_of}
-use Rattle.junos_lang.specs.declared.documents.Section.{Section}
-use Rattle.junos_lang.specs.Documents.{name_of}
+use Rattle.junos_lang.specs.Documents.{filter_names}
 use Rattle.junos_lang.specs.Texts.{text_of}
 use Rattle.gen_junos.specs.Sections.{section_of}
-
--- The one name that a section takes in its document.
-abbrev pub names : Section → List (List ℕ)
-names s = name_of s ∷ []
 
 -- A filter for Junos has one family.
 abbrev pub IsOfJunos : Filter → Type 0
@@ -30,4 +25,4 @@ FirstLine = (f : Filter) (stateful : Bool) → IsOfJunos f
 abbrev pub NamesDiffer : Type 0
 NamesDiffer = (filters : List Filter) (stateful : Bool) → AllByRecursion IsOfJunos filters
     → IsDistinct clash (map (target_of stateful) filters)
-    → IsDistinct bytes_eq (flat_map (λ f. names (section_of f)) filters)
+    → IsDistinct bytes_eq (flat_map filter_names (map section_of filters))

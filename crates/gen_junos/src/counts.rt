@@ -1,5 +1,4 @@
 ghost use Rattle.std.specs.Prelude.{◌≡◌, ◌+◌, length, min};
-ghost use Rattle.std.specs.List.{All};
 ghost use Rattle.acl_text.specs.Output.{COUNT_END};
 ghost use Rattle.acl_platform.specs.Combinations.{IsSized};
 ghost use Rattle.acl_platform.specs.Elements.{
@@ -7,27 +6,10 @@ ghost use Rattle.acl_platform.specs.Elements.{
   number_elements,
   port_elements,
 };
-ghost use Rattle.gen_junos.specs.Sections.{entry_count, term_count, term_of};
+ghost use Rattle.gen_junos.specs.Sections.{term_count, term_of};
 
 use crate::junos::Junos;
-use acl_platform::{
-    Filter, Rule, RuleCount, address_elements, count_numbers, count_rules, range_elements,
-};
-
-/// The number of entries of the section that the filter becomes; a number that does not fit stands
-/// at the greatest one that does. Protocols and types of its rules have to be numbers below 256, ports
-/// below 65,536.
-pub fn entry_count(filter: &Filter) -> u64
-    requires { All IsSized filter.now.rules }
-    ensures { result ≡ min (entry_count filter.now) COUNT_END }
-{
-    let rules = filter.rules.as_slice();
-    if rules.is_empty() {
-        1
-    } else {
-        count_rules(rules, &Junos)
-    }
-}
+use acl_platform::{Rule, RuleCount, address_elements, count_numbers, range_elements};
 
 impl RuleCount for Junos {
     ghost entries = { λ j rule. term_count (term_of rule) };

@@ -1,61 +1,37 @@
-ghost use Rattle.std.specs.Prelude.{◌≡◌, ◌∷◌, []};
-ghost use Rattle.junos_lang.specs.Texts.{Spells, text_of};
-ghost use Rattle.junos_lang.specs.Walks.{section_outcome};
-ghost use Rattle.junos_lang.proofs.JoinLaws.{spelling_laws};
 ghost use Rattle.gen_junos.specs.DecisionLaws.{section_decides};
-ghost use Rattle.gen_junos.specs.Limits.{is_for_junos, limit_of};
-ghost use Rattle.gen_junos.specs.SectionLaws.{joined_are_spelled, section_is_spelled};
-ghost use Rattle.gen_junos.specs.SectionNames.{names};
+ghost use Rattle.gen_junos.specs.Limits.{is_for_junos};
+ghost use Rattle.gen_junos.specs.SectionLaws.{section_is_spelled};
 ghost use Rattle.gen_junos.specs.Sections.{entry_count, section_of};
 
-use crate::counts::entry_count;
 use crate::section_rows::put_section;
-use acl_platform::{Filter, Limit, Platform, count_in_limit, first_limit};
+use acl_platform::{Filter, Platform, count_rules};
 use acl_text::{Out, PutFault};
-use junos_lang::{Doc, Section};
+use junos_lang::Section;
 
 /// The platform of Junos firewall filters, of IPv4 or of IPv6.
 pub struct Junos;
 
 impl Platform for Junos {
-    type Doc = Doc;
-
     type Section = Section;
 
     ghost handles = { is_for_junos };
 
-    ghost document = { λ sections. sections };
-
-    ghost spells = { λ bytes doc. Spells bytes doc };
-
-    ghost text = { λ section. text_of (section ∷ []) };
-
-    ghost outcome = { section_outcome };
-
-    ghost names = { names };
-
-    ghost section = { section_of };
-
     ghost count = { entry_count };
 
-    ghost limit = { limit_of };
-
-    fn check(&self, filter: &Filter) -> Result<u64, Limit> {
-        match first_limit(self, filter.rules.as_slice()) {
-            Some(limit) => Err(limit),
-            None => count_in_limit(entry_count(filter)),
+    fn entry_count(&self, filter: &Filter) -> u64 {
+        let rules = filter.rules.as_slice();
+        if rules.is_empty() {
+            1
+        } else {
+            count_rules(rules, self)
         }
     }
 
-    fn emit<O: Out>(&self, filter: &Filter, out: &mut O) -> Result<(), PutFault> {
+    ghost section = { section_of };
+
+    fn put_section<O: Out>(&self, filter: &Filter, out: &mut O) -> Result<(), PutFault> {
         put_section(filter, out)
     }
-
-    ghost one_document = { spelling_laws.one_document };
-
-    ghost nothing_is_spelled = { spelling_laws.nothing_is_spelled };
-
-    ghost joined_are_spelled = { joined_are_spelled };
 
     ghost section_is_spelled = { section_is_spelled };
 

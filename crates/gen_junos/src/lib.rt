@@ -8,7 +8,5 @@ mod laws;
 mod limits;
 mod section_rows;
 
-pub use counts::entry_count;
 pub use junos::Junos;
 pub use laws::{a_section_begins_with_its_target, targets_without_clash_have_different_sections};
-pub use section_rows::put_section;

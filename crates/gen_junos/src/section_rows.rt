@@ -1,4 +1,4 @@
-ghost use Rattle.std.specs.Prelude.{◌≡◌, ◌∷◌, [], flat_map, IsTrue};
+ghost use Rattle.std.specs.Prelude.{◌∷◌, [], flat_map, IsTrue};
 ghost use Rattle.std.specs.List.{All};
 ghost use Rattle.acl_text.specs.Output.{Puts};
 ghost use Rattle.acl_platform.specs.Combinations.{IsSized};
@@ -18,9 +18,8 @@ use acl_platform::{Filter, NoteRows, RemarkForm, Rule, RuleForm, family_of, put_
 use acl_text::{Out, PutFault};
 use junos_lang::{NoteRow, SectionEnd, SectionHead, TermEnd, TermHead, ThenRows};
 
-/// Puts the text of the section that the filter becomes, in an output that has to be open. Protocols and
-/// types of its rules have to be numbers below 256, ports below 65,536.
-pub fn put_section<O: Out>(filter: &Filter, out: &mut O) -> Result<(), PutFault>
+/// Puts the text of the section that the filter becomes.
+pub(crate) fn put_section<O: Out>(filter: &Filter, out: &mut O) -> Result<(), PutFault>
     requires open { IsTrue (O.is_open out.old) }
     requires sized { All IsSized filter.now.rules }
     ensures { Puts O.told O.faults O.refusals O.is_open O.keeps_rest out.old out.new

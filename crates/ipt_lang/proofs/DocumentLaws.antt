@@ -9,26 +9,26 @@ use Rattle.acl_packet.specs.declared.addresses.Family.TheVariants.{V4, V6}
 use Rattle.acl_packet.specs.declared.filtering.Hook.{Hook}
 use Rattle.acl_packet.specs.declared.filtering.Hook.TheVariants.{Input, Output, Forward}
 use Rattle.acl_grammar.specs.Rows.{Row}
-use Rattle.acl_grammar.specs.RowSteps.{row_in}
+use Rattle.acl_grammar.specs.RowSteps.{document_in, row_in}
 use Rattle.acl_grammar.proofs.RowLaws.{fold-again, fold-members}
 use Rattle.acl_grammar.specs.FamilyWords.{family_in}
 use Rattle.ipt_lang.specs.declared.documents.Section.{Section}
 use Rattle.ipt_lang.specs.declared.documents.Chain.{Chain}
 use Rattle.ipt_lang.specs.declared.documents.Rule.{Rule}
-use Rattle.ipt_lang.specs.declared.document_drafts.DocumentDraft.{DocumentDraft}
+use Rattle.ipt_lang.specs.declared.chains_drafts.ChainsDraft.{ChainsDraft}
 use Rattle.ipt_lang.specs.Documents.{IsRule, IsRemark, IsChain, IsSection, hook_word, family_word}
 use Rattle.ipt_lang.specs.Texts.{rule_words, chain_name, remark_rows, rule_rows, chain_row, jump_row, chain_rows, policy_rows, target_row, head_rows, section_rows, text_of}
-use Rattle.ipt_lang.specs.ReadingSteps.{rule_in, no_chain, no_draft, hook_in, ended, end_chain, with_rule, take_appended, take_target, take_policy, take_name, take_words, take_row, document_in}
+use Rattle.ipt_lang.specs.ReadingSteps.{rule_in, no_chain, no_draft, hook_in, ended, end_chain, with_rule, take_appended, take_target, take_policy, take_name, take_words, take_row}
 use Rattle.ipt_lang.proofs.RuleReadingLaws.{rule_again}
 use Rattle.ipt_lang.proofs.SafeRows.{sections_safe}
 
-abbrev at : List Section → Section → Chain → DocumentDraft
+abbrev at : List Section → Section → Chain → ChainsDraft
 at ss s c = record { sections = ss; begun = true; section = s; chain = c }
 
-abbrev read : DocumentDraft → List Row → DocumentDraft
+abbrev read : ChainsDraft → List Row → ChainsDraft
 read d rows = fold take_row d rows
 
-then : (d m e : DocumentDraft) (xs ys : List Row) → read d xs ≡ m → read m ys ≡ e → read d (xs ++ ys) ≡ e
+then : (d m e : ChainsDraft) (xs ys : List Row) → read d xs ≡ m → read m ys ≡ e → read d (xs ++ ys) ≡ e
 then d m e xs ys h k = fold-append take_row d xs ys ∙ ap (λ s. read s ys) h ∙ k
 
 -- ---- chains
@@ -101,7 +101,7 @@ family_again V6 = refl
 abbrev section : Hook → Family → Option Bool → Section
 section hook family accept = record { hook = hook; family = family; accept = accept; chains = [] }
 
-target_read : (d : DocumentDraft) (h : Hook) (f : Family) → read d (target_row h f ∷ []) ≡ at (ended d) (section h f None) no_chain
+target_read : (d : ChainsDraft) (h : Hook) (f : Family) → read d (target_row h f ∷ []) ≡ at (ended d) (section h f None) no_chain
 unfolding take_words take_target
 target_read d h f =
     ap (λ g. at (ended d) (section g (family_in (family_word f)) None) no_chain) (hook_again h)
@@ -114,7 +114,7 @@ policy_read ss h f None = refl
 policy_read ss h f (Some true) = refl
 policy_read ss h f (Some false) = refl
 
-section_read : (d : DocumentDraft) (s : Section) → IsSection s → read d (section_rows s) ≡ at (ended d) s no_chain
+section_read : (d : ChainsDraft) (s : Section) → IsSection s → read d (section_rows s) ≡ at (ended d) s no_chain
 unfolding section_rows head_rows
 section_read d s h =
     let ss = ended d in
@@ -126,7 +126,7 @@ section_read d s h =
     (target_read d s.hook s.family) (policy_read ss s.hook s.family s.accept))
     (chains_read ss (section s.hook s.family s.accept) s.chains h.chains)
 
-sections_read : (d : DocumentDraft) (doc : List Section) → AllByRecursion IsSection doc → ended (read d (flat_map section_rows doc)) ≡ ended d ++ doc
+sections_read : (d : ChainsDraft) (doc : List Section) → AllByRecursion IsSection doc → ended (read d (flat_map section_rows doc)) ≡ ended d ++ doc
 sections_read d [] h = sym (append-nil (ended d))
 sections_read d (s ∷ doc) h =
     let rest = flat_map section_rows doc in
@@ -136,12 +136,11 @@ sections_read d (s ∷ doc) h =
 
 -- ---- documents
 
-empty_row : (d : DocumentDraft) → take_row d (row_in []) ≡ d
+empty_row : (d : ChainsDraft) → take_row d (row_in []) ≡ d
 unfolding row_in take_words
 empty_row d = refl
 
-pub document_again : (doc : List Section) → AllByRecursion IsSection doc → document_in (text_of doc) ≡ doc
-unfolding document_in
+pub document_again : (doc : List Section) → AllByRecursion IsSection doc → document_in take_row no_draft ended (text_of doc) ≡ doc
 document_again doc h =
     let rows = flat_map section_rows doc in
     let end = read no_draft rows in

@@ -1,5 +1,4 @@
 pub mod DocumentLaws
-pub mod JoinLaws
 pub mod PortWords
 pub mod RuleReadingLaws
 pub mod SafeRows

@@ -1,7 +1,8 @@
--- The tests of a document say what a valid one is.
-use Rattle.std.proofs.Common.{◌≡◌, ℕ, ◌+◌, ◌-◌, ◌≤◌, Bool, true, ◌&&◌, nat_le, List, [], ◌∷◌, Option, None, Some, IfSome, refl, arith}
+-- The tests of a section say what a valid one is.
+use Rattle.std.proofs.Common.{◌≡◌, ℕ, ◌+◌, ◌-◌, ◌≤◌, Bool, true, ◌&&◌, nat_le, List, [], ◌∷◌, map, flat_map, Option, None, Some, IfSome, refl, ap, subst, arith}
 use Rattle.std.specs.Bool.{Decides}
-use Rattle.std.specs.List.{list_all}
+use Rattle.std.specs.List.{list_all, IsDistinct}
+use Rattle.std.specs.Str.{bytes_eq}
 use Rattle.std.proofs.lemmas.List.Sums.{sum_by-cons}
 use Rattle.std.proofs.lemmas.Bool.Decides.{Decides-and, Decides-like}
 use Rattle.acl_packet.specs.declared.addresses.Family.{Family}
@@ -10,14 +11,15 @@ use Rattle.acl_text.specs.Names.{is_safe_text}
 use Rattle.acl_grammar.specs.NamingSteps.{are_distinct}
 use Rattle.acl_grammar.specs.PortRangeSteps.{is_port_range}
 use Rattle.acl_grammar.specs.PrefixCheckSteps.{is_prefix_of}
-use Rattle.acl_grammar.proofs.DecisionLaws.{le_decides, prefix_decides, all_decides}
+use Rattle.acl_grammar.specs.RuleParts.{number_fits}
+use Rattle.acl_grammar.proofs.DecisionLaws.{le_decides, number_decides, type_decides, prefix_decides, all_decides}
 use Rattle.acl_grammar.proofs.NamingLaws.{distinct_decides}
 use Rattle.acl_grammar.proofs.PortRangeLaws.{ranges_decide}
 use Rattle.ipt_lang.specs.declared.documents.Section.{Section}
 use Rattle.ipt_lang.specs.declared.documents.Chain.{Chain}
 use Rattle.ipt_lang.specs.declared.documents.Rule.{Rule}
-use Rattle.ipt_lang.specs.Documents.{weight_of, weight, IsPortList, IsAddresses, parts_fit, IsRule, is_chain_name, IsRemark, IsChain, chain_names, IsSection, names_of, IsDocument}
-use Rattle.ipt_lang.specs.ValiditySteps.{has_room, is_port_list, is_address, is_number, are_numbers, are_addresses, are_ports, is_rule, are_remarks, is_chain, is_section, is_document}
+use Rattle.ipt_lang.specs.Documents.{weight_of, weight, IsPortList, IsAddresses, parts_fit, IsRule, is_chain_name, IsRemark, IsChain, chain_names, IsSection, name_of, hook_names}
+use Rattle.ipt_lang.specs.ValiditySteps.{has_room, is_port_list, is_address, are_numbers, are_addresses, are_ports, is_rule, are_remarks, is_chain, is_section}
 
 is_itself : (b : Bool) → Decides b (b ≡ true)
 is_itself b = (λ h. h, λ h. h)
@@ -47,17 +49,9 @@ address_decides f (Some p) =
     Decides-like (is_address f (Some p)) (λ h. record { of_family = h.0; some_bits = h.1 }) (λ h. (h.of_family, h.some_bits))
     (Decides-and (is_prefix_of f p) (nat_le 1 p.len) (prefix_decides f p) (le_decides 1 p.len))
 
-number_decides : (least most : ℕ) (o : Option ℕ) → Decides (is_number least most o) (IfSome o (λ n. (least ≤ n) × (n ≤ most)))
-number_decides least most None = (λ h. tt, λ h. refl)
-number_decides least most (Some n) = Decides-and (nat_le least n) (nat_le n most) (le_decides least n) (le_decides n most)
-
-type_decides : (o : Option ℕ) → Decides (is_number 0 254 o) (IfSome o (λ n. n ≤ 254))
-type_decides None = (λ h. tt, λ h. refl)
-type_decides (Some n) = Decides-like (is_number 0 254 (Some n)) (λ h. h.1) (λ h. (omega arith, h)) (number_decides 0 254 (Some n))
-
 rule_decides : (f : Family) (r : Rule) → Decides (is_rule f r) (IsRule f r)
 rule_decides f r =
-    let numbers = Decides-and (is_number 1 255 r.proto) (is_number 0 254 r.itype) (number_decides 1 255 r.proto) (type_decides r.itype) in
+    let numbers = Decides-and (number_fits 1 255 r.proto) (number_fits 0 254 r.itype) (number_decides 1 255 r.proto) (type_decides r.itype) in
     let addresses = Decides-and (is_address f r.src) (is_address f r.dst) (address_decides f r.src) (address_decides f r.dst) in
     let ports = Decides-and (is_port_list r.sports) (is_port_list r.dports) (list_decides r.sports) (list_decides r.dports) in
     Decides-like (is_rule f r)
@@ -75,7 +69,7 @@ rule_decides f r =
     (Decides-and (are_numbers r) (are_addresses f r) numbers addresses)
     (Decides-and (are_ports r) (parts_fit f r) ports (is_itself (parts_fit f r))))
 
--- ---- chains, sections and documents
+-- ---- chains and sections
 
 chain_decides : (f : Family) (c : Chain) → Decides (is_chain f c) (IsChain f c)
 chain_decides f c =
@@ -85,13 +79,16 @@ chain_decides f c =
     (Decides-and (are_remarks c.remarks) (is_chain_name c.name && list_all (is_rule f) c.rules) remarks
     (Decides-and (is_chain_name c.name) (list_all (is_rule f) c.rules) (is_itself (is_chain_name c.name)) rules))
 
-section_decides : (s : Section) → Decides (is_section s) (IsSection s)
+pub section_decides : (s : Section) → Decides (is_section s) (IsSection s)
 section_decides s =
     Decides-like (is_section s) (λ h. record { chains = h.0; names_differ = h.1 }) (λ h. (h.chains, h.names_differ))
     (Decides-and (list_all (is_chain s.family) s.chains) (are_distinct (chain_names s.chains))
     (all_decides (is_chain s.family) (IsChain s.family) (chain_decides s.family) s.chains) (distinct_decides (chain_names s.chains)))
 
-pub document_decides : (doc : List Section) → Decides (is_document doc) (IsDocument doc)
-document_decides doc =
-    Decides-like (is_document doc) (λ h. record { sections = h.0; names_differ = h.1 }) (λ h. (h.sections, h.names_differ))
-    (Decides-and (list_all is_section doc) (are_distinct (names_of doc)) (all_decides is_section IsSection section_decides doc) (distinct_decides (names_of doc)))
+one_each : (doc : List Section) → map name_of doc ≡ flat_map hook_names doc
+one_each [] = refl
+one_each (s ∷ doc) = ap (λ names. name_of s ∷ names) (one_each doc)
+
+pub hook_names_decide : (doc : List Section) → Decides (are_distinct (map name_of doc)) (IsDistinct bytes_eq (flat_map hook_names doc))
+hook_names_decide doc =
+    subst (λ names. Decides (are_distinct (map name_of doc)) (IsDistinct bytes_eq names)) (one_each doc) (distinct_decides (map name_of doc))

@@ -1,7 +1,7 @@
 -- Documents of iptables rules, and which of them are valid.
 -- Sources: iptables(8), "COMMANDS" and "PARAMETERS"; iptables-extensions(8), "multiport" (up to 15
 -- ports, a range counts as two), "tcp", "udp", "sctp", "icmp", "icmp6", "state", "REJECT" and "LOG".
-use Rattle.std.specs.Prelude.{◌≡◌, ℕ, ◌≤◌, Bool, true, false, ◌&&◌, ◌||◌, ◌==◌, nat_le, if◌then◌else◌, List, ◌∷◌, ◌++◌, length, map, codes, Option, IfSome, is_none}
+use Rattle.std.specs.Prelude.{◌≡◌, ℕ, ◌≤◌, Bool, true, false, ◌&&◌, ◌||◌, ◌==◌, nat_le, if◌then◌else◌, List, [], ◌∷◌, ◌++◌, length, map, codes, Option, IfSome, is_none}
 use Rattle.std.specs.List.{AllByRecursion, IsDistinct, sum_by}
 use Rattle.std.specs.Str.{bytes_eq}
 use Rattle.acl_packet.specs.declared.addresses.Family.{Family}
@@ -107,9 +107,10 @@ family_word V6 = codes "inet6"
 abbrev pub name_of : Section → List ℕ
 name_of s = hook_word s.hook ++ 32 ∷ family_word s.family
 
-abbrev pub names_of : List Section → List (List ℕ)
-names_of doc = map name_of doc
+-- The one name that a section takes in its document.
+abbrev pub hook_names : Section → List (List ℕ)
+hook_names s = name_of s ∷ []
 
 -- A document is its sections, no two of which have the same hook and family.
 abbrev pub IsDocument : List Section → Type 0
-IsDocument doc = IsDocumentOf IsSection names_of doc
+IsDocument doc = IsDocumentOf IsSection hook_names doc

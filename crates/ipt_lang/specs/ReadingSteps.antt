@@ -12,7 +12,6 @@ use Rattle.acl_packet.specs.Decimals.{number_in}
 use Rattle.acl_text.specs.AddressTexts.{spelled_prefix_in}
 use Rattle.acl_text.specs.PortRanges.{ports_in}
 use Rattle.acl_grammar.specs.Rows.{Row}
-use Rattle.acl_grammar.specs.RowSteps.{rows_in}
 use Rattle.acl_grammar.specs.FamilyWords.{family_in}
 use Rattle.ipt_lang.specs.declared.documents.Section.{Section}
 use Rattle.ipt_lang.specs.declared.documents.Chain.{Chain}
@@ -26,7 +25,7 @@ use Rattle.acl_grammar.specs.declared.rule_parts.End.TheVariants.{Source, Destin
 use Rattle.ipt_lang.specs.declared.rule_drafts.Next.{Next}
 use Rattle.ipt_lang.specs.declared.rule_drafts.Next.TheVariants.{Keyword, Protocol, Address, Ports, IcmpType, Mask, Target}
 use Rattle.ipt_lang.specs.declared.rule_drafts.RuleDraft.{RuleDraft}
-use Rattle.ipt_lang.specs.declared.document_drafts.DocumentDraft.{DocumentDraft}
+use Rattle.ipt_lang.specs.declared.chains_drafts.ChainsDraft.{ChainsDraft}
 use Rattle.ipt_lang.specs.Documents.{hook_word}
 
 -- ---- the words of a rule
@@ -138,7 +137,7 @@ no_section = record { hook = Input; family = V4; accept = None; chains = [] }
 abbrev pub no_chain : Chain
 no_chain = record { remarks = []; name = []; rules = [] }
 
-abbrev pub no_draft : DocumentDraft
+abbrev pub no_draft : ChainsDraft
 no_draft = record { sections = []; begun = false; section = no_section; chain = no_chain }
 
 unfoldable pub hook_in : List ℕ → Hook
@@ -148,10 +147,10 @@ hook_in w =
     else Input
 
 -- The sections so far, with the one that has begun.
-abbrev pub ended : DocumentDraft → List Section
+abbrev pub ended : ChainsDraft → List Section
 ended d = if d.begun then d.sections ++ d.section ∷ [] else d.sections
 
-abbrev pub begin_section : DocumentDraft → List ℕ → List ℕ → DocumentDraft
+abbrev pub begin_section : ChainsDraft → List ℕ → List ℕ → ChainsDraft
 begin_section d hook family = record {
   sections = ended d;
   begun = true;
@@ -159,46 +158,46 @@ begin_section d hook family = record {
   chain = no_chain;
 }
 
-abbrev pub with_policy : DocumentDraft → List ℕ → DocumentDraft
+abbrev pub with_policy : ChainsDraft → List ℕ → ChainsDraft
 with_policy d w =
     record d { section = record d.section { accept = Some (bytes_eq w (codes "ACCEPT")) } }
 
-abbrev pub with_remark : DocumentDraft → List ℕ → DocumentDraft
+abbrev pub with_remark : ChainsDraft → List ℕ → ChainsDraft
 with_remark d text = record d { chain = record d.chain { remarks = d.chain.remarks ++ text ∷ [] } }
 
 -- A chain's name stands behind the hook's letter and a `_`.
-abbrev pub with_name : DocumentDraft → List ℕ → DocumentDraft
+abbrev pub with_name : ChainsDraft → List ℕ → ChainsDraft
 with_name d w = record d { chain = record d.chain { name = drop 2 w } }
 
-abbrev pub with_rule : DocumentDraft → Rule → DocumentDraft
+abbrev pub with_rule : ChainsDraft → Rule → ChainsDraft
 with_rule d r = record d { chain = record d.chain { rules = d.chain.rules ++ r ∷ [] } }
 
-abbrev pub end_chain : DocumentDraft → DocumentDraft
+abbrev pub end_chain : ChainsDraft → ChainsDraft
 end_chain d = record d {
   section = record d.section { chains = d.section.chains ++ d.chain ∷ [] };
   chain = no_chain;
 }
 
 -- What is appended to the hook's own chain is a jump, which ends the chain that it goes to.
-unfoldable pub take_appended : DocumentDraft → List (List ℕ) → DocumentDraft
+unfoldable pub take_appended : ChainsDraft → List (List ℕ) → ChainsDraft
 take_appended d [] = d
 take_appended d (chain ∷ words) =
     if bytes_eq chain (hook_word d.section.hook) then end_chain d
     else with_rule d (rule_in d.section.family words)
 
-unfoldable pub take_target : DocumentDraft → List (List ℕ) → DocumentDraft
+unfoldable pub take_target : ChainsDraft → List (List ℕ) → ChainsDraft
 take_target d (platform ∷ hook ∷ family ∷ []) = begin_section d hook family
 take_target d words = d
 
-unfoldable pub take_policy : DocumentDraft → List (List ℕ) → DocumentDraft
+unfoldable pub take_policy : ChainsDraft → List (List ℕ) → ChainsDraft
 take_policy d (hook ∷ policy ∷ []) = with_policy d policy
 take_policy d words = d
 
-unfoldable pub take_name : DocumentDraft → List (List ℕ) → DocumentDraft
+unfoldable pub take_name : ChainsDraft → List (List ℕ) → ChainsDraft
 take_name d (name ∷ []) = with_name d name
 take_name d words = d
 
-unfoldable pub take_words : DocumentDraft → List (List ℕ) → DocumentDraft
+unfoldable pub take_words : ChainsDraft → List (List ℕ) → ChainsDraft
 take_words d [] = d
 take_words d (w ∷ words) =
     if bytes_eq w (codes "-A") then take_appended d words
@@ -208,9 +207,5 @@ take_words d (w ∷ words) =
     else if bytes_eq w (codes "-P") then take_policy d words
     else d
 
-abbrev pub take_row : DocumentDraft → Row → DocumentDraft
+abbrev pub take_row : ChainsDraft → Row → ChainsDraft
 take_row d r = take_words d r.words
-
--- What the bytes say, whatever they are.
-unfoldable pub document_in : List ℕ → List Section
-document_in bytes = ended (fold take_row no_draft (rows_in bytes))

@@ -7,10 +7,11 @@ use Rattle.acl_text.specs.Names.{is_safe_text}
 use Rattle.acl_grammar.specs.NamingSteps.{are_distinct}
 use Rattle.acl_grammar.specs.PortRangeSteps.{is_port_range}
 use Rattle.acl_grammar.specs.PrefixCheckSteps.{is_prefix_of}
+use Rattle.acl_grammar.specs.RuleParts.{number_fits}
 use Rattle.ipt_lang.specs.declared.documents.Section.{Section}
 use Rattle.ipt_lang.specs.declared.documents.Chain.{Chain}
 use Rattle.ipt_lang.specs.declared.documents.Rule.{Rule}
-use Rattle.ipt_lang.specs.Documents.{weight_of, parts_fit, is_chain_name, chain_names, names_of}
+use Rattle.ipt_lang.specs.Documents.{weight_of, parts_fit, is_chain_name, chain_names}
 
 -- The ranges have no more than that weight, one by one.
 unfoldable pub has_room : ℕ → List (ℕ × ℕ) → Bool
@@ -24,12 +25,8 @@ abbrev pub is_address : Family → Option Prefix → Bool
 is_address family None = true
 is_address family (Some p) = is_prefix_of family p && nat_le 1 p.len
 
-abbrev pub is_number : ℕ → ℕ → Option ℕ → Bool
-is_number least most None = true
-is_number least most (Some n) = nat_le least n && nat_le n most
-
 abbrev pub are_numbers : Rule → Bool
-are_numbers r = is_number 1 255 r.proto && is_number 0 254 r.itype
+are_numbers r = number_fits 1 255 r.proto && number_fits 0 254 r.itype
 
 abbrev pub are_addresses : Family → Rule → Bool
 are_addresses family r = is_address family r.src && is_address family r.dst
@@ -50,6 +47,3 @@ is_chain family c =
 
 abbrev pub is_section : Section → Bool
 is_section s = list_all (is_chain s.family) s.chains && are_distinct (chain_names s.chains)
-
-abbrev pub is_document : List Section → Bool
-is_document doc = list_all is_section doc && are_distinct (names_of doc)

@@ -11,7 +11,7 @@ use Rattle.acl_packet.specs.declared.filtering.Verdict.TheVariants.{Accept, Deny
 use Rattle.acl_packet.specs.Addresses.{has_address, same_family}
 use Rattle.acl_packet.specs.Packets.{has_flag}
 use Rattle.acl_grammar.specs.Documents.{outcome_at}
-use Rattle.acl_grammar.specs.RuleParts.{has_port, number_holds, set_holds, state_holds}
+use Rattle.acl_grammar.specs.RuleParts.{number_holds, ports_hold, state_holds}
 use Rattle.ipt_lang.specs.declared.documents.Section.{Section}
 use Rattle.ipt_lang.specs.declared.documents.Chain.{Chain}
 use Rattle.ipt_lang.specs.declared.documents.Rule.{Rule}
@@ -24,9 +24,6 @@ use Rattle.ipt_lang.specs.declared.documents.Flags.TheVariants.{Ack, Rst, SynNot
 abbrev pub address_holds : Option Prefix → ℕ → Bool
 address_holds None address = true
 address_holds (Some prefix) address = has_address prefix address
-
-abbrev pub port_holds : List (ℕ × ℕ) → ℕ → Bool
-port_holds ranges port = set_holds has_port ranges port
 
 -- SYN is 2, RST 4 and ACK 16.
 abbrev pub flags_hold : Option Flags → ℕ → Bool
@@ -41,15 +38,12 @@ abbrev pub ends_hold : Rule → Packet → Bool
 ends_hold r p =
     number_holds r.proto p.proto && (address_holds r.src p.src && address_holds r.dst p.dst)
 
-abbrev pub ports_hold : Rule → Packet → Bool
-ports_hold r p = port_holds r.sports p.sport && port_holds r.dports p.dport
-
 abbrev pub tests_hold : Rule → Packet → Bool
 tests_hold r p = number_holds r.itype p.itype
     && (flags_hold r.flags p.flags && state_holds r.state p.conn)
 
 abbrev pub rule_holds : Rule → Packet → Bool
-rule_holds r p = ends_hold r p && (ports_hold r p && tests_hold r p)
+rule_holds r p = ends_hold r p && (ports_hold r.sports r.dports p && tests_hold r p)
 
 -- What a packet has met so far is an outcome, `Left` while no rule has decided.
 abbrev pub met : Verdict → Bool → Outcome

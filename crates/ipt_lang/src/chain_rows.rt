@@ -45,11 +45,10 @@ impl Rows for TargetRow {
     ghost rows = { λ t. target_row t.hook t.family ∷ [] };
 
     fn put_rows<O: Out>(&self, out: &mut O) -> Result<(), PutFault> {
-        let mark: &[u8] = b"##";
         let target: &[&[u8]] = &[b"iptables", hook_word(self.hook), family_word(self.family)];
         let row = Row {
             indent: 0,
-            first: mark,
+            first: b"##".as_slice(),
             rest: target,
         };
         row.put_rows(out)

@@ -3,7 +3,7 @@
 #![tactic(auto)]
 
 mod chain_rows;
-mod document_drafts;
+mod chains_drafts;
 mod documents;
 mod ports;
 mod reading;

@@ -1,30 +1,17 @@
-ghost use Rattle.std.specs.Prelude.{◌≡◌, ◌&&◌, ◌↔◌, IsTrue};
+ghost use Rattle.std.specs.Prelude.{◌≡◌, ◌&&◌};
 ghost use Rattle.std.specs.List.{list_all};
 ghost use Rattle.acl_grammar.specs.NamingSteps.{are_distinct};
 ghost use Rattle.acl_grammar.specs.RuleParts.{has_port_proto, is_proto};
-ghost use Rattle.ipt_lang.specs.Documents.{IsDocument, act_fits, chain_names, flags_fit, is_chain_name, name_of, parts_fit, ports_fit, type_fits, weight_of};
-ghost use Rattle.ipt_lang.specs.ValiditySteps.{are_addresses, are_numbers, are_ports, are_remarks, has_room, is_address, is_chain, is_document, is_number, is_port_list, is_rule, is_section};
+ghost use Rattle.ipt_lang.specs.Documents.{act_fits, chain_names, flags_fit, is_chain_name, name_of, parts_fit, ports_fit, type_fits, weight_of};
+ghost use Rattle.ipt_lang.specs.ValiditySteps.{are_addresses, are_numbers, are_ports, are_remarks, has_room, is_address, is_chain, is_port_list, is_rule, is_section};
 
 use crate::documents::{Act, Chain, Rule, Section};
 use acl_grammar::{
     Named, are_port_ranges, has_port_proto, have_distinct_names, is_prefix_of, is_proto,
+    number_fits,
 };
 use acl_packet::{Family, Hook, Prefix, Verdict};
 use acl_text::{Bytes, is_name, is_safe_text};
-
-/// Whether the document is valid.
-#[tactic(auto, using(crate::proofs::ValidityLaws::document_decides))]
-pub(crate) fn is_document(sections: &[Section]) -> bool
-    ensures { IsTrue result ↔ IsDocument sections.now }
-{
-    passes(sections)
-}
-
-fn passes(sections: &[Section]) -> bool
-    ensures { result ≡ is_document sections.now }
-{
-    are_sections(sections) && have_distinct_names(sections)
-}
 
 impl Named for Section {
     ghost name = { name_of };
@@ -47,13 +34,8 @@ fn target_words(section: &Section) -> &'static [u8]
     }
 }
 
-fn are_sections(sections: &[Section]) -> bool
-    ensures { result ≡ list_all is_section sections.now }
-{
-    sections.iter().all(|section| is_section(section))
-}
-
-fn is_section(section: &Section) -> bool
+/// Whether the section is valid.
+pub(crate) fn is_section(section: &Section) -> bool
     ensures { result ≡ is_section section.now }
 {
     let chains = section.chains.as_slice();
@@ -112,16 +94,7 @@ fn is_rule(family: Family, rule: &Rule) -> bool
 fn are_numbers(rule: &Rule) -> bool
     ensures { result ≡ are_numbers rule.now }
 {
-    is_number(1, 255, rule.proto) && is_number(0, 254, rule.itype)
-}
-
-fn is_number(least: u8, most: u8, number: Option<u8>) -> bool
-    ensures { result ≡ is_number least most number }
-{
-    match number {
-        Some(number) => least <= number && number <= most,
-        None => true,
-    }
+    number_fits(1, 255, rule.proto) && number_fits(0, 254, rule.itype)
 }
 
 fn are_addresses(family: Family, rule: &Rule) -> bool

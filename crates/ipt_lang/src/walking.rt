@@ -1,12 +1,9 @@
-ghost use Rattle.std.specs.Prelude.{◌≡◌, length};
-ghost use Rattle.std.specs.List.{list_any};
-ghost use Rattle.acl_packet.specs.Packets.{IsPacket};
-ghost use Rattle.acl_grammar.specs.RuleParts.{has_port, is_empty, number_holds, state_holds};
-ghost use Rattle.ipt_lang.specs.Walks.{address_holds, chains_walk, ends_hold, flags_hold, go_on, met, outcome_of, policy_verdict, port_holds, ports_hold, rule_holds, rules_walk, section_outcome, tests_hold, walk};
+ghost use Rattle.std.specs.Prelude.{◌≡◌};
+ghost use Rattle.ipt_lang.specs.Walks.{address_holds, chains_walk, ends_hold, flags_hold, met, policy_verdict, rule_holds, rules_walk, tests_hold, walk};
 
-use crate::documents::{Act, Chain, Doc, Flags, Rule, Section};
-use acl_grammar::{ACK, RST, SYN, admits_port, number_holds, state_holds};
-use acl_packet::{Conn, Outcome, Packet, Prefix, Verdict, has_flag};
+use crate::documents::{Act, Chain, Flags, Rule};
+use acl_grammar::{ACK, RST, SYN, admit_ports, number_holds, state_holds};
+use acl_packet::{Outcome, Packet, Prefix, Verdict, has_flag};
 
 pub(crate) fn walk(accept: Option<bool>, chains: &[Chain], packet: &Packet) -> Outcome
     ensures { result ≡ walk accept chains.now packet.now }
@@ -68,7 +65,9 @@ fn rules_walk(rules: &[Rule], packet: &Packet, logged: bool) -> Outcome
 fn rule_holds(rule: &Rule, packet: &Packet) -> bool
     ensures { result ≡ rule_holds rule.now packet.now }
 {
-    ends_hold(rule, packet) && ports_hold(rule, packet) && tests_hold(rule, packet)
+    ends_hold(rule, packet)
+        && admit_ports(rule.sports.as_slice(), rule.dports.as_slice(), packet)
+        && tests_hold(rule, packet)
 }
 
 fn ends_hold(rule: &Rule, packet: &Packet) -> bool
@@ -86,13 +85,6 @@ fn address_holds(wanted: &Option<Prefix>, address: u128) -> bool
         Some(prefix) => prefix.contains(address),
         None => true,
     }
-}
-
-fn ports_hold(rule: &Rule, packet: &Packet) -> bool
-    ensures { result ≡ ports_hold rule.now packet.now }
-{
-    admits_port(rule.sports.as_slice(), packet.sport)
-        && admits_port(rule.dports.as_slice(), packet.dport)
 }
 
 fn tests_hold(rule: &Rule, packet: &Packet) -> bool

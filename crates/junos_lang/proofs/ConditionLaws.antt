@@ -7,12 +7,12 @@ use Rattle.acl_packet.specs.declared.addresses.Prefix.{Prefix}
 use Rattle.acl_grammar.specs.RuleParts.{is_empty}
 use Rattle.junos_lang.specs.declared.documents.JTerm.{JTerm}
 use Rattle.acl_grammar.specs.Rows.{Row, row}
-use Rattle.junos_lang.specs.declared.conditions.Side.{Side}
+use Rattle.acl_grammar.specs.declared.rule_parts.End.{End}
 use Rattle.junos_lang.specs.declared.conditions.Condition.{Condition}
 use Rattle.junos_lang.specs.Texts.{address_rows, closing, condition_rows, from_rows, list_row, list_rows, range_word}
-use Rattle.junos_lang.specs.WritingSteps.{value_rows}
+use Rattle.junos_lang.specs.ConditionSteps.{value_rows}
 
-pub no_addresses : (s : Side) (ps : List Prefix) → is_empty (address_rows s ps) ≡ is_empty ps
+pub no_addresses : (s : End) (ps : List Prefix) → is_empty (address_rows s ps) ≡ is_empty ps
 unfolding address_rows
 no_addresses s [] = refl
 no_addresses s (p ∷ ps) = refl

@@ -22,7 +22,7 @@ use Rattle.acl_text.proofs.CutLaws.{cut-again}
 use Rattle.acl_text.proofs.Printed.{IsForeign}
 use Rattle.acl_grammar.specs.PortRanges.{IsPortRange}
 use Rattle.acl_grammar.specs.Rows.{Row, row, words_in}
-use Rattle.acl_grammar.specs.RowSteps.{row_in}
+use Rattle.acl_grammar.specs.RowSteps.{document_in, row_in}
 use Rattle.acl_grammar.proofs.PortRangeLaws.{range-again}
 use Rattle.acl_grammar.proofs.RowLaws.{fold-again, fold-members}
 use Rattle.acl_grammar.specs.FamilyWords.{family_in}
@@ -30,26 +30,26 @@ use Rattle.junos_lang.specs.declared.documents.Section.{Section}
 use Rattle.junos_lang.specs.declared.documents.JTerm.{JTerm}
 use Rattle.junos_lang.specs.declared.documents.JTest.{JTest}
 use Rattle.junos_lang.specs.declared.documents.JTest.TheVariants.{Established, Initial, Rst}
-use Rattle.junos_lang.specs.declared.conditions.Side.{Side}
-use Rattle.junos_lang.specs.declared.conditions.Side.TheVariants.{Source, Destination}
+use Rattle.acl_grammar.specs.declared.rule_parts.End.{End}
+use Rattle.acl_grammar.specs.declared.rule_parts.End.TheVariants.{Source, Destination}
 use Rattle.junos_lang.specs.declared.conditions.Condition.TheVariants.{SourcePort, DestinationPort, IcmpType}
-use Rattle.junos_lang.specs.declared.drafts.DocumentDraft.{DocumentDraft}
+use Rattle.junos_lang.specs.declared.filters_drafts.FiltersDraft.{FiltersDraft}
 use Rattle.junos_lang.specs.Documents.{IsListed, IsTerm, IsSection, ports_fit, types_fit, test_fits, verdict_fits, family_word}
 use Rattle.junos_lang.specs.Texts.{closing, prefix_row, address_rows, protocol_of, list_row, list_rows, range_word, test_rows, condition_rows, from_rows, then_rows, note_row, note_rows, term_row, term_rows, head_rows, end_rows, section_rows, text_of}
-use Rattle.junos_lang.specs.ReadingSteps.{one_or_none, numbers_in, ranges_in, listed_prefix_in, note_in, no_term, with_prefix, with_list, with_word, with_pair, side_in, no_section, no_draft, take_outer, take_head, take_row, document_in}
+use Rattle.junos_lang.specs.ReadingSteps.{one_or_none, numbers_in, ranges_in, listed_prefix_in, note_in, no_term, with_prefix, with_list, with_word, with_pair, end_in, no_section, no_draft, take_outer, take_head, take_row}
 use Rattle.junos_lang.proofs.SafeRows.{sections_safe}
 
-abbrev draft : List Section → Section → JTerm → Side → DocumentDraft
-draft ss s t side = record { sections = ss; section = s; term = t; side = side }
+abbrev draft : List Section → Section → JTerm → End → FiltersDraft
+draft ss s t end = record { sections = ss; section = s; term = t; end = end }
 
 -- between two blocks of addresses
-abbrev at : List Section → Section → JTerm → DocumentDraft
+abbrev at : List Section → Section → JTerm → FiltersDraft
 at ss s t = draft ss s t Source
 
-abbrev read : DocumentDraft → List Row → DocumentDraft
+abbrev read : FiltersDraft → List Row → FiltersDraft
 read d rows = fold take_row d rows
 
-then : (d m e : DocumentDraft) (xs ys : List Row) → read d xs ≡ m → read m ys ≡ e → read d (xs ++ ys) ≡ e
+then : (d m e : FiltersDraft) (xs ys : List Row) → read d xs ≡ m → read m ys ≡ e → read d (xs ++ ys) ≡ e
 then d m e xs ys h k = fold-append take_row d xs ys ∙ ap (λ s. read s ys) h ∙ k
 
 -- ---- addresses
@@ -63,30 +63,30 @@ prefix_again f p h =
     ap (λ o. o >>= (λ q. spelled_prefix_in f q.0)) (cut-again 59 (prefix_text p) [] (prefix-lacks 59 p h.0.1 semicolon_foreign refl))
     ∙ spelled-again f p h.0.1 h.0.0
 
-abbrev with_prefixes : Side → List Prefix → JTerm → JTerm
+abbrev with_prefixes : End → List Prefix → JTerm → JTerm
 with_prefixes Source ps t = record t { src = t.src ++ ps }
 with_prefixes Destination ps t = record t { dst = t.dst ++ ps }
 
-no_prefixes : (side : Side) (t : JTerm) → t ≡ with_prefixes side [] t
+no_prefixes : (end : End) (t : JTerm) → t ≡ with_prefixes end [] t
 no_prefixes Source t = ap (λ l. record t { src = l }) (sym (append-nil t.src))
 no_prefixes Destination t = ap (λ l. record t { dst = l }) (sym (append-nil t.dst))
 
-more_prefixes : (side : Side) (p : Prefix) (ps : List Prefix) (t : JTerm) → with_prefixes side ps (with_prefix t side (Some p)) ≡ with_prefixes side (p ∷ ps) t
+more_prefixes : (end : End) (p : Prefix) (ps : List Prefix) (t : JTerm) → with_prefixes end ps (with_prefix t end (Some p)) ≡ with_prefixes end (p ∷ ps) t
 more_prefixes Source p ps t = ap (λ l. record t { src = l }) (append_assoc t.src (p ∷ []) ps)
 more_prefixes Destination p ps t = ap (λ l. record t { dst = l }) (append_assoc t.dst (p ∷ []) ps)
 
-prefixes_read : (ss : List Section) (s : Section) (t : JTerm) (side : Side) (ps : List Prefix) → AllByRecursion (IsListed s.family) ps
-    → read (draft ss s t side) (map prefix_row ps) ≡ draft ss s (with_prefixes side ps t) side
+prefixes_read : (ss : List Section) (s : Section) (t : JTerm) (end : End) (ps : List Prefix) → AllByRecursion (IsListed s.family) ps
+    → read (draft ss s t end) (map prefix_row ps) ≡ draft ss s (with_prefixes end ps t) end
 unfolding take_row
-prefixes_read ss s t side [] h = ap (λ u. draft ss s u side) (no_prefixes side t)
-prefixes_read ss s t side (p ∷ ps) h =
-    ap (λ o. read (draft ss s (with_prefix t side o) side) (map prefix_row ps)) (prefix_again s.family p h.0)
-    ∙ prefixes_read ss s (with_prefix t side (Some p)) side ps h.1 ∙ ap (λ u. draft ss s u side) (more_prefixes side p ps t)
+prefixes_read ss s t end [] h = ap (λ u. draft ss s u end) (no_prefixes end t)
+prefixes_read ss s t end (p ∷ ps) h =
+    ap (λ o. read (draft ss s (with_prefix t end o) end) (map prefix_row ps)) (prefix_again s.family p h.0)
+    ∙ prefixes_read ss s (with_prefix t end (Some p)) end ps h.1 ∙ ap (λ u. draft ss s u end) (more_prefixes end p ps t)
 
-address_read : (ss : List Section) (s : Section) (t : JTerm) (side : Side) (ps : List Prefix) → AllByRecursion (IsListed s.family) ps
-    → read (at ss s t) (address_rows side ps) ≡ at ss s (with_prefixes side ps t)
-unfolding address_rows take_row with_pair with_word side_in
-address_read ss s t side [] h = ap (at ss s) (no_prefixes side t)
+address_read : (ss : List Section) (s : Section) (t : JTerm) (end : End) (ps : List Prefix) → AllByRecursion (IsListed s.family) ps
+    → read (at ss s t) (address_rows end ps) ≡ at ss s (with_prefixes end ps t)
+unfolding address_rows take_row with_pair with_word end_in
+address_read ss s t end [] h = ap (at ss s) (no_prefixes end t)
 address_read ss s t Source (p ∷ ps) h =
     let u = with_prefixes Source (p ∷ ps) t in
     then (draft ss s t Source) (draft ss s u Source) (at ss s u) (map prefix_row (p ∷ ps)) (closing 20 ∷ []) (prefixes_read ss s t Source (p ∷ ps) h) refl
@@ -166,7 +166,7 @@ narrow_types (n ∷ ns) h = (omega (arith, h.0), narrow_types ns h.1)
 -- ---- the other parts of a term
 
 test_read : (ss : List Section) (s : Section) (t : JTerm) (o : Option JTest) → t.test ≡ None → read (at ss s t) (test_rows o) ≡ at ss s (record t { test = o })
-unfolding test_rows take_row with_word with_pair side_in
+unfolding test_rows take_row with_word with_pair end_in
 test_read ss s t None e = ap (λ o. at ss s (record t { test = o })) e
 test_read ss s t (Some Established) e = refl
 test_read ss s t (Some Initial) e = refl
@@ -210,7 +210,7 @@ from_read ss s t u (r ∷ rows) h = then (at ss s t) (at ss s u) (at ss s u) (r 
 
 then_read : (ss : List Section) (s : Section) (t : JTerm) (protos : List ℕ) (b : Bool) (v : Verdict) → t.syslog ≡ false → verdict_fits v protos ≡ true
     → read (at ss s t) (then_rows b v) ≡ at ss s (record t { syslog = b; verdict = v })
-unfolding then_rows take_row with_word with_pair side_in
+unfolding then_rows take_row with_word with_pair end_in
 then_read ss s t protos true Accept e h = refl
 then_read ss s t protos true Deny e h = refl
 then_read ss s t protos true Reject e h = refl
@@ -298,12 +298,11 @@ sections_read ss doc h = fold-members take_row section_rows (λ t. at t no_secti
 
 -- ---- documents
 
-empty_row : (d : DocumentDraft) → take_row d (row_in []) ≡ d
+empty_row : (d : FiltersDraft) → take_row d (row_in []) ≡ d
 unfolding row_in take_row take_outer
 empty_row d = refl
 
-pub document_again : (doc : List Section) → AllByRecursion IsSection doc → document_in (text_of doc) ≡ doc
-unfolding document_in
+pub document_again : (doc : List Section) → AllByRecursion IsSection doc → document_in take_row no_draft (λ d. d.sections) (text_of doc) ≡ doc
 document_again doc h =
     let end = at doc no_section no_term in
     ap (λ d. d.sections) (fold-again take_row no_draft end (flat_map section_rows doc) (sections_safe doc h) (sections_read [] doc h) (empty_row end))

@@ -1,5 +1,4 @@
 pub mod ConditionLaws
 pub mod DocumentLaws
-pub mod JoinLaws
 pub mod SafeRows
 pub mod ValidityLaws

@@ -21,12 +21,12 @@ use Rattle.junos_lang.specs.declared.documents.Section.{Section}
 use Rattle.junos_lang.specs.declared.documents.JTerm.{JTerm}
 use Rattle.junos_lang.specs.declared.documents.JTest.{JTest}
 use Rattle.junos_lang.specs.declared.documents.JTest.TheVariants.{Established, Initial, Rst}
-use Rattle.junos_lang.specs.declared.conditions.Side.{Side}
-use Rattle.junos_lang.specs.declared.conditions.Side.TheVariants.{Source, Destination}
+use Rattle.acl_grammar.specs.declared.rule_parts.End.{End}
+use Rattle.acl_grammar.specs.declared.rule_parts.End.TheVariants.{Source, Destination}
 use Rattle.junos_lang.specs.declared.conditions.Condition.{Condition}
 use Rattle.junos_lang.specs.declared.conditions.Condition.TheVariants.{Protocol, NextHeader, SourcePort, DestinationPort, IcmpType}
 use Rattle.junos_lang.specs.Documents.{IsListed, IsTerm, IsSection, family_word}
-use Rattle.junos_lang.specs.Texts.{closing, side_word, prefix_row, address_rows, condition_word, protocol_of, list_row, list_rows, range_word, test_rows, condition_rows, from_rows, verdict_words, syslog_rows, then_rows, note_row, note_rows, term_row, term_rows, head_rows, end_rows, section_rows}
+use Rattle.junos_lang.specs.Texts.{closing, end_word, prefix_row, address_rows, condition_word, protocol_of, list_row, list_rows, range_word, test_rows, condition_rows, from_rows, verdict_words, syslog_rows, then_rows, note_row, note_rows, term_row, term_rows, head_rows, end_rows, section_rows}
 
 brace : IsWord (codes "{")
 brace = word (codes "{") refl refl
@@ -36,9 +36,9 @@ closing_safe n = record { start = refl; words = (word (codes "}") refl refl, tt)
 
 -- ---- conditions
 
-side_safe : (s : Side) → IsWord (side_word s) × (begins (side_word s ∷ codes "{" ∷ []) ≡ true)
-side_safe Source = (word (codes "source-address") refl refl, refl)
-side_safe Destination = (word (codes "destination-address") refl refl, refl)
+end_safe : (s : End) → IsWord (end_word s) × (begins (end_word s ∷ codes "{" ∷ []) ≡ true)
+end_safe Source = (word (codes "source-address") refl refl, refl)
+end_safe Destination = (word (codes "destination-address") refl refl, refl)
 
 begins-append : (w v : List ℕ) (words : List (List ℕ)) → begins (v ∷ words) ≡ true → begins ((w ++ v) ∷ words) ≡ true
 begins-append [] v words h = h
@@ -52,11 +52,11 @@ prefix_safe f p h =
       words = (word (prefix_text p ++ codes ";") (has-append 32 (prefix_text p) (codes ";") w.no_space refl) (has-append 10 (prefix_text p) (codes ";") w.no_feed refl), tt);
     }
 
-addresses_safe : (f : Family) (s : Side) (ps : List Prefix) → AllByRecursion (IsListed f) ps → AreRows (address_rows s ps)
+addresses_safe : (f : Family) (s : End) (ps : List Prefix) → AllByRecursion (IsListed f) ps → AreRows (address_rows s ps)
 unfolding address_rows
 addresses_safe f s [] h = tt
 addresses_safe f s (p ∷ ps) h = (
-  record { start = (side_safe s).1; words = ((side_safe s).0, (brace, tt)) },
+  record { start = (end_safe s).1; words = ((end_safe s).0, (brace, tt)) },
   all_append IsRow (map prefix_row (p ∷ ps)) (closing 20 ∷ []) (all_map (IsListed f) IsRow prefix_row (prefix_safe f) (p ∷ ps) h) (closing_safe 20, tt),
 )
 

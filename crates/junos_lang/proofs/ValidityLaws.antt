@@ -1,7 +1,7 @@
--- The tests of a document say what a valid one is.
-use Rattle.std.proofs.Common.{◌≡◌, ℕ, ◌<◌, ◌≤◌, Bool, true, false, not, ◌&&◌, nat_le, nat_lt, List, [], ◌∷◌, ◌++◌, Option, None, Some, IfSome, refl}
+-- The tests of a section say what a valid one is.
+use Rattle.std.proofs.Common.{◌≡◌, ℕ, ◌<◌, ◌≤◌, Bool, true, false, not, ◌&&◌, nat_le, nat_lt, List, [], ◌∷◌, ◌++◌, map, flat_map, Option, None, Some, IfSome, refl, ap, subst}
 use Rattle.std.specs.Bool.{Decides}
-use Rattle.std.specs.List.{list_all}
+use Rattle.std.specs.List.{list_all, IsDistinct}
 use Rattle.std.specs.Str.{bytes_eq}
 use Rattle.std.proofs.lemmas.Bool.{false≢true}
 use Rattle.std.proofs.lemmas.Bool.Decides.{Decides-and, Decides-like, Decides-ltb}
@@ -19,8 +19,8 @@ use Rattle.acl_grammar.proofs.PortRangeLaws.{ranges_decide}
 use Rattle.acl_grammar.specs.RuleParts.{is_empty}
 use Rattle.junos_lang.specs.declared.documents.Section.{Section}
 use Rattle.junos_lang.specs.declared.documents.JTerm.{JTerm}
-use Rattle.junos_lang.specs.Documents.{parts_fit, IsListed, IsTerm, term_names, IsSection, family_word, names_of, IsDocument}
-use Rattle.junos_lang.specs.ValiditySteps.{is_note, is_listed, are_named, are_addresses, are_ports, are_numbers, is_term, is_section, is_document}
+use Rattle.junos_lang.specs.Documents.{parts_fit, IsListed, IsTerm, term_names, IsSection, family_word, name_of, filter_names}
+use Rattle.junos_lang.specs.ValiditySteps.{is_note, is_listed, are_named, are_addresses, are_ports, are_numbers, is_term, is_section}
 
 -- two names are the same where family and filter's name are
 pub same_names : (f g : Family) (a b : List ℕ) → (same_family f g && bytes_eq a b) ≡ bytes_eq (family_word f ++ 32 ∷ a) (family_word g ++ 32 ∷ b)
@@ -70,13 +70,13 @@ term_decides f t =
     (Decides-and (are_named t) (are_addresses f t) names addresses)
     (Decides-and (are_ports t) (are_numbers t && parts_fit f t) ports rest))
 
--- ---- sections and documents
+-- ---- sections
 
 some_decides : {A : Type 0} (xs : List A) → Decides (not (is_empty xs)) (is_empty xs ≡ false)
 some_decides [] = (λ h. absurd (false≢true h), λ h. absurd cc)
 some_decides (x ∷ xs) = (λ h. refl, λ h. refl)
 
-section_decides : (s : Section) → Decides (is_section s) (IsSection s)
+pub section_decides : (s : Section) → Decides (is_section s) (IsSection s)
 section_decides s =
     let terms = all_decides (is_term s.family) (IsTerm s.family) (term_decides s.family) s.terms in
     let heads = Decides-and (is_filter_name s.name) (not (is_empty s.terms)) (holds (is_filter_name s.name)) (some_decides s.terms) in
@@ -86,7 +86,10 @@ section_decides s =
     (λ h. ((h.named, h.has_terms), (h.terms, h.terms_differ)))
     (Decides-and (is_filter_name s.name && not (is_empty s.terms)) (list_all (is_term s.family) s.terms && are_distinct (term_names s.terms)) heads body)
 
-pub document_decides : (doc : List Section) → Decides (is_document doc) (IsDocument doc)
-document_decides doc =
-    Decides-like (is_document doc) (λ h. record { sections = h.0; names_differ = h.1 }) (λ h. (h.sections, h.names_differ))
-    (Decides-and (list_all is_section doc) (are_distinct (names_of doc)) (all_decides is_section IsSection section_decides doc) (distinct_decides (names_of doc)))
+one_each : (doc : List Section) → map name_of doc ≡ flat_map filter_names doc
+one_each [] = refl
+one_each (s ∷ doc) = ap (λ names. name_of s ∷ names) (one_each doc)
+
+pub filter_names_decide : (doc : List Section) → Decides (are_distinct (map name_of doc)) (IsDistinct bytes_eq (flat_map filter_names doc))
+filter_names_decide doc =
+    subst (λ names. Decides (are_distinct (map name_of doc)) (IsDistinct bytes_eq names)) (one_each doc) (distinct_decides (map name_of doc))

@@ -100,9 +100,10 @@ family_word V6 = codes "inet6"
 abbrev pub name_of : Section → List ℕ
 name_of s = family_word s.family ++ 32 ∷ s.name
 
-abbrev pub names_of : List Section → List (List ℕ)
-names_of doc = map name_of doc
+-- The one name that a filter takes in its document.
+abbrev pub filter_names : Section → List (List ℕ)
+filter_names s = name_of s ∷ []
 
 -- A document is its sections, no two of which have the same family and name.
 abbrev pub IsDocument : List Section → Type 0
-IsDocument doc = IsDocumentOf IsSection names_of doc
+IsDocument doc = IsDocumentOf IsSection filter_names doc

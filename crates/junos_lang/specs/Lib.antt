@@ -1,6 +1,6 @@
+pub mod ConditionSteps
 pub mod Documents
 pub mod ReadingSteps
 pub mod Texts
 pub mod ValiditySteps
 pub mod Walks
-pub mod WritingSteps

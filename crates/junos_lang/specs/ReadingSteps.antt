@@ -1,6 +1,6 @@
 -- Reading leniently: a draft that rows change, and that nothing refuses.
 use Rattle.std.specs.Prelude.{ℕ, ◌-◌, true, ◌==◌, if◌then◌else◌, List, [], ◌∷◌, ◌++◌, length, take, drop, flat_map, codes, Option, None, Some}
-use Rattle.std.specs.List.{fold, join_with_byte}
+use Rattle.std.specs.List.{join_with_byte}
 use Rattle.std.specs.Str.{bytes_eq}
 use Rattle.acl_packet.specs.declared.addresses.Family.{Family}
 use Rattle.acl_packet.specs.declared.addresses.Family.TheVariants.{V4}
@@ -12,14 +12,13 @@ use Rattle.acl_text.specs.Cuts.{cut_at}
 use Rattle.acl_text.specs.OptionSteps.{◌>>=◌}
 use Rattle.acl_text.specs.PortRanges.{ports_in}
 use Rattle.acl_grammar.specs.Rows.{Row}
-use Rattle.acl_grammar.specs.RowSteps.{rows_in}
 use Rattle.acl_grammar.specs.FamilyWords.{family_in}
 use Rattle.junos_lang.specs.declared.documents.Section.{Section}
 use Rattle.junos_lang.specs.declared.documents.JTerm.{JTerm}
 use Rattle.junos_lang.specs.declared.documents.JTest.TheVariants.{Established, Initial, Rst}
-use Rattle.junos_lang.specs.declared.conditions.Side.{Side}
-use Rattle.junos_lang.specs.declared.conditions.Side.TheVariants.{Source, Destination}
-use Rattle.junos_lang.specs.declared.drafts.DocumentDraft.{DocumentDraft}
+use Rattle.acl_grammar.specs.declared.rule_parts.End.{End}
+use Rattle.acl_grammar.specs.declared.rule_parts.End.TheVariants.{Source, Destination}
+use Rattle.junos_lang.specs.declared.filters_drafts.FiltersDraft.{FiltersDraft}
 use Rattle.junos_lang.specs.Documents.{bare_term}
 
 -- ---- elements of lists
@@ -48,8 +47,8 @@ note_in words = join_with_byte 32 (take (length words - 2) (drop 1 words))
 abbrev pub no_term : JTerm
 no_term = bare_term [] Accept
 
-abbrev pub with_prefix : JTerm → Side → Option Prefix → JTerm
-with_prefix t side None = t
+abbrev pub with_prefix : JTerm → End → Option Prefix → JTerm
+with_prefix t end None = t
 with_prefix t Source (Some p) = record t { src = t.src ++ p ∷ [] }
 with_prefix t Destination (Some p) = record t { dst = t.dst ++ p ∷ [] }
 
@@ -77,63 +76,63 @@ with_pair t w =
     else t
 
 -- A block of addresses is of destinations until it ends, where it begins so.
-unfoldable pub side_in : List ℕ → Side
-side_in w = if bytes_eq w (codes "destination-address") then Destination else Source
+unfoldable pub end_in : List ℕ → End
+end_in w = if bytes_eq w (codes "destination-address") then Destination else Source
 
 -- ---- the rows of a document
 
 abbrev pub no_section : Section
 no_section = record { family = V4; name = []; terms = [] }
 
-abbrev pub no_draft : DocumentDraft
-no_draft = record { sections = []; section = no_section; term = no_term; side = Source }
+abbrev pub no_draft : FiltersDraft
+no_draft = record { sections = []; section = no_section; term = no_term; end = Source }
 
-abbrev pub end_term : DocumentDraft → DocumentDraft
+abbrev pub end_term : FiltersDraft → FiltersDraft
 end_term d = record d {
   section = record d.section { terms = d.section.terms ++ d.term ∷ [] };
   term = no_term;
 }
 
-abbrev pub end_section : DocumentDraft → DocumentDraft
+abbrev pub end_section : FiltersDraft → FiltersDraft
 end_section d = record d { sections = d.sections ++ d.section ∷ []; section = no_section }
 
-unfoldable pub take_outer : DocumentDraft → List (List ℕ) → DocumentDraft
+unfoldable pub take_outer : FiltersDraft → List (List ℕ) → FiltersDraft
 take_outer d (w ∷ []) = if bytes_eq w (codes "}") then end_section d else d
 take_outer d words = d
 
-abbrev pub take_family : DocumentDraft → List (List ℕ) → DocumentDraft
+abbrev pub take_family : FiltersDraft → List (List ℕ) → FiltersDraft
 take_family d (w ∷ family ∷ brace ∷ []) =
     record d { section = record d.section { family = family_in family } }
 take_family d words = d
 
-abbrev pub take_filter : DocumentDraft → List (List ℕ) → DocumentDraft
+abbrev pub take_filter : FiltersDraft → List (List ℕ) → FiltersDraft
 take_filter d (w ∷ v ∷ name ∷ brace ∷ []) =
     record d { section = record d.section { name = name } }
 take_filter d words = d
 
 -- The row of a comment, of a term's name, or of a term's end.
-unfoldable pub take_head : DocumentDraft → List ℕ → List ℕ → List (List ℕ) → DocumentDraft
+unfoldable pub take_head : FiltersDraft → List ℕ → List ℕ → List (List ℕ) → FiltersDraft
 take_head d w name words =
     if bytes_eq w (codes "/*") then record d { term = record d.term { note = Some (note_in words) } }
     else record d { term = record d.term { name = name } }
 
-abbrev pub take_term : DocumentDraft → List (List ℕ) → DocumentDraft
+abbrev pub take_term : FiltersDraft → List (List ℕ) → FiltersDraft
 take_term d [] = d
 take_term d (w ∷ []) = end_term d
 take_term d (w ∷ name ∷ words) = take_head d w name (w ∷ name ∷ words)
 
-abbrev pub take_part : DocumentDraft → List (List ℕ) → DocumentDraft
+abbrev pub take_part : FiltersDraft → List (List ℕ) → FiltersDraft
 take_part d [] = d
-take_part d (w ∷ []) = record d { term = with_word d.term w; side = Source }
-take_part d (w ∷ v ∷ []) = record d { term = with_pair d.term w; side = side_in w }
+take_part d (w ∷ []) = record d { term = with_word d.term w; end = Source }
+take_part d (w ∷ v ∷ []) = record d { term = with_pair d.term w; end = end_in w }
 take_part d (w ∷ v ∷ x ∷ words) = record d { term = with_list d.term w (w ∷ v ∷ x ∷ words) }
 
-abbrev pub take_address : DocumentDraft → List (List ℕ) → DocumentDraft
+abbrev pub take_address : FiltersDraft → List (List ℕ) → FiltersDraft
 take_address d (w ∷ []) =
-    record d { term = with_prefix d.term d.side (listed_prefix_in d.section.family w) }
+    record d { term = with_prefix d.term d.end (listed_prefix_in d.section.family w) }
 take_address d words = d
 
-unfoldable pub take_row : DocumentDraft → Row → DocumentDraft
+unfoldable pub take_row : FiltersDraft → Row → FiltersDraft
 take_row d r =
     if r.indent == 0 then take_outer d r.words
     else if r.indent == 4 then take_family d r.words
@@ -142,7 +141,3 @@ take_row d r =
     else if r.indent == 20 then take_part d r.words
     else if r.indent == 24 then take_address d r.words
     else d
-
--- What the bytes say, whatever they are.
-unfoldable pub document_in : List ℕ → List Section
-document_in bytes = (fold take_row no_draft (rows_in bytes)).sections

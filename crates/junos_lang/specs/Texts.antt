@@ -18,8 +18,8 @@ use Rattle.junos_lang.specs.declared.documents.Section.{Section}
 use Rattle.junos_lang.specs.declared.documents.JTerm.{JTerm}
 use Rattle.junos_lang.specs.declared.documents.JTest.{JTest}
 use Rattle.junos_lang.specs.declared.documents.JTest.TheVariants.{Established, Initial, Rst}
-use Rattle.junos_lang.specs.declared.conditions.Side.{Side}
-use Rattle.junos_lang.specs.declared.conditions.Side.TheVariants.{Source, Destination}
+use Rattle.acl_grammar.specs.declared.rule_parts.End.{End}
+use Rattle.acl_grammar.specs.declared.rule_parts.End.TheVariants.{Source, Destination}
 use Rattle.junos_lang.specs.declared.conditions.Condition.{Condition}
 use Rattle.junos_lang.specs.declared.conditions.Condition.TheVariants.{Protocol, NextHeader, SourcePort, DestinationPort, IcmpType}
 use Rattle.junos_lang.specs.Documents.{family_word, IsDocument}
@@ -31,17 +31,17 @@ closing indent = row indent (codes "}" ∷ [])
 -- ---- the conditions of a term
 
 -- Addresses stand in a block, a prefix each row; no addresses are no condition.
-abbrev pub side_word : Side → List ℕ
-side_word Source = codes "source-address"
-side_word Destination = codes "destination-address"
+abbrev pub end_word : End → List ℕ
+end_word Source = codes "source-address"
+end_word Destination = codes "destination-address"
 
 abbrev pub prefix_row : Prefix → Row
 prefix_row p = row 24 ((prefix_text p ++ codes ";") ∷ [])
 
-unfoldable pub address_rows : Side → List Prefix → List Row
-address_rows side [] = []
-address_rows side (p ∷ prefixes) =
-    row 20 (side_word side ∷ codes "{" ∷ []) ∷ (map prefix_row (p ∷ prefixes) ++ closing 20 ∷ [])
+unfoldable pub address_rows : End → List Prefix → List Row
+address_rows end [] = []
+address_rows end (p ∷ prefixes) =
+    row 20 (end_word end ∷ codes "{" ∷ []) ∷ (map prefix_row (p ∷ prefixes) ++ closing 20 ∷ [])
 
 -- Other values stand in one row; no values are no condition.
 abbrev pub condition_word : Condition → List ℕ

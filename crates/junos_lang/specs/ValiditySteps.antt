@@ -10,7 +10,7 @@ use Rattle.acl_grammar.specs.PrefixCheckSteps.{is_prefix_of}
 use Rattle.acl_grammar.specs.RuleParts.{is_empty}
 use Rattle.junos_lang.specs.declared.documents.Section.{Section}
 use Rattle.junos_lang.specs.declared.documents.JTerm.{JTerm}
-use Rattle.junos_lang.specs.Documents.{parts_fit, term_names, names_of}
+use Rattle.junos_lang.specs.Documents.{parts_fit, term_names}
 
 abbrev pub is_note : Option (List ℕ) → Bool
 is_note None = true
@@ -38,6 +38,3 @@ is_term family t = (are_named t && are_addresses family t)
 abbrev pub is_section : Section → Bool
 is_section s = (is_filter_name s.name && not (is_empty s.terms))
     && (list_all (is_term s.family) s.terms && are_distinct (term_names s.terms))
-
-abbrev pub is_document : List Section → Bool
-is_document doc = list_all is_section doc && are_distinct (names_of doc)

@@ -4,29 +4,22 @@
 -- term without a `from` part holds every packet; the implicit discard at the end of a filter) and
 -- "Firewall Filter Match Conditions Based on Bit-Field Values" (`tcp-established`, `tcp-initial`).
 use Rattle.std.specs.Prelude.{ℕ, Bool, true, not, ◌&&◌, ◌||◌, if◌then◌else◌, List, [], ◌∷◌, Option, None, Some, nat_eq}
-use Rattle.acl_packet.specs.declared.addresses.Prefix.{Prefix}
 use Rattle.acl_packet.specs.declared.packets.Packet.{Packet}
 use Rattle.acl_packet.specs.declared.filtering.Outcome.{Outcome}
 use Rattle.acl_packet.specs.declared.filtering.Verdict.TheVariants.{Deny}
-use Rattle.acl_packet.specs.Addresses.{has_address, same_family}
+use Rattle.acl_packet.specs.Addresses.{same_family}
 use Rattle.acl_packet.specs.Outcomes.{unlogged}
 use Rattle.acl_packet.specs.Packets.{has_flag}
 use Rattle.acl_grammar.specs.Documents.{outcome_at}
-use Rattle.acl_grammar.specs.RuleParts.{has_port, set_holds}
+use Rattle.acl_grammar.specs.RuleParts.{addresses_hold, ports_hold, set_holds}
 use Rattle.junos_lang.specs.declared.documents.Section.{Section}
 use Rattle.junos_lang.specs.declared.documents.JTerm.{JTerm}
 use Rattle.junos_lang.specs.declared.documents.JTest.{JTest}
 use Rattle.junos_lang.specs.declared.documents.JTest.TheVariants.{Established, Initial, Rst}
 
 -- A condition holds where one of its values does. No values are no condition.
-abbrev pub address_holds : List Prefix → ℕ → Bool
-address_holds prefixes address = set_holds has_address prefixes address
-
 abbrev pub number_holds : List ℕ → ℕ → Bool
 number_holds numbers number = set_holds nat_eq numbers number
-
-abbrev pub port_holds : List (ℕ × ℕ) → ℕ → Bool
-port_holds ranges port = set_holds has_port ranges port
 
 -- SYN is 2, RST 4 and ACK 16 (RFC 9293 section 3.1). `tcp-established` wants ACK or RST,
 -- `tcp-initial` SYN without ACK.
@@ -36,19 +29,14 @@ test_holds (Some Established) flags = has_flag flags 16 || has_flag flags 4
 test_holds (Some Initial) flags = has_flag flags 2 && not (has_flag flags 16)
 test_holds (Some Rst) flags = has_flag flags 4
 
--- A term holds a packet where each of its conditions does.
-abbrev pub addresses_hold : JTerm → Packet → Bool
-addresses_hold t p = address_holds t.src p.src && address_holds t.dst p.dst
-
-abbrev pub ports_hold : JTerm → Packet → Bool
-ports_hold t p = port_holds t.sports p.sport && port_holds t.dports p.dport
-
 abbrev pub headers_hold : JTerm → Packet → Bool
 headers_hold t p = number_holds t.protos p.proto
     && (number_holds t.itypes p.itype && test_holds t.test p.flags)
 
+-- A term holds a packet where each of its conditions does.
 abbrev pub term_holds : JTerm → Packet → Bool
-term_holds t p = addresses_hold t p && (ports_hold t p && headers_hold t p)
+term_holds t p =
+    addresses_hold t.src t.dst p && (ports_hold t.sports t.dports p && headers_hold t p)
 
 -- What a term decides, with its log.
 abbrev pub decided_by : JTerm → Outcome

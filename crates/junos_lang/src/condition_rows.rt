@@ -1,13 +1,13 @@
 ghost use Rattle.std.specs.Prelude.{◌≡◌, ◌∷◌, [], codes};
 ghost use Rattle.acl_grammar.specs.Rows.{row};
 ghost use Rattle.acl_grammar.specs.RuleParts.{is_empty};
-ghost use Rattle.junos_lang.specs.Texts.{address_rows, closing, condition_word, from_rows, list_row, list_rows, prefix_row, range_word, side_word, test_rows, test_words};
-ghost use Rattle.junos_lang.specs.WritingSteps.{value_rows};
+ghost use Rattle.junos_lang.specs.ConditionSteps.{value_rows};
+ghost use Rattle.junos_lang.specs.Texts.{address_rows, closing, condition_word, end_word, from_rows, list_row, list_rows, prefix_row, range_word, test_rows, test_words};
 
-use crate::conditions::{Condition, Side};
+use crate::conditions::Condition;
 use crate::documents::JTest;
 use crate::filter_rows::{Closing, Line, put_word};
-use acl_grammar::{Each, EachWord, Form, Piece, Row, Rows, Word, WordForm, Words};
+use acl_grammar::{Each, EachWord, End, Form, Piece, Row, Rows, Word, WordForm, Words};
 use acl_packet::{Family, Prefix};
 use acl_text::{Out, PutFault};
 
@@ -46,11 +46,11 @@ impl<'a, N: Values + Copy, P: Values + Copy> Rows for FromPart<'a, N, P> {
 
     fn put_rows<O: Out>(&self, out: &mut O) -> Result<(), PutFault> {
         let sources = AddressRows {
-            side: Side::Source,
+            end: End::Source,
             prefixes: self.src,
         };
         let destinations = AddressRows {
-            side: Side::Destination,
+            end: End::Destination,
             prefixes: self.dst,
         };
         let protocols = ListRows {
@@ -135,15 +135,15 @@ impl Rows for FromEnd {
     }
 }
 
-// The rows of the addresses of a side. None where there are no addresses.
+// The rows of the addresses of an end. None where there are no addresses.
 #[derive(Clone, Copy)]
 struct AddressRows<'a> {
-    side: Side,
+    end: End,
     prefixes: &'a [Prefix],
 }
 
 impl<'a> Rows for AddressRows<'a> {
-    ghost rows = { λ a. address_rows a.side a.prefixes.now };
+    ghost rows = { λ a. address_rows a.end a.prefixes.now };
 
     #[tactic(auto, unfolding(crate::specs::Texts::address_rows))]
     fn put_rows<O: Out>(&self, out: &mut O) -> Result<(), PutFault> {
@@ -152,7 +152,7 @@ impl<'a> Rows for AddressRows<'a> {
         }
         let head = Line {
             indent: 20,
-            first: side_word(self.side),
+            first: end_word(self.end),
             rest: &[b"{"],
         };
         let prefixes = Each {
@@ -170,12 +170,12 @@ impl<'a> Conditions for AddressRows<'a> {
     }
 }
 
-fn side_word(side: Side) -> &'static [u8]
-    ensures { result.now ≡ side_word side }
+fn end_word(end: End) -> &'static [u8]
+    ensures { result.now ≡ end_word end }
 {
-    match side {
-        Side::Source => b"source-address",
-        Side::Destination => b"destination-address",
+    match end {
+        End::Source => b"source-address",
+        End::Destination => b"destination-address",
     }
 }
 

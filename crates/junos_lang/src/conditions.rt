@@ -2,13 +2,6 @@ ghost use Rattle.std.specs.Prelude.{◌≡◌};
 
 use acl_packet::Family;
 
-/// Where packets come from, or where they go to.
-#[derive(Clone, Copy, Debug, PartialEq, Eq)]
-pub enum Side {
-    Source,
-    Destination,
-}
-
 /// A match condition whose values stand in one row.
 #[derive(Clone, Copy, Debug, PartialEq, Eq)]
 pub enum Condition {

@@ -1,15 +1,14 @@
 ghost use Rattle.std.specs.Prelude.{◌≡◌, IfNone, IfOk, IfSome, List};
 ghost use Rattle.junos_lang.specs.declared.documents.Section.{Section};
-ghost use Rattle.junos_lang.specs.Documents.{IsSection, names_of};
-ghost use Rattle.junos_lang.specs.ReadingSteps.{document_in};
+ghost use Rattle.junos_lang.specs.Documents.{IsSection, filter_names};
 ghost use Rattle.junos_lang.specs.Texts.{Spells};
 ghost use Rattle.junos_lang.specs.Walks.{section_outcome};
 
 use crate::documents::{Doc, Section};
-use crate::drafts::DocumentDraft;
-use crate::validity::is_document;
+use crate::filters_drafts::FiltersDraft;
+use crate::validity::is_section;
 use crate::walking::walk;
-use acl_grammar::{DocumentSection, read_document, read_rows};
+use acl_grammar::{DocumentSection, have_distinct_names, read_document};
 use acl_packet::{Outcome, Packet};
 use acl_text::Memory;
 use std::alloc::Global;
@@ -17,22 +16,19 @@ use std::alloc::Global;
 impl DocumentSection for Section {
     ghost is_section = { IsSection };
 
-    ghost names = { names_of };
+    #[tactic(auto, using(crate::proofs::ValidityLaws::section_decides))]
+    fn is_valid(&self) -> bool {
+        is_section(self)
+    }
+
+    ghost names = { filter_names };
+
+    #[tactic(auto, using(crate::proofs::ValidityLaws::filter_names_decide))]
+    fn have_distinct_names(_alloc: Global, sections: &[Section]) -> Result<bool, Memory> {
+        Ok(have_distinct_names(sections))
+    }
 
     ghost outcome = { section_outcome };
-
-    ghost document_in = { document_in };
-
-    #[tactic(auto, unfolding(crate::specs::ReadingSteps::document_in))]
-    fn read_leniently(alloc: Global, bytes: &[u8]) -> Result<Doc, Memory> {
-        let mut draft = DocumentDraft::new(alloc);
-        read_rows(alloc, &mut draft, bytes)?;
-        Ok(draft.sections)
-    }
-
-    fn are_document(_alloc: Global, sections: &[Section]) -> Result<bool, Memory> {
-        Ok(is_document(sections))
-    }
 
     fn outcome(&self, packet: &Packet) -> Option<Outcome> {
         if self.family == packet.family {
@@ -45,8 +41,7 @@ impl DocumentSection for Section {
     #[tactic(auto, using(crate::proofs::DocumentLaws::document_again))]
     fn a_document_is_read_again() {}
 
-    #[tactic(auto, using(crate::proofs::JoinLaws::joined_names))]
-    fn joined_documents_have_joined_names() {}
+    type Draft = FiltersDraft;
 }
 
 /// The document that the bytes spell: `Some` exactly where they spell one, and `None` exactly where

@@ -1,26 +1,12 @@
-ghost use Rattle.std.specs.Prelude.{◌≡◌, ◌↔◌, ◌==◌, ◌||◌, IsTrue, nat_le, nat_lt};
+ghost use Rattle.std.specs.Prelude.{◌≡◌, ◌==◌, ◌||◌, nat_le, nat_lt};
 ghost use Rattle.std.specs.List.{list_all};
-ghost use Rattle.junos_lang.specs.Documents.{IsDocument, has_ports, is_alone, name_of, parts_fit, ports_fit, test_fits, types_fit, verdict_fits};
-ghost use Rattle.junos_lang.specs.ValiditySteps.{are_addresses, are_named, are_numbers, are_ports, is_document, is_listed, is_note, is_section, is_term};
+ghost use Rattle.junos_lang.specs.Documents.{has_ports, is_alone, name_of, parts_fit, ports_fit, test_fits, types_fit, verdict_fits};
+ghost use Rattle.junos_lang.specs.ValiditySteps.{are_addresses, are_named, are_numbers, are_ports, is_listed, is_note, is_section, is_term};
 
 use crate::documents::{JTerm, Section};
 use acl_grammar::{Named, are_port_ranges, have_distinct_names, is_prefix_of};
 use acl_packet::{Family, Prefix, Verdict};
 use acl_text::{Bytes, is_filter_name, is_name, is_safe_text};
-
-/// Whether the document is valid.
-#[tactic(auto, using(crate::proofs::ValidityLaws::document_decides))]
-pub(crate) fn is_document(sections: &[Section]) -> bool
-    ensures { IsTrue result ↔ IsDocument sections.now }
-{
-    are_valid(sections)
-}
-
-fn are_valid(sections: &[Section]) -> bool
-    ensures { result ≡ is_document sections.now }
-{
-    are_sections(sections) && have_distinct_names(sections)
-}
 
 impl Named for Section {
     ghost name = { name_of };
@@ -39,13 +25,8 @@ impl Named for JTerm {
     }
 }
 
-fn are_sections(sections: &[Section]) -> bool
-    ensures { result ≡ list_all is_section sections.now }
-{
-    sections.iter().all(|section| is_section(section))
-}
-
-fn is_section(section: &Section) -> bool
+/// Whether the section is valid.
+pub(crate) fn is_section(section: &Section) -> bool
     ensures { result ≡ is_section section.now }
 {
     let terms = section.terms.as_slice();

@@ -1,12 +1,10 @@
-ghost use Rattle.std.specs.Prelude.{◌≡◌, ◌==◌, ◌&&◌, length, nat_le};
+ghost use Rattle.std.specs.Prelude.{◌≡◌, ◌==◌, ◌&&◌};
 ghost use Rattle.std.specs.List.{list_any};
-ghost use Rattle.acl_packet.specs.Addresses.{has_address};
-ghost use Rattle.acl_packet.specs.Packets.{IsPacket};
-ghost use Rattle.junos_lang.specs.Walks.{address_holds, number_holds, port_holds, test_holds, addresses_hold, ports_hold, headers_hold, term_holds, decided_by, walk, section_outcome, outcome_of};
+ghost use Rattle.junos_lang.specs.Walks.{decided_by, headers_hold, number_holds, term_holds, test_holds, walk};
 
-use crate::documents::{Doc, JTerm, JTest, Section};
-use acl_grammar::{ACK, RST, SYN, admits_address, admits_port};
-use acl_packet::{Outcome, Packet, Prefix, Verdict, has_flag};
+use crate::documents::{JTerm, JTest};
+use acl_grammar::{ACK, RST, SYN, admit_addresses, admit_ports};
+use acl_packet::{Outcome, Packet, Verdict, has_flag};
 
 #[tactic(auto, unfolding(crate::specs::Walks::walk))]
 pub(crate) fn walk(terms: &[JTerm], packet: &Packet) -> Outcome
@@ -32,21 +30,9 @@ fn decided_by(term: &JTerm) -> Outcome
 fn term_holds(term: &JTerm, packet: &Packet) -> bool
     ensures { result ≡ term_holds term.now packet.now }
 {
-    addresses_hold(term, packet) && ports_hold(term, packet) && headers_hold(term, packet)
-}
-
-fn addresses_hold(term: &JTerm, packet: &Packet) -> bool
-    ensures { result ≡ addresses_hold term.now packet.now }
-{
-    admits_address(term.src.as_slice(), packet.src)
-        && admits_address(term.dst.as_slice(), packet.dst)
-}
-
-fn ports_hold(term: &JTerm, packet: &Packet) -> bool
-    ensures { result ≡ ports_hold term.now packet.now }
-{
-    admits_port(term.sports.as_slice(), packet.sport)
-        && admits_port(term.dports.as_slice(), packet.dport)
+    admit_addresses(term.src.as_slice(), term.dst.as_slice(), packet)
+        && admit_ports(term.sports.as_slice(), term.dports.as_slice(), packet)
+        && headers_hold(term, packet)
 }
 
 fn headers_hold(term: &JTerm, packet: &Packet) -> bool

@@ -1,7 +1,7 @@
 use Rattle.std.proofs.Common.{◌≡◌, take}
 use Rattle.acl_text.specs.Cuts.{views}
 use Rattle.junos_lang.specs.ReadingSteps.{numbers_in}
-use Rattle.junos_lang.proofs.drafts.numbers_of.Given as goal
+use Rattle.junos_lang.proofs.filters_drafts.numbers_of.Given as goal
 
 abbrev pub invariant-loop-word : goal.invariant-loop-word
 invariant-loop-word l = l.numbers ≡ numbers_in (views (take l.word-index l.words))

@@ -4,7 +4,7 @@ use Rattle.std.specs.List.{join_with_byte}
 use Rattle.std.proofs.lemmas.List.{length-map, take-map, drop-map}
 use Rattle.acl_text.specs.Cuts.{views}
 use Rattle.junos_lang.specs.ReadingSteps.{note_in}
-use Rattle.junos_lang.proofs.drafts.note_of.Goals as goal
+use Rattle.junos_lang.proofs.filters_drafts.note_of.Goals as goal
 
 between : (words : List (Bor (List ℕ))) → views (take (length words - 1 - 1) (drop 1 words)) ≡ take (length (views words) - 2) (drop 1 (views words))
 between words =

@@ -1,11 +1,10 @@
 ghost use Rattle.std.specs.Prelude.{◌≡◌, ◌∷◌, [], OnOk, IfOk, Some};
 ghost use Rattle.acl_text.specs.Cuts.{views};
 ghost use Rattle.acl_grammar.specs.FamilyWords.{family_in};
-ghost use Rattle.junos_lang.specs.ReadingSteps.{no_term, no_section, no_draft, numbers_in, ranges_in, listed_prefix_in, note_in, with_prefix, with_list, with_word, with_pair, side_in, end_term, end_section, take_outer, take_family, take_filter, take_head, take_term, take_part, take_address, take_row};
+ghost use Rattle.junos_lang.specs.ReadingSteps.{no_term, no_section, no_draft, numbers_in, ranges_in, listed_prefix_in, note_in, with_prefix, with_list, with_word, with_pair, end_in, end_term, end_section, take_outer, take_family, take_filter, take_head, take_term, take_part, take_address, take_row};
 
-use crate::conditions::Side;
 use crate::documents::{Doc, JTerm, JTest, Section};
-use acl_grammar::{Draft, family_of, join_words};
+use acl_grammar::{DocumentDraft, Draft, End, family_of, join_words};
 use acl_packet::{Family, Prefix, Verdict};
 use acl_text::{Bytes, Items, Memory, read_ports, read_spelled_prefix, read_u8, split_at_byte};
 use std::alloc::Global;
@@ -14,14 +13,14 @@ use std::mem;
 /// What has been read of a document's rows: the sections that have ended, the next one without its
 /// next term, that term, and whose addresses come.
 #[derive(Drop)]
-pub(crate) struct DocumentDraft {
-    pub(crate) sections: Doc,
+pub struct FiltersDraft {
+    sections: Doc,
     section: Section,
     term: JTerm,
-    side: Side,
+    end: End,
 }
 
-impl Draft for DocumentDraft {
+impl Draft for FiltersDraft {
     ghost step = { take_row };
 
     #[tactic(auto, unfolding(crate::specs::ReadingSteps::take_row))]
@@ -41,19 +40,26 @@ impl Draft for DocumentDraft {
     }
 }
 
-impl DocumentDraft {
-    /// Nothing has been read.
-    pub(crate) fn new(alloc: Global) -> DocumentDraft
-        ensures { result ≡ no_draft }
-    {
-        DocumentDraft {
+impl DocumentDraft<Section> for FiltersDraft {
+    ghost empty = { no_draft };
+
+    ghost sections = { λ d. d.sections };
+
+    fn new(alloc: Global) -> FiltersDraft {
+        FiltersDraft {
             sections: Items::new(alloc),
             section: no_section(alloc),
             term: no_term(alloc),
-            side: Side::Source,
+            end: End::Source,
         }
     }
 
+    fn finish(self) -> Result<Doc, Memory> {
+        Ok(self.sections)
+    }
+}
+
+impl FiltersDraft {
     #[tactic(auto, unfolding(crate::specs::ReadingSteps::take_outer))]
     fn take_outer(&mut self, alloc: Global, words: &[&[u8]]) -> Result<(), Memory>
         ensures { OnOk result (self.new ≡ take_outer self.old (views words.now)) }
@@ -131,12 +137,12 @@ impl DocumentDraft {
             [] => Ok(()),
             [word] => {
                 self.term.take_word(word);
-                self.side = Side::Source;
+                self.end = End::Source;
                 Ok(())
             }
             [word, _] => {
                 self.term.take_pair(word);
-                self.side = side_of(word);
+                self.end = end_of(word);
                 Ok(())
             }
             [word, ..] => self.term.take_list(alloc, word, words),
@@ -149,7 +155,7 @@ impl DocumentDraft {
         match words {
             [word] => {
                 let prefix = listed_prefix(self.section.family, word);
-                self.term.take_prefix(self.side, prefix)
+                self.term.take_prefix(self.end, prefix)
             }
             _ => Ok(()),
         }
@@ -203,13 +209,13 @@ impl JTerm {
         Ok(())
     }
 
-    fn take_prefix(&mut self, side: Side, prefix: Option<Prefix>) -> Result<(), Memory>
-        ensures { OnOk result (self.new ≡ with_prefix self.old side prefix) }
+    fn take_prefix(&mut self, end: End, prefix: Option<Prefix>) -> Result<(), Memory>
+        ensures { OnOk result (self.new ≡ with_prefix self.old end prefix) }
     {
-        match (side, prefix) {
+        match (end, prefix) {
             (_, None) => Ok(()),
-            (Side::Source, Some(prefix)) => self.src.push(prefix),
-            (Side::Destination, Some(prefix)) => self.dst.push(prefix),
+            (End::Source, Some(prefix)) => self.src.push(prefix),
+            (End::Destination, Some(prefix)) => self.dst.push(prefix),
         }
     }
 }
@@ -242,14 +248,14 @@ fn no_section(alloc: Global) -> Section
     }
 }
 
-#[tactic(auto, unfolding(crate::specs::ReadingSteps::side_in))]
-fn side_of(word: &[u8]) -> Side
-    ensures { result ≡ side_in word.now }
+#[tactic(auto, unfolding(crate::specs::ReadingSteps::end_in))]
+fn end_of(word: &[u8]) -> End
+    ensures { result ≡ end_in word.now }
 {
     if word == b"destination-address".as_slice() {
-        Side::Destination
+        End::Destination
     } else {
-        Side::Source
+        End::Source
     }
 }
 

@@ -1,4 +1,4 @@
-ghost use Rattle.std.specs.Prelude.{◌≡◌, IfOk, OnOk};
+ghost use Rattle.std.specs.Prelude.{◌≡◌, OnOk};
 ghost use Rattle.acl_text.specs.Cuts.{views};
 ghost use Rattle.acl_grammar.specs.FamilyWords.{family_in};
 ghost use Rattle.ipt_lang.specs.ReadingSteps.{begin_section, end_chain, ended, hook_in, no_chain, no_draft, no_section, take_appended, take_name, take_policy, take_row, take_target, take_words, with_name, with_policy, with_remark, with_rule};
@@ -6,7 +6,7 @@ ghost use Rattle.ipt_lang.specs.ReadingSteps.{begin_section, end_chain, ended, h
 use crate::chain_rows::hook_word;
 use crate::documents::{Chain, Doc, Section};
 use crate::rule_drafts::rule_of;
-use acl_grammar::{Draft, family_of, join_words};
+use acl_grammar::{DocumentDraft, Draft, family_of, join_words};
 use acl_packet::{Family, Hook};
 use acl_text::{Bytes, Items, Memory};
 use std::alloc::Global;
@@ -15,14 +15,14 @@ use std::mem;
 /// What has been read of a document's rows: the sections that have ended, the one that has begun, and
 /// its next chain.
 #[derive(Drop)]
-pub(crate) struct DocumentDraft {
+pub struct ChainsDraft {
     sections: Doc,
     begun: bool,
     section: Section,
     chain: Chain,
 }
 
-impl Draft for DocumentDraft {
+impl Draft for ChainsDraft {
     ghost step = { take_row };
 
     fn take_row(&mut self, alloc: Global, _indent: usize, words: &[&[u8]]) -> Result<(), Memory> {
@@ -30,12 +30,13 @@ impl Draft for DocumentDraft {
     }
 }
 
-impl DocumentDraft {
-    /// Nothing has been read.
-    pub(crate) fn new(alloc: Global) -> DocumentDraft
-        ensures { result ≡ no_draft }
-    {
-        DocumentDraft {
+impl DocumentDraft<Section> for ChainsDraft {
+    ghost empty = { no_draft };
+
+    ghost sections = { ended };
+
+    fn new(alloc: Global) -> ChainsDraft {
+        ChainsDraft {
             sections: Items::new(alloc),
             begun: false,
             section: no_section(alloc),
@@ -43,17 +44,16 @@ impl DocumentDraft {
         }
     }
 
-    /// The sections.
-    pub(crate) fn finish(self) -> Result<Doc, Memory>
-        ensures { IfOk result (λ doc. doc ≡ ended self) }
-    {
+    fn finish(self) -> Result<Doc, Memory> {
         let mut sections = self.sections;
         if self.begun {
             sections.push(self.section)?;
         }
         Ok(sections)
     }
+}
 
+impl ChainsDraft {
     #[tactic(auto, unfolding(crate::specs::ReadingSteps::take_words))]
     fn take_words(&mut self, alloc: Global, words: &[&[u8]]) -> Result<(), Memory>
         ensures { OnOk result (self.new ≡ take_words self.old (views words.now)) }
