@@ -1,5 +1,5 @@
 -- What each platform's own contract asks of the filters that are rendered.
-use Rattle.std.proofs.Common.{◌≡◌, ◌≢◌, ◌≤◌, ◌==◌, false, List, [], ◌∷◌, map, ap, sym, subst, ◌∙◌, arith}
+use Rattle.std.proofs.Common.{◌≡◌, ◌≢◌, ◌≤◌, ◌==◌, true, false, List, [], ◌∷◌, map, refl, ap, sym, subst, ◌∙◌, arith}
 use Rattle.std.specs.List.{All, AllByRecursion, AllPairs, IsDistinct}
 use Rattle.std.proofs.lemmas.List.Elements.{All-cons, All-nil, All-weaker, recursion_from_All}
 use Rattle.std.proofs.lemmas.List.Kept.{AllPairs-cons}
@@ -9,33 +9,29 @@ use Rattle.acl_target.specs.declared.targets.Kind.TheVariants.{Cisco, Juniper, I
 use Rattle.acl_target.specs.declared.targets.Target.{Target}
 use Rattle.acl_target.specs.Clashes.{same_kind}
 use Rattle.acl_platform.specs.declared.filters.Filter.{Filter}
+use Rattle.acl_platform.specs.Limits.{is_for}
 use Rattle.acl_platform.specs.Platforms.{IsAccepted}
 use Rattle.acl_platform.specs.SoundFilters.{target_of}
 use Rattle.acl_target.specs.TargetData.{FitsPlatform}
-use Rattle.gen_cisco.specs.Limits.{is_for_cisco, limit_of}
-use Rattle.gen_junos.specs.Limits as junos_limits
-use Rattle.gen_junos.specs.Limits.{is_for_junos}
 use Rattle.gen_junos.specs.SectionNames.{IsOfJunos}
-use Rattle.gen_iptables.specs.Limits as ipt_limits
-use Rattle.gen_iptables.specs.Limits.{is_for_iptables}
 use Rattle.gen_iptables.specs.SectionNames.{IsOfIptables}
-use Rattle.gen_nftables.specs.Limits as nft_limits
-use Rattle.gen_nftables.specs.Limits.{is_for_nftables}
-use Rattle.acl_render.specs.PlatformFiles.{AreApart, IsTaken}
+use Rattle.acl_render.specs.PlatformFiles.{AreApart, IsTaken, limit_on}
 
 pub kinds : (kind : Kind) (filters : List Filter) → All (IsTaken kind) filters → AllByRecursion (λ f. f.kind ≡ kind) filters
 kinds kind filters h =
     recursion_from_All (λ f. f.kind ≡ kind) filters (All-weaker (IsTaken kind) (λ f. f.kind ≡ kind) (λ f t. t.kind_is) filters h)
 
-pub by-cisco : (filters : List Filter) → All (IsTaken Cisco) filters → All (IsAccepted is_for_cisco limit_of) filters
-by-cisco filters h =
-    All-weaker (IsTaken Cisco) (IsAccepted is_for_cisco limit_of)
-    (λ f t. record { handled = ap (λ k. same_kind k Cisco) t.kind_is; sound = t.sound; within = t.within }) filters h
+same-as-itself : (kind : Kind) → same_kind kind kind ≡ true
+same-as-itself Cisco = refl
+same-as-itself Juniper = refl
+same-as-itself Iptables = refl
+same-as-itself Nftables = refl
 
-pub by-junos : (filters : List Filter) → All (IsTaken Juniper) filters → All (IsAccepted is_for_junos junos_limits.limit_of) filters
-by-junos filters h =
-    All-weaker (IsTaken Juniper) (IsAccepted is_for_junos junos_limits.limit_of)
-    (λ f t. record { handled = ap (λ k. same_kind k Juniper) t.kind_is; sound = t.sound; within = t.within }) filters h
+-- The platform takes them.
+pub accepted : (kind : Kind) (filters : List Filter) → All (IsTaken kind) filters → All (IsAccepted (is_for kind) (limit_on kind)) filters
+accepted kind filters h =
+    All-weaker (IsTaken kind) (IsAccepted (is_for kind) (limit_on kind))
+    (λ f t. record { handled = ap (λ k. same_kind k kind) t.kind_is ∙ same-as-itself kind; sound = t.sound; within = t.within }) filters h
 
 one-family : (f : Filter) → IsTaken Juniper f → IsOfJunos f
 one-family f t =
@@ -45,11 +41,6 @@ one-family f t =
 pub of-junos : (filters : List Filter) → All (IsTaken Juniper) filters → AllByRecursion IsOfJunos filters
 of-junos filters h = recursion_from_All IsOfJunos filters (All-weaker (IsTaken Juniper) IsOfJunos one-family filters h)
 
-pub by-iptables : (filters : List Filter) → All (IsTaken Iptables) filters → All (IsAccepted is_for_iptables ipt_limits.limit_of) filters
-by-iptables filters h =
-    All-weaker (IsTaken Iptables) (IsAccepted is_for_iptables ipt_limits.limit_of)
-    (λ f t. record { handled = ap (λ k. same_kind k Iptables) t.kind_is; sound = t.sound; within = t.within }) filters h
-
 one-hook : (f : Filter) → IsTaken Iptables f → IsOfIptables f
 one-hook f t =
     let P : Kind → Type 0 = λ k. FitsPlatform k (target_of t.sound.target.0 f) in
@@ -57,11 +48,6 @@ one-hook f t =
 
 pub of-iptables : (filters : List Filter) → All (IsTaken Iptables) filters → AllByRecursion IsOfIptables filters
 of-iptables filters h = recursion_from_All IsOfIptables filters (All-weaker (IsTaken Iptables) IsOfIptables one-hook filters h)
-
-pub by-nftables : (filters : List Filter) → All (IsTaken Nftables) filters → All (IsAccepted is_for_nftables nft_limits.limit_of) filters
-by-nftables filters h =
-    All-weaker (IsTaken Nftables) (IsAccepted is_for_nftables nft_limits.limit_of)
-    (λ f t. record { handled = ap (λ k. same_kind k Nftables) t.kind_is; sound = t.sound; within = t.within }) filters h
 
 pub of-nftables : (filters : List Filter) → All (IsTaken Nftables) filters → AllByRecursion (λ f. (f.kind ≡ Nftables) × (f.number ≤ 64)) filters
 of-nftables filters h =

@@ -1,19 +1,19 @@
 use Rattle.std.proofs.Common.{false, subst}
 use Rattle.std.specs.List.{All}
 use Rattle.acl_target.specs.declared.targets.Kind.{Kind}
-use Rattle.acl_target.specs.declared.targets.Kind.TheVariants.{Cisco}
+use Rattle.acl_target.specs.declared.targets.Kind.TheVariants.{Cisco, Juniper, Iptables, Nftables}
 use Rattle.gen_cisco.proofs.ListNames.{all-differ}
 use Rattle.gen_junos.proofs.NameLaws as junos
 use Rattle.gen_iptables.proofs.NameLaws as ipt
 use Rattle.gen_nftables.proofs.TableNames as nft
 use Rattle.acl_render.specs.PlatformFiles.{IsTaken}
-use Rattle.acl_render.proofs.TakenFilters.{by-cisco, by-iptables, by-junos, by-nftables, kinds, numbers-differ, of-iptables, of-junos, of-nftables}
+use Rattle.acl_render.proofs.TakenFilters.{accepted, kinds, numbers-differ, of-iptables, of-junos, of-nftables}
 use Rattle.acl_render.proofs.rendering.render.Goals as goal
 
 pub write_all-requires-clause-accepted : goal.write_all-requires-clause-accepted
 write_all-requires-clause-accepted g c =
     let taken = subst (λ (k : Kind). All (IsTaken k) c.args.filters.now) c.in-Cisco.is c.requires.taken in
-    by-cisco c.args.filters.now taken
+    accepted Cisco c.args.filters.now taken
 
 pub write_all-requires-clause-names_differ : goal.write_all-requires-clause-names_differ
 write_all-requires-clause-names_differ g c =
@@ -23,7 +23,7 @@ write_all-requires-clause-names_differ g c =
 pub write_all-requires-in-Juniper-clause-accepted : goal.write_all-requires-in-Juniper-clause-accepted
 write_all-requires-in-Juniper-clause-accepted g c =
     let taken = subst (λ (k : Kind). All (IsTaken k) c.args.filters.now) c.in-Juniper.is c.requires.taken in
-    by-junos c.args.filters.now taken
+    accepted Juniper c.args.filters.now taken
 
 pub write_all-requires-in-Juniper-clause-names_differ : goal.write_all-requires-in-Juniper-clause-names_differ
 write_all-requires-in-Juniper-clause-names_differ g c =
@@ -33,7 +33,7 @@ write_all-requires-in-Juniper-clause-names_differ g c =
 pub write_all-requires-in-Iptables-clause-accepted : goal.write_all-requires-in-Iptables-clause-accepted
 write_all-requires-in-Iptables-clause-accepted g c =
     let taken = subst (λ (k : Kind). All (IsTaken k) c.args.filters.now) c.in-Iptables.is c.requires.taken in
-    by-iptables c.args.filters.now taken
+    accepted Iptables c.args.filters.now taken
 
 pub write_all-requires-in-Iptables-clause-names_differ : goal.write_all-requires-in-Iptables-clause-names_differ
 write_all-requires-in-Iptables-clause-names_differ g c =
@@ -43,7 +43,7 @@ write_all-requires-in-Iptables-clause-names_differ g c =
 pub write_all-requires-in-Nftables-clause-accepted : goal.write_all-requires-in-Nftables-clause-accepted
 write_all-requires-in-Nftables-clause-accepted g c =
     let taken = subst (λ (k : Kind). All (IsTaken k) c.args.filters.now) c.in-Nftables.is c.requires.taken in
-    by-nftables c.args.filters.now taken
+    accepted Nftables c.args.filters.now taken
 
 pub write_all-requires-in-Nftables-clause-names_differ : goal.write_all-requires-in-Nftables-clause-names_differ
 write_all-requires-in-Nftables-clause-names_differ g c =
