@@ -1,14 +1,16 @@
 -- The groups of a list, one after the other.
-use Rattle.std.proofs.Common.{◌≡◌, ℕ, ◌+◌, ◌-◌, ◌<◌, ◌≤◌, min, List, [], ◌∷◌, ◌++◌, length, take, drop, flat_map, ap, sym, subst, ◌∙◌, append_assoc, append-nil, arith}
+use Rattle.std.proofs.Common.{◌≡◌, ℕ, ◌+◌, ◌-◌, ◌<◌, ◌≤◌, min, Bool, false, cond, List, [], ◌∷◌, ◌++◌, length, take, drop, flat_map, ap, sym, subst, ◌∙◌, append_assoc, append-nil, arith}
 use Rattle.std.proofs.lemmas.List.{drop-drop, drop_all, length-drop}
 use Rattle.std.proofs.lemmas.Grind.{flat_map-append}
 use Rattle.acl_text.specs.Output.{COUNT_END}
 use Rattle.acl_grammar.specs.Rows.{Row, text_of_rows}
 use Rattle.acl_grammar.proofs.PutLaws.{rows_append}
 use Rattle.acl_sets.specs.declared.sets.Range.{Range}
+use Rattle.acl_sets.specs.ComputableSets.{is_all}
 use Rattle.acl_sets.specs.Groups.{group_length}
+use Rattle.acl_sets.specs.Ranges.{Numbers}
 use Rattle.gen_iptables.specs.GroupLaws.{groups-step}
-use Rattle.gen_iptables.specs.Groups.{behind_group, first_group, groups, groups_up_to}
+use Rattle.gen_iptables.specs.Groups.{behind_group, first_group, group_choices, groups, groups_up_to}
 
 first-of : (rs : List Range) → 0 < length rs → groups rs ≡ first_group rs ∷ groups (behind_group rs)
 first-of [] h = absurd (omega (arith, h))
@@ -25,6 +27,10 @@ groups-from rs from end h e =
 pub no-groups : (rs : List Range) (from : ℕ) → length rs ≤ from → groups (drop from rs) ≡ []
 unfolding groups_up_to
 no-groups rs from h = ap groups (drop_all from rs h)
+
+-- a set that is not all gives its groups
+pub listed : (s : Numbers) {b : Bool} → b ≡ is_all s → b ≡ false → groups s.ranges ≡ group_choices s
+listed s e h = ap (λ all. cond all ([] ∷ []) (groups s.ranges)) (sym h ∙ e)
 
 -- ---- what is written
 

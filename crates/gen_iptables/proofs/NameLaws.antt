@@ -91,4 +91,4 @@ not-same f g stateful h k e =
     ∙ sym (OneName.clash-of Iptables f g stateful h.0 k.0) ∙ e
 
 pub all-differ : SectionsDiffer
-all-differ fs stateful h d = OneName.all-differ IsOfIptables (λ f. name_of (section_of f)) stateful (λ f g. not-same f g stateful) fs h d
+all-differ fs stateful h d = OneName.all-differ IsOfIptables name_of section_of stateful (λ f g. not-same f g stateful) fs h d

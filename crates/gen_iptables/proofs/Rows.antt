@@ -17,7 +17,7 @@ use Rattle.ipt_lang.specs.declared.chain_rows.SectionHead.{SectionHead}
 use Rattle.ipt_lang.specs.declared.documents.Act.{Act}
 use Rattle.ipt_lang.specs.Texts.{back_words, chain_row, chain_rows, front_words, head_rows, jump_row, ports_words, range_word, remark_rows, rule_row, rule_rows, rule_words, section_rows, text_of}
 use Rattle.gen_iptables.specs.Groups.{group_choices}
-use Rattle.gen_iptables.specs.RowSteps.{combination_rows, head_of, rows_behind_front, rows_behind_sources}
+use Rattle.gen_iptables.specs.ChainRowSteps.{combination_rows, head_of, rows_behind_front, rows_behind_sources}
 use Rattle.acl_platform.specs.Families.{family_of}
 use Rattle.gen_iptables.specs.Sections.{address_of, asks_state, Back, backs, chain_of, chain_rule, combinations, ends_of, Front, fronts, Parts, rules_for, section_of}
 

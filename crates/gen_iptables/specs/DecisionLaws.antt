@@ -39,12 +39,12 @@ use Rattle.acl_grammar.specs.RuleParts.{number_holds, state_holds}
 use Rattle.ipt_lang.specs.declared.documents.Act.TheVariants.{Log, Decide}
 use Rattle.ipt_lang.specs.declared.documents.Flags.{Flags}
 use Rattle.ipt_lang.specs.declared.documents.Rule.{Rule as ChainRule}
-use Rattle.ipt_lang.specs.Walks.{address_holds, chains_walk, flags_hold, go_on, is_left, met, policy_verdict, port_holds, rules_walk, section_outcome, walk}
-use Rattle.gen_iptables.specs.GroupLaws.{any-group}
+use Rattle.ipt_lang.specs.Walks.{address_holds, chains_walk, flags_hold, go_on, is_left, met, policy_verdict, rules_walk, section_outcome, walk}
+use Rattle.gen_iptables.specs.GroupLaws.{any-group, group_holds}
 use Rattle.gen_iptables.specs.Groups.{group_choices}
 use Rattle.gen_iptables.specs.SectionLaws.{chain-target, IsTaken, one-family, sound-rules}
 use Rattle.acl_platform.specs.Families.{family_of}
-use Rattle.gen_iptables.specs.Sections.{address_of, asks_state, Back, backs, chain_of, chain_rule, chain_rules, combinations, ends_of, flag_choices, Front, fronts, Parts, policy_of, rules_for, section_of}
+use Rattle.gen_iptables.specs.Sections.{address_of, asks_state, Back, backs, chain_of, chain_rule, chain_rules, combinations, flag_choices, Front, fronts, Parts, policy_of, rules_for, section_of}
 
 -- ---- addresses
 
@@ -114,9 +114,6 @@ test-any State p = or-none (state_holds true p.conn)
 
 abbrev front_holds : Packet → Front → Bool
 front_holds p c = number_holds c.0 p.proto && (address_holds (address_of c.1.0) p.src && address_holds (address_of c.1.1) p.dst)
-
-abbrev group_holds : ℕ → List Range → Bool
-group_holds port g = port_holds (map ends_of g) port
 
 abbrev back_holds : Test → Packet → Back → Bool
 back_holds test p c = number_holds c.0 p.itype && (flags_hold c.1 p.flags && state_holds (asks_state test) p.conn)

@@ -17,9 +17,8 @@ use Rattle.acl_sets.proofs.GroupLaws.{group_end-of}
 use Rattle.acl_platform.specs.SoundFilters.{IsFull}
 use Rattle.acl_platform.proofs.ChoiceLaws.{fit}
 use Rattle.acl_platform.proofs.CombinationFacts.{all-weaker, all-map}
-use Rattle.acl_grammar.specs.RuleParts.{has_port}
+use Rattle.acl_grammar.specs.RuleParts.{has_port, set_holds}
 use Rattle.ipt_lang.specs.Documents.{IsPortList, weight as ports_weight, weight_of as ports_weight_of}
-use Rattle.ipt_lang.specs.Walks.{port_holds}
 use Rattle.gen_iptables.specs.Groups.{behind_group, first_group, group_choices, groups, groups_up_to}
 use Rattle.gen_iptables.specs.Sections.{ends_of}
 
@@ -69,17 +68,21 @@ groups-step r rs =
 
 -- ---- which ports some group holds
 
+-- A group holds a port where one of its ranges does; the group without ports holds all.
+abbrev pub group_holds : ℕ → List Range → Bool
+group_holds port g = set_holds has_port (map ends_of g) port
+
 any-ports : (rs : List Range) (x : ℕ) → list_any (λ q. has_port q x) (map ends_of rs) ≡ holds rs x
 any-ports [] x = refl
 any-ports (r ∷ rs) x = ap (λ t. inside r x || t) (any-ports rs x)
 
-one-group : (r : Range) (rs : List Range) (x : ℕ) → port_holds (map ends_of (first_group (r ∷ rs))) x ≡ holds (first_group (r ∷ rs)) x
+one-group : (r : Range) (rs : List Range) (x : ℕ) → group_holds x (first_group (r ∷ rs)) ≡ holds (first_group (r ∷ rs)) x
 one-group r rs x =
     let more = take (group_length (15 - weight_of r) rs) rs in
-    ap (λ g. port_holds (map ends_of g) x) (first-is r rs) ∙ any-ports (r ∷ more) x ∙ sym (ap (λ g. holds g x) (first-is r rs))
+    ap (group_holds x) (first-is r rs) ∙ any-ports (r ∷ more) x ∙ sym (ap (λ g. holds g x) (first-is r rs))
 
 any-group-of : (n : ℕ) (rs : List Range) (x : ℕ) → length rs ≤ n
-    → list_any (λ g. port_holds (map ends_of g) x) (groups_up_to n rs) ≡ holds rs x
+    → list_any (group_holds x) (groups_up_to n rs) ≡ holds rs x
 unfolding groups_up_to
 any-group-of zero [] x h = refl
 any-group-of zero (r ∷ rs) x h = absurd (omega (arith, h))
@@ -87,18 +90,18 @@ any-group-of (suc n) [] x h = refl
 any-group-of (suc n) (r ∷ rs) x h =
     let front = first_group (r ∷ rs) in
     let rest = behind_group (r ∷ rs) in
-    let later = list_any (λ g. port_holds (map ends_of g) x) (groups_up_to n rest) in
+    let later = list_any (group_holds x) (groups_up_to n rest) in
     ap (λ t. t || later) (one-group r rs x) ∙ ap (λ t. holds front x || t) (any-group-of n rest x (behind-shorter r rs n h))
     ∙ sym (list_any-append (λ q. inside q x) front rest)
     ∙ ap (λ qs. holds qs x) (take-append-drop (group_length 15 (r ∷ rs)) (r ∷ rs))
 
 any-by : (s : Numbers) (x : ℕ) → x ≤ s.top → (b : Bool) → is_all s ≡ b
-    → list_any (λ g. port_holds (map ends_of g) x) (cond b ([] ∷ []) (groups s.ranges)) ≡ holds s.ranges x
+    → list_any (group_holds x) (cond b ([] ∷ []) (groups s.ranges)) ≡ holds s.ranges x
 any-by s x h true e = sym (covers-holds s.ranges 0 s.top x e (omega arith) h)
 any-by s x h false e = any-group-of (length s.ranges) s.ranges x (omega arith)
 
 -- Some group of a set holds a port exactly where the set does.
-pub any-group : (s : Numbers) (x : ℕ) → x ≤ s.top → list_any (λ g. port_holds (map ends_of g) x) (group_choices s) ≡ holds s.ranges x
+pub any-group : (s : Numbers) (x : ℕ) → x ≤ s.top → list_any (group_holds x) (group_choices s) ≡ holds s.ranges x
 any-group s x h = any-by s x h (is_all s) refl
 
 -- ---- each group is a list of ports that one match takes

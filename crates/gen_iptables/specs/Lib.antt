@@ -1,9 +1,9 @@
+pub mod ChainRowSteps
 pub mod CountSteps
 pub mod DecisionLaws
 pub mod GroupLaws
 pub mod Groups
 pub mod Limits
-pub mod RowSteps
 pub mod RuleLaws
 pub mod SectionLaws
 pub mod SectionNames

@@ -1,6 +1,5 @@
--- The section of an accepted filter is a document, and documents whose sections have other names can
--- be joined: proved here, and need not be believed.
-use Rattle.std.proofs.Common.{lit≤, ◌≡◌, ℕ, ◌≤◌, Bool, true, false, cond, nat_le, nat_lt, List, [], ◌∷◌, ◌++◌, length, map, flat_map, None, Some, refl, ap, sym, subst}
+-- The section of an accepted filter is a document: proved here, and need not be believed.
+use Rattle.std.proofs.Common.{lit≤, ◌≡◌, ℕ, ◌≤◌, Bool, true, false, cond, nat_le, nat_lt, List, [], ◌∷◌, length, map, None, Some, refl, ap, sym, subst}
 use Rattle.std.specs.List.{AllByRecursion, IsDistinct}
 use Rattle.std.specs.Str.{bytes_eq}
 use Rattle.std.proofs.lemmas.Bool.{and_from, false≢true}
@@ -11,7 +10,6 @@ use Rattle.acl_packet.specs.declared.addresses.Family.{Family}
 use Rattle.acl_packet.specs.declared.addresses.Family.TheVariants.{V4, V6}
 use Rattle.acl_packet.specs.Addresses.{covers}
 use Rattle.acl_text.specs.Names.{is_name}
-use Rattle.acl_grammar.specs.Naming.{in_common}
 use Rattle.acl_grammar.proofs.DecisionLaws.{le_decides}
 use Rattle.acl_target.specs.declared.targets.Kind.TheVariants.{Iptables}
 use Rattle.acl_target.specs.Clashes.{is_mixed}
@@ -21,18 +19,15 @@ use Rattle.acl_platform.specs.declared.filters.Limit.TheVariants.{NameLength, Na
 use Rattle.acl_platform.specs.declared.rules.Rule.{Rule}
 use Rattle.acl_platform.specs.Limits.{is_name_taken}
 use Rattle.acl_platform.specs.Platforms.{IsAccepted}
-use Rattle.acl_platform.proofs.OneName.{none-shared}
 use Rattle.acl_platform.specs.SoundFilters.{IsRuleName, IsSoundRule, target_of}
 use Rattle.acl_platform.proofs.AcceptedFilters.{names-differ, not-limited, rules-are, rules-within, short-name, target-fits}
 use Rattle.acl_platform.proofs.RuleNames.{name-safe, notes-safe, rule-name}
-use Rattle.ipt_lang.specs.declared.documents.Section.{Section}
-use Rattle.ipt_lang.specs.Documents.{chain_names, IsChain, name_of}
+use Rattle.ipt_lang.specs.Documents.{chain_names, IsChain}
 use Rattle.ipt_lang.specs.Texts.{Spells, text_of}
-use Rattle.ipt_lang.proofs.JoinLaws.{spelling_laws}
 use Rattle.gen_iptables.specs.Limits.{is_for_iptables, limit_of, rule_limit}
 use Rattle.gen_iptables.specs.RuleLaws.{rules-are-valid}
 use Rattle.acl_platform.specs.Families.{family_of}
-use Rattle.gen_iptables.specs.Sections.{chain_of, entry_count, section_names, section_of}
+use Rattle.gen_iptables.specs.Sections.{chain_of, entry_count, section_of}
 
 -- ---- an accepted filter
 
@@ -118,9 +113,3 @@ section_is_spelled f h =
       };
       written = refl;
     }
-
--- ---- joined documents
-
-pub joined_are_spelled : (bytes more : List ℕ) (a b : List Section) → Spells bytes a → Spells more b
-    → in_common (flat_map section_names a) (flat_map section_names b) ≡ false → Spells (bytes ++ more) (a ++ b)
-joined_are_spelled bytes more a b h k n = spelling_laws.joined_documents bytes more a b h k (none-shared name_of a b n)

@@ -10,8 +10,9 @@ use Rattle.acl_target.specs.TargetTexts.{target_text}
 use Rattle.acl_platform.specs.declared.filters.Filter.{Filter}
 use Rattle.acl_platform.specs.SoundFilters.{target_of}
 use Rattle.ipt_lang.specs.declared.documents.Section.{Section}
+use Rattle.ipt_lang.specs.Documents.{hook_names}
 use Rattle.ipt_lang.specs.Texts.{chain_rows, policy_rows, text_of}
-use Rattle.gen_iptables.specs.Sections.{section_names, section_of}
+use Rattle.gen_iptables.specs.Sections.{section_of}
 
 -- Behind the first line of a section stand the policy, where there is one, and the chains.
 abbrev pub section_body : Section → List Row
@@ -31,4 +32,4 @@ IsOfIptables f = (f.kind ≡ Iptables) × (is_mixed f.families ≡ false)
 abbrev pub SectionsDiffer : Type 0
 SectionsDiffer = (filters : List Filter) (stateful : Bool) → AllByRecursion IsOfIptables filters
     → IsDistinct clash (map (target_of stateful) filters)
-    → IsDistinct bytes_eq (flat_map (λ f. section_names (section_of f)) filters)
+    → IsDistinct bytes_eq (flat_map hook_names (map section_of filters))

@@ -19,7 +19,6 @@ use Rattle.ipt_lang.specs.declared.documents.Act.{Act}
 use Rattle.ipt_lang.specs.declared.documents.Act.TheVariants.{Log, Decide}
 use Rattle.ipt_lang.specs.declared.documents.Flags.{Flags}
 use Rattle.ipt_lang.specs.declared.documents.Flags.TheVariants as flags
-use Rattle.ipt_lang.specs.Documents.{name_of}
 use Rattle.gen_iptables.specs.Groups.{group_choices}
 
 -- ---- the combinations of a rule
@@ -112,10 +111,6 @@ section_of f = record {
   accept = policy_of f.ending;
   chains = map chain_of f.rules;
 }
-
--- The one name that a section takes in its document.
-abbrev pub section_names : Section → List (List ℕ)
-section_names s = name_of s ∷ []
 
 -- An entry is a rule of a chain, or the jump to a chain.
 abbrev pub chain_size : Chain → ℕ

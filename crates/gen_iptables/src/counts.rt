@@ -1,5 +1,4 @@
 ghost use Rattle.std.specs.Prelude.{◌≡◌, min};
-ghost use Rattle.std.specs.List.{All};
 ghost use Rattle.acl_text.specs.Output.{COUNT_END};
 ghost use Rattle.acl_platform.specs.Combinations.{IsSized};
 ghost use Rattle.gen_iptables.specs.CountSteps.{
@@ -7,22 +6,11 @@ ghost use Rattle.gen_iptables.specs.CountSteps.{
   combination_count,
   rule_count,
 };
-ghost use Rattle.gen_iptables.specs.Sections.{entry_count};
 
 use crate::groups::count_groups;
 use crate::iptables::Iptables;
 use crate::rule_rows::{backs_of, fronts_of};
-use acl_platform::{Choices, Filter, Rule, RuleCount, count_rules};
-
-/// The number of entries of the section that the filter becomes; a number that does not fit stands
-/// at the greatest one that does. Protocols and types of its rules have to be numbers below 256, ports
-/// below 65,536.
-pub fn entry_count(filter: &Filter) -> u64
-    requires { All IsSized filter.now.rules }
-    ensures { result ≡ min (entry_count filter.now) COUNT_END }
-{
-    count_rules(filter.rules.as_slice(), &Iptables)
-}
+use acl_platform::{Choices, Rule, RuleCount};
 
 impl RuleCount for Iptables {
     ghost entries = { λ i rule. rule_count rule };

@@ -32,21 +32,8 @@ pub(crate) fn put_groups<F: GroupForm, O: Out>(
         (text_of_rows (flat_map (F.group_rows form.now) (group_choices set.now))) result }
 {
     if set.is_all() {
-        form.put_group(&[], out)
-    } else {
-        put_each_group(set, form, out)
+        return form.put_group(&[], out);
     }
-}
-
-fn put_each_group<F: GroupForm, O: Out>(
-    set: &RangeSet,
-    form: &F,
-    out: &mut O,
-) -> Result<(), PutFault>
-    requires { IsTrue (O.is_open out.old) }
-    ensures { Puts O.told O.faults O.refusals O.is_open O.keeps_rest out.old out.new
-        (text_of_rows (flat_map (F.group_rows form.now) (groups set.now.ranges))) result }
-{
     let ranges = set.ranges();
     let mut from = 0;
     while from < ranges.len() {

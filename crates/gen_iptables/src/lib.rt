@@ -9,7 +9,5 @@ mod limits;
 mod rule_rows;
 mod section_rows;
 
-pub use counts::entry_count;
 pub use iptables::Iptables;
 pub use laws::{a_section_begins_with_its_target, targets_without_clash_have_different_sections};
-pub use section_rows::put_section;

@@ -2,7 +2,7 @@ ghost use Rattle.std.specs.Prelude.{◌≡◌, flat_map};
 ghost use Rattle.acl_platform.specs.Combinations.{IsSized};
 ghost use Rattle.ipt_lang.specs.declared.documents.Act.TheVariants.{Log};
 ghost use Rattle.ipt_lang.specs.Texts.{range_word, rule_rows};
-ghost use Rattle.gen_iptables.specs.RowSteps.{
+ghost use Rattle.gen_iptables.specs.ChainRowSteps.{
   combination_rows,
   rows_behind_front,
   rows_behind_ports,

@@ -4,7 +4,7 @@ ghost use Rattle.acl_text.specs.Output.{Puts};
 ghost use Rattle.acl_platform.specs.Combinations.{IsSized};
 ghost use Rattle.acl_platform.specs.Families.{family_of};
 ghost use Rattle.ipt_lang.specs.Texts.{chain_rows, remark_rows, text_of};
-ghost use Rattle.gen_iptables.specs.RowSteps.{head_of};
+ghost use Rattle.gen_iptables.specs.ChainRowSteps.{head_of};
 ghost use Rattle.gen_iptables.specs.Sections.{chain_of, policy_of, section_of};
 
 use crate::rule_rows::ChainRules;
@@ -15,9 +15,8 @@ use acl_target::Ending;
 use acl_text::{Out, PutFault};
 use ipt_lang::{ChainHead, JumpRow, RemarkRow, SectionHead};
 
-/// Puts the text of the section that the filter becomes, in an output that has to be open. Protocols and
-/// types of its rules have to be numbers below 256, ports below 65,536.
-pub fn put_section<O: Out>(filter: &Filter, out: &mut O) -> Result<(), PutFault>
+/// Puts the text of the section that the filter becomes.
+pub(crate) fn put_section<O: Out>(filter: &Filter, out: &mut O) -> Result<(), PutFault>
     requires open { IsTrue (O.is_open out.old) }
     requires sized { All IsSized filter.now.rules }
     ensures { Puts O.told O.faults O.refusals O.is_open O.keeps_rest out.old out.new

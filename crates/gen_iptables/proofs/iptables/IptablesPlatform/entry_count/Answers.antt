@@ -2,7 +2,7 @@ use Rattle.std.proofs.Common.{min, sum_by, ap, sym, ◌∙◌}
 use Rattle.acl_text.specs.Output.{COUNT_END}
 use Rattle.gen_iptables.specs.CountSteps.{rule_count}
 use Rattle.gen_iptables.proofs.EntryCounts.{all-counted}
-use Rattle.gen_iptables.proofs.counts.entry_count.Goals as goal
+use Rattle.gen_iptables.proofs.iptables.IptablesPlatform.entry_count.Goals as goal
 
 pub returns : goal.returns
 returns c =

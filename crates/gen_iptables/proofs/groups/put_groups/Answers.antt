@@ -1,12 +1,15 @@
-use Rattle.std.proofs.Common.{◌≤◌, List, [], ◌∷◌, ◌++◌, length, drop, flat_map, append-nil, ap, sym, subst, ◌∙◌}
-use Rattle.acl_text.proofs.Putting.{goes_on}
+use Rattle.std.proofs.Common.{◌≤◌, List, [], ◌∷◌, ◌++◌, length, drop, flat_map, refl, append-nil, ap, sym, subst, ◌∙◌, arith}
+use Rattle.acl_text.proofs.Putting.{goes_on, puts-nothing}
 use Rattle.acl_grammar.specs.Rows.{text_of_rows}
 use Rattle.acl_grammar.proofs.PutLaws.{retold}
 use Rattle.acl_sets.specs.declared.sets.Range.{Range}
 use Rattle.acl_platform.proofs.TextFronts.{refused}
 use Rattle.gen_iptables.specs.Groups.{first_group, groups}
-use Rattle.gen_iptables.proofs.GroupSteps.{group-text, more-text, no-groups, one-further, whole-text}
-use Rattle.gen_iptables.proofs.groups.put_each_group.Goals as goal
+use Rattle.gen_iptables.proofs.GroupSteps.{group-text, listed, more-text, no-groups, one-further, whole-text}
+use Rattle.gen_iptables.proofs.groups.put_groups.Goals as goal
+
+pub loop-from-init : goal.loop-from-init
+loop-from-init g c = (omega arith, ([], (refl, puts-nothing c.args.out.now g.met.O.Out.rest_same c.requires)))
 
 pub returns-in_err-put_group : goal.returns-in_err-put_group
 returns-in_err-put_group g c =
@@ -18,7 +21,8 @@ returns-in_err-put_group g c =
     let later = groups (drop end rs) in
     let here = retold (group-text f c.ranges-ranges.result.now rs from end c.ranges-ranges.ensures.list c.group_end-end.ensures.computed) c.in_err-put_group.ensures in
     let whole = whole-text f front (first_group (drop from rs)) later
-    (one-further front c.ranges-ranges.result.now rs from end c.ranges-ranges.ensures.list c.loop-from-test.true c.group_end-end.ensures.computed c.loop-from.invariant.1.1.0) in
+    (one-further front c.ranges-ranges.result.now rs from end c.ranges-ranges.ensures.list c.loop-from-test.true c.group_end-end.ensures.computed c.loop-from.invariant.1.1.0
+    ∙ listed c.args.set.now c.is_all.ensures.computed c.if-is_all.false) in
     refused (text_of_rows (flat_map f later)) c.from_residual.result whole g.met.O.Out.rest_goes_on c.loop-from.invariant.1.1.1 here
     c.from_residual.ensures.1
 
@@ -49,5 +53,6 @@ returns g c =
     let front = c.loop-from.invariant.1.0 in
     let P : List Range → Type 0 = λ l. length l ≤ from in
     let none = no-groups rs from (subst P c.ranges-ranges.ensures.list c.loop-from-test.false) in
-    let all = sym (append-nil front) ∙ ap (λ t. front ++ t) (sym none) ∙ c.loop-from.invariant.1.1.0 in
+    let all = sym (append-nil front) ∙ ap (λ t. front ++ t) (sym none) ∙ c.loop-from.invariant.1.1.0
+    ∙ listed c.args.set.now c.is_all.ensures.computed c.if-is_all.false in
     retold (ap (λ gs. text_of_rows (flat_map f gs)) all) c.loop-from.invariant.1.1.1

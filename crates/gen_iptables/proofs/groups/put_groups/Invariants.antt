@@ -4,7 +4,7 @@ use Rattle.acl_text.proofs.Putting.{done}
 use Rattle.acl_grammar.specs.Rows.{text_of_rows}
 use Rattle.acl_sets.specs.declared.sets.Range.{Range}
 use Rattle.gen_iptables.specs.Groups.{groups}
-use Rattle.gen_iptables.proofs.groups.put_each_group.Given as goal
+use Rattle.gen_iptables.proofs.groups.put_groups.Given as goal
 
 -- the groups that were put, and what is left
 abbrev pub invariant-loop-from : goal.invariant-loop-from
