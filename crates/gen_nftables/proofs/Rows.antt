@@ -8,7 +8,7 @@ use Rattle.acl_grammar.proofs.ListLaws.{flat_twice}
 use Rattle.acl_platform.specs.declared.filters.Filter.{Filter}
 use Rattle.acl_platform.specs.declared.rules.Rule.{Rule}
 use Rattle.acl_platform.specs.Choices.{number_choices}
-use Rattle.nft_lang.specs.declared.chain_rows.SectionHead.{SectionHead}
+use Rattle.nft_lang.specs.declared.chain_rows.TableHead.{TableHead}
 use Rattle.nft_lang.specs.declared.documents.Item.{Item}
 use Rattle.nft_lang.specs.declared.documents.Item.TheVariants.{Remark, Rule as ARule}
 use Rattle.nft_lang.specs.Texts.{end_rows, head_rows, item_rows, section_rows, text_of}
@@ -31,13 +31,13 @@ pub all-rows : (families : Families) (verbose : Bool) (rules : List Rule)
     → flat_map (λ r. items_rows families (rule_items verbose r)) rules ≡ items_rows families (flat_map (rule_items verbose) rules)
 all-rows families verbose rules = flat_twice (item_rows families) (rule_items verbose) rules
 
-pub section-text : (f : Filter) {head : SectionHead} {rules : List Rule} → head ≡ head_of f → rules ≡ f.rules
+pub section-text : (f : Filter) {head : TableHead} {rules : List Rule} → head ≡ head_of f → rules ≡ f.rules
     → text_of_rows (head_rows head.hook head.families head.number head.priority head.accept
     ++ (items_rows f.families (flat_map (rule_items f.verbose) rules) ++ end_rows))
     ≡ text_of (section_of f ∷ [])
 unfolding section_rows
 section-text f {head = head} {rules = rules} e h =
-    let front : SectionHead → List Row = λ s. head_rows s.hook s.families s.number s.priority s.accept in
+    let front : TableHead → List Row = λ s. head_rows s.hook s.families s.number s.priority s.accept in
     let items : List Rule → List Row = λ rs. items_rows f.families (flat_map (rule_items f.verbose) rs) ++ end_rows in
     ap (λ s. text_of_rows (front s ++ items rules)) e ∙ ap (λ rs. text_of_rows (front (head_of f) ++ items rs)) h
     ∙ ap text_of_rows (sym (append-nil (front (head_of f) ++ items f.rules)))

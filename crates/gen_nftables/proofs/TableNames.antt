@@ -20,10 +20,10 @@ use Rattle.acl_target.specs.TargetData.{FitsPlatform, hook_text}
 use Rattle.acl_target.specs.TargetTexts.{families_text, kind_text, target_text}
 use Rattle.acl_platform.specs.declared.filters.Filter.{Filter}
 use Rattle.acl_platform.specs.SoundFilters.{target_of}
-use Rattle.nft_lang.specs.Documents.{table_name}
+use Rattle.nft_lang.specs.Documents.{table_name, table_names}
 use Rattle.nft_lang.specs.Texts.{head_rows, section_rows, target_row}
-use Rattle.gen_nftables.specs.SectionNames.{FirstLine, table_body, TablesDiffer}
-use Rattle.gen_nftables.specs.Sections.{section_names, section_of}
+use Rattle.gen_nftables.specs.TableNames.{FirstLine, table_body, TablesDiffer}
+use Rattle.gen_nftables.specs.Sections.{section_of}
 
 abbrev mark : List ℕ → Families → List ℕ
 mark name fs = codes "## " ++ joined (kind_text Nftables ∷ codes " " ∷ name ∷ codes " " ∷ families_text Nftables fs ∷ [])
@@ -77,7 +77,7 @@ Differ a b = a.kind ≡ b.kind → a.number ≢ b.number
 
 all-apart : (f : Filter) (stateful : Bool) (fs : List Filter) → IsTabled f → AllByRecursion IsTabled fs
     → AllByRecursion (Differ (target_of stateful f)) (map (target_of stateful) fs)
-    → AllByRecursion (λ name. bytes_eq (table_name f.number) name ≡ false) (flat_map (λ g. section_names (section_of g)) fs)
+    → AllByRecursion (λ name. bytes_eq (table_name f.number) name ≡ false) (flat_map table_names (map section_of fs))
 all-apart f stateful [] h k d = tt
 all-apart f stateful (g ∷ fs) h k d =
     (names-apart f.number g.number h.1 k.0.1 (d.0 (h.0 ∙ sym k.0.0)), all-apart f stateful fs h k.1 d.1)

@@ -34,7 +34,7 @@ use Rattle.acl_platform.specs.SoundFilters.{has_test, IsFull, IsFullList, IsSoun
 use Rattle.acl_platform.proofs.ChoiceLaws.{any-number, numbers-any, some-numbers}
 use Rattle.acl_platform.proofs.ElementLaws.{addresses-hold, is_nil, ports-hold}
 use Rattle.acl_platform.proofs.EntryLaws.{over-items}
-use Rattle.acl_grammar.specs.RuleParts.{has_port, number_holds, set_holds, state_holds}
+use Rattle.acl_grammar.specs.RuleParts.{addresses_hold, has_port, number_holds, ports_hold, set_holds, state_holds}
 use Rattle.nft_lang.specs.declared.documents.Item.{Item}
 use Rattle.nft_lang.specs.declared.documents.Item.TheVariants.{Remark, Rule as ARule}
 use Rattle.nft_lang.specs.Walks.{first_holding, flags_hold, policy_verdict, rule_holds as chain_rule_holds, section_outcome, walk}
@@ -131,8 +131,8 @@ at-most {x = x} e h = subst (λ n. x ≤ n) (sym e) (le_of_suc-le-suc h)
 
 -- what the rules of the chain test, but for family and protocol
 abbrev rest_holds : Rule → Packet → Bool
-rest_holds r p = (set_holds has_address (address_elements r.src) p.src && set_holds has_address (address_elements r.dst) p.dst)
-    && ((set_holds has_port (port_elements r.sports) p.sport && set_holds has_port (port_elements r.dports) p.dport)
+rest_holds r p = addresses_hold (address_elements r.src) (address_elements r.dst) p
+    && (ports_hold (port_elements r.sports) (port_elements r.dports) p
     && (set_holds (λ t n. n == t) (number_elements r.itypes) p.itype && (flags_hold (flags_of r.test) p.flags && state_holds (asks_state r.test) p.conn)))
 
 of-family : (families : Families) (r : Rule) (p : Packet) → IsSoundRule Nftables families r → IsPacket p → r.family ≡ p.family

@@ -4,5 +4,5 @@ pub mod Limits
 pub mod RowSteps
 pub mod RuleLaws
 pub mod SectionLaws
-pub mod SectionNames
 pub mod Sections
+pub mod TableNames

@@ -4,7 +4,7 @@ use Rattle.std.specs.Fmt.{decimal}
 use Rattle.acl_packet.specs.declared.addresses.Families.{Families}
 use Rattle.acl_grammar.specs.Rows.{Row}
 use Rattle.acl_platform.specs.declared.filters.Filter.{Filter}
-use Rattle.nft_lang.specs.declared.chain_rows.SectionHead.{SectionHead}
+use Rattle.nft_lang.specs.declared.chain_rows.TableHead.{TableHead}
 use Rattle.nft_lang.specs.declared.documents.Item.{Item}
 use Rattle.nft_lang.specs.Texts.{item_rows}
 use Rattle.gen_nftables.specs.Sections.{accepts}
@@ -12,7 +12,7 @@ use Rattle.gen_nftables.specs.Sections.{accepts}
 abbrev pub items_rows : Families → List Item → List Row
 items_rows families items = flat_map (item_rows families) items
 
-abbrev pub head_of : Filter → SectionHead
+abbrev pub head_of : Filter → TableHead
 head_of f = record {
   hook = f.hook;
   families = f.families;

@@ -1,11 +1,9 @@
--- The section of an accepted filter is a document, and documents whose tables have other names can be
--- joined: proved here, and need not be believed.
-use Rattle.std.proofs.Common.{lit≤, ◌≡◌, ℕ, ◌^◌, Bool, true, false, nat_le, nat_lt, T, ℤ, pos, negsuc, List, [], ◌∷◌, ◌++◌, map, flat_map, refl}
+-- The section of an accepted filter is a document: proved here, and need not be believed.
+use Rattle.std.proofs.Common.{lit≤, ◌≡◌, ℕ, ◌^◌, Bool, true, false, nat_le, nat_lt, T, ℤ, pos, negsuc, [], ◌∷◌, map, refl}
 use Rattle.std.specs.List.{AllByRecursion, IsDistinct}
 use Rattle.std.proofs.lemmas.Bool.{lt-ltb}
 use Rattle.std.proofs.Math.Nat.{le_trans, suc-le-suc_iff}
 use Rattle.acl_packet.specs.declared.addresses.Families.{Families}
-use Rattle.acl_grammar.specs.Naming.{in_common}
 use Rattle.acl_grammar.proofs.DecisionLaws.{le_decides}
 use Rattle.acl_grammar.proofs.ListLaws.{all_flat}
 use Rattle.acl_text.proofs.ListLaws.{all_append}
@@ -15,20 +13,17 @@ use Rattle.acl_platform.specs.declared.filters.Filter.{Filter}
 use Rattle.acl_platform.specs.declared.rules.Rule.{Rule}
 use Rattle.acl_platform.specs.Choices.{number_choices}
 use Rattle.acl_platform.specs.Platforms.{IsAccepted}
-use Rattle.acl_platform.proofs.OneName.{none-shared}
 use Rattle.acl_platform.specs.Remarks.{notes}
 use Rattle.acl_platform.specs.SoundFilters.{IsSoundRule, target_of}
 use Rattle.acl_platform.proofs.AcceptedFilters.{rules-are, target-fits}
 use Rattle.acl_platform.proofs.CombinationFacts.{all-map, all-numbers, all-weaker, OfNumbers}
 use Rattle.acl_platform.proofs.RuleNames.{name-safe, notes-safe}
 use Rattle.nft_lang.specs.declared.documents.Item.TheVariants.{Remark, Rule as ARule}
-use Rattle.nft_lang.specs.declared.documents.Section.{Section}
-use Rattle.nft_lang.specs.Documents.{fits_i32, IsItem, table_name}
+use Rattle.nft_lang.specs.Documents.{fits_i32, IsItem}
 use Rattle.nft_lang.specs.Texts.{Spells, text_of}
-use Rattle.nft_lang.proofs.JoinLaws.{spelling_laws}
 use Rattle.gen_nftables.specs.Limits.{is_for_nftables, limit_of}
 use Rattle.gen_nftables.specs.RuleLaws.{rule-is}
-use Rattle.gen_nftables.specs.Sections.{chain_rule, remarks_in, rule_items, section_names, section_of}
+use Rattle.gen_nftables.specs.Sections.{chain_rule, remarks_in, rule_items, section_of}
 
 abbrev pub IsTaken : Filter → Type 0
 IsTaken f = IsAccepted is_for_nftables limit_of f
@@ -84,9 +79,3 @@ section_is_spelled f h =
       };
       written = refl;
     }
-
--- ---- joined documents
-
-pub joined_are_spelled : (bytes more : List ℕ) (a b : List Section) → Spells bytes a → Spells more b
-    → in_common (flat_map section_names a) (flat_map section_names b) ≡ false → Spells (bytes ++ more) (a ++ b)
-joined_are_spelled bytes more a b h k n = spelling_laws.joined_documents bytes more a b h k (none-shared (λ s. table_name s.number) a b n)

@@ -1,6 +1,6 @@
 -- The section of a document of nftables rules that a filter becomes, and how many entries it has. The
 -- form of a section is aclgen's own; what its lines mean is said by the language.
-use Rattle.std.specs.Prelude.{ℕ, ◌+◌, Bool, true, false, if◌then◌else◌, List, [], ◌∷◌, ◌++◌, length, map, flat_map, sum_by, Option, None, Some}
+use Rattle.std.specs.Prelude.{ℕ, ◌+◌, Bool, true, false, if◌then◌else◌, List, [], ◌++◌, length, map, flat_map, sum_by, Option, None, Some}
 use Rattle.acl_target.specs.declared.targets.Ending.{Ending}
 use Rattle.acl_target.specs.declared.targets.Ending.TheVariants.{Accept}
 use Rattle.acl_platform.specs.declared.filters.Filter.{Filter}
@@ -16,7 +16,6 @@ use Rattle.nft_lang.specs.declared.documents.Item.TheVariants.{Remark, Rule as A
 use Rattle.nft_lang.specs.declared.documents.Rule.{Rule as ChainRule}
 use Rattle.nft_lang.specs.declared.documents.Flags.{Flags}
 use Rattle.nft_lang.specs.declared.documents.Flags.TheVariants as flags
-use Rattle.nft_lang.specs.Documents.{table_name}
 
 -- nftables follows connections, so that no rule for it asks for ACK or RST.
 abbrev pub flags_of : Test → Option Flags
@@ -70,10 +69,6 @@ section_of f = record {
   accept = accepts f.ending;
   items = flat_map (rule_items f.verbose) f.rules;
 }
-
--- A section takes the name of its table.
-abbrev pub section_names : Section → List (List ℕ)
-section_names s = table_name s.number ∷ []
 
 -- A rule of a chain counts with the elements of its sets. A remark does not count.
 abbrev pub rule_size : ChainRule → ℕ

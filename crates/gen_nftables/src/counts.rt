@@ -1,25 +1,13 @@
 ghost use Rattle.std.specs.Prelude.{◌≡◌, None, min};
-ghost use Rattle.std.specs.List.{All};
 ghost use Rattle.acl_text.specs.Output.{COUNT_END};
 ghost use Rattle.acl_platform.specs.Combinations.{IsSized};
 ghost use Rattle.gen_nftables.specs.CountSteps.{rule_count};
-ghost use Rattle.gen_nftables.specs.Sections.{chain_rule, entry_count, rule_size};
+ghost use Rattle.gen_nftables.specs.Sections.{chain_rule, rule_size};
 
 use crate::nftables::Nftables;
 use acl_platform::{
-    Choices, Filter, NumberChoices, Rule, RuleCount, address_elements, count_numbers, count_rules,
-    range_elements,
+    Choices, NumberChoices, Rule, RuleCount, address_elements, count_numbers, range_elements,
 };
-
-/// The number of entries of the section that the filter becomes; a number that does not fit stands
-/// at the greatest one that does. Protocols and types of its rules have to be numbers below 256, ports
-/// below 65,536.
-pub fn entry_count(filter: &Filter) -> u64
-    requires { All IsSized filter.now.rules }
-    ensures { result ≡ min (entry_count filter.now) COUNT_END }
-{
-    count_rules(filter.rules.as_slice(), &Nftables)
-}
 
 impl RuleCount for Nftables {
     ghost entries = { λ n rule. rule_count rule };

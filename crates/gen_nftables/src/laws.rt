@@ -1,4 +1,4 @@
-ghost use Rattle.gen_nftables.specs.SectionNames.{FirstLine, TablesDiffer};
+ghost use Rattle.gen_nftables.specs.TableNames.{FirstLine, TablesDiffer};
 
 /// A law: a section's first line is `## ` and the text of its target.
 pub fn a_section_begins_with_its_target()

@@ -3,15 +3,14 @@
 
 mod counts;
 mod laws;
+mod limits;
 mod nftables;
 mod rule_words;
 mod section_rows;
 mod sets;
 mod types;
 
-pub use counts::entry_count;
 pub use laws::{
     a_section_begins_with_its_target, targets_of_different_numbers_have_different_tables,
 };
 pub use nftables::Nftables;
-pub use section_rows::put_section;

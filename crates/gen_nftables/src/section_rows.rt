@@ -1,18 +1,15 @@
-ghost use Rattle.std.specs.Prelude.{◌≡◌, ◌++◌, ◌∷◌, [], IsTrue, flat_map, map};
+ghost use Rattle.std.specs.Prelude.{◌≡◌, flat_map};
 ghost use Rattle.std.specs.List.{All};
-ghost use Rattle.acl_text.specs.Output.{Puts};
-ghost use Rattle.acl_grammar.specs.Rows.{row, text_of_rows};
 ghost use Rattle.acl_platform.specs.Choices.{number_choices};
 ghost use Rattle.acl_platform.specs.Combinations.{IsSized};
 ghost use Rattle.nft_lang.specs.declared.documents.Item.TheVariants.{Remark, Rule as ARule};
-ghost use Rattle.nft_lang.specs.Texts.{item_rows, text_of};
+ghost use Rattle.nft_lang.specs.Texts.{item_rows};
 ghost use Rattle.gen_nftables.specs.RowSteps.{head_of, items_rows};
 ghost use Rattle.gen_nftables.specs.Sections.{
   accepts,
   chain_rule,
   remarks_in,
   rule_items,
-  section_of,
 };
 
 use crate::rule_words::RuleWords;
@@ -23,28 +20,13 @@ use acl_platform::{
 };
 use acl_target::Ending;
 use acl_text::{Out, PutFault};
-use nft_lang::{RemarkRow, SectionEnd, SectionHead};
+use nft_lang::{CommentRow, TableHead};
 
-/// Puts the text of the section that the filter becomes, in an output that has to be open. Protocols and
-/// types of its rules have to be numbers below 256, ports below 65,536.
-pub fn put_section<O: Out>(filter: &Filter, out: &mut O) -> Result<(), PutFault>
-    requires open { IsTrue (O.is_open out.old) }
-    requires sized { All IsSized filter.now.rules }
-    ensures { Puts O.told O.faults O.refusals O.is_open O.keeps_rest out.old out.new
-        (text_of (section_of filter.now ∷ [])) result }
-{
-    let items = ChainItems {
-        families: filter.families,
-        verbose: filter.verbose,
-        rules: filter.rules.as_slice(),
-    };
-    (head_of(filter), (items, SectionEnd)).put_rows(out)
-}
-
-fn head_of(filter: &Filter) -> SectionHead
+/// What begins the section that the filter becomes.
+pub(crate) fn head_of(filter: &Filter) -> TableHead
     ensures { result ≡ head_of filter.now }
 {
-    SectionHead {
+    TableHead {
         hook: filter.hook,
         families: filter.families,
         number: filter.number,
@@ -59,13 +41,13 @@ fn accepts(ending: Ending) -> bool
     matches!(ending, Ending::Accept)
 }
 
-// The items of the chain.
+/// The items of the chain that the rules of a filter become.
 #[derive(Drop)]
-struct ChainItems<'a> {
-    families: Families,
-    verbose: bool,
-    rules: &'a [Rule],
-    ghost sized: { All IsSized rules.now },
+pub(crate) struct ChainItems<'a> {
+    pub(crate) families: Families,
+    pub(crate) verbose: bool,
+    pub(crate) rules: &'a [Rule],
+    pub(crate) ghost sized: { All IsSized rules.now },
 }
 
 impl<'a> Rows for ChainItems<'a> {
@@ -102,7 +84,7 @@ impl RemarkForm for InChain {
 
     #[tactic(auto, unfolding(nft_lang::specs::Texts::item_rows))]
     fn put_remark<O: Out>(&self, text: &[u8], out: &mut O) -> Result<(), PutFault> {
-        RemarkRow { text }.put_rows(out)
+        CommentRow { text }.put_rows(out)
     }
 }
 

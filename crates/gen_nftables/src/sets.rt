@@ -1,7 +1,6 @@
-ghost use Rattle.std.specs.Prelude.{◌≡◌, ◌++◌, ◌∷◌, [], List, ℕ, IsTrue, codes, decimal, map, flat_map};
+ghost use Rattle.std.specs.Prelude.{map};
 ghost use Rattle.acl_text.specs.AddressTexts.{prefix_text};
-ghost use Rattle.acl_text.specs.Output.{Puts};
-ghost use Rattle.nft_lang.specs.Texts.{address_word, port_word, ports_word, set_words, with_commas};
+ghost use Rattle.nft_lang.specs.Texts.{address_word, port_word, ports_word, set_words};
 ghost use Rattle.acl_platform.specs.Elements.{address_elements, port_elements};
 
 use acl_grammar::{Piece, PortRange, WordForm, Words};

@@ -1,9 +1,8 @@
-ghost use Rattle.std.specs.Prelude.{◌≡◌, ◌+◌, ◌-◌, ◌≤◌, ◌++◌, ◌∷◌, [], List, ℕ, IsTrue, codes, decimal, map, flat_map};
+ghost use Rattle.std.specs.Prelude.{◌+◌, ◌-◌, ◌≤◌, ◌++◌, [], codes, decimal, map};
 ghost use Rattle.std.specs.List.{All, range_with_len};
-ghost use Rattle.acl_text.specs.Output.{Puts};
 ghost use Rattle.acl_sets.specs.Ranges.{IsRange};
 ghost use Rattle.acl_platform.specs.Choices.{numbers_of};
-ghost use Rattle.nft_lang.specs.Texts.{icmp_word, set_words, types_words, with_commas};
+ghost use Rattle.nft_lang.specs.Texts.{icmp_word, types_words, with_commas};
 ghost use Rattle.gen_nftables.specs.RowSteps.{other_numbers};
 ghost use Rattle.acl_platform.specs.Elements.{number_elements};
 

@@ -1,6 +1,6 @@
 use Rattle.acl_grammar.proofs.PutLaws.{retold}
 use Rattle.gen_nftables.proofs.Rows.{section-text}
-use Rattle.gen_nftables.proofs.section_rows.put_section.Goals as goal
+use Rattle.gen_nftables.proofs.nftables.NftablesPlatform.put_section.Goals as goal
 
 pub returns : goal.returns
 returns g c = retold (section-text c.args.filter.now c.head_of.ensures c.as_slice.ensures) c.put_rows.ensures

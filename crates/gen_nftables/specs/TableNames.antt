@@ -9,8 +9,9 @@ use Rattle.acl_target.specs.TargetTexts.{target_text}
 use Rattle.acl_platform.specs.declared.filters.Filter.{Filter}
 use Rattle.acl_platform.specs.SoundFilters.{target_of}
 use Rattle.nft_lang.specs.declared.documents.Section.{Section}
+use Rattle.nft_lang.specs.Documents.{table_names}
 use Rattle.nft_lang.specs.Texts.{chain_rows, end_rows, item_rows, start_row, table_row, text_of}
-use Rattle.gen_nftables.specs.Sections.{section_names, section_of}
+use Rattle.gen_nftables.specs.Sections.{section_of}
 
 -- Behind the first line of a section the table is added and deleted, and then made.
 abbrev pub table_body : Section → List Row
@@ -30,4 +31,4 @@ abbrev pub TablesDiffer : Type 0
 TablesDiffer = (filters : List Filter) (stateful : Bool)
     → AllByRecursion (λ f. (f.kind ≡ Nftables) × (f.number ≤ 64)) filters
     → AllPairs (λ a b. a.kind ≡ b.kind → a.number ≢ b.number) (map (target_of stateful) filters)
-    → IsDistinct bytes_eq (flat_map (λ f. section_names (section_of f)) filters)
+    → IsDistinct bytes_eq (flat_map table_names (map section_of filters))

@@ -2,7 +2,7 @@ use Rattle.std.proofs.Common.{min, sum_by, ap, sym, ◌∙◌}
 use Rattle.acl_text.specs.Output.{COUNT_END}
 use Rattle.gen_nftables.specs.CountSteps.{rule_count}
 use Rattle.gen_nftables.proofs.EntryCounts.{all-sizes}
-use Rattle.gen_nftables.proofs.counts.entry_count.Goals as goal
+use Rattle.gen_nftables.proofs.nftables.NftablesPlatform.entry_count.Goals as goal
 
 pub returns : goal.returns
 returns c =
