@@ -10,15 +10,14 @@ use Rattle.acl_text.specs.declared.faults.Slip.{Slip}
 use Rattle.acl_text.proofs.OptionStepLaws.{same_bytes}
 use Rattle.acl_sets.specs.Ranges.{IsNormal, Numbers, holds}
 use Rattle.acl_words.specs.declared.word_lists.Word.{Word}
-use Rattle.acl_policy.specs.declared.raw_terms.RawTerm.{RawTerm}
 use Rattle.acl_naming.specs.Checking.{first_of}
 use Rattle.acl_naming.specs.Definitions.{Definition, Naming}
 use Rattle.acl_naming.specs.Ports.{top_port}
 use Rattle.acl_naming.specs.Reach.{ReachesPort}
 use Rattle.acl_terms.specs.DistinctSteps.{AreSame, has, new_words}
 use Rattle.acl_terms.specs.Matching.{AnyOf, IsPort, NamesPort}
-use Rattle.acl_terms.specs.Sets.{IsPortSet, IsSetOf}
-use Rattle.acl_terms.specs.Slips.{first_in, is_defined, port_words, reaches_protocol, network_slip, service_slip, services_slip, unless}
+use Rattle.acl_terms.specs.Sets.{IsSetOf}
+use Rattle.acl_terms.specs.Slips.{first_in, is_defined, reaches_protocol, network_slip, service_slip, unless}
 use Rattle.acl_terms.proofs.SetLaws.{IsSetSoFar, any-join, begun-set, next-set, same-set}
 use Rattle.acl_terms.proofs.SlipLaws.{both-passed, unless-passed}
 use Rattle.acl_terms.proofs.WordLaws.{parts, passed}
@@ -190,10 +189,10 @@ same-question f g [] same = refl
 same-question f g (x ∷ xs) same =
     ap (λ o. first_of o (first_in f xs)) (same x) ∙ ap (λ o. first_of (g x) o) (same-question f g xs same)
 
-pub same-services : (services : List Definition) (ms ns : List ℕ) (t : RawTerm) → AreSame ms ns
-    → services_slip services ms t ≡ services_slip services ns t
-same-services services ms ns t same =
-    same-question (service_slip services ms) (service_slip services ns) (port_words t)
+pub same-services : (services : List Definition) (ms ns : List ℕ) (words : List Word) → AreSame ms ns
+    → first_in (service_slip services ms) words ≡ first_in (service_slip services ns) words
+same-services services ms ns words same =
+    same-question (service_slip services ms) (service_slip services ns) words
     (λ w. ap (λ b. first_of (unless (is_defined services w.text) codes.UnknownName w) (unless b codes.NoPortForProtocol w))
     (same-all (reaches_protocol services w.text) ms ns same))
 
@@ -202,27 +201,18 @@ same-admitted P Q [] same a = elim a [ ]
 same-admitted P Q (x ∷ xs) same (inl p) = inl ((same x).0 p)
 same-admitted P Q (x ∷ xs) same (inr a) = inr (same-admitted P Q xs same a)
 
-same-port : (n : Naming) (ms ns : List ℕ) (words : List Word) (x : ℕ) → AreSame ms ns
-    → IsPort n ms words x → IsPort n ns words x
-same-port n ms ns [] x same h = tt
-same-port n ms ns (w ∷ ws) x same h =
-    same-admitted (NamesPort n ms x) (NamesPort n ns x) (w ∷ ws)
-    (λ v. same-any (λ q. ReachesPort n.services v.text q x) ms ns same) h
+same-names : (n : Naming) (ms ns : List ℕ) (words : List Word) (x : ℕ) → AreSame ms ns
+    → AnyOf (NamesPort n ms x) words → AnyOf (NamesPort n ns x) words
+same-names n ms ns words x same =
+    same-admitted (NamesPort n ms x) (NamesPort n ns x) words
+    (λ w. same-any (λ q. ReachesPort n.services w.text q x) ms ns same)
 
-same-set-of-ports : (n : Naming) (ms ns : List ℕ) (words : List Word) (s : Numbers) → AreSame ms ns
-    → IsSetOf (IsPort n ms words) top_port s → IsSetOf (IsPort n ns words) top_port s
-same-set-of-ports n ms ns words s same h =
-    same-set (IsPort n ms words) (IsPort n ns words) top_port s
-    (λ x. (λ p. same-port n ms ns words x same p, λ p. same-port n ns ms words x (λ m. sym (same m)) p)) h
-
-pub same-ports : (n : Naming) (ms ns : List ℕ) (t : RawTerm) (sports dports : Numbers) → AreSame ms ns
-    → IsPortSet n ms t sports dports → IsPortSet n ns t sports dports
-same-ports n ms ns t sports dports same h = (
-  same-set-of-ports n ms ns t.source_ports sports same h.0,
-  same-set-of-ports n ms ns t.destination_ports dports same h.1,
-  h.2,
-  h.3,
-)
+pub same-ports : (n : Naming) (ms ns : List ℕ) (words : List Word) (s : Numbers) → AreSame ms ns → words ≢ []
+    → IsSetOf (λ x. AnyOf (NamesPort n ms x) words) top_port s → IsSetOf (IsPort n ns words) top_port s
+same-ports n ms ns [] s same some h = absurd (some refl)
+same-ports n ms ns (w ∷ ws) s same some h =
+    same-set (λ x. AnyOf (NamesPort n ms x) (w ∷ ws)) (IsPort n ns (w ∷ ws)) top_port s
+    (λ x. (same-names n ms ns (w ∷ ws) x same, same-names n ns ms (w ∷ ws) x (λ m. sym (same m)))) h
 
 -- ---- questions on names
 

@@ -11,7 +11,7 @@ use Rattle.acl_policy.specs.declared.raw_terms.RawTerm.{RawTerm}
 use Rattle.acl_naming.specs.Definitions.{Definition}
 use Rattle.acl_naming.specs.Checking.{first_of, IsRefusal}
 use Rattle.acl_terms.specs.Matching.{only}
-use Rattle.acl_terms.specs.SetSteps.{ends_slip, both_ports_slip}
+use Rattle.acl_terms.specs.SetSteps.{ends_slip}
 use Rattle.acl_terms.specs.Slips.{Judges, first_in, first_unless, network_slip, networks_slip, service_slip, services_slip, slip_at, unless}
 use Rattle.acl_terms.proofs.WordLaws.{first-passed, some-only}
 
@@ -36,7 +36,8 @@ networks_by_ends networks t =
     (first-in-append q t.destinations t.destination_excludes)
 
 pub services_by_ends : (services : List Definition) (protos : List ℕ) (t : RawTerm)
-    → services_slip services protos t ≡ both_ports_slip services protos t
+    → services_slip services protos t
+    ≡ first_of (first_in (service_slip services protos) t.source_ports) (first_in (service_slip services protos) t.destination_ports)
 services_by_ends services protos t =
     first-in-append (service_slip services protos) t.source_ports t.destination_ports
 

@@ -164,46 +164,57 @@ sets-there n raw some clean =
     (port-some n qs raw.source_ports some (λ h. named (left-some raw.source_ports raw.destination_ports h)) both.0)
     (port-some n qs raw.destination_ports some (λ h. named (right-some raw.source_ports raw.destination_ports h)) both.1)
 
+abbrev pub IsWrittenSound : RawTerm → Sets → Type 0
+IsWrittenSound raw s = IsSound raw.name.text (note_of raw.comments) s.src4 s.src6 s.dst4 s.dst6 s.protos s.sports
+    s.dports (is_written raw.destination_ports) s.itypes (option_of raw.options) (verdict_of raw.action.text)
+
+-- The written term, with these sets.
+abbrev pub term-with : (raw : RawTerm) (s : Sets) → IsWrittenSound raw s → Term
+term-with raw s sound = record {
+  name = raw.name.text;
+  place = raw.name.place;
+  note = note_of raw.comments;
+  src4 = s.src4;
+  src6 = s.src6;
+  dst4 = s.dst4;
+  dst6 = s.dst6;
+  protos = s.protos;
+  sports = s.sports;
+  dports = s.dports;
+  dport_named = is_written raw.destination_ports;
+  itypes = s.itypes;
+  option = option_of raw.options;
+  verdict = verdict_of raw.action.text;
+  log = raw.logging;
+  expires = raw.expires;
+  «only» = some_platforms raw.platforms;
+  never = platforms_of raw.not_platforms;
+  sound = sound;
+}
+
+-- It is resolved, where the sets are those of the written term.
+pub term-with-resolved : (n : Naming) (raw : RawTerm) (s : Sets) (sound : IsWrittenSound raw s) → AreSetsOf n raw s
+    → IsResolved n raw (term-with raw s sound)
+term-with-resolved n raw s sound are = record {
+  sets = are;
+  fields = record {
+    name = refl;
+    place = refl;
+    note = refl;
+    dport_named = refl;
+    option = refl;
+    verdict = refl;
+    log = refl;
+    expires = refl;
+    «only» = refl;
+    never = refl;
+  };
+}
+
 pub term-there : (n : Naming) (raw : RawTerm) → PortsAreSome n.services → IsRawTerm raw → slip_of n raw ≡ None
     → (t : Term) × IsResolved n raw t
 term-there n raw some fits clean =
     let s = sets_of n raw in
     let are = sets-there n raw some clean in
-    let t : Term = record {
-      name = raw.name.text;
-      place = raw.name.place;
-      note = note_of raw.comments;
-      src4 = s.src4;
-      src6 = s.src6;
-      dst4 = s.dst4;
-      dst6 = s.dst6;
-      protos = s.protos;
-      sports = s.sports;
-      dports = s.dports;
-      dport_named = is_written raw.destination_ports;
-      itypes = s.itypes;
-      option = option_of raw.options;
-      verdict = verdict_of raw.action.text;
-      log = raw.logging;
-      expires = raw.expires;
-      «only» = some_platforms raw.platforms;
-      never = platforms_of raw.not_platforms;
-      sound = sound n raw s fits.name_is (note_is_safe raw.comments) clean are;
-    } in (
-      t,
-      record {
-        sets = are;
-        fields = record {
-          name = refl;
-          place = refl;
-          note = refl;
-          dport_named = refl;
-          option = refl;
-          verdict = refl;
-          log = refl;
-          expires = refl;
-          «only» = refl;
-          never = refl;
-        };
-      },
-    )
+    let is_sound : IsWrittenSound raw s = sound n raw s fits.name_is (note_is_safe raw.comments) clean are in
+    (term-with raw s is_sound, term-with-resolved n raw s is_sound are)

@@ -11,7 +11,7 @@ use Rattle.acl_naming.specs.Definitions.{Definition}
 use Rattle.acl_terms.specs.declared.resolving.Parts.{Parts}
 use Rattle.acl_terms.specs.Matching.{type_in}
 use Rattle.acl_terms.specs.Sets.{Sets}
-use Rattle.acl_terms.specs.Slips.{first_in, is_defined, network_slip, reaches_protocol, service_slip, unless}
+use Rattle.acl_terms.specs.Slips.{first_in, is_defined, network_slip, reaches_protocol, unless}
 
 -- The numbers of the words of `icmp-type::`.
 abbrev pub types_of : Option Family → List Word → List ℕ
@@ -33,11 +33,6 @@ ends_slip networks t =
     (first_in (network_slip networks) t.source_excludes))
     (first_of (first_in (network_slip networks) t.destinations)
     (first_in (network_slip networks) t.destination_excludes))
-
-abbrev pub both_ports_slip : List Definition → List ℕ → RawTerm → Option Slip
-both_ports_slip services protos t =
-    first_of (first_in (service_slip services protos) t.source_ports)
-    (first_in (service_slip services protos) t.destination_ports)
 
 -- The sets of a term from its parts.
 abbrev pub sets_by : Parts → Sets

@@ -3,7 +3,7 @@ ghost use Rattle.acl_naming.specs.Ports.{top_port};
 ghost use Rattle.acl_naming.specs.Reach.{ReachesPort};
 ghost use Rattle.acl_terms.specs.Matching.{Admits, AnyOf, IsPort, NamesPort};
 ghost use Rattle.acl_terms.specs.Sets.{IsPortSet, IsSetOf};
-ghost use Rattle.acl_terms.specs.SetSteps.{both_ports_slip, protocol_slip};
+ghost use Rattle.acl_terms.specs.SetSteps.{protocol_slip};
 ghost use Rattle.acl_terms.specs.Slips.{Judges, first_in, port_words, service_slip, services_slip};
 
 use crate::checks::refusal_at;
@@ -89,7 +89,7 @@ fn named(
     Ok(out)
 }
 
-// The same, or all where no word is written.
+// The same, or all where no word is written. A protocol that stands twice is not looked up again.
 fn admitted(
     alloc: Global,
     base: &Checked,
@@ -104,25 +104,11 @@ fn admitted(
 {
     match words.first() {
         None => Ok(RangeSet::all(alloc, TOP)?),
-        Some(_) => named(alloc, base, protos, words),
+        Some(_) => {
+            let protos = distinct(alloc, protos)?;
+            named(alloc, base, &protos, words)
+        }
     }
-}
-
-// The ports of a term with its protocols, end by end.
-fn both_ports(
-    alloc: Global,
-    base: &Checked,
-    protos: &[u8],
-    raw: &RawTerm,
-) -> Result<TermPorts, Refusal>
-    requires { port_words raw.now ≢ [] → protos.now ≢ [] }
-    ensures judged { Judges result (both_ports_slip base.now.services protos.now raw.now) }
-    ensures ports { IfOk result (λ p.
-        IsPortSet base.now protos.now raw.now p.sports p.dports) }
-{
-    let sports = admitted(alloc, base, protos, &raw.source_ports)?;
-    let dports = admitted(alloc, base, protos, &raw.destination_ports)?;
-    Ok(TermPorts { sports, dports })
 }
 
 /// The ports of a term with its protocols, or the first slip at names of ports. Some protocol is named where
@@ -139,6 +125,7 @@ pub(crate) fn ports_of_term(
     ensures ports { IfOk result (λ p.
         IsPortSet base.now protos.now raw.now p.sports p.dports) }
 {
-    let protos = distinct(alloc, protos)?;
-    both_ports(alloc, base, &protos, raw)
+    let sports = admitted(alloc, base, protos, &raw.source_ports)?;
+    let dports = admitted(alloc, base, protos, &raw.destination_ports)?;
+    Ok(TermPorts { sports, dports })
 }

@@ -30,6 +30,7 @@ use Rattle.acl_terms.specs.Sets.{AreSetsOf, Sets}
 use Rattle.acl_terms.specs.Slips.{address_words, first_in, first_some, port_protocol_slip, port_words, reaches_protocol, slip_of, unless, words_slips}
 use Rattle.acl_terms.specs.Soundness.{IsSound}
 use Rattle.acl_terms.proofs.ComputedLaws.{computed-sets}
+use Rattle.acl_terms.proofs.TermLaws.{term-with-resolved}
 use Rattle.workload_laws.specs.WorkloadNames.{each, network_items, service, service_items, service_name, workload_naming}
 use Rattle.workload_laws.specs.WorkloadPolicies.{at_line, lines_before, term_name}
 use Rattle.workload_laws.specs.WorkloadTerms.{all_to, ports, protocols, term_sets}
@@ -169,24 +170,12 @@ resolved_term i below = record {
 
 pub is_resolved : (n i : ℕ) (below : i < n) (few : n ≤ 1024) (small : i < 1024) → IsResolved (workload_naming n) (raw_at i) (resolved_term i small)
 unfolding note_of safe_words
-is_resolved n i below few small = record {
-  sets = subst (AreSetsOf (workload_naming n) (raw_at i)) (sets_are n i below few)
-      (computed-sets (workload_naming n) (raw_at i)
-      (λ e. some (sym (ap (λ (s : Sets). s.sports.ranges) (sets_are n i below few)) ∙ e))
-      (λ e. some_port (sym (ap (λ (s : Sets). s.dports.ranges) (sets_are n i below few)) ∙ e)));
-  fields = record {
-    name = refl;
-    place = refl;
-    note = refl;
-    dport_named = refl;
-    option = refl;
-    verdict = refl;
-    log = refl;
-    expires = refl;
-    «only» = refl;
-    never = refl;
-  };
-}
+is_resolved n i below few small =
+    term-with-resolved (workload_naming n) (raw_at i) (term_sets i) (is_sound i small)
+    (subst (AreSetsOf (workload_naming n) (raw_at i)) (sets_are n i below few)
+    (computed-sets (workload_naming n) (raw_at i)
+    (λ e. some (sym (ap (λ (s : Sets). s.sports.ranges) (sets_are n i below few)) ∙ e))
+    (λ e. some_port (sym (ap (λ (s : Sets). s.dports.ranges) (sets_are n i below few)) ∙ e))))
   where
     some : (all_to top_port).ranges ≡ [] → ⊥
     some e = cc

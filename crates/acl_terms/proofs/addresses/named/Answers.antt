@@ -26,20 +26,18 @@ pub loop-left-preserved : goal.loop-left-preserved
 loop-left-preserved c =
     let base = c.args.base.now in
     let words = c.args.words.now in
-    let old = c.loop-left.left in
-    let left = c.next.new.self in
-    let word = c.in-Some.word in
-    let next : old ≡ word ∷ left = given (λ w. old ≡ w ∷ left) c.in_ok-word.field-0 word c.in-Some.is c.in_ok-word.ensures.some in
+    let next : c.loop-left.left ≡ c.in-Some.word ∷ c.next.new.self =
+    given (λ w. c.loop-left.left ≡ w ∷ c.next.new.self) c.in_ok-word.field-0 c.in-Some.word c.in-Some.is c.in_ok-word.ensures.some in
     let had = c.loop-left.invariant in
     let union4 = c.in_ok-v4.ensures in
     let union6 = c.in_ok-v6.ensures in
     record {
-      v4 = next-names (NamesAddress base V4) (λ x. AnyOf (NamesAddress base V4 x) words) old left word
+      v4 = next-names (NamesAddress base V4) (λ x. AnyOf (NamesAddress base V4 x) words) _ _ _
           (top_address V4) c.loop-left.v4 c.in_ok-more4.more4 c.in_ok-v4.v4 next had.v4
           c.in_ok-more4.ensures.set union4.top union4.normal union4.exact;
-      v6 = next-names (NamesAddress base V6) (λ x. AnyOf (NamesAddress base V6 x) words) old left word
+      v6 = next-names (NamesAddress base V6) (λ x. AnyOf (NamesAddress base V6 x) words) _ _ _
           (top_address V6) c.loop-left.v6 c.in_ok-more6.more6 c.in_ok-v6.v6 next had.v6
           c.in_ok-more6.ensures.set union6.top union6.normal union6.exact;
-      judged = slip-next (network_slip base.networks) word old left (first_in (network_slip base.networks) words) next
+      judged = slip-next (network_slip base.networks) _ _ _ (first_in (network_slip base.networks) words) next
           c.in_ok-more4.ensures.judged had.judged;
     }

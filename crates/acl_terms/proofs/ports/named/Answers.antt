@@ -26,17 +26,15 @@ loop-left-preserved c =
     let base = c.args.base.now in
     let protos = c.args.protos.now in
     let words = c.args.words.now in
-    let old = c.loop-left.left in
-    let left = c.next.new.self in
-    let word = c.in-Some.word in
-    let next : old ≡ word ∷ left = given (λ w. old ≡ w ∷ left) c.in_ok-word.field-0 word c.in-Some.is c.in_ok-word.ensures.some in
+    let next : c.loop-left.left ≡ c.in-Some.word ∷ c.next.new.self =
+    given (λ w. c.loop-left.left ≡ w ∷ c.next.new.self) c.in_ok-word.field-0 c.in-Some.word c.in-Some.is c.in_ok-word.ensures.some in
     let had = c.loop-left.invariant in
     let union = c.in_ok-out.ensures in
     record {
-      set = next-names (NamesPort base protos) (λ x. AnyOf (NamesPort base protos x) words) old left word top_port
+      set = next-names (NamesPort base protos) (λ x. AnyOf (NamesPort base protos x) words) _ _ _ top_port
           c.loop-left.out c.in_ok-more.more c.in_ok-out.out next had.set
           c.in_ok-more.ensures.set union.top union.normal union.exact;
-      judged = slip-next (service_slip base.services protos) word old left (first_in (service_slip base.services protos) words)
+      judged = slip-next (service_slip base.services protos) _ _ _ (first_in (service_slip base.services protos) words)
           next c.in_ok-more.ensures.judged had.judged;
       some = λ _ _. more-some top_port c.loop-left.out c.in_ok-more.more c.in_ok-out.out
           c.in_ok-more.ensures.set.normal c.in_ok-more.ensures.some union.exact;
