@@ -10,6 +10,4 @@ mod policies;
 #[cfg(test)]
 mod splices;
 #[cfg(test)]
-mod targets;
-#[cfg(test)]
 mod words;
