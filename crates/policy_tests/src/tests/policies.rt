@@ -1,6 +1,7 @@
 use acl_host::{Day, MemTree, Tree, Whole};
 use acl_policy::{Policy, RawTerm, Target, WordList, parse, put_target};
 use acl_splice::{Sources, gather};
+use acl_target::clash;
 use acl_text::{Bytes, Memory, Refusal, Slip};
 use std::alloc::Global;
 use std::str;
@@ -166,6 +167,53 @@ fn target_lines(rt: HostRuntime) -> Result<(), Fail> {
     ];
     for (policy, slip) in table {
         assert_eq!(rt; first_slip(rt.alloc(), policy)?.as_str(), slip);
+    }
+    Ok(())
+}
+
+fn policy_with(alloc: Global, target: &str) -> Result<Policy, Memory> {
+    let text = format!(in alloc; "header {{ target:: {target} }} term t {{ action:: deny }}")?;
+    let sources = spliced(alloc, text.as_bytes(), b"")?;
+    match read(alloc, &sources) {
+        Ok(policy) => Ok(policy),
+        Err(_) => Err(Memory),
+    }
+}
+
+fn first_target(policy: &Policy) -> Option<&Target> {
+    let block = policy.blocks.as_slice().first()?;
+    block.targets.as_slice().first()
+}
+
+// Whether the targets of two lines clash, where each line gives a target.
+fn lines_clash(alloc: Global, line: &str, other: &str) -> Result<Option<bool>, Memory> {
+    let one = policy_with(alloc, line)?;
+    let two = policy_with(alloc, other)?;
+    match (first_target(&one), first_target(&two)) {
+        (Some(a), Some(b)) => Ok(Some(clash(a, b))),
+        _ => Ok(None),
+    }
+}
+
+#[test]
+fn targets_clash_by_the_names_of_their_platform(rt: HostRuntime) -> Result<(), Fail> {
+    let table = [
+        ("cisco e mixed", "cisco ipv6-e", true),
+        ("cisco e inet6", "cisco ipv6-e mixed", false),
+        ("cisco e", "cisco e inet6", true),
+        ("juniper e", "juniper e inet6", false),
+        ("juniper e", "juniper e", true),
+        ("iptables INPUT", "iptables INPUT inet6", false),
+        ("iptables FORWARD", "iptables INPUT", false),
+        ("nftables inet6 input", "nftables mixed input", true),
+        ("nftables inet input", "nftables inet6 input", false),
+    ];
+    for (line, other, clashes) in table {
+        assert_eq!(rt;
+            lines_clash(rt.alloc(), line, other)?,
+            Some(clashes),
+            "at {line} and {other}"
+        );
     }
     Ok(())
 }
