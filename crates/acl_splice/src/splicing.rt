@@ -46,6 +46,7 @@ pub(crate) struct SplicedFile<'a> {
     pub(crate) folder: &'a str,
     /// How many levels of files may still stand below.
     pub(crate) levels: u32,
+    /// How faults name the file.
     pub(crate) label: &'a [u8],
 }
 
