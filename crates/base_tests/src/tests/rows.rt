@@ -1,9 +1,7 @@
-ghost use Rattle.std.specs.Prelude.{max};
-
 use acl_grammar::{
-    Address, Draft, Each, EachWord, Form, FreeText, Named, Number, Piece, PortRange, Row, Rows,
-    Wildcard, Word, WordForm, are_distinct, are_port_ranges, have_distinct_names, is_port_range,
-    is_prefix_of, is_text_of, join_words, read_rows,
+    Address, Each, EachWord, Form, FreeText, Named, Number, Piece, PortRange, Row, Rows, Wildcard,
+    Word, WordForm, are_distinct, are_port_ranges, have_distinct_names, is_port_range,
+    is_prefix_of, is_text_of, join_words,
 };
 use acl_packet::{Family, Prefix};
 use acl_text::{Memory, Out, PutFault};
@@ -58,23 +56,6 @@ impl<'a> Named for Titled<'a> {
 
     fn has_name_of(&self, other: &Titled<'a>) -> bool {
         self.title == other.title
-    }
-}
-
-// How far the rows are indented.
-#[derive(Drop)]
-struct Deepest {
-    indent: usize,
-}
-
-impl Draft for Deepest {
-    ghost step = { λ d r. record { indent = max d.indent r.indent } };
-
-    fn take_row(&mut self, _alloc: Global, indent: usize, _words: &[&[u8]]) -> Result<(), Memory> {
-        if self.indent < indent {
-            self.indent = indent;
-        }
-        Ok(())
     }
 }
 
@@ -143,10 +124,7 @@ fn compares_rows_with_a_text(rt: HostRuntime) {
 }
 
 #[test]
-fn reads_rows_and_words(rt: HostRuntime) -> Result<(), Fail> {
-    let mut draft = Deepest { indent: 0 };
-    read_rows(rt.alloc(), &mut draft, b"a\n    b c\n  d")?;
-    assert_eq!(rt; draft.indent, 4);
+fn joins_words(rt: HostRuntime) -> Result<(), Fail> {
     let joined = join_words(rt.alloc(), &[b"to", b"all"])?;
     assert_eq!(rt; joined.as_slice(), b"to all".as_slice());
     Ok(())
