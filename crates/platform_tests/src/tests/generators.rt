@@ -18,8 +18,10 @@ use std::test::Fail;
 
 // How many sections the text has, where it is one of the platform's language.
 fn sections_of<P: Platform>(alloc: Global, text: &[u8]) -> Result<Option<usize>, Memory> {
-    let doc = read_document::<P::Section>(alloc, text)?;
-    Ok(doc.map(|doc| sections(&doc)))
+    match read_document::<P::Section>(alloc, text)? {
+        Some(doc) => Ok(Some(sections(&doc))),
+        None => Ok(None),
+    }
 }
 
 pub(crate) fn text_of<P: Platform>(
