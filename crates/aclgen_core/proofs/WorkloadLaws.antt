@@ -3,7 +3,6 @@ use Rattle.std.proofs.Common.{◌≡◌, ℕ, ◌<◌, ◌≤◌, pos, List, [],
 use Rattle.std.specs.List.{AllByRecursion}
 use Rattle.std.proofs.lemmas.Int.{ints}
 use Rattle.acl_text.specs.declared.faults.Fault.{Fault}
-use Rattle.acl_text.specs.declared.faults.Slip.{Slip}
 use Rattle.acl_host.specs.declared.clocks.Day.{Day}
 use Rattle.acl_host.specs.Files.{File}
 use Rattle.acl_host.proofs.NamedDayLaws.{same-day}
@@ -12,7 +11,6 @@ use Rattle.acl_policy.specs.declared.blocks.Policy.{Policy}
 use Rattle.acl_policy.specs.declared.raw_terms.RawTerm.{RawTerm}
 use Rattle.acl_target.specs.declared.targets.Target.{Target}
 use Rattle.acl_terms.specs.declared.terms.Term.{Term}
-use Rattle.acl_terms.specs.Slips.{first_in}
 use Rattle.acl_load.specs.declared.load_faults.LoadFault.{LoadFault}
 use Rattle.acl_load.specs.declared.load_faults.LoadFault.TheVariants as loads
 use Rattle.acl_load.specs.declared.policy_loading.Loaded.{Loaded}
