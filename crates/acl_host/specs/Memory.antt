@@ -1,7 +1,7 @@
 -- What the objects in memory hold, and which of their calls fail.
 use Rattle.std.specs.Prelude.{ℕ, ◌+◌, ◌==◌, min, Bool, List, [], ◌∷◌, ◌++◌, Some, Result, if◌then◌else◌}
 use Rattle.std.specs.List.{list_any}
-use Rattle.acl_text.specs.Output.{COUNT_END, Puts}
+use Rattle.acl_text.specs.Output.{COUNT_END, PutsBy}
 use Rattle.acl_text.specs.declared.output.PutFault.{PutFault}
 
 -- A count that is kept in 64 bits, one higher: it stands still at their end.
@@ -41,5 +41,5 @@ pub record Gathered : Type 0 where
 -- A put into it: all bytes are told, nothing fails, and there is no rest.
 abbrev pub GatheredPuts : {T : Type 0} → Gathered → Gathered → List ℕ → Result T PutFault → Type 0
 GatheredPuts old new text result =
-    Puts (λ (w : Gathered). Some w.bytes) (λ w. 0) (λ w. w.refusals) (λ w. w.is_open)
+    PutsBy (λ (w : Gathered). Some w.bytes) (λ w. 0) (λ w. w.refusals) (λ w. w.is_open)
     (λ x y. Unit {0}) old new text result

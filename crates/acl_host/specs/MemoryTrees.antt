@@ -1,10 +1,10 @@
 -- What a tree in memory holds, and what each of its calls leaves.
 use Rattle.std.specs.Prelude.{ℕ, List, [], Option, None, Some, is_some, Result, Ok, Err}
-use Rattle.acl_text.specs.Output.{Puts}
+use Rattle.acl_text.specs.Output.{PutsBy}
 use Rattle.acl_text.specs.declared.output.PutFault.{PutFault}
 use Rattle.acl_text.specs.declared.output.PutFault.TheVariants as puts
 use Rattle.acl_host.specs.Files.{File, RestStays, told_of}
-use Rattle.acl_host.specs.Outside.{Lists, Reads, Begins, Finishes}
+use Rattle.acl_host.specs.Outside.{TreeMembers, Lists, Reads, Begins, Finishes}
 use Rattle.acl_host.specs.Memory.{CallsMade, no_calls, after_one, with_failing, one_more}
 use Rattle.acl_host.specs.MemoryFiles.{put_at, path_at, append_begun}
 use Rattle.acl_host.specs.declared.failing.Op.{Op}
@@ -81,31 +81,36 @@ KeepsRest old new =
     RestStays (files_of old) (files_of new) (begun_of old) (begun_of new)
     old.list_faults new.list_faults old.read_faults new.read_faults
 
+abbrev pub tree_members : TreeMembers MemTree
+tree_members = record {
+  told = told_by;
+  faults = λ t. t.faults;
+  refusals = λ t. t.refusals;
+  is_open = λ t. is_some (begun_of t);
+  keeps_rest = KeepsRest;
+  files = files_of;
+  begun = begun_of;
+  list_faults = λ t. t.list_faults;
+  read_faults = λ t. t.read_faults;
+}
+
 -- A call of each kind, with what this tree tells.
 abbrev pub ListsInMemory : MemTree → MemTree → List ℕ → Result (List (List ℕ)) TreeFault → Type 0
-ListsInMemory old new folder result =
-    Lists files_of begun_of (λ (t : MemTree). t.faults) (λ t. t.refusals) (λ t. t.list_faults)
-    (λ t. t.read_faults) old new folder result
+ListsInMemory old new folder result = Lists tree_members old new folder result
 
 abbrev pub ReadsInMemory : MemTree → MemTree → List ℕ → ℕ → Result (List ℕ) TreeFault → Type 0
-ReadsInMemory old new path most result =
-    Reads files_of begun_of (λ (t : MemTree). t.faults) (λ t. t.refusals) (λ t. t.list_faults)
-    (λ t. t.read_faults) old new path most result
+ReadsInMemory old new path most result = Reads tree_members old new path most result
 
 abbrev pub BeginsInMemory : {T : Type 0} → MemTree → MemTree → List ℕ → Result T WriteFault → Type 0
-BeginsInMemory old new path result =
-    Begins files_of begun_of (λ (t : MemTree). t.faults) (λ t. t.refusals) (λ t. t.list_faults)
-    (λ t. t.read_faults) old new path result
+BeginsInMemory old new path result = Begins tree_members old new path result
 
 abbrev pub PutsInMemory : {T : Type 0} → MemTree → MemTree → List ℕ → Result T PutFault → Type 0
 PutsInMemory old new bytes result =
-    Puts told_by (λ (t : MemTree). t.faults) (λ t. t.refusals) (λ t. is_some (begun_of t)) KeepsRest
-    old new bytes result
+    PutsBy tree_members.told tree_members.faults tree_members.refusals tree_members.is_open
+    tree_members.keeps_rest old new bytes result
 
 abbrev pub FinishesInMemory : {T : Type 0} → MemTree → MemTree → Result T WriteFault → Type 0
-FinishesInMemory old new result =
-    Finishes files_of begun_of (λ (t : MemTree). t.faults) (λ t. t.refusals) (λ t. t.list_faults)
-    (λ t. t.read_faults) old new result
+FinishesInMemory old new result = Finishes tree_members old new result
 
 -- What each call leaves. A call that is made counts among those of its kind; only a listed one fails.
 abbrev pub after_list : {T : Type 0} → Result T TreeFault → TreeContents → TreeContents

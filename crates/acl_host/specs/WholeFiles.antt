@@ -7,7 +7,7 @@ use Rattle.acl_text.specs.declared.faults.Rejection.{Rejection}
 use Rattle.acl_text.specs.declared.faults.Rejection.TheVariants as rejections
 use Rattle.acl_text.specs.Output.{Rose}
 use Rattle.acl_host.specs.Files.{File, file_at, is_folder, names_under}
-use Rattle.acl_host.specs.Outside.{OnlyLists, OnlyReads}
+use Rattle.acl_host.specs.Outside.{OnlyLists, OnlyReads, TreeMembers}
 use Rattle.acl_host.specs.declared.look_faults.ListFault.{ListFault}
 use Rattle.acl_host.specs.declared.look_faults.ListFault.TheVariants as lists
 use Rattle.acl_host.specs.declared.look_faults.ReadFault.{ReadFault}
@@ -51,16 +51,14 @@ read_rejected rejections.Memory = reads.Memory
 
 -- A call that lists a folder does nothing else, and fails outside only where the count of failed
 -- listings rose.
-pub record ListsFolder {S X : Type 0} (files : S → Option (List File)) (begun : S → Option (List ℕ))
-    (faults refusals list_faults read_faults : S → ℕ) (old new : S)
+pub record ListsFolder {S X : Type 0} (tree : TreeMembers S) (old new : S)
     (result : Result X ListFault) : Type 0 where
-  pub only : OnlyLists files begun faults refusals list_faults read_faults old new
-  pub failed : IsErrOf result lists.Outside → Rose (list_faults old) (list_faults new)
+  pub only : OnlyLists tree old new
+  pub failed : IsErrOf result lists.Outside → Rose (tree.list_faults old) (tree.list_faults new)
 
 -- A call that reads files does nothing else, and fails outside only where the count of failed
 -- readings rose.
-pub record ReadsFiles {S X : Type 0} (files : S → Option (List File)) (begun : S → Option (List ℕ))
-    (faults refusals list_faults read_faults : S → ℕ) (old new : S)
+pub record ReadsFiles {S X : Type 0} (tree : TreeMembers S) (old new : S)
     (result : Result X ReadFault) : Type 0 where
-  pub only : OnlyReads files begun faults refusals list_faults read_faults old new
-  pub failed : IsErrOf result reads.Outside → Rose (read_faults old) (read_faults new)
+  pub only : OnlyReads tree old new
+  pub failed : IsErrOf result reads.Outside → Rose (tree.read_faults old) (tree.read_faults new)

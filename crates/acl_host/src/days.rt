@@ -1,5 +1,5 @@
 ghost use Rattle.std.specs.Prelude.{◌≡◌, ◌≤◌, ℤ, IsTrue, option_map, IfSome, IfNone, length};
-ghost use Rattle.acl_text.specs.Output.{Puts};
+ghost use Rattle.acl_text.specs.Puts.{Puts};
 ghost use Rattle.acl_host.specs.Days.{IsDayText, full_date};
 ghost use Rattle.acl_host.specs.NamedDays.{day_named};
 ghost use Rattle.acl_host.specs.DaySteps.{two_in, real_day, digits_day, day_in, date_text};
@@ -107,8 +107,7 @@ fn date_text(day: Day) -> [u8; 10]
 /// Puts the text of the day, which `read_day` reads as that day.
 pub fn put_day<O: Out>(out: &mut O, day: Day) -> Result<(), PutFault>
     requires { IsTrue (O.is_open out.old) }
-    ensures puts { Puts O.told O.faults O.refusals O.is_open O.keeps_rest out.old out.new
-        (date_text day.number) result }
+    ensures puts { Puts O.Out out.old out.new (date_text day.number) result }
     ensures text { IsDayText (date_text day.number) day.number }
 {
     let text = date_text(day);

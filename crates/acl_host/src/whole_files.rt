@@ -26,8 +26,7 @@ pub fn fault_at(alloc: Global, code: Code, label: &str) -> Result<Fault, Memory>
 pub fn listing<T: Tree>(alloc: Global, tree: &mut T, folder: &str) -> Result<FileNames, ListFault>
     ensures gives { IfSome (T.files tree.old) (λ files. Gives list_told result
         (listing folder.now files)) }
-    ensures lists { ListsFolder T.files T.begun T.faults T.refusals T.list_faults T.read_faults
-        tree.old tree.new result }
+    ensures lists { ListsFolder T.Tree tree.old tree.new result }
 {
     match tree.list(alloc, folder) {
         Ok(names) => Ok(names),
@@ -53,8 +52,7 @@ pub fn read_whole<T: Tree>(
     ensures gives { IfSome (T.files tree.old) (λ files. Gives read_told result
         (whole_file most longer path.now files)) }
     ensures fits { IfOk result (λ bytes. length bytes ≤ most) }
-    ensures reads { ReadsFiles T.files T.begun T.faults T.refusals T.list_faults T.read_faults
-        tree.old tree.new result }
+    ensures reads { ReadsFiles T.Tree tree.old tree.new result }
 {
     match tree.read(alloc, path, most + 1) {
         Ok(bytes) => {

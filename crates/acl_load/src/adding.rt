@@ -33,8 +33,7 @@ fn add_file<T: Tree>(
 ) -> Result<Base, ReadFault>
     ensures gives { IfSome (T.files tree.old) (λ files. Gives read_told result
         (with_file (map string_bytes paths.now) kind number path.now files base)) }
-    ensures reads { ReadsFiles T.files T.begun T.faults T.refusals T.list_faults T.read_faults
-        tree.old tree.new result }
+    ensures reads { ReadsFiles T.Tree tree.old tree.new result }
 {
     let bytes = read_whole(alloc, tree, path, MOST_BYTES, Code::TooLong)?;
     let read = match kind {
@@ -61,8 +60,7 @@ pub(crate) fn add_all<T: Tree>(
     requires { first + length files.now ≤ 4096 }
     ensures gives { IfSome (T.files tree.old) (λ held. Gives read_told result
         (all_of (map string_bytes paths.now) kind first (map string_bytes files.now) held base)) }
-    ensures reads { ReadsFiles T.files T.begun T.faults T.refusals T.list_faults T.read_faults
-        tree.old tree.new result }
+    ensures reads { ReadsFiles T.Tree tree.old tree.new result }
 {
     let mut so_far = base;
     let mut number = first;

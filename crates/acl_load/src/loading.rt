@@ -34,8 +34,7 @@ pub fn load_definitions<T: Tree>(
 ) -> Result<Checked, LoadFault>
     ensures loads { IfSome (T.files tree.old) (λ files.
         Answers load_told (λ checked. checked) result (Loads folder.now files)) }
-    ensures looks { LoadsFiles T.files T.begun T.faults T.refusals T.list_faults T.read_faults
-        tree.old tree.new result }
+    ensures looks { LoadsFiles T.Tree tree.old tree.new result }
 {
     let Definitions { base, paths } = read_definitions(alloc, tree, folder)?;
     Ok(check_definitions(alloc, paths.as_slice(), base)?)
@@ -59,8 +58,7 @@ fn read_definitions<T: Tree>(
     ensures paths { IfSome (T.files tree.old) (λ files. IfOk result (λ read.
         map string_bytes read.paths.items
         ≡ naming_paths folder.now (names_under folder.now files))) }
-    ensures looks { LoadsFiles T.files T.begun T.faults T.refusals T.list_faults T.read_faults
-        tree.old tree.new result }
+    ensures looks { LoadsFiles T.Tree tree.old tree.new result }
 {
     let names = listing(alloc, tree, folder)?;
     let paths = naming_paths(alloc, folder, names.as_slice())?;
@@ -89,8 +87,7 @@ fn read_all<T: Tree>(
     ensures gives { IfSome (T.files tree.old) (λ files. Gives read_told result
         (both_kinds (map string_bytes paths.now) (map string_bytes networks.now)
         (map string_bytes services.now) files)) }
-    ensures reads { ReadsFiles T.files T.begun T.faults T.refusals T.list_faults T.read_faults
-        tree.old tree.new result }
+    ensures reads { ReadsFiles T.Tree tree.old tree.new result }
 {
     let empty = Base::new(alloc);
     let base = add_all(alloc, tree, paths, Kind::Networks, 0, networks, empty)?;

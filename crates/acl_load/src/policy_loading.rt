@@ -60,8 +60,7 @@ pub fn load<T: Tree>(
 ) -> Result<Loaded, LoadFault>
     ensures loads { IfSome (T.files tree.old) (λ files.
         Answers load_told (λ l. l) result (LoadsPolicy folder.now path.now files)) }
-    ensures looks { LoadsFiles T.files T.begun T.faults T.refusals T.list_faults T.read_faults
-        tree.old tree.new result }
+    ensures looks { LoadsFiles T.Tree tree.old tree.new result }
     ensures labelled { IfOk result (λ l. IsLabelled l.sources) }
     ensures parsed { IfOk result (λ l. policy_of (words_of l.sources.lines) ≡ Ok l.policy) }
     ensures fits { IfOk result (λ l. IsPolicy l.policy) }

@@ -70,8 +70,7 @@ pub(crate) fn policy_at<T: Tree>(
 ) -> Result<PolicyText, ReadFault>
     ensures gives { IfSome (T.files tree.old) (λ files. Gives read_told result
         (policy_at path.now files)) }
-    ensures reads { ReadsFiles T.files T.begun T.faults T.refusals T.list_faults T.read_faults
-        tree.old tree.new result }
+    ensures reads { ReadsFiles T.Tree tree.old tree.new result }
     ensures labelled { IfOk result (λ t. IsLabelled t.sources) }
     ensures parsed { IfOk result (λ t. policy_of (words_of t.sources.lines) ≡ Ok t.policy) }
     ensures fits { IfOk result (λ t. IsPolicy t.policy) }

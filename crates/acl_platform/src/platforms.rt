@@ -1,6 +1,7 @@
 ghost use Rattle.std.specs.Prelude.{◌≡◌, ℕ, List, [], ◌∷◌, Bool, IsTrue, flat_map, min};
 ghost use Rattle.std.specs.List.{All};
-ghost use Rattle.acl_text.specs.Output.{COUNT_END, Puts};
+ghost use Rattle.acl_text.specs.Output.{COUNT_END};
+ghost use Rattle.acl_text.specs.Puts.{Puts};
 ghost use Rattle.acl_grammar.specs.Documents.{SpellsRows};
 ghost use Rattle.acl_grammar.specs.Rows.{text_of_rows};
 ghost use Rattle.acl_platform.specs.declared.filters.Filter.{Filter};
@@ -39,7 +40,7 @@ pub trait Platform: RuleLimits {
     fn put_section<O: Out>(&self, filter: &Filter, out: &mut O) -> Result<(), PutFault>
         requires open { IsTrue (O.is_open out.old) }
         requires sized { All IsSized filter.now.rules }
-        ensures { Puts O.told O.faults O.refusals O.is_open O.keeps_rest out.old out.new
+        ensures { Puts O.Out out.old out.new
             (text_of_rows (flat_map Self.Section.rows (section filter.now ∷ []))) result };
 
     ghost section_is_spelled: { (f : Filter)

@@ -28,8 +28,7 @@ pub type GatherFault = ReadFault;
 pub fn gather<T: Tree>(alloc: Global, tree: &mut T, path: &str) -> Result<Sources, GatherFault>
     ensures gives { IfSome (T.files tree.old) (λ fs. Gives read_told result
         (splice_of fs path.now)) }
-    ensures reads { ReadsFiles T.files T.begun T.faults T.refusals T.list_faults T.read_faults
-        tree.old tree.new result }
+    ensures reads { ReadsFiles T.Tree tree.old tree.new result }
     ensures labelled { IfOk result IsLabelled }
 {
     let mut splice = PartialSplice::new(alloc);
@@ -57,8 +56,7 @@ fn gather_into<T: Tree>(
     requires { sources.old ≡ nothing_read }
     ensures gives { IfSome (T.files tree.old) (λ fs. Leaves read_told sources.new result
         (splice_of fs path.now)) }
-    ensures reads { ReadsFiles T.files T.begun T.faults T.refusals T.list_faults T.read_faults
-        tree.old tree.new result }
+    ensures reads { ReadsFiles T.Tree tree.old tree.new result }
     ensures labelled { OnOk result (IsLabelled sources.new) }
 {
     match tree.read(alloc, path, MOST_OF_FILE + 1) {

@@ -73,8 +73,7 @@ impl<'a> SplicedFile<'a> {
         ensures gives { IfSome (T.files tree.old) (λ fs. Leaves read_told sources.new result
             (behind_include self.now.levels fs self.now.folder.now self.now.label.now line path.now
             sources.old)) }
-        ensures reads { ReadsFiles T.files T.begun T.faults T.refusals T.list_faults T.read_faults
-            tree.old tree.new result }
+        ensures reads { ReadsFiles T.Tree tree.old tree.new result }
         ensures goes_on { OnOk result (GoesOn sources.old sources.new) }
     {
         if self.levels == 0 {
@@ -120,8 +119,7 @@ impl<'a> SplicedFile<'a> {
         ensures gives { IfSome (T.files tree.old) (λ fs. Leaves read_told sources.new result
             (behind_line (behind_include self.now.levels fs self.now.folder.now) self.now.label.now
             place.file place.line text.now (asked_in text.now) sources.old)) }
-        ensures reads { ReadsFiles T.files T.begun T.faults T.refusals T.list_faults T.read_faults
-            tree.old tree.new result }
+        ensures reads { ReadsFiles T.Tree tree.old tree.new result }
         ensures goes_on { OnOk result (GoesOn sources.old sources.new) }
     {
         match asked_in(text) {
@@ -153,8 +151,7 @@ impl<'a> SplicedFile<'a> {
         ensures gives { IfSome (T.files tree.old) (λ fs. Leaves read_told sources.new result
             (behind_file (behind_include self.now.levels fs self.now.folder.now) self.now.label.now
             bytes.now sources.old)) }
-        ensures reads { ReadsFiles T.files T.begun T.faults T.refusals T.list_faults T.read_faults
-            tree.old tree.new result }
+        ensures reads { ReadsFiles T.Tree tree.old tree.new result }
         ensures goes_on { OnOk result (GoesOn sources.old sources.new) }
         ensures labels { OnOk result (0 < length sources.new.labels) }
     {

@@ -10,5 +10,6 @@ pub mod Notes
 pub mod OptionSteps
 pub mod Output
 pub mod PortRanges
+pub mod Puts
 pub mod SignedNumbers
 pub mod Steps

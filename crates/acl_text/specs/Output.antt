@@ -20,8 +20,9 @@ abbrev pub AppendsFront : List ℕ → Option (List ℕ) → List ℕ → Type 0
 AppendsFront text None new = ⊥
 AppendsFront text (Some old) new = (n : ℕ) × (new ≡ old ++ take n text)
 
--- A call that puts a text, from the output as it was to the output as it is then.
-pub record Puts {S T : Type 0} (told : S → Option (List ℕ)) (faults refusals : S → ℕ)
+-- A call that puts a text, from the output as it was to the output as it is then. It speaks of the members of
+-- the trait one by one, as the trait itself names them; `Puts` takes them as one record.
+pub record PutsBy {S T : Type 0} (told : S → Option (List ℕ)) (faults refusals : S → ℕ)
     (is_open : S → Bool) (keeps_rest : S → S → Type 0) (old new : S) (text : List ℕ)
     (result : Result T PutFault) : Type 0 where
   -- on success the text stands behind what was told

@@ -14,6 +14,7 @@ mod laws;
 mod names;
 mod notes;
 mod output;
+mod pieces;
 mod port_ranges;
 mod prefixes;
 mod short;
@@ -34,7 +35,8 @@ pub use laws::{
 };
 pub use names::{is_digit, is_filter_name, is_letter, is_name, is_safe_text};
 pub use notes::note;
-pub use output::{Out, PutFault, put_pieces};
+pub use output::{Out, PutFault};
+pub use pieces::put_pieces;
 pub use port_ranges::read_ports;
 pub use prefixes::{
     put_address, put_prefix, put_wildcard, read_address, read_prefix, read_spelled_prefix,

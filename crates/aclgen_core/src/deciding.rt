@@ -44,7 +44,7 @@ fn decision_on(alloc: Global, fault: LoadFault) -> Decision
 
 // The day that the words name, else the clock's.
 fn day_for<C: Clock>(date: Option<Day>, clock: &mut C) -> Result<Day, ClockFault>
-    ensures { FindsDay date (watch C.day C.faults clock.old) (watch C.day C.faults clock.new) result }
+    ensures { FindsDay date (watch C.Clock clock.old) (watch C.Clock clock.new) result }
 {
     match date {
         Some(day) => Ok(day),
@@ -60,9 +60,8 @@ pub fn decide<T: Tree, C: Clock>(
     clock: &mut C,
 ) -> Decision
     ensures { Decides (map string_bytes words.now)
-        (disk T.files T.begun T.list_faults T.read_faults T.faults T.refusals tree.old)
-        (disk T.files T.begun T.list_faults T.read_faults T.faults T.refusals tree.new)
-        (watch C.day C.faults clock.old) (watch C.day C.faults clock.new) result }
+        (disk T.Tree tree.old) (disk T.Tree tree.new)
+        (watch C.Clock clock.old) (watch C.Clock clock.new) result }
 {
     let options = match read_options(alloc, words) {
         Ok(Some(options)) => options,

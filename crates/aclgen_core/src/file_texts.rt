@@ -17,8 +17,7 @@ pub struct FileText {
 pub fn write_files<T: Tree>(tree: &mut T, files: &[FileText]) -> Result<(), WriteFault>
     requires begun { T.begun tree.old ≡ None }
     requires differ { PathsDiffer (map text_view files.now) }
-    ensures { WritesFiles T.files T.begun T.faults T.refusals T.list_faults T.read_faults
-        tree.old tree.new (map text_view files.now) result }
+    ensures { WritesFiles T.Tree tree.old tree.new (map text_view files.now) result }
 {
     match files {
         [] => Ok(()),

@@ -134,8 +134,7 @@ pub fn make_work<T: Tree>(
     tree: &mut T,
 ) -> Result<Work, LoadFault>
     ensures makes { MakesWork (options_view options.now) today (T.files tree.old) result }
-    ensures looks { LoadsFiles T.files T.begun T.faults T.refusals T.list_faults T.read_faults
-        tree.old tree.new result }
+    ensures looks { LoadsFiles T.Tree tree.old tree.new result }
 {
     let loaded = load(alloc, tree, options.definitions, options.policy)?;
     Ok(plan(alloc, options, today, &loaded)?)

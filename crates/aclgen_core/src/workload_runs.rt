@@ -56,9 +56,8 @@ fn plan_workload(alloc: Global, terms: u32) -> Result<Work, Memory>
 // Writes the report.
 fn report_on<O: Sink, E: Sink>(text: &[u8], out: &mut O, err: &mut E) -> Ended
     ensures { ReportsOn text.now
-        (stream O.told O.faults O.refusals out.old) (stream O.told O.faults O.refusals out.new)
-        (stream E.told E.faults E.refusals err.old) (stream E.told E.faults E.refusals err.new)
-        result }
+        (stream O.Sink out.old) (stream O.Sink out.new)
+        (stream E.Sink err.old) (stream E.Sink err.new) result }
 {
     match out.write(text) {
         Ok(()) => Ended::Done,
@@ -72,9 +71,8 @@ pub fn run_workload<O: Sink, E: Sink>(alloc: Global, terms: u32, out: &mut O, er
     requires least { 1 ≤ terms }
     requires most { terms ≤ 1024 }
     ensures { RunsWorkload terms
-        (stream O.told O.faults O.refusals out.old) (stream O.told O.faults O.refusals out.new)
-        (stream E.told E.faults E.refusals err.old) (stream E.told E.faults E.refusals err.new)
-        result }
+        (stream O.Sink out.old) (stream O.Sink out.new)
+        (stream E.Sink err.old) (stream E.Sink err.new) result }
 {
     match plan_workload(alloc, terms) {
         Ok(work) => report_on(work.report.as_slice(), out, err),

@@ -3,7 +3,7 @@ use Rattle.std.specs.Borrow.{Bor}
 use Rattle.std.proofs.lemmas.Result.{err_from_is_err_and}
 use Rattle.acl_text.specs.Output.{joined}
 use Rattle.acl_text.proofs.Putting.{goes_on, stops, joined-split}
-use Rattle.acl_text.proofs.output.put_pieces.Goals as goal
+use Rattle.acl_text.proofs.pieces.put_pieces.Goals as goal
 
 pub returns-in_err-put : goal.returns-in_err-put
 returns-in_err-put g c =
