@@ -16,6 +16,7 @@ mod notes;
 mod output;
 mod port_ranges;
 mod prefixes;
+mod refusals;
 mod short;
 mod signed_numbers;
 mod texts;
