@@ -1,4 +1,5 @@
 pub mod AddressTexts
+pub mod AnsweredCodes
 pub mod Answers
 pub mod Cursors
 pub mod Cuts
@@ -11,5 +12,6 @@ pub mod OptionSteps
 pub mod Output
 pub mod PortRanges
 pub mod Puts
+pub mod Refusals
 pub mod SignedNumbers
 pub mod Steps

@@ -17,6 +17,7 @@ mod output;
 mod pieces;
 mod port_ranges;
 mod prefixes;
+mod refusals;
 mod short;
 mod signed_numbers;
 mod texts;
