@@ -8,7 +8,7 @@ use Rattle.acl_text.specs.declared.faults.Slip.{Slip}
 use Rattle.acl_text.specs.Steps.{◌>>=◌}
 use Rattle.acl_host.specs.Files.{File, names_under}
 use Rattle.acl_host.specs.WholeFiles.{listing}
-use Rattle.acl_naming.specs.declared.item_words.Kind.TheVariants as kinds
+use Rattle.acl_naming.specs.declared.item_words.NamingKind.TheVariants as kinds
 use Rattle.acl_naming.specs.Definitions.{Definition, Naming}
 use Rattle.acl_naming.specs.NamingFiles.{file_added}
 use Rattle.acl_naming.specs.PortLaws.{IsInOrder, PortsAreOrdered, PortsAreSome}
@@ -27,8 +27,8 @@ use Rattle.acl_terms.specs.declared.terms.Term.{Term}
 use Rattle.acl_terms.specs.Slips.{slip_of}
 use Rattle.acl_terms.proofs.TermLaws.{term-there}
 use Rattle.acl_terms.proofs.WordLaws.{parts}
-use Rattle.acl_load.specs.declared.adding.Kind.{Kind}
-use Rattle.acl_load.specs.declared.adding.Kind.TheVariants.{Networks, Services}
+use Rattle.acl_naming.specs.declared.item_words.NamingKind.{NamingKind}
+use Rattle.acl_naming.specs.declared.item_words.NamingKind.TheVariants.{Networks, Services}
 use Rattle.acl_load.specs.declared.policy_loading.Loaded.{Loaded}
 use Rattle.acl_load.specs.declared.policy_texts.PolicyText.{PolicyText}
 use Rattle.acl_load.specs.LoadedPolicies.{AnswersAreThere, AreResolved, AreResolvedIn, GoesOn, IsLoadedFrom, LoadedPoliciesStand, LoadedStands, LoadsPolicy, Resolves, ResolvesWith, blocks_slip, policy_at, policy_in, terms_slip}
@@ -64,7 +64,7 @@ told-by Q paths (Err s) h = tt
 abbrev Ordered : Naming → Type 0
 Ordered n = PortsAreOrdered n.services
 
-file-ordered : (paths : List (List ℕ)) (kind : Kind) (number : ℕ) (path : List ℕ) (files : List File) (base : Naming) → Ordered base
+file-ordered : (paths : List (List ℕ)) (kind : NamingKind) (number : ℕ) (path : List ℕ) (files : List File) (base : Naming) → Ordered base
     → IfOk (with_file paths kind number path files base) Ordered
 unfolding with_file
 file-ordered paths Networks number path files base h =
@@ -76,7 +76,7 @@ file-ordered paths Services number path files base h =
     behind PortsAreOrdered Ordered (or_fault paths added) _
     (told-by PortsAreOrdered paths added (order-kept number base.services bytes h)) (λ definitions k. k))
 
-files-ordered : (paths : List (List ℕ)) (kind : Kind) (number : ℕ) (more : List (List ℕ)) (files : List File) (base : Naming) → Ordered base
+files-ordered : (paths : List (List ℕ)) (kind : NamingKind) (number : ℕ) (more : List (List ℕ)) (files : List File) (base : Naming) → Ordered base
     → IfOk (all_of paths kind number more files base) Ordered
 files-ordered paths kind number [] files base h = h
 files-ordered paths kind number (path ∷ more) files base h =

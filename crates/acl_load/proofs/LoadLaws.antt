@@ -6,7 +6,7 @@ use Rattle.acl_text.specs.declared.faults.Fault.{Fault}
 use Rattle.acl_host.specs.Files.{File, is_folder, names_under}
 use Rattle.acl_text.specs.declared.faults.Code.TheVariants.{TooManyFiles}
 use Rattle.acl_naming.specs.Definitions.{Naming}
-use Rattle.acl_load.specs.declared.adding.Kind.TheVariants.{Networks, Services}
+use Rattle.acl_naming.specs.declared.item_words.NamingKind.TheVariants.{Networks, Services}
 use Rattle.acl_host.specs.declared.look_faults.ReadFault.{ReadFault}
 use Rattle.acl_text.specs.Answers.{Gives}
 use Rattle.acl_host.specs.WholeFiles.{fault_at, listing, read_told}

@@ -7,13 +7,11 @@ use Rattle.acl_text.specs.declared.faults.Slip.{Slip}
 use Rattle.acl_text.specs.Steps.{◌>>=◌}
 use Rattle.acl_host.specs.Files.{File, join_path, names_under}
 use Rattle.acl_host.specs.WholeFiles.{fault_at, whole_file, listing}
-use Rattle.acl_naming.specs.declared.item_words.Kind.{Kind as NamingKind}
-use Rattle.acl_naming.specs.declared.item_words.Kind.TheVariants as kinds
 use Rattle.acl_naming.specs.Definitions.{Definition, Naming}
 use Rattle.acl_naming.specs.Checking.{undefined_of, HasNoCycle, IsSlipOf}
 use Rattle.acl_naming.specs.NamingFiles.{file_added}
-use Rattle.acl_load.specs.declared.adding.Kind.{Kind}
-use Rattle.acl_load.specs.declared.adding.Kind.TheVariants.{Networks, Services}
+use Rattle.acl_naming.specs.declared.item_words.NamingKind.{NamingKind}
+use Rattle.acl_naming.specs.declared.item_words.NamingKind.TheVariants.{Networks, Services}
 
 -- A naming file of networks ends in `.net`, one of services in `.svc`.
 abbrev pub is_net : List ℕ → Bool
@@ -56,30 +54,25 @@ or_fault paths (Err slip) = Err (fault_of paths slip)
 abbrev pub naming_file : List ℕ → List File → Result (List ℕ) Fault
 naming_file path files = whole_file MOST_BYTES TooLong path files
 
--- The kind in the words of `acl_naming`; the list of a naming that has the definitions of this kind; and the naming
--- with another list in its place.
-abbrev pub naming_kind : Kind → NamingKind
-naming_kind Networks = kinds.Networks
-naming_kind Services = kinds.Services
-
-abbrev pub list_of : Kind → Naming → List Definition
+-- The list of a naming that has the definitions of this kind, and the naming with another list in its place.
+abbrev pub list_of : NamingKind → Naming → List Definition
 list_of Networks base = base.networks
 list_of Services base = base.services
 
-abbrev pub with_list : Kind → Naming → List Definition → Naming
+abbrev pub with_list : NamingKind → Naming → List Definition → Naming
 with_list Networks base definitions = record base { networks = definitions }
 with_list Services base definitions = record base { services = definitions }
 
 -- One file of a kind, and its definitions behind those of this kind so far. `paths` are those of all files.
-unfoldable pub with_file : List (List ℕ) → Kind → ℕ → List ℕ → List File → Naming
+unfoldable pub with_file : List (List ℕ) → NamingKind → ℕ → List ℕ → List File → Naming
     → Result Naming Fault
 with_file paths kind number path files base = do
   bytes ← naming_file path files
-  definitions ← or_fault paths (file_added (naming_kind kind) number (list_of kind base) bytes)
+  definitions ← or_fault paths (file_added kind number (list_of kind base) bytes)
   Ok (with_list kind base definitions)
 
 -- One file after the other, all of a kind, of which the first has this number.
-abbrev pub all_of : List (List ℕ) → Kind → ℕ → List (List ℕ) → List File → Naming
+abbrev pub all_of : List (List ℕ) → NamingKind → ℕ → List (List ℕ) → List File → Naming
     → Result Naming Fault
 all_of paths kind number [] files base = Ok base
 all_of paths kind number (path ∷ more) files base =

@@ -6,19 +6,12 @@ ghost use Rattle.acl_load.specs.Loading.{with_file, all_of};
 
 use crate::slips::fault_of;
 use acl_host::{ReadFault, Tree, read_whole};
-use acl_naming::{Base, read_networks, read_services};
+use acl_naming::{Base, NamingKind, read_networks, read_services};
 use acl_text::{Code, Refusal};
 use std::alloc::Global;
 
 // The most bytes of a naming file.
 const MOST_BYTES: usize = 4_194_304;
-
-/// What a naming file defines.
-#[derive(Clone, Copy)]
-pub(crate) enum Kind {
-    Networks,
-    Services,
-}
 
 // The base with the definitions of the file of this number, which lies at the path.
 #[tactic(auto, unfolding(crate::specs::Loading::with_file))]
@@ -26,7 +19,7 @@ fn add_file<T: Tree>(
     alloc: Global,
     tree: &mut T,
     paths: &[String],
-    kind: Kind,
+    kind: NamingKind,
     number: u32,
     path: &str,
     base: Base,
@@ -37,8 +30,8 @@ fn add_file<T: Tree>(
 {
     let bytes = read_whole(alloc, tree, path, MOST_BYTES, Code::TooLong)?;
     let read = match kind {
-        Kind::Networks => read_networks(base, number, bytes.as_slice()),
-        Kind::Services => read_services(base, number, bytes.as_slice()),
+        NamingKind::Networks => read_networks(base, number, bytes.as_slice()),
+        NamingKind::Services => read_services(base, number, bytes.as_slice()),
     };
     match read {
         Ok(base) => Ok(base),
@@ -52,7 +45,7 @@ pub(crate) fn add_all<T: Tree>(
     alloc: Global,
     tree: &mut T,
     paths: &[String],
-    kind: Kind,
+    kind: NamingKind,
     first: u32,
     files: &[String],
     base: Base,

@@ -6,7 +6,7 @@ ghost use Rattle.acl_host.specs.WholeFiles.{ReadsFiles, read_told};
 ghost use Rattle.acl_load.specs.LoadFaults.{LoadsFiles, load_told};
 ghost use Rattle.acl_load.specs.Loading.{AnswersWith, Loads, naming_paths, both_kinds, definitions_of};
 
-use crate::adding::{Kind, add_all};
+use crate::adding::add_all;
 use crate::load_faults::LoadFault;
 use crate::naming_paths::naming_paths;
 use crate::slips::fault_of;
@@ -90,9 +90,17 @@ fn read_all<T: Tree>(
     ensures reads { ReadsFiles T.Tree tree.old tree.new result }
 {
     let empty = Base::new(alloc);
-    let base = add_all(alloc, tree, paths, Kind::Networks, 0, networks, empty)?;
+    let base = add_all(alloc, tree, paths, NamingKind::Networks, 0, networks, empty)?;
     let first = networks.len() as u32;
-    add_all(alloc, tree, paths, Kind::Services, first, services, base)
+    add_all(
+        alloc,
+        tree,
+        paths,
+        NamingKind::Services,
+        first,
+        services,
+        base,
+    )
 }
 
 // The base, where each of its names is defined and none reaches itself.

@@ -15,7 +15,7 @@ ghost use Rattle.acl_naming.specs.NamingFiles.{
   split_added,
 };
 
-use crate::item_words::{Kind, read_item};
+use crate::item_words::{NamingKind, read_item};
 use crate::line_parts::{bad_byte, trimmed, without_comment};
 use crate::refusals::refusal;
 use crate::tables::Table;
@@ -35,7 +35,7 @@ fn is_full(table: &Table) -> bool
 #[derive(Clone, Copy)]
 struct LineReader {
     alloc: Global,
-    kind: Kind,
+    kind: NamingKind,
     place: Place,
 }
 
@@ -151,7 +151,7 @@ impl LineReader {
 pub fn add_file(
     alloc: Global,
     table: &mut Table,
-    kind: Kind,
+    kind: NamingKind,
     file: u32,
     bytes: &[u8],
 ) -> Result<(), Refusal>

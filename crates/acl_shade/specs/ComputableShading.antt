@@ -12,7 +12,7 @@ use Rattle.acl_target.specs.declared.targets.Target.{Target}
 use Rattle.acl_terms.specs.declared.options.Opt.{Opt}
 use Rattle.acl_terms.specs.declared.options.Opt.TheVariants.{Plain, Established, TcpEstablished, TcpInitial, Rst}
 use Rattle.acl_terms.specs.declared.terms.Term.{Term}
-use Rattle.acl_terms.specs.Matching.{foreign_of}
+use Rattle.acl_packet.specs.Packets.{foreign_of}
 use Rattle.acl_terms.specs.Resolved.{destination_in, is_empty_in, is_term_live, source_in}
 use Rattle.acl_shade.specs.Shading.{Shades}
 

@@ -7,7 +7,8 @@ use crate::targets::{Kind, Target};
 use acl_packet::Families;
 use acl_text::{Out, PutFault, put_pieces};
 
-fn kind_text(kind: Kind) -> &'static [u8]
+/// The word of a target line that names the platform, and of `platform::`.
+pub fn kind_text(kind: Kind) -> &'static [u8]
     ensures { result.now ≡ kind_text kind }
 {
     match kind {

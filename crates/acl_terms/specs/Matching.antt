@@ -42,11 +42,6 @@ protocols_of words = flat_map (λ w. option_to_list (protocol_in w.text)) words
 abbrev pub IsProtocol : List Word → ℕ → Type 0
 IsProtocol words n = Admits (λ w. protocol_in w.text ≡ Some n) words
 
--- The ICMP of the other family: 58 in IPv4, 1 in IPv6.
-abbrev pub foreign_of : Family → ℕ
-foreign_of V4 = 58
-foreign_of V6 = 1
-
 -- A packet of a family is not taken for one of the other family's ICMP, though that is named.
 abbrev pub IsProtocolIn : Family → List Word → ℕ → Type 0
 IsProtocolIn f [] n = Unit {0}

@@ -16,7 +16,8 @@ use Rattle.acl_naming.specs.Definitions.{Naming}
 use Rattle.acl_terms.specs.declared.options.Mode.{Mode}
 use Rattle.acl_terms.specs.declared.terms.Term.{Term}
 use Rattle.acl_terms.specs.Living.{IsUnexpired, allows, has_platform, platforms_of, some_platforms}
-use Rattle.acl_terms.specs.Matching.{foreign_of, is_written}
+use Rattle.acl_terms.specs.Matching.{is_written}
+use Rattle.acl_packet.specs.Packets.{foreign_of}
 use Rattle.acl_terms.specs.Options.{option_of, passes, verdict_of}
 use Rattle.acl_terms.specs.Sets.{AreSetsOf, Sets}
 use Rattle.acl_sets.specs.ComputableSets.{is_all}

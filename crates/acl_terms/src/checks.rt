@@ -26,7 +26,7 @@ ghost use Rattle.acl_terms.specs.Slips.{
 };
 
 use crate::options::Opt;
-use acl_packet::{Family, Verdict, icmp_number};
+use acl_packet::{Family, Verdict, has_ports, icmp_number};
 use acl_policy::{RawTerm, WordList, WordRef, WordsLeft};
 use acl_text::{Bytes, Code, Refusal, Slip};
 use std::alloc::Global;
@@ -65,12 +65,6 @@ fn check_first(alloc: Global, passed: bool, code: Code, words: &WordList) -> Res
 }
 
 // ---- tests on the protocols of a term
-
-fn has_ports(proto: u8) -> bool
-    ensures { result ≡ has_ports proto }
-{
-    proto == 6 || proto == 17 || proto == 132
-}
 
 fn all_have_ports(protos: &[u8]) -> bool
     ensures { result ≡ list_all has_ports protos.now }

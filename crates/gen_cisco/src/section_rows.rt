@@ -21,12 +21,12 @@ ghost use Rattle.gen_cisco.specs.Sections.{
 
 use crate::counts::{has_rule, is_of};
 use acl_grammar::{Form, Row, Rows, Word};
-use acl_packet::{Families, Family, Verdict};
+use acl_packet::{Families, Family, Prefix, Verdict};
 use acl_platform::{
     Combination, Filter, RemarkForm, RemarkRows, Rule, RuleForm, Test, put_combinations, put_rules,
 };
 use acl_text::{Out, PutFault};
-use cisco_lang::{Entry, EntryRow, Flags, ListEnd, ListHead, RemarkRow, SectionHead, everywhere};
+use cisco_lang::{Entry, EntryRow, Flags, ListEnd, ListHead, RemarkRow, SectionHead};
 
 /// Puts the text of the section that the filter becomes, in an output that has to be open. Protocols and
 /// types of its rules have to be numbers below 256, ports below 65,536.
@@ -157,9 +157,9 @@ fn wide_row(family: Family, permit: bool, proto: Option<u8>, itype: Option<u8>) 
         entry: Entry {
             permit,
             proto,
-            src: everywhere(family),
+            src: Prefix::everywhere(family),
             sport: None,
-            dst: everywhere(family),
+            dst: Prefix::everywhere(family),
             dport: None,
             itype,
             flags: None,

@@ -8,7 +8,7 @@ use Rattle.acl_text.specs.declared.faults.Fault.{Fault}
 use Rattle.acl_text.specs.Steps.{◌>>=◌}
 use Rattle.acl_host.specs.Files.{names_under}
 use Rattle.acl_host.specs.WholeFiles.{at_most, listing, whole_file}
-use Rattle.acl_naming.specs.declared.item_words.Kind.TheVariants.{Networks, Services}
+use Rattle.acl_naming.specs.declared.item_words.NamingKind.TheVariants.{Networks, Services}
 use Rattle.acl_naming.specs.Checking.{HasNoCycle, first_of, first_undefined, undefined_in}
 use Rattle.acl_naming.specs.Definitions.{Definition, Naming, index_of, items_at, items_in}
 use Rattle.acl_naming.specs.NamingFiles.{file_added}

@@ -6,7 +6,7 @@ use Rattle.std.proofs.lemmas.Bool.Decides.{nat_tests}
 use Rattle.acl_packet.specs.declared.addresses.Family.{Family}
 use Rattle.acl_packet.specs.declared.addresses.Family.TheVariants.{V4, V6}
 use Rattle.acl_packet.specs.declared.filtering.Verdict.TheVariants.{Accept}
-use Rattle.acl_packet.specs.Addresses.{top_address}
+use Rattle.acl_packet.specs.Addresses.{top_address, everywhere}
 use Rattle.acl_host.specs.declared.clocks.Day.{Day}
 use Rattle.acl_sets.specs.ComputableLeastLists.{halved_space}
 use Rattle.acl_sets.specs.ComputableSets.{cut_all}
@@ -16,7 +16,7 @@ use Rattle.acl_packet.specs.declared.addresses.Prefix.{Prefix}
 use Rattle.acl_target.specs.declared.targets.Kind.{Kind}
 use Rattle.acl_target.specs.declared.targets.Kind.TheVariants.{Cisco, Juniper, Iptables, Nftables}
 use Rattle.acl_target.specs.declared.targets.Target.{Target}
-use Rattle.acl_terms.specs.Matching.{foreign_of}
+use Rattle.acl_packet.specs.Packets.{foreign_of}
 use Rattle.acl_terms.specs.Resolved.{is_empty_in, is_term_live}
 use Rattle.acl_platform.specs.declared.rules.Rule.{Rule}
 use Rattle.acl_platform.specs.declared.rules.Test.TheVariants.{Plain}
@@ -55,8 +55,8 @@ least4 i = record { family = V4; first = 167772160 + i * 256; len = 24 } ∷ []
 abbrev pub least6 : ℕ → List Prefix
 least6 i = record { family = V6; first = 42540766411282592856903984951653826560 + i * 1208925819614629174706176; len = 48 } ∷ []
 
-abbrev everywhere : Family → List Prefix
-everywhere f = record { family = f; first = 0; len = 0 } ∷ []
+abbrev all_addresses : Family → List Prefix
+all_addresses f = everywhere f ∷ []
 
 halved4 : (i : ℕ) → i < 1024 → halved_space V4 (source4 i) ≡ least4 i
 halved4 i below = descend V4 8 24 0 (167772160 + i * 256) (655360 + i) (omega arith) (omega (arith, below))
@@ -64,10 +64,10 @@ halved4 i below = descend V4 8 24 0 (167772160 + i * 256) (655360 + i) (omega ar
 halved6 : (i : ℕ) → i < 1024 → halved_space V6 (source6 i) ≡ least6 i
 halved6 i below = descend V6 80 48 0 (42540766411282592856903984951653826560 + i * 1208925819614629174706176) (35188897218560 + i) (omega arith) (omega (arith, below))
 
-all4 : halved_space V4 (range 0 (top_address V4) ∷ []) ≡ everywhere V4
+all4 : halved_space V4 (range 0 (top_address V4) ∷ []) ≡ all_addresses V4
 all4 = descend V4 32 0 0 0 0 (omega arith) (omega arith)
 
-all6 : halved_space V6 (range 0 (top_address V6) ∷ []) ≡ everywhere V6
+all6 : halved_space V6 (range 0 (top_address V6) ∷ []) ≡ all_addresses V6
 all6 = descend V6 128 0 0 0 0 (omega arith) (omega arith)
 
 abbrev pub rule_at : Kind → ℕ → Family → List Prefix → List Prefix → Rule
@@ -88,10 +88,10 @@ rule_at kind i f src dst = record {
 }
 
 abbrev pub rule4 : Kind → ℕ → Rule
-rule4 kind i = rule_at kind i V4 (least4 i) (everywhere V4)
+rule4 kind i = rule_at kind i V4 (least4 i) (all_addresses V4)
 
 abbrev pub rule6 : Kind → ℕ → Rule
-rule6 kind i = rule_at kind i V6 (least6 i) (everywhere V6)
+rule6 kind i = rule_at kind i V6 (least6 i) (all_addresses V6)
 
 -- The rules by the networks and the list of all addresses, which the least lists are.
 abbrev found4 : Kind → ℕ → Rule
