@@ -9,7 +9,7 @@ use Rattle.acl_host.specs.declared.sinks.WriteFault.{WriteFault}
 use Rattle.acl_host.specs.declared.sinks.WriteFault.TheVariants as write
 use Rattle.acl_host.specs.declared.clocks.ClockFault.{ClockFault}
 use Rattle.acl_host.specs.declared.clocks.ClockFault.TheVariants as clock
-use Rattle.acl_host.specs.declared.clocks.Day.{Day}
+use Rattle.acl_days.specs.declared.days.Day.{Day}
 
 -- The files, the begun path and the counts of the writing calls stay.
 pub record OnlyLooks {S : Type 0} (files : S → Option (List File)) (begun : S → Option (List ℕ))

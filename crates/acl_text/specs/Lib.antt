@@ -12,3 +12,4 @@ pub mod Output
 pub mod PortRanges
 pub mod SignedNumbers
 pub mod Steps
+pub mod Wholes

@@ -19,6 +19,7 @@ mod prefixes;
 mod short;
 mod signed_numbers;
 mod texts;
+mod wholes;
 mod words;
 
 pub use acl_packet::{read_number, read_u8, read_u16};
@@ -41,4 +42,5 @@ pub use prefixes::{
 };
 pub use signed_numbers::read_signed;
 pub use texts::{Bytes, Memory};
+pub use wholes::Whole;
 pub use words::{is_white, next_word, skip_white};
