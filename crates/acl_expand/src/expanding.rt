@@ -8,7 +8,7 @@ ghost use Rattle.acl_expand.specs.TermRules.{rules_of, term_rules};
 
 use crate::rule_making::push_term;
 use crate::slips::{check_header, check_prefixes, prefixes_behind};
-use acl_host::Day;
+use acl_days::Day;
 use acl_platform::{Filter, Rules};
 use acl_target::Target;
 use acl_terms::Term;

@@ -19,7 +19,7 @@ ghost use Rattle.acl_expand.specs.TermRules.{
 };
 
 use crate::conditions::{Conditions, tcp_half, udp_alone, udp_half, whole};
-use acl_host::Day;
+use acl_days::Day;
 use acl_packet::{Families, Family, Prefix, Verdict};
 use acl_platform::{Rule, Rules, Test};
 use acl_sets::{Prefixes, RangeSet, least_prefixes};

@@ -79,7 +79,7 @@ impl FileNames {
     }
 
     /// Puts the names in byte order, or changes nothing where memory is wanted.
-    pub(crate) fn sort(&mut self) -> Result<(), Memory>
+    pub fn sort(&mut self) -> Result<(), Memory>
         ensures same { IsPermutation self.old self.new }
         ensures ok { OnOk result (AreInByteOrder self.new) }
         ensures err { OnErr result (self.new ≡ self.old) }
@@ -89,7 +89,7 @@ impl FileNames {
     }
 
     /// Puts the name into its place among names in byte order, or changes nothing where memory is wanted.
-    pub(crate) fn put_in_order(&mut self, item: String) -> Result<(), Memory>
+    pub fn put_in_order(&mut self, item: String) -> Result<(), Memory>
         ensures ok { OnOk result (self.new ≡ put_in_order (string_bytes item) self.old) }
         ensures err { OnErr result (self.new ≡ self.old) }
     {

@@ -17,7 +17,7 @@ use crate::raw_terms::RawTerm;
 use crate::term_drafts::{Draft, add_comments};
 use crate::values::{Takes, check_values, is_text, one_value, push_values};
 use crate::word_slips::slip_at;
-use acl_host::read_day;
+use acl_days::read_day;
 use acl_text::{Code, Refusal};
 use acl_words::Token;
 use std::alloc::Global;

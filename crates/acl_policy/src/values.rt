@@ -22,7 +22,7 @@ ghost use Rattle.acl_policy.specs.Values.{
 
 use crate::clauses::Clause;
 use crate::word_slips::{slip_at, slip_for};
-use acl_host::read_day;
+use acl_days::read_day;
 use acl_packet::{Family, icmp_number, protocol_number};
 use acl_text::{Bytes, Code, Memory, Refusal, is_name};
 use acl_words::{Form, Token, Word, WordList};

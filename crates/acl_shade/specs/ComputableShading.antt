@@ -4,7 +4,7 @@ use Rattle.std.specs.List.{list_all, list_any, position}
 use Rattle.std.specs.Option.{option_and_then}
 use Rattle.acl_packet.specs.declared.addresses.Family.{Family}
 use Rattle.acl_packet.specs.declared.addresses.Family.TheVariants.{V4, V6}
-use Rattle.acl_host.specs.declared.clocks.Day.{Day}
+use Rattle.acl_days.specs.declared.days.Day.{Day}
 use Rattle.acl_sets.specs.declared.sets.Range.{Range}
 use Rattle.acl_sets.specs.ComputableSets.{all_covered, covers, is_all}
 use Rattle.acl_sets.specs.Ranges.{Numbers}

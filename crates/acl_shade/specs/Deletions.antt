@@ -2,7 +2,7 @@
 use Rattle.std.specs.Prelude.{◌≡◌, Bool, true, List, Contains}
 use Rattle.std.specs.List.{list_any}
 use Rattle.acl_packet.specs.declared.packets.Packet.{Packet}
-use Rattle.acl_host.specs.declared.clocks.Day.{Day}
+use Rattle.acl_days.specs.declared.days.Day.{Day}
 use Rattle.acl_target.specs.declared.targets.Target.{Target}
 use Rattle.acl_terms.specs.declared.terms.Term.{Term}
 use Rattle.acl_terms.specs.Outcomes.{policy_outcome}

@@ -15,3 +15,4 @@ pub mod Puts
 pub mod Refusals
 pub mod SignedNumbers
 pub mod Steps
+pub mod Wholes

@@ -1,11 +1,15 @@
 -- What putting a text into an output means.
-use Rattle.std.specs.Prelude.{◌≡◌, ℕ, ◌-◌, ◌^◌, ◌<◌, ◌≤◌, Bool, true, false, List, ◌++◌, take, flat_map, Option, None, Some, Result, option_map, OnOk, OnErr, IfSome, IsErrOf}
+use Rattle.std.specs.Prelude.{◌≡◌, ℕ, ◌+◌, ◌-◌, ◌^◌, min, ◌<◌, ◌≤◌, Bool, true, false, List, ◌++◌, take, flat_map, Option, None, Some, Result, option_map, OnOk, OnErr, IfSome, IsErrOf}
 use Rattle.acl_text.specs.declared.output.PutFault.{PutFault}
 use Rattle.acl_text.specs.declared.output.PutFault.TheVariants.{Failed, Memory}
 
 -- A count is kept in 64 bits, and stands still at their end.
 abbrev pub COUNT_END : ℕ
 COUNT_END = 2 ^ 64 - 1
+
+-- A count that is kept in 64 bits, one higher: it stands still at their end.
+abbrev pub one_more : ℕ → ℕ
+one_more count = min (count + 1) COUNT_END
 
 -- A count rose in a call: unless it stands at its end, it is greater after the call than before.
 abbrev pub Rose : ℕ → ℕ → Type 0

@@ -21,6 +21,7 @@ mod refusals;
 mod short;
 mod signed_numbers;
 mod texts;
+mod wholes;
 mod words;
 
 pub use acl_packet::{read_number, read_u8, read_u16};
@@ -44,4 +45,5 @@ pub use prefixes::{
 };
 pub use signed_numbers::read_signed;
 pub use texts::{Bytes, Memory};
+pub use wholes::Whole;
 pub use words::{is_white, next_word, skip_white};

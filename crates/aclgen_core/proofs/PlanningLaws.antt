@@ -16,8 +16,8 @@ use Rattle.acl_text.specs.declared.faults.Rejection.{Rejection}
 use Rattle.acl_text.specs.declared.faults.Rejection.TheVariants as rejections
 use Rattle.acl_text.proofs.ListLaws.{all_append}
 use Rattle.acl_host.specs.declared.clocks.ClockFault.{ClockFault}
-use Rattle.acl_host.specs.declared.clocks.Day.{Day}
-use Rattle.acl_host.proofs.NamedDayLaws.{same-day}
+use Rattle.acl_days.specs.declared.days.Day.{Day}
+use Rattle.acl_days.proofs.NamedDayLaws.{same-day}
 use Rattle.acl_host.specs.Files.{File, join_path}
 use Rattle.acl_host.specs.Outside.{OnlyListsAndReads, TreeMembers}
 use Rattle.acl_naming.specs.Definitions.{Naming}

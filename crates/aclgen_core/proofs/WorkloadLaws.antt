@@ -3,9 +3,9 @@ use Rattle.std.proofs.Common.{◌≡◌, ℕ, ◌<◌, ◌≤◌, pos, List, [],
 use Rattle.std.specs.List.{AllByRecursion}
 use Rattle.std.proofs.lemmas.Int.{ints}
 use Rattle.acl_text.specs.declared.faults.Fault.{Fault}
-use Rattle.acl_host.specs.declared.clocks.Day.{Day}
+use Rattle.acl_days.specs.declared.days.Day.{Day}
 use Rattle.acl_host.specs.Files.{File}
-use Rattle.acl_host.proofs.NamedDayLaws.{same-day}
+use Rattle.acl_days.proofs.NamedDayLaws.{same-day}
 use Rattle.acl_naming.specs.Checking.{first_of}
 use Rattle.acl_policy.specs.declared.blocks.Policy.{Policy}
 use Rattle.acl_policy.specs.declared.raw_terms.RawTerm.{RawTerm}

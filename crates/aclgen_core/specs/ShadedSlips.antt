@@ -3,7 +3,7 @@ use Rattle.std.specs.Prelude.{ℕ, Bool, if◌then◌else◌, List, zip, Option,
 use Rattle.std.specs.List.{enumerate_from}
 use Rattle.acl_text.specs.declared.faults.Code.TheVariants.{Shaded}
 use Rattle.acl_text.specs.declared.faults.Slip.{Slip}
-use Rattle.acl_host.specs.declared.clocks.Day.{Day}
+use Rattle.acl_days.specs.declared.days.Day.{Day}
 use Rattle.acl_target.specs.declared.targets.Target.{Target}
 use Rattle.acl_policy.specs.declared.blocks.Block.{Block}
 use Rattle.acl_terms.specs.declared.terms.Term.{Term}

@@ -6,10 +6,11 @@ ghost use Rattle.aclgen_core.specs.DecidingSteps.{Decides, FindsDay, FollowsFrom
 use crate::endings::Which;
 use crate::fault_lines::fault_line;
 use crate::planning::{Work, make_work};
-use acl_host::{Clock, ClockFault, Day, Tree, Whole};
+use acl_days::Day;
+use acl_host::{Clock, ClockFault, Tree};
 use acl_load::LoadFault;
 use acl_options::read_options;
-use acl_text::Fault;
+use acl_text::{Fault, Whole};
 use std::alloc::Global;
 
 /// What a run is to do.

@@ -2,9 +2,10 @@ ghost use Rattle.std.specs.Prelude.{◌≡◌, None, map};
 ghost use Rattle.aclgen_core.specs.FileLists.{PathsDiffer, WritesFiles};
 ghost use Rattle.aclgen_core.specs.DecidingSteps.{text_view};
 
-use acl_host::{Tree, Whole, WriteFault, write_file};
-
 /// A file that is to be written: its path and its bytes.
+use acl_host::{Tree, WriteFault, write_file};
+use acl_text::Whole;
+
 #[derive(Drop)]
 pub struct FileText {
     pub path: String,

@@ -1,6 +1,6 @@
 ghost use Rattle.std.specs.Prelude.{◌≡◌, ℕ, List, Option, Result};
 ghost use Rattle.acl_text.specs.declared.faults.Fault.{Fault};
-ghost use Rattle.acl_host.specs.declared.clocks.Day.{Day};
+ghost use Rattle.acl_days.specs.declared.days.Day.{Day};
 ghost use Rattle.acl_host.specs.Files.{File};
 ghost use Rattle.aclgen_core.specs.Job.{IsJob, Plan};
 ghost use Rattle.aclgen_core.specs.WorkloadRuns.{WorkloadsHaveNoFault};

@@ -3,7 +3,7 @@ ghost use Rattle.acl_terms.specs.Slips.{Judges, first_in};
 ghost use Rattle.aclgen_core.specs.ShadedSlips.{block_shaded, loaded_shaded, terms_shaded};
 
 use crate::slips::refusal_at;
-use acl_host::Day;
+use acl_days::Day;
 use acl_load::{Loaded, Terms};
 use acl_policy::{Block, Target};
 use acl_shade::shading_term;

@@ -1,5 +1,5 @@
 ghost use Rattle.std.specs.Prelude.{◌≡◌, ◌≤◌, IfOk};
-ghost use Rattle.acl_host.specs.MemoryTrees.{contents};
+ghost use Rattle.acl_memory.specs.MemoryTrees.{contents};
 ghost use Rattle.aclgen_core.specs.Worlds.{stream};
 ghost use Rattle.aclgen_core.specs.WorkloadRuns.{MakesWorkload, ReportsOn, RunsWorkload};
 ghost use Rattle.workload_laws.specs.WorkloadFiles.{workload_files};
@@ -7,8 +7,10 @@ ghost use Rattle.workload_laws.specs.WorkloadFiles.{workload_files};
 use crate::acting::tell_outside;
 use crate::endings::{Ended, Which};
 use crate::planning::{Work, make_work};
-use acl_host::{Day, MemTree, Sink, WriteFault};
+use acl_days::Day;
+use acl_host::{Sink, WriteFault};
 use acl_load::LoadFault;
+use acl_memory::MemTree;
 use acl_options::Options;
 use acl_text::Memory;
 use acl_workload::workload;

@@ -27,7 +27,7 @@ use Rattle.acl_policy.specs.Slips.{start_place, slip_of, slip_with}
 use Rattle.acl_policy.specs.Targets.{is_word, or_slip, family_word, chain_word, hook_word, name_word, no_choices, choice, choices_from, last_family, device_line, device_target, named_target, iptables_target, iptables_line, nftables_target, hooked_line, nftables_line, target_line}
 use Rattle.acl_policy.specs.Terms.{with_comments, term_with_addresses, term_with_protocols, term_with_lists, draft_behind}
 use Rattle.acl_policy.specs.Values.{is_value, word_of, all_values, some_values, words_with, one_value}
-use Rattle.acl_host.specs.NamedDays.{day_named}
+use Rattle.acl_days.specs.NamedDays.{day_named}
 use Rattle.policy_grammar.specs.ReadingLaws.{may_be_mended}
 use Rattle.policy_grammar.proofs.Outcomes.{bind_assoc, bind_same}
 

@@ -9,9 +9,8 @@ use crate::tests::samples::{
     ANY, Head, Lines, Sample, every_second_host, filter_from, filter_of, rules,
 };
 use acl_grammar::{read_document, sections};
-use acl_host::Whole;
 use acl_platform::{Filter, Limit, Platform, RuleLimits, count_in_limit, first_limit, write_all};
-use acl_text::{Memory, PutFault};
+use acl_text::{Memory, PutFault, Whole};
 use std::alloc::Global;
 use std::process::Abort;
 use std::test::Fail;
