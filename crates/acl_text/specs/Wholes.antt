@@ -1,6 +1,6 @@
 -- An output into memory: what it holds, and what a put into it is.
 use Rattle.std.specs.Prelude.{ℕ, Bool, List, Some, Result}
-use Rattle.acl_text.specs.Output.{Puts}
+use Rattle.acl_text.specs.Output.{PutsBy}
 use Rattle.acl_text.specs.declared.output.PutFault.{PutFault}
 
 -- Bytes that were put together in memory: whether more may be put, and how often memory was wanted.
@@ -12,5 +12,5 @@ pub record Gathered : Type 0 where
 -- A put into it: all bytes are told, nothing fails, and there is no rest.
 abbrev pub GatheredPuts : {T : Type 0} → Gathered → Gathered → List ℕ → Result T PutFault → Type 0
 GatheredPuts old new text result =
-    Puts (λ (w : Gathered). Some w.bytes) (λ w. 0) (λ w. w.refusals) (λ w. w.is_open)
+    PutsBy (λ (w : Gathered). Some w.bytes) (λ w. 0) (λ w. w.refusals) (λ w. w.is_open)
     (λ x y. Unit {0}) old new text result
