@@ -39,6 +39,6 @@ pub use sinks::{Sink, WriteFault};
 pub use std_sinks::StdSink;
 pub use system_clocks::SystemClock;
 pub use trees::{FileNames, Tree, TreeFault};
-pub use whole_files::{fault_at, listing, read_whole};
+pub use whole_files::{listing, read_whole};
 pub use wholes::Whole;
 pub use writing::write_file;
