@@ -84,7 +84,7 @@ loads_answered folder files answer h = by (naming_paths folder (names_under fold
   by : (paths : List (List ℕ)) (definitions answer : Result Naming Fault) → FailsAnswered definitions → AnswersWith paths definitions answer → FailsAnswered answer
   by paths (Err fault) answer h e = subst (λ (r : Result Naming Fault). FailsAnswered r) (sym e) h
   by paths (Ok naming) (Ok given) h e = tt
-  by paths (Ok naming) (Err fault) h e = subst (λ (f : Fault). IsAnswered f.code) (sym e.1.1) (names_answered naming e.0 e.1.0)
+  by paths (Ok naming) (Err fault) h e = subst (λ (f : Fault). IsAnswered f.code) (sym e.2) (names_answered naming e.0 e.1)
 
 -- ---- the policy and its terms
 
@@ -112,6 +112,6 @@ goes_on_answered next (Ok x) answer h k e = k x e
 
 pub policy_loads_answered : (folder path : List ℕ) (files : List File) (answer : Result Loaded Fault) → LoadsPolicy folder path files answer → FailsAnswered answer
 policy_loads_answered folder path files answer h =
-    goes_on_answered (λ naming. GoesOn (Resolves naming) (policy_at path files)) h.0 answer (loads_answered folder files h.0 h.1.0)
+    goes_on_answered (λ naming. GoesOn (Resolves naming) (policy_at path files)) h.0 answer (loads_answered folder files h.0 h.1)
     (λ naming e. goes_on_answered (Resolves naming) (policy_at path files) answer (policy_fails path files)
-    (λ text r. resolves_answered naming text answer r) e) h.1.1
+    (λ text r. resolves_answered naming text answer r) e) h.2

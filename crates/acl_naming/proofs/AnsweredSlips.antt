@@ -69,7 +69,7 @@ unfolding file_added
 file_answered kind file ds bytes = lines_good kind file 1 false ds (lines_of bytes)
 
 cycle_answered : (base : List Definition) (s : Slip) → IsCycleSlip base s → IsAnswered s.code
-cycle_answered base s h = subst (λ (x : Slip). IsAnswered x.code) (sym h.1.1) tt
+cycle_answered base s h = subst (λ (x : Slip). IsAnswered x.code) (sym h.2) tt
 
 by_answered : (o : Option Reference) (n : Naming) (s : Slip) → IsSlipBy o n s → IsAnswered s.code
 by_answered (Some r) n s h = subst (λ (x : Slip). IsAnswered x.code) (sym h) tt

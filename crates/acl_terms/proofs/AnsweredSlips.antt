@@ -3,7 +3,7 @@ use Rattle.std.proofs.Common.{ℕ, Bool, true, false, List, [], ◌∷◌, is_so
 use Rattle.std.specs.List.{list_all}
 use Rattle.acl_packet.specs.Packets.{has_ports}
 use Rattle.acl_text.specs.AnsweredCodes.{IsAnswered, SlipIsAnswered}
-use Rattle.acl_text.specs.Refusals.{first_in, first_some}
+use Rattle.acl_text.specs.Refusals.{first_some}
 use Rattle.acl_text.specs.declared.faults.Code.{Code}
 use Rattle.acl_text.specs.declared.faults.Code.TheVariants as codes
 use Rattle.acl_text.proofs.AnsweredLaws.{either_answered, first_answered}

@@ -69,9 +69,9 @@ or_slip_good labels None plan h = tt
 
 plans_good : (o : Options) (today : Day) (files : List File) (answer : Result Plan Fault) → Plans o today files answer → FailsAnswered answer
 plans_good o today files answer h = goes_on_answered (λ l a. a ≡ planned o today l) h.0 answer
-    (policy_loads_answered o.definitions o.policy files h.0 h.1.0)
+    (policy_loads_answered o.definitions o.policy files h.0 h.1)
     (λ l e. subst (λ (r : Result Plan Fault). FailsAnswered r) (sym e)
-    (or_slip_good l.sources.labels (job_slip o today l) (plan_of o today l) (job_good o today l))) h.1.1
+    (or_slip_good l.sources.labels (job_slip o today l) (plan_of o today l) (job_good o today l))) h.2
 
 pub job_answered : (words : List (List ℕ)) (day : Day) (files : List File) (fault : Fault) → IsJob words day files (Some (Err fault)) → IsAnswered fault.code
 job_answered words day files fault h = by (options_of words) h where
