@@ -1,6 +1,6 @@
 ghost use Rattle.std.specs.Prelude.{◌≡◌, ◌+◌, ◌≤◌, ◌++◌, IfOk, OnOk};
+ghost use Rattle.acl_text.specs.Refusals.{Judges};
 ghost use Rattle.acl_target.specs.TargetData.{IsTarget};
-ghost use Rattle.acl_terms.specs.Slips.{Judges};
 ghost use Rattle.acl_platform.specs.SoundFilters.{IsSound};
 ghost use Rattle.acl_expand.specs.Expansions.{DecidesAsTerms, filter_of, filter_with};
 ghost use Rattle.acl_expand.specs.ExpansionSlips.{first_slip, most_prefixes, prefixes_with, term_slip};

@@ -15,5 +15,5 @@ pub use look_faults::{ListFault, ReadFault};
 pub use paths::{join_path, with_slash};
 pub use sinks::{Sink, WriteFault};
 pub use trees::{FileNames, Tree, TreeFault};
-pub use whole_files::{fault_at, listing, read_whole};
+pub use whole_files::{listing, read_whole};
 pub use writing::write_file;

@@ -1,23 +1,11 @@
 ghost use Rattle.std.specs.Prelude.{◌≡◌, ◌≤◌, ◌<◌, ◌^◌, ◌+◌, length, IfSome, IfOk};
 ghost use Rattle.acl_text.specs.Answers.{Gives};
-ghost use Rattle.acl_host.specs.WholeFiles.{ListsFolder, ReadsFiles, fault_at, list_told, listing, read_told, whole_file};
+ghost use Rattle.acl_host.specs.WholeFiles.{ListsFolder, ReadsFiles, list_told, listing, read_told, whole_file};
 
 use crate::look_faults::{ListFault, ReadFault};
 use crate::trees::{FileNames, Tree, TreeFault};
-use acl_text::{Bytes, Code, Fault, Memory};
+use acl_text::{Bytes, Code, Fault};
 use std::alloc::Global;
-
-/// A fault of a whole file or folder, which has no line and no word.
-pub fn fault_at(alloc: Global, code: Code, label: &str) -> Result<Fault, Memory>
-    ensures { IfOk result (λ fault. fault ≡ fault_at code label.now) }
-{
-    Ok(Fault {
-        code,
-        label: Bytes::from_slice(alloc, label.as_bytes())?,
-        line: 0,
-        word: Bytes::new(alloc),
-    })
-}
 
 /// The names of the files directly under the folder, in byte order.
 ///
@@ -30,7 +18,11 @@ pub fn listing<T: Tree>(alloc: Global, tree: &mut T, folder: &str) -> Result<Fil
 {
     match tree.list(alloc, folder) {
         Ok(names) => Ok(names),
-        Err(TreeFault::Absent) => Err(ListFault::Fault(fault_at(alloc, Code::NoFile, folder)?)),
+        Err(TreeFault::Absent) => Err(ListFault::Fault(Fault::of_file(
+            alloc,
+            Code::NoFile,
+            folder,
+        )?)),
         Err(TreeFault::Failed) => Err(ListFault::Outside),
         Err(TreeFault::Memory) => Err(ListFault::Memory),
     }
@@ -57,11 +49,11 @@ pub fn read_whole<T: Tree>(
     match tree.read(alloc, path, most + 1) {
         Ok(bytes) => {
             if bytes.as_slice().len() > most {
-                return Err(ReadFault::Fault(fault_at(alloc, longer, path)?));
+                return Err(ReadFault::Fault(Fault::of_file(alloc, longer, path)?));
             }
             Ok(bytes)
         }
-        Err(TreeFault::Absent) => Err(ReadFault::Fault(fault_at(alloc, Code::NoFile, path)?)),
+        Err(TreeFault::Absent) => Err(ReadFault::Fault(Fault::of_file(alloc, Code::NoFile, path)?)),
         Err(TreeFault::Failed) => Err(ReadFault::Outside),
         Err(TreeFault::Memory) => Err(ReadFault::Memory),
     }

@@ -5,8 +5,9 @@ use Rattle.acl_text.specs.declared.faults.Code.TheVariants.{TooLong, TooManyFile
 use Rattle.acl_text.specs.declared.faults.Fault.{Fault}
 use Rattle.acl_text.specs.declared.faults.Slip.{Slip}
 use Rattle.acl_text.specs.Steps.{◌>>=◌}
+use Rattle.acl_text.specs.Refusals.{file_fault, slip_fault}
 use Rattle.acl_host.specs.Files.{File, join_path, names_under}
-use Rattle.acl_host.specs.WholeFiles.{fault_at, whole_file, listing}
+use Rattle.acl_host.specs.WholeFiles.{whole_file, listing}
 use Rattle.acl_naming.specs.Definitions.{Definition, Naming}
 use Rattle.acl_naming.specs.Checking.{undefined_of, HasNoCycle, IsSlipOf}
 use Rattle.acl_naming.specs.NamingFiles.{file_added}
@@ -38,18 +39,10 @@ MOST_FILES = 4096
 abbrev pub MOST_BYTES : ℕ
 MOST_BYTES = 4194304
 
--- The fault of a slip: its label is the path of the file in which it stands.
-abbrev pub fault_of : List (List ℕ) → Slip → Fault
-fault_of paths slip = record {
-  code = slip.code;
-  label = slice_index_or paths slip.place.file [];
-  line = slip.place.line;
-  word = slip.word;
-}
-
+-- The fault of a slip has the path of its file as its label.
 abbrev pub or_fault : {A : Type 0} → List (List ℕ) → Result A Slip → Result A Fault
 or_fault paths (Ok x) = Ok x
-or_fault paths (Err slip) = Err (fault_of paths slip)
+or_fault paths (Err slip) = Err (slip_fault paths slip)
 
 abbrev pub naming_file : List ℕ → List File → Result (List ℕ) Fault
 naming_file path files = whole_file MOST_BYTES TooLong path files
@@ -98,7 +91,7 @@ all_files folder names files =
 unfoldable pub definitions_of : List ℕ → List File → Result Naming Fault
 definitions_of folder files = do
   names ← listing folder files
-  if nat_lt MOST_FILES (length (naming_paths folder names)) then Err (fault_at TooManyFiles folder)
+  if nat_lt MOST_FILES (length (naming_paths folder names)) then Err (file_fault TooManyFiles folder)
       else all_files folder names files
 
 -- Each name that stands in a definition is defined in its kind, and none reaches itself.
@@ -112,7 +105,7 @@ abbrev pub AnswersWith : List (List ℕ) → Result Naming Fault → Result Nami
 AnswersWith paths (Err fault) answer = answer ≡ Err fault
 AnswersWith paths (Ok naming) (Ok given) = (given ≡ naming) × IsSound naming
 AnswersWith paths (Ok naming) (Err fault) =
-    (slip : Slip) × IsSlipOf naming slip × (fault ≡ fault_of paths slip)
+    (slip : Slip) × IsSlipOf naming slip × (fault ≡ slip_fault paths slip)
 
 -- The answer on a folder's naming files: what they define, each name defined and none reaching itself, or the
 -- first fault.

@@ -4,7 +4,7 @@ ghost use Rattle.acl_text.specs.Answers.{Gives};
 ghost use Rattle.acl_host.specs.WholeFiles.{ReadsFiles, read_told};
 ghost use Rattle.acl_load.specs.Loading.{with_file, all_of};
 
-use crate::slips::fault_of;
+use crate::slips::slip_fault;
 use acl_host::{ReadFault, Tree, read_whole};
 use acl_naming::{Base, NamingKind, read_networks, read_services};
 use acl_text::{Code, Refusal};
@@ -35,7 +35,7 @@ fn add_file<T: Tree>(
     };
     match read {
         Ok(base) => Ok(base),
-        Err(Refusal::Slip(slip)) => Err(ReadFault::Fault(fault_of(alloc, paths, slip)?)),
+        Err(Refusal::Slip(slip)) => Err(ReadFault::Fault(slip_fault(alloc, paths, slip)?)),
         Err(Refusal::Memory) => Err(ReadFault::Memory),
     }
 }

@@ -49,7 +49,12 @@ fn code_text(code: Code) -> &'static str
         Code::Unsupported => "F43 Unsupported",
         Code::TooManyEntries => "F44 TooManyEntries",
         Code::TooManyPrefixes => "F45 TooManyPrefixes",
+        Code::IcmpCode => "F46 IcmpCode",
+        Code::NoPolicy => "F47 NoPolicy",
+        Code::NoDocument => "F48 NoDocument",
+        Code::NoSection => "F49 NoSection",
         Code::Shaded => "F50 Shaded",
+        Code::NumberRange => "F51 NumberRange",
     }
 }
 

@@ -9,8 +9,8 @@ ghost use Rattle.acl_load.specs.Loading.{AnswersWith, Loads, naming_paths, both_
 use crate::adding::add_all;
 use crate::load_faults::LoadFault;
 use crate::naming_paths::naming_paths;
-use crate::slips::fault_of;
-use acl_host::{ReadFault, Tree, fault_at, listing};
+use crate::slips::slip_fault;
+use acl_host::{ReadFault, Tree, listing};
 use acl_naming::{Base, Checked, check};
 use acl_text::{Code, Refusal, Rejection};
 use std::alloc::Global;
@@ -63,7 +63,7 @@ fn read_definitions<T: Tree>(
     let names = listing(alloc, tree, folder)?;
     let paths = naming_paths(alloc, folder, names.as_slice())?;
     if paths.all.len() > MOST_FILES {
-        return Err(LoadFault::Fault(fault_at(alloc, Code::TooManyFiles, folder)?));
+        return Err(LoadFault::Fault(Fault::of_file(alloc, Code::TooManyFiles, folder)?));
     }
     let all = paths.all.as_slice();
     let (networks, services) = all.split_at(paths.networks);
@@ -110,7 +110,7 @@ fn check_definitions(alloc: Global, paths: &[String], base: Base) -> Result<Chec
 {
     match check(base) {
         Ok(checked) => Ok(checked),
-        Err(Refusal::Slip(slip)) => Err(Rejection::Fault(fault_of(alloc, paths, slip)?)),
+        Err(Refusal::Slip(slip)) => Err(Rejection::Fault(slip_fault(alloc, paths, slip)?)),
         Err(Refusal::Memory) => Err(Rejection::Memory),
     }
 }

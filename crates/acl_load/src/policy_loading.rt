@@ -5,8 +5,8 @@ ghost use Rattle.acl_words.specs.Words.{words_of};
 ghost use Rattle.acl_policy.specs.Conditions.{IsBlock, IsPolicy, IsRawTerm};
 ghost use Rattle.acl_policy.specs.Policies.{policy_of};
 ghost use Rattle.acl_policy.specs.PolicyPlaces.{PolicyStands};
-ghost use Rattle.acl_terms.specs.Slips.{Judges};
 ghost use Rattle.acl_text.specs.Answers.{Answers, fault_told};
+ghost use Rattle.acl_text.specs.Refusals.{Judges};
 ghost use Rattle.acl_load.specs.LoadFaults.{LoadsFiles, load_told};
 ghost use Rattle.acl_load.specs.LoadedPolicies.{
   AreResolved,

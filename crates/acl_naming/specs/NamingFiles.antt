@@ -10,10 +10,10 @@ use Rattle.acl_text.specs.Steps.{◌>>=◌}
 use Rattle.acl_text.specs.Cursors.{is_white, lines_of, without_white, words_of}
 use Rattle.acl_text.specs.Cuts.{cut_at, has_byte}
 use Rattle.acl_text.specs.Names.{is_name}
+use Rattle.acl_text.specs.Refusals.{slip}
 use Rattle.acl_naming.specs.declared.item_words.NamingKind.{NamingKind}
 use Rattle.acl_naming.specs.declared.item_words.NamingKind.TheVariants as kinds
 use Rattle.acl_naming.specs.declared.naming_items.Item.{Item}
-use Rattle.acl_naming.specs.Checking.{slip}
 use Rattle.acl_naming.specs.Definitions.{Definition, Naming, index_of, items_count}
 use Rattle.acl_naming.specs.ItemWords.{item_in}
 use Rattle.acl_naming.specs.Tables.{with_item}

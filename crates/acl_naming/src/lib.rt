@@ -13,7 +13,6 @@ mod naming_files;
 mod naming_items;
 mod ranking;
 mod reaching;
-mod refusals;
 mod tables;
 
 pub use bases::{Base, Checked, check, networks_of, ports_of, read_networks, read_services};

@@ -2,7 +2,7 @@ ghost use Rattle.std.specs.Prelude.{◌≡◌, ◌<◌, ◌≤◌, ◌||◌, Boo
 ghost use Rattle.acl_text.specs.Answers.{Leaves, slip_told};
 ghost use Rattle.acl_text.specs.Cursors.{words_of};
 ghost use Rattle.acl_text.specs.Cuts.{has_byte};
-ghost use Rattle.acl_naming.specs.Checking.{IsRefusal, slip};
+ghost use Rattle.acl_text.specs.Refusals.{IsRefusalBy, slip};
 ghost use Rattle.acl_naming.specs.NamingFiles.{
   with_items,
   with_definition,
@@ -17,7 +17,6 @@ ghost use Rattle.acl_naming.specs.NamingFiles.{
 
 use crate::item_words::{NamingKind, read_item};
 use crate::line_parts::{bad_byte, trimmed, without_comment};
-use crate::refusals::refusal;
 use crate::tables::Table;
 use acl_text::{Code, Cursor, Place, Refusal, is_name, next_word, split_at_byte};
 use std::alloc::Global;
@@ -41,9 +40,9 @@ struct LineReader {
 
 impl LineReader {
     fn refusal(self, code: Code, word: &[u8]) -> Refusal
-        ensures { IsRefusal (slip code self.place word.now) result }
+        ensures { IsRefusalBy (slip code self.place word.now) result }
     {
-        refusal(self.alloc, code, self.place, word)
+        Refusal::at(self.alloc, code, self.place, word)
     }
 
     #[tactic(auto, unfolding(crate::specs::NamingFiles::item_added))]

@@ -8,12 +8,11 @@ ghost use Rattle.acl_text.specs.Answers.{Gives, Leaves};
 ghost use Rattle.acl_host.specs.WholeFiles.{ReadsFiles, read_told};
 
 use crate::folders::folder_of;
-use crate::line_faults::line_fault;
 use crate::partial_splices::{MOST_OF_FILE, PartialSplice};
 use crate::sources::Sources;
 use crate::splicing::SplicedFile;
 use acl_host::{ReadFault, Tree, TreeFault};
-use acl_text::Code;
+use acl_text::{Code, Fault};
 use std::alloc::Global;
 use std::str;
 
@@ -68,13 +67,7 @@ fn gather_into<T: Tree>(
             };
             policy.add(alloc, tree, sources, bytes.as_slice())
         }
-        Err(TreeFault::Absent) => Err(ReadFault::Fault(line_fault(
-            alloc,
-            Code::NoFile,
-            path.as_bytes(),
-            0,
-            b"",
-        )?)),
+        Err(TreeFault::Absent) => Err(ReadFault::Fault(Fault::of_file(alloc, Code::NoFile, path)?)),
         Err(TreeFault::Failed) => Err(ReadFault::Outside),
         Err(TreeFault::Memory) => Err(ReadFault::Memory),
     }

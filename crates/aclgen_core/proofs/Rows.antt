@@ -12,7 +12,7 @@ use Rattle.acl_options.specs.ComputableOptions.{asks_clock, options_of}
 use Rattle.aclgen_core.specs.FaultLines.{outside_line, usage_line}
 use Rattle.aclgen_core.specs.FileLists.{HoldsTexts, Interrupted}
 use Rattle.aclgen_core.specs.Job.{Plan, IsJob, IsJobOf, or_day, report_of, texts_of}
-use Rattle.aclgen_core.specs.Endings.{WhereDay, WhereTold, Got, Untouched, IsWritten, Headline, EndsDone, EndsUsage, EndsRejected, RoseAt, EndsLooking, LeavesFiles, EndsWriting, LeavesReport, EndsReporting, IsRefusal, EndsTelling, EndsOutside, Leaves, EndsWanting, EndsSo, NoneRose, IsEnding, EndsAsAsked, Keeps}
+use Rattle.aclgen_core.specs.Endings.{WhereDay, WhereTold, Got, Untouched, IsWritten, Headline, EndsDone, EndsUsage, EndsRejected, RoseAt, EndsLooking, LeavesFiles, EndsWriting, LeavesReport, EndsReporting, IsRefusalLine, EndsTelling, EndsOutside, Leaves, EndsWanting, EndsSo, NoneRose, IsEnding, EndsAsAsked, Keeps}
 use Rattle.aclgen_core.specs.Removals.{ShadedCanGo}
 use Rattle.aclgen_core.specs.Worlds.{Disk, DiskCountsGrow, Stream, StreamCountsGrow, Watch, World, world}
 use Rattle.aclgen_core.specs.DecidingSteps.{Asks, IsReady, OnlySeen, WhereSeen, RoseLooking, DecidesRefused, DecidesPlanned, RefusesSo, Refuses, ActsDone, ActsWrite, ActsOut, ActsMemory, ActsSo, Acts, Tells, texts_in}
@@ -145,7 +145,7 @@ untouched d d' o e e' c c' seen = record { same_files = seen.files_stay; same_ou
 abbrev LeavesSo : List (List ℕ) → World → World → Day → List File → Type 0
 LeavesSo words old new day files = (job : Option (Result Plan Fault)) → IsJob words day files job → Leaves job old new files
 
-refused-memory : (words : List (List ℕ)) (line : List ℕ) (d d' : Disk) (o e e' : Stream) (c c' : Watch) → OnlySeen d d' → IsRefusal words (world d o e c) line
+refused-memory : (words : List (List ℕ)) (line : List ℕ) (d d' : Disk) (o e e' : Stream) (c c' : Watch) → OnlySeen d d' → IsRefusalLine words (world d o e c) line
     → WhereTold words (world d o e c) (LeavesSo words (world d o e c) (world d' o e' c'))
     → BothTell e.told e'.told (AddsFront line) → EndsWanting words (world d o e c) (world d' o e' c')
 refused-memory words line d d' o e e' c c' seen refusal leaves front = record {
@@ -155,7 +155,7 @@ refused-memory words line d d' o e e' c c' seen refusal leaves front = record {
 }
 
 refused-so : (words : List (List ℕ)) (line : List ℕ) (asked result : Ended) (d d' : Disk) (o e e' : Stream) (c c' : Watch) → d.begun ≡ None → OnlySeen d d'
-    → Asks words c c' → StreamCountsGrow e e' → IsRefusal words (world d o e c) line
+    → Asks words c c' → StreamCountsGrow e e' → IsRefusalLine words (world d o e c) line
     → WhereTold words (world d o e c) (LeavesSo words (world d o e c) (world d' o e' c'))
     → (Got line e.told e'.told → EndsSo words (world d o e c) (world d' o e' c') asked)
     → RefusesSo line asked e e' result → Keeps words (world d o e c) (world d' o e' c') result

@@ -161,8 +161,8 @@ pub record EndsReporting (words : List (List ℕ)) (old new : World) : Type 0 wh
   pub line : Tried (outside_line which.Out) old.err new.err
 
 -- The line on standard error of a run that is refused.
-abbrev pub IsRefusal : List (List ℕ) → World → List ℕ → Type 0
-IsRefusal words old line = ((options_of words ≡ None) × (line ≡ usage_line))
+abbrev pub IsRefusalLine : List (List ℕ) → World → List ℕ → Type 0
+IsRefusalLine words old line = ((options_of words ≡ None) × (line ≡ usage_line))
     ⊎ (IsSome (options_of words) × ((fault : Fault) × (line ≡ fault_line fault)
     × WhereTold words old (λ day files. IsJob words day files (Some (Err fault)))))
 
@@ -170,7 +170,7 @@ IsRefusal words old line = ((options_of words ≡ None) × (line ≡ usage_line)
 pub record EndsTelling (words : List (List ℕ)) (old new : World) : Type 0 where
   pub cause : RoseAt which.Err old new
   pub untouched : Untouched old new
-  pub line : (line : List ℕ) × IsRefusal words old line × BothTell old.err.told new.err.told (AddsFront line)
+  pub line : (line : List ℕ) × IsRefusalLine words old line × BothTell old.err.told new.err.told (AddsFront line)
 
 abbrev pub EndsOutside : List (List ℕ) → World → World → Which → Type 0
 EndsOutside words old new which.List = EndsLooking words which.List old new
@@ -194,7 +194,7 @@ pub record EndsWanting (words : List (List ℕ)) (old new : World) : Type 0 wher
   pub leaves : WhereTold words old (λ day files. (job : Option (Result Plan Fault))
       → IsJob words day files job → Leaves job old new files)
   pub line : (new.err.told ≡ old.err.told)
-      ⊎ ((line : List ℕ) × IsRefusal words old line × BothTell old.err.told new.err.told (AddsFront line))
+      ⊎ ((line : List ℕ) × IsRefusalLine words old line × BothTell old.err.told new.err.told (AddsFront line))
 
 -- ---- the table
 

@@ -10,9 +10,9 @@ use Rattle.acl_text.specs.Steps.{◌>>=◌}
 use Rattle.acl_text.specs.Cursors.{words_of}
 use Rattle.acl_text.specs.Cuts.{cut_at}
 use Rattle.acl_text.specs.Names.{is_name}
+use Rattle.acl_text.specs.Refusals.{slip}
 use Rattle.acl_naming.specs.declared.item_words.NamingKind.{NamingKind}
 use Rattle.acl_naming.specs.declared.naming_items.Item.{Item}
-use Rattle.acl_naming.specs.Checking.{slip}
 use Rattle.acl_naming.specs.Definitions.{Definition, index_of, items_count}
 use Rattle.acl_naming.specs.ItemWords.{item_in}
 use Rattle.acl_naming.specs.NamingFiles.{Outcome, bad_byte, item_added, item_put, items_added, line_added, most, split_added, trimmed, with_definition, with_items}

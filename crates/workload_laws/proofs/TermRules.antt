@@ -10,7 +10,6 @@ use Rattle.acl_packet.specs.Addresses.{top_address, everywhere}
 use Rattle.acl_days.specs.declared.days.Day.{Day}
 use Rattle.acl_sets.specs.ComputableLeastLists.{halved_space}
 use Rattle.acl_sets.specs.ComputableSets.{cut_all}
-use Rattle.acl_naming.specs.Checking.{first_of}
 use Rattle.acl_naming.specs.Ports.{top_port}
 use Rattle.acl_packet.specs.declared.addresses.Prefix.{Prefix}
 use Rattle.acl_target.specs.declared.targets.Kind.{Kind}
@@ -27,6 +26,7 @@ use Rattle.policy_grammar.specs.TargetTexts.{Choice}
 use Rattle.acl_packet.specs.declared.addresses.Families.TheVariants.{Inet, Mixed}
 use Rattle.acl_packet.specs.declared.filtering.Hook.TheVariants.{Forward}
 use Rattle.std.specs.Prelude.{Some}
+use Rattle.std.specs.Option.{option_or}
 use Rattle.workload_laws.specs.WorkloadPolicies.{at_line, lines_before, term_name, word_at}
 use Rattle.workload_laws.specs.WorkloadTerms.{all_to, ports, protocols, range, source4, source6}
 use Rattle.workload_laws.proofs.OneBlock.{descend}
@@ -177,9 +177,9 @@ no_slip_behind target rules_at h today a (suc n) before room so_far =
     let rest = terms_from (a + 1) n (rest_small a n room) in
     let counted : prefixes_of (term_rules target today t) ≡ prefixes_of (rules_at a) = ap prefixes_of (h.rules_are today a below) in
     let sum : prefixes_with target today before t ≤ 4 * (a + 1) = omega (arith, counted, h.few_prefixes a, so_far) in
-    ap (λ o. first_of (first_of o (prefix_slip t (prefixes_with target today before t))) (slip_behind target today (prefixes_with target today before t) rest))
+    ap (λ o. option_or (option_or o (prefix_slip t (prefixes_with target today before t))) (slip_behind target today (prefixes_with target today before t) rest))
     (h.no_header today a below)
-    ∙ ap (λ o. first_of o (slip_behind target today (prefixes_with target today before t) rest))
+    ∙ ap (λ o. option_or o (slip_behind target today (prefixes_with target today before t) rest))
     (cond-true (nat_le (prefixes_with target today before t) 200000) None _ (is_few (prefixes_with target today before t) 200000 (omega (arith, sum, below))))
     ∙ no_slip_behind target rules_at h today (a + 1) n (prefixes_with target today before t) (rest_small a n room) sum
 
