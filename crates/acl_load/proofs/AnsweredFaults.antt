@@ -26,7 +26,7 @@ use Rattle.acl_naming.specs.declared.item_words.NamingKind.TheVariants.{Networks
 use Rattle.acl_load.specs.declared.policy_loading.Loaded.{Loaded}
 use Rattle.acl_load.specs.declared.policy_texts.PolicyText.{PolicyText}
 use Rattle.acl_load.specs.LoadedPolicies.{GoesOn, LoadsPolicy, Resolves, ResolvesWith, blocks_slip, policy_at, policy_in, terms_slip}
-use Rattle.acl_load.specs.Loading.{AnswersWith, Loads, MOST_BYTES, MOST_FILES, all_files, all_of, both_kinds, definitions_of, list_of, naming_file, naming_kind, naming_paths, net_paths, no_definitions, or_fault, svc_paths, with_file, with_list}
+use Rattle.acl_load.specs.Loading.{AnswersWith, Loads, MOST_BYTES, MOST_FILES, all_files, all_of, both_kinds, definitions_of, list_of, naming_file, naming_paths, net_paths, no_definitions, or_fault, svc_paths, with_file, with_list}
 
 -- ---- files
 
@@ -89,7 +89,7 @@ loads_answered folder files answer h = by (naming_paths folder (names_under fold
 -- ---- the policy and its terms
 
 policy_fails : (path : List ℕ) (files : List File) → FailsAnswered (policy_at path files)
-unfolding policy_at, policy_in
+unfolding policy_at policy_in
 policy_fails path files =
     steps_fail (splice_of files path) _ (splice_answered files path)
     (λ splice. steps_fail (or_fault splice.labels (policy_of (words_of splice.lines))) (λ policy. Ok (record { sources = splice; policy = policy }))
