@@ -181,6 +181,6 @@ pub record Acts (work : Work) (d d' : Disk) (o o' e e' : Stream) (result : Ended
   pub so : ActsSo work d d' o o' e e' result
 
 -- A line was tried on the stream, and its counts did not fall.
-pub record Tells (line : List ℕ) (old new : Stream) : Type 0 where
+pub record TriesLine (line : List ℕ) (old new : Stream) : Type 0 where
   pub tried : Tried line old new
   pub counts : StreamCountsGrow old new

@@ -182,17 +182,17 @@ EndsOutside words old new which.Clock = EndsAsking words old new
 
 -- What stands where memory was wanted: with a fault nothing was touched; with a plan its writing may have been
 -- interrupted, and a front of its report may stand on standard output.
-abbrev pub Leaves : Option (Result Plan Fault) → World → World → List File → Type 0
-Leaves None old new files = Untouched old new
-Leaves (Some (Err fault)) old new files = Untouched old new
-Leaves (Some (Ok plan)) old new files = IsSomeAnd new.disk.files (Interrupted (texts_of plan) files)
+abbrev pub LeavesPart : Option (Result Plan Fault) → World → World → List File → Type 0
+LeavesPart None old new files = Untouched old new
+LeavesPart (Some (Err fault)) old new files = Untouched old new
+LeavesPart (Some (Ok plan)) old new files = IsSomeAnd new.disk.files (Interrupted (texts_of plan) files)
     × BothTell old.out.told new.out.told (AddsFront (report_of plan))
 
 -- Memory was wanted: for the words, whatever they are, for the job, or for a line.
 pub record EndsWanting (words : List (List ℕ)) (old new : World) : Type 0 where
   pub words_untouched : options_of words ≡ None → Untouched old new
   pub leaves : WhereTold words old (λ day files. (job : Option (Result Plan Fault))
-      → IsJob words day files job → Leaves job old new files)
+      → IsJob words day files job → LeavesPart job old new files)
   pub line : (new.err.told ≡ old.err.told)
       ⊎ ((line : List ℕ) × IsRefusalLine words old line × BothTell old.err.told new.err.told (AddsFront line))
 

@@ -2,7 +2,7 @@ ghost use Rattle.std.specs.Prelude.{◌≡◌, None};
 ghost use Rattle.aclgen_core.specs.FaultLines.{outside_line, usage_line};
 ghost use Rattle.aclgen_core.specs.FileLists.{PathsDiffer};
 ghost use Rattle.aclgen_core.specs.Worlds.{disk, stream};
-ghost use Rattle.aclgen_core.specs.DecidingSteps.{Acts, Refuses, Tells, texts_in};
+ghost use Rattle.aclgen_core.specs.DecidingSteps.{Acts, Refuses, TriesLine, texts_in};
 
 use crate::endings::{Ended, Which};
 use crate::fault_lines::{outside_line, usage_line};
@@ -30,7 +30,7 @@ pub fn refuse_words<E: Sink>(err: &mut E) -> Ended
 
 /// Tries to write the line that says what failed. A refusal of it changes nothing in the ending.
 pub fn tell_outside<E: Sink>(err: &mut E, which: Which) -> Ended
-    ensures told { Tells (outside_line which) (stream E.Sink err.old) (stream E.Sink err.new) }
+    ensures told { TriesLine (outside_line which) (stream E.Sink err.old) (stream E.Sink err.new) }
     ensures ending { result ≡ Ended.Outside which }
 {
     let _ = err.write(outside_line(which).as_bytes());
