@@ -1,5 +1,5 @@
 -- What is wrong with what is loaded has a code that `aclgen` answers.
-use Rattle.std.proofs.Common.{ℕ, ◌+◌, nat_lt, List, [], ◌∷◌, length, Option, None, Some, Result, Ok, Err, absurd, sym, subst}
+use Rattle.std.proofs.Common.{ℕ, ◌+◌, nat_lt, List, [], ◌∷◌, length, Option, None, Some, Result, Ok, Err, sym, subst}
 use Rattle.acl_text.specs.AnsweredCodes.{EndsAnswered, FailsAnswered, IsAnswered, SlipIsAnswered}
 use Rattle.acl_text.specs.declared.faults.Code.{Code}
 use Rattle.acl_text.specs.declared.faults.Code.TheVariants as codes_of
@@ -9,14 +9,12 @@ use Rattle.acl_text.specs.Steps.{◌>>=◌}
 use Rattle.acl_text.proofs.AnsweredLaws.{either, first_answered, steps_fail}
 use Rattle.acl_host.specs.Files.{File, file_at, is_folder, names_under}
 use Rattle.acl_host.specs.WholeFiles.{at_most, listing, whole_file}
-use Rattle.acl_naming.specs.Definitions.{Definition, Naming}
+use Rattle.acl_naming.specs.Definitions.{Naming}
 use Rattle.acl_naming.specs.NamingFiles.{file_added}
 use Rattle.acl_naming.proofs.AnsweredSlips.{file_answered, names_answered}
-use Rattle.acl_splice.specs.Splices.{Splice}
 use Rattle.acl_splice.specs.Splicing.{splice_of}
 use Rattle.acl_splice.proofs.AnsweredFaults.{splice_answered}
 use Rattle.acl_words.specs.Words.{words_of}
-use Rattle.acl_policy.specs.declared.blocks.Policy.{Policy}
 use Rattle.acl_policy.specs.Policies.{policy_of}
 use Rattle.acl_policy.proofs.PolicyFit.{policy_answered}
 use Rattle.acl_terms.specs.Slips.{slip_of}
@@ -26,7 +24,7 @@ use Rattle.acl_naming.specs.declared.item_words.NamingKind.TheVariants.{Networks
 use Rattle.acl_load.specs.declared.policy_loading.Loaded.{Loaded}
 use Rattle.acl_load.specs.declared.policy_texts.PolicyText.{PolicyText}
 use Rattle.acl_load.specs.LoadedPolicies.{GoesOn, LoadsPolicy, Resolves, ResolvesWith, blocks_slip, policy_at, policy_in, terms_slip}
-use Rattle.acl_load.specs.Loading.{AnswersWith, Loads, MOST_BYTES, MOST_FILES, all_files, all_of, both_kinds, definitions_of, list_of, naming_file, naming_paths, net_paths, no_definitions, or_fault, svc_paths, with_file, with_list}
+use Rattle.acl_load.specs.Loading.{AnswersWith, Loads, MOST_BYTES, MOST_FILES, all_of, both_kinds, definitions_of, list_of, naming_file, naming_paths, net_paths, no_definitions, or_fault, svc_paths, with_file, with_list}
 
 -- ---- files
 

@@ -1,5 +1,5 @@
 -- The naming files of a folder: what they define together, or the first fault.
-use Rattle.std.specs.Prelude.{◌≡◌, ℕ, ◌+◌, Bool, nat_lt, nat_eq, if◌then◌else◌, List, [], ◌∷◌, ◌++◌, length, filter, map, codes, slice_index_or, None, Result, Ok, Err}
+use Rattle.std.specs.Prelude.{◌≡◌, ℕ, ◌+◌, Bool, nat_lt, nat_eq, if◌then◌else◌, List, [], ◌∷◌, ◌++◌, length, filter, map, codes, None, Result, Ok, Err}
 use Rattle.std.specs.List.{ends_with}
 use Rattle.acl_text.specs.declared.faults.Code.TheVariants.{TooLong, TooManyFiles}
 use Rattle.acl_text.specs.declared.faults.Fault.{Fault}

@@ -12,7 +12,7 @@ use crate::naming_paths::naming_paths;
 use crate::slips::slip_fault;
 use acl_host::{ReadFault, Tree, listing};
 use acl_naming::{Base, Checked, check};
-use acl_text::{Code, Refusal, Rejection};
+use acl_text::{Code, Fault, Refusal, Rejection};
 use std::alloc::Global;
 
 // The most naming files of a folder.
