@@ -18,7 +18,7 @@ use Rattle.acl_shade.proofs.ShadingLaws.{shading-law}
 -- ---- places
 
 -- where nothing passes there is no place, and what is not the place of a pass fails
-fails-where-none : {X : Type 0} (p : X → Bool) (xs : List X) (k : ℕ) (d : X) → position p xs ≡ None
+pub fails-where-none : {X : Type 0} (p : X → Bool) (xs : List X) (k : ℕ) (d : X) → position p xs ≡ None
     → k < length xs → p (get_or xs k d) ≡ false
 fails-where-none p xs k d e h = elim (cases_Bool (nat_lt (position_or_len p xs) (length xs))) [
   | inl passed ↦ absurd (none-some (position_or_len p xs) (sym e
@@ -41,7 +41,7 @@ module _ (targets : List Target) (today : Day) (terms : List Term) (place : ℕ)
         (sym (slice_get-get_or terms place d within)) s);
   }
 
-  of-places : (k : ℕ) → ShadesAt targets today terms k place
+  pub of-places : (k : ℕ) → ShadesAt targets today terms k place
       → Shades targets today (get_or terms k d) (get_or terms place d)
   of-places k s =
       let before = s.earlier in
