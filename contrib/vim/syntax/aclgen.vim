@@ -4,6 +4,8 @@ if exists('b:current_syntax')
 endif
 syntax case match
 syntax iskeyword 33,36-122,124,126-255
+" Strings run over lines.
+syntax sync fromstart
 
 syntax region aclgenBlock start=/{/ end=/}/ transparent fold contains=TOP
 syntax match aclgenComment /#.*/ contains=aclgenTodo

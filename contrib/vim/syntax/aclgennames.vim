@@ -5,8 +5,8 @@ endif
 syntax case match
 
 " A name is defined in front of the first `=` of a line.
+syntax match aclgenNamesBad /^[^=#]\+\ze=/
 syntax match aclgenNamesName /^\s*[A-Za-z0-9_-]\+\ze\s*=/
-syntax match aclgenNamesBad /^[^=#]*[^A-Za-z0-9_=#[:space:]-][^=#]*\ze=/
 syntax match aclgenNamesPrefix /\<\d\{1,3}\%(\.\d\{1,3}\)\{3}\%(\/\d\+\)\?\>/
 syntax match aclgenNamesPrefix /[0-9A-Fa-f]*:[0-9A-Fa-f:.]*\%(\/\d\+\)\?/
 syntax match aclgenNamesPorts /\<\d\+\%(-\d\+\)\?\/[a-z0-9]\+\>/
