@@ -1,31 +1,26 @@
-ghost use Rattle.std.specs.Prelude.{◌≡◌, IfOk};
-ghost use Rattle.std.specs.String.{string_bytes};
-
 use crate::disk::{bytes_at, names_in};
+use crate::gathered::Gathered;
+use crate::replacing::{Opened, open_at};
 use crate::write_counts::WriteCounts;
 use acl_host::{FileNames, Tree, TreeFault, WriteFault};
 use acl_text::{Bytes, Out, PutFault};
 use std::alloc::Global;
-use std::io::Write;
+use std::io;
 use std::rt::Files;
-use std::{fs, io};
-
-// A file that is begun: its path, and the open file.
-#[derive(Drop)]
-struct Opened<R: Files> {
-    path: String,
-    file: R::File,
-}
 
 /// The files of the machine.
 ///
 /// It tells no files. A folder that is not there, that is a file, or in which nothing lies is absent; so is
 /// a file that is not there, or that is a folder. Folders within a folder are passed over. `list` fails
 /// where a name is not UTF-8, or where the folder holds more than 1,048,576 names. `begin` makes no folder.
+///
+/// A file is as it was until `finish` answers: it is written beside, and then put into its place in one step.
+/// What is no regular file is written in place, and so is a file in a folder that takes no new one.
 #[derive(Drop)]
 pub struct DiskTree<'a, R: Files> {
     rt: &'a R,
     begun: Option<Opened<R>>,
+    gathered: Gathered,
     counts: WriteCounts,
     list_faults: u64,
     read_faults: u64,
@@ -43,11 +38,31 @@ impl<'a, R: Files> DiskTree<'a, R> {
         DiskTree {
             rt,
             begun: None,
+            gathered: Gathered::new(),
             counts: WriteCounts::new(),
             list_faults: 0,
             read_faults: 0,
         }
     }
+
+    // Lets go the file that is begun, and removes what was written beside it.
+    fn give_up(&mut self)
+        ensures begun { self.new.begun ≡ None }
+        ensures counts { self.new.counts ≡ self.old.counts }
+        ensures looks { (self.new.list_faults ≡ self.old.list_faults)
+            × (self.new.read_faults ≡ self.old.read_faults) }
+    {
+        if let Some(opened) = &self.begun {
+            opened.give_up(self.rt);
+        }
+        self.begun = None;
+    }
+}
+
+// Writes what is gathered, and puts the file into its place.
+fn end<R: Files>(rt: &R, opened: &mut Opened<R>, gathered: &mut Gathered) -> io::Result<()> {
+    gathered.write_out(&mut opened.file)?;
+    opened.settle(rt)
 }
 
 impl<R: Files + AllocGlobal + Clone + Drop> Out for DiskTree<'_, R> {
@@ -70,13 +85,13 @@ impl<R: Files + AllocGlobal + Clone + Drop> Out for DiskTree<'_, R> {
 
     fn put(&mut self, bytes: &[u8]) -> Result<(), PutFault> {
         let written = match &mut self.begun {
-            Some(opened) => opened.file.write_all(bytes),
+            Some(opened) => self.gathered.put(&mut opened.file, bytes),
             None => unreachable!(),
         };
         match written {
             Ok(()) => Ok(()),
             Err(error) => {
-                self.begun = None;
+                self.give_up();
                 match self.counts.count(&error) {
                     WriteFault::Failed => Err(PutFault::Failed),
                     WriteFault::Memory => Err(PutFault::Memory),
@@ -125,6 +140,7 @@ impl<R: Files + AllocGlobal + Clone + Drop> Tree for DiskTree<'_, R> {
     fn begin(&mut self, path: &str) -> Result<(), WriteFault> {
         match open_at(self.rt, path) {
             Ok(opened) => {
+                self.gathered.clear();
                 self.begun = Some(opened);
                 Ok(())
             }
@@ -132,10 +148,22 @@ impl<R: Files + AllocGlobal + Clone + Drop> Tree for DiskTree<'_, R> {
         }
     }
 
-    // The file is closed when it is let go.
     fn finish(&mut self) -> Result<(), WriteFault> {
-        self.begun = None;
-        Ok(())
+        let ended = match &mut self.begun {
+            Some(opened) => end(self.rt, opened, &mut self.gathered),
+            None => unreachable!(),
+        };
+        match ended {
+            // the file is closed when it is let go
+            Ok(()) => {
+                self.begun = None;
+                Ok(())
+            }
+            Err(error) => {
+                self.give_up();
+                Err(self.counts.count(&error))
+            }
+        }
     }
 
     ghost open_is = { λ t. refl };
@@ -149,13 +177,4 @@ impl<R: Files + AllocGlobal + Clone + Drop> Tree for DiskTree<'_, R> {
     ghost distinct = { λ t. tt };
 
     ghost begun_is_held = { λ t. tt };
-}
-
-// Makes the file empty, and opens it.
-fn open_at<R: Files + AllocGlobal + Clone + Drop>(rt: &R, path: &str) -> io::Result<Opened<R>>
-    ensures { IfOk result (λ f. string_bytes f.path ≡ path.now) }
-{
-    let copy = String::from_str(rt.alloc(), path)?;
-    let file = fs::create(rt, path)?;
-    Ok(Opened { path: copy, file })
 }

@@ -3,10 +3,13 @@
 
 mod disk;
 mod disk_trees;
+mod gathered;
+mod replacing;
 mod std_sinks;
 mod system_clocks;
 #[cfg(test)]
 mod tests;
+mod whole_writes;
 mod write_counts;
 
 pub use disk_trees::DiskTree;

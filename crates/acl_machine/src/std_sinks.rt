@@ -1,6 +1,6 @@
+use crate::whole_writes::write_through;
 use crate::write_counts::WriteCounts;
 use acl_host::{Sink, WriteFault};
-use std::io;
 use std::io::Write;
 
 /// A stream of the machine, as standard output. It tells no bytes.
@@ -39,10 +39,4 @@ impl<W: Write + Drop> Sink for StdSink<W> {
             Err(error) => Err(self.counts.count(&error)),
         }
     }
-}
-
-// Writes all the bytes, and passes them on.
-fn write_through<W: Write>(writer: &mut W, bytes: &[u8]) -> io::Result<()> {
-    writer.write_all(bytes)?;
-    writer.flush()
 }
