@@ -19,9 +19,9 @@ pub fn jobs_are_there()
         → (job : Option (Result Plan Fault)) × IsJob words day files job }
 {}
 
-/// A law: the fault of a job has one of the codes that `aclgen` answers, and none of those to come.
+/// A law: the fault of a job has one of the codes that `aclgen` answers, which are all but five.
 #[tactic(auto, using(crate::proofs::AnsweredFaults::job_answered))]
-pub fn faults_have_answered_codes()
+pub fn faults_are_answered()
     ensures { (words : List (List ℕ)) → (day : Day) → (files : List File) → (fault : Fault)
         → IsJob words day files (Some (Err fault)) → IsAnswered fault.code }
 {}
