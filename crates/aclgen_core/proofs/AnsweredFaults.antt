@@ -21,10 +21,11 @@ use Rattle.acl_expand.specs.ExpansionSlips.{first_slip}
 use Rattle.acl_expand.proofs.AnsweredSlips.{expansion_answered}
 use Rattle.acl_load.specs.declared.policy_loading.Loaded.{Loaded}
 use Rattle.acl_load.proofs.AnsweredFaults.{goes_on_answered, policy_loads_answered}
+use Rattle.acl_platform.specs.Features.{feature_word}
 use Rattle.acl_render.specs.PlatformFiles.{limit_of}
 use Rattle.acl_options.specs.CommandLines.{Options}
 use Rattle.acl_options.specs.ComputableOptions.{options_of}
-use Rattle.aclgen_core.specs.FilterRequests.{FilterRequest, check_slip, filter_for, limit_slip, loaded_slip, name_word, request_slip, requests_of, rule_slip, unsupported_word}
+use Rattle.aclgen_core.specs.FilterRequests.{FilterRequest, check_slip, filter_for, limit_slip, loaded_slip, name_word, request_slip, requests_of, rule_slip}
 use Rattle.aclgen_core.specs.Job.{IsJob, IsJobOf, Plan, Plans, job_slip, or_day, or_slip, plan_of, planned}
 use Rattle.aclgen_core.specs.ShadedSlips.{asked_shaded, block_shaded, loaded_shaded, shaded_slip, slip_at, terms_shaded}
 
@@ -35,7 +36,7 @@ rule_good code word f None h = h
 limit_good : (f : Filter) (l : Limit) → IsAnswered (limit_slip f l).code
 limit_good f (limits.NameLength i) = rule_good codes_of.NameLength name_word f (slice_get f.rules i) tt
 limit_good f (limits.NameClash i) = rule_good codes_of.NameClash name_word f (slice_get f.rules i) tt
-limit_good f (limits.Unsupported i) = rule_good codes_of.Unsupported unsupported_word f (slice_get f.rules i) tt
+limit_good f (limits.Unsupported i feature) = rule_good codes_of.Unsupported (λ r. feature_word feature) f (slice_get f.rules i) tt
 limit_good f limits.TooManyEntries = tt
 
 -- the slip that is made of something, if there is something

@@ -1,5 +1,5 @@
 -- The filters that a policy asks for, and the first slip of one of them.
-use Rattle.std.specs.Prelude.{ℕ, Bool, true, false, if◌then◌else◌, List, [], ◌∷◌, ◌++◌, filter, map, slice_get, codes, Option, None, Some, option_map}
+use Rattle.std.specs.Prelude.{ℕ, List, [], ◌∷◌, ◌++◌, filter, map, slice_get, Option, None, Some, option_map}
 use Rattle.std.specs.Option.{option_or}
 use Rattle.acl_text.specs.declared.faults.Code.{Code}
 use Rattle.acl_text.specs.declared.faults.Code.TheVariants as codes_of
@@ -16,8 +16,7 @@ use Rattle.acl_platform.specs.declared.filters.Filter.{Filter}
 use Rattle.acl_platform.specs.declared.filters.Limit.{Limit}
 use Rattle.acl_platform.specs.declared.filters.Limit.TheVariants as limits
 use Rattle.acl_platform.specs.declared.rules.Rule.{Rule}
-use Rattle.acl_platform.specs.declared.rules.Test.{Test}
-use Rattle.acl_platform.specs.declared.rules.Test.TheVariants as tests
+use Rattle.acl_platform.specs.Features.{feature_word}
 use Rattle.acl_expand.specs.Expansions.{filter_of}
 use Rattle.acl_expand.specs.ExpansionSlips.{first_slip}
 use Rattle.acl_load.specs.declared.policy_loading.Loaded.{Loaded}
@@ -56,17 +55,6 @@ requests_on kind rs = filter (λ r. same_kind r.target.kind kind) rs
 
 -- ---- limits of a platform
 
-abbrev pub asks_initial : Test → Bool
-asks_initial tests.Plain = false
-asks_initial tests.AckOrRst = false
-asks_initial tests.SynNotAck = true
-asks_initial tests.Rst = false
-asks_initial tests.State = false
-
--- What the platform has no form for: the first packets of connections, else ports of SCTP.
-abbrev pub unsupported_word : Rule → List ℕ
-unsupported_word r = if asks_initial r.test then codes "tcp-initial" else codes "sctp"
-
 abbrev pub name_word : Rule → List ℕ
 name_word r = r.name
 
@@ -80,8 +68,8 @@ limit_slip f (limits.NameLength i) =
     rule_slip codes_of.NameLength name_word f (slice_get f.rules i)
 limit_slip f (limits.NameClash i) =
     rule_slip codes_of.NameClash name_word f (slice_get f.rules i)
-limit_slip f (limits.Unsupported i) =
-    rule_slip codes_of.Unsupported unsupported_word f (slice_get f.rules i)
+limit_slip f (limits.Unsupported i feature) =
+    rule_slip codes_of.Unsupported (λ r. feature_word feature) f (slice_get f.rules i)
 limit_slip f limits.TooManyEntries =
     slip codes_of.TooManyEntries f.place f.name
 
