@@ -1,3 +1,6 @@
+ghost use Rattle.std.specs.Prelude.{◌≡◌, [], OnOk};
+ghost use Rattle.std.specs.Io.KnownBytes.{Appends};
+
 use crate::disk::{bytes_at, names_in};
 use crate::gathered::Gathered;
 use crate::replacing::{Opened, open_at};
@@ -60,7 +63,11 @@ impl<'a, R: Files> DiskTree<'a, R> {
 }
 
 // Writes what is gathered, and puts the file into its place.
-fn end<R: Files>(rt: &R, opened: &mut Opened<R>, gathered: &mut Gathered) -> io::Result<()> {
+fn end<R: Files>(rt: &R, opened: &mut Opened<R>, gathered: &mut Gathered) -> io::Result<()>
+    ensures written { OnOk result (Appends (R.File.contents opened.old.file)
+        (R.File.contents opened.new.file) gathered.old.bytes.items) }
+    ensures none { gathered.new.bytes.items ≡ [] }
+{
     gathered.write_out(&mut opened.file)?;
     opened.settle(rt)
 }

@@ -181,7 +181,7 @@ fn remove<R: Files>(rt: &R, beside: &Beside) {
 
 impl<R: Files> Opened<R> {
     /// Ends a file that is written: what lies beside is put into the place of what it replaces, in one step.
-    pub(crate) fn settle(&mut self, rt: &R) -> io::Result<()> {
+    pub(crate) fn settle(&self, rt: &R) -> io::Result<()> {
         match &self.beside {
             None => Ok(()),
             Some(beside) => {

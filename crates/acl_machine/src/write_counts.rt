@@ -28,7 +28,9 @@ impl WriteCounts {
         ensures faults_grow { self.old.faults ≤ self.new.faults }
         ensures refusals_grow { self.old.refusals ≤ self.new.refusals }
         ensures failed { result ≡ WriteFault.Failed → Rose self.old.faults self.new.faults }
+        ensures failed_alone { result ≡ WriteFault.Failed → self.new.refusals ≡ self.old.refusals }
         ensures memory { result ≡ WriteFault.Memory → Rose self.old.refusals self.new.refusals }
+        ensures memory_alone { result ≡ WriteFault.Memory → self.new.faults ≡ self.old.faults }
     {
         if is_memory(error) {
             self.refusals = self.refusals.saturating_add(1);
