@@ -15,7 +15,7 @@ use Rattle.aclgen_core.specs.Job.{Plan, IsJob, IsJobOf, or_day, report_of, texts
 use Rattle.aclgen_core.specs.Endings.{WhereDay, WhereTold, Got, Untouched, IsWritten, Headline, EndsDone, EndsUsage, EndsRejected, RoseAt, EndsLooking, LeavesFiles, EndsWriting, LeavesReport, EndsReporting, IsRefusalLine, EndsTelling, EndsOutside, LeavesPart, EndsWanting, EndsSo, NoneRose, IsEnding, EndsAsAsked, Keeps}
 use Rattle.aclgen_core.specs.Removals.{ShadedCanGo}
 use Rattle.aclgen_core.specs.Worlds.{Disk, DiskCountsGrow, Stream, StreamCountsGrow, Watch, World, world}
-use Rattle.aclgen_core.specs.DecidingSteps.{Asks, IsReady, OnlySeen, WhereSeen, RoseLooking, DecidesRefused, DecidesPlanned, RefusesSo, Refuses, ActsDone, ActsWrite, ActsOut, ActsMemory, ActsSo, Acts, TriesLine, texts_in}
+use Rattle.aclgen_core.specs.DecidingSteps.{Asks, IsReady, OnlySeen, RoseLooking, DecidesRefused, DecidesPlanned, RefusesSo, Refuses, ActsDone, ActsWrite, ActsOut, ActsMemory, ActsSo, Acts, TriesLine, texts_in}
 use Rattle.aclgen_core.specs.declared.endings.Ended.{Ended}
 use Rattle.aclgen_core.specs.declared.endings.Ended.TheVariants as ended
 use Rattle.aclgen_core.specs.declared.endings.Which.{Which}
@@ -146,7 +146,7 @@ abbrev LeavesSo : List (List ℕ) → World → World → Day → List File → 
 LeavesSo words old new day files = (job : Option (Result Plan Fault)) → IsJob words day files job → LeavesPart job old new files
 
 refused-memory : (words : List (List ℕ)) (line : List ℕ) (d d' : Disk) (o e e' : Stream) (c c' : Watch) → OnlySeen d d' → IsRefusalLine words (world d o e c) line
-    → WhereTold words (world d o e c) (LeavesSo words (world d o e c) (world d' o e' c'))
+    → WhereTold words d c (LeavesSo words (world d o e c) (world d' o e' c'))
     → BothTell e.told e'.told (AddsFront line) → EndsWanting words (world d o e c) (world d' o e' c')
 refused-memory words line d d' o e e' c c' seen refusal leaves front = record {
   words_untouched = λ _. untouched d d' o e e' c c' seen;
@@ -156,7 +156,7 @@ refused-memory words line d d' o e e' c c' seen refusal leaves front = record {
 
 refused-so : (words : List (List ℕ)) (line : List ℕ) (asked result : Ended) (d d' : Disk) (o e e' : Stream) (c c' : Watch) → d.begun ≡ None → OnlySeen d d'
     → Asks words c c' → StreamCountsGrow e e' → IsRefusalLine words (world d o e c) line
-    → WhereTold words (world d o e c) (LeavesSo words (world d o e c) (world d' o e' c'))
+    → WhereTold words d c (LeavesSo words (world d o e c) (world d' o e' c'))
     → (Got line e.told e'.told → EndsSo words (world d o e c) (world d' o e' c') asked)
     → RefusesSo line asked e e' result → Keeps words (world d o e c) (world d' o e' c') result
 refused-so words line asked result d d' o e e' c c' none seen asks counts refusal leaves row (inl h) =
@@ -253,7 +253,7 @@ both-some P told (Some new) files is h = subst (λ t. BothTell t (Some new) P) i
 
 planned-leaves : (words : List (List ℕ)) (work : Work) (d : Disk) (c : Watch) (R : Day → List File → Type 0)
     → ((day : Day) (files : List File) → d.files ≡ Some files → (plan : Plan) → IsJob words day files (Some (Ok plan)) → IsReady plan work → R day files)
-    → DecidesPlanned words work d c → WhereSeen words d c R
+    → DecidesPlanned words work d c → WhereTold words d c R
 planned-leaves words work d c R f h =
     told-goes-on words c d.files (λ day files. (plan : Plan) × IsJob words day files (Some (Ok plan)) × IsReady plan work) R
     (λ day files is p. f day files is p.0 p.1 p.2) h.planned

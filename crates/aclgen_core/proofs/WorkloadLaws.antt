@@ -26,8 +26,11 @@ use Rattle.workload_laws.proofs.LoadedWorkloads.{workloads_loaded}
 use Rattle.aclgen_core.specs.Endings.{Keeps}
 use Rattle.aclgen_core.specs.FilterRequests.{FilterRequest, check_slip, filter_for, limit_slip, loaded_slip, request_of, request_slip, requests_in, requests_slip}
 use Rattle.aclgen_core.specs.Job.{Plan, Plans, files_on, job_slip, or_slip, plan_of, platforms}
-use Rattle.aclgen_core.specs.PreparingSteps.{MakesWork}
-use Rattle.aclgen_core.specs.WorkloadRuns.{EndsWorkload, MakesWorkload, PlansWorkload, Reports, ReportsOn, Runs, RunsWorkload, WorkloadsHaveNoFault, entries_of, workload_options}
+use Rattle.aclgen_core.specs.DecidingSteps.{ReportsOn}
+use Rattle.aclgen_core.specs.PreparingSteps.{MakesWork, MakesWorkload}
+use Rattle.aclgen_core.specs.Runs.{Runs}
+use Rattle.aclgen_core.specs.WorkloadPlans.{WorkloadsHaveNoFault, entries_of}
+use Rattle.aclgen_core.specs.WorkloadRuns.{EndsWorkload, PlansWorkload, Reports, RunsWorkload, workload_options}
 use Rattle.aclgen_core.specs.Worlds.{Stream, World}
 use Rattle.aclgen_core.specs.declared.endings.Ended.{Ended}
 use Rattle.aclgen_core.specs.declared.planning.Work.{Work}

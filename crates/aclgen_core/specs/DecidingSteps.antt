@@ -14,8 +14,9 @@ use Rattle.aclgen_core.specs.Job.{Plan, IsJob, filters_of, report_of, texts_of}
 use Rattle.acl_load.specs.declared.load_faults.LoadFault.{LoadFault}
 use Rattle.acl_load.specs.declared.load_faults.LoadFault.TheVariants as loads
 use Rattle.acl_load.specs.FaultLines.{fault_line}
-use Rattle.aclgen_core.specs.Endings.{Got, IsFileOf, IsShort, OnlyAsked, Tried, WhereDay}
+use Rattle.aclgen_core.specs.Endings.{Got, IsFileOf, IsShort, OnlyAsked, Tried, WhereTold}
 use Rattle.aclgen_core.specs.FaultLines.{outside_line}
+use Rattle.aclgen_core.specs.WorkloadRuns.{Reports}
 use Rattle.aclgen_core.specs.Worlds.{Disk, DiskCountsGrow, Stream, StreamCountsGrow, Watch}
 use Rattle.aclgen_core.specs.declared.deciding.Decision.{Decision}
 use Rattle.aclgen_core.specs.declared.deciding.Decision.TheVariants as decided
@@ -51,11 +52,6 @@ pub record OnlySeen (old new : Disk) : Type 0 where
   pub lists_grow : old.list_faults ≤ new.list_faults
   pub reads_grow : old.read_faults ≤ new.read_faults
 
--- The tree tells its files, and the clock, where it is asked, its day.
-abbrev pub WhereSeen : List (List ℕ) → Disk → Watch → (Day → List File → Type 0) → Type 0
-WhereSeen words d c P =
-    IfSome d.files (λ files. WhereDay (asks_clock words) c.day (λ day. P day files))
-
 -- A count of the calls that only look rose.
 abbrev pub RoseLooking : List (List ℕ) → Which → Disk → Disk → Watch → Watch → Type 0
 RoseLooking words which.List old new c c' = Rose old.list_faults new.list_faults
@@ -69,13 +65,13 @@ RoseLooking words which.Clock old new c c' =
 pub record DecidesRefused (words : List (List ℕ)) (fault : Fault) (line : List ℕ) (old : Disk)
     (c : Watch) : Type 0 where
   pub accepted : IsSome (options_of words)
-  pub first : WhereSeen words old c (λ day files. IsJob words day files (Some (Err fault)))
+  pub first : WhereTold words old c (λ day files. IsJob words day files (Some (Err fault)))
   pub line_is : line ≡ fault_line fault
 
 pub record DecidesPlanned (words : List (List ℕ)) (work : Work) (old : Disk) (c : Watch)
     : Type 0 where
   pub accepted : IsSome (options_of words)
-  pub planned : WhereSeen words old c (λ day files. (plan : Plan)
+  pub planned : WhereTold words old c (λ day files. (plan : Plan)
       × IsJob words day files (Some (Ok plan)) × IsReady plan work)
   pub differ : PathsDiffer (texts_in work)
 
@@ -179,6 +175,12 @@ pub record Acts (work : Work) (d d' : Disk) (o o' e e' : Stream) (result : Ended
   pub out_counts : StreamCountsGrow o o'
   pub err_counts : StreamCountsGrow e e'
   pub so : ActsSo work d d' o o' e e' result
+
+-- The report is written, or a front of it.
+pub record ReportsOn (text : List ℕ) (o o' e e' : Stream) (result : Ended) : Type 0 where
+  pub out_counts : StreamCountsGrow o o'
+  pub err_counts : StreamCountsGrow e e'
+  pub so : Reports text o o' e e' result
 
 -- A line was tried on the stream, and its counts did not fall.
 pub record TriesLine (line : List ℕ) (old new : Stream) : Type 0 where

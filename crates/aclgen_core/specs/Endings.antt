@@ -22,7 +22,7 @@ use Rattle.aclgen_core.specs.FileLists.{HoldsTexts, Interrupted}
 use Rattle.aclgen_core.specs.FilterRequests.{FilterRequest}
 use Rattle.aclgen_core.specs.Job.{Plan, PlanFile, IsJob, filters_of, report_of, texts_of}
 use Rattle.aclgen_core.specs.Removals.{ShadedCanGo}
-use Rattle.aclgen_core.specs.Worlds.{CountsGrow, Stream, Watch, World}
+use Rattle.aclgen_core.specs.Worlds.{CountsGrow, Disk, Stream, Watch, World}
 use Rattle.aclgen_core.specs.declared.endings.Ended.{Ended}
 use Rattle.aclgen_core.specs.declared.endings.Ended.TheVariants as ended
 use Rattle.aclgen_core.specs.declared.endings.Which.{Which}
@@ -36,9 +36,9 @@ WhereDay true told P = IfSome told (λ n. (day : Day) → day.number ≡ n → P
 WhereDay false told P = (day : Day) → P day
 
 -- The tree tells its files, and the clock, where it is asked, its day.
-abbrev pub WhereTold : List (List ℕ) → World → (Day → List File → Type 0) → Type 0
-WhereTold words w P =
-    IfSome w.disk.files (λ files. WhereDay (asks_clock words) w.clock.day (λ day. P day files))
+abbrev pub WhereTold : List (List ℕ) → Disk → Watch → (Day → List File → Type 0) → Type 0
+WhereTold words d c P =
+    IfSome d.files (λ files. WhereDay (asks_clock words) c.day (λ day. P day files))
 
 -- A stream got the text, and nothing else.
 abbrev pub Got : List ℕ → Option (List ℕ) → Option (List ℕ) → Type 0
@@ -98,7 +98,7 @@ Headline words old new day files = (plan : Plan) × IsCompiled words old new day
 
 pub record EndsDone (words : List (List ℕ)) (old new : World) : Type 0 where
   pub accepted : IsSome (options_of words)
-  pub written : WhereTold words old (Headline words old new)
+  pub written : WhereTold words old.disk old.clock (Headline words old new)
   pub report : (text : List ℕ) × Got text old.out.told new.out.told
   pub nothing_on_err : new.err.told ≡ old.err.told
 
@@ -109,7 +109,7 @@ pub record EndsUsage (words : List (List ℕ)) (old new : World) : Type 0 where
 
 pub record EndsRejected (words : List (List ℕ)) (fault : Fault) (old new : World) : Type 0 where
   pub accepted : IsSome (options_of words)
-  pub first : WhereTold words old (λ day files. IsJob words day files (Some (Err fault)))
+  pub first : WhereTold words old.disk old.clock (λ day files. IsJob words day files (Some (Err fault)))
   pub untouched : Untouched old new
   pub line : Got (fault_line fault) old.err.told new.err.told
 
@@ -143,7 +143,7 @@ LeavesFiles words old new day files = (plan : Plan) × IsJob words day files (So
 pub record EndsWriting (words : List (List ℕ)) (old new : World) : Type 0 where
   pub cause : RoseAt which.Write old new
   pub accepted : IsSome (options_of words)
-  pub left : WhereTold words old (LeavesFiles words old new)
+  pub left : WhereTold words old.disk old.clock (LeavesFiles words old new)
   pub same_out : new.out.told ≡ old.out.told
   pub line : Tried (outside_line which.Write) old.err new.err
 
@@ -156,7 +156,7 @@ LeavesReport words old new day files = (plan : Plan) × IsJob words day files (S
 pub record EndsReporting (words : List (List ℕ)) (old new : World) : Type 0 where
   pub cause : RoseAt which.Out old new
   pub accepted : IsSome (options_of words)
-  pub written : WhereTold words old (LeavesReport words old new)
+  pub written : WhereTold words old.disk old.clock (LeavesReport words old new)
   pub report : (text : List ℕ) × BothTell old.out.told new.out.told (AddsFront text)
   pub line : Tried (outside_line which.Out) old.err new.err
 
@@ -164,7 +164,7 @@ pub record EndsReporting (words : List (List ℕ)) (old new : World) : Type 0 wh
 abbrev pub IsRefusalLine : List (List ℕ) → World → List ℕ → Type 0
 IsRefusalLine words old line = ((options_of words ≡ None) × (line ≡ usage_line))
     ⊎ (IsSome (options_of words) × ((fault : Fault) × (line ≡ fault_line fault)
-    × WhereTold words old (λ day files. IsJob words day files (Some (Err fault)))))
+    × WhereTold words old.disk old.clock (λ day files. IsJob words day files (Some (Err fault)))))
 
 -- The line of a refusal was not written whole.
 pub record EndsTelling (words : List (List ℕ)) (old new : World) : Type 0 where
@@ -191,7 +191,7 @@ LeavesPart (Some (Ok plan)) old new files = IsSomeAnd new.disk.files (Interrupte
 -- Memory was wanted: for the words, whatever they are, for the job, or for a line.
 pub record EndsWanting (words : List (List ℕ)) (old new : World) : Type 0 where
   pub words_untouched : options_of words ≡ None → Untouched old new
-  pub leaves : WhereTold words old (λ day files. (job : Option (Result Plan Fault))
+  pub leaves : WhereTold words old.disk old.clock (λ day files. (job : Option (Result Plan Fault))
       → IsJob words day files job → LeavesPart job old new files)
   pub line : (new.err.told ≡ old.err.told)
       ⊎ ((line : List ℕ) × IsRefusalLine words old line × BothTell old.err.told new.err.told (AddsFront line))
@@ -217,7 +217,7 @@ IsEnding (Some (Err fault)) result = (result ≡ ended.Rejected fault) ⊎ (resu
 -- The run ended as its words, and its job, ask.
 pub record EndsAsAsked (words : List (List ℕ)) (old : World) (result : Ended) : Type 0 where
   pub usage : options_of words ≡ None → IsEnding None result
-  pub job : WhereTold words old (λ day files. (job : Option (Result Plan Fault))
+  pub job : WhereTold words old.disk old.clock (λ day files. (job : Option (Result Plan Fault))
       → IsJob words day files job → IsEnding job result)
 
 -- The clock is as at entry where it is not asked, and its day stays.

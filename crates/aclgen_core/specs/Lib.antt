@@ -7,7 +7,9 @@ pub mod FilterRequests
 pub mod Job
 pub mod PreparingSteps
 pub mod Removals
+pub mod Runs
 pub mod ShadedSlips
 pub mod Statuses
+pub mod WorkloadPlans
 pub mod WorkloadRuns
 pub mod Worlds

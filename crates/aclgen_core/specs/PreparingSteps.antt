@@ -25,6 +25,7 @@ use Rattle.aclgen_core.specs.FilterPaths.{path_of}
 use Rattle.aclgen_core.specs.FilterRequests.{FilterRequest, filter_for, loaded_slip, request_slip, requests_of, requests_on, requests_slip}
 use Rattle.aclgen_core.specs.Job.{Plan, Plans, job_slip, plan_of, planned, platforms, report_line}
 use Rattle.aclgen_core.specs.ShadedSlips.{asked_shaded}
+use Rattle.aclgen_core.specs.WorkloadRuns.{PlansWorkload}
 use Rattle.aclgen_core.specs.declared.planning.Work.{Work}
 use Rattle.aclgen_core.specs.declared.preparing.FileDraft.{FileDraft}
 use Rattle.aclgen_core.specs.declared.preparing.FileDrafts.{FileDrafts}
@@ -185,3 +186,7 @@ MakesWork o today told (Ok work) = IfSome told (λ files. (plan : Plan) × Plans
     × IsReady plan work) × PathsDiffer (texts_in work)
 MakesWork o today told (Err e) =
     IfSome told (λ files. IfSome (load_told e) (λ fault. Plans o today files (Err fault)))
+
+-- What is to be written of the workload.
+abbrev pub MakesWorkload : ℕ → Work → Type 0
+MakesWorkload n work = (plan : Plan) × PlansWorkload n (Ok plan) × IsReady plan work

@@ -1,26 +1,19 @@
--- What the program does. The run of the workload: its texts are compiled over files in memory, and the report is what is
--- left of it.
-use Rattle.std.specs.Prelude.{◌≡◌, ◌⊎◌, ℕ, ◌<◌, ◌≤◌, pos, false, List, [], ◌∷◌, map, codes, Result, Ok, None, IfNone, IfSome}
+-- The run of the workload: its texts are compiled over files in memory, and the report is what is left of it.
+use Rattle.std.specs.Prelude.{◌≡◌, ◌⊎◌, ℕ, pos, false, List, codes, Result, Ok, None}
 use Rattle.acl_text.specs.declared.faults.Fault.{Fault}
 use Rattle.acl_text.specs.Output.{Rose}
 use Rattle.acl_days.specs.declared.days.Day.{Day}
 use Rattle.acl_host.specs.Files.{BothTell}
 use Rattle.acl_host.specs.Outside.{AddsFront}
 use Rattle.acl_options.specs.CommandLines.{Options}
-use Rattle.acl_options.specs.WorkloadWords.{workload_of}
-use Rattle.acl_render.specs.PlatformFiles.{count_of}
-use Rattle.workload_laws.specs.LoadedWorkloads.{workload_counts}
 use Rattle.workload_laws.specs.WorkloadFiles.{workload_files, workload_folder, workload_path}
-use Rattle.aclgen_core.specs.Endings.{Got, Keeps, Tried}
+use Rattle.aclgen_core.specs.Endings.{Got, Tried}
 use Rattle.aclgen_core.specs.FaultLines.{outside_line}
-use Rattle.aclgen_core.specs.FilterRequests.{filter_for}
 use Rattle.aclgen_core.specs.Job.{Plan, Plans, report_of}
-use Rattle.aclgen_core.specs.DecidingSteps.{IsReady}
 use Rattle.aclgen_core.specs.Worlds.{Stream, StreamCountsGrow, World}
 use Rattle.aclgen_core.specs.declared.endings.Ended.{Ended}
 use Rattle.aclgen_core.specs.declared.endings.Ended.TheVariants as ended
 use Rattle.aclgen_core.specs.declared.endings.Which.TheVariants as which
-use Rattle.aclgen_core.specs.declared.planning.Work.{Work}
 
 -- What is asked for: no words are read. Its files are `workload_files`.
 abbrev pub workload_options : Options
@@ -65,30 +58,3 @@ pub record EndsWorkload (n : ℕ) (old new : World) (result : Ended) : Type 0 wh
   pub same_disk : new.disk ≡ old.disk
   pub same_clock : new.clock ≡ old.clock
   pub runs : RunsWorkload n old.out new.out old.err new.err result
-
--- What the program does: the words may ask for the workload, and else for the job that `Keeps` tells of.
-abbrev pub Runs : List (List ℕ) → World → World → Ended → Type 0
-Runs words old new result = IfSome (workload_of words) (λ terms. EndsWorkload terms old new result)
-    × IfNone (workload_of words) (Keeps words old new result)
-
--- ---- a law
-
--- How many entries the filters of each file have.
-abbrev pub entries_of : Plan → List (List ℕ)
-entries_of plan = map (λ f. map (λ r. count_of (filter_for plan.today r)) f.requests) plan.files
-
--- The workload of 1 to 1,024 terms has a plan, and so no fault. It has a file for each platform with one filter, in the order
--- of `workload_counts`.
-abbrev pub WorkloadsHaveNoFault : Type 0
-WorkloadsHaveNoFault = (n : ℕ) → 0 < n → n ≤ 1024
-    → (plan : Plan) × PlansWorkload n (Ok plan) × (entries_of plan ≡ map (λ k. k ∷ []) (workload_counts n))
-
--- ---- steps of private functions
-
-abbrev pub MakesWorkload : ℕ → Work → Type 0
-MakesWorkload n work = (plan : Plan) × PlansWorkload n (Ok plan) × IsReady plan work
-
-pub record ReportsOn (text : List ℕ) (o o' e e' : Stream) (result : Ended) : Type 0 where
-  pub out_counts : StreamCountsGrow o o'
-  pub err_counts : StreamCountsGrow e e'
-  pub so : Reports text o o' e e' result

@@ -2,7 +2,7 @@ ghost use Rattle.std.specs.Prelude.{◌≡◌, None};
 ghost use Rattle.aclgen_core.specs.FaultLines.{outside_line, usage_line};
 ghost use Rattle.aclgen_core.specs.FileLists.{PathsDiffer};
 ghost use Rattle.aclgen_core.specs.Worlds.{disk, stream};
-ghost use Rattle.aclgen_core.specs.DecidingSteps.{Acts, Refuses, TriesLine, texts_in};
+ghost use Rattle.aclgen_core.specs.DecidingSteps.{Acts, Refuses, ReportsOn, TriesLine, texts_in};
 
 use crate::endings::{Ended, Which};
 use crate::fault_lines::{outside_line, usage_line};
@@ -37,6 +37,20 @@ pub fn tell_outside<E: Sink>(err: &mut E, which: Which) -> Ended
     Ended::Outside(which)
 }
 
+/// Writes the report.
+pub fn report_on<O: Sink, E: Sink>(text: &[u8], out: &mut O, err: &mut E) -> Ended
+    ensures { ReportsOn text.now
+        (stream O.Sink out.old) (stream O.Sink out.new)
+        (stream E.Sink err.old) (stream E.Sink err.new)
+        result }
+{
+    match out.write(text) {
+        Ok(()) => Ended::Done,
+        Err(WriteFault::Failed) => tell_outside(err, Which::Out),
+        Err(WriteFault::Memory) => Ended::Memory,
+    }
+}
+
 /// Writes the files, and then the report.
 pub fn carry_out<T: Tree, O: Sink, E: Sink>(
     work: &Work,
@@ -52,13 +66,8 @@ pub fn carry_out<T: Tree, O: Sink, E: Sink>(
         (stream E.Sink err.old) (stream E.Sink err.new) result }
 {
     match write_files(tree, work.files.as_slice()) {
-        Ok(()) => {}
-        Err(WriteFault::Failed) => return tell_outside(err, Which::Write),
-        Err(WriteFault::Memory) => return Ended::Memory,
-    }
-    match out.write(work.report.as_slice()) {
-        Ok(()) => Ended::Done,
-        Err(WriteFault::Failed) => tell_outside(err, Which::Out),
+        Ok(()) => report_on(work.report.as_slice(), out, err),
+        Err(WriteFault::Failed) => tell_outside(err, Which::Write),
         Err(WriteFault::Memory) => Ended::Memory,
     }
 }

@@ -4,7 +4,7 @@ ghost use Rattle.acl_text.specs.declared.faults.Fault.{Fault};
 ghost use Rattle.acl_days.specs.declared.days.Day.{Day};
 ghost use Rattle.acl_host.specs.Files.{File};
 ghost use Rattle.aclgen_core.specs.Job.{IsJob, Plan};
-ghost use Rattle.aclgen_core.specs.WorkloadRuns.{WorkloadsHaveNoFault};
+ghost use Rattle.aclgen_core.specs.WorkloadPlans.{WorkloadsHaveNoFault};
 
 /// A law: a job has one answer.
 pub fn jobs_are_one()

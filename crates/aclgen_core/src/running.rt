@@ -1,7 +1,7 @@
 ghost use Rattle.std.specs.Prelude.{◌≡◌, map, None};
 ghost use Rattle.std.specs.String.{string_bytes};
+ghost use Rattle.aclgen_core.specs.Runs.{Runs};
 ghost use Rattle.aclgen_core.specs.Worlds.{world_of};
-ghost use Rattle.aclgen_core.specs.WorkloadRuns.{Runs};
 
 use crate::acting::{carry_out, refuse, tell_outside};
 use crate::deciding::{Decision, decide};

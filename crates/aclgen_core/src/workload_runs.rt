@@ -1,14 +1,15 @@
 ghost use Rattle.std.specs.Prelude.{◌≡◌, ◌≤◌, IfOk};
 ghost use Rattle.acl_memory.specs.MemoryTrees.{contents};
 ghost use Rattle.aclgen_core.specs.Worlds.{stream};
-ghost use Rattle.aclgen_core.specs.WorkloadRuns.{MakesWorkload, ReportsOn, RunsWorkload};
+ghost use Rattle.aclgen_core.specs.PreparingSteps.{MakesWorkload};
+ghost use Rattle.aclgen_core.specs.WorkloadRuns.{RunsWorkload};
 ghost use Rattle.workload_laws.specs.WorkloadFiles.{workload_files};
 
-use crate::acting::tell_outside;
-use crate::endings::{Ended, Which};
+use crate::acting::report_on;
+use crate::endings::Ended;
 use crate::planning::{Work, make_work};
 use acl_days::Day;
-use acl_host::{Sink, WriteFault};
+use acl_host::Sink;
 use acl_load::LoadFault;
 use acl_memory::MemTree;
 use acl_options::Options;
@@ -52,19 +53,6 @@ fn plan_workload(alloc: Global, terms: u32) -> Result<Work, Memory>
         Ok(work) => Ok(work),
         Err(LoadFault::Fault(_)) => unreachable!(),
         Err(LoadFault::List | LoadFault::Read | LoadFault::Memory) => Err(Memory),
-    }
-}
-
-// Writes the report.
-fn report_on<O: Sink, E: Sink>(text: &[u8], out: &mut O, err: &mut E) -> Ended
-    ensures { ReportsOn text.now
-        (stream O.Sink out.old) (stream O.Sink out.new)
-        (stream E.Sink err.old) (stream E.Sink err.new) result }
-{
-    match out.write(text) {
-        Ok(()) => Ended::Done,
-        Err(WriteFault::Failed) => tell_outside(err, Which::Out),
-        Err(WriteFault::Memory) => Ended::Memory,
     }
 }
 
