@@ -10,8 +10,8 @@ use Rattle.acl_packet.specs.declared.addresses.Family.TheVariants.{V4, V6}
 use Rattle.acl_packet.specs.declared.packets.Packet.{Packet}
 use Rattle.acl_packet.specs.Addresses.{covers, same_family}
 use Rattle.acl_packet.specs.Packets.{IsPacket}
-use Rattle.acl_host.specs.declared.clocks.Day.{Day}
-use Rattle.acl_sets.specs.LeastLists.{any_has}
+use Rattle.acl_days.specs.declared.days.Day.{Day}
+use Rattle.acl_packet.specs.AddressLists.{any_has}
 use Rattle.acl_sets.specs.Ranges.{Only, holds}
 use Rattle.acl_target.specs.declared.targets.Kind.{Kind}
 use Rattle.acl_target.specs.declared.targets.Target.{Target}

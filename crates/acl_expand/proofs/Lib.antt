@@ -1,3 +1,4 @@
+pub mod AnsweredSlips
 pub mod DecideLaws
 pub mod FilterLaws
 pub mod HoldLaws

@@ -7,11 +7,11 @@ use Rattle.std.proofs.lemmas.Bool.{or_parts}
 use Rattle.std.proofs.lemmas.Bool.{and_left, or_from, both_ways, false_from_ne_true, eqb-true, eq-eqb, le-leb}
 use Rattle.acl_packet.specs.declared.addresses.Family.{Family}
 use Rattle.acl_packet.specs.declared.addresses.Family.TheVariants.{V4, V6}
-use Rattle.acl_packet.specs.Addresses.{top_address, width_of}
+use Rattle.acl_packet.specs.Addresses.{top_address, width_of, everywhere}
 use Rattle.acl_sets.specs.declared.sets.Range.{Range}
 use Rattle.acl_sets.specs.ComputableLeastLists.{halved_space, last_of}
 use Rattle.acl_sets.specs.ComputableSets.{above, covers, cut, cut_all, is_all}
-use Rattle.acl_sets.specs.LeastLists.{any_has}
+use Rattle.acl_packet.specs.AddressLists.{any_has}
 use Rattle.acl_sets.specs.Ranges.{IsNormal, IsRange, Numbers, Only, holds, inside}
 use Rattle.acl_sets.proofs.ComputableLeastListLaws.{halved_space-least}
 use Rattle.acl_sets.proofs.ComputableSetLaws.{covers-holds, cut_all-holds}
@@ -19,7 +19,7 @@ use Rattle.acl_sets.proofs.HalvesFacts.{step_whole}
 use Rattle.acl_sets.proofs.LeastListLaws.{least_list-holds, normal-addresses}
 use Rattle.acl_sets.proofs.RangeLaws.{in_range, ends_of}
 use Rattle.acl_terms.specs.declared.terms.Term.{Term}
-use Rattle.acl_terms.specs.Matching.{foreign_of}
+use Rattle.acl_packet.specs.Packets.{foreign_of}
 use Rattle.acl_terms.specs.Resolved.{destination_in, has_protocol, source_in}
 use Rattle.acl_terms.specs.Slips.{is_tcp_or_udp}
 use Rattle.acl_expand.specs.TermRules.{client_ports, just, least_list, protocols_in, udp_ports}
@@ -82,7 +82,7 @@ nothing_cut n floor top (q ∷ qs) h out =
 
 -- all addresses are one prefix
 pub all_listed : (f : Family) (s : Numbers) → s.top + 1 ≡ 2 ^ width_of f → is_all s ≡ true
-    → least_list f s ≡ record { family = f; first = 0; len = 0 } ∷ []
+    → least_list f s ≡ everywhere f ∷ []
 all_listed V4 s e h = step_whole V4 s.ranges 32 0 (ap (covers s.ranges 0) (last V4 s.top e) ∙ h)
   where
     last : (f : Family) (top : ℕ) → top + 1 ≡ 2 ^ width_of f → last_of (width_of f) 0 ≡ top

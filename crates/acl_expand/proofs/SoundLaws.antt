@@ -9,10 +9,11 @@ use Rattle.acl_packet.specs.declared.addresses.Family.TheVariants.{V4, V6}
 use Rattle.acl_packet.specs.declared.filtering.Verdict.{Verdict}
 use Rattle.acl_packet.specs.declared.filtering.Verdict.TheVariants.{Accept, Deny, Reject, Reset, Left}
 use Rattle.acl_packet.specs.Addresses.{covers, top_address}
-use Rattle.acl_packet.specs.Packets.{has_ports, is_extension_header, is_icmp}
+use Rattle.acl_packet.specs.Packets.{has_ports, is_extension_header, is_icmp, foreign_of}
 use Rattle.acl_sets.specs.declared.sets.Range.{Range}
 use Rattle.acl_sets.specs.ComputableSets.{cut_all, is_all}
-use Rattle.acl_sets.specs.LeastLists.{any_has, IsLeastList}
+use Rattle.acl_sets.specs.LeastLists.{IsLeastList}
+use Rattle.acl_packet.specs.AddressLists.{any_has}
 use Rattle.acl_sets.specs.Ranges.{IsNormal, Numbers, Only, holds}
 use Rattle.acl_sets.proofs.ComputableLeastListLaws.{halved_space-least}
 use Rattle.acl_sets.proofs.ComputableSetLaws.{cut_all-normal}
@@ -24,7 +25,6 @@ use Rattle.acl_terms.specs.declared.options.Mode.TheVariants.{Stateful, Stateles
 use Rattle.acl_terms.specs.declared.options.Opt.{Opt}
 use Rattle.acl_terms.specs.declared.options.Opt.TheVariants as options
 use Rattle.acl_terms.specs.declared.terms.Term.{Term}
-use Rattle.acl_terms.specs.Matching.{foreign_of}
 use Rattle.acl_terms.specs.Resolved.{destination_in, has_protocol, is_empty_in, source_in}
 use Rattle.acl_terms.specs.Slips.{is_tcp_or_udp}
 use Rattle.acl_terms.specs.Soundness.{is_established, is_left, is_reset, needs_tcp}

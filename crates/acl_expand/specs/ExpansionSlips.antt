@@ -1,15 +1,16 @@
 -- The first slip of terms on a target: the first of the questions on them that has an answer.
 use Rattle.std.specs.Prelude.{ℕ, ◌+◌, Bool, not, ◌&&◌, nat_le, if◌then◌else◌, List, [], ◌∷◌, length, sum_by, decimal, Option, None, Some}
 use Rattle.std.specs.List.{find}
+use Rattle.std.specs.Option.{option_or}
 use Rattle.acl_packet.specs.declared.addresses.Family.TheVariants.{V6}
 use Rattle.acl_packet.specs.Addresses.{covers}
 use Rattle.acl_text.specs.declared.faults.Code.TheVariants.{ExtensionHeader, TooManyPrefixes}
 use Rattle.acl_text.specs.declared.faults.Slip.{Slip}
-use Rattle.acl_host.specs.declared.clocks.Day.{Day}
+use Rattle.acl_text.specs.Refusals.{slip}
+use Rattle.acl_days.specs.declared.days.Day.{Day}
 use Rattle.acl_sets.specs.ComputableSets.{is_all}
 use Rattle.acl_sets.specs.Ranges.{holds}
 use Rattle.acl_target.specs.declared.targets.Target.{Target}
-use Rattle.acl_naming.specs.Checking.{first_of}
 use Rattle.acl_terms.specs.declared.terms.Term.{Term}
 use Rattle.acl_terms.specs.Resolved.{is_empty_in, is_term_live}
 use Rattle.acl_platform.specs.declared.rules.Rule.{Rule}
@@ -34,7 +35,7 @@ is_for_ipv6 target today t =
 
 abbrev pub header_at : Term → Option ℕ → Option Slip
 header_at t None = None
-header_at t (Some n) = Some (record { code = ExtensionHeader; place = t.place; word = decimal n })
+header_at t (Some n) = Some (slip ExtensionHeader t.place (decimal n))
 
 -- Which extension header does a term for IPv6 name? A packet has none of them as its protocol.
 unfoldable pub header_slip : Target → Day → Term → Option Slip
@@ -56,7 +57,7 @@ prefixes_of rules = sum_by rule_prefixes rules
 abbrev pub prefix_slip : Term → ℕ → Option Slip
 prefix_slip t prefixes =
     if nat_le prefixes most_prefixes then None
-    else Some (record { code = TooManyPrefixes; place = t.place; word = t.name })
+    else Some (slip TooManyPrefixes t.place t.name)
 
 -- ---- terms
 
@@ -66,13 +67,13 @@ prefixes_with target today before t = before + prefixes_of (term_rules target to
 
 abbrev pub term_slip : Target → Day → ℕ → Term → Option Slip
 term_slip target today before t =
-    first_of (header_slip target today t) (prefix_slip t (prefixes_with target today before t))
+    option_or (header_slip target today t) (prefix_slip t (prefixes_with target today before t))
 
 -- The first slip of terms, where the filter has so many prefixes before them.
 abbrev pub slip_behind : Target → Day → ℕ → List Term → Option Slip
 slip_behind target today before [] = None
 slip_behind target today before (t ∷ ts) =
-    first_of (term_slip target today before t)
+    option_or (term_slip target today before t)
     (slip_behind target today (prefixes_with target today before t) ts)
 
 unfoldable pub first_slip : Target → Day → List Term → Option Slip

@@ -6,7 +6,7 @@ use Rattle.acl_packet.specs.declared.addresses.Family.{Family}
 use Rattle.acl_packet.specs.declared.addresses.Family.TheVariants.{V4, V6}
 use Rattle.acl_packet.specs.declared.addresses.Prefix.{Prefix}
 use Rattle.acl_packet.specs.declared.filtering.Verdict.{Verdict}
-use Rattle.acl_host.specs.declared.clocks.Day.{Day}
+use Rattle.acl_days.specs.declared.days.Day.{Day}
 use Rattle.acl_sets.specs.declared.sets.Range.{Range}
 use Rattle.acl_sets.specs.ComputableLeastLists.{halved_space}
 use Rattle.acl_sets.specs.ComputableSets.{cut_all, is_all}
@@ -19,7 +19,7 @@ use Rattle.acl_terms.specs.declared.options.Mode.TheVariants.{Stateful, Stateles
 use Rattle.acl_terms.specs.declared.options.Opt.{Opt}
 use Rattle.acl_terms.specs.declared.options.Opt.TheVariants as options
 use Rattle.acl_terms.specs.declared.terms.Term.{Term}
-use Rattle.acl_terms.specs.Matching.{foreign_of}
+use Rattle.acl_packet.specs.Packets.{foreign_of}
 use Rattle.acl_terms.specs.Outcomes.{denied, mode_of}
 use Rattle.acl_terms.specs.Resolved.{destination_in, is_empty_in, is_term_live, source_in}
 use Rattle.acl_platform.specs.declared.rules.Rule.{Rule}

@@ -17,7 +17,7 @@ ghost use Rattle.acl_expand.specs.TermRules.{
 use acl_packet::Family;
 use acl_platform::Test;
 use acl_sets::{Range, RangeSet};
-use acl_terms::{Term, foreign_of};
+use acl_terms::Term;
 use acl_text::{Bytes, Memory};
 use std::alloc::Global;
 
@@ -76,7 +76,7 @@ fn protocols_in(alloc: Global, family: Family, term: &Term) -> Result<RangeSet, 
     if term.protos.is_all() {
         term.protos.copy(alloc)
     } else {
-        without(alloc, &term.protos, foreign_of(family))
+        without(alloc, &term.protos, family.foreign_number())
     }
 }
 

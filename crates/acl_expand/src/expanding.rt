@@ -1,6 +1,6 @@
 ghost use Rattle.std.specs.Prelude.{◌≡◌, ◌+◌, ◌≤◌, ◌++◌, IfOk, OnOk};
+ghost use Rattle.acl_text.specs.Refusals.{Judges};
 ghost use Rattle.acl_target.specs.TargetData.{IsTarget};
-ghost use Rattle.acl_terms.specs.Slips.{Judges};
 ghost use Rattle.acl_platform.specs.SoundFilters.{IsSound};
 ghost use Rattle.acl_expand.specs.Expansions.{DecidesAsTerms, filter_of, filter_with};
 ghost use Rattle.acl_expand.specs.ExpansionSlips.{first_slip, most_prefixes, prefixes_with, term_slip};
@@ -8,7 +8,7 @@ ghost use Rattle.acl_expand.specs.TermRules.{rules_of, term_rules};
 
 use crate::rule_making::push_term;
 use crate::slips::{check_header, check_prefixes, prefixes_behind};
-use acl_host::Day;
+use acl_days::Day;
 use acl_platform::{Filter, Rules};
 use acl_target::Target;
 use acl_terms::Term;

@@ -1,5 +1,5 @@
 ghost use Rattle.std.specs.Prelude.{◌≡◌, ◌+◌, ◌^◌, ◌++◌, [], ◌∷◌, IfOk, OnOk, map, flat_map, false};
-ghost use Rattle.acl_packet.specs.Addresses.{width_of};
+ghost use Rattle.acl_packet.specs.Addresses.{everywhere, width_of};
 ghost use Rattle.acl_sets.specs.Ranges.{holds};
 ghost use Rattle.acl_terms.specs.Outcomes.{denied, mode_of};
 ghost use Rattle.acl_terms.specs.Resolved.{destination_in, is_term_live, source_in};
@@ -19,7 +19,7 @@ ghost use Rattle.acl_expand.specs.TermRules.{
 };
 
 use crate::conditions::{Conditions, tcp_half, udp_alone, udp_half, whole};
-use acl_host::Day;
+use acl_days::Day;
 use acl_packet::{Families, Family, Prefix, Verdict};
 use acl_platform::{Rule, Rules, Test};
 use acl_sets::{Prefixes, RangeSet, least_prefixes};
@@ -48,14 +48,10 @@ fn verdict_on(kind: Kind, verdict: Verdict) -> Verdict
 
 // The list of all addresses of the family.
 fn everywhere(alloc: Global, family: Family) -> Result<Prefixes, Memory>
-    ensures { IfOk result (λ ps. ps ≡ record { family = family; first = 0; len = 0 } ∷ []) }
+    ensures { IfOk result (λ ps. ps ≡ everywhere family ∷ []) }
 {
     let mut prefixes = Prefixes::new(alloc);
-    prefixes.push(Prefix {
-        family,
-        first: 0,
-        len: 0,
-    })?;
+    prefixes.push(Prefix::everywhere(family))?;
     Ok(prefixes)
 }
 

@@ -1,7 +1,6 @@
 ghost use Rattle.std.specs.Prelude.{◌≡◌, ◌+◌, ◌-◌, ◌≤◌, ◌^◌, min, IfOk, decimal};
 ghost use Rattle.std.specs.List.{find};
-ghost use Rattle.acl_naming.specs.Checking.{IsRefusal};
-ghost use Rattle.acl_terms.specs.Slips.{Judges};
+ghost use Rattle.acl_text.specs.Refusals.{IsRefusalBy, Judges};
 ghost use Rattle.acl_sets.specs.Ranges.{holds};
 ghost use Rattle.acl_expand.specs.ExpansionSlips.{
   extension_headers,
@@ -15,13 +14,13 @@ ghost use Rattle.acl_expand.specs.ExpansionSlips.{
   rule_prefixes,
 };
 
-use acl_host::Day;
+use acl_days::Day;
 use acl_packet::Family;
 use acl_platform::Rule;
 use acl_sets::RangeSet;
 use acl_target::Target;
 use acl_terms::{Term, is_empty_in, is_live};
-use acl_text::{Bytes, Code, Memory, Place, Refusal, Slip};
+use acl_text::{Bytes, Code, Memory, Refusal};
 use itoa::Buffer;
 use std::alloc::Global;
 
@@ -63,15 +62,6 @@ fn decimal(alloc: Global, number: u8) -> Result<Bytes, Memory>
     Bytes::from_slice(alloc, buffer.format(number).as_bytes())
 }
 
-fn refusal_at(alloc: Global, code: Code, place: Place, word: &[u8]) -> Refusal
-    ensures { IsRefusal (record { code = code; place = place; word = word.now }) result }
-{
-    match Bytes::from_slice(alloc, word) {
-        Ok(word) => Refusal::Slip(Slip { code, place, word }),
-        Err(_) => Refusal::Memory,
-    }
-}
-
 fn check_no_header(alloc: Global, term: &Term) -> Result<(), Refusal>
     ensures { Judges result (header_at term.now (header_named term.now)) }
 {
@@ -79,7 +69,7 @@ fn check_no_header(alloc: Global, term: &Term) -> Result<(), Refusal>
         None => Ok(()),
         Some(number) => {
             let word = decimal(alloc, number)?;
-            Err(refusal_at(alloc, Code::ExtensionHeader, term.place, word.as_slice()))
+            Err(Refusal::at(alloc, Code::ExtensionHeader, term.place, word.as_slice()))
         }
     }
 }
@@ -109,7 +99,7 @@ pub(crate) fn check_prefixes(alloc: Global, term: &Term, prefixes: u64) -> Resul
         Ok(())
     } else {
         let name = term.name.as_slice();
-        Err(refusal_at(alloc, Code::TooManyPrefixes, term.place, name))
+        Err(Refusal::at(alloc, Code::TooManyPrefixes, term.place, name))
     }
 }
 

@@ -1,5 +1,5 @@
 ghost use Rattle.std.specs.Prelude.{◌∷◌, List, ℕ, IsTrue, map};
-ghost use Rattle.acl_text.specs.Output.{Puts};
+ghost use Rattle.acl_text.specs.Puts.{Puts};
 ghost use Rattle.acl_grammar.specs.Rows.{spaced};
 
 use crate::pieces::Words;
@@ -12,8 +12,7 @@ pub trait WordForm<T> {
     /// Puts the item's word.
     fn put_item_into<O: Out>(&self, item: &T, out: &mut O) -> Result<(), PutFault>
         requires { IsTrue (O.is_open out.old) }
-        ensures { Puts O.told O.faults O.refusals O.is_open O.keeps_rest out.old out.new
-            (item_text self.now item.now) result };
+        ensures { Puts O.Out out.old out.new (item_text self.now item.now) result };
 }
 
 /// The words of items in a form.
@@ -37,8 +36,7 @@ fn put_each_word<T, F: WordForm<T>, O: Out>(
     out: &mut O,
 ) -> Result<(), PutFault>
     requires { IsTrue (O.is_open out.old) }
-    ensures { Puts O.told O.faults O.refusals O.is_open O.keeps_rest out.old out.new
-        (spaced (map (F.item_text form.now) items.now)) result }
+    ensures { Puts O.Out out.old out.new (spaced (map (F.item_text form.now) items.now)) result }
 {
     for item in items {
         put_word_of(item, form, out)?;
@@ -48,8 +46,7 @@ fn put_each_word<T, F: WordForm<T>, O: Out>(
 
 fn put_word_of<T, F: WordForm<T>, O: Out>(item: &T, form: &F, out: &mut O) -> Result<(), PutFault>
     requires { IsTrue (O.is_open out.old) }
-    ensures { Puts O.told O.faults O.refusals O.is_open O.keeps_rest out.old out.new
-        (32 ∷ F.item_text form.now item.now) result }
+    ensures { Puts O.Out out.old out.new (32 ∷ F.item_text form.now item.now) result }
 {
     out.put(b" ")?;
     form.put_item_into(item, out)

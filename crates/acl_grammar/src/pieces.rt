@@ -1,5 +1,5 @@
 ghost use Rattle.std.specs.Prelude.{◌≡◌, ◌∷◌, [], ◌++◌, List, ℕ, IsTrue, Some, None, Option, decimal};
-ghost use Rattle.acl_text.specs.Output.{Puts};
+ghost use Rattle.acl_text.specs.Puts.{Puts};
 ghost use Rattle.acl_text.specs.AddressTexts.{address_text, prefix_text, wildcard_text};
 ghost use Rattle.acl_text.specs.Cuts.{views};
 ghost use Rattle.acl_grammar.specs.Rows.{spaced, or_nothing, words_in};
@@ -14,8 +14,7 @@ pub trait Piece {
     /// Puts the text.
     fn put_into<O: Out>(&self, out: &mut O) -> Result<(), PutFault>
         requires { IsTrue (O.is_open out.old) }
-        ensures { Puts O.told O.faults O.refusals O.is_open O.keeps_rest out.old out.new
-            (text self.now) result };
+        ensures { Puts O.Out out.old out.new (text self.now) result };
 }
 
 /// The bytes themselves.
@@ -96,8 +95,7 @@ pub trait Words {
     /// Puts the words, each behind a space.
     fn put_spaced<O: Out>(&self, out: &mut O) -> Result<(), PutFault>
         requires { IsTrue (O.is_open out.old) }
-        ensures { Puts O.told O.faults O.refusals O.is_open O.keeps_rest out.old out.new
-            (spaced (words self.now)) result };
+        ensures { Puts O.Out out.old out.new (spaced (words self.now)) result };
 }
 
 /// A piece that is one word.
@@ -127,8 +125,7 @@ impl<'a> Words for &'a [&'a [u8]] {
 /// Puts the words, each behind a space.
 pub fn put_words<O: Out>(words: &[&[u8]], out: &mut O) -> Result<(), PutFault>
     requires { IsTrue (O.is_open out.old) }
-    ensures { Puts O.told O.faults O.refusals O.is_open O.keeps_rest out.old out.new
-        (spaced (views words.now)) result }
+    ensures { Puts O.Out out.old out.new (spaced (views words.now)) result }
 {
     for word in words {
         Word { piece: *word }.put_spaced(out)?;

@@ -1,5 +1,5 @@
 ghost use Rattle.std.specs.Prelude.{◌≡◌, [], ◌∷◌, ◌++◌, List, IsTrue, replicate, flat_map};
-ghost use Rattle.acl_text.specs.Output.{Puts};
+ghost use Rattle.acl_text.specs.Puts.{Puts};
 ghost use Rattle.acl_grammar.specs.Rows.{Row as LineRow, row, row_text, text_of_rows};
 
 use crate::pieces::{Piece, Words};
@@ -27,8 +27,7 @@ impl<P: Piece, W: Words> Piece for Row<P, W> {
 
 fn put_spaces<O: Out>(count: usize, out: &mut O) -> Result<(), PutFault>
     requires { IsTrue (O.is_open out.old) }
-    ensures { Puts O.told O.faults O.refusals O.is_open O.keeps_rest out.old out.new
-        (replicate count 32) result }
+    ensures { Puts O.Out out.old out.new (replicate count 32) result }
 {
     for _space in 0..count {
         out.put(b" ")?;
@@ -43,8 +42,7 @@ pub trait Rows {
     /// Puts the lines of the rows. No put has bytes of two lines.
     fn put_rows<O: Out>(&self, out: &mut O) -> Result<(), PutFault>
         requires { IsTrue (O.is_open out.old) }
-        ensures { Puts O.told O.faults O.refusals O.is_open O.keeps_rest out.old out.new
-            (text_of_rows (rows self.now)) result };
+        ensures { Puts O.Out out.old out.new (text_of_rows (rows self.now)) result };
 }
 
 /// One row.
@@ -73,8 +71,7 @@ pub trait Form<T> {
     /// Puts the lines of the item's rows.
     fn put_item<O: Out>(&self, item: &T, out: &mut O) -> Result<(), PutFault>
         requires { IsTrue (O.is_open out.old) }
-        ensures { Puts O.told O.faults O.refusals O.is_open O.keeps_rest out.old out.new
-            (text_of_rows (item_rows self.now item.now)) result };
+        ensures { Puts O.Out out.old out.new (text_of_rows (item_rows self.now item.now)) result };
 }
 
 /// Items that are rows are written as their own.
@@ -106,7 +103,7 @@ impl<'a, T, F: Form<T>> Rows for Each<'a, T, F> {
 
 fn put_each<T, F: Form<T>, O: Out>(items: &[T], form: &F, out: &mut O) -> Result<(), PutFault>
     requires { IsTrue (O.is_open out.old) }
-    ensures { Puts O.told O.faults O.refusals O.is_open O.keeps_rest out.old out.new
+    ensures { Puts O.Out out.old out.new
         (text_of_rows (flat_map (F.item_rows form.now) items.now)) result }
 {
     for item in items {

@@ -1,13 +1,5 @@
 pub mod Files
 pub mod Outside
+pub mod Resting
 pub mod WholeFiles
 pub mod Writing
-pub mod Memory
-pub mod MemorySinks
-pub mod MemoryFiles
-pub mod MemoryTrees
-pub mod Resting
-pub mod Holding
-pub mod Days
-pub mod DaySteps
-pub mod NamedDays

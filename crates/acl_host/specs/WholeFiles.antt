@@ -1,27 +1,24 @@
 -- Whole files and folders: what is read and listed, and the faults that have no line.
-use Rattle.std.specs.Prelude.{ℕ, nat_lt, if◌then◌else◌, List, [], length, Option, None, Some, Result, Ok, Err, IsErrOf}
+use Rattle.std.specs.Prelude.{ℕ, nat_lt, if◌then◌else◌, List, length, Option, None, Some, Result, Ok, Err, IsErrOf}
 use Rattle.acl_text.specs.declared.faults.Code.{Code}
 use Rattle.acl_text.specs.declared.faults.Code.TheVariants.{NoFile}
 use Rattle.acl_text.specs.declared.faults.Fault.{Fault}
 use Rattle.acl_text.specs.declared.faults.Rejection.{Rejection}
 use Rattle.acl_text.specs.declared.faults.Rejection.TheVariants as rejections
 use Rattle.acl_text.specs.Output.{Rose}
+use Rattle.acl_text.specs.Refusals.{file_fault}
 use Rattle.acl_host.specs.Files.{File, file_at, is_folder, names_under}
-use Rattle.acl_host.specs.Outside.{OnlyLists, OnlyReads}
+use Rattle.acl_host.specs.Outside.{OnlyLists, OnlyReads, TreeMembers}
 use Rattle.acl_host.specs.declared.look_faults.ListFault.{ListFault}
 use Rattle.acl_host.specs.declared.look_faults.ListFault.TheVariants as lists
 use Rattle.acl_host.specs.declared.look_faults.ReadFault.{ReadFault}
 use Rattle.acl_host.specs.declared.look_faults.ReadFault.TheVariants as reads
 
--- A fault of a whole file or folder: it has no line and no word.
-abbrev pub fault_at : Code → List ℕ → Fault
-fault_at code label = record { code = code; label = label; line = 0; word = [] }
-
 -- The bytes at a path, of which there may be so many; the code says what more of them are.
 abbrev pub at_most : ℕ → Code → List ℕ → Option (List ℕ) → Result (List ℕ) Fault
-at_most most code path None = Err (fault_at NoFile path)
+at_most most code path None = Err (file_fault NoFile path)
 at_most most code path (Some bytes) =
-    if nat_lt most (length bytes) then Err (fault_at code path) else Ok bytes
+    if nat_lt most (length bytes) then Err (file_fault code path) else Ok bytes
 
 -- The bytes of the file at the path, with this limit.
 unfoldable pub whole_file : ℕ → Code → List ℕ → List File → Result (List ℕ) Fault
@@ -31,7 +28,7 @@ whole_file most code path files = at_most most code path (file_at files path)
 unfoldable pub listing : List ℕ → List File → Result (List (List ℕ)) Fault
 listing folder files =
     if is_folder folder files then Ok (names_under folder files)
-    else Err (fault_at NoFile folder)
+    else Err (file_fault NoFile folder)
 
 -- The fault that a reading, or a listing, tells of the input.
 abbrev pub read_told : ReadFault → Option Fault
@@ -51,16 +48,14 @@ read_rejected rejections.Memory = reads.Memory
 
 -- A call that lists a folder does nothing else, and fails outside only where the count of failed
 -- listings rose.
-pub record ListsFolder {S X : Type 0} (files : S → Option (List File)) (begun : S → Option (List ℕ))
-    (faults refusals list_faults read_faults : S → ℕ) (old new : S)
+pub record ListsFolder {S X : Type 0} (tree : TreeMembers S) (old new : S)
     (result : Result X ListFault) : Type 0 where
-  pub only : OnlyLists files begun faults refusals list_faults read_faults old new
-  pub failed : IsErrOf result lists.Outside → Rose (list_faults old) (list_faults new)
+  pub only : OnlyLists tree old new
+  pub failed : IsErrOf result lists.Outside → Rose (tree.list_faults old) (tree.list_faults new)
 
 -- A call that reads files does nothing else, and fails outside only where the count of failed
 -- readings rose.
-pub record ReadsFiles {S X : Type 0} (files : S → Option (List File)) (begun : S → Option (List ℕ))
-    (faults refusals list_faults read_faults : S → ℕ) (old new : S)
+pub record ReadsFiles {S X : Type 0} (tree : TreeMembers S) (old new : S)
     (result : Result X ReadFault) : Type 0 where
-  pub only : OnlyReads files begun faults refusals list_faults read_faults old new
-  pub failed : IsErrOf result reads.Outside → Rose (read_faults old) (read_faults new)
+  pub only : OnlyReads tree old new
+  pub failed : IsErrOf result reads.Outside → Rose (tree.read_faults old) (tree.read_faults new)

@@ -1,16 +1,7 @@
-ghost use Rattle.std.specs.Prelude.{ℕ, ℤ, pos, negsuc, ◌≤ℤ◌, Option};
+ghost use Rattle.std.specs.Prelude.{ℕ, ℤ, Option};
 
+use acl_days::Day;
 use thiserror::Error;
-
-/// A day of the years 0001 to 9999 of the proleptic Gregorian calendar.
-#[derive(Clone, Copy, Debug, PartialEq, Eq)]
-pub struct Day {
-    /// Days since 1970-01-01.
-    pub number: i32,
-    // 0001-01-01 is 719,162 days before it, 9999-12-31 is 2,932,896 days after it
-    pub ghost from_year_1: { negsuc 719161 ≤ℤ number },
-    pub ghost to_year_9999: { number ≤ℤ pos 2932896 },
-}
 
 /// Why a clock told no day.
 #[derive(Clone, Copy, Debug, PartialEq, Eq, Error)]

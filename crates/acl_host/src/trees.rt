@@ -79,7 +79,7 @@ impl FileNames {
     }
 
     /// Puts the names in byte order, or changes nothing where memory is wanted.
-    pub(crate) fn sort(&mut self) -> Result<(), Memory>
+    pub fn sort(&mut self) -> Result<(), Memory>
         ensures same { IsPermutation self.old self.new }
         ensures ok { OnOk result (AreInByteOrder self.new) }
         ensures err { OnErr result (self.new ≡ self.old) }
@@ -89,7 +89,7 @@ impl FileNames {
     }
 
     /// Puts the name into its place among names in byte order, or changes nothing where memory is wanted.
-    pub(crate) fn put_in_order(&mut self, item: String) -> Result<(), Memory>
+    pub fn put_in_order(&mut self, item: String) -> Result<(), Memory>
         ensures ok { OnOk result (self.new ≡ put_in_order (string_bytes item) self.old) }
         ensures err { OnErr result (self.new ≡ self.old) }
     {
@@ -127,7 +127,7 @@ fn comes_first(name: &[u8], other: &[u8]) -> bool
 /// writing calls: `begin`, `put` and `finish`. No count falls. As an `Out` it is open while a path is begun,
 /// and its bytes are those of the begun file.
 pub trait Tree: Out {
-    ghost use Rattle.acl_host.specs.Outside.{Lists, Reads, Begins, Finishes};
+    ghost use Rattle.acl_host.specs.Outside.{Lists, Reads, Begins, Finishes, members};
 
     ghost files: { Self → Option (List File) };
 
@@ -139,24 +139,24 @@ pub trait Tree: Out {
 
     /// The names of the files directly under the folder, in byte order.
     fn list(&mut self, alloc: Global, dir: &str) -> Result<FileNames, TreeFault>
-        ensures { Lists files begun Self.faults Self.refusals list_faults read_faults
+        ensures { Lists (members Self.Out files begun list_faults read_faults)
             self.old self.new dir.now result };
 
     /// The bytes of the file, or its first `most` bytes where it is longer.
     fn read(&mut self, alloc: Global, path: &str, most: usize) -> Result<Bytes, TreeFault>
-        ensures { Reads files begun Self.faults Self.refusals list_faults read_faults
+        ensures { Reads (members Self.Out files begun list_faults read_faults)
             self.old self.new path.now most result };
 
     /// Makes the file empty, and begins it.
     fn begin(&mut self, path: &str) -> Result<(), WriteFault>
         requires { begun self.old ≡ None }
-        ensures { Begins files begun Self.faults Self.refusals list_faults read_faults
+        ensures { Begins (members Self.Out files begun list_faults read_faults)
             self.old self.new path.now result };
 
     /// Ends the file that is begun.
     fn finish(&mut self) -> Result<(), WriteFault>
         requires { IsSome (begun self.old) }
-        ensures { Finishes files begun Self.faults Self.refusals list_faults read_faults
+        ensures { Finishes (members Self.Out files begun list_faults read_faults)
             self.old self.new result };
 
     // An open tree is one in which a path is begun.

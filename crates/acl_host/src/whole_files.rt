@@ -1,23 +1,11 @@
 ghost use Rattle.std.specs.Prelude.{◌≡◌, ◌≤◌, ◌<◌, ◌^◌, ◌+◌, length, IfSome, IfOk};
 ghost use Rattle.acl_text.specs.Answers.{Gives};
-ghost use Rattle.acl_host.specs.WholeFiles.{ListsFolder, ReadsFiles, fault_at, list_told, listing, read_told, whole_file};
+ghost use Rattle.acl_host.specs.WholeFiles.{ListsFolder, ReadsFiles, list_told, listing, read_told, whole_file};
 
 use crate::look_faults::{ListFault, ReadFault};
 use crate::trees::{FileNames, Tree, TreeFault};
-use acl_text::{Bytes, Code, Fault, Memory};
+use acl_text::{Bytes, Code, Fault};
 use std::alloc::Global;
-
-/// A fault of a whole file or folder, which has no line and no word.
-pub fn fault_at(alloc: Global, code: Code, label: &str) -> Result<Fault, Memory>
-    ensures { IfOk result (λ fault. fault ≡ fault_at code label.now) }
-{
-    Ok(Fault {
-        code,
-        label: Bytes::from_slice(alloc, label.as_bytes())?,
-        line: 0,
-        word: Bytes::new(alloc),
-    })
-}
 
 /// The names of the files directly under the folder, in byte order.
 ///
@@ -26,12 +14,15 @@ pub fn fault_at(alloc: Global, code: Code, label: &str) -> Result<Fault, Memory>
 pub fn listing<T: Tree>(alloc: Global, tree: &mut T, folder: &str) -> Result<FileNames, ListFault>
     ensures gives { IfSome (T.files tree.old) (λ files. Gives list_told result
         (listing folder.now files)) }
-    ensures lists { ListsFolder T.files T.begun T.faults T.refusals T.list_faults T.read_faults
-        tree.old tree.new result }
+    ensures lists { ListsFolder T.Tree tree.old tree.new result }
 {
     match tree.list(alloc, folder) {
         Ok(names) => Ok(names),
-        Err(TreeFault::Absent) => Err(ListFault::Fault(fault_at(alloc, Code::NoFile, folder)?)),
+        Err(TreeFault::Absent) => Err(ListFault::Fault(Fault::of_file(
+            alloc,
+            Code::NoFile,
+            folder,
+        )?)),
         Err(TreeFault::Failed) => Err(ListFault::Outside),
         Err(TreeFault::Memory) => Err(ListFault::Memory),
     }
@@ -53,17 +44,16 @@ pub fn read_whole<T: Tree>(
     ensures gives { IfSome (T.files tree.old) (λ files. Gives read_told result
         (whole_file most longer path.now files)) }
     ensures fits { IfOk result (λ bytes. length bytes ≤ most) }
-    ensures reads { ReadsFiles T.files T.begun T.faults T.refusals T.list_faults T.read_faults
-        tree.old tree.new result }
+    ensures reads { ReadsFiles T.Tree tree.old tree.new result }
 {
     match tree.read(alloc, path, most + 1) {
         Ok(bytes) => {
             if bytes.as_slice().len() > most {
-                return Err(ReadFault::Fault(fault_at(alloc, longer, path)?));
+                return Err(ReadFault::Fault(Fault::of_file(alloc, longer, path)?));
             }
             Ok(bytes)
         }
-        Err(TreeFault::Absent) => Err(ReadFault::Fault(fault_at(alloc, Code::NoFile, path)?)),
+        Err(TreeFault::Absent) => Err(ReadFault::Fault(Fault::of_file(alloc, Code::NoFile, path)?)),
         Err(TreeFault::Failed) => Err(ReadFault::Outside),
         Err(TreeFault::Memory) => Err(ReadFault::Memory),
     }

@@ -11,7 +11,7 @@ use acl_text::{PutFault, put_pieces};
 /// No other file is touched, and no path is begun when it returns.
 pub fn write_file<T: Tree>(tree: &mut T, path: &str, pieces: &[&[u8]]) -> Result<(), WriteFault>
     requires { T.begun tree.old ≡ None }
-    ensures { WritesFile T.files T.begun T.faults T.refusals T.list_faults T.read_faults
+    ensures { WritesFile T.Tree
         tree.old tree.new path.now (joined (map (λ p. p.now) pieces.now)) result }
 {
     tree.begin(path)?;

@@ -6,9 +6,10 @@ use Rattle.acl_text.specs.declared.faults.Fault.{Fault}
 use Rattle.acl_text.specs.declared.faults.Refusal.{Refusal}
 use Rattle.acl_text.specs.declared.faults.Slip.{Slip}
 use Rattle.acl_text.specs.Steps.{◌>>=◌}
+use Rattle.acl_text.specs.Refusals.{slip_fault}
 use Rattle.acl_host.specs.Files.{File, names_under}
 use Rattle.acl_host.specs.WholeFiles.{listing}
-use Rattle.acl_naming.specs.declared.item_words.Kind.TheVariants as kinds
+use Rattle.acl_naming.specs.declared.item_words.NamingKind.TheVariants as kinds
 use Rattle.acl_naming.specs.Definitions.{Definition, Naming}
 use Rattle.acl_naming.specs.NamingFiles.{file_added}
 use Rattle.acl_naming.specs.PortLaws.{IsInOrder, PortsAreOrdered, PortsAreSome}
@@ -27,12 +28,12 @@ use Rattle.acl_terms.specs.declared.terms.Term.{Term}
 use Rattle.acl_terms.specs.Slips.{slip_of}
 use Rattle.acl_terms.proofs.TermLaws.{term-there}
 use Rattle.acl_terms.proofs.WordLaws.{parts}
-use Rattle.acl_load.specs.declared.adding.Kind.{Kind}
-use Rattle.acl_load.specs.declared.adding.Kind.TheVariants.{Networks, Services}
+use Rattle.acl_naming.specs.declared.item_words.NamingKind.{NamingKind}
+use Rattle.acl_naming.specs.declared.item_words.NamingKind.TheVariants.{Networks, Services}
 use Rattle.acl_load.specs.declared.policy_loading.Loaded.{Loaded}
 use Rattle.acl_load.specs.declared.policy_texts.PolicyText.{PolicyText}
 use Rattle.acl_load.specs.LoadedPolicies.{AnswersAreThere, AreResolved, AreResolvedIn, GoesOn, IsLoadedFrom, LoadedPoliciesStand, LoadedStands, LoadsPolicy, Resolves, ResolvesWith, blocks_slip, policy_at, policy_in, terms_slip}
-use Rattle.acl_load.specs.Loading.{AnswersWith, Loads, MOST_FILES, all_of, both_kinds, definitions_of, fault_of, naming_file, naming_paths, net_paths, no_definitions, or_fault, svc_paths, with_file}
+use Rattle.acl_load.specs.Loading.{AnswersWith, Loads, MOST_FILES, all_of, both_kinds, definitions_of, naming_file, naming_paths, net_paths, no_definitions, or_fault, svc_paths, with_file}
 use Rattle.acl_load.proofs.DefinitionsThere.{loads-there}
 
 -- ---- what holds of each value that a step may give
@@ -64,7 +65,7 @@ told-by Q paths (Err s) h = tt
 abbrev Ordered : Naming → Type 0
 Ordered n = PortsAreOrdered n.services
 
-file-ordered : (paths : List (List ℕ)) (kind : Kind) (number : ℕ) (path : List ℕ) (files : List File) (base : Naming) → Ordered base
+file-ordered : (paths : List (List ℕ)) (kind : NamingKind) (number : ℕ) (path : List ℕ) (files : List File) (base : Naming) → Ordered base
     → IfOk (with_file paths kind number path files base) Ordered
 unfolding with_file
 file-ordered paths Networks number path files base h =
@@ -76,7 +77,7 @@ file-ordered paths Services number path files base h =
     behind PortsAreOrdered Ordered (or_fault paths added) _
     (told-by PortsAreOrdered paths added (order-kept number base.services bytes h)) (λ definitions k. k))
 
-files-ordered : (paths : List (List ℕ)) (kind : Kind) (number : ℕ) (more : List (List ℕ)) (files : List File) (base : Naming) → Ordered base
+files-ordered : (paths : List (List ℕ)) (kind : NamingKind) (number : ℕ) (more : List (List ℕ)) (files : List File) (base : Naming) → Ordered base
     → IfOk (all_of paths kind number more files base) Ordered
 files-ordered paths kind number [] files base h = h
 files-ordered paths kind number (path ∷ more) files base h =
@@ -158,7 +159,7 @@ resolved-there : (n : Naming) (text : PolicyText) → PortsAreSome n.services �
 resolved-there n text some fits = by (blocks_slip n text.policy.blocks) refl
   where
     by : (o : Option Slip) → blocks_slip n text.policy.blocks ≡ o → There (ResolvesWith o n text)
-    by (Some s) e = (Err (fault_of text.sources.labels s), refl)
+    by (Some s) e = (Err (slip_fault text.sources.labels s), refl)
     by None e =
         let lists = blocks-there n text.policy.blocks some (recursion_from_All IsBlock text.policy.blocks fits.blocks_are) e in (
           Ok (record { definitions = n; sources = text.sources; policy = text.policy; terms = lists.0 }),
@@ -197,7 +198,7 @@ resolved-stands n text loaded fits h = by (blocks_slip n text.policy.blocks) ref
     by : (o : Option Slip) → blocks_slip n text.policy.blocks ≡ o → ResolvesWith o n text (Ok loaded) → LoadedStands loaded
     by (Some s) e r = absurd (ok-no-err r)
       where
-        ok-no-err : Ok loaded ≡ Err (fault_of text.sources.labels s) → ⊥
+        ok-no-err : Ok loaded ≡ Err (slip_fault text.sources.labels s) → ⊥
         ok-no-err q = cc
     by None e r = stands n text loaded fits e r
 

@@ -8,15 +8,16 @@ use Rattle.std.proofs.lemmas.Slice.Eq.{bytes_eq-Decides}
 use Rattle.acl_text.specs.declared.faults.Code.TheVariants as codes
 use Rattle.acl_text.specs.declared.faults.Fault.{Fault}
 use Rattle.acl_text.specs.declared.faults.Slip.{Slip}
+use Rattle.acl_text.specs.Refusals.{slip, slip_fault}
 use Rattle.acl_host.specs.Files.{File, names_under}
 use Rattle.acl_naming.specs.declared.naming_items.Item.{Item}
 use Rattle.acl_naming.specs.declared.naming_items.Item.TheVariants.{Name, Network, Service}
 use Rattle.acl_naming.specs.declared.naming_items.Reference.{Reference}
-use Rattle.acl_naming.specs.Checking.{HasNoCycle, IsFirstCycle, IsSlipBy, NoCycleBefore, slip, undefined_of}
+use Rattle.acl_naming.specs.Checking.{HasNoCycle, IsFirstCycle, IsSlipBy, NoCycleBefore, undefined_of}
 use Rattle.acl_naming.specs.Definitions.{Definition, Naming, items_of}
 use Rattle.acl_naming.specs.Reach.{ReachesItself, Walks, is_reference}
 use Rattle.acl_naming.specs.Tables.{name_at, place_at}
-use Rattle.acl_load.specs.Loading.{AnswersWith, Loads, definitions_of, fault_of, naming_paths}
+use Rattle.acl_load.specs.Loading.{AnswersWith, Loads, definitions_of, naming_paths}
 
 -- ---- walks
 
@@ -123,7 +124,7 @@ abbrev There : List (List ℕ) → Result Naming Fault → Type 0
 There paths read = (answer : Result Naming Fault) × AnswersWith paths read answer
 
 slip-there : (paths : List (List ℕ)) (n : Naming) (s : Slip) → IsSlipBy (undefined_of n) n s → There paths (Ok n)
-slip-there paths n s is = (Err (fault_of paths s), (s, is, refl))
+slip-there paths n s is = (Err (slip_fault paths s), (s, is, refl))
 
 sound-there : (paths : List (List ℕ)) (n : Naming) (u : Option Reference) → undefined_of n ≡ u → There paths (Ok n)
 sound-there paths n (Some r) e =

@@ -1,3 +1,4 @@
+pub mod AnsweredFaults
 pub mod AnswersThere
 pub mod DefinitionsThere
 pub mod FaultLineLaws

@@ -6,10 +6,11 @@ use Rattle.acl_text.specs.declared.faults.Fault.{Fault}
 use Rattle.acl_host.specs.Files.{File, is_folder, names_under}
 use Rattle.acl_text.specs.declared.faults.Code.TheVariants.{TooManyFiles}
 use Rattle.acl_naming.specs.Definitions.{Naming}
-use Rattle.acl_load.specs.declared.adding.Kind.TheVariants.{Networks, Services}
+use Rattle.acl_naming.specs.declared.item_words.NamingKind.TheVariants.{Networks, Services}
 use Rattle.acl_host.specs.declared.look_faults.ReadFault.{ReadFault}
 use Rattle.acl_text.specs.Answers.{Gives}
-use Rattle.acl_host.specs.WholeFiles.{fault_at, listing, read_told}
+use Rattle.acl_text.specs.Refusals.{file_fault}
+use Rattle.acl_host.specs.WholeFiles.{listing, read_told}
 use Rattle.acl_load.specs.Loading.{MOST_FILES, naming_paths, net_paths, svc_paths, no_definitions, all_of, all_files, both_kinds, definitions_of}
 
 pub front_is : {X : Type 0} (f : X → List ℕ) (all : List X) (n : ℕ) (xs ys : List (List ℕ))
@@ -63,7 +64,7 @@ kinds_told (Some files) now paths networks services n start base result same non
 few_files : (folder : List ℕ) (names : List (List ℕ)) (files : List File)
     → length (naming_paths folder names) ≤ 4096
     → (if nat_lt MOST_FILES (length (naming_paths folder names))
-    then Err (fault_at TooManyFiles folder) else all_files folder names files)
+    then Err (file_fault TooManyFiles folder) else all_files folder names files)
     ≡ all_files folder names files
 few_files folder names files few = rw le-ltb refl
 

@@ -6,6 +6,7 @@ use Rattle.std.proofs.lemmas.List.{drop_more, take_more}
 use Rattle.acl_text.specs.declared.faults.Fault.{Fault}
 use Rattle.acl_text.specs.declared.faults.Slip.{Slip}
 use Rattle.acl_text.specs.Answers.{Answers, Gives}
+use Rattle.acl_text.specs.Refusals.{first_in}
 use Rattle.acl_host.specs.Files.{File}
 use Rattle.acl_host.specs.WholeFiles.{read_told}
 use Rattle.acl_host.specs.declared.look_faults.ReadFault.{ReadFault}
@@ -14,7 +15,6 @@ use Rattle.acl_naming.specs.Definitions.{Naming}
 use Rattle.acl_splice.specs.Splices.{Splice}
 use Rattle.acl_policy.specs.declared.blocks.Policy.{Policy}
 use Rattle.acl_policy.specs.PolicyPlaces.{PolicyStands}
-use Rattle.acl_terms.specs.Slips.{first_in}
 use Rattle.acl_terms.proofs.DistinctLaws.{slip-next}
 use Rattle.acl_load.specs.declared.policy_loading.Loaded.{Loaded}
 use Rattle.acl_load.specs.declared.policy_texts.PolicyText.{PolicyText}

@@ -6,9 +6,10 @@ use Rattle.std.proofs.Math.Nat.{eq-or-lt_of_le}
 use Rattle.acl_text.specs.declared.faults.Code.TheVariants as codes
 use Rattle.acl_text.specs.declared.faults.Fault.{Fault}
 use Rattle.acl_text.specs.declared.faults.Slip.{Slip}
+use Rattle.acl_text.specs.Refusals.{slip, slip_fault}
 use Rattle.acl_host.specs.Files.{names_under}
 use Rattle.acl_naming.specs.declared.naming_items.Reference.{Reference}
-use Rattle.acl_naming.specs.Checking.{undefined_of, HasNoCycle, IsFirstCycle, IsCycleSlip, IsSlipBy, slip}
+use Rattle.acl_naming.specs.Checking.{undefined_of, HasNoCycle, IsFirstCycle, IsCycleSlip, IsSlipBy}
 use Rattle.acl_naming.specs.Definitions.{Definition, Naming}
 use Rattle.acl_naming.specs.Tables.{name_at, place_at}
 use Rattle.acl_policy.specs.declared.blocks.Block.{Block}
@@ -18,7 +19,7 @@ use Rattle.acl_terms.specs.Resolved.{IsResolved}
 use Rattle.acl_terms.proofs.TermLaws.{one-term}
 use Rattle.acl_load.specs.declared.policy_loading.Loaded.{Loaded}
 use Rattle.acl_load.specs.declared.policy_texts.PolicyText.{PolicyText}
-use Rattle.acl_load.specs.Loading.{AnswersWith, definitions_of, fault_of, naming_paths}
+use Rattle.acl_load.specs.Loading.{AnswersWith, definitions_of, naming_paths}
 use Rattle.acl_load.specs.LoadedPolicies.{AnswersAreOne, AreResolved, AreResolvedIn, GoesOn, IsLoadedFrom, Resolves, ResolvesWith, blocks_slip, policy_at}
 
 -- ---- one slip of the names
@@ -63,7 +64,7 @@ same-loaded paths (Err f) a b p q = p ∙ sym q
 same-loaded paths (Ok n) (Ok x) (Ok y) p q = ap Ok (p.0 ∙ sym q.0)
 same-loaded paths (Ok n) (Ok x) (Err g) p q = absurd (sound-no-slip (undefined_of n) n q.0 p.1.defined p.1.networks p.1.services q.1)
 same-loaded paths (Ok n) (Err f) (Ok y) p q = absurd (sound-no-slip (undefined_of n) n p.0 q.1.defined q.1.networks q.1.services p.1)
-same-loaded paths (Ok n) (Err f) (Err g) p q = ap Err (p.2 ∙ ap (fault_of paths) (same-slip (undefined_of n) n p.0 q.0 p.1 q.1) ∙ sym q.2)
+same-loaded paths (Ok n) (Err f) (Err g) p q = ap Err (p.2 ∙ ap (slip_fault paths) (same-slip (undefined_of n) n p.0 q.0 p.1 q.1) ∙ sym q.2)
 
 -- ---- one list of terms for each block
 

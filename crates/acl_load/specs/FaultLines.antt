@@ -1,10 +1,10 @@
 -- The line that is printed of a fault.
 use Rattle.std.specs.Prelude.{ℕ, ◌&&◌, ◌==◌, nat_le, if◌then◌else◌, List, [], ◌∷◌, ◌++◌, take, map, codes, decimal}
 use Rattle.acl_text.specs.declared.faults.Code.{Code}
-use Rattle.acl_text.specs.declared.faults.Code.TheVariants.{TooLong, BadByte, BadName, NoDefinition, BadValue, Twice, TooMany, Undefined, Cycle, TooManyFiles, NoFile, IncludeDepth, IncludePath, Syntax, Keyword, Value, Repeated, Missing, TermTwice, TargetLine, FilterTwice, UnknownName, NoPortForProtocol, PortProtocol, IcmpProtocol, OptionProtocol, ResetProtocol, OptionClash, IncludeCount, ExtensionHeader, NameLength, NameClash, Unsupported, TooManyEntries, TooManyPrefixes, Shaded}
+use Rattle.acl_text.specs.declared.faults.Code.TheVariants.{TooLong, BadByte, BadName, NoDefinition, BadValue, Twice, TooMany, Undefined, Cycle, TooManyFiles, NoFile, IncludeDepth, IncludePath, Syntax, Keyword, Value, Repeated, Missing, TermTwice, TargetLine, FilterTwice, UnknownName, NoPortForProtocol, PortProtocol, IcmpProtocol, OptionProtocol, ResetProtocol, OptionClash, IncludeCount, ExtensionHeader, NameLength, NameClash, Unsupported, TooManyEntries, TooManyPrefixes, IcmpCode, NoPolicy, NoDocument, NoSection, Shaded, NumberRange}
 use Rattle.acl_text.specs.declared.faults.Fault.{Fault}
 
--- The number and the name of a fault, as docs/LANGUAGE.md lists them.
+-- The number and the name of a fault. docs/LANGUAGE.md lists those that `aclgen` answers.
 abbrev pub code_text : Code → List ℕ
 code_text TooLong = codes "F10 TooLong"
 code_text BadByte = codes "F11 BadByte"
@@ -41,7 +41,12 @@ code_text NameClash = codes "F42 NameClash"
 code_text Unsupported = codes "F43 Unsupported"
 code_text TooManyEntries = codes "F44 TooManyEntries"
 code_text TooManyPrefixes = codes "F45 TooManyPrefixes"
+code_text IcmpCode = codes "F46 IcmpCode"
+code_text NoPolicy = codes "F47 NoPolicy"
+code_text NoDocument = codes "F48 NoDocument"
+code_text NoSection = codes "F49 NoSection"
 code_text Shaded = codes "F50 Shaded"
+code_text NumberRange = codes "F51 NumberRange"
 
 -- the line's number, where there is a line
 abbrev pub line_text : ℕ → List ℕ

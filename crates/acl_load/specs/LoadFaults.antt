@@ -4,8 +4,7 @@ use Rattle.acl_text.specs.Output.{Rose}
 use Rattle.acl_text.specs.declared.faults.Fault.{Fault}
 use Rattle.acl_text.specs.declared.faults.Rejection.{Rejection}
 use Rattle.acl_text.specs.declared.faults.Rejection.TheVariants as rejections
-use Rattle.acl_host.specs.Files.{File}
-use Rattle.acl_host.specs.Outside.{OnlyListsAndReads}
+use Rattle.acl_host.specs.Outside.{OnlyListsAndReads, TreeMembers}
 use Rattle.acl_host.specs.declared.look_faults.ListFault.{ListFault}
 use Rattle.acl_host.specs.declared.look_faults.ListFault.TheVariants as lists
 use Rattle.acl_host.specs.declared.look_faults.ReadFault.{ReadFault}
@@ -36,9 +35,8 @@ of_rejection rejections.Memory = loads.Memory
 
 -- A call that lists a folder and reads files does nothing else, and fails outside only where the count
 -- of that kind rose.
-pub record LoadsFiles {S X : Type 0} (files : S → Option (List File)) (begun : S → Option (List ℕ))
-    (faults refusals list_faults read_faults : S → ℕ) (old new : S)
+pub record LoadsFiles {S X : Type 0} (tree : TreeMembers S) (old new : S)
     (result : Result X LoadFault) : Type 0 where
-  pub only : OnlyListsAndReads files begun faults refusals list_faults read_faults old new
-  pub list_failed : IsErrOf result loads.List → Rose (list_faults old) (list_faults new)
-  pub read_failed : IsErrOf result loads.Read → Rose (read_faults old) (read_faults new)
+  pub only : OnlyListsAndReads tree old new
+  pub list_failed : IsErrOf result loads.List → Rose (tree.list_faults old) (tree.list_faults new)
+  pub read_failed : IsErrOf result loads.Read → Rose (tree.read_faults old) (tree.read_faults new)

@@ -4,6 +4,7 @@ use Rattle.std.specs.List.{AllZip}
 use Rattle.acl_text.specs.declared.faults.Fault.{Fault}
 use Rattle.acl_text.specs.declared.faults.Slip.{Slip}
 use Rattle.acl_text.specs.Steps.{◌>>=◌}
+use Rattle.acl_text.specs.Refusals.{first_in, slip_fault}
 use Rattle.acl_host.specs.Files.{File}
 use Rattle.acl_naming.specs.Definitions.{Naming}
 use Rattle.acl_splice.specs.Splices.{Splice}
@@ -16,10 +17,10 @@ use Rattle.acl_policy.specs.Conditions.{IsPolicy}
 use Rattle.acl_policy.specs.Policies.{policy_of}
 use Rattle.acl_terms.specs.declared.terms.Term.{Term}
 use Rattle.acl_terms.specs.Resolved.{IsResolved}
-use Rattle.acl_terms.specs.Slips.{first_in, slip_of}
+use Rattle.acl_terms.specs.Slips.{slip_of}
 use Rattle.acl_load.specs.declared.policy_loading.Loaded.{Loaded}
 use Rattle.acl_load.specs.declared.policy_texts.PolicyText.{PolicyText}
-use Rattle.acl_load.specs.Loading.{Loads, fault_of, or_fault}
+use Rattle.acl_load.specs.Loading.{Loads, or_fault}
 
 -- ---- the policy
 
@@ -59,7 +60,7 @@ pub record IsLoadedFrom (definitions : Naming) (text : PolicyText) (loaded : Loa
   pub terms_are : AreResolvedIn definitions text.policy.blocks loaded.terms
 
 abbrev pub ResolvesWith : Option Slip → Naming → PolicyText → Result Loaded Fault → Type 0
-ResolvesWith (Some slip) definitions text answer = answer ≡ Err (fault_of text.sources.labels slip)
+ResolvesWith (Some slip) definitions text answer = answer ≡ Err (slip_fault text.sources.labels slip)
 ResolvesWith None definitions text (Err fault) = ⊥
 ResolvesWith None definitions text (Ok loaded) = IsLoadedFrom definitions text loaded
 

@@ -1,19 +1,18 @@
 -- The naming files of a folder: what they define together, or the first fault.
-use Rattle.std.specs.Prelude.{◌≡◌, ℕ, ◌+◌, Bool, nat_lt, nat_eq, if◌then◌else◌, List, [], ◌∷◌, ◌++◌, length, filter, map, codes, slice_index_or, None, Result, Ok, Err}
+use Rattle.std.specs.Prelude.{◌≡◌, ℕ, ◌+◌, Bool, nat_lt, nat_eq, if◌then◌else◌, List, [], ◌∷◌, ◌++◌, length, filter, map, codes, None, Result, Ok, Err}
 use Rattle.std.specs.List.{ends_with}
 use Rattle.acl_text.specs.declared.faults.Code.TheVariants.{TooLong, TooManyFiles}
 use Rattle.acl_text.specs.declared.faults.Fault.{Fault}
 use Rattle.acl_text.specs.declared.faults.Slip.{Slip}
 use Rattle.acl_text.specs.Steps.{◌>>=◌}
+use Rattle.acl_text.specs.Refusals.{file_fault, slip_fault}
 use Rattle.acl_host.specs.Files.{File, join_path, names_under}
-use Rattle.acl_host.specs.WholeFiles.{fault_at, whole_file, listing}
-use Rattle.acl_naming.specs.declared.item_words.Kind.{Kind as NamingKind}
-use Rattle.acl_naming.specs.declared.item_words.Kind.TheVariants as kinds
+use Rattle.acl_host.specs.WholeFiles.{whole_file, listing}
 use Rattle.acl_naming.specs.Definitions.{Definition, Naming}
 use Rattle.acl_naming.specs.Checking.{undefined_of, HasNoCycle, IsSlipOf}
 use Rattle.acl_naming.specs.NamingFiles.{file_added}
-use Rattle.acl_load.specs.declared.adding.Kind.{Kind}
-use Rattle.acl_load.specs.declared.adding.Kind.TheVariants.{Networks, Services}
+use Rattle.acl_naming.specs.declared.item_words.NamingKind.{NamingKind}
+use Rattle.acl_naming.specs.declared.item_words.NamingKind.TheVariants.{Networks, Services}
 
 -- A naming file of networks ends in `.net`, one of services in `.svc`.
 abbrev pub is_net : List ℕ → Bool
@@ -40,46 +39,33 @@ MOST_FILES = 4096
 abbrev pub MOST_BYTES : ℕ
 MOST_BYTES = 4194304
 
--- The fault of a slip: its label is the path of the file in which it stands.
-abbrev pub fault_of : List (List ℕ) → Slip → Fault
-fault_of paths slip = record {
-  code = slip.code;
-  label = slice_index_or paths slip.place.file [];
-  line = slip.place.line;
-  word = slip.word;
-}
-
+-- The fault of a slip has the path of its file as its label.
 abbrev pub or_fault : {A : Type 0} → List (List ℕ) → Result A Slip → Result A Fault
 or_fault paths (Ok x) = Ok x
-or_fault paths (Err slip) = Err (fault_of paths slip)
+or_fault paths (Err slip) = Err (slip_fault paths slip)
 
 abbrev pub naming_file : List ℕ → List File → Result (List ℕ) Fault
 naming_file path files = whole_file MOST_BYTES TooLong path files
 
--- The kind in the words of `acl_naming`; the list of a naming that has the definitions of this kind; and the naming
--- with another list in its place.
-abbrev pub naming_kind : Kind → NamingKind
-naming_kind Networks = kinds.Networks
-naming_kind Services = kinds.Services
-
-abbrev pub list_of : Kind → Naming → List Definition
+-- The list of a naming that has the definitions of this kind, and the naming with another list in its place.
+abbrev pub list_of : NamingKind → Naming → List Definition
 list_of Networks base = base.networks
 list_of Services base = base.services
 
-abbrev pub with_list : Kind → Naming → List Definition → Naming
+abbrev pub with_list : NamingKind → Naming → List Definition → Naming
 with_list Networks base definitions = record base { networks = definitions }
 with_list Services base definitions = record base { services = definitions }
 
 -- One file of a kind, and its definitions behind those of this kind so far. `paths` are those of all files.
-unfoldable pub with_file : List (List ℕ) → Kind → ℕ → List ℕ → List File → Naming
+unfoldable pub with_file : List (List ℕ) → NamingKind → ℕ → List ℕ → List File → Naming
     → Result Naming Fault
 with_file paths kind number path files base = do
   bytes ← naming_file path files
-  definitions ← or_fault paths (file_added (naming_kind kind) number (list_of kind base) bytes)
+  definitions ← or_fault paths (file_added kind number (list_of kind base) bytes)
   Ok (with_list kind base definitions)
 
 -- One file after the other, all of a kind, of which the first has this number.
-abbrev pub all_of : List (List ℕ) → Kind → ℕ → List (List ℕ) → List File → Naming
+abbrev pub all_of : List (List ℕ) → NamingKind → ℕ → List (List ℕ) → List File → Naming
     → Result Naming Fault
 all_of paths kind number [] files base = Ok base
 all_of paths kind number (path ∷ more) files base =
@@ -105,7 +91,7 @@ all_files folder names files =
 unfoldable pub definitions_of : List ℕ → List File → Result Naming Fault
 definitions_of folder files = do
   names ← listing folder files
-  if nat_lt MOST_FILES (length (naming_paths folder names)) then Err (fault_at TooManyFiles folder)
+  if nat_lt MOST_FILES (length (naming_paths folder names)) then Err (file_fault TooManyFiles folder)
       else all_files folder names files
 
 -- Each name that stands in a definition is defined in its kind, and none reaches itself.
@@ -119,7 +105,7 @@ abbrev pub AnswersWith : List (List ℕ) → Result Naming Fault → Result Nami
 AnswersWith paths (Err fault) answer = answer ≡ Err fault
 AnswersWith paths (Ok naming) (Ok given) = (given ≡ naming) × IsSound naming
 AnswersWith paths (Ok naming) (Err fault) =
-    (slip : Slip) × IsSlipOf naming slip × (fault ≡ fault_of paths slip)
+    (slip : Slip) × IsSlipOf naming slip × (fault ≡ slip_fault paths slip)
 
 -- The answer on a folder's naming files: what they define, each name defined and none reaching itself, or the
 -- first fault.

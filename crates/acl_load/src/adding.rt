@@ -4,21 +4,14 @@ ghost use Rattle.acl_text.specs.Answers.{Gives};
 ghost use Rattle.acl_host.specs.WholeFiles.{ReadsFiles, read_told};
 ghost use Rattle.acl_load.specs.Loading.{with_file, all_of};
 
-use crate::slips::fault_of;
+use crate::slips::slip_fault;
 use acl_host::{ReadFault, Tree, read_whole};
-use acl_naming::{Base, read_networks, read_services};
+use acl_naming::{Base, NamingKind, read_networks, read_services};
 use acl_text::{Code, Refusal};
 use std::alloc::Global;
 
 // The most bytes of a naming file.
 const MOST_BYTES: usize = 4_194_304;
-
-/// What a naming file defines.
-#[derive(Clone, Copy)]
-pub(crate) enum Kind {
-    Networks,
-    Services,
-}
 
 // The base with the definitions of the file of this number, which lies at the path.
 #[tactic(auto, unfolding(crate::specs::Loading::with_file))]
@@ -26,24 +19,23 @@ fn add_file<T: Tree>(
     alloc: Global,
     tree: &mut T,
     paths: &[String],
-    kind: Kind,
+    kind: NamingKind,
     number: u32,
     path: &str,
     base: Base,
 ) -> Result<Base, ReadFault>
     ensures gives { IfSome (T.files tree.old) (λ files. Gives read_told result
         (with_file (map string_bytes paths.now) kind number path.now files base)) }
-    ensures reads { ReadsFiles T.files T.begun T.faults T.refusals T.list_faults T.read_faults
-        tree.old tree.new result }
+    ensures reads { ReadsFiles T.Tree tree.old tree.new result }
 {
     let bytes = read_whole(alloc, tree, path, MOST_BYTES, Code::TooLong)?;
     let read = match kind {
-        Kind::Networks => read_networks(base, number, bytes.as_slice()),
-        Kind::Services => read_services(base, number, bytes.as_slice()),
+        NamingKind::Networks => read_networks(base, number, bytes.as_slice()),
+        NamingKind::Services => read_services(base, number, bytes.as_slice()),
     };
     match read {
         Ok(base) => Ok(base),
-        Err(Refusal::Slip(slip)) => Err(ReadFault::Fault(fault_of(alloc, paths, slip)?)),
+        Err(Refusal::Slip(slip)) => Err(ReadFault::Fault(slip_fault(alloc, paths, slip)?)),
         Err(Refusal::Memory) => Err(ReadFault::Memory),
     }
 }
@@ -53,7 +45,7 @@ pub(crate) fn add_all<T: Tree>(
     alloc: Global,
     tree: &mut T,
     paths: &[String],
-    kind: Kind,
+    kind: NamingKind,
     first: u32,
     files: &[String],
     base: Base,
@@ -61,8 +53,7 @@ pub(crate) fn add_all<T: Tree>(
     requires { first + length files.now ≤ 4096 }
     ensures gives { IfSome (T.files tree.old) (λ held. Gives read_told result
         (all_of (map string_bytes paths.now) kind first (map string_bytes files.now) held base)) }
-    ensures reads { ReadsFiles T.files T.begun T.faults T.refusals T.list_faults T.read_faults
-        tree.old tree.new result }
+    ensures reads { ReadsFiles T.Tree tree.old tree.new result }
 {
     let mut so_far = base;
     let mut number = first;

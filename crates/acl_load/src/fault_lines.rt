@@ -1,5 +1,6 @@
 ghost use Rattle.std.specs.Prelude.{◌≡◌, ◌≤◌, [], ◌∷◌, codes, length, map, take, IsTrue};
-ghost use Rattle.acl_text.specs.Output.{Puts, joined};
+ghost use Rattle.acl_text.specs.Output.{joined};
+ghost use Rattle.acl_text.specs.Puts.{Puts};
 ghost use Rattle.acl_load.specs.FaultLineSteps.{only_if, space_before};
 ghost use Rattle.acl_load.specs.FaultLines.{code_text, fault_line, visible};
 
@@ -48,7 +49,12 @@ fn code_text(code: Code) -> &'static str
         Code::Unsupported => "F43 Unsupported",
         Code::TooManyEntries => "F44 TooManyEntries",
         Code::TooManyPrefixes => "F45 TooManyPrefixes",
+        Code::IcmpCode => "F46 IcmpCode",
+        Code::NoPolicy => "F47 NoPolicy",
+        Code::NoDocument => "F48 NoDocument",
+        Code::NoSection => "F49 NoSection",
         Code::Shaded => "F50 Shaded",
+        Code::NumberRange => "F51 NumberRange",
     }
 }
 
@@ -114,7 +120,7 @@ fn put_parts<O: Out>(
     word: &[u8],
 ) -> Result<(), PutFault>
     requires { IsTrue (O.is_open out.old) }
-    ensures { Puts O.told O.faults O.refusals O.is_open O.keeps_rest out.old out.new
+    ensures { Puts O.Out out.old out.new
         (joined (label.now ∷ colon.now ∷ number.now ∷ codes ": " ∷ code.now ∷ space.now
         ∷ word.now ∷ codes "\n" ∷ [])) result }
 {
@@ -130,8 +136,7 @@ fn put_parts<O: Out>(
 /// put, each that is no visible ASCII as `?`. It refuses only as a `put` did.
 pub fn put_fault<O: Out>(out: &mut O, fault: &Fault) -> Result<(), PutFault>
     requires { IsTrue (O.is_open out.old) }
-    ensures { Puts O.told O.faults O.refusals O.is_open O.keeps_rest out.old out.new
-        (fault_line fault.now) result }
+    ensures { Puts O.Out out.old out.new (fault_line fault.now) result }
 {
     let mut buffer = Buffer::new();
     let number = buffer.format(fault.line).as_bytes();

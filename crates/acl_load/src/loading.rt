@@ -6,13 +6,13 @@ ghost use Rattle.acl_host.specs.WholeFiles.{ReadsFiles, read_told};
 ghost use Rattle.acl_load.specs.LoadFaults.{LoadsFiles, load_told};
 ghost use Rattle.acl_load.specs.Loading.{AnswersWith, Loads, naming_paths, both_kinds, definitions_of};
 
-use crate::adding::{Kind, add_all};
+use crate::adding::add_all;
 use crate::load_faults::LoadFault;
 use crate::naming_paths::naming_paths;
-use crate::slips::fault_of;
-use acl_host::{ReadFault, Tree, fault_at, listing};
+use crate::slips::slip_fault;
+use acl_host::{ReadFault, Tree, listing};
 use acl_naming::{Base, Checked, check};
-use acl_text::{Code, Refusal, Rejection};
+use acl_text::{Code, Fault, Refusal, Rejection};
 use std::alloc::Global;
 
 // The most naming files of a folder.
@@ -34,8 +34,7 @@ pub fn load_definitions<T: Tree>(
 ) -> Result<Checked, LoadFault>
     ensures loads { IfSome (T.files tree.old) (λ files.
         Answers load_told (λ checked. checked) result (Loads folder.now files)) }
-    ensures looks { LoadsFiles T.files T.begun T.faults T.refusals T.list_faults T.read_faults
-        tree.old tree.new result }
+    ensures looks { LoadsFiles T.Tree tree.old tree.new result }
 {
     let Definitions { base, paths } = read_definitions(alloc, tree, folder)?;
     Ok(check_definitions(alloc, paths.as_slice(), base)?)
@@ -59,13 +58,12 @@ fn read_definitions<T: Tree>(
     ensures paths { IfSome (T.files tree.old) (λ files. IfOk result (λ read.
         map string_bytes read.paths.items
         ≡ naming_paths folder.now (names_under folder.now files))) }
-    ensures looks { LoadsFiles T.files T.begun T.faults T.refusals T.list_faults T.read_faults
-        tree.old tree.new result }
+    ensures looks { LoadsFiles T.Tree tree.old tree.new result }
 {
     let names = listing(alloc, tree, folder)?;
     let paths = naming_paths(alloc, folder, names.as_slice())?;
     if paths.all.len() > MOST_FILES {
-        return Err(LoadFault::Fault(fault_at(alloc, Code::TooManyFiles, folder)?));
+        return Err(LoadFault::Fault(Fault::of_file(alloc, Code::TooManyFiles, folder)?));
     }
     let all = paths.all.as_slice();
     let (networks, services) = all.split_at(paths.networks);
@@ -89,13 +87,20 @@ fn read_all<T: Tree>(
     ensures gives { IfSome (T.files tree.old) (λ files. Gives read_told result
         (both_kinds (map string_bytes paths.now) (map string_bytes networks.now)
         (map string_bytes services.now) files)) }
-    ensures reads { ReadsFiles T.files T.begun T.faults T.refusals T.list_faults T.read_faults
-        tree.old tree.new result }
+    ensures reads { ReadsFiles T.Tree tree.old tree.new result }
 {
     let empty = Base::new(alloc);
-    let base = add_all(alloc, tree, paths, Kind::Networks, 0, networks, empty)?;
+    let base = add_all(alloc, tree, paths, NamingKind::Networks, 0, networks, empty)?;
     let first = networks.len() as u32;
-    add_all(alloc, tree, paths, Kind::Services, first, services, base)
+    add_all(
+        alloc,
+        tree,
+        paths,
+        NamingKind::Services,
+        first,
+        services,
+        base,
+    )
 }
 
 // The base, where each of its names is defined and none reaches itself.
@@ -105,7 +110,7 @@ fn check_definitions(alloc: Global, paths: &[String], base: Base) -> Result<Chec
 {
     match check(base) {
         Ok(checked) => Ok(checked),
-        Err(Refusal::Slip(slip)) => Err(Rejection::Fault(fault_of(alloc, paths, slip)?)),
+        Err(Refusal::Slip(slip)) => Err(Rejection::Fault(slip_fault(alloc, paths, slip)?)),
         Err(Refusal::Memory) => Err(Rejection::Memory),
     }
 }

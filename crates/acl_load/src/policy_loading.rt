@@ -5,8 +5,8 @@ ghost use Rattle.acl_words.specs.Words.{words_of};
 ghost use Rattle.acl_policy.specs.Conditions.{IsBlock, IsPolicy, IsRawTerm};
 ghost use Rattle.acl_policy.specs.Policies.{policy_of};
 ghost use Rattle.acl_policy.specs.PolicyPlaces.{PolicyStands};
-ghost use Rattle.acl_terms.specs.Slips.{Judges};
 ghost use Rattle.acl_text.specs.Answers.{Answers, fault_told};
+ghost use Rattle.acl_text.specs.Refusals.{Judges};
 ghost use Rattle.acl_load.specs.LoadFaults.{LoadsFiles, load_told};
 ghost use Rattle.acl_load.specs.LoadedPolicies.{
   AreResolved,
@@ -60,8 +60,7 @@ pub fn load<T: Tree>(
 ) -> Result<Loaded, LoadFault>
     ensures loads { IfSome (T.files tree.old) (λ files.
         Answers load_told (λ l. l) result (LoadsPolicy folder.now path.now files)) }
-    ensures looks { LoadsFiles T.files T.begun T.faults T.refusals T.list_faults T.read_faults
-        tree.old tree.new result }
+    ensures looks { LoadsFiles T.Tree tree.old tree.new result }
     ensures labelled { IfOk result (λ l. IsLabelled l.sources) }
     ensures parsed { IfOk result (λ l. policy_of (words_of l.sources.lines) ≡ Ok l.policy) }
     ensures fits { IfOk result (λ l. IsPolicy l.policy) }

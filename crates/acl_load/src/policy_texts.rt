@@ -5,14 +5,14 @@ ghost use Rattle.acl_policy.specs.Conditions.{IsPolicy};
 ghost use Rattle.acl_policy.specs.Policies.{policy_of};
 ghost use Rattle.acl_policy.specs.PolicyPlaces.{PolicyStands};
 ghost use Rattle.acl_text.specs.Answers.{Gives, fault_told};
+ghost use Rattle.acl_text.specs.Refusals.{slip_fault};
 ghost use Rattle.acl_host.specs.WholeFiles.{ReadsFiles, read_told};
-ghost use Rattle.acl_load.specs.Loading.{fault_of};
 ghost use Rattle.acl_load.specs.LoadedPolicies.{policy_at, policy_in};
 
 use acl_host::{ReadFault, Tree};
 use acl_policy::{Policy, parse};
 use acl_splice::{Sources, gather, label};
-use acl_text::{Bytes, Fault, Memory, Refusal, Rejection, Slip};
+use acl_text::{Fault, Memory, Refusal, Rejection, Slip};
 use std::alloc::Global;
 
 /// A policy as it is read, and its lines with the files from which they come.
@@ -35,15 +35,9 @@ pub fn label_at(sources: &Sources, file: u32) -> &[u8]
 /// The fault of a slip in the policy: its label is that of the file in which it stands, empty where no file has
 /// that number. It fails only where memory is wanted.
 pub fn policy_fault(alloc: Global, sources: &Sources, slip: Slip) -> Result<Fault, Memory>
-    ensures { IfOk result (λ fault. fault ≡ fault_of sources.now.labels slip) }
+    ensures { IfOk result (λ fault. fault ≡ slip_fault sources.now.labels slip) }
 {
-    let Slip { code, place, word } = slip;
-    Ok(Fault {
-        code,
-        label: Bytes::from_slice(alloc, label_at(sources, place.file))?,
-        line: place.line,
-        word,
-    })
+    Fault::of_slip(alloc, label_at(sources, slip.place.file), slip)
 }
 
 // The policy in the lines.
@@ -70,8 +64,7 @@ pub(crate) fn policy_at<T: Tree>(
 ) -> Result<PolicyText, ReadFault>
     ensures gives { IfSome (T.files tree.old) (λ files. Gives read_told result
         (policy_at path.now files)) }
-    ensures reads { ReadsFiles T.files T.begun T.faults T.refusals T.list_faults T.read_faults
-        tree.old tree.new result }
+    ensures reads { ReadsFiles T.Tree tree.old tree.new result }
     ensures labelled { IfOk result (λ t. IsLabelled t.sources) }
     ensures parsed { IfOk result (λ t. policy_of (words_of t.sources.lines) ≡ Ok t.policy) }
     ensures fits { IfOk result (λ t. IsPolicy t.policy) }

@@ -1,21 +1,15 @@
 ghost use Rattle.std.specs.Prelude.{◌≡◌, [], map, slice_index_or, IfOk};
 ghost use Rattle.std.specs.String.{string_bytes};
-ghost use Rattle.acl_load.specs.Loading.{fault_of};
+ghost use Rattle.acl_text.specs.Refusals.{slip_fault};
 
-use acl_text::{Bytes, Fault, Memory, Slip};
+use acl_text::{Fault, Memory, Slip};
 use std::alloc::Global;
 
 /// The fault of a slip: its label is the path of the file in which it stands.
-pub(crate) fn fault_of(alloc: Global, paths: &[String], slip: Slip) -> Result<Fault, Memory>
-    ensures { IfOk result (λ fault. fault ≡ fault_of (map string_bytes paths.now) slip) }
+pub(crate) fn slip_fault(alloc: Global, paths: &[String], slip: Slip) -> Result<Fault, Memory>
+    ensures { IfOk result (λ fault. fault ≡ slip_fault (map string_bytes paths.now) slip) }
 {
-    let Slip { code, place, word } = slip;
-    Ok(Fault {
-        code,
-        label: Bytes::from_slice(alloc, path_at(paths, place.file))?,
-        line: place.line,
-        word,
-    })
+    Fault::of_slip(alloc, path_at(paths, slip.place.file), slip)
 }
 
 // The path of the file of this number.

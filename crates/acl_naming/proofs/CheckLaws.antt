@@ -2,10 +2,11 @@
 use Rattle.std.proofs.Common.{◌≡◌, ℕ, zero, suc, ◌+◌, ◌<◌, ◌≤◌, Bool, true, false, is_some, if◌then◌else◌, drop, slice_set, List, [], ◌∷◌, length, Option, None, Some, inl, inr, refl, ap, sym, subst, ◌∙◌, arith}
 use Rattle.std.proofs.lemmas.Bool.{cases_lt}
 use Rattle.std.proofs.lemmas.List.{drop_more}
+use Rattle.std.specs.Option.{option_or}
 use Rattle.acl_naming.specs.declared.naming_items.Item.{Item}
 use Rattle.acl_naming.specs.declared.naming_items.Item.TheVariants.{Name, Network, Service}
 use Rattle.acl_naming.specs.declared.naming_items.Reference.{Reference}
-use Rattle.acl_naming.specs.Checking.{first_of, undefined_in, first_undefined, NoCycleBefore}
+use Rattle.acl_naming.specs.Checking.{undefined_in, first_undefined, NoCycleBefore}
 use Rattle.acl_naming.specs.Definitions.{Definition, index_of, items_at}
 use Rattle.acl_naming.specs.GraphSteps.{names_count, targets, with_index}
 use Rattle.acl_naming.specs.MarkSteps.{marked}
@@ -16,20 +17,20 @@ use Rattle.acl_naming.proofs.GraphLaws.{nowhere, items_get, index_name, first_in
 
 -- what is undefined in the i-th definition, and behind it
 undefined_step : (base : List Definition) (i : ℕ) → i < length base
-    → first_undefined base (drop i base) ≡ first_of (undefined_in base (items_at base i)) (first_undefined base (drop (i + 1) base))
+    → first_undefined base (drop i base) ≡ option_or (undefined_in base (items_at base i)) (first_undefined base (drop (i + 1) base))
 undefined_step base i h =
     ap (first_undefined base) (drop_more base i nowhere h)
-    ∙ ap (λ (items : List Item). first_of (undefined_in base items) (first_undefined base (drop (i + 1) base))) (items_get base i h)
+    ∙ ap (λ (items : List Item). option_or (undefined_in base items) (first_undefined base (drop (i + 1) base))) (items_get base i h)
 
 pub undefined_here : (base : List Definition) (i : ℕ) (r : Reference) → i < length base → Some r ≡ undefined_in base (items_at base i)
     → Some r ≡ first_undefined base (drop i base)
 undefined_here base i r h e =
-    ap (λ (o : Option Reference). first_of o (first_undefined base (drop (i + 1) base))) e ∙ sym (undefined_step base i h)
+    ap (λ (o : Option Reference). option_or o (first_undefined base (drop (i + 1) base))) e ∙ sym (undefined_step base i h)
 
 pub undefined_behind : (base : List Definition) (i : ℕ) → i < length base → None ≡ undefined_in base (items_at base i)
     → first_undefined base (drop (i + 1) base) ≡ first_undefined base (drop i base)
 undefined_behind base i h e =
-    ap (λ (o : Option Reference). first_of o (first_undefined base (drop (i + 1) base))) e ∙ sym (undefined_step base i h)
+    ap (λ (o : Option Reference). option_or o (first_undefined base (drop (i + 1) base))) e ∙ sym (undefined_step base i h)
 
 -- ---- the steps of the search for rings
 

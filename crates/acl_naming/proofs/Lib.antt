@@ -1,4 +1,6 @@
+pub mod AnsweredSlips
 pub mod CheckLaws
+pub mod ComputedReachLaws
 pub mod GraphLaws
 pub mod MarkLaws
 pub mod OrderedPorts
@@ -6,4 +8,3 @@ pub mod ReachLaws
 pub mod ReadLaws
 pub mod TableLaws
 pub mod WalkLaws
-pub mod ComputedReachLaws

@@ -16,7 +16,7 @@ use Rattle.acl_text.proofs.OptionStepLaws.{bound, by_Some, mapped}
 use Rattle.acl_text.proofs.PortLaws.{ports_some}
 use Rattle.acl_sets.specs.Ranges.{holds}
 use Rattle.acl_sets.proofs.RangeLaws.{in_range}
-use Rattle.acl_naming.specs.declared.item_words.Kind.TheVariants.{Services}
+use Rattle.acl_naming.specs.declared.item_words.NamingKind.TheVariants.{Services}
 use Rattle.acl_naming.specs.declared.naming_items.Item.{Item}
 use Rattle.acl_naming.specs.declared.naming_items.Item.TheVariants.{Name, Network, Service}
 use Rattle.acl_naming.specs.Definitions.{Definition, index_of, items_at, items_count, items_in, items_of}

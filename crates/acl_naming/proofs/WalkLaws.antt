@@ -12,7 +12,7 @@ use Rattle.acl_naming.specs.RankSteps.{NeverFall, rank_at}
 use Rattle.acl_naming.specs.Reach.{is_reference, refers, Walks, Reaches, ReachesItself}
 use Rattle.acl_naming.specs.Tables.{name_at}
 use Rattle.acl_naming.specs.GraphSteps.{targets, graph_of, blank, Follows, AreBehind}
-use Rattle.acl_naming.proofs.MarkLaws.{count, count_fits, mark_kept, marked_within, marks_keep, marks_kept, marks_all, marks_length, among_left, among_right, among_cases, among_one, is_one, unmarked_among, marked_before, AreListed, listed_more, listed_fits, all_by, IsSound, sound_mark}
+use Rattle.acl_naming.proofs.MarkLaws.{count, count_fits, mark_kept, marked_within, marks_keep, marks_kept, marks_all, marks_length, among_left, among_right, among_cases, unmarked_among, marked_before, AreListed, listed_more, listed_fits, all_by, IsSound, sound_mark}
 use Rattle.acl_naming.proofs.GraphLaws.{option_cases, index_name, same_index, items_found, leads_at, leads_found, leads_all, target_found, targets_within}
 
 pub blank_length : (base : List Definition) → length (blank base) ≡ length base

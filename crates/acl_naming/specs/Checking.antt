@@ -1,22 +1,17 @@
 -- What is wrong with the names of all definitions: a name that is defined nowhere, or one that reaches itself.
 use Rattle.std.specs.Prelude.{◌≡◌, ℕ, ◌<◌, is_some, if◌then◌else◌, List, [], ◌∷◌, length, Option, None, Some, Result, Ok, Err, ◌⊎◌}
-use Rattle.acl_text.specs.declared.faults.Code.{Code}
+use Rattle.std.specs.Option.{option_or}
 use Rattle.acl_text.specs.declared.faults.Code.TheVariants as codes
-use Rattle.acl_text.specs.declared.faults.Place.{Place}
 use Rattle.acl_text.specs.declared.faults.Slip.{Slip}
 use Rattle.acl_text.specs.declared.faults.Refusal.{Refusal}
 use Rattle.acl_text.specs.declared.faults.Refusal.TheVariants as refusals
+use Rattle.acl_text.specs.Refusals.{slip}
 use Rattle.acl_naming.specs.declared.naming_items.Item.{Item}
 use Rattle.acl_naming.specs.declared.naming_items.Item.TheVariants.{Name, Network, Service}
 use Rattle.acl_naming.specs.declared.naming_items.Reference.{Reference}
 use Rattle.acl_naming.specs.Definitions.{Definition, Naming, index_of}
 use Rattle.acl_naming.specs.Reach.{ReachesItself}
 use Rattle.acl_naming.specs.Tables.{name_at, place_at}
-
--- The first one, where there is one; else the second.
-abbrev pub first_of : {X : Type 0} → Option X → Option X → Option X
-first_of None other = other
-first_of (Some x) other = Some x
 
 -- The first of the items that is a name defined nowhere.
 abbrev pub undefined_in : List Definition → List Item → Option Reference
@@ -29,12 +24,12 @@ undefined_in base (Service p ∷ items) = undefined_in base items
 -- The first such item in order of definition.
 abbrev pub first_undefined : List Definition → List Definition → Option Reference
 first_undefined base [] = None
-first_undefined base (d ∷ ds) = first_of (undefined_in base d.items) (first_undefined base ds)
+first_undefined base (d ∷ ds) = option_or (undefined_in base d.items) (first_undefined base ds)
 
 -- Networks come before services. A name refers to the same kind.
 abbrev pub undefined_of : Naming → Option Reference
 undefined_of n =
-    first_of (first_undefined n.networks n.networks) (first_undefined n.services n.services)
+    option_or (first_undefined n.networks n.networks) (first_undefined n.services n.services)
 
 -- No definition before the i-th reaches itself.
 abbrev pub NoCycleBefore : List Definition → ℕ → Type 0
@@ -48,9 +43,6 @@ pub record IsFirstCycle (base : List Definition) (i : ℕ) : Type 0 where
   pub within : i < length base
   pub cycle : ReachesItself base (name_at base i)
   pub first : NoCycleBefore base i
-
-abbrev pub slip : Code → Place → List ℕ → Slip
-slip code place word = record { code = code; place = place; word = word }
 
 -- The slip of the first definition that reaches itself.
 abbrev pub IsCycleSlip : List Definition → Slip → Type 0
@@ -83,8 +75,3 @@ abbrev pub CyclesAreAbsent : {T : Type 0} → List Definition → Result T Refus
 CyclesAreAbsent base (Ok x) = HasNoCycle base
 CyclesAreAbsent base (Err (refusals.Slip s)) = IsCycleSlip base s
 CyclesAreAbsent base (Err refusals.Memory) = Unit {0}
-
--- A refusal that has this slip, or wants memory.
-abbrev pub IsRefusal : Slip → Refusal → Type 0
-IsRefusal s (refusals.Slip t) = t ≡ s
-IsRefusal s refusals.Memory = Unit {0}

@@ -7,8 +7,8 @@ use Rattle.acl_text.specs.OptionSteps.{◌>>=◌}
 use Rattle.acl_text.specs.Cuts.{cut_at, has_byte}
 use Rattle.acl_text.specs.Names.{is_name}
 use Rattle.acl_text.specs.PortRanges.{ports_in}
-use Rattle.acl_naming.specs.declared.item_words.Kind.{Kind}
-use Rattle.acl_naming.specs.declared.item_words.Kind.TheVariants.{Networks, Services}
+use Rattle.acl_naming.specs.declared.item_words.NamingKind.{NamingKind}
+use Rattle.acl_naming.specs.declared.item_words.NamingKind.TheVariants.{Networks, Services}
 use Rattle.acl_naming.specs.declared.naming_items.Item.{Item}
 use Rattle.acl_naming.specs.declared.naming_items.Item.TheVariants.{Name, Network, Service}
 use Rattle.acl_naming.specs.Ports.{Ports}
@@ -37,6 +37,6 @@ unfoldable pub service_in : Place → List ℕ → Option Item
 service_in place word =
     if has_byte 47 word then option_map Service (service_ports_in word) else name_in place word
 
-unfoldable pub item_in : Kind → Place → List ℕ → Option Item
+unfoldable pub item_in : NamingKind → Place → List ℕ → Option Item
 item_in Networks place word = network_in place word
 item_in Services place word = service_in place word

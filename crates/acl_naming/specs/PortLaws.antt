@@ -2,7 +2,7 @@
 -- reaches some port.
 use Rattle.std.specs.Prelude.{◌≢◌, ℕ, ◌≤◌, List, [], IfOk}
 use Rattle.std.specs.List.{All}
-use Rattle.acl_naming.specs.declared.item_words.Kind.TheVariants.{Services}
+use Rattle.acl_naming.specs.declared.item_words.NamingKind.TheVariants.{Services}
 use Rattle.acl_naming.specs.declared.naming_items.Item.{Item}
 use Rattle.acl_naming.specs.declared.naming_items.Item.TheVariants.{Name, Network, Service}
 use Rattle.acl_naming.specs.ComputableReach.{ports_reached}

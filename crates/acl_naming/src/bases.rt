@@ -9,7 +9,7 @@ ghost use Rattle.acl_naming.specs.NamingFiles.{AddsNetworks, AddsServices};
 ghost use Rattle.acl_naming.specs.Reach.{ReachesAddress, ReachesPort, ReachesProtocol};
 
 use crate::checking::check_tables;
-use crate::item_words::Kind;
+use crate::item_words::NamingKind;
 use crate::linking::LinkedTable;
 use crate::lookups::Lookup;
 use crate::naming_files::add_file;
@@ -78,7 +78,7 @@ pub fn read_networks(base: Base, file: u32, bytes: &[u8]) -> Result<Base, Refusa
         mut networks,
         services,
     } = base;
-    add_file(alloc, &mut networks, Kind::Networks, file, bytes)?;
+    add_file(alloc, &mut networks, NamingKind::Networks, file, bytes)?;
     Ok(Base {
         alloc,
         networks,
@@ -96,7 +96,7 @@ pub fn read_services(base: Base, file: u32, bytes: &[u8]) -> Result<Base, Refusa
         networks,
         mut services,
     } = base;
-    add_file(alloc, &mut services, Kind::Services, file, bytes)?;
+    add_file(alloc, &mut services, NamingKind::Services, file, bytes)?;
     Ok(Base {
         alloc,
         networks,

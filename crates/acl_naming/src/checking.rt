@@ -18,7 +18,6 @@ use crate::linking::LinkedTable;
 use crate::marking::places_behind;
 use crate::naming_items::{Item, Reference};
 use crate::ranking::{lowest, ranks};
-use crate::refusals::refusal;
 use crate::tables::Table;
 use acl_text::{Code, Memory, Refusal};
 use std::alloc::Global;
@@ -124,10 +123,10 @@ fn check_names(alloc: Global, networks: &LinkedTable, services: &LinkedTable) ->
     ensures { NamesAreDefined (record { networks = networks.now; services = services.now }) result }
 {
     if let Some(found) = first_undefined(networks) {
-        return Err(refusal(alloc, Code::Undefined, found.place, found.name.as_slice()));
+        return Err(Refusal::at(alloc, Code::Undefined, found.place, found.name.as_slice()));
     }
     if let Some(found) = first_undefined(services) {
-        return Err(refusal(alloc, Code::Undefined, found.place, found.name.as_slice()));
+        return Err(Refusal::at(alloc, Code::Undefined, found.place, found.name.as_slice()));
     }
     Ok(())
 }
@@ -137,7 +136,7 @@ fn check_cycles(alloc: Global, linked: &LinkedTable) -> Result<(), Refusal>
 {
     let table = linked.table();
     match first_cycle(alloc, linked)? {
-        Some(index) => Err(refusal(
+        Some(index) => Err(Refusal::at(
             alloc,
             Code::Cycle,
             table.place_at(index),

@@ -18,7 +18,7 @@ use std::alloc::Global;
 
 /// What a naming file defines.
 #[derive(Clone, Copy)]
-pub enum Kind {
+pub enum NamingKind {
     Networks,
     Services,
 }
@@ -90,14 +90,14 @@ fn read_service(alloc: Global, place: Place, word: &[u8]) -> Result<Option<Item>
 #[tactic(auto, unfolding(crate::specs::ItemWords::item_in))]
 pub fn read_item(
     alloc: Global,
-    kind: Kind,
+    kind: NamingKind,
     place: Place,
     word: &[u8],
 ) -> Result<Option<Item>, Memory>
     ensures { IfOk result (λ o. o ≡ item_in kind place word.now) }
 {
     match kind {
-        Kind::Networks => read_network(alloc, place, word),
-        Kind::Services => read_service(alloc, place, word),
+        NamingKind::Networks => read_network(alloc, place, word),
+        NamingKind::Services => read_service(alloc, place, word),
     }
 }

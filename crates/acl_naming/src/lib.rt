@@ -13,10 +13,10 @@ mod naming_files;
 mod naming_items;
 mod ranking;
 mod reaching;
-mod refusals;
 mod tables;
 
 pub use bases::{Base, Checked, check, networks_of, ports_of, read_networks, read_services};
+pub use item_words::NamingKind;
 pub use laws::{
     addresses_are_computed, ordered_ports_are_some, port_order_is_kept, ports_are_computed,
     reach_is_computed,

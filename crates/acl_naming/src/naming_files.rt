@@ -2,7 +2,7 @@ ghost use Rattle.std.specs.Prelude.{◌≡◌, ◌<◌, ◌≤◌, ◌||◌, Boo
 ghost use Rattle.acl_text.specs.Answers.{Leaves, slip_told};
 ghost use Rattle.acl_text.specs.Cursors.{words_of};
 ghost use Rattle.acl_text.specs.Cuts.{has_byte};
-ghost use Rattle.acl_naming.specs.Checking.{IsRefusal, slip};
+ghost use Rattle.acl_text.specs.Refusals.{IsRefusalBy, slip};
 ghost use Rattle.acl_naming.specs.NamingFiles.{
   with_items,
   with_definition,
@@ -15,9 +15,8 @@ ghost use Rattle.acl_naming.specs.NamingFiles.{
   split_added,
 };
 
-use crate::item_words::{Kind, read_item};
+use crate::item_words::{NamingKind, read_item};
 use crate::line_parts::{bad_byte, trimmed, without_comment};
-use crate::refusals::refusal;
 use crate::tables::Table;
 use acl_text::{Code, Cursor, Place, Refusal, is_name, next_word, split_at_byte};
 use std::alloc::Global;
@@ -35,15 +34,15 @@ fn is_full(table: &Table) -> bool
 #[derive(Clone, Copy)]
 struct LineReader {
     alloc: Global,
-    kind: Kind,
+    kind: NamingKind,
     place: Place,
 }
 
 impl LineReader {
     fn refusal(self, code: Code, word: &[u8]) -> Refusal
-        ensures { IsRefusal (slip code self.place word.now) result }
+        ensures { IsRefusalBy (slip code self.place word.now) result }
     {
-        refusal(self.alloc, code, self.place, word)
+        Refusal::at(self.alloc, code, self.place, word)
     }
 
     #[tactic(auto, unfolding(crate::specs::NamingFiles::item_added))]
@@ -151,7 +150,7 @@ impl LineReader {
 pub fn add_file(
     alloc: Global,
     table: &mut Table,
-    kind: Kind,
+    kind: NamingKind,
     file: u32,
     bytes: &[u8],
 ) -> Result<(), Refusal>

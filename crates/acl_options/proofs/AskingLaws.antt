@@ -11,8 +11,8 @@ use Rattle.clap.specs.Words.{Kinds, Row, fault_of, matches_of}
 use Rattle.acl_packet.specs.Decimals.{number_in}
 use Rattle.acl_packet.proofs.ChoiceLaws.{guarded, refused}
 use Rattle.acl_packet.proofs.DecimalLaws.{number-in, number-is}
-use Rattle.acl_host.specs.declared.clocks.Day.{Day}
-use Rattle.acl_host.specs.NamedDays.{day_named}
+use Rattle.acl_days.specs.declared.days.Day.{Day}
+use Rattle.acl_days.specs.NamedDays.{day_named}
 use Rattle.acl_options.specs.ComputableOptions.{date_in, date_named, definitions_in, file_named, folder_named, is_none, is_taken, is_true_text, options_in, options_of, output_in, policy_in, shade_check_in, weeks_in}
 use Rattle.acl_options.specs.CodeViews.{options_view}
 use Rattle.acl_options.specs.declared.options.Options.{Options as CodeOptions}

@@ -11,8 +11,8 @@ use Rattle.std.specs.List.{ends_with}
 use Rattle.clap.specs.Words.{App, Rule, fault_of, first_of, matches_of, new_app, new_rule}
 use Rattle.clap.specs.declared.builder.ArgAction.TheVariants.{Set, SetTrue}
 use Rattle.acl_packet.specs.Decimals.{IsNumber}
-use Rattle.acl_host.specs.declared.clocks.Day.{Day}
-use Rattle.acl_host.specs.Days.{IsDayText}
+use Rattle.acl_days.specs.declared.days.Day.{Day}
+use Rattle.acl_days.specs.Days.{IsDayText}
 
 -- What the words ask for: the policy's path, the folder of the naming files, the folder for the filters, the day that
 -- they name, for how many weeks ahead the end of a term is told, and whether a shaded term is a fault.

@@ -15,11 +15,11 @@ ghost use Rattle.acl_options.specs.ComputableOptions.{
   shade_check_in,
   weeks_in,
 };
-ghost use Rattle.acl_host.specs.NamedDays.{day_named};
+ghost use Rattle.acl_days.specs.NamedDays.{day_named};
 ghost use Rattle.acl_options.specs.CodeViews.{options_view};
 
 use crate::command::command;
-use acl_host::{Day, read_day};
+use acl_days::{Day, read_day};
 use acl_text::{Memory, read_u16};
 use clap::error::ErrorKind;
 use clap::{ArgMatches, Error};

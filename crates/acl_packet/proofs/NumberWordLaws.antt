@@ -1,12 +1,13 @@
 -- Words of numbers: what is read is the word's number, and a number's word is read.
 use Rattle.std.proofs.Common.{◌≡◌, ℕ, ◌^◌, ◌<◌, ◌≤◌, ◌⊎◌, nat_lt, true, false, List, [], ◌∷◌, Option, None, Some, IfSome, IfNone, inl, inr, refl, ap, sym, ◌∙◌, arith}
+use Rattle.std.specs.Option.{option_or}
 use Rattle.std.specs.Str.{bytes_eq}
 use Rattle.std.proofs.lemmas.Bool.{cond-false, le-ltb, ltb-false, false≢true, false_from_ne_true}
 use Rattle.std.proofs.lemmas.Slice.Eq.{bytes_eq-Decides}
 use Rattle.std.proofs.lemmas.Option.{none-some, same_Some}
 use Rattle.acl_packet.specs.Decimals.{number_in}
 use Rattle.acl_packet.specs.NumberWordSteps.{IsOfNames, begins_with_digit}
-use Rattle.acl_packet.specs.NumberWords.{Row, row_of, IsNumberWord, not_below, or_else, row_or_number}
+use Rattle.acl_packet.specs.NumberWords.{Row, row_of, IsNumberWord, not_below, row_or_number}
 use Rattle.acl_packet.proofs.ChoiceLaws.{refused}
 use Rattle.acl_packet.proofs.DecimalLaws.{number-found, number-again}
 
@@ -21,7 +22,7 @@ not-below-found least n (Some m) e =
 not-below-again : (least n : ℕ) → least ≤ n → not_below least (Some n) ≡ Some n
 not-below-again least n h = cond-false (nat_lt n least) _ _ (le-ltb n least h)
 
-or-else-found : (o other : Option ℕ) (n : ℕ) → or_else o other ≡ Some n → (o ≡ Some n) ⊎ ((o ≡ None) × (other ≡ Some n))
+or-else-found : (o other : Option ℕ) (n : ℕ) → option_or o other ≡ Some n → (o ≡ Some n) ⊎ ((o ≡ None) × (other ≡ Some n))
 or-else-found None other n e = inr (refl, e)
 or-else-found (Some m) other n e = inl e
 
@@ -41,8 +42,8 @@ word-again : (table : List Row) (least most n : ℕ) (word : List ℕ) → most 
     → row_or_number table least most word ≡ Some n
 unfolding row_or_number
 word-again table least most n word l h = elim h [
-  | inl e ↦ ap (λ o. or_else o (not_below least (number_in most word))) e
-  | inr p ↦ ap (λ o. or_else o (not_below least (number_in most word))) p.0
+  | inl e ↦ ap (λ o. option_or o (not_below least (number_in most word))) e
+  | inr p ↦ ap (λ o. option_or o (not_below least (number_in most word))) p.0
       ∙ ap (λ w. not_below least (number_in most w)) p.1
       ∙ ap (not_below least) (number-again most n (omega arith) p.3) ∙ not-below-again least n p.2
 ]

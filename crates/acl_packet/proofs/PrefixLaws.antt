@@ -7,7 +7,7 @@ use Rattle.std.proofs.Math.Pow.{pow-lt}
 use Rattle.acl_packet.specs.declared.addresses.Family.{Family}
 use Rattle.acl_packet.specs.declared.addresses.Family.TheVariants.{V4, V6}
 use Rattle.acl_packet.specs.declared.addresses.Prefix.{Prefix}
-use Rattle.acl_packet.specs.Addresses.{width_of, size_of, IsPrefix, IsPrefixOf}
+use Rattle.acl_packet.specs.Addresses.{width_of, size_of, IsPrefix, IsPrefixOf, everywhere}
 
 pub width-le : (f : Family) → width_of f ≤ 128
 width-le V4 = lit≤ tt
@@ -55,6 +55,6 @@ mask_fits len =
     omega (arith, h)
 
 -- all addresses of a family are those of one prefix
-pub everywhere_is : (f : Family) → IsPrefixOf f (record { family = f; first = 0; len = 0 })
+pub everywhere_is : (f : Family) → IsPrefixOf f (everywhere f)
 everywhere_is V4 = (refl, record { len_fits = lit≤ tt; first_fits = lit< tt; aligned = (0, refl) })
 everywhere_is V6 = (refl, record { len_fits = lit≤ tt; first_fits = lit< tt; aligned = (0, refl) })

@@ -47,3 +47,7 @@ IsPrefixOf family prefix = (prefix.family ≡ family) × IsPrefix prefix
 -- The addresses of a prefix are its first one and those that follow, as many as its size.
 abbrev pub has_address : Prefix → ℕ → Bool
 has_address p a = nat_le p.first a && nat_lt a (p.first + size_of p)
+
+-- The prefix of all addresses of a family has length 0.
+abbrev pub everywhere : Family → Prefix
+everywhere family = record { family = family; first = 0; len = 0 }

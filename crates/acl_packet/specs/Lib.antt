@@ -1,3 +1,4 @@
+pub mod AddressLists
 pub mod Addresses
 pub mod Decimals
 pub mod NumberWordSteps

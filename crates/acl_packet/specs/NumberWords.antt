@@ -1,5 +1,6 @@
 -- The numbers of protocols and of ICMP types, by words.
 use Rattle.std.specs.Prelude.{◌≡◌, ℕ, ◌≤◌, ◌⊎◌, nat_lt, if◌then◌else◌, List, [], ◌∷◌, Option, Some, None, decimal, codes}
+use Rattle.std.specs.Option.{option_or}
 use Rattle.std.specs.Str.{bytes_eq}
 use Rattle.acl_packet.specs.Decimals.{number_in}
 use Rattle.acl_packet.specs.declared.addresses.Family.{Family}
@@ -58,15 +59,10 @@ abbrev pub not_below : ℕ → Option ℕ → Option ℕ
 not_below least None = None
 not_below least (Some n) = if nat_lt n least then None else Some n
 
--- The row's number, or else the other.
-abbrev pub or_else : Option ℕ → Option ℕ → Option ℕ
-or_else None other = other
-or_else (Some n) other = Some n
-
--- The number of the word, by a table and limits.
+-- The number of the word: its row's, or else the one that it is, within limits.
 unfoldable pub row_or_number : List Row → ℕ → ℕ → List ℕ → Option ℕ
 row_or_number table least most word =
-    or_else (row_of table word) (not_below least (number_in most word))
+    option_or (row_of table word) (not_below least (number_in most word))
 
 -- The protocol of the word.
 unfoldable pub protocol_in : List ℕ → Option ℕ

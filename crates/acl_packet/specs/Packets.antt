@@ -16,6 +16,11 @@ abbrev pub icmp_of : Family → ℕ
 icmp_of V4 = 1
 icmp_of V6 = 58
 
+-- The ICMP of the other family, which no packet of this one is of.
+abbrev pub foreign_of : Family → ℕ
+foreign_of V4 = 58
+foreign_of V6 = 1
+
 abbrev pub is_icmp : Family → ℕ → Bool
 is_icmp family proto = proto == icmp_of family
 

@@ -1,4 +1,5 @@
 ghost use Rattle.std.specs.Prelude.{◌≡◌, ◌+◌, ◌^◌, ◌≤◌, nat_lt};
+ghost use Rattle.acl_packet.specs.AddressLists.{any_has};
 
 /// The family of an address: IPv4 of 32 bits (RFC 791), or IPv6 of 128 bits (RFC 4291).
 #[derive(Clone, Copy, Debug, PartialEq, Eq)]
@@ -9,7 +10,7 @@ pub enum Family {
 
 impl Family {
     ghost use Rattle.acl_packet.specs.Addresses.{top_address, width_of};
-    ghost use Rattle.acl_packet.specs.Packets.{icmp_of};
+    ghost use Rattle.acl_packet.specs.Packets.{foreign_of, icmp_of};
 
     /// The number of bits of an address.
     pub fn width(self) -> u8
@@ -38,6 +39,16 @@ impl Family {
         match self {
             Family::V4 => 1,
             Family::V6 => 58,
+        }
+    }
+
+    /// The number of the other family's ICMP among protocols: no packet of this family is of it.
+    pub fn foreign_number(self) -> u8
+        ensures { result ≡ foreign_of self }
+    {
+        match self {
+            Family::V4 => 58,
+            Family::V6 => 1,
         }
     }
 }
@@ -72,13 +83,24 @@ impl Families {
 /// `first` behind the first `len` are 0: the fact `IsPrefix`.
 #[derive(Clone, Copy, Debug, PartialEq, Eq)]
 pub struct Prefix {
-    pub family: Family,
     pub first: u128,
     pub len: u8,
+    pub family: Family,
 }
 
 impl Prefix {
-    ghost use Rattle.acl_packet.specs.Addresses.{IsPrefix, has_address, size_of};
+    ghost use Rattle.acl_packet.specs.Addresses.{IsPrefix, everywhere, has_address, size_of};
+
+    /// The prefix of length 0: all addresses of the family.
+    pub fn everywhere(family: Family) -> Prefix
+        ensures { result ≡ everywhere family }
+    {
+        Prefix {
+            first: 0,
+            len: 0,
+            family,
+        }
+    }
 
     /// Whether the address, as a number, lies in the prefix: it is one of the addresses from the first
     /// on, as many as the bits behind the length give.
@@ -101,6 +123,13 @@ impl Prefix {
             self.first + (2u128.pow(u32::from(free)) - 1)
         }
     }
+}
+
+/// Whether the address, as a number, lies in one of the prefixes.
+pub fn any_has(prefixes: &[Prefix], address: u128) -> bool
+    ensures { result ≡ any_has prefixes.now address }
+{
+    prefixes.iter().any(|prefix| prefix.contains(address))
 }
 
 // Whether the number has at most so many bits.

@@ -19,21 +19,50 @@ pub enum Conn {
     Invalid,
 }
 
+impl Conn {
+    ghost use Rattle.acl_packet.specs.Packets.{is_tracked};
+
+    /// Whether the connection is known already, or one that is known asked for it (nftables(8), "ct state").
+    pub fn is_tracked(self) -> bool
+        ensures { result ≡ is_tracked self }
+    {
+        matches!(self, Conn::Established | Conn::Related)
+    }
+}
+
 /// What a filter sees of a packet that is no fragment.
 ///
 /// Addresses are numbers. `proto` is the number in the IPv4 header, or the IPv6 header's next header.
 /// `flags` has FIN 1, SYN 2, RST 4, PSH 8, ACK 16 and URG 32. A field that the packet has not is 0.
 #[derive(Clone, Copy, Debug, PartialEq, Eq)]
 pub struct Packet {
-    pub family: Family,
     pub src: u128,
     pub dst: u128,
-    pub proto: u8,
     pub sport: u16,
     pub dport: u16,
+    pub family: Family,
+    pub proto: u8,
     pub flags: u8,
     pub itype: u8,
     pub conn: Conn,
+}
+
+impl Packet {
+    ghost use Rattle.acl_packet.specs.Packets.{has_ack_or_rst, is_initial};
+
+    /// Whether ACK or RST is set: the packet does not open a connection of TCP (RFC 9293 section 3.5).
+    pub fn has_ack_or_rst(&self) -> bool
+        ensures { result ≡ has_ack_or_rst self.now }
+    {
+        has_flag(self.flags, 16) || has_flag(self.flags, 4)
+    }
+
+    /// Whether SYN is set and ACK is not: the packet opens a connection of TCP.
+    pub fn is_initial(&self) -> bool
+        ensures { result ≡ is_initial self.now }
+    {
+        has_flag(self.flags, 2) && !has_flag(self.flags, 16)
+    }
 }
 
 /// Whether the fields are those of a packet: the addresses are of its family, no extension header stands
@@ -42,12 +71,12 @@ pub fn is_packet(p: &Packet) -> bool
     ensures { IsTrue result ↔ IsPacket p.now }
 {
     let Packet {
-        family,
         src,
         dst,
-        proto,
         sport,
         dport,
+        family,
+        proto,
         flags,
         itype,
         conn: _,
@@ -86,7 +115,8 @@ fn is_address(family: Family, address: u128) -> bool
     }
 }
 
-fn has_ports(proto: u8) -> bool
+/// Whether packets of the protocol have ports: TCP, UDP and SCTP (RFC 9293, RFC 768, RFC 9260).
+pub fn has_ports(proto: u8) -> bool
     ensures { result ≡ has_ports proto }
 {
     proto == 6 || proto == 17 || proto == 132

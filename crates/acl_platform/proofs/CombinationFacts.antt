@@ -11,7 +11,8 @@ use Rattle.acl_packet.specs.declared.addresses.Prefix.{Prefix}
 use Rattle.acl_packet.specs.Addresses.{IsPrefixOf}
 use Rattle.acl_sets.specs.declared.sets.Range.{Range}
 use Rattle.acl_sets.specs.ComputableSets.{is_all}
-use Rattle.acl_sets.specs.LeastLists.{any_has, IsMaximal}
+use Rattle.acl_sets.specs.LeastLists.{IsMaximal}
+use Rattle.acl_packet.specs.AddressLists.{any_has}
 use Rattle.acl_sets.specs.Ranges.{holds, IsNormal, IsRange, Numbers}
 use Rattle.acl_target.specs.declared.targets.Kind.{Kind}
 use Rattle.acl_platform.specs.declared.combinations.Combination.{Combination}

@@ -3,7 +3,7 @@ use Rattle.std.proofs.Common.{◌≡◌, ℕ, Bool, ◌&&◌, ◌||◌, List, []
 use Rattle.std.specs.List.{list_any}
 use Rattle.acl_packet.specs.declared.addresses.Prefix.{Prefix}
 use Rattle.acl_packet.specs.Addresses.{has_address}
-use Rattle.acl_sets.specs.LeastLists.{any_has}
+use Rattle.acl_packet.specs.AddressLists.{any_has}
 use Rattle.acl_platform.specs.Choices.{in_range, is_chosen, number_choices, pairs, range_choices}
 use Rattle.acl_platform.specs.Combinations.{combination_holds, combination_of, CombinationsHold, parts_of, SomeCombination}
 use Rattle.acl_platform.proofs.ChoiceLaws.{any-number, any-range, some-map, some-number, some-range}

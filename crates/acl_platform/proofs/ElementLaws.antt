@@ -10,7 +10,7 @@ use Rattle.acl_packet.specs.Addresses.{has_address, IsPrefixOf, size_of, width_o
 use Rattle.acl_grammar.proofs.DecisionLaws.{le_decides}
 use Rattle.acl_sets.specs.declared.sets.Range.{Range}
 use Rattle.acl_sets.specs.ComputableSets.{is_all}
-use Rattle.acl_sets.specs.LeastLists.{any_has}
+use Rattle.acl_packet.specs.AddressLists.{any_has}
 use Rattle.acl_sets.specs.Ranges.{holds, inside, IsNormal, Numbers, Only}
 use Rattle.acl_sets.proofs.ComputableSetLaws.{covers-holds}
 use Rattle.acl_sets.proofs.RangeLaws.{at_top}

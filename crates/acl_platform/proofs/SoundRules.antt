@@ -1,13 +1,16 @@
 -- What follows from a rule's soundness.
-use Rattle.std.proofs.Common.{ℕ, ◌≤◌, arith}
+use Rattle.std.proofs.Common.{ℕ, ◌≤◌, List, [], ◌∷◌, arith}
+use Rattle.std.specs.List.{All, AllByRecursion}
+use Rattle.std.proofs.lemmas.List.Elements.{All-from_recursion}
 use Rattle.acl_packet.specs.declared.addresses.Families.{Families}
 use Rattle.acl_packet.specs.declared.packets.Packet.{Packet}
 use Rattle.acl_packet.specs.Packets.{IsPacket}
 use Rattle.acl_sets.specs.Ranges.{Numbers}
 use Rattle.acl_target.specs.declared.targets.Kind.{Kind}
+use Rattle.acl_platform.specs.declared.filters.Filter.{Filter}
 use Rattle.acl_platform.specs.declared.rules.Rule.{Rule}
 use Rattle.acl_platform.specs.Combinations.{IsSized}
-use Rattle.acl_platform.specs.SoundFilters.{IsFull, IsSoundRule}
+use Rattle.acl_platform.specs.SoundFilters.{IsFull, IsSound, IsSoundRule}
 
 below : (top : ℕ) (s : Numbers) → IsFull top s → s.top ≤ top
 below top s h = let e = h.top_is in omega (arith, e)
@@ -19,6 +22,14 @@ sized kind families r h = record {
   destination_ports = below 65535 r.dports h.destination_ports;
   types = below 255 r.itypes h.types;
 }
+
+each_sized : (kind : Kind) (families : Families) (rules : List Rule) → AllByRecursion (IsSoundRule kind families) rules
+    → AllByRecursion IsSized rules
+each_sized kind families [] h = tt
+each_sized kind families (r ∷ rules) h = (sized kind families r h.0, each_sized kind families rules h.1)
+
+pub all_sized : (f : Filter) → IsSound f → All IsSized f.rules
+all_sized f h = All-from_recursion IsSized f.rules (each_sized f.kind f.families f.rules h.rules)
 
 -- the parts of a packet are within the tops of the sets
 pub record IsInTops (r : Rule) (p : Packet) : Type 0 where

@@ -2,7 +2,7 @@
 use Rattle.std.proofs.Common.{◌≡◌, ℕ, ◌+◌, ◌<◌, Bool, List, ◌++◌, length, take, drop, get_or, flat_map, Option, Result, Err, IsErrAnd, refl, ap, ◌∙◌}
 use Rattle.std.proofs.lemmas.Result.{err_from_is_err_and}
 use Rattle.acl_text.specs.declared.output.PutFault.{PutFault}
-use Rattle.acl_text.specs.Output.{Puts}
+use Rattle.acl_text.specs.Output.{PutsBy}
 use Rattle.acl_text.proofs.Putting.{done, goes_on, stops}
 use Rattle.acl_grammar.specs.Rows.{Row, text_of_rows}
 use Rattle.acl_grammar.proofs.PutLaws.{each_split, retold}
@@ -20,8 +20,8 @@ item-split rows xs i x is within =
 pub refused : {S T : Type 0} {told : S → Option (List ℕ)} {faults refusals : S → ℕ} {is_open : S → Bool} {keeps : S → S → Type 0}
     {old mid new : S} {before here : List ℕ} {whole : List ℕ} {e : PutFault} (rest : List ℕ) (r : Result T PutFault)
     → (before ++ here) ++ rest ≡ whole → ((x y z : S) → keeps x y → keeps y z → keeps x z)
-    → Puts told faults refusals is_open keeps old mid before done → Puts {T = T} told faults refusals is_open keeps mid new here (Err e)
-    → IsErrAnd r (λ f. f ≡ e) → Puts told faults refusals is_open keeps old new whole r
+    → PutsBy told faults refusals is_open keeps old mid before done → PutsBy {T = T} told faults refusals is_open keeps mid new here (Err e)
+    → IsErrAnd r (λ f. f ≡ e) → PutsBy told faults refusals is_open keeps old new whole r
 refused rest r all law p q h =
     let err = err_from_is_err_and r h in
     rw (err.1, err.2) (retold all (stops rest (goes_on law p q) refl))

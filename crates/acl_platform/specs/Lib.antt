@@ -3,6 +3,7 @@ pub mod Choices
 pub mod Combinations
 pub mod Elements
 pub mod Families
+pub mod Features
 pub mod Limits
 pub mod NameSlotSteps
 pub mod Platforms

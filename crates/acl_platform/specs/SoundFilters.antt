@@ -13,7 +13,8 @@ use Rattle.acl_packet.specs.Packets.{has_ports, is_extension_header, is_icmp}
 use Rattle.acl_text.specs.Names.{is_name}
 use Rattle.acl_text.specs.Notes.{is_note}
 use Rattle.acl_sets.specs.ComputableSets.{is_all}
-use Rattle.acl_sets.specs.LeastLists.{any_has, IsLeastList}
+use Rattle.acl_sets.specs.LeastLists.{IsLeastList}
+use Rattle.acl_packet.specs.AddressLists.{any_has}
 use Rattle.acl_sets.specs.Ranges.{holds, IsNormal, Numbers, Only}
 use Rattle.acl_target.specs.declared.targets.Kind.{Kind}
 use Rattle.acl_target.specs.declared.targets.Kind.TheVariants.{Cisco, Juniper, Iptables, Nftables}

@@ -1,6 +1,7 @@
 ghost use Rattle.std.specs.Prelude.{◌≡◌, ◌≤◌, ℕ, List, IsTrue, Some, min, length, flat_map};
 ghost use Rattle.std.specs.List.{All};
-ghost use Rattle.acl_text.specs.Output.{COUNT_END, Puts};
+ghost use Rattle.acl_text.specs.Output.{COUNT_END};
+ghost use Rattle.acl_text.specs.Puts.{Puts};
 ghost use Rattle.acl_grammar.specs.Rows.{text_of_rows};
 ghost use Rattle.acl_sets.specs.Ranges.{IsRange};
 ghost use Rattle.acl_platform.specs.ChoiceSteps.{range_rows};
@@ -27,7 +28,7 @@ pub trait Choices {
     /// Puts the lines of each choice, in order.
     fn put_each<F: Form<Self::Item>, O: Out>(&self, form: &F, out: &mut O) -> Result<(), PutFault>
         requires { IsTrue (O.is_open out.old) }
-        ensures { Puts O.told O.faults O.refusals O.is_open O.keeps_rest out.old out.new
+        ensures { Puts O.Out out.old out.new
             (text_of_rows (flat_map (F.item_rows form.now) (items self.now))) result };
 
     /// How many choices there are; a number that does not fit stands at the greatest one that does.
@@ -151,7 +152,7 @@ fn put_ranges<F: Form<Option<(u16, u16)>>, O: Out>(
 ) -> Result<(), PutFault>
     requires open { IsTrue (O.is_open out.old) }
     requires ranges { All (λ r. IsRange 65535 r) ranges.now }
-    ensures { Puts O.told O.faults O.refusals O.is_open O.keeps_rest out.old out.new
+    ensures { Puts O.Out out.old out.new
         (text_of_rows (flat_map (range_rows (F.item_rows form.now)) ranges.now)) result }
 {
     for range in ranges {

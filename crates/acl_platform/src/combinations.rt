@@ -1,5 +1,6 @@
 ghost use Rattle.std.specs.Prelude.{◌≡◌, IsTrue, min, length, flat_map};
-ghost use Rattle.acl_text.specs.Output.{COUNT_END, Puts};
+ghost use Rattle.acl_text.specs.Output.{COUNT_END};
+ghost use Rattle.acl_text.specs.Puts.{Puts};
 ghost use Rattle.acl_grammar.specs.Rows.{text_of_rows};
 ghost use Rattle.acl_platform.specs.Combinations.{IsSized, combination_of, combinations, parts_of};
 
@@ -29,7 +30,7 @@ pub fn put_combinations<F: Form<Combination>, O: Out>(
 ) -> Result<(), PutFault>
     requires open { IsTrue (O.is_open out.old) }
     requires sized { IsSized rule.now }
-    ensures { Puts O.told O.faults O.refusals O.is_open O.keeps_rest out.old out.new
+    ensures { Puts O.Out out.old out.new
         (text_of_rows (flat_map (F.item_rows form.now) (combinations rule.now))) result }
 {
     choices_of(rule).put_each(&InParts { form }, out)

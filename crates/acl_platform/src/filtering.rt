@@ -1,9 +1,6 @@
 ghost use Rattle.std.specs.Prelude.{◌≡◌};
-ghost use Rattle.std.specs.List.{list_any};
 ghost use Rattle.acl_packet.specs.Outcomes.{unlogged};
-ghost use Rattle.acl_packet.specs.Packets.{is_tracked};
 ghost use Rattle.acl_target.specs.FilterEndings.{ending_verdict, is_neighbour_discovery};
-ghost use Rattle.acl_sets.specs.LeastLists.{any_has};
 ghost use Rattle.acl_platform.specs.Rules.{
   decided_by,
   filter_outcome,
@@ -14,7 +11,7 @@ ghost use Rattle.acl_platform.specs.Rules.{
 
 use crate::filters::Filter;
 use crate::rules::{Rule, Test};
-use acl_packet::{Conn, Family, Outcome, Packet, Prefix, Verdict, has_flag};
+use acl_packet::{Family, Outcome, Packet, Verdict, any_has, has_flag};
 use acl_target::Ending;
 
 /// What the filter does with the packet: the first rule that holds it decides, else the ending,
@@ -47,28 +44,16 @@ fn sets_hold(rule: &Rule, packet: &Packet) -> bool
         && rule.itypes.contains(u128::from(packet.itype))
 }
 
-fn any_has(prefixes: &[Prefix], address: u128) -> bool
-    ensures { result ≡ any_has prefixes.now address }
-{
-    prefixes.iter().any(|prefix| prefix.contains(address))
-}
-
 fn passes(test: Test, packet: &Packet) -> bool
     ensures { result ≡ passes test packet.now }
 {
     match test {
         Test::Plain => true,
-        Test::AckOrRst => has_flag(packet.flags, 16) || has_flag(packet.flags, 4),
-        Test::SynNotAck => has_flag(packet.flags, 2) && !has_flag(packet.flags, 16),
+        Test::AckOrRst => packet.has_ack_or_rst(),
+        Test::SynNotAck => packet.is_initial(),
         Test::Rst => has_flag(packet.flags, 4),
-        Test::State => is_tracked(packet.conn),
+        Test::State => packet.conn.is_tracked(),
     }
-}
-
-fn is_tracked(conn: Conn) -> bool
-    ensures { result ≡ is_tracked conn }
-{
-    matches!(conn, Conn::Established | Conn::Related)
 }
 
 fn decided_by(rule: &Rule) -> Outcome

@@ -1,5 +1,6 @@
 ghost use Rattle.std.specs.Prelude.{◌≡◌};
 ghost use Rattle.acl_platform.specs.Families.{family_of};
+ghost use Rattle.acl_platform.specs.Features.{feature_word};
 
 use crate::rules::Rules;
 use acl_packet::{Families, Family, Hook};
@@ -23,6 +24,27 @@ pub struct Filter {
     pub rules: Rules,
 }
 
+/// What a policy can ask for, and not each platform can say.
+#[derive(Clone, Copy, Debug, PartialEq, Eq)]
+pub enum Feature {
+    /// The first packets of connections of TCP.
+    TcpInitial,
+    /// Ports of SCTP.
+    SctpPorts,
+}
+
+impl Feature {
+    /// The word of a policy that asks for it.
+    pub fn word(self) -> &'static [u8]
+        ensures { result.now ≡ feature_word self }
+    {
+        match self {
+            Feature::TcpInitial => b"tcp-initial",
+            Feature::SctpPorts => b"sctp",
+        }
+    }
+}
+
 /// Why a platform does not take a filter. The first three name a rule by its place in the list of
 /// rules, from 0.
 #[derive(Clone, Copy, Debug, PartialEq, Eq)]
@@ -31,8 +53,8 @@ pub enum Limit {
     NameLength(usize),
     /// An earlier rule has the rule's name.
     NameClash(usize),
-    /// The platform cannot say what the rule holds.
-    Unsupported(usize),
+    /// The platform cannot say what the rule holds: this it lacks.
+    Unsupported(usize, Feature),
     /// The filter would have more entries than a device is given.
     TooManyEntries,
 }

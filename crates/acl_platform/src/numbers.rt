@@ -1,6 +1,7 @@
 ghost use Rattle.std.specs.Prelude.{◌≡◌, ◌-◌, ◌≤◌, ℕ, List, IsTrue, min, length, flat_map};
 ghost use Rattle.std.specs.List.{All, range_with_len};
-ghost use Rattle.acl_text.specs.Output.{COUNT_END, Puts};
+ghost use Rattle.acl_text.specs.Output.{COUNT_END};
+ghost use Rattle.acl_text.specs.Puts.{Puts};
 ghost use Rattle.acl_sets.specs.Ranges.{IsRange};
 ghost use Rattle.acl_platform.specs.Choices.{numbers_in, numbers_of};
 
@@ -14,8 +15,7 @@ pub trait NumberForm {
     /// Puts the number's text.
     fn put_number<O: Out>(&self, number: u8, out: &mut O) -> Result<(), PutFault>
         requires { IsTrue (O.is_open out.old) }
-        ensures { Puts O.told O.faults O.refusals O.is_open O.keeps_rest out.old out.new
-            (number_text self.now number) result };
+        ensures { Puts O.Out out.old out.new (number_text self.now number) result };
 }
 
 /// Puts the numbers of the ranges in the form, in order.
@@ -26,7 +26,7 @@ pub fn put_numbers<F: NumberForm, O: Out>(
 ) -> Result<(), PutFault>
     requires open { IsTrue (O.is_open out.old) }
     requires ranges { All (λ r. IsRange 255 r) ranges.now }
-    ensures { Puts O.told O.faults O.refusals O.is_open O.keeps_rest out.old out.new
+    ensures { Puts O.Out out.old out.new
         (flat_map (F.number_text form.now) (numbers_of ranges.now)) result }
 {
     for range in ranges {
@@ -46,7 +46,7 @@ pub fn put_numbers_from<F: NumberForm, O: Out>(
     requires open { IsTrue (O.is_open out.old) }
     requires ends { first ≤ end }
     requires small { end ≤ 256 }
-    ensures { Puts O.told O.faults O.refusals O.is_open O.keeps_rest out.old out.new
+    ensures { Puts O.Out out.old out.new
         (flat_map (F.number_text form.now) (range_with_len first (end - first))) result }
 {
     for number in first..end {

@@ -1,12 +1,14 @@
-ghost use Rattle.std.specs.Prelude.{◌≡◌, ℕ, List, [], ◌∷◌, Bool, IsTrue, flat_map, min};
+ghost use Rattle.std.specs.Prelude.{◌≡◌, ℕ, List, [], ◌∷◌, Bool, true, IsTrue, flat_map, min};
 ghost use Rattle.std.specs.List.{All};
-ghost use Rattle.acl_text.specs.Output.{COUNT_END, Puts};
+ghost use Rattle.acl_text.specs.Output.{COUNT_END};
+ghost use Rattle.acl_text.specs.Puts.{Puts};
 ghost use Rattle.acl_grammar.specs.Documents.{SpellsRows};
 ghost use Rattle.acl_grammar.specs.Rows.{text_of_rows};
 ghost use Rattle.acl_platform.specs.declared.filters.Filter.{Filter};
 ghost use Rattle.acl_platform.specs.Combinations.{IsSized};
 ghost use Rattle.acl_platform.specs.Limits.{filter_limit};
 ghost use Rattle.acl_platform.specs.Platforms.{DecidesAs, IsAccepted, judged};
+ghost use Rattle.acl_platform.specs.SoundFilters.{IsSound};
 
 use crate::filters::{Filter, Limit};
 use crate::limits::{RuleLimits, count_in_limit, first_limit};
@@ -34,12 +36,13 @@ pub trait Platform: RuleLimits {
         requires { All IsSized filter.now.rules }
         ensures { result ≡ min (count filter.now) COUNT_END };
 
-    /// Puts the text of the filter's section, in an output that has to be open. Protocols and types of
-    /// its rules have to be numbers below 256, ports below 65,536.
+    /// Puts the text of the section of a sound filter that the platform handles, in an output that has
+    /// to be open.
     fn put_section<O: Out>(&self, filter: &Filter, out: &mut O) -> Result<(), PutFault>
         requires open { IsTrue (O.is_open out.old) }
-        requires sized { All IsSized filter.now.rules }
-        ensures { Puts O.told O.faults O.refusals O.is_open O.keeps_rest out.old out.new
+        requires handled { handles filter.now ≡ true }
+        requires sound { IsSound filter.now }
+        ensures { Puts O.Out out.old out.new
             (text_of_rows (flat_map Self.Section.rows (section filter.now ∷ []))) result };
 
     ghost section_is_spelled: { (f : Filter)
@@ -52,9 +55,12 @@ pub trait Platform: RuleLimits {
         → DecidesAs f (Self.Section.outcome (section f)) };
 }
 
-/// The number of entries of the filter's section, or the first limit that the filter meets.
+/// The number of entries of the filter's section, or the first limit that the filter meets. The filter
+/// has to be sound, and one that the platform handles.
+#[tactic(auto, using(crate::proofs::SoundRules::all_sized))]
 pub fn check<P: Platform>(platform: &P, filter: &Filter) -> Result<u64, Limit>
-    requires { All IsSized filter.now.rules }
+    requires handled { P.handles filter.now ≡ true }
+    requires sound { IsSound filter.now }
     ensures { result ≡ judged (filter_limit P.limit (P.count filter.now) filter.now)
         (P.count filter.now) }
 {

@@ -1,5 +1,5 @@
 ghost use Rattle.std.specs.Prelude.{◌≡◌, ℕ, List, IsTrue, flat_map};
-ghost use Rattle.acl_text.specs.Output.{Puts};
+ghost use Rattle.acl_text.specs.Puts.{Puts};
 ghost use Rattle.acl_grammar.specs.Rows.{Row, text_of_rows};
 ghost use Rattle.acl_platform.specs.Remarks.{notes, remarks};
 
@@ -14,7 +14,7 @@ pub trait RemarkForm {
     /// Puts the lines of the remark's rows.
     fn put_remark<O: Out>(&self, text: &[u8], out: &mut O) -> Result<(), PutFault>
         requires { IsTrue (O.is_open out.old) }
-        ensures { Puts O.told O.faults O.refusals O.is_open O.keeps_rest out.old out.new
+        ensures { Puts O.Out out.old out.new
             (text_of_rows (remark_rows self.now text.now)) result };
 }
 

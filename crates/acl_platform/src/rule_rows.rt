@@ -1,6 +1,6 @@
 ghost use Rattle.std.specs.Prelude.{◌≡◌, List, IsTrue, flat_map};
 ghost use Rattle.std.specs.List.{All};
-ghost use Rattle.acl_text.specs.Output.{Puts};
+ghost use Rattle.acl_text.specs.Puts.{Puts};
 ghost use Rattle.acl_grammar.specs.Rows.{Row, text_of_rows};
 ghost use Rattle.acl_platform.specs.declared.rules.Rule.{Rule};
 ghost use Rattle.acl_platform.specs.Combinations.{IsSized};
@@ -16,15 +16,14 @@ pub trait RuleForm {
     fn put_rule<O: Out>(&self, rule: &Rule, out: &mut O) -> Result<(), PutFault>
         requires open { IsTrue (O.is_open out.old) }
         requires sized { IsSized rule.now }
-        ensures { Puts O.told O.faults O.refusals O.is_open O.keeps_rest out.old out.new
-            (text_of_rows (rule_rows self.now rule.now)) result };
+        ensures { Puts O.Out out.old out.new (text_of_rows (rule_rows self.now rule.now)) result };
 }
 
 /// Puts the lines of each rule in the form, in order.
 pub fn put_rules<F: RuleForm, O: Out>(rules: &[Rule], form: &F, out: &mut O) -> Result<(), PutFault>
     requires open { IsTrue (O.is_open out.old) }
     requires sized { All IsSized rules.now }
-    ensures { Puts O.told O.faults O.refusals O.is_open O.keeps_rest out.old out.new
+    ensures { Puts O.Out out.old out.new
         (text_of_rows (flat_map (F.rule_rows form.now) rules.now)) result }
 {
     for rule in rules {

@@ -1,7 +1,7 @@
 ghost use Rattle.std.specs.Prelude.{◌≡◌, ℕ, List, IsTrue, IfSome, map, flat_map, slice_get};
 ghost use Rattle.std.specs.List.{All, IsDistinct};
 ghost use Rattle.std.specs.Str.{bytes_eq};
-ghost use Rattle.acl_text.specs.Output.{Puts};
+ghost use Rattle.acl_text.specs.Puts.{Puts};
 ghost use Rattle.acl_grammar.specs.Documents.{SpellsRows, outcome_at};
 ghost use Rattle.acl_grammar.specs.Rows.{text_of_rows};
 ghost use Rattle.acl_platform.specs.Limits.{filter_limit};
@@ -24,7 +24,7 @@ pub fn write_all<P: Platform, O: Out>(
         filters.now }
     requires names_differ { IsDistinct bytes_eq
         (flat_map P.Section.names (map P.section filters.now)) }
-    ensures puts { Puts O.told O.faults O.refusals O.is_open O.keeps_rest out.old out.new
+    ensures puts { Puts O.Out out.old out.new
         (text_of_rows (flat_map P.Section.rows (map P.section filters.now))) result }
     ensures spelled { SpellsRows P.Section.is_section P.Section.names P.Section.rows
         (text_of_rows (flat_map P.Section.rows (map P.section filters.now)))

@@ -7,7 +7,7 @@ use Rattle.std.proofs.lemmas.List.{map-append}
 use Rattle.acl_packet.specs.declared.addresses.Families.{Families}
 use Rattle.acl_text.specs.declared.faults.Code.TheVariants as codes_of
 use Rattle.acl_text.specs.declared.faults.Slip.{Slip}
-use Rattle.acl_host.specs.NamedDays.{day_named}
+use Rattle.acl_days.specs.NamedDays.{day_named}
 use Rattle.acl_text.specs.Steps.{◌>>=◌}
 use Rattle.acl_words.specs.declared.forms.Form.{Form}
 use Rattle.acl_words.specs.declared.forms.Form.TheVariants as forms
@@ -27,7 +27,8 @@ use Rattle.acl_policy.specs.declared.values.Takes.{Takes}
 use Rattle.acl_policy.specs.declared.values.Takes.TheVariants as takes
 use Rattle.acl_policy.specs.JudgingSteps.{behind_open, if_keyword, still_open}
 use Rattle.acl_policy.specs.Policies.{most_targets, with_number, with_target, behind_target, behind_header_keyword, behind_word, behind_words, behind_keyword, behind_begin, behind_end, behind_mark}
-use Rattle.acl_policy.specs.Slips.{slip_of, slip_for, slip_with}
+use Rattle.acl_text.specs.Refusals.{slip}
+use Rattle.acl_policy.specs.Slips.{slip_of, slip_for}
 use Rattle.acl_policy.specs.Targets.{is_word, or_slip, single_family, family_word, chain_word, hook_word, name_word, priority_word, no_choices, unless_some, with_policy, with_mark, with_families, with_priority, iptables_choice, nftables_choice, choice, choices_from, last_family, device_line, iptables_line, hooked_line, nftables_line, target_line}
 use Rattle.acl_policy.specs.Terms.{with_comment, with_comments, draft_with_comments, term_with_addresses, term_with_protocols, term_with_lists, draft_behind}
 use Rattle.acl_policy.specs.Values.{is_value, word_of, all_values, some_values, words_with, one_value}
@@ -391,7 +392,7 @@ module _ (k a b m : Token) (rest others : List Token) where
   target_leaves : (s : State) (n : NamedTarget) → LeavesPart s.part (behind_target s k n)
   unfolding behind_target
   target_leaves s n = if_has (λ _. Unit {0}) (λ (t : State). t.part ≡ s.part)
-      (list_any (λ e. clash e n.target) s.earlier) (Err (slip_with codes_of.FilterTwice n.place n.target.name))
+      (list_any (λ e. clash e n.target) s.earlier) (Err (slip codes_of.FilterTwice n.place n.target.name))
       (if nat_le most_targets (length s.earlier) then Err (slip_of codes_of.TooMany k)
       else Ok (with_target s (with_number s.earlier n.target))) (λ _. tt)
       (λ _. if_has (λ _. Unit {0}) (λ (t : State). t.part ≡ s.part) (nat_le most_targets (length s.earlier))

@@ -1,15 +1,34 @@
--- What holds of each value that a step may give, and of the place of its slip.
+-- What holds of each value that a step may give, and of its slip.
 use Rattle.std.proofs.Common.{◌≡◌, Bool, true, false, not, ◌&&◌, if◌then◌else◌, Option, None, Some, Result, Ok, Err, IfSome, option_and_then, refl}
+use Rattle.acl_text.specs.AnsweredCodes.{IsAnswered}
+use Rattle.acl_text.specs.declared.faults.Code.{Code}
 use Rattle.acl_text.specs.declared.faults.Slip.{Slip}
 use Rattle.acl_text.specs.declared.faults.Place.{Place}
 use Rattle.acl_text.specs.Steps.{◌>>=◌}
+use Rattle.acl_words.specs.declared.forms.Form.{Form}
+use Rattle.acl_words.specs.declared.forms.Form.TheVariants as forms
+use Rattle.acl_policy.specs.Slips.{code_for}
 
--- A step gives a value that has Q, or a slip at such a place.
-abbrev pub Has : {A : Type 0} → (Place → Type 0) → (A → Type 0) → Result A Slip → Type 0
+-- a word that is a slip by itself has such a code too
+pub answered_for : (f : Form) (code : Code) → IsAnswered code → IsAnswered (code_for f code)
+answered_for forms.Plain code h = h
+answered_for forms.Quoted code h = h
+answered_for forms.Unclosed code h = tt
+answered_for forms.Bad code h = tt
+answered_for forms.Keyword code h = h
+answered_for forms.Begin code h = h
+answered_for forms.End code h = h
+
+-- A step gives a value that has Q, or such a slip.
+abbrev pub Has : {A : Type 0} → (Slip → Type 0) → (A → Type 0) → Result A Slip → Type 0
 Has At Q (Ok a) = Q a
-Has At Q (Err slip) = At slip.place
+Has At Q (Err slip) = At slip
 
-module _ (At : Place → Type 0) where
+-- A slip stands at such a place, and `aclgen` answers its code.
+abbrev pub ToldAt : (Place → Type 0) → Slip → Type 0
+ToldAt At slip = At slip.place × IsAnswered slip.code
+
+module _ (At : Slip → Type 0) where
   pub bind_has : {A B : Type 0} (P : A → Type 0) (Q : B → Type 0) (x : Result A Slip) (f : A → Result B Slip)
       → Has At P x → ((a : A) → P a → Has At Q (f a)) → Has At Q (x >>= f)
   bind_has P Q (Ok a) f h k = k a h
@@ -25,10 +44,10 @@ module _ (At : Place → Type 0) where
   weaker P Q (Ok a) h k = k a h
   weaker P Q (Err e) h k = h
 
-  pub at_other : {A : Type 0} (To : Place → Type 0) (Q : A → Type 0) (x : Result A Slip)
-      → Has At Q x → ((p : Place) → At p → To p) → Has To Q x
+  pub at_other : {A : Type 0} (To : Slip → Type 0) (Q : A → Type 0) (x : Result A Slip)
+      → Has At Q x → ((s : Slip) → At s → To s) → Has To Q x
   at_other To Q (Ok a) h k = h
-  at_other To Q (Err e) h k = k e.place h
+  at_other To Q (Err e) h k = k e h
 
 pub some_if : {B : Type 0} (Q : B → Type 0) (c : Bool) (x y : Option B) → (c ≡ true → IfSome x Q) → (c ≡ false → IfSome y Q) → IfSome (if c then x else y) Q
 some_if Q true x y h k = h refl

@@ -45,7 +45,9 @@ use Rattle.acl_policy.specs.Targets.{is_word, target_line}
 use Rattle.acl_policy.specs.Terms.{no_word, draft_behind}
 use Rattle.acl_policy.specs.Values.{is_plain, is_value, word_of, some_values, text_fits}
 use Rattle.acl_policy.proofs.ClashLaws.{any_same, clash_same}
-use Rattle.acl_policy.proofs.Outcomes.{Has, bind_has, if_has, at_other, and_right, not_false}
+use Rattle.acl_text.specs.AnsweredCodes.{EndsAnswered}
+use Rattle.acl_text.specs.declared.faults.Code.TheVariants as codes_of
+use Rattle.acl_policy.proofs.Outcomes.{Has, ToldAt, answered_for, bind_has, if_has, at_other, and_right, not_false}
 use Rattle.acl_policy.proofs.TargetFit.{IsNamed, line_good, renumbered}
 use Rattle.acl_policy.proofs.TermFit.{Stand, Fits, ListFits, Sound, some_fit, draft_sound, term_sound}
 
@@ -226,10 +228,10 @@ module _ (At : Place → Type 0) where
   }
 
   target_good : (s : State) (k : Token) (n : NamedTarget) → GoodAt InHeader s → s.part ≡ InHeader → At k.place → IsNamed At n
-      → Has At Good (behind_target s k n)
+      → Has (ToldAt At) Good (behind_target s k n)
   unfolding behind_target
-  target_good s k n h p a g = if_has At Good (list_any (λ e. clash e n.target) s.earlier) _ _ (λ _. g.name_stands)
-      (λ free. if_has At Good (nat_le 64 (length s.earlier)) _ _ (λ _. a)
+  target_good s k n h p a g = if_has (ToldAt At) Good (list_any (λ e. clash e n.target) s.earlier) _ _ (λ _. (g.name_stands, tt))
+      (λ free. if_has (ToldAt At) Good (nat_le 64 (length s.earlier)) _ _ (λ _. (a, tt))
       (λ room. record {
         base = with_target_base s (with_number s.earlier n.target) h.base
             (target_is s.earlier n.target (few (length s.earlier) room) g.fits, g.line_stands)
@@ -243,19 +245,19 @@ module _ (At : Place → Type 0) where
       stands_in t = subst (λ q. Stands q (s.targets ++ t ∷ []) s.terms s.draft) (sym p) tt
 
   header_good : (s : State) (k : Token) (ws : List Token) → GoodAt InHeader s → s.part ≡ InHeader → Good s
-      → At k.place → Stand At ws → Has At Good (behind_header_keyword s k ws)
+      → At k.place → Stand At ws → Has (ToldAt At) Good (behind_header_keyword s k ws)
   unfolding behind_header_keyword
-  header_good s k ws h p g a st = if_has At Good (bytes_eq k.text (codes "comment::")) _ _
-      (λ _. bind_has At (λ _. All (Fits At takes.String) (map word_of ws)) Good (some_values takes.String k ws) _ (some_fit At takes.String k ws a st) (λ _ _. g))
-      (λ _. if_has At Good (bytes_eq k.text (codes "target::")) _ _
-      (λ _. bind_has At (IsNamed At) Good (target_line k ws) _ (line_good At k ws a st) (λ n m. target_good s k n h p a m))
-      (λ _. a))
+  header_good s k ws h p g a st = if_has (ToldAt At) Good (bytes_eq k.text (codes "comment::")) _ _
+      (λ _. bind_has (ToldAt At) (λ _. All (Fits At takes.String) (map word_of ws)) Good (some_values takes.String k ws) _ (some_fit At takes.String k ws a st) (λ _ _. g))
+      (λ _. if_has (ToldAt At) Good (bytes_eq k.text (codes "target::")) _ _
+      (λ _. bind_has (ToldAt At) (IsNamed At) Good (target_line k ws) _ (line_good At k ws a st) (λ n m. target_good s k n h p a m))
+      (λ _. (a, tt)))
 
-  name_good : (s : State) (w : Token) → GoodAt Term s → At w.place → Has At Good (behind_name s w)
+  name_good : (s : State) (w : Token) → GoodAt Term s → At w.place → Has (ToldAt At) Good (behind_name s w)
   unfolding behind_name
-  name_good s w h a = if_has At Good (not (is_value takes.Name w)) _ _ (λ _. a)
-      (λ named. if_has At Good (list_any (λ t. bytes_eq t.name.text w.text) s.terms) _ _ (λ _. a)
-      (λ new. if_has At Good (nat_le 1024 s.term_count) _ _ (λ _. a)
+  name_good s w h a = if_has (ToldAt At) Good (not (is_value takes.Name w)) _ _ (λ _. (a, answered_for w.form codes_of.Syntax tt))
+      (λ named. if_has (ToldAt At) Good (list_any (λ t. bytes_eq t.name.text w.text) s.terms) _ _ (λ _. (a, tt))
+      (λ new. if_has (ToldAt At) Good (nat_le 1024 s.term_count) _ _ (λ _. (a, tt))
       (λ room. record {
         base = h.base;
         draft_is = draft_sound At (word_of w);
@@ -293,43 +295,43 @@ module _ (At : Place → Type 0) where
         names_differ = tt;
       }
 
-  word_good : (p : Part) (s : State) (w : Token) → GoodAt p s → At w.place → Has At Good (behind_word p s w)
+  word_good : (p : Part) (s : State) (w : Token) → GoodAt p s → At w.place → Has (ToldAt At) Good (behind_word p s w)
   unfolding behind_word
-  word_good Start s w h a = if_has At Good (is_word w (codes "header")) _ _
-      (λ _. record { base = h.base; draft_is = h.draft_is; stands = tt; few_terms = h.few_terms }) (λ _. a)
-  word_good Header s w h a = a
-  word_good InHeader s w h a = a
-  word_good HeaderEnd s w h a = if_has At Good (is_word w (codes "term")) _ _
+  word_good Start s w h a = if_has (ToldAt At) Good (is_word w (codes "header")) _ _
+      (λ _. record { base = h.base; draft_is = h.draft_is; stands = tt; few_terms = h.few_terms }) (λ _. (a, answered_for w.form codes_of.Syntax tt))
+  word_good Header s w h a = (a, answered_for w.form codes_of.Syntax tt)
+  word_good InHeader s w h a = (a, answered_for w.form codes_of.Syntax tt)
+  word_good HeaderEnd s w h a = if_has (ToldAt At) Good (is_word w (codes "term")) _ _
       (λ _. record { base = h.base; draft_is = h.draft_is; stands = h.stands; few_terms = h.few_terms })
-      (λ _. if_has At Good (is_word w (codes "header")) _ _ (λ _. a) (λ _. a))
+      (λ _. if_has (ToldAt At) Good (is_word w (codes "header")) _ _ (λ _. (a, tt)) (λ _. (a, answered_for w.form codes_of.Syntax tt)))
   word_good Term s w h a = name_good s w h a
-  word_good Named s w h a = a
-  word_good InTerm s w h a = a
-  word_good TermEnd s w h a = if_has At Good (is_word w (codes "term")) _ _
+  word_good Named s w h a = (a, answered_for w.form codes_of.Syntax tt)
+  word_good InTerm s w h a = (a, answered_for w.form codes_of.Syntax tt)
+  word_good TermEnd s w h a = if_has (ToldAt At) Good (is_word w (codes "term")) _ _
       (λ _. record { base = h.base; draft_is = h.draft_is; stands = h.stands.0; few_terms = h.few_terms })
-      (λ _. if_has At Good (is_word w (codes "header")) _ _
+      (λ _. if_has (ToldAt At) Good (is_word w (codes "header")) _ _
       (λ _. record {
         base = with_block_base s h;
         draft_is = h.draft_is;
         stands = tt;
         few_terms = (omega (arith, h.few_terms.0, terms_in s.blocks s.targets s.terms), h.few_terms.1);
       })
-      (λ _. a))
+      (λ _. (a, answered_for w.form codes_of.Syntax tt)))
 
-  words_good : (s : State) (ws : List Token) → Good s → Stand At ws → Has At Good (behind_words s ws)
+  words_good : (s : State) (ws : List Token) → Good s → Stand At ws → Has (ToldAt At) Good (behind_words s ws)
   words_good s [] h st = h
-  words_good s (w ∷ ws) h st = bind_has At Good Good (behind_word s.part s w) _ (word_good s.part s w h st.0) (λ t g. words_good t ws g st.1)
+  words_good s (w ∷ ws) h st = bind_has (ToldAt At) Good Good (behind_word s.part s w) _ (word_good s.part s w h st.0) (λ t g. words_good t ws g st.1)
 
   keyword_good : (p : Part) (s : State) (k : Token) (ws : List Token) → s.part ≡ p → GoodAt p s → Good s
-      → At k.place → Stand At ws → Has At Good (behind_keyword p s k ws)
+      → At k.place → Stand At ws → Has (ToldAt At) Good (behind_keyword p s k ws)
   unfolding behind_keyword
-  keyword_good Start s k ws e h g a st = a
-  keyword_good Header s k ws e h g a st = a
+  keyword_good Start s k ws e h g a st = (a, tt)
+  keyword_good Header s k ws e h g a st = (a, tt)
   keyword_good InHeader s k ws e h g a st = header_good s k ws h e g a st
-  keyword_good HeaderEnd s k ws e h g a st = a
-  keyword_good Term s k ws e h g a st = a
-  keyword_good Named s k ws e h g a st = a
-  keyword_good InTerm s k ws e h g a st = bind_has At (Sound At s.draft.term.name) Good (draft_behind s.draft k ws) _
+  keyword_good HeaderEnd s k ws e h g a st = (a, tt)
+  keyword_good Term s k ws e h g a st = (a, tt)
+  keyword_good Named s k ws e h g a st = (a, tt)
+  keyword_good InTerm s k ws e h g a st = bind_has (ToldAt At) (Sound At s.draft.term.name) Good (draft_behind s.draft k ws) _
       (term_sound At s.draft.term.name s.draft k ws h.draft_is a st)
       (λ d m. record {
         base = h.base;
@@ -344,18 +346,18 @@ module _ (At : Place → Type 0) where
         ap (λ w. list_any (λ e. bytes_eq e.name.text w.text) s.terms) n ∙ h.stands.1.1,
         subst (λ (w : Word). At w.place) (sym n) h.stands.1.2,
       )
-  keyword_good TermEnd s k ws e h g a st = a
+  keyword_good TermEnd s k ws e h g a st = (a, tt)
 
-  begin_good : (p : Part) (s : State) (m : Token) → GoodAt p s → At m.place → Has At Good (behind_begin p s m)
+  begin_good : (p : Part) (s : State) (m : Token) → GoodAt p s → At m.place → Has (ToldAt At) Good (behind_begin p s m)
   unfolding behind_begin
-  begin_good Start s m h a = a
+  begin_good Start s m h a = (a, tt)
   begin_good Header s m h a = record { base = h.base; draft_is = h.draft_is; stands = tt; few_terms = h.few_terms }
-  begin_good InHeader s m h a = a
-  begin_good HeaderEnd s m h a = a
-  begin_good Term s m h a = a
+  begin_good InHeader s m h a = (a, tt)
+  begin_good HeaderEnd s m h a = (a, tt)
+  begin_good Term s m h a = (a, tt)
   begin_good Named s m h a = record { base = h.base; draft_is = h.draft_is; stands = h.stands; few_terms = h.few_terms }
-  begin_good InTerm s m h a = a
-  begin_good TermEnd s m h a = a
+  begin_good InTerm s m h a = (a, tt)
+  begin_good TermEnd s m h a = (a, tt)
 
   term_is : (d : Draft) → Sound At d.term.name d → d.has_action ≡ true → is_name d.term.name.text ≡ true → At d.term.name.place
       → GoodTerm d.term
@@ -389,34 +391,34 @@ module _ (At : Place → Type 0) where
     names_differ = each_push NameIsNew [] s.terms s.draft.term h.base.names_differ h.stands.1.1;
   }
 
-  end_good : (p : Part) (s : State) (m : Token) → GoodAt p s → At m.place → Has At Good (behind_end p s m)
+  end_good : (p : Part) (s : State) (m : Token) → GoodAt p s → At m.place → Has (ToldAt At) Good (behind_end p s m)
   unfolding behind_end
-  end_good Start s m h a = a
-  end_good Header s m h a = a
-  end_good InHeader s m h a = if_has At Good (length s.targets == 0) _ _ (λ _. a)
+  end_good Start s m h a = (a, tt)
+  end_good Header s m h a = (a, tt)
+  end_good InHeader s m h a = if_has (ToldAt At) Good (length s.targets == 0) _ _ (λ _. (a, tt))
       (λ c. record { base = h.base; draft_is = h.draft_is; stands = some (length s.targets) c; few_terms = h.few_terms })
-  end_good HeaderEnd s m h a = a
-  end_good Term s m h a = a
-  end_good Named s m h a = a
-  end_good InTerm s m h a = if_has At Good s.draft.has_action _ _
+  end_good HeaderEnd s m h a = (a, tt)
+  end_good Term s m h a = (a, tt)
+  end_good Named s m h a = (a, tt)
+  end_good InTerm s m h a = if_has (ToldAt At) Good s.draft.has_action _ _
       (λ c. record {
         base = with_term_base s h c;
         draft_is = draft_sound At no_word;
         stands = (h.stands.0, omega (arith, longer s.terms s.draft.term));
         few_terms = (omega (arith, h.few_terms.0, longer s.terms s.draft.term), h.few_terms.1);
       })
-      (λ _. a)
-  end_good TermEnd s m h a = a
+      (λ _. (a, tt))
+  end_good TermEnd s m h a = (a, tt)
 
   ended_good : (s : State) (m : Token) (ws : List Token) → Good s → At m.place → Stand At ws
-      → Has At Good (behind_end s.part s m >>= λ t. behind_words t ws)
-  ended_good s m ws h a st = bind_has At Good Good (behind_end s.part s m) _ (end_good s.part s m h a) (λ t g. words_good t ws g st)
+      → Has (ToldAt At) Good (behind_end s.part s m >>= λ t. behind_words t ws)
+  ended_good s m ws h a st = bind_has (ToldAt At) Good Good (behind_end s.part s m) _ (end_good s.part s m h a) (λ t g. words_good t ws g st)
 
   mark_good : (f : Form) (s : State) (m : Token) (ws : List Token) → Good s → At m.place → Stand At ws
-      → Has At Good (behind_mark f s m ws)
+      → Has (ToldAt At) Good (behind_mark f s m ws)
   unfolding behind_mark
   mark_good forms.Keyword s m ws h a st = keyword_good s.part s m ws refl h h a st
-  mark_good forms.Begin s m ws h a st = bind_has At Good Good (behind_begin s.part s m) _ (begin_good s.part s m h a) (λ t g. words_good t ws g st)
+  mark_good forms.Begin s m ws h a st = bind_has (ToldAt At) Good Good (behind_begin s.part s m) _ (begin_good s.part s m h a) (λ t g. words_good t ws g st)
   mark_good forms.End s m ws h a st = ended_good s m ws h a st
   mark_good forms.Plain s m ws h a st = ended_good s m ws h a st
   mark_good forms.Quoted s m ws h a st = ended_good s m ws h a st
@@ -431,15 +433,15 @@ module _ (At : Place → Type 0) where
   values_stand [] st = tt
   values_stand (w ∷ ws) st = either (Stand At) (is_mark w.form) _ _ tt (st.0, values_stand ws st.1)
 
-  marks_good : (s : State) (ws : List Token) → Good s → Stand At ws → Has At Good (behind_marks s ws)
+  marks_good : (s : State) (ws : List Token) → Good s → Stand At ws → Has (ToldAt At) Good (behind_marks s ws)
   marks_good s [] h st = h
-  marks_good s (w ∷ ws) h st = if_has At Good (is_mark w.form) _ _
-      (λ _. bind_has At Good Good (behind_mark w.form s w (values_of ws)) _
+  marks_good s (w ∷ ws) h st = if_has (ToldAt At) Good (is_mark w.form) _ _
+      (λ _. bind_has (ToldAt At) Good Good (behind_mark w.form s w (values_of ws)) _
       (mark_good w.form s w (values_of ws) h st.0 (values_stand ws st.1)) (λ t g. marks_good t ws g st.1))
       (λ _. marks_good s ws h st.1)
 
-  all_good : (ws : List Token) → Stand At ws → Has At Good (behind_all ws)
-  all_good ws st = bind_has At Good Good (behind_words start (values_of ws)) _
+  all_good : (ws : List Token) → Stand At ws → Has (ToldAt At) Good (behind_all ws)
+  all_good ws st = bind_has (ToldAt At) Good Good (behind_words start (values_of ws)) _
       (words_good start (values_of ws) start_good (values_stand ws st)) (λ s g. marks_good s ws g st)
 
   -- A slip stands at such a place, or at the start.
@@ -449,15 +451,15 @@ module _ (At : Place → Type 0) where
   abbrev GoodPolicy : Policy → Type 0
   GoodPolicy p = IsPolicy p × All (BlockStands At) p.blocks
 
-  end_is_good : (p : Part) (s : State) (place : Place) → GoodAt p s → OrStart place → Has OrStart GoodPolicy (end_of p s place)
+  end_is_good : (p : Part) (s : State) (place : Place) → GoodAt p s → OrStart place → Has (ToldAt OrStart) GoodPolicy (end_of p s place)
   unfolding end_of
-  end_is_good Start s place h a = a
-  end_is_good Header s place h a = a
-  end_is_good InHeader s place h a = a
-  end_is_good HeaderEnd s place h a = a
-  end_is_good Term s place h a = a
-  end_is_good Named s place h a = a
-  end_is_good InTerm s place h a = a
+  end_is_good Start s place h a = (a, tt)
+  end_is_good Header s place h a = (a, tt)
+  end_is_good InHeader s place h a = (a, tt)
+  end_is_good HeaderEnd s place h a = (a, tt)
+  end_is_good Term s place h a = (a, tt)
+  end_is_good Named s place h a = (a, tt)
+  end_is_good InTerm s place h a = (a, tt)
   end_is_good TermEnd s place h a =
       let b = with_block_base s h in
       let all : s.earlier ≡ targets_of (with_block s).blocks = b.earlier_is ∙ append-nil (targets_of (with_block s).blocks) in (
@@ -475,10 +477,10 @@ module _ (At : Place → Type 0) where
   last_stands place [] h st = h
   last_stands place (w ∷ ws) h st = last_stands w.place ws (inr st.0) st.1
 
-  policy_good : (ws : List Token) → Stand At ws → Has OrStart GoodPolicy (policy_of ws)
+  policy_good : (ws : List Token) → Stand At ws → Has (ToldAt OrStart) GoodPolicy (policy_of ws)
   unfolding policy_of
-  policy_good ws st = bind_has OrStart Good GoodPolicy (behind_all ws) _
-      (at_other At OrStart Good (behind_all ws) (all_good ws st) (λ p h. inr h))
+  policy_good ws st = bind_has (ToldAt OrStart) Good GoodPolicy (behind_all ws) _
+      (at_other (ToldAt At) (ToldAt OrStart) Good (behind_all ws) (all_good ws st) (λ p h. (inr h.0, h.1)))
       (λ s g. end_is_good s.part s (last_place start_place ws) g (last_stands start_place ws (inl refl) st))
 
 -- Each word stands anywhere.
@@ -487,19 +489,27 @@ anywhere [] = tt
 anywhere (w ∷ ws) = (tt, anywhere ws)
 
 given_fits : (r : Result Policy Refusal) (x : Result Policy Slip) → Gives slip_told r x
-    → Has (OrStart (λ _. Unit {0})) (GoodPolicy (λ _. Unit {0})) x → IfOk r IsPolicy
-given_fits (Ok p) x e h = (subst (Has (OrStart (λ _. Unit {0})) (GoodPolicy (λ _. Unit {0}))) e h).0
+    → Has (ToldAt (OrStart (λ _. Unit {0}))) (GoodPolicy (λ _. Unit {0})) x → IfOk r IsPolicy
+given_fits (Ok p) x e h = (subst (Has (ToldAt (OrStart (λ _. Unit {0}))) (GoodPolicy (λ _. Unit {0}))) e h).0
 given_fits (Err f) x e h = tt
 
 pub read_fits : (r : Result Policy Refusal) (ws : List Token) → Gives slip_told r (policy_of ws) → IfOk r IsPolicy
 read_fits r ws e = given_fits r (policy_of ws) e (policy_good (λ _. Unit {0}) ws (anywhere ws))
 
+answered_slip : (x : Result Policy Slip) → Has (ToldAt (OrStart (λ _. Unit {0}))) (GoodPolicy (λ _. Unit {0})) x → EndsAnswered x
+answered_slip (Ok p) h = tt
+answered_slip (Err s) h = h.1
+
+-- the code of a policy's slip is one that `aclgen` answers
+pub policy_answered : (ws : List Token) → EndsAnswered (policy_of ws)
+policy_answered ws = answered_slip (policy_of ws) (policy_good (λ _. Unit {0}) ws (anywhere ws))
+
 lines_stand : (lines : List Line) (ws : List Token) → HaveLinePlaces lines ws → Stand (IsLinePlace lines) ws
 lines_stand lines ws h = recursion_from_All (λ (w : Token). IsLinePlace lines w.place) ws h
 
 given_stands : (lines : List Line) (r : Result Policy Refusal) (x : Result Policy Slip) → Gives slip_told r x
-    → Has (OrStart (IsLinePlace lines)) (GoodPolicy (IsLinePlace lines)) x → IfOk r (PolicyStands lines)
-given_stands lines (Ok p) x e h = (subst (Has (OrStart (IsLinePlace lines)) (GoodPolicy (IsLinePlace lines))) e h).1
+    → Has (ToldAt (OrStart (IsLinePlace lines))) (GoodPolicy (IsLinePlace lines)) x → IfOk r (PolicyStands lines)
+given_stands lines (Ok p) x e h = (subst (Has (ToldAt (OrStart (IsLinePlace lines))) (GoodPolicy (IsLinePlace lines))) e h).1
 given_stands lines (Err f) x e h = tt
 
 pub read_stands : (lines : List Line) (r : Result Policy Refusal) (ws : List Token) → Gives slip_told r (policy_of ws)
@@ -507,10 +517,10 @@ pub read_stands : (lines : List Line) (r : Result Policy Refusal) (ws : List Tok
 read_stands lines r ws e h = given_stands lines r (policy_of ws) e (policy_good (IsLinePlace lines) ws (lines_stand lines ws h))
 
 given_slip : (lines : List Line) (r : Result Policy Refusal) (x : Result Policy Slip) → Gives slip_told r x
-    → Has (OrStart (IsLinePlace lines)) (GoodPolicy (IsLinePlace lines)) x
+    → Has (ToldAt (OrStart (IsLinePlace lines))) (GoodPolicy (IsLinePlace lines)) x
     → IfErr r (λ e. IfSome (slip_told e) (λ s. IsSlipPlace lines s.place))
 given_slip lines (Ok p) x e h = tt
-given_slip lines (Err (refusals.Slip s)) x e h = subst (Has (OrStart (IsLinePlace lines)) (GoodPolicy (IsLinePlace lines))) e h
+given_slip lines (Err (refusals.Slip s)) x e h = (subst (Has (ToldAt (OrStart (IsLinePlace lines))) (GoodPolicy (IsLinePlace lines))) e h).0
 given_slip lines (Err refusals.Memory) x e h = tt
 
 pub read_slips : (lines : List Line) (r : Result Policy Refusal) (ws : List Token) → Gives slip_told r (policy_of ws)

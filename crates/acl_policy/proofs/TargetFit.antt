@@ -20,7 +20,8 @@ use Rattle.acl_target.specs.Clashes.{is_mixed}
 use Rattle.acl_target.specs.TargetData.{IsPriority, FitsPlatform, chain_text, hook_text, is_verdict, is_neighbours}
 use Rattle.acl_policy.specs.Targets.{is_word, or_slip, single_family, family_word, chain_word, hook_word, name_word, priority_word, no_choices, unless_some, with_policy, with_mark, with_families, with_priority, iptables_choice, nftables_choice, choice, choices_from, last_family, device_line, policy_ending, iptables_line, hooked_line, nftables_line, target_line}
 use Rattle.acl_policy.specs.Values.{is_plain}
-use Rattle.acl_policy.proofs.Outcomes.{Has, bind_has, if_has, some_if, then_has, and_right}
+use Rattle.acl_text.specs.declared.faults.Code.TheVariants as codes_of
+use Rattle.acl_policy.proofs.Outcomes.{Has, ToldAt, answered_for, bind_has, if_has, some_if, then_has, and_right}
 use Rattle.acl_policy.proofs.TermFit.{Stand}
 
 abbrev NotMixed : Families → Type 0
@@ -120,61 +121,61 @@ pub record IsNamed (At : Place → Type 0) (n : NamedTarget) : Type 0 where
   pub name_stands : At n.place
 
 module _ (At : Place → Type 0) where
-  or_has : {A : Type 0} (P : A → Type 0) (w : Token) (o : Option A) → At w.place → IfSome o P → Has At P (or_slip w o)
+  or_has : {A : Type 0} (P : A → Type 0) (w : Token) (o : Option A) → At w.place → IfSome o P → Has (ToldAt At) P (or_slip w o)
   or_has P w (Some x) a h = h
-  or_has P w None a h = a
+  or_has P w None a h = (a, answered_for w.form codes_of.TargetLine tt)
 
-  juniper_family : (ws : List Token) → Stand At ws → Has At NotMixed (last_family Juniper ws)
+  juniper_family : (ws : List Token) → Stand At ws → Has (ToldAt At) NotMixed (last_family Juniper ws)
   juniper_family [] s = refl
   juniper_family (w ∷ []) s = or_has NotMixed w (single_family w) s.0 (one_family w)
-  juniper_family (w ∷ v ∷ ws) s = bind_has At NotMixed NotMixed (or_slip w (single_family w)) _
-      (or_has NotMixed w (single_family w) s.0 (one_family w)) (λ _ _. s.1.0)
+  juniper_family (w ∷ v ∷ ws) s = bind_has (ToldAt At) NotMixed NotMixed (or_slip w (single_family w)) _
+      (or_has NotMixed w (single_family w) s.0 (one_family w)) (λ _ _. (s.1.0, answered_for v.form codes_of.TargetLine tt))
 
   any_some : {A : Type 0} (o : Option A) → IfSome o (λ _. Unit {0})
   any_some None = tt
   any_some (Some x) = tt
 
-  cisco_family : (ws : List Token) → Stand At ws → Has At (λ _. Unit {0}) (last_family Cisco ws)
+  cisco_family : (ws : List Token) → Stand At ws → Has (ToldAt At) (λ _. Unit {0}) (last_family Cisco ws)
   cisco_family [] s = tt
   cisco_family (w ∷ []) s = or_has (λ _. Unit {0}) w (family_word Cisco w) s.0 (any_some (family_word Cisco w))
-  cisco_family (w ∷ v ∷ ws) s = bind_has At (λ _. Unit {0}) (λ _. Unit {0}) (or_slip w (family_word Cisco w)) _
-      (or_has (λ _. Unit {0}) w (family_word Cisco w) s.0 (any_some (family_word Cisco w))) (λ _ _. s.1.0)
+  cisco_family (w ∷ v ∷ ws) s = bind_has (ToldAt At) (λ _. Unit {0}) (λ _. Unit {0}) (or_slip w (family_word Cisco w)) _
+      (or_has (λ _. Unit {0}) w (family_word Cisco w) s.0 (any_some (family_word Cisco w))) (λ _ _. (s.1.0, answered_for v.form codes_of.TargetLine tt))
 
   cisco_good : (k p : Token) (ws : List Token) → At k.place → At p.place → Stand At ws
-      → Has At (IsNamed At) (device_line Cisco k p ws)
-  cisco_good k p [] a b s = b
-  cisco_good k p (n ∷ ws) a b s = if_has At (IsNamed At) (name_word n) _ _
-      (λ c. bind_has At (λ _. Unit {0}) (IsNamed At) (last_family Cisco ws) _ (cisco_family ws s.1)
+      → Has (ToldAt At) (IsNamed At) (device_line Cisco k p ws)
+  cisco_good k p [] a b s = (b, tt)
+  cisco_good k p (n ∷ ws) a b s = if_has (ToldAt At) (IsNamed At) (name_word n) _ _
+      (λ c. bind_has (ToldAt At) (λ _. Unit {0}) (IsNamed At) (last_family Cisco ws) _ (cisco_family ws s.1)
       (λ f _. record {
         fits = record { name_is = and_right (is_plain n.form) (is_filter_name n.text) c; hook_is = refl; stateless = refl; ending_is = refl; priority_is = refl; verbose_is = refl };
         line_stands = a;
         name_stands = s.0;
       }))
-      (λ _. s.0)
+      (λ _. (s.0, answered_for n.form codes_of.TargetLine tt))
 
   juniper_good : (k p : Token) (ws : List Token) → At k.place → At p.place → Stand At ws
-      → Has At (IsNamed At) (device_line Juniper k p ws)
-  juniper_good k p [] a b s = b
-  juniper_good k p (n ∷ ws) a b s = if_has At (IsNamed At) (name_word n) _ _
-      (λ c. bind_has At NotMixed (IsNamed At) (last_family Juniper ws) _ (juniper_family ws s.1)
+      → Has (ToldAt At) (IsNamed At) (device_line Juniper k p ws)
+  juniper_good k p [] a b s = (b, tt)
+  juniper_good k p (n ∷ ws) a b s = if_has (ToldAt At) (IsNamed At) (name_word n) _ _
+      (λ c. bind_has (ToldAt At) NotMixed (IsNamed At) (last_family Juniper ws) _ (juniper_family ws s.1)
       (λ f h. record {
         fits = (record { name_is = and_right (is_plain n.form) (is_filter_name n.text) c; hook_is = refl; stateless = refl; ending_is = refl; priority_is = refl; verbose_is = refl }, h);
         line_stands = a;
         name_stands = s.0;
       }))
-      (λ _. s.0)
+      (λ _. (s.0, answered_for n.form codes_of.TargetLine tt))
 
-  chosen_good : (kind : Kind) (c : Choices) (ws : List Token) → Chosen c → Stand At ws → Has At Chosen (choices_from kind c ws)
+  chosen_good : (kind : Kind) (c : Choices) (ws : List Token) → Chosen c → Stand At ws → Has (ToldAt At) Chosen (choices_from kind c ws)
   chosen_good kind c [] h s = h
-  chosen_good kind c (w ∷ ws) h s = bind_has At Chosen Chosen (or_slip w (choice kind c w)) _
+  chosen_good kind c (w ∷ ws) h s = bind_has (ToldAt At) Chosen Chosen (or_slip w (choice kind c w)) _
       (or_has Chosen w (choice kind c w) s.0 (choice_good kind c w h)) (λ d g. chosen_good kind d ws g s.1)
 
   iptables_good : (k p : Token) (ws : List Token) → At k.place → At p.place → Stand At ws
-      → Has At (IsNamed At) (iptables_line k p ws)
-  iptables_good k p [] a b s = b
-  iptables_good k p (n ∷ ws) a b s = bind_has At (λ hook. n.text ≡ chain_text hook) (IsNamed At) (or_slip n (chain_word n)) _
+      → Has (ToldAt At) (IsNamed At) (iptables_line k p ws)
+  iptables_good k p [] a b s = (b, tt)
+  iptables_good k p (n ∷ ws) a b s = bind_has (ToldAt At) (λ hook. n.text ≡ chain_text hook) (IsNamed At) (or_slip n (chain_word n)) _
       (or_has (λ hook. n.text ≡ chain_text hook) n (chain_word n) s.0 (chain_named n))
-      (λ hook e. bind_has At Chosen (IsNamed At) (choices_from Iptables no_choices ws) _ (chosen_good Iptables no_choices ws none_chosen s.1)
+      (λ hook e. bind_has (ToldAt At) Chosen (IsNamed At) (choices_from Iptables no_choices ws) _ (chosen_good Iptables no_choices ws none_chosen s.1)
       (λ c h. record {
         fits = record { name_is = e; one_family = default_family c.families h.families_fit; ending_is = left_ending c.accept; priority_is = refl; verbose_is = refl };
         line_stands = a;
@@ -182,11 +183,11 @@ module _ (At : Place → Type 0) where
       }))
 
   hooked_good : (k p : Token) (families : Families) (ws : List Token) → At k.place → At p.place → Stand At ws
-      → Has At (IsNamed At) (hooked_line k p families ws)
-  hooked_good k p families [] a b s = b
-  hooked_good k p families (n ∷ ws) a b s = bind_has At (λ hook. n.text ≡ hook_text hook) (IsNamed At) (or_slip n (hook_word n)) _
+      → Has (ToldAt At) (IsNamed At) (hooked_line k p families ws)
+  hooked_good k p families [] a b s = (b, tt)
+  hooked_good k p families (n ∷ ws) a b s = bind_has (ToldAt At) (λ hook. n.text ≡ hook_text hook) (IsNamed At) (or_slip n (hook_word n)) _
       (or_has (λ hook. n.text ≡ hook_text hook) n (hook_word n) s.0 (hook_named n))
-      (λ hook e. bind_has At Chosen (IsNamed At) (choices_from Nftables no_choices ws) _ (chosen_good Nftables no_choices ws none_chosen s.1)
+      (λ hook e. bind_has (ToldAt At) Chosen (IsNamed At) (choices_from Nftables no_choices ws) _ (chosen_good Nftables no_choices ws none_chosen s.1)
       (λ c h. record {
         fits = record { name_is = e; stateful_is = refl; ending_is = deny_ending c.accept; priority_is = default_priority c.priority h.priority_fits };
         line_stands = a;
@@ -194,19 +195,20 @@ module _ (At : Place → Type 0) where
       }))
 
   nftables_good : (k p : Token) (ws : List Token) → At k.place → At p.place → Stand At ws
-      → Has At (IsNamed At) (nftables_line k p ws)
-  nftables_good k p [] a b s = b
-  nftables_good k p (w ∷ ws) a b s = bind_has At (λ _. Unit {0}) (IsNamed At) (or_slip w (family_word Nftables w)) _
+      → Has (ToldAt At) (IsNamed At) (nftables_line k p ws)
+  nftables_good k p [] a b s = (b, tt)
+  nftables_good k p (w ∷ ws) a b s = bind_has (ToldAt At) (λ _. Unit {0}) (IsNamed At) (or_slip w (family_word Nftables w)) _
       (or_has (λ _. Unit {0}) w (family_word Nftables w) s.0 (any_some (family_word Nftables w)))
       (λ families _. hooked_good k p families ws a b s.1)
 
-  pub line_good : (k : Token) (ws : List Token) → At k.place → Stand At ws → Has At (IsNamed At) (target_line k ws)
+  pub line_good : (k : Token) (ws : List Token) → At k.place → Stand At ws → Has (ToldAt At) (IsNamed At) (target_line k ws)
   unfolding target_line
-  line_good k [] a s = a
-  line_good k (p ∷ ws) a s = if_has At (IsNamed At) (is_word p (codes "cisco")) _ _ (λ _. cisco_good k p ws a s.0 s.1)
-      (λ _. if_has At (IsNamed At) (is_word p (codes "juniper")) _ _ (λ _. juniper_good k p ws a s.0 s.1)
-      (λ _. if_has At (IsNamed At) (is_word p (codes "iptables")) _ _ (λ _. iptables_good k p ws a s.0 s.1)
-      (λ _. if_has At (IsNamed At) (is_word p (codes "nftables")) _ _ (λ _. nftables_good k p ws a s.0 s.1) (λ _. s.0))))
+  line_good k [] a s = (a, tt)
+  line_good k (p ∷ ws) a s = if_has (ToldAt At) (IsNamed At) (is_word p (codes "cisco")) _ _ (λ _. cisco_good k p ws a s.0 s.1)
+      (λ _. if_has (ToldAt At) (IsNamed At) (is_word p (codes "juniper")) _ _ (λ _. juniper_good k p ws a s.0 s.1)
+      (λ _. if_has (ToldAt At) (IsNamed At) (is_word p (codes "iptables")) _ _ (λ _. iptables_good k p ws a s.0 s.1)
+      (λ _. if_has (ToldAt At) (IsNamed At) (is_word p (codes "nftables")) _ _ (λ _. nftables_good k p ws a s.0 s.1)
+      (λ _. (s.0, answered_for p.form codes_of.TargetLine tt)))))
 
 pub renumbered : (kind : Kind) (t : Target) (m : ℕ) → FitsPlatform kind t → FitsPlatform kind (record t { number = m })
 renumbered Cisco t m h = record { name_is = h.name_is; hook_is = h.hook_is; stateless = h.stateless; ending_is = h.ending_is; priority_is = h.priority_is; verbose_is = h.verbose_is }

@@ -3,7 +3,7 @@ use Rattle.std.proofs.Common.{◌≡◌, ℕ, true, List, [], ◌∷◌, Ok, ref
 use Rattle.std.specs.List.{All}
 use Rattle.std.proofs.lemmas.Bool.{and_parts}
 use Rattle.std.proofs.lemmas.List.Elements.{All-nil, All-cons}
-use Rattle.acl_text.specs.declared.faults.Place.{Place}
+use Rattle.acl_text.specs.declared.faults.Slip.{Slip}
 use Rattle.acl_lines.specs.LineTexts.{HasNoFeed}
 use Rattle.acl_words.specs.declared.forms.Form.{Form}
 use Rattle.acl_words.specs.declared.forms.Form.TheVariants as forms
@@ -33,9 +33,9 @@ plain_word : (kind : Takes) (w : Token) → takes_words kind ≡ true → is_val
 plain_word kind w takes h =
     plain_is w.form (sym (word_form kind w.form takes) ∙ (and_parts (form_fits kind w.form) (text_fits kind w.text) h).0)
 
--- Any place.
-abbrev pub Anywhere : Place → Type 0
-Anywhere place = Unit {0}
+-- Any slip.
+abbrev pub Anywhere : Slip → Type 0
+Anywhere slip = Unit {0}
 
 all_plain : (kind : Takes) (ws : List Token) → takes_words kind ≡ true
     → Has Anywhere (λ _. All IsPlainWord ws) (all_values kind ws)

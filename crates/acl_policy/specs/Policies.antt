@@ -20,7 +20,8 @@ use Rattle.acl_policy.specs.declared.states.State.{State}
 use Rattle.acl_policy.specs.declared.target_lines.NamedTarget.{NamedTarget}
 use Rattle.acl_policy.specs.declared.values.Takes.TheVariants as takes
 use Rattle.acl_target.specs.Clashes.{clash, same_kind}
-use Rattle.acl_policy.specs.Slips.{start_place, slip_of, slip_with, slip_for}
+use Rattle.acl_text.specs.Refusals.{slip}
+use Rattle.acl_policy.specs.Slips.{start_place, slip_of, slip_for}
 use Rattle.acl_text.specs.Steps.{◌>>=◌}
 use Rattle.acl_policy.specs.Targets.{is_word, target_line}
 use Rattle.acl_policy.specs.Terms.{no_draft, draft_of, draft_behind}
@@ -55,7 +56,7 @@ with_target s t = record s { earlier = s.earlier ++ t ∷ []; targets = s.target
 unfoldable pub behind_target : State → Token → NamedTarget → Result State Slip
 behind_target s k n =
     if list_any (λ e. clash e n.target) s.earlier
-    then Err (slip_with codes_of.FilterTwice n.place n.target.name)
+    then Err (slip codes_of.FilterTwice n.place n.target.name)
     else if nat_le most_targets (length s.earlier) then Err (slip_of codes_of.TooMany k)
     else Ok (with_target s (with_number s.earlier n.target))
 
@@ -94,7 +95,7 @@ behind_word Start s w =
 behind_word HeaderEnd s w =
     if is_word w (codes "term") then Ok (record s { part = Term })
     -- the block before it has no term
-    else if is_word w (codes "header") then Err (slip_with codes_of.Missing w.place (codes "term"))
+    else if is_word w (codes "header") then Err (slip codes_of.Missing w.place (codes "term"))
     else Err (slip_for codes_of.Syntax w)
 behind_word Term s w = behind_name s w
 behind_word TermEnd s w =
@@ -122,11 +123,11 @@ behind_begin _ s m = Err (slip_of codes_of.Syntax m)
 -- `}`. A header has a target, and a term an action.
 unfoldable pub behind_end : Part → State → Token → Result State Slip
 behind_end InHeader s m =
-    if length s.targets == 0 then Err (slip_with codes_of.Missing m.place (codes "target::"))
+    if length s.targets == 0 then Err (slip codes_of.Missing m.place (codes "target::"))
     else Ok (record s { part = HeaderEnd })
 behind_end InTerm s m =
     if s.draft.has_action then Ok (with_term s)
-    else Err (slip_with codes_of.Missing m.place (codes "action::"))
+    else Err (slip codes_of.Missing m.place (codes "action::"))
 behind_end _ s m = Err (slip_of codes_of.Syntax m)
 
 -- A keyword or a brace, and the words behind it up to the next one.
@@ -163,10 +164,10 @@ last_place place (w ∷ ws) = last_place w.place ws
 
 -- The end of the text.
 unfoldable pub end_of : Part → State → Place → Result Policy Slip
-end_of Start s place = Err (slip_with codes_of.Missing place (codes "header"))
-end_of HeaderEnd s place = Err (slip_with codes_of.Missing place (codes "term"))
+end_of Start s place = Err (slip codes_of.Missing place (codes "header"))
+end_of HeaderEnd s place = Err (slip codes_of.Missing place (codes "term"))
 end_of TermEnd s place = Ok (record { blocks = (with_block s).blocks })
-end_of _ s place = Err (slip_with codes_of.Syntax place (codes "end"))
+end_of _ s place = Err (slip codes_of.Syntax place (codes "end"))
 
 -- The policy of the words, or the first slip.
 unfoldable pub policy_of : List Token → Result Policy Slip

@@ -1,9 +1,9 @@
 -- Slips at words.
-use Rattle.std.specs.Prelude.{ℕ, List}
 use Rattle.acl_text.specs.declared.faults.Code.{Code}
 use Rattle.acl_text.specs.declared.faults.Code.TheVariants as codes_of
 use Rattle.acl_text.specs.declared.faults.Place.{Place}
 use Rattle.acl_text.specs.declared.faults.Slip.{Slip}
+use Rattle.acl_text.specs.Refusals.{slip}
 use Rattle.acl_words.specs.declared.forms.Form.{Form}
 use Rattle.acl_words.specs.declared.forms.Form.TheVariants.{Bad, Unclosed}
 use Rattle.acl_words.specs.Tokens.{Token}
@@ -13,7 +13,7 @@ abbrev pub start_place : Place
 start_place = record { file = 0; line = 0 }
 
 abbrev pub slip_of : Code → Token → Slip
-slip_of code w = record { code = code; place = w.place; word = w.text }
+slip_of code w = slip code w.place w.text
 
 -- A word with a byte that no word may have, and a string without an end, are slips by themselves, whatever
 -- was wanted there.
@@ -25,7 +25,3 @@ code_for form code = code
 -- The slip at a word that is not taken.
 abbrev pub slip_for : Code → Token → Slip
 slip_for code w = slip_of (code_for w.form code) w
-
--- A slip whose word stands elsewhere, or nowhere in the text.
-abbrev pub slip_with : Code → Place → List ℕ → Slip
-slip_with code place text = record { code = code; place = place; word = text }

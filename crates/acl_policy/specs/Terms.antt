@@ -8,7 +8,7 @@ use Rattle.acl_policy.specs.declared.term_drafts.Draft.{Draft}
 use Rattle.acl_words.specs.declared.word_lists.Word.{Word}
 use Rattle.acl_policy.specs.declared.raw_terms.RawTerm.{RawTerm}
 use Rattle.acl_policy.specs.declared.values.Takes.TheVariants as takes
-use Rattle.acl_host.specs.NamedDays.{day_named}
+use Rattle.acl_days.specs.NamedDays.{day_named}
 use Rattle.acl_policy.specs.Slips.{slip_of, start_place}
 use Rattle.acl_text.specs.Steps.{◌>>=◌}
 use Rattle.acl_policy.specs.Values.{some_values, words_with, one_value}

@@ -18,7 +18,7 @@ ghost use Rattle.acl_policy.specs.Targets.{
 };
 
 use crate::values::{is_plain, is_text};
-use crate::word_slips::slip_for;
+use crate::word_slips::refusal_for;
 use acl_packet::Families;
 use acl_target::Kind;
 use acl_text::{Code, Refusal, read_signed};
@@ -213,7 +213,7 @@ pub(crate) fn read_choices(
     let mut choices = no_choices();
     for word in words {
         match choose(kind, choices, word) {
-            None => return Err(Refusal::Slip(slip_for(alloc, Code::TargetLine, word)?)),
+            None => return Err(refusal_for(alloc, Code::TargetLine, word)),
             Some(more) => choices = more,
         }
     }

@@ -27,7 +27,7 @@ use crate::target_lines::{NamedTarget, read_target_line};
 use crate::term_drafts::{Draft, draft_of, no_draft};
 use crate::terms::judge_term_keyword;
 use crate::values::{Takes, check_values, is_text, is_value, word_of};
-use crate::word_slips::{slip_at, slip_for, slip_with};
+use crate::word_slips::{refusal_at, refusal_for};
 use acl_text::{Code, Items, Memory, Refusal};
 use acl_words::{Form, Token};
 use std::alloc::Global;
@@ -50,10 +50,10 @@ fn judge_target(
     let earlier = state.earlier.as_slice();
     if clashes(earlier, &target) {
         let word = target.name.as_slice();
-        return Err(Refusal::Slip(slip_with(alloc, Code::FilterTwice, place, word)?));
+        return Err(Refusal::at(alloc, Code::FilterTwice, place, word));
     }
     if earlier.len() >= MOST_TARGETS {
-        return Err(Refusal::Slip(slip_at(alloc, Code::TooMany, keyword)?));
+        return Err(refusal_at(alloc, Code::TooMany, keyword));
     }
     target.number = count_of(earlier, target.kind) as u32 + 1;
     state.earlier.push(copy_target(alloc, &target)?)?;
@@ -77,7 +77,7 @@ fn judge_header_keyword(
         let named = read_target_line(alloc, clause)?;
         judge_target(alloc, state, clause.keyword, named)
     } else {
-        Err(Refusal::Slip(slip_at(alloc, Code::Keyword, clause.keyword)?))
+        Err(refusal_at(alloc, Code::Keyword, clause.keyword))
     }
 }
 
@@ -111,13 +111,13 @@ fn judge_name(alloc: Global, state: &mut State, word: &Token<'_>) -> Result<(), 
     ensures { Leaves slip_told state.new result (behind_name state.old word.now) }
 {
     if !is_value(Takes::Name, word) {
-        return Err(Refusal::Slip(slip_for(alloc, Code::Syntax, word)?));
+        return Err(refusal_for(alloc, Code::Syntax, word));
     }
     if is_term_name(state.terms.as_slice(), word) {
-        return Err(Refusal::Slip(slip_at(alloc, Code::TermTwice, word)?));
+        return Err(refusal_at(alloc, Code::TermTwice, word));
     }
     if state.term_count >= MOST_TERMS {
-        return Err(Refusal::Slip(slip_at(alloc, Code::TooMany, word)?));
+        return Err(refusal_at(alloc, Code::TooMany, word));
     }
     begin_term(state, draft_of(alloc, word_of(alloc, word)?));
     Ok(())
@@ -149,7 +149,7 @@ fn judge_start(alloc: Global, state: &mut State, word: &Token<'_>) -> Result<(),
         state.part = Part::Header;
         Ok(())
     } else {
-        Err(Refusal::Slip(slip_for(alloc, Code::Syntax, word)?))
+        Err(refusal_for(alloc, Code::Syntax, word))
     }
 }
 
@@ -161,9 +161,9 @@ fn judge_behind_header(alloc: Global, state: &mut State, word: &Token<'_>) -> Re
         state.part = Part::Term;
         Ok(())
     } else if is_word(word, b"header") {
-        Err(Refusal::Slip(slip_with(alloc, Code::Missing, word.place(), b"term")?))
+        Err(Refusal::at(alloc, Code::Missing, word.place(), b"term"))
     } else {
-        Err(Refusal::Slip(slip_for(alloc, Code::Syntax, word)?))
+        Err(refusal_for(alloc, Code::Syntax, word))
     }
 }
 
@@ -179,7 +179,7 @@ fn judge_behind_term(alloc: Global, state: &mut State, word: &Token<'_>) -> Resu
         state.part = Part::Header;
         Ok(())
     } else {
-        Err(Refusal::Slip(slip_for(alloc, Code::Syntax, word)?))
+        Err(refusal_for(alloc, Code::Syntax, word))
     }
 }
 
@@ -192,7 +192,7 @@ fn judge_word(alloc: Global, part: Part, state: &mut State, word: &Token<'_>) ->
         Part::HeaderEnd => judge_behind_header(alloc, state, word),
         Part::Term => judge_name(alloc, state, word),
         Part::TermEnd => judge_behind_term(alloc, state, word),
-        _ => Err(Refusal::Slip(slip_for(alloc, Code::Syntax, word)?)),
+        _ => Err(refusal_for(alloc, Code::Syntax, word)),
     }
 }
 
@@ -226,7 +226,7 @@ fn judge_keyword(
             judge_term_keyword(alloc, &mut state.draft, clause)?;
             Ok(())
         }
-        _ => Err(Refusal::Slip(slip_at(alloc, Code::Syntax, clause.keyword)?)),
+        _ => Err(refusal_at(alloc, Code::Syntax, clause.keyword)),
     }
 }
 
@@ -248,7 +248,7 @@ fn judge_begin(
             state.part = Part::InTerm;
             Ok(())
         }
-        _ => Err(Refusal::Slip(slip_at(alloc, Code::Syntax, brace)?)),
+        _ => Err(refusal_at(alloc, Code::Syntax, brace)),
     }
 }
 
@@ -257,8 +257,7 @@ fn judge_header_end(alloc: Global, state: &mut State, brace: &Token<'_>) -> Resu
     ensures { Leaves slip_told state.new result (behind_end Part.InHeader state.old brace.now) }
 {
     if state.targets.as_slice().is_empty() {
-        let slip = slip_with(alloc, Code::Missing, brace.place(), b"target::")?;
-        return Err(Refusal::Slip(slip));
+        return Err(Refusal::at(alloc, Code::Missing, brace.place(), b"target::"));
     }
     state.part = Part::HeaderEnd;
     Ok(())
@@ -269,8 +268,7 @@ fn judge_term_end(alloc: Global, state: &mut State, brace: &Token<'_>) -> Result
     ensures { Leaves slip_told state.new result (behind_end Part.InTerm state.old brace.now) }
 {
     if !state.draft.has_action {
-        let slip = slip_with(alloc, Code::Missing, brace.place(), b"action::")?;
-        return Err(Refusal::Slip(slip));
+        return Err(Refusal::at(alloc, Code::Missing, brace.place(), b"action::"));
     }
     end_term(alloc, state)?;
     Ok(())
@@ -283,7 +281,7 @@ fn judge_end(alloc: Global, part: Part, state: &mut State, brace: &Token<'_>) ->
     match part {
         Part::InHeader => judge_header_end(alloc, state, brace),
         Part::InTerm => judge_term_end(alloc, state, brace),
-        _ => Err(Refusal::Slip(slip_at(alloc, Code::Syntax, brace)?)),
+        _ => Err(refusal_at(alloc, Code::Syntax, brace)),
     }
 }
 

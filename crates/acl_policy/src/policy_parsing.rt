@@ -16,7 +16,6 @@ use crate::judging::end_block;
 use crate::states::{Part, State};
 use crate::term_drafts::no_draft;
 use crate::word_judges::Judge;
-use crate::word_slips::slip_with;
 use acl_splice::Sources;
 use acl_text::{Code, Items, Place, Refusal};
 use acl_words::Words;
@@ -74,23 +73,14 @@ fn end(alloc: Global, state: &mut State, place: Place) -> Result<Policy, Refusal
     ensures { Gives slip_told result (end_of state.old.part state.old place) }
 {
     match state.part {
-        Part::Start => {
-            let slip = slip_with(alloc, Code::Missing, place, b"header")?;
-            Err(Refusal::Slip(slip))
-        }
-        Part::HeaderEnd => {
-            let slip = slip_with(alloc, Code::Missing, place, b"term")?;
-            Err(Refusal::Slip(slip))
-        }
+        Part::Start => { Err(Refusal::at(alloc, Code::Missing, place, b"header")) }
+        Part::HeaderEnd => { Err(Refusal::at(alloc, Code::Missing, place, b"term")) }
         Part::TermEnd => {
             end_block(alloc, state)?;
             let blocks = mem::replace(&mut state.blocks, Items::new(alloc));
             Ok(Policy { blocks })
         }
-        _ => {
-            let slip = slip_with(alloc, Code::Syntax, place, b"end")?;
-            Err(Refusal::Slip(slip))
-        }
+        _ => { Err(Refusal::at(alloc, Code::Syntax, place, b"end")) }
     }
 }
 

@@ -18,7 +18,7 @@ ghost use Rattle.acl_policy.specs.Targets.{
 use crate::choices::{family_word, is_word, read_choices};
 use crate::clauses::Clause;
 use crate::values::is_plain;
-use crate::word_slips::{slip_at, slip_for};
+use crate::word_slips::{refusal_at, refusal_for};
 use acl_packet::{Families, Hook};
 use acl_target::{Ending, Kind, Target};
 use acl_text::{Bytes, Code, Memory, Place, Refusal, is_filter_name};
@@ -96,10 +96,10 @@ fn read_last_family(alloc: Global, kind: Kind, words: &[Token<'_>]) -> Result<Fa
     match words {
         [] => Ok(Families::Inet),
         [word, behind @ ..] => match family_word(kind, word) {
-            None => Err(Refusal::Slip(slip_for(alloc, Code::TargetLine, word)?)),
+            None => Err(refusal_for(alloc, Code::TargetLine, word)),
             Some(families) => match behind {
                 [] => Ok(families),
-                [next, ..] => Err(Refusal::Slip(slip_for(alloc, Code::TargetLine, next)?)),
+                [next, ..] => Err(refusal_for(alloc, Code::TargetLine, next)),
             },
         },
     }
@@ -124,10 +124,8 @@ fn read_device(
     ensures { Gives slip_told result (device_line kind keyword.now platform.now words.now) }
 {
     match words {
-        [] => Err(Refusal::Slip(slip_at(alloc, Code::TargetLine, platform)?)),
-        [name, ..] if !name_word(name) => {
-            Err(Refusal::Slip(slip_for(alloc, Code::TargetLine, name)?))
-        }
+        [] => Err(refusal_at(alloc, Code::TargetLine, platform)),
+        [name, ..] if !name_word(name) => { Err(refusal_for(alloc, Code::TargetLine, name)) }
         [name, behind @ ..] => {
             let families = read_last_family(alloc, kind, behind)?;
             let mut target = make_target(alloc, keyword, name, kind, families, Hook::Input)?;
@@ -159,11 +157,11 @@ fn read_iptables(
     ensures { Gives slip_told result (iptables_line keyword.now platform.now words.now) }
 {
     let (name, behind) = match words {
-        [] => return Err(Refusal::Slip(slip_at(alloc, Code::TargetLine, platform)?)),
+        [] => return Err(refusal_at(alloc, Code::TargetLine, platform)),
         [name, behind @ ..] => (name, behind),
     };
     let Some(hook) = chain_word(name) else {
-        return Err(Refusal::Slip(slip_for(alloc, Code::TargetLine, name)?));
+        return Err(refusal_for(alloc, Code::TargetLine, name));
     };
     let choices = read_choices(alloc, Kind::Iptables, behind)?;
     let families = choices.families.unwrap_or(Families::Inet);
@@ -186,11 +184,11 @@ fn read_hooked(
     ensures { Gives slip_told result (hooked_line keyword.now platform.now families words.now) }
 {
     let (name, behind) = match words {
-        [] => return Err(Refusal::Slip(slip_at(alloc, Code::TargetLine, platform)?)),
+        [] => return Err(refusal_at(alloc, Code::TargetLine, platform)),
         [name, behind @ ..] => (name, behind),
     };
     let Some(hook) = hook_word(name) else {
-        return Err(Refusal::Slip(slip_for(alloc, Code::TargetLine, name)?));
+        return Err(refusal_for(alloc, Code::TargetLine, name));
     };
     let choices = read_choices(alloc, Kind::Nftables, behind)?;
     let mut target = make_target(alloc, keyword, name, Kind::Nftables, families, hook)?;
@@ -213,9 +211,9 @@ fn read_nftables(
     ensures { Gives slip_told result (nftables_line keyword.now platform.now words.now) }
 {
     match words {
-        [] => Err(Refusal::Slip(slip_at(alloc, Code::TargetLine, platform)?)),
+        [] => Err(refusal_at(alloc, Code::TargetLine, platform)),
         [word, behind @ ..] => match family_word(Kind::Nftables, word) {
-            None => Err(Refusal::Slip(slip_for(alloc, Code::TargetLine, word)?)),
+            None => Err(refusal_for(alloc, Code::TargetLine, word)),
             Some(families) => read_hooked(alloc, keyword, platform, families, behind),
         },
     }
@@ -227,7 +225,7 @@ pub(crate) fn read_target_line(alloc: Global, clause: &Clause<'_>) -> Result<Nam
     ensures { Gives slip_told result (target_line clause.now.keyword.now clause.now.values.now) }
 {
     match clause.values {
-        [] => Err(Refusal::Slip(slip_at(alloc, Code::Missing, clause.keyword)?)),
+        [] => Err(refusal_at(alloc, Code::Missing, clause.keyword)),
         [platform, words @ ..] => {
             if is_word(platform, b"cisco") {
                 read_device(alloc, Kind::Cisco, clause.keyword, platform, words)
@@ -238,7 +236,7 @@ pub(crate) fn read_target_line(alloc: Global, clause: &Clause<'_>) -> Result<Nam
             } else if is_word(platform, b"nftables") {
                 read_nftables(alloc, clause.keyword, platform, words)
             } else {
-                Err(Refusal::Slip(slip_for(alloc, Code::TargetLine, platform)?))
+                Err(refusal_for(alloc, Code::TargetLine, platform))
             }
         }
     }

@@ -16,8 +16,8 @@ use crate::clauses::Clause;
 use crate::raw_terms::RawTerm;
 use crate::term_drafts::{Draft, add_comments};
 use crate::values::{Takes, check_values, is_text, one_value, push_values};
-use crate::word_slips::slip_at;
-use acl_host::read_day;
+use crate::word_slips::refusal_at;
+use acl_days::read_day;
 use acl_text::{Code, Refusal};
 use acl_words::Token;
 use std::alloc::Global;
@@ -36,7 +36,7 @@ fn judge_owner(alloc: Global, draft: &mut Draft, clause: &Clause<'_>) -> Result<
         (draft_with_owner draft.old clause.now.keyword.now clause.now.values.now) }
 {
     if draft.has_owner {
-        return Err(Refusal::Slip(slip_at(alloc, Code::Repeated, clause.keyword)?));
+        return Err(refusal_at(alloc, Code::Repeated, clause.keyword));
     }
     let _owner = one_value(alloc, Takes::Any, clause)?;
     draft.has_owner = true;
@@ -48,7 +48,7 @@ fn judge_action(alloc: Global, draft: &mut Draft, clause: &Clause<'_>) -> Result
         (draft_with_action draft.old clause.now.keyword.now clause.now.values.now) }
 {
     if draft.has_action {
-        return Err(Refusal::Slip(slip_at(alloc, Code::Repeated, clause.keyword)?));
+        return Err(refusal_at(alloc, Code::Repeated, clause.keyword));
     }
     draft.term.action = one_value(alloc, Takes::Action, clause)?;
     draft.has_action = true;
@@ -60,7 +60,7 @@ fn judge_logging(alloc: Global, draft: &mut Draft, clause: &Clause<'_>) -> Resul
         (draft_with_logging draft.old clause.now.keyword.now clause.now.values.now) }
 {
     if draft.term.logging {
-        return Err(Refusal::Slip(slip_at(alloc, Code::Repeated, clause.keyword)?));
+        return Err(refusal_at(alloc, Code::Repeated, clause.keyword));
     }
     let _word = one_value(alloc, Takes::Logging, clause)?;
     draft.term.logging = true;
@@ -72,7 +72,7 @@ fn judge_expiration(alloc: Global, draft: &mut Draft, clause: &Clause<'_>) -> Re
         (draft_with_expiration draft.old clause.now.keyword.now clause.now.values.now) }
 {
     if draft.term.expires.is_some() {
-        return Err(Refusal::Slip(slip_at(alloc, Code::Repeated, clause.keyword)?));
+        return Err(refusal_at(alloc, Code::Repeated, clause.keyword));
     }
     let word = one_value(alloc, Takes::Day, clause)?;
     draft.term.expires = read_day(word.text.as_slice());
@@ -97,7 +97,7 @@ fn judge_addresses(alloc: Global, term: &mut RawTerm, clause: &Clause<'_>) -> Re
         push_values(alloc, Takes::Name, &mut term.destination_excludes, clause)?;
         Ok(())
     } else {
-        Err(Refusal::Slip(slip_at(alloc, Code::Keyword, clause.keyword)?))
+        Err(refusal_at(alloc, Code::Keyword, clause.keyword))
     }
 }
 

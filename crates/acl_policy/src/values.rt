@@ -21,8 +21,8 @@ ghost use Rattle.acl_policy.specs.Values.{
 };
 
 use crate::clauses::Clause;
-use crate::word_slips::{slip_at, slip_for};
-use acl_host::read_day;
+use crate::word_slips::{refusal_at, refusal_for};
+use acl_days::read_day;
 use acl_packet::{Family, icmp_number, protocol_number};
 use acl_text::{Bytes, Code, Memory, Refusal, is_name};
 use acl_words::{Form, Token, Word, WordList};
@@ -141,7 +141,7 @@ fn check_all(alloc: Global, kind: Takes, values: &[Token<'_>]) -> Result<(), Ref
 {
     for value in values {
         if !is_value(kind, value) {
-            return Err(Refusal::Slip(slip_for(alloc, Code::Value, value)?));
+            return Err(refusal_for(alloc, Code::Value, value));
         }
     }
     Ok(())
@@ -153,7 +153,7 @@ pub(crate) fn check_values(alloc: Global, kind: Takes, clause: &Clause<'_>) -> R
         (some_values kind clause.now.keyword.now clause.now.values.now) }
 {
     match clause.values {
-        [] => Err(Refusal::Slip(slip_at(alloc, Code::Missing, clause.keyword)?)),
+        [] => Err(refusal_at(alloc, Code::Missing, clause.keyword)),
         [_, ..] => check_all(alloc, kind, clause.values),
     }
 }
@@ -190,11 +190,9 @@ pub(crate) fn one_value(alloc: Global, kind: Takes, clause: &Clause<'_>) -> Resu
     ensures { Gives slip_told result (one_value kind clause.now.keyword.now clause.now.values.now) }
 {
     match clause.values {
-        [] => Err(Refusal::Slip(slip_at(alloc, Code::Missing, clause.keyword)?)),
-        [value, ..] if !is_value(kind, value) => {
-            Err(Refusal::Slip(slip_for(alloc, Code::Value, value)?))
-        }
+        [] => Err(refusal_at(alloc, Code::Missing, clause.keyword)),
+        [value, ..] if !is_value(kind, value) => { Err(refusal_for(alloc, Code::Value, value)) }
         [value] => Ok(word_of(alloc, value)?),
-        [_, second, ..] => Err(Refusal::Slip(slip_for(alloc, Code::Value, second)?)),
+        [_, second, ..] => Err(refusal_for(alloc, Code::Value, second)),
     }
 }

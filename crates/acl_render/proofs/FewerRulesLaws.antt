@@ -15,6 +15,7 @@ use Rattle.acl_target.specs.declared.targets.Kind.{Kind}
 use Rattle.acl_target.specs.declared.targets.Kind.TheVariants.{Cisco, Juniper, Iptables, Nftables}
 use Rattle.acl_platform.specs.declared.filters.Filter.{Filter}
 use Rattle.acl_platform.specs.declared.filters.Limit.{Limit}
+use Rattle.acl_platform.specs.declared.filters.Feature.TheVariants.{TcpInitial, SctpPorts}
 use Rattle.acl_platform.specs.declared.filters.Limit.TheVariants.{NameClash, NameLength, TooManyEntries, Unsupported}
 use Rattle.acl_platform.specs.declared.rules.Rule.{Rule}
 use Rattle.acl_platform.specs.Limits.{count_limit, filter_limit, first_limit, is_name_taken, names_sctp_ports}
@@ -70,18 +71,20 @@ name-free fewer earlier r h none = left-none (λ (e : Rule). bytes_eq e.name r.n
 cisco-falls : IsFalling cisco.rule_limit
 cisco-falls fewer earlier r h none =
     let first = not-limited (nat_lt 64 (length r.name)) (NameLength (length earlier)) _ none in
-    let second = not-limited (cisco.is_unsupported r) (Unsupported (length earlier)) None first.1 in
+    let second = not-limited (cisco.asks_initial_in_ipv6 r) (Unsupported (length earlier) TcpInitial) _ first.1 in
+    let third = not-limited (names_sctp_ports r) (Unsupported (length earlier) SctpPorts) None second.1 in
     if-none (nat_lt 64 (length r.name)) (NameLength (length fewer)) _ first.0
-    (if-none (cisco.is_unsupported r) (Unsupported (length fewer)) None second.0 refl)
+    (if-none (cisco.asks_initial_in_ipv6 r) (Unsupported (length fewer) TcpInitial) _ second.0
+    (if-none (names_sctp_ports r) (Unsupported (length fewer) SctpPorts) None third.0 refl))
 
 junos-falls : IsFalling junos.rule_limit
 junos-falls fewer earlier r h none =
     let first = not-limited (nat_lt 64 (length r.name)) (NameLength (length earlier)) _ none in
     let second = not-limited (is_name_taken earlier r) (NameClash (length earlier)) _ first.1 in
-    let third = not-limited (names_sctp_ports r) (Unsupported (length earlier)) None second.1 in
+    let third = not-limited (names_sctp_ports r) (Unsupported (length earlier) SctpPorts) None second.1 in
     if-none (nat_lt 64 (length r.name)) (NameLength (length fewer)) _ first.0
     (if-none (is_name_taken fewer r) (NameClash (length fewer)) _ (name-free fewer earlier r h second.0)
-    (if-none (names_sctp_ports r) (Unsupported (length fewer)) None third.0 refl))
+    (if-none (names_sctp_ports r) (Unsupported (length fewer) SctpPorts) None third.0 refl))
 
 ipt-falls : IsFalling ipt.rule_limit
 ipt-falls fewer earlier r h none =

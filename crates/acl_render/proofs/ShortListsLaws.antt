@@ -2,7 +2,8 @@
 use Rattle.std.proofs.Common.{◌≡◌, ℕ, ◌≤◌, List, [], ◌∷◌, Option, None}
 use Rattle.std.specs.List.{AllByRecursion}
 use Rattle.acl_packet.specs.declared.addresses.Families.{Families}
-use Rattle.acl_sets.specs.LeastLists.{any_has, IsFewest}
+use Rattle.acl_sets.specs.LeastLists.{IsFewest}
+use Rattle.acl_packet.specs.AddressLists.{any_has}
 use Rattle.acl_sets.proofs.LeastListLaws.{least_list-fewest}
 use Rattle.acl_target.specs.declared.targets.Kind.{Kind}
 use Rattle.acl_target.specs.declared.targets.Kind.TheVariants.{Cisco, Juniper, Iptables, Nftables}

@@ -1,7 +1,8 @@
 -- How short the filters are that a platform takes.
 use Rattle.std.specs.Prelude.{◌≡◌, ◌≤◌, None}
 use Rattle.std.specs.List.{AllByRecursion}
-use Rattle.acl_sets.specs.LeastLists.{any_has, IsFewest}
+use Rattle.acl_sets.specs.LeastLists.{IsFewest}
+use Rattle.acl_packet.specs.AddressLists.{any_has}
 use Rattle.acl_platform.specs.declared.filters.Filter.{Filter}
 use Rattle.acl_platform.specs.SoundFilters.{IsSound}
 use Rattle.acl_render.specs.PlatformFiles.{count_of, limit_of}

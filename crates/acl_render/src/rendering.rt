@@ -1,6 +1,6 @@
 ghost use Rattle.std.specs.Prelude.{IsTrue};
 ghost use Rattle.std.specs.List.{All};
-ghost use Rattle.acl_text.specs.Output.{Puts};
+ghost use Rattle.acl_text.specs.Puts.{Puts};
 ghost use Rattle.acl_platform.specs.Platforms.{DecidesAs};
 ghost use Rattle.acl_render.specs.PlatformFiles.{AreApart, IsFileText, IsTaken, text_on};
 
@@ -19,8 +19,7 @@ pub fn render<O: Out>(kind: Kind, filters: &[Filter], out: &mut O) -> Result<(),
     requires open { IsTrue (O.is_open out.old) }
     requires taken { All (IsTaken kind) filters.now }
     requires apart { AreApart filters.now }
-    ensures puts { Puts O.told O.faults O.refusals O.is_open O.keeps_rest out.old out.new
-        (text_on kind filters.now) result }
+    ensures puts { Puts O.Out out.old out.new (text_on kind filters.now) result }
     ensures accepted { IsFileText kind DecidesAs filters.now filters.now }
 {
     match kind {

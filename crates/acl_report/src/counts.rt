@@ -1,9 +1,8 @@
 ghost use Rattle.std.specs.Prelude.{◌≡◌, ◌++◌, true, OnOk};
 ghost use Rattle.acl_report.specs.Reports.{count_line};
 
-use acl_host::Whole;
 use acl_target::{Target, put_target};
-use acl_text::{Memory, Out, PutFault, put_number};
+use acl_text::{Memory, Out, PutFault, Whole, put_number};
 
 #[tactic(auto, unfolding(crate::specs::Reports::count_line))]
 fn put_count_line(

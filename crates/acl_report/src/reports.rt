@@ -2,11 +2,11 @@ ghost use Rattle.std.specs.Prelude.{◌≡◌, ◌++◌, true, flat_map, zip, If
 ghost use Rattle.acl_report.specs.Reports.{block_lines, terms_report};
 
 use crate::term_lines::BlockLines;
-use acl_host::{Day, Whole};
+use acl_days::Day;
 use acl_load::{Loaded, Terms};
 use acl_policy::Block;
 use acl_splice::Sources;
-use acl_text::{Memory, PutFault};
+use acl_text::{Memory, PutFault, Whole};
 use std::alloc::Global;
 
 // Puts the lines on the terms of each block, which are those of the list at its place.

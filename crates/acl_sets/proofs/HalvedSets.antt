@@ -13,7 +13,8 @@ use Rattle.acl_packet.specs.declared.addresses.Family.{Family}
 use Rattle.acl_packet.specs.declared.addresses.Prefix.{Prefix}
 use Rattle.acl_packet.specs.Addresses.{width_of, size_of, has_address, IsPrefixOf}
 use Rattle.acl_text.proofs.ListLaws.{all_append}
-use Rattle.acl_sets.specs.LeastLists.{any_has, LiesIn, IsMaximal, IsInOrder, IsLeastList, IsFewest}
+use Rattle.acl_sets.specs.LeastLists.{LiesIn, IsMaximal, IsInOrder, IsLeastList, IsFewest}
+use Rattle.acl_packet.specs.AddressLists.{any_has}
 use Rattle.acl_sets.specs.ComputableLeastLists.{block}
 use Rattle.acl_sets.proofs.SetFacts.{and_out}
 use Rattle.acl_sets.proofs.Powers.{Aligned, nested, same_block}

@@ -9,7 +9,8 @@ use Rattle.acl_packet.specs.declared.addresses.Prefix.{Prefix}
 use Rattle.acl_packet.specs.Addresses.{width_of, has_address, IsPrefixOf}
 use Rattle.acl_sets.specs.declared.sets.Range.{Range}
 use Rattle.acl_sets.specs.Ranges.{holds, IsNormal}
-use Rattle.acl_sets.specs.LeastLists.{any_has, IsAddressSet, IsMaximal, IsLeastList, IsFewest, LeastListHolds, LeastListIsFewest, OneLeastList}
+use Rattle.acl_sets.specs.LeastLists.{IsAddressSet, IsMaximal, IsLeastList, IsFewest, LeastListHolds, LeastListIsFewest, OneLeastList}
+use Rattle.acl_packet.specs.AddressLists.{any_has}
 use Rattle.acl_sets.proofs.RangeLaws.{past_top}
 use Rattle.acl_sets.proofs.BlockFacts.{bounds, within_space}
 use Rattle.acl_sets.proofs.HalvedSets.{halved, halved-holds, halved-least, halved-fewest}

@@ -2,14 +2,11 @@
 -- address. Prefixes are those of RFC 4632 section 3.1 and RFC 4291 section 2.3. A set is told by
 -- its membership, a test on numbers, so that a list of ranges and a list of prefixes each give one.
 use Rattle.std.specs.Prelude.{ℕ, ◌≡◌, ◌+◌, ◌^◌, ◌<◌, ◌≤◌, Bool, false, IsTrue, List, [], ◌∷◌, length, Contains}
-use Rattle.std.specs.List.{list_any, All}
+use Rattle.std.specs.List.{All}
 use Rattle.acl_packet.specs.declared.addresses.Family.{Family}
 use Rattle.acl_packet.specs.declared.addresses.Prefix.{Prefix}
+use Rattle.acl_packet.specs.AddressLists.{any_has}
 use Rattle.acl_packet.specs.Addresses.{IsPrefixOf, has_address, size_of, width_of}
-
--- Some prefix of a list has the address.
-abbrev pub any_has : List Prefix → ℕ → Bool
-any_has ps a = list_any (λ p. has_address p a) ps
 
 -- A set of addresses of a family has no number behind the last address.
 abbrev pub IsAddressSet : Family → (ℕ → Bool) → Type 0

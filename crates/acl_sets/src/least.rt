@@ -2,7 +2,8 @@ ghost use Rattle.std.specs.Prelude.{◌≡◌, ℕ, ◌+◌, ◌-◌, ◌^◌, �
 ghost use Rattle.std.specs.List.{All};
 ghost use Rattle.acl_packet.specs.Addresses.{width_of, IsPrefixOf};
 ghost use Rattle.acl_sets.specs.Ranges.{holds};
-ghost use Rattle.acl_sets.specs.LeastLists.{any_has, IsLeastList, IsFewest, LeastListHolds, LeastListIsFewest, OneLeastList};
+ghost use Rattle.acl_sets.specs.LeastLists.{IsLeastList, IsFewest, LeastListHolds, LeastListIsFewest, OneLeastList};
+ghost use Rattle.acl_packet.specs.AddressLists.{any_has};
 ghost use Rattle.acl_sets.specs.ComputableLeastLists.{halved_space};
 
 use crate::cuts::cut_ranges;

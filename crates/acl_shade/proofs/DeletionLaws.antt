@@ -1,5 +1,5 @@
 -- A block without its shaded terms.
-use Rattle.std.proofs.Common.{◌≡◌, Bool, true, false, cond, ◌&&◌, ◌||◌, List, [], ◌∷◌, ◌++◌, map, ◌⊎◌, inl, inr, refl, ap, sym, ◌∙◌, subst}
+use Rattle.std.proofs.Common.{◌≡◌, ℕ, ◌+◌, Bool, true, false, cond, ◌&&◌, ◌||◌, List, [], ◌∷◌, ◌++◌, map, ◌⊎◌, inl, inr, refl, ap, sym, ◌∙◌, subst}
 use Rattle.std.specs.Prelude.{Contains, nat_le, ◌==◌, if◌then◌else◌}
 use Rattle.std.specs.List.{AllByRecursion, list_any}
 use Rattle.std.proofs.lemmas.Bool.{and_from, and_parts, both_ways, cases_Bool, false_from_ne_true, or_cases, or_from, or_left, or_right}
@@ -7,7 +7,7 @@ use Rattle.std.proofs.lemmas.List.Folds.{list_any-append}
 use Rattle.acl_packet.specs.declared.addresses.Family.{Family}
 use Rattle.acl_packet.specs.declared.packets.Packet.{Packet}
 use Rattle.acl_packet.specs.Packets.{has_ack_or_rst}
-use Rattle.acl_host.specs.declared.clocks.Day.{Day}
+use Rattle.acl_days.specs.declared.days.Day.{Day}
 use Rattle.acl_sets.specs.Ranges.{holds}
 use Rattle.acl_target.specs.declared.targets.Target.{Target}
 use Rattle.acl_target.specs.FilterEndings.{ending_outcome}
@@ -21,7 +21,8 @@ use Rattle.acl_terms.specs.Outcomes.{decides, mode_of, outcome_of, policy_outcom
 use Rattle.acl_terms.specs.Resolved.{IsEmptyIn, destination_in, ends_match, has_protocol, is_term_live, matches, ports_match, source_in}
 use Rattle.acl_terms.proofs.LifeLaws.{live-law}
 use Rattle.acl_shade.specs.ComputableShading.{is_shaded, shades, unshaded, unshaded_behind}
-use Rattle.acl_shade.specs.Deletions.{ShadedTermsCanGo, ShadingTermStays}
+use Rattle.acl_shade.specs.Deletions.{AnyShadedTermsCanGo, ShadedTermsCanGo, ShadingTermStays, without, without_from}
+use Rattle.acl_shade.proofs.ChosenTerms.{is_told, only-shaded, only-told, OnlyShaded, told_go}
 use Rattle.acl_shade.specs.Shading.{LiesWithinIn, OptionCovers, PortsNamed, Shades}
 use Rattle.acl_shade.proofs.ShadingLaws.{shading-law}
 
@@ -147,22 +148,32 @@ told-failing test tell none true x rest xs t e =
     e ∙ sym (ap (λ b. cond b (tell x) (told test tell none xs)) t)
 told-failing test tell none false x rest xs t e = ap (λ y. cond (test x) (tell x) y) e
 
-pub first-stays : {A : Type 0} (targets : List Target) (today : Day) (test : Term → Bool) (tell : Term → A) (none : A)
+first-stays : {A : Type 0} (targets : List Target) (today : Day) (test : Term → Bool) (tell : Term → A) (none : A)
     → ((i j : Term) → Shades targets today i j → test j ≡ true → test i ≡ true)
-    → (earlier xs : List Term) → list_any test earlier ≡ false
-    → told test tell none (unshaded_behind (λ t. t) targets today earlier xs) ≡ told test tell none xs
-first-stays targets today test tell none keeps earlier [] fail = refl
-first-stays targets today test tell none keeps earlier (x ∷ xs) fail =
-    let rest = unshaded_behind (λ t. t) targets today (earlier ++ x ∷ []) xs in
+    → (chosen : ℕ → Bool) (place : ℕ) (earlier xs : List Term) → OnlyShaded targets today chosen place earlier xs
+    → list_any test earlier ≡ false
+    → told test tell none (without_from chosen place xs) ≡ told test tell none xs
+first-stays targets today test tell none keeps chosen place earlier [] h fail = refl
+first-stays targets today test tell none keeps chosen place earlier (x ∷ xs) h fail =
+    let rest = without_from chosen (place + 1) xs in
     elim (cases_Bool (test x)) [
-      | inl passed ↦ told-passing test tell none (is_shaded targets today earlier x) x rest xs passed
-          (false_from_ne_true (is_shaded targets today earlier x) (λ s. both_ways (list_any test earlier) fail
-          (shaded-passes targets today test keeps earlier x s passed)))
-      | inr fails ↦ told-failing test tell none (is_shaded targets today earlier x) x rest xs fails
-          (first-stays targets today test tell none keeps (earlier ++ x ∷ []) xs
+      | inl passed ↦ told-passing test tell none (chosen place) x rest xs passed
+          (false_from_ne_true (chosen place) (λ c. both_ways (list_any test earlier) fail
+          (shaded-passes targets today test keeps earlier x (h.0 c) passed)))
+      | inr fails ↦ told-failing test tell none (chosen place) x rest xs fails
+          (first-stays targets today test tell none keeps chosen (place + 1) (earlier ++ x ∷ []) xs h.1
           (list_any-append test earlier (x ∷ [])
           ∙ or_from (list_any test earlier) (test x || false) fail (or_from (test x) false fails refl)))
     ]
+
+-- the same where all shaded terms go at once
+unshaded-stay : {A : Type 0} (targets : List Target) (today : Day) (test : Term → Bool) (tell : Term → A) (none : A)
+    → ((i j : Term) → Shades targets today i j → test j ≡ true → test i ≡ true) → (terms : List Term)
+    → told test tell none (unshaded targets today terms) ≡ told test tell none terms
+unshaded-stay targets today test tell none keeps terms =
+    ap (λ ts. told test tell none ts) (told_go targets today terms)
+    ∙ first-stays targets today test tell none keeps (is_told targets today terms) 0 [] terms
+    (only-told targets today terms [] terms refl) refl
 
 -- ---- the laws
 
@@ -177,7 +188,7 @@ told-any test (x ∷ xs) = one (test x) (list_any test xs) (told test (λ _. tru
 pub shading-stays : ShadingTermStays
 shading-stays targets today terms test keeps =
     told-any test (unshaded targets today terms)
-    ∙ first-stays targets today test (λ _. true) false keeps [] terms refl
+    ∙ unshaded-stay targets today test (λ _. true) false keeps terms
     ∙ sym (told-any test terms)
 
 told-outcome : (target : Target) (today : Day) (p : Packet) (xs : List Term) → policy_outcome target today xs p
@@ -187,11 +198,19 @@ told-outcome target today p [] = refl
 told-outcome target today p (x ∷ xs) =
     ap (λ o. cond (decides target today p x) (outcome_of x) o) (told-outcome target today p xs)
 
+pub any-shaded-go : AnyShadedTermsCanGo
+any-shaded-go targets today terms chosen target p shaded one =
+    told-outcome target today p (without chosen terms)
+    ∙ first-stays targets today (decides target today p) outcome_of (ending_outcome target.ending p)
+    (decides-too targets today target p one) chosen 0 [] terms
+    (only-shaded targets today terms chosen shaded [] terms refl) refl
+    ∙ sym (told-outcome target today p terms)
+
 pub shaded-go : ShadedTermsCanGo
 shaded-go targets today terms target p one =
     told-outcome target today p (unshaded targets today terms)
-    ∙ first-stays targets today (decides target today p) outcome_of (ending_outcome target.ending p)
-    (decides-too targets today target p one) [] terms refl
+    ∙ unshaded-stay targets today (decides target today p) outcome_of (ending_outcome target.ending p)
+    (decides-too targets today target p one) terms
     ∙ sym (told-outcome target today p terms)
 
 -- ---- things that stand for terms

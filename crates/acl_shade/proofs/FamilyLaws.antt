@@ -11,7 +11,7 @@ use Rattle.acl_sets.specs.ComputableSets.{all_covered, covers, is_all}
 use Rattle.acl_sets.proofs.RangeLaws.{at_top, ends_of, in_range}
 use Rattle.acl_sets.proofs.ComputableSetLaws.{covered-subset, covers-holds, holds-covers, subset-covered}
 use Rattle.acl_terms.specs.declared.terms.Term.{Term}
-use Rattle.acl_terms.specs.Matching.{foreign_of}
+use Rattle.acl_packet.specs.Packets.{foreign_of}
 use Rattle.acl_terms.specs.Resolved.{IsEmptyIn, destination_in, has_protocol, is_empty_in, source_in}
 use Rattle.acl_terms.proofs.EmptyLaws.{empty-law}
 use Rattle.acl_terms.proofs.TestLaws.{true-not}

@@ -1,3 +1,4 @@
+pub mod ChosenTerms
 pub mod FamilyLaws
 pub mod ShadingLaws
 pub mod PlaceLaws

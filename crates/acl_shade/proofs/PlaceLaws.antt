@@ -8,7 +8,7 @@ use Rattle.std.proofs.lemmas.List.{get_or-take, length-take-le}
 use Rattle.std.proofs.lemmas.List.Quantifiers.{position-Some}
 use Rattle.std.proofs.lemmas.List.Sums.{fails_before_first}
 use Rattle.std.proofs.lemmas.Option.{none-some, slice_get-get_or}
-use Rattle.acl_host.specs.declared.clocks.Day.{Day}
+use Rattle.acl_days.specs.declared.days.Day.{Day}
 use Rattle.acl_target.specs.declared.targets.Target.{Target}
 use Rattle.acl_terms.specs.declared.terms.Term.{Term}
 use Rattle.acl_shade.specs.ComputableShading.{shaded_by, shades}
@@ -18,7 +18,7 @@ use Rattle.acl_shade.proofs.ShadingLaws.{shading-law}
 -- ---- places
 
 -- where nothing passes there is no place, and what is not the place of a pass fails
-fails-where-none : {X : Type 0} (p : X → Bool) (xs : List X) (k : ℕ) (d : X) → position p xs ≡ None
+pub fails-where-none : {X : Type 0} (p : X → Bool) (xs : List X) (k : ℕ) (d : X) → position p xs ≡ None
     → k < length xs → p (get_or xs k d) ≡ false
 fails-where-none p xs k d e h = elim (cases_Bool (nat_lt (position_or_len p xs) (length xs))) [
   | inl passed ↦ absurd (none-some (position_or_len p xs) (sym e
@@ -41,7 +41,7 @@ module _ (targets : List Target) (today : Day) (terms : List Term) (place : ℕ)
         (sym (slice_get-get_or terms place d within)) s);
   }
 
-  of-places : (k : ℕ) → ShadesAt targets today terms k place
+  pub of-places : (k : ℕ) → ShadesAt targets today terms k place
       → Shades targets today (get_or terms k d) (get_or terms place d)
   of-places k s =
       let before = s.earlier in

@@ -20,11 +20,11 @@ ghost use Rattle.acl_shade.specs.ComputableShading.{
 };
 ghost use Rattle.acl_shade.specs.Shading.{IsShadedBy, ShadesAt};
 
-use acl_host::Day;
+use acl_days::Day;
 use acl_packet::Family;
 use acl_sets::{Range, RangeSet};
 use acl_target::Target;
-use acl_terms::{Opt, Term, destination_in, foreign_of, is_empty_in, is_live, source_in};
+use acl_terms::{Opt, Term, destination_in, is_empty_in, is_live, source_in};
 
 // ---- ports, types and options
 
@@ -150,7 +150,7 @@ fn protocols_within(family: Family, earlier: &Term, term: &Term) -> bool
     earlier.protos.is_all()
         || !term.protos.is_all()
             && all_have_others(
-                foreign_of(family),
+                family.foreign_number(),
                 earlier.protos.ranges(),
                 term.protos.ranges(),
             )

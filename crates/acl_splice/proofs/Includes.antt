@@ -8,8 +8,9 @@ use Rattle.acl_text.specs.declared.faults.Code.TheVariants.{TooLong, NoFile, Inc
 use Rattle.acl_host.specs.Files.{File, file_at}
 use Rattle.acl_splice.specs.Folders.{folder_of}
 use Rattle.acl_splice.specs.Splices.{Splice, nothing_read, with_include, is_long}
-use Rattle.acl_splice.specs.Splicing.{Include, fault, behind_file, behind_include, splice_of}
+use Rattle.acl_splice.specs.Splicing.{Include, behind_file, behind_include, splice_of}
 use Rattle.acl_text.specs.Answers.{Leaves}
+use Rattle.acl_text.specs.Refusals.{fault}
 use Rattle.acl_host.specs.WholeFiles.{read_told}
 use Rattle.acl_host.specs.declared.look_faults.ReadFault.{ReadFault}
 

@@ -1,3 +1,4 @@
+pub mod AnsweredFaults
 pub mod FeedLaws
 pub mod FolderLaws
 pub mod Includes

@@ -1,19 +1,15 @@
 -- The splice: the lines of the file that an include line names stand in its place, or it is the first fault.
 use Prim.Native.Nat.{zero, suc}
 use Rattle.std.specs.Prelude.{ℕ, ◌+◌, nat_le, if◌then◌else◌, List, [], ◌∷◌, ◌++◌, length, Result, Ok, Err}
-use Rattle.acl_text.specs.declared.faults.Code.{Code}
 use Rattle.acl_text.specs.declared.faults.Code.TheVariants.{TooLong, NoFile, IncludeDepth, IncludePath, IncludeCount}
 use Rattle.acl_text.specs.declared.faults.Fault.{Fault}
+use Rattle.acl_text.specs.Refusals.{fault}
 use Rattle.acl_host.specs.Files.{File, file_at}
 use Rattle.acl_text.specs.Steps.{◌>>=◌, or_err}
 use Rattle.acl_text.specs.Cursors.{lines_of}
 use Rattle.acl_splice.specs.Folders.{folder_of}
 use Rattle.acl_splice.specs.IncludeLines.{Asked, Nothing, Wrong, Wanted, asked_in}
 use Rattle.acl_splice.specs.Splices.{Splice, nothing_read, with_line, with_file, with_include, is_long}
-
--- what is wrong, the label of the file, its line, and the word in error
-abbrev pub fault : Code → List ℕ → ℕ → List ℕ → Fault
-fault code label line word = record { code = code; label = label; line = line; word = word }
 
 -- What is read behind an include line: from the label of its file, its line, its path, and what was read so far.
 abbrev pub Include : Type 0

@@ -8,12 +8,11 @@ ghost use Rattle.acl_text.specs.Answers.{Gives, Leaves};
 ghost use Rattle.acl_host.specs.WholeFiles.{ReadsFiles, read_told};
 
 use crate::folders::folder_of;
-use crate::line_faults::line_fault;
 use crate::partial_splices::{MOST_OF_FILE, PartialSplice};
 use crate::sources::Sources;
 use crate::splicing::SplicedFile;
 use acl_host::{ReadFault, Tree, TreeFault};
-use acl_text::Code;
+use acl_text::{Code, Fault};
 use std::alloc::Global;
 use std::str;
 
@@ -28,8 +27,7 @@ pub type GatherFault = ReadFault;
 pub fn gather<T: Tree>(alloc: Global, tree: &mut T, path: &str) -> Result<Sources, GatherFault>
     ensures gives { IfSome (T.files tree.old) (λ fs. Gives read_told result
         (splice_of fs path.now)) }
-    ensures reads { ReadsFiles T.files T.begun T.faults T.refusals T.list_faults T.read_faults
-        tree.old tree.new result }
+    ensures reads { ReadsFiles T.Tree tree.old tree.new result }
     ensures labelled { IfOk result IsLabelled }
 {
     let mut splice = PartialSplice::new(alloc);
@@ -57,8 +55,7 @@ fn gather_into<T: Tree>(
     requires { sources.old ≡ nothing_read }
     ensures gives { IfSome (T.files tree.old) (λ fs. Leaves read_told sources.new result
         (splice_of fs path.now)) }
-    ensures reads { ReadsFiles T.files T.begun T.faults T.refusals T.list_faults T.read_faults
-        tree.old tree.new result }
+    ensures reads { ReadsFiles T.Tree tree.old tree.new result }
     ensures labelled { OnOk result (IsLabelled sources.new) }
 {
     match tree.read(alloc, path, MOST_OF_FILE + 1) {
@@ -70,13 +67,7 @@ fn gather_into<T: Tree>(
             };
             policy.add(alloc, tree, sources, bytes.as_slice())
         }
-        Err(TreeFault::Absent) => Err(ReadFault::Fault(line_fault(
-            alloc,
-            Code::NoFile,
-            path.as_bytes(),
-            0,
-            b"",
-        )?)),
+        Err(TreeFault::Absent) => Err(ReadFault::Fault(Fault::of_file(alloc, Code::NoFile, path)?)),
         Err(TreeFault::Failed) => Err(ReadFault::Outside),
         Err(TreeFault::Memory) => Err(ReadFault::Memory),
     }

@@ -4,7 +4,6 @@
 mod folders;
 mod gathering;
 mod include_lines;
-mod line_faults;
 mod partial_splices;
 mod sources;
 mod splicing;

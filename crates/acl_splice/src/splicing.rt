@@ -3,12 +3,12 @@ ghost use Rattle.std.specs.String.{string_bytes};
 ghost use Rattle.acl_lines.specs.LineTexts.{HasNoFeed};
 ghost use Rattle.acl_splice.specs.IncludeLines.{is_path, asked_in};
 ghost use Rattle.acl_splice.specs.Labels.{GoesOn};
-ghost use Rattle.acl_splice.specs.Splicing.{behind_line, behind_file, behind_include, fault};
+ghost use Rattle.acl_splice.specs.Splicing.{behind_line, behind_file, behind_include};
 ghost use Rattle.acl_text.specs.Answers.{Leaves};
+ghost use Rattle.acl_text.specs.Refusals.{fault};
 ghost use Rattle.acl_host.specs.WholeFiles.{ReadsFiles, read_told};
 
 use crate::include_lines::{Asked, asked_in};
-use crate::line_faults::line_fault;
 use crate::partial_splices::{MOST_OF_FILE, PartialSplice};
 use acl_host::{ReadFault, Tree, TreeFault};
 use acl_text::{Code, Cursor, Fault, Memory, Place};
@@ -55,7 +55,7 @@ impl<'a> SplicedFile<'a> {
     fn fault(&self, alloc: Global, code: Code, line: u32, word: &[u8]) -> Result<Fault, Memory>
         ensures { IfOk result (λ f. f ≡ fault code self.now.label.now line word.now) }
     {
-        line_fault(alloc, code, self.label, line, word)
+        Fault::new(alloc, code, self.label, line, word)
     }
 
     /// The include line is met.
@@ -73,8 +73,7 @@ impl<'a> SplicedFile<'a> {
         ensures gives { IfSome (T.files tree.old) (λ fs. Leaves read_told sources.new result
             (behind_include self.now.levels fs self.now.folder.now self.now.label.now line path.now
             sources.old)) }
-        ensures reads { ReadsFiles T.files T.begun T.faults T.refusals T.list_faults T.read_faults
-            tree.old tree.new result }
+        ensures reads { ReadsFiles T.Tree tree.old tree.new result }
         ensures goes_on { OnOk result (GoesOn sources.old sources.new) }
     {
         if self.levels == 0 {
@@ -120,8 +119,7 @@ impl<'a> SplicedFile<'a> {
         ensures gives { IfSome (T.files tree.old) (λ fs. Leaves read_told sources.new result
             (behind_line (behind_include self.now.levels fs self.now.folder.now) self.now.label.now
             place.file place.line text.now (asked_in text.now) sources.old)) }
-        ensures reads { ReadsFiles T.files T.begun T.faults T.refusals T.list_faults T.read_faults
-            tree.old tree.new result }
+        ensures reads { ReadsFiles T.Tree tree.old tree.new result }
         ensures goes_on { OnOk result (GoesOn sources.old sources.new) }
     {
         match asked_in(text) {
@@ -153,8 +151,7 @@ impl<'a> SplicedFile<'a> {
         ensures gives { IfSome (T.files tree.old) (λ fs. Leaves read_told sources.new result
             (behind_file (behind_include self.now.levels fs self.now.folder.now) self.now.label.now
             bytes.now sources.old)) }
-        ensures reads { ReadsFiles T.files T.begun T.faults T.refusals T.list_faults T.read_faults
-            tree.old tree.new result }
+        ensures reads { ReadsFiles T.Tree tree.old tree.new result }
         ensures goes_on { OnOk result (GoesOn sources.old sources.new) }
         ensures labels { OnOk result (0 < length sources.new.labels) }
     {

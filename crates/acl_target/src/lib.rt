@@ -6,5 +6,5 @@ mod target_texts;
 mod targets;
 
 pub use clashes::clash;
-pub use target_texts::put_target;
+pub use target_texts::{kind_text, put_target};
 pub use targets::{Ending, Kind, Target, Targets};

@@ -1,12 +1,14 @@
 ghost use Rattle.std.specs.Prelude.{◌≡◌, [], ◌∷◌, IsTrue, codes};
-ghost use Rattle.acl_text.specs.Output.{Puts, joined};
+ghost use Rattle.acl_text.specs.Output.{joined};
+ghost use Rattle.acl_text.specs.Puts.{Puts};
 ghost use Rattle.acl_target.specs.TargetTexts.{kind_text, inet_text, families_text, target_text};
 
 use crate::targets::{Kind, Target};
 use acl_packet::Families;
 use acl_text::{Out, PutFault, put_pieces};
 
-fn kind_text(kind: Kind) -> &'static [u8]
+/// The word of a target line that names the platform, and of `platform::`.
+pub fn kind_text(kind: Kind) -> &'static [u8]
     ensures { result.now ≡ kind_text kind }
 {
     match kind {
@@ -43,7 +45,7 @@ fn put_words<'a, O: Out>(
     families: &'a [u8],
 ) -> Result<(), PutFault>
     requires { IsTrue (O.is_open out.old) }
-    ensures { Puts O.told O.faults O.refusals O.is_open O.keeps_rest out.old out.new
+    ensures { Puts O.Out out.old out.new
         (joined (kind.now ∷ codes " " ∷ name.now ∷ codes " " ∷ families.now ∷ [])) result }
 {
     put_pieces(out, &[kind, b" ", name, b" ", families])
@@ -53,8 +55,7 @@ fn put_words<'a, O: Out>(
 #[tactic(auto, unfolding(crate::specs::TargetTexts::target_text))]
 pub fn put_target<O: Out>(out: &mut O, target: &Target) -> Result<(), PutFault>
     requires { IsTrue (O.is_open out.old) }
-    ensures { Puts O.told O.faults O.refusals O.is_open O.keeps_rest out.old out.new
-        (target_text target.now) result }
+    ensures { Puts O.Out out.old out.new (target_text target.now) result }
 {
     let kind = kind_text(target.kind);
     let families = families_text(target.kind, target.families);

@@ -5,19 +5,20 @@ use Rattle.std.specs.Str.{bytes_eq}
 use Rattle.std.proofs.lemmas.Bool.Decides.{same_from_decides}
 use Rattle.std.proofs.lemmas.Bool.{both_ways, eq-eqb, eqb-true, or_cases, or_left, or_right, and_from, and_parts}
 use Rattle.std.proofs.lemmas.List.Folds.{list_any-append}
+use Rattle.std.specs.Option.{option_or}
 use Rattle.acl_text.specs.declared.faults.Code.TheVariants as codes
 use Rattle.acl_text.specs.declared.faults.Slip.{Slip}
 use Rattle.acl_text.proofs.OptionStepLaws.{same_bytes}
+use Rattle.acl_text.specs.Refusals.{first_in}
 use Rattle.acl_sets.specs.Ranges.{IsNormal, Numbers, holds}
 use Rattle.acl_words.specs.declared.word_lists.Word.{Word}
-use Rattle.acl_naming.specs.Checking.{first_of}
 use Rattle.acl_naming.specs.Definitions.{Definition, Naming}
 use Rattle.acl_naming.specs.Ports.{top_port}
 use Rattle.acl_naming.specs.Reach.{ReachesPort}
 use Rattle.acl_terms.specs.DistinctSteps.{AreSame, has, new_words}
 use Rattle.acl_terms.specs.Matching.{AnyOf, IsPort, NamesPort}
 use Rattle.acl_terms.specs.Sets.{IsSetOf}
-use Rattle.acl_terms.specs.Slips.{first_in, is_defined, reaches_protocol, network_slip, service_slip, unless}
+use Rattle.acl_terms.specs.Slips.{is_defined, reaches_protocol, network_slip, service_slip, unless}
 use Rattle.acl_terms.proofs.SetLaws.{IsSetSoFar, any-join, begun-set, next-set, same-set}
 use Rattle.acl_terms.proofs.SlipLaws.{both-passed, unless-passed}
 use Rattle.acl_terms.proofs.WordLaws.{parts, passed}
@@ -43,7 +44,7 @@ passed-more question w seen only none passed = λ v h.
       ]
     ]
 
-first-answer : (a b c : Option Slip) → (a ≡ None → b ≡ c) → first_of a b ≡ first_of a c
+first-answer : (a b c : Option Slip) → (a ≡ None → b ≡ c) → option_or a b ≡ option_or a c
 first-answer None b c h = h refl
 first-answer (Some s) b c h = refl
 
@@ -54,7 +55,7 @@ module _ (question : Word → Option Slip) (only : AsksText question) where
       → first_in question (if c then new_words seen ws else w ∷ new_words (seen ++ w.text ∷ []) ws)
       ≡ first_in question (w ∷ ws)
   new-step true seen w ws e passed rest =
-      rest seen passed ∙ ap (λ o. first_of o (first_in question ws)) (sym (passed w e))
+      rest seen passed ∙ ap (λ o. option_or o (first_in question ws)) (sym (passed w e))
   new-step false seen w ws e passed rest =
       first-answer (question w) (first_in question (new_words (seen ++ w.text ∷ []) ws)) (first_in question ws)
       (λ none. rest (seen ++ w.text ∷ []) (passed-more question w seen only none passed))
@@ -187,13 +188,13 @@ same-question : {A : Type 0} (f g : A → Option Slip) (xs : List A) → ((x : A
     → first_in f xs ≡ first_in g xs
 same-question f g [] same = refl
 same-question f g (x ∷ xs) same =
-    ap (λ o. first_of o (first_in f xs)) (same x) ∙ ap (λ o. first_of (g x) o) (same-question f g xs same)
+    ap (λ o. option_or o (first_in f xs)) (same x) ∙ ap (λ o. option_or (g x) o) (same-question f g xs same)
 
 pub same-services : (services : List Definition) (ms ns : List ℕ) (words : List Word) → AreSame ms ns
     → first_in (service_slip services ms) words ≡ first_in (service_slip services ns) words
 same-services services ms ns words same =
     same-question (service_slip services ms) (service_slip services ns) words
-    (λ w. ap (λ b. first_of (unless (is_defined services w.text) codes.UnknownName w) (unless b codes.NoPortForProtocol w))
+    (λ w. ap (λ b. option_or (unless (is_defined services w.text) codes.UnknownName w) (unless b codes.NoPortForProtocol w))
     (same-all (reaches_protocol services w.text) ms ns same))
 
 same-admitted : {A : Type 0} (P Q : A → Type 0) (xs : List A) → ((x : A) → P x ↔ Q x) → AnyOf P xs → AnyOf Q xs
@@ -239,7 +240,7 @@ asks-service services protos = λ v w is none.
 pub slip-next : {A : Type 0} (question : A → Option Slip) (x : A) (old left : List A) (s : Option Slip)
     → old ≡ x ∷ left → question x ≡ None → first_in question old ≡ s → first_in question left ≡ s
 slip-next question x old left s is none had =
-    ap (λ o. first_of o (first_in question left)) (sym none) ∙ sym (ap (first_in question) is) ∙ had
+    ap (λ o. option_or o (first_in question left)) (sym none) ∙ sym (ap (first_in question) is) ∙ had
 
 -- ---- sets of names
 

@@ -10,7 +10,7 @@ use Rattle.acl_sets.proofs.RangeLaws.{ends_of, in_range, first-holds, empty-hold
 use Rattle.acl_sets.proofs.ComputableSetLaws.{covers-holds}
 use Rattle.acl_terms.proofs.TestLaws.{true-not}
 use Rattle.acl_terms.specs.declared.terms.Term.{Term}
-use Rattle.acl_terms.specs.Matching.{foreign_of}
+use Rattle.acl_packet.specs.Packets.{foreign_of}
 use Rattle.acl_terms.specs.Resolved.{IsEmptyIn, destination_in, has_no_protocol, has_none, is_empty_in, is_just, source_in}
 use Rattle.acl_sets.specs.ComputableSets.{is_all}
 

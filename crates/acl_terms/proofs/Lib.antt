@@ -1,3 +1,4 @@
+pub mod AnsweredSlips
 pub mod ComputedLaws
 pub mod DistinctLaws
 pub mod EmptyLaws

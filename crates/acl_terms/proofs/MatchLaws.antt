@@ -6,7 +6,7 @@ use Rattle.acl_packet.specs.declared.addresses.Family.TheVariants.{V4, V6}
 use Rattle.acl_packet.specs.declared.packets.Packet.{Packet}
 use Rattle.acl_packet.specs.Addresses.{width_of}
 use Rattle.acl_packet.specs.NumberWords.{protocol_in}
-use Rattle.acl_packet.specs.Packets.{IsPacket}
+use Rattle.acl_packet.specs.Packets.{IsPacket, foreign_of}
 use Rattle.acl_sets.specs.Ranges.{Numbers, holds}
 use Rattle.acl_sets.proofs.ComputableSetLaws.{covers-holds}
 use Rattle.acl_words.specs.declared.word_lists.Word.{Word}
@@ -14,7 +14,7 @@ use Rattle.acl_policy.specs.declared.raw_terms.RawTerm.{RawTerm}
 use Rattle.acl_naming.specs.Definitions.{Naming}
 use Rattle.acl_terms.specs.declared.options.Mode.{Mode}
 use Rattle.acl_terms.specs.declared.terms.Term.{Term}
-use Rattle.acl_terms.specs.Matching.{IsAddress, IsProtocol, IsProtocolIn, Matches, foreign_of, is_written, protocols_of}
+use Rattle.acl_terms.specs.Matching.{IsAddress, IsProtocol, IsProtocolIn, Matches, is_written, protocols_of}
 use Rattle.acl_terms.specs.Options.{option_of, passes}
 use Rattle.acl_terms.specs.Resolved.{IsResolved, destination_in, ends_match, has_protocol, matches, ports_match, sets_in, source_in}
 use Rattle.acl_terms.specs.Sets.{AreSetsOf, IsSetOf}

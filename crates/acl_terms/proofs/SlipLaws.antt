@@ -2,48 +2,49 @@
 use Rattle.std.proofs.Common.{◌≡◌, ℕ, Bool, true, false, List, [], ◌∷◌, ◌++◌, Option, None, Some, refl, ap, sym, ◌∙◌}
 use Rattle.std.specs.Prelude.{is_some, ◌≢◌, Err}
 use Rattle.std.proofs.lemmas.Bool.{both_ways}
+use Rattle.std.specs.Option.{option_or}
 use Rattle.acl_text.specs.declared.faults.Code.{Code}
 use Rattle.acl_text.specs.declared.faults.Slip.{Slip}
 use Rattle.acl_text.specs.declared.faults.Refusal.{Refusal}
+use Rattle.acl_text.specs.Refusals.{IsRefusalBy, Judges, first_in}
 use Rattle.acl_text.specs.declared.faults.Refusal.TheVariants as refusals
 use Rattle.acl_words.specs.declared.word_lists.Word.{Word}
 use Rattle.acl_policy.specs.declared.raw_terms.RawTerm.{RawTerm}
 use Rattle.acl_naming.specs.Definitions.{Definition}
-use Rattle.acl_naming.specs.Checking.{first_of, IsRefusal}
 use Rattle.acl_terms.specs.Matching.{only}
 use Rattle.acl_terms.specs.SetSteps.{ends_slip}
-use Rattle.acl_terms.specs.Slips.{Judges, first_in, first_unless, network_slip, networks_slip, service_slip, services_slip, slip_at, unless}
+use Rattle.acl_terms.specs.Slips.{first_unless, network_slip, networks_slip, service_slip, services_slip, slip_at, unless}
 use Rattle.acl_terms.proofs.WordLaws.{first-passed, some-only}
 
-pub first-of-assoc : {X : Type 0} (a b c : Option X) → first_of (first_of a b) c ≡ first_of a (first_of b c)
+pub first-of-assoc : {X : Type 0} (a b c : Option X) → option_or (option_or a b) c ≡ option_or a (option_or b c)
 first-of-assoc None b c = refl
 first-of-assoc (Some x) b c = refl
 
 pub first-in-append : {A : Type 0} (question : A → Option Slip) (xs ys : List A)
-    → first_in question (xs ++ ys) ≡ first_of (first_in question xs) (first_in question ys)
+    → first_in question (xs ++ ys) ≡ option_or (first_in question xs) (first_in question ys)
 first-in-append question [] ys = refl
 first-in-append question (x ∷ xs) ys =
-    ap (λ o. first_of (question x) o) (first-in-append question xs ys)
+    ap (λ o. option_or (question x) o) (first-in-append question xs ys)
     ∙ sym (first-of-assoc (question x) (first_in question xs) (first_in question ys))
 
 pub networks_by_ends : (networks : List Definition) (t : RawTerm) → networks_slip networks t ≡ ends_slip networks t
 networks_by_ends networks t =
     let q : Word → Option Slip = network_slip networks in
     first-in-append q (t.sources ++ t.source_excludes) (t.destinations ++ t.destination_excludes)
-    ∙ ap (λ o. first_of o (first_in q (t.destinations ++ t.destination_excludes)))
+    ∙ ap (λ o. option_or o (first_in q (t.destinations ++ t.destination_excludes)))
     (first-in-append q t.sources t.source_excludes)
-    ∙ ap (λ o. first_of (first_of (first_in q t.sources) (first_in q t.source_excludes)) o)
+    ∙ ap (λ o. option_or (option_or (first_in q t.sources) (first_in q t.source_excludes)) o)
     (first-in-append q t.destinations t.destination_excludes)
 
 pub services_by_ends : (services : List Definition) (protos : List ℕ) (t : RawTerm)
     → services_slip services protos t
-    ≡ first_of (first_in (service_slip services protos) t.source_ports) (first_in (service_slip services protos) t.destination_ports)
+    ≡ option_or (first_in (service_slip services protos) t.source_ports) (first_in (service_slip services protos) t.destination_ports)
 services_by_ends services protos t =
     first-in-append (service_slip services protos) t.source_ports t.destination_ports
 
 -- ---- answers of one word
 
-pub refused-is : (X : Type 0) (r : Refusal) (s : Slip) (o : Option Slip) → IsRefusal s r → o ≡ Some s
+pub refused-is : (X : Type 0) (r : Refusal) (s : Slip) (o : Option Slip) → IsRefusalBy s r → o ≡ Some s
     → Judges {X = X} (Err r) o
 refused-is X (refusals.Slip t) s o h e = e ∙ ap (λ x. Some x) (sym h)
 refused-is X refusals.Memory s o h e = tt
@@ -61,12 +62,12 @@ unless-failed true code w h = absurd (both_ways true h refl)
 unless-failed false code w h = refl
 
 pub both-passed : (a b : Bool) (c d : Code) (w : Word) → a ≡ true → b ≡ true
-    → first_of (unless a c w) (unless b d w) ≡ None
-both-passed a b c d w h k = ap (λ o. first_of o (unless b d w)) (unless-passed a c w h) ∙ unless-passed b d w k
+    → option_or (unless a c w) (unless b d w) ≡ None
+both-passed a b c d w h k = ap (λ o. option_or o (unless b d w)) (unless-passed a c w h) ∙ unless-passed b d w k
 
 pub second-failed : (a b : Bool) (c d : Code) (w : Word) → a ≡ true → b ≡ false
-    → first_of (unless a c w) (unless b d w) ≡ Some (slip_at d w)
-second-failed a b c d w h k = ap (λ o. first_of o (unless b d w)) (unless-passed a c w h) ∙ unless-failed b d w k
+    → option_or (unless a c w) (unless b d w) ≡ Some (slip_at d w)
+second-failed a b c d w h k = ap (λ o. option_or o (unless b d w)) (unless-passed a c w h) ∙ unless-failed b d w k
 
 -- Ports are named only where protocols are.
 pub ports-some : (qs : List ℕ) (test : ℕ → Bool) (code : Code) (ws : List Word)

@@ -26,11 +26,12 @@ use Rattle.acl_terms.specs.declared.options.Opt.TheVariants.{Plain, Established,
 use Rattle.acl_terms.specs.Matching.{AnyOf, Admits, IsProtocol, IsType, NamesPort, only, is_number, icmp_family, type_in, protocols_of, is_written}
 use Rattle.acl_terms.specs.Options.{option_of, verdict_of}
 use Rattle.acl_terms.specs.Sets.{IsSetOf, Sets, AreSetsOf}
-use Rattle.acl_terms.specs.Slips.{first_unless, first_in, slip_of, first_some, type_slip, option_fits, verdict_fits, is_tcp_or_udp, port_words, networks_slip, port_protocol_slip, services_slip, words_slips, types_slip, clash_slip, option_slip, reset_slip}
+use Rattle.acl_terms.specs.Slips.{first_unless, slip_of, type_slip, option_fits, verdict_fits, is_tcp_or_udp, port_words, networks_slip, port_protocol_slip, services_slip, words_slips, types_slip, clash_slip, option_slip, reset_slip}
 use Rattle.acl_sets.specs.ComputableSets.{is_all}
 use Rattle.acl_sets.specs.Ranges.{Only}
 use Rattle.acl_terms.specs.Soundness.{IsSound, is_established, needs_tcp, is_reset, is_left}
 use Rattle.acl_text.specs.Notes.{is_note, note_of}
+use Rattle.acl_text.specs.Refusals.{first_in, first_some}
 use Rattle.acl_terms.proofs.WordLaws.{protocol-within, type-within, parts, passed, first-passed, none-more, left-some, right-some, only-all, any-passes, any-number}
 
 -- ---- all numbers

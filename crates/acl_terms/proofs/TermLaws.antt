@@ -9,7 +9,8 @@ use Rattle.acl_text.specs.declared.faults.Code.TheVariants as codes
 use Rattle.acl_text.specs.declared.faults.Place.{Place}
 use Rattle.acl_text.proofs.NoteLaws.{note_is_safe}
 use Rattle.acl_text.specs.Notes.{note_of}
-use Rattle.acl_host.specs.declared.clocks.Day.{Day}
+use Rattle.acl_text.specs.Refusals.{first_in}
+use Rattle.acl_days.specs.declared.days.Day.{Day}
 use Rattle.acl_policy.specs.declared.raw_terms.RawTerm.{RawTerm}
 use Rattle.acl_words.specs.declared.word_lists.Word.{Word}
 use Rattle.acl_policy.specs.Conditions.{IsRawTerm}
@@ -27,7 +28,7 @@ use Rattle.acl_terms.specs.Matching.{is_written, protocols_of}
 use Rattle.acl_terms.specs.Options.{option_of, verdict_of}
 use Rattle.acl_terms.specs.Resolved.{IsResolved, sets_in}
 use Rattle.acl_terms.specs.Sets.{AreSetsOf, Sets}
-use Rattle.acl_terms.specs.Slips.{first_in, is_defined, port_words, reaches_protocol, service_slip, slip_of, unless}
+use Rattle.acl_terms.specs.Slips.{is_defined, port_words, reaches_protocol, service_slip, slip_of, unless}
 use Rattle.acl_terms.specs.Soundness.{IsSound, normal-prop}
 use Rattle.acl_terms.proofs.ComputedLaws.{computed-sets, one-of-sets, port-is}
 use Rattle.acl_terms.proofs.PortLaws.{protocol-tested}

@@ -5,6 +5,7 @@ use Rattle.std.specs.List.{list_all}
 use Rattle.std.specs.Str.{bytes_eq}
 use Rattle.std.proofs.lemmas.Bool.{and_parts, both_ways, leb-true}
 use Rattle.std.proofs.lemmas.Option.{none-some, same_Some}
+use Rattle.std.specs.Option.{option_or}
 use Rattle.acl_packet.specs.declared.addresses.Family.{Family}
 use Rattle.acl_packet.specs.declared.addresses.Family.TheVariants.{V4, V6}
 use Rattle.acl_packet.specs.NumberWords.{Row, row_of, row_or_number, protocols, types_of, protocol_in, icmp_in}
@@ -12,7 +13,6 @@ use Rattle.acl_packet.proofs.ChoiceLaws.{chosen}
 use Rattle.acl_packet.proofs.NumberWordLaws.{word-some}
 use Rattle.acl_text.specs.declared.faults.Code.{Code}
 use Rattle.acl_words.specs.declared.word_lists.Word.{Word}
-use Rattle.acl_naming.specs.Checking.{first_of}
 use Rattle.acl_terms.specs.Matching.{AnyOf, only, type_in}
 use Rattle.acl_terms.specs.Slips.{unless, first_unless}
 
@@ -53,7 +53,7 @@ type-within (Some f) n word e = icmp-within f n word e
 
 -- ---- answers that are none
 
-pub parts : {X : Type 0} (a b : Option X) → first_of a b ≡ None → (a ≡ None) × (b ≡ None)
+pub parts : {X : Type 0} (a b : Option X) → option_or a b ≡ None → (a ≡ None) × (b ≡ None)
 parts None b h = (refl, h)
 parts (Some x) b h = absurd (none-some x (sym h))
 

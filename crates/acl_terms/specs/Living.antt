@@ -1,23 +1,19 @@
 -- When a term is live: it is meant for the platform, and it has not expired.
-use Rattle.std.specs.Prelude.{◌≡◌, ℕ, ◌<ℤ◌, Bool, true, false, List, [], ◌∷◌, Option, None, Some, codes}
+use Rattle.std.specs.Prelude.{◌≡◌, ℕ, ◌<ℤ◌, Bool, true, false, List, [], ◌∷◌, Option, None, Some}
 use Rattle.std.specs.List.{list_any}
 use Rattle.std.specs.Str.{bytes_eq}
-use Rattle.acl_host.specs.declared.clocks.Day.{Day}
+use Rattle.acl_days.specs.declared.days.Day.{Day}
 use Rattle.acl_target.specs.declared.targets.Kind.{Kind}
 use Rattle.acl_target.specs.declared.targets.Kind.TheVariants.{Cisco, Juniper, Iptables, Nftables}
+use Rattle.acl_target.specs.TargetTexts.{kind_text}
 use Rattle.acl_policy.specs.declared.raw_terms.RawTerm.{RawTerm}
 use Rattle.acl_words.specs.declared.word_lists.Word.{Word}
 use Rattle.acl_terms.specs.declared.terms.Platforms.{Platforms}
 
--- A platform's name in `platform::` and `platform-exclude::`. Other names there name no platform of this compiler.
-abbrev pub platform_name : Kind → List ℕ
-platform_name Cisco = codes "cisco"
-platform_name Juniper = codes "juniper"
-platform_name Iptables = codes "iptables"
-platform_name Nftables = codes "nftables"
-
+-- A platform is named in `platform::` and `platform-exclude::` by its word of a target line. Other names there
+-- name no platform of this compiler.
 abbrev pub names_platform : Kind → List Word → Bool
-names_platform kind words = list_any (λ w. bytes_eq w.text (platform_name kind)) words
+names_platform kind words = list_any (λ w. bytes_eq w.text (kind_text kind)) words
 
 -- The term is for the platform: `platform::` is not written or names it, and `platform-exclude::` does not.
 abbrev pub is_wanted : List Word → Kind → Bool

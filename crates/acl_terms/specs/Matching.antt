@@ -2,6 +2,7 @@
 -- made.
 use Rattle.std.specs.Prelude.{◌≡◌, ℕ, Bool, true, false, ◌==◌, ◌⊎◌, if◌then◌else◌, List, [], ◌∷◌, Option, None, Some, flat_map, option_to_list}
 use Rattle.std.specs.List.{list_all}
+use Rattle.acl_packet.specs.Packets.{foreign_of}
 use Rattle.acl_packet.specs.declared.addresses.Family.{Family}
 use Rattle.acl_packet.specs.declared.addresses.Family.TheVariants.{V4, V6}
 use Rattle.acl_packet.specs.declared.packets.Packet.{Packet}
@@ -41,11 +42,6 @@ protocols_of words = flat_map (λ w. option_to_list (protocol_in w.text)) words
 
 abbrev pub IsProtocol : List Word → ℕ → Type 0
 IsProtocol words n = Admits (λ w. protocol_in w.text ≡ Some n) words
-
--- The ICMP of the other family: 58 in IPv4, 1 in IPv6.
-abbrev pub foreign_of : Family → ℕ
-foreign_of V4 = 58
-foreign_of V6 = 1
 
 -- A packet of a family is not taken for one of the other family's ICMP, though that is named.
 abbrev pub IsProtocolIn : Family → List Word → ℕ → Type 0

@@ -7,7 +7,7 @@ use Rattle.acl_packet.specs.declared.addresses.Family.TheVariants.{V4, V6}
 use Rattle.acl_packet.specs.declared.packets.Packet.{Packet}
 use Rattle.acl_text.specs.declared.faults.Refusal.{Refusal}
 use Rattle.acl_text.specs.declared.faults.Refusal.TheVariants as refusals
-use Rattle.acl_host.specs.declared.clocks.Day.{Day}
+use Rattle.acl_days.specs.declared.days.Day.{Day}
 use Rattle.acl_sets.specs.declared.sets.Range.{Range}
 use Rattle.acl_sets.specs.Ranges.{Numbers, holds}
 use Rattle.acl_target.specs.declared.targets.Kind.{Kind}
@@ -16,7 +16,8 @@ use Rattle.acl_naming.specs.Definitions.{Naming}
 use Rattle.acl_terms.specs.declared.options.Mode.{Mode}
 use Rattle.acl_terms.specs.declared.terms.Term.{Term}
 use Rattle.acl_terms.specs.Living.{IsUnexpired, allows, has_platform, platforms_of, some_platforms}
-use Rattle.acl_terms.specs.Matching.{foreign_of, is_written}
+use Rattle.acl_terms.specs.Matching.{is_written}
+use Rattle.acl_packet.specs.Packets.{foreign_of}
 use Rattle.acl_terms.specs.Options.{option_of, passes, verdict_of}
 use Rattle.acl_terms.specs.Sets.{AreSetsOf, Sets}
 use Rattle.acl_sets.specs.ComputableSets.{is_all}

@@ -1,17 +1,18 @@
 -- What private functions give on the way to a term's sets.
 use Rattle.std.specs.Prelude.{ℕ, List, Option, flat_map, option_to_list}
+use Rattle.std.specs.Option.{option_or}
 use Rattle.acl_packet.specs.declared.addresses.Family.{Family}
 use Rattle.acl_sets.specs.declared.sets.Range.{Range}
 use Rattle.acl_text.specs.declared.faults.Code.TheVariants as codes
 use Rattle.acl_text.specs.declared.faults.Slip.{Slip}
+use Rattle.acl_text.specs.Refusals.{first_in}
 use Rattle.acl_policy.specs.declared.raw_terms.RawTerm.{RawTerm}
 use Rattle.acl_words.specs.declared.word_lists.Word.{Word}
-use Rattle.acl_naming.specs.Checking.{first_of}
 use Rattle.acl_naming.specs.Definitions.{Definition}
 use Rattle.acl_terms.specs.declared.resolving.Parts.{Parts}
 use Rattle.acl_terms.specs.Matching.{type_in}
 use Rattle.acl_terms.specs.Sets.{Sets}
-use Rattle.acl_terms.specs.Slips.{first_in, is_defined, network_slip, reaches_protocol, unless}
+use Rattle.acl_terms.specs.Slips.{is_defined, network_slip, reaches_protocol, unless}
 
 -- The numbers of the words of `icmp-type::`.
 abbrev pub types_of : Option Family → List Word → List ℕ
@@ -23,15 +24,15 @@ single n = record { low = n; high = n }
 -- The questions on a word of ports, with one protocol.
 abbrev pub protocol_slip : List Definition → ℕ → Word → Option Slip
 protocol_slip services q w =
-    first_of (unless (is_defined services w.text) codes.UnknownName w)
+    option_or (unless (is_defined services w.text) codes.UnknownName w)
     (unless (reaches_protocol services w.text q) codes.NoPortForProtocol w)
 
 -- The questions on names, end by end.
 abbrev pub ends_slip : List Definition → RawTerm → Option Slip
 ends_slip networks t =
-    first_of (first_of (first_in (network_slip networks) t.sources)
+    option_or (option_or (first_in (network_slip networks) t.sources)
     (first_in (network_slip networks) t.source_excludes))
-    (first_of (first_in (network_slip networks) t.destinations)
+    (option_or (first_in (network_slip networks) t.destinations)
     (first_in (network_slip networks) t.destination_excludes))
 
 -- The sets of a term from its parts.

@@ -1,7 +1,8 @@
 -- The first slip of a term: the first of the questions on it that has an answer.
-use Rattle.std.specs.Prelude.{◌≡◌, ℕ, Bool, true, ◌||◌, ◌==◌, if◌then◌else◌, List, [], ◌∷◌, ◌++◌, Option, None, Some, is_some, Result, Ok, Err}
+use Rattle.std.specs.Prelude.{ℕ, Bool, true, ◌||◌, ◌==◌, if◌then◌else◌, List, [], ◌∷◌, ◌++◌, Option, None, Some, is_some}
 use Rattle.std.specs.List.{list_any, list_all}
 use Rattle.std.specs.Str.{bytes_eq}
+use Rattle.std.specs.Option.{option_or}
 use Rattle.acl_packet.specs.declared.addresses.Family.{Family}
 use Rattle.acl_packet.specs.declared.filtering.Verdict.{Verdict}
 use Rattle.acl_packet.specs.declared.filtering.Verdict.TheVariants.{Reset}
@@ -9,11 +10,9 @@ use Rattle.acl_packet.specs.Packets.{has_ports}
 use Rattle.acl_text.specs.declared.faults.Code.{Code}
 use Rattle.acl_text.specs.declared.faults.Code.TheVariants as codes
 use Rattle.acl_text.specs.declared.faults.Slip.{Slip}
-use Rattle.acl_text.specs.declared.faults.Refusal.{Refusal}
-use Rattle.acl_text.specs.declared.faults.Refusal.TheVariants as refusals
+use Rattle.acl_text.specs.Refusals.{first_in, first_some, slip}
 use Rattle.acl_words.specs.declared.word_lists.Word.{Word}
 use Rattle.acl_policy.specs.declared.raw_terms.RawTerm.{RawTerm}
-use Rattle.acl_naming.specs.Checking.{first_of}
 use Rattle.acl_naming.specs.Definitions.{Definition, Naming, index_of}
 use Rattle.acl_naming.specs.Reach.{is_service_of}
 use Rattle.acl_terms.specs.declared.options.Opt.{Opt}
@@ -24,18 +23,8 @@ use Rattle.acl_naming.specs.ComputableReach.{items_reached}
 
 -- ---- answers
 
--- The first answer of several.
-abbrev pub first_some : List (Option Slip) → Option Slip
-first_some [] = None
-first_some (o ∷ os) = first_of o (first_some os)
-
--- The first of the items whose question has an answer, with that answer.
-abbrev pub first_in : {A : Type 0} → (A → Option Slip) → List A → Option Slip
-first_in question [] = None
-first_in question (x ∷ xs) = first_of (question x) (first_in question xs)
-
 abbrev pub slip_at : Code → Word → Slip
-slip_at code w = record { code = code; place = w.place; word = w.text }
+slip_at code w = slip code w.place w.text
 
 -- The slip at the word, unless a test is passed.
 abbrev pub unless : Bool → Code → Word → Option Slip
@@ -77,7 +66,7 @@ port_protocol_slip protos t = first_unless (only has_ports protos) codes.PortPro
 -- Which name of ports is the first that no service has, or that reaches no ports of one of the protocols?
 abbrev pub service_slip : List Definition → List ℕ → Word → Option Slip
 service_slip services protos w =
-    first_of (unless (is_defined services w.text) codes.UnknownName w)
+    option_or (unless (is_defined services w.text) codes.UnknownName w)
     (unless (list_all (reaches_protocol services w.text) protos) codes.NoPortForProtocol w)
 
 abbrev pub services_slip : List Definition → List ℕ → RawTerm → Option Slip
@@ -133,11 +122,3 @@ questions n protos t = networks_slip n.networks t ∷ port_protocol_slip protos 
 
 unfoldable pub slip_of : Naming → RawTerm → Option Slip
 slip_of n t = first_some (questions n (protocols_of t.protocols) t)
-
--- ---- what calls promise
-
--- The call gives a value where there is no slip, and else that slip, or it wants memory.
-abbrev pub Judges : {X : Type 0} → Result X Refusal → Option Slip → Type 0
-Judges (Ok x) slip = slip ≡ None
-Judges (Err (refusals.Slip s)) slip = slip ≡ Some s
-Judges (Err refusals.Memory) slip = Unit {0}

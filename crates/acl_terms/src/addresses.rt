@@ -1,11 +1,12 @@
 ghost use Rattle.std.specs.Prelude.{◌≡◌, IfOk};
+ghost use Rattle.std.specs.Option.{option_or};
 ghost use Rattle.acl_packet.specs.declared.addresses.Family.TheVariants.{V4, V6};
 ghost use Rattle.acl_packet.specs.Addresses.{top_address};
-ghost use Rattle.acl_naming.specs.Checking.{first_of};
+ghost use Rattle.acl_text.specs.Refusals.{Judges, first_in};
 ghost use Rattle.acl_terms.specs.Matching.{Admits, AnyOf, IsAddress, NamesAddress};
 ghost use Rattle.acl_terms.specs.Sets.{IsAddressSet, IsSetOf};
 ghost use Rattle.acl_terms.specs.SetSteps.{ends_slip};
-ghost use Rattle.acl_terms.specs.Slips.{Judges, first_in, network_slip, networks_slip};
+ghost use Rattle.acl_terms.specs.Slips.{network_slip, networks_slip};
 
 use crate::checks::refusal_at;
 use crate::new_words::NewWords;
@@ -93,7 +94,7 @@ fn end_of(
     words: &WordList,
     excludes: &WordList,
 ) -> Result<Addresses, Refusal>
-    ensures judged { Judges result (first_of (first_in (network_slip base.now.networks) words.now)
+    ensures judged { Judges result (option_or (first_in (network_slip base.now.networks) words.now)
         (first_in (network_slip base.now.networks) excludes.now)) }
     ensures v4 { IfOk result (λ a. IsSetOf (IsAddress base.now V4 words.now excludes.now)
         (top_address V4) a.v4) }

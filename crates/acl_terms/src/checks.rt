@@ -2,47 +2,22 @@ ghost use Rattle.std.specs.Prelude.{◌≡◌, ◌++◌, is_some};
 ghost use Rattle.acl_text.specs.declared.faults.Code.TheVariants as codes;
 ghost use Rattle.std.specs.List.{list_all};
 ghost use Rattle.acl_packet.specs.Packets.{has_ports};
-ghost use Rattle.acl_naming.specs.Checking.{IsRefusal};
+ghost use Rattle.acl_text.specs.Refusals.{IsRefusalBy, Judges, first_in, first_some};
 ghost use Rattle.acl_terms.specs.Matching.{icmp_family, is_number, only, type_in};
 ghost use Rattle.acl_terms.specs.Options.{option_of, opt_named, verdict_of};
-ghost use Rattle.acl_terms.specs.Slips.{
-  Judges,
-  clash_slip,
-  first_in,
-  first_some,
-  first_unless,
-  is_tcp_or_udp,
-  option_fits,
-  option_slip,
-  port_protocol_slip,
-  reset_slip,
-  same_slip,
-  slip_at,
-  type_slip,
-  types_slip,
-  unless,
-  verdict_fits,
-  words_slips,
-};
+ghost use Rattle.acl_terms.specs.Slips.{clash_slip, first_unless, is_tcp_or_udp, option_fits, option_slip, port_protocol_slip, reset_slip, same_slip, slip_at, type_slip, types_slip, unless, verdict_fits, words_slips};
 
 use crate::options::Opt;
-use acl_packet::{Family, Verdict, icmp_number};
+use acl_packet::{Family, Verdict, has_ports, icmp_number};
 use acl_policy::{RawTerm, WordList, WordRef, WordsLeft};
-use acl_text::{Bytes, Code, Refusal, Slip};
+use acl_text::{Code, Refusal};
 use std::alloc::Global;
 
 /// The slip at the word, or want of memory for its text.
 pub(crate) fn refusal_at(alloc: Global, code: Code, word: &WordRef<'_>) -> Refusal
-    ensures { IsRefusal (slip_at code word.now) result }
+    ensures { IsRefusalBy (slip_at code word.now) result }
 {
-    match Bytes::from_slice(alloc, word.text()) {
-        Ok(text) => Refusal::Slip(Slip {
-            code,
-            place: word.place(),
-            word: text,
-        }),
-        Err(_) => Refusal::Memory,
-    }
+    Refusal::at(alloc, code, word.place(), word.text())
 }
 
 fn check(alloc: Global, passed: bool, code: Code, word: &WordRef<'_>) -> Result<(), Refusal>
@@ -65,12 +40,6 @@ fn check_first(alloc: Global, passed: bool, code: Code, words: &WordList) -> Res
 }
 
 // ---- tests on the protocols of a term
-
-fn has_ports(proto: u8) -> bool
-    ensures { result ≡ has_ports proto }
-{
-    proto == 6 || proto == 17 || proto == 132
-}
 
 fn all_have_ports(protos: &[u8]) -> bool
     ensures { result ≡ list_all has_ports protos.now }

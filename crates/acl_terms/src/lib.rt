@@ -19,7 +19,7 @@ pub use laws::{
     terms_match_as_written,
 };
 pub use living::is_live;
-pub use matching::{destination_in, foreign_of, is_empty_in, matches, source_in};
+pub use matching::{destination_in, is_empty_in, matches, source_in};
 pub use options::{Mode, Opt};
 pub use resolving::resolve;
 pub use terms::{Platforms, Term};

@@ -1,31 +1,20 @@
 ghost use Rattle.std.specs.Prelude.{◌≡◌, ◌↔◌, IsTrue, map};
 ghost use Rattle.std.specs.List.{list_any};
 ghost use Rattle.std.specs.Str.{bytes_eq};
-ghost use Rattle.acl_terms.specs.Living.{allows, has_platform, names_platform, platform_name, platforms_of, some_platforms};
+ghost use Rattle.acl_terms.specs.Living.{allows, has_platform, names_platform, platforms_of, some_platforms};
 ghost use Rattle.acl_terms.specs.Resolved.{IsTermLive, is_term_live, is_unexpired};
 
 use crate::terms::{Platforms, Term};
-use acl_host::Day;
+use acl_days::Day;
 use acl_policy::WordList;
-use acl_target::Kind;
+use acl_target::{Kind, kind_text};
 
 // ---- platforms by their words
-
-fn platform_name(kind: Kind) -> &'static [u8]
-    ensures { result.now ≡ platform_name kind }
-{
-    match kind {
-        Kind::Cisco => b"cisco",
-        Kind::Juniper => b"juniper",
-        Kind::Iptables => b"iptables",
-        Kind::Nftables => b"nftables",
-    }
-}
 
 fn names_platform(kind: Kind, words: &WordList) -> bool
     ensures { result ≡ names_platform kind words.now }
 {
-    let name = platform_name(kind);
+    let name = kind_text(kind);
     for word in words.iter() {
         if word.text() == name {
             return true;

@@ -1,7 +1,5 @@
 ghost use Rattle.std.specs.Prelude.{◌≡◌, ◌↔◌, IsTrue};
 ghost use Rattle.std.specs.List.{list_all};
-ghost use Rattle.acl_terms.specs.Matching.{foreign_of};
-ghost use Rattle.acl_packet.specs.Packets.{has_ack_or_rst, is_initial, is_tracked};
 ghost use Rattle.acl_terms.specs.Options.{passes};
 ghost use Rattle.acl_terms.specs.Resolved.{
   IsEmptyIn,
@@ -18,38 +16,17 @@ ghost use Rattle.acl_terms.specs.Resolved.{
 
 use crate::options::{Mode, Opt};
 use crate::terms::Term;
-use acl_packet::{Conn, Family, Packet, has_flag};
+use acl_packet::{Family, Packet, has_flag};
 use acl_sets::{Range, RangeSet};
 
 // ---- options
-
-fn is_tracked(conn: Conn) -> bool
-    ensures { result ≡ is_tracked conn }
-{
-    match conn {
-        Conn::Established | Conn::Related => true,
-        Conn::New | Conn::Invalid => false,
-    }
-}
-
-fn has_ack_or_rst(packet: &Packet) -> bool
-    ensures { result ≡ has_ack_or_rst packet.now }
-{
-    has_flag(packet.flags, 16) || has_flag(packet.flags, 4)
-}
-
-fn is_initial(packet: &Packet) -> bool
-    ensures { result ≡ is_initial packet.now }
-{
-    has_flag(packet.flags, 2) && !has_flag(packet.flags, 16)
-}
 
 // Whether the packet passes `established` where no connections are known.
 fn seems_established(dport_named: bool, packet: &Packet) -> bool
     ensures { result ≡ passes Opt.Established Mode.Stateless dport_named packet.now }
 {
     if packet.proto == 6 {
-        has_ack_or_rst(packet)
+        packet.has_ack_or_rst()
     } else {
         dport_named || 1024 <= packet.dport
     }
@@ -60,25 +37,15 @@ fn passes(option: Opt, mode: Mode, dport_named: bool, packet: &Packet) -> bool
 {
     match (option, mode) {
         (Opt::Plain, _) => true,
-        (Opt::Established | Opt::TcpEstablished, Mode::Stateful) => is_tracked(packet.conn),
+        (Opt::Established | Opt::TcpEstablished, Mode::Stateful) => packet.conn.is_tracked(),
         (Opt::Established, Mode::Stateless) => seems_established(dport_named, packet),
-        (Opt::TcpEstablished, Mode::Stateless) => has_ack_or_rst(packet),
-        (Opt::TcpInitial, _) => is_initial(packet),
+        (Opt::TcpEstablished, Mode::Stateless) => packet.has_ack_or_rst(),
+        (Opt::TcpInitial, _) => packet.is_initial(),
         (Opt::Rst, _) => has_flag(packet.flags, 4),
     }
 }
 
 // ---- sets
-
-/// The number of the other family's ICMP: 58 in IPv4, 1 in IPv6 (IANA, Protocol Numbers).
-pub fn foreign_of(family: Family) -> u8
-    ensures { result ≡ foreign_of family }
-{
-    match family {
-        Family::V4 => 58,
-        Family::V6 => 1,
-    }
-}
 
 /// The term's sources of the family.
 pub fn source_in(family: Family, term: &Term) -> &RangeSet
@@ -103,7 +70,8 @@ pub fn destination_in(family: Family, term: &Term) -> &RangeSet
 fn has_protocol(family: Family, term: &Term, proto: u8) -> bool
     ensures { result ≡ has_protocol family term.now proto }
 {
-    term.protos.contains(u128::from(proto)) && (term.protos.is_all() || proto != foreign_of(family))
+    term.protos.contains(u128::from(proto))
+        && (term.protos.is_all() || proto != family.foreign_number())
 }
 
 fn ends_match(term: &Term, packet: &Packet) -> bool
@@ -149,7 +117,7 @@ fn are_just(number: u8, ranges: &[Range]) -> bool
 fn has_no_protocol(family: Family, term: &Term) -> bool
     ensures { result ≡ has_no_protocol family term.now }
 {
-    !term.protos.is_all() && are_just(foreign_of(family), term.protos.ranges())
+    !term.protos.is_all() && are_just(family.foreign_number(), term.protos.ranges())
 }
 
 #[tactic(auto, unfolding(crate::specs::Resolved::is_empty_in))]

@@ -1,10 +1,11 @@
 ghost use Rattle.std.specs.Prelude.{◌≡◌, ◌≢◌, [], IfOk};
+ghost use Rattle.acl_text.specs.Refusals.{Judges, first_in};
 ghost use Rattle.acl_naming.specs.Ports.{top_port};
 ghost use Rattle.acl_naming.specs.Reach.{ReachesPort};
 ghost use Rattle.acl_terms.specs.Matching.{Admits, AnyOf, IsPort, NamesPort};
 ghost use Rattle.acl_terms.specs.Sets.{IsPortSet, IsSetOf};
 ghost use Rattle.acl_terms.specs.SetSteps.{protocol_slip};
-ghost use Rattle.acl_terms.specs.Slips.{Judges, first_in, port_words, service_slip, services_slip};
+ghost use Rattle.acl_terms.specs.Slips.{port_words, service_slip, services_slip};
 
 use crate::checks::refusal_at;
 use crate::distinct::distinct;

@@ -1,11 +1,12 @@
 ghost use Rattle.std.specs.Prelude.{◌≡◌, None, IfOk};
+ghost use Rattle.acl_text.specs.Refusals.{Judges};
 ghost use Rattle.acl_policy.specs.Conditions.{IsRawTerm};
 ghost use Rattle.acl_terms.specs.ComputableTerms.{sets_of};
 ghost use Rattle.acl_terms.specs.Matching.{is_written};
 ghost use Rattle.acl_terms.specs.Resolved.{AreFieldsOf, GivesValue, IsResolved, sets_in};
 ghost use Rattle.acl_terms.specs.Sets.{AreSetsOf};
 ghost use Rattle.acl_terms.specs.SetSteps.{sets_by};
-ghost use Rattle.acl_terms.specs.Slips.{Judges, slip_of};
+ghost use Rattle.acl_terms.specs.Slips.{slip_of};
 
 use crate::addresses::{Ends, ends_of};
 use crate::checks::{check_port_protocol, check_words, icmp_family, option_of, verdict_of};

@@ -1,5 +1,6 @@
 pub mod AddressLaws
 pub mod AnswerLaws
+pub mod AnsweredLaws
 pub mod Bounds
 pub mod CursorLaws
 pub mod CutLaws

@@ -7,7 +7,7 @@ use Rattle.std.proofs.lemmas.Grind.{flat_map-append}
 use Rattle.std.specs.Borrow.{Bor}
 use Rattle.std.proofs.lemmas.Result.{on_ok_weaker, on_err_weaker, IfOk-from_err}
 use Rattle.acl_text.specs.declared.output.PutFault.{PutFault}
-use Rattle.acl_text.specs.Output.{AppendsFront, Puts, joined}
+use Rattle.acl_text.specs.Output.{AppendsFront, PutsBy, joined}
 
 -- what a put that succeeded answers
 abbrev pub done : Result (Unit {0}) PutFault
@@ -50,8 +50,8 @@ fronts-longer a b (Some t) (Some now) h = let m = front-longer h.0 a b in (m.0, 
 
 -- a text was put, then another: both were put, one behind the other
 pub goes_on : {S T : Type 0} {told : S → Option (List ℕ)} {faults refusals : S → ℕ} {is_open : S → Bool} {keeps : S → S → Type 0} {old mid new : S} {a b : List ℕ} {r : Result T PutFault}
-    → ((x y z : S) → keeps x y → keeps y z → keeps x z) → Puts told faults refusals is_open keeps old mid a done → Puts told faults refusals is_open keeps mid new b r
-    → Puts told faults refusals is_open keeps old new (a ++ b) r
+    → ((x y z : S) → keeps x y → keeps y z → keeps x z) → PutsBy told faults refusals is_open keeps old mid a done → PutsBy told faults refusals is_open keeps mid new b r
+    → PutsBy told faults refusals is_open keeps old new (a ++ b) r
 goes_on {told = told} {old = old} {mid = mid} {new = new} {a = a} {b = b} {r = r} keeps p q = record {
   ok = on_ok_weaker r (appended-twice a b (told old) (told mid) (told new) p.ok) q.ok;
   err = on_err_weaker r (fronts-behind a b (told old) (told mid) (told new) p.ok) q.err;
@@ -66,7 +66,7 @@ goes_on {told = told} {old = old} {mid = mid} {new = new} {a = a} {b = b} {r = r
 
 -- a refusal at the first text is one at the longer text too
 pub stops : {S T : Type 0} {told : S → Option (List ℕ)} {faults refusals : S → ℕ} {is_open : S → Bool} {keeps : S → S → Type 0} {old new : S} {a : List ℕ} {r : Result T PutFault}
-    (b : List ℕ) → Puts told faults refusals is_open keeps old new a r → IsErr r → Puts told faults refusals is_open keeps old new (a ++ b) r
+    (b : List ℕ) → PutsBy told faults refusals is_open keeps old new a r → IsErr r → PutsBy told faults refusals is_open keeps old new (a ++ b) r
 stops {told = told} {old = old} {new = new} {a = a} {r = r} b p refused = record {
   ok = IfOk-from_err r (λ _. told new ≡ option_map (λ (t : List ℕ). t ++ (a ++ b)) (told old)) refused;
   err = on_err_weaker r (fronts-longer a b (told old) (told new)) p.err;
@@ -81,7 +81,7 @@ stops {told = told} {old = old} {new = new} {a = a} {r = r} b p refused = record
 
 -- nothing is put at once
 pub puts-nothing : {S : Type 0} {told : S → Option (List ℕ)} {faults refusals : S → ℕ} {is_open : S → Bool} {keeps : S → S → Type 0} (s : S)
-    → ((x : S) → keeps x x) → is_open s ≡ true → Puts told faults refusals is_open keeps s s [] done
+    → ((x : S) → keeps x x) → is_open s ≡ true → PutsBy told faults refusals is_open keeps s s [] done
 puts-nothing {told = told} s keeps is = record {
   ok = appended-nothing (told s);
   err = tt;

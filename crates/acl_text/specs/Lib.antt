@@ -1,4 +1,5 @@
 pub mod AddressTexts
+pub mod AnsweredCodes
 pub mod Answers
 pub mod Cursors
 pub mod Cuts
@@ -10,5 +11,8 @@ pub mod Notes
 pub mod OptionSteps
 pub mod Output
 pub mod PortRanges
+pub mod Puts
+pub mod Refusals
 pub mod SignedNumbers
 pub mod Steps
+pub mod Wholes

@@ -1,11 +1,15 @@
 -- What putting a text into an output means.
-use Rattle.std.specs.Prelude.{◌≡◌, ℕ, ◌-◌, ◌^◌, ◌<◌, ◌≤◌, Bool, true, false, List, ◌++◌, take, flat_map, Option, None, Some, Result, option_map, OnOk, OnErr, IfSome, IsErrOf}
+use Rattle.std.specs.Prelude.{◌≡◌, ℕ, ◌+◌, ◌-◌, ◌^◌, min, ◌<◌, ◌≤◌, Bool, true, false, List, ◌++◌, take, flat_map, Option, None, Some, Result, option_map, OnOk, OnErr, IfSome, IsErrOf}
 use Rattle.acl_text.specs.declared.output.PutFault.{PutFault}
 use Rattle.acl_text.specs.declared.output.PutFault.TheVariants.{Failed, Memory}
 
 -- A count is kept in 64 bits, and stands still at their end.
 abbrev pub COUNT_END : ℕ
 COUNT_END = 2 ^ 64 - 1
+
+-- A count that is kept in 64 bits, one higher: it stands still at their end.
+abbrev pub one_more : ℕ → ℕ
+one_more count = min (count + 1) COUNT_END
 
 -- A count rose in a call: unless it stands at its end, it is greater after the call than before.
 abbrev pub Rose : ℕ → ℕ → Type 0
@@ -20,8 +24,9 @@ abbrev pub AppendsFront : List ℕ → Option (List ℕ) → List ℕ → Type 0
 AppendsFront text None new = ⊥
 AppendsFront text (Some old) new = (n : ℕ) × (new ≡ old ++ take n text)
 
--- A call that puts a text, from the output as it was to the output as it is then.
-pub record Puts {S T : Type 0} (told : S → Option (List ℕ)) (faults refusals : S → ℕ)
+-- A call that puts a text, from the output as it was to the output as it is then. It speaks of the members of
+-- the trait one by one, as the trait itself names them; `Puts` takes them as one record.
+pub record PutsBy {S T : Type 0} (told : S → Option (List ℕ)) (faults refusals : S → ℕ)
     (is_open : S → Bool) (keeps_rest : S → S → Type 0) (old new : S) (text : List ℕ)
     (result : Result T PutFault) : Type 0 where
   -- on success the text stands behind what was told

@@ -12,7 +12,7 @@ pub struct Place {
     pub line: u32,
 }
 
-/// What is wrong with the input. docs/LANGUAGE.md has each with an example.
+/// What is wrong with the input. docs/LANGUAGE.md has each that `aclgen` answers, with an example.
 #[derive(Clone, Copy, Debug, PartialEq, Eq)]
 pub enum Code {
     /// A file, or the policy with its includes, is too long.
@@ -85,8 +85,18 @@ pub enum Code {
     TooManyEntries,
     /// The address lists of a filter would have more prefixes than the limit.
     TooManyPrefixes,
+    /// An ICMP code stands in a term that does not name exactly one ICMP type.
+    IcmpCode,
+    /// The filter of a target has no policy for the packets that none of its terms decides.
+    NoPolicy,
+    /// A text is no document of its language.
+    NoDocument,
+    /// A document has no section of this number, or none for the packet.
+    NoSection,
     /// An earlier term of its block decides all that a term decides.
     Shaded,
+    /// The number of a list is above those that its kind may have.
+    NumberRange,
 }
 
 /// A fault of the input by the number of its file: what is wrong, where, and the word in error.

@@ -14,11 +14,14 @@ mod laws;
 mod names;
 mod notes;
 mod output;
+mod pieces;
 mod port_ranges;
 mod prefixes;
+mod refusals;
 mod short;
 mod signed_numbers;
 mod texts;
+mod wholes;
 mod words;
 
 pub use acl_packet::{read_number, read_u8, read_u16};
@@ -34,11 +37,13 @@ pub use laws::{
 };
 pub use names::{is_digit, is_filter_name, is_letter, is_name, is_safe_text};
 pub use notes::note;
-pub use output::{Out, PutFault, put_pieces};
+pub use output::{Out, PutFault};
+pub use pieces::put_pieces;
 pub use port_ranges::read_ports;
 pub use prefixes::{
     put_address, put_prefix, put_wildcard, read_address, read_prefix, read_spelled_prefix,
 };
 pub use signed_numbers::read_signed;
 pub use texts::{Bytes, Memory};
+pub use wholes::Whole;
 pub use words::{is_white, next_word, skip_white};

@@ -1,5 +1,5 @@
-ghost use Rattle.std.specs.Prelude.{◌≡◌, List, ℕ, Option, Bool, IsTrue, map, flat_map};
-ghost use Rattle.acl_text.specs.Output.{Puts, joined};
+ghost use Rattle.std.specs.Prelude.{List, ℕ, Option, Bool, IsTrue};
+ghost use Rattle.acl_text.specs.Output.{PutsBy};
 
 use thiserror::Error;
 
@@ -32,21 +32,9 @@ pub trait Out {
     /// Appends the bytes, or a front of them where it refuses.
     fn put(&mut self, bytes: &[u8]) -> Result<(), PutFault>
         requires { IsTrue (is_open self.old) }
-        ensures { Puts told faults refusals is_open keeps_rest self.old self.new bytes.now result };
+        ensures { PutsBy told faults refusals is_open keeps_rest self.old self.new bytes.now result };
 
     ghost rest_same: { (x : Self) → keeps_rest x x };
 
     ghost rest_goes_on: { (x y z : Self) → keeps_rest x y → keeps_rest y z → keeps_rest x z };
-}
-
-/// Puts the pieces, one behind the other.
-pub fn put_pieces<O: Out>(out: &mut O, pieces: &[&[u8]]) -> Result<(), PutFault>
-    requires { IsTrue (O.is_open out.old) }
-    ensures { Puts O.told O.faults O.refusals O.is_open O.keeps_rest out.old out.new
-        (joined (map (λ p. p.now) pieces.now)) result }
-{
-    for piece in pieces {
-        out.put(piece)?;
-    }
-    Ok(())
 }

@@ -1,7 +1,7 @@
 ghost use Rattle.std.specs.Prelude.{◌≡◌, ℕ, ◌+◌, ◌-◌, ◌^◌, ◌<◌, ◌≤◌, ◌++◌, length, IsTrue, IfSome, IfNone, bytes_eq};
 ghost use Rattle.acl_packet.specs.declared.addresses.Prefix.{Prefix as PrefixData};
 ghost use Rattle.acl_packet.specs.Addresses.{width_of, IsPrefix};
-ghost use Rattle.acl_text.specs.Output.{Puts};
+ghost use Rattle.acl_text.specs.Puts.{Puts};
 ghost use Rattle.acl_text.specs.AddressTexts.{spelling_in, address_text, address_in, block_of, IsPrefixText, family_in, full_in, block_in, prefix_in, prefix_text, spelled_prefix_in, wildcard_text};
 
 use crate::cuts::{contains_byte, split_at_byte};
@@ -173,8 +173,7 @@ fn push_prefix(text: &mut ShortText, prefix: &Prefix)
 /// the form of RFC 5952 sections 4.1 to 4.3, never with an IPv4 address in it.
 pub fn put_address<O: Out>(out: &mut O, family: Family, address: u128) -> Result<(), PutFault>
     requires { IsTrue (O.is_open out.old) }
-    ensures { Puts O.told O.faults O.refusals O.is_open O.keeps_rest out.old out.new
-        (address_text family address) result }
+    ensures { Puts O.Out out.old out.new (address_text family address) result }
 {
     let mut text = ShortText::new();
     push_address(&mut text, family, address);
@@ -184,8 +183,7 @@ pub fn put_address<O: Out>(out: &mut O, family: Family, address: u128) -> Result
 /// Puts the text of the prefix: its first address, `/` and its length.
 pub fn put_prefix<O: Out>(out: &mut O, prefix: &Prefix) -> Result<(), PutFault>
     requires { IsTrue (O.is_open out.old) }
-    ensures { Puts O.told O.faults O.refusals O.is_open O.keeps_rest out.old out.new
-        (prefix_text prefix.now) result }
+    ensures { Puts O.Out out.old out.new (prefix_text prefix.now) result }
 {
     let mut text = ShortText::new();
     push_prefix(&mut text, prefix);
@@ -197,8 +195,7 @@ pub fn put_prefix<O: Out>(out: &mut O, prefix: &Prefix) -> Result<(), PutFault>
 #[tactic(auto, unfolding(crate::specs::AddressTexts::wildcard_text))]
 pub fn put_wildcard<O: Out>(out: &mut O, len: u8) -> Result<(), PutFault>
     requires { IsTrue (O.is_open out.old) }
-    ensures { Puts O.told O.faults O.refusals O.is_open O.keeps_rest out.old out.new
-        (wildcard_text len) result }
+    ensures { Puts O.Out out.old out.new (wildcard_text len) result }
 {
     let mut text = ShortText::new();
     push_ipv4(&mut text, bits_behind(len));

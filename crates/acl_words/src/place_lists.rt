@@ -1,4 +1,4 @@
-ghost use Rattle.std.specs.Prelude.{◌≡◌, [], ◌∷◌, ◌++◌, OnOk, OnErr, IfSome, IfNone};
+ghost use Rattle.std.specs.Prelude.{◌≡◌, [], ◌∷◌, ◌++◌, OnOk, OnErr, IfSome, IfNone, length, take};
 ghost use Rattle.acl_words.specs.PlaceSteps.{added, left_by, next_line, place_by};
 
 use acl_text::{Memory, Place};
@@ -66,7 +66,7 @@ fn step_to(last: Place, place: Place) -> Step
     }
 }
 
-/// Adds the step, and its place where that is kept.
+/// Adds the step, and its place where that is kept. Where memory is wanted a step too many may stand at the end.
 fn push_step(
     steps: &mut Vec<Step>,
     own: &mut Vec<Place>,
@@ -75,6 +75,8 @@ fn push_step(
 ) -> Result<(), Memory>
     ensures steps { OnOk result (steps.new.items ≡ steps.old.items ++ step ∷ []) }
     ensures own { OnOk result (own.new.items ≡ own.old.items ++ added step place) }
+    ensures old_steps { OnErr result (take (length steps.old.items) steps.new.items ≡ steps.old.items) }
+    ensures old_own { OnErr result (own.new.items ≡ own.old.items) }
 {
     steps.push(step)?;
     if step == Step::Own {
@@ -95,30 +97,20 @@ impl PlaceList {
         }
     }
 
-    /// No places are left.
-    pub(crate) fn clear(&mut self)
-        ensures { self.new ≡ [] }
-    {
-        self.steps.clear();
-        self.own.clear();
-        self.last = Place { file: 0, line: 0 };
-    }
-
-    /// Adds the place at the end. Where memory is wanted no place is left.
+    /// Adds the place at the end. Where memory is wanted the list is as it was.
     pub(crate) fn push(&mut self, place: Place) -> Result<(), Memory>
         ensures ok { OnOk result (self.new ≡ self.old ++ place ∷ []) }
-        ensures err { OnErr result (self.new ≡ []) }
+        ensures err { OnErr result (self.new ≡ self.old) }
     {
         let step = step_to(self.last, place);
+        let count = self.steps.len();
         match push_step(&mut self.steps, &mut self.own, step, place) {
             Ok(()) => {
                 self.last = place;
                 Ok(())
             }
             Err(memory) => {
-                self.steps.clear();
-                self.own.clear();
-                self.last = Place { file: 0, line: 0 };
+                self.steps.truncate(count);
                 Err(memory)
             }
         }

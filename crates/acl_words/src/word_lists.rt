@@ -1,4 +1,4 @@
-ghost use Rattle.std.specs.Prelude.{◌≡◌, [], ◌∷◌, ◌++◌, IfSome, IfNone, OnOk, OnErr, drop};
+ghost use Rattle.std.specs.Prelude.{◌≡◌, [], ◌∷◌, ◌++◌, IfSome, IfNone, OnOk, OnErr, drop, length, take};
 ghost use Rattle.acl_lines.specs.LineTexts.{HasNoFeed};
 
 use crate::place_lists::{PlaceList, PlacesLeft};
@@ -75,7 +75,7 @@ impl Model for WordList {
     ghost invariant = { λ s. AreKept (words_at s.places s.text.items) s.places s.text.items };
 }
 
-/// Adds the word to the text and the places.
+/// Adds the word to the text and the places. Where memory is wanted some of it may stand at the end of the text.
 fn push_word(
     all: &mut Vec<u8>,
     places: &mut PlaceList,
@@ -84,6 +84,8 @@ fn push_word(
 ) -> Result<(), Memory>
     ensures text { OnOk result (all.new.items ≡ all.old.items ++ text.now ++ 10 ∷ []) }
     ensures places { OnOk result (places.new ≡ places.old ++ place ∷ []) }
+    ensures old_text { OnErr result (take (length all.old.items) all.new.items ≡ all.old.items) }
+    ensures old_places { OnErr result (places.new ≡ places.old) }
 {
     all.extend_from_slice(text)?;
     all.push(b'\n')?;
@@ -101,18 +103,18 @@ impl WordList {
         }
     }
 
-    /// Adds a word at the end. Where memory is wanted no word is left.
+    /// Adds a word at the end. Where memory is wanted the list is as it was.
     pub fn push(&mut self, place: Place, text: &[u8]) -> Result<(), Memory>
         requires { HasNoFeed text.now }
         ensures ok { OnOk result (self.new
             ≡ self.old ++ record { place = place; text = text.now } ∷ []) }
-        ensures err { OnErr result (self.new ≡ []) }
+        ensures err { OnErr result (self.new ≡ self.old) }
     {
+        let length = self.text.len();
         match push_word(&mut self.text, &mut self.places, place, text) {
             Ok(()) => Ok(()),
             Err(memory) => {
-                self.text.clear();
-                self.places.clear();
+                self.text.truncate(length);
                 Err(memory)
             }
         }

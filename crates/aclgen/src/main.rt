@@ -1,7 +1,8 @@
 //! aclgen: makes the real files, streams and clock, and runs the whole job on them.
 #![tactic(auto)]
 
-use acl_host::{DiskTree, Sink, StdSink, SystemClock};
+use acl_host::Sink;
+use acl_machine::{DiskTree, StdSink, SystemClock};
 use aclgen_core::{Ended, aclgen, refuse_words, status_of};
 use std::io::ErrorKind;
 use std::process::ExitCode;

@@ -3,7 +3,7 @@ use Prim.Native.Nat.{zero, suc}
 use Rattle.std.proofs.Common.{◌≡◌, ℕ, List, [], ◌∷◌, length, take, Option, None, Some, Result, Ok, Err, sym, subst, ◌∙◌, arith}
 use Rattle.std.proofs.lemmas.List.{take_all}
 use Rattle.acl_host.specs.Files.{File, BothTell}
-use Rattle.acl_host.specs.Outside.{CountsWriting}
+use Rattle.acl_host.specs.Outside.{CountsWriting, TreeMembers}
 use Rattle.acl_host.specs.Writing.{HoldsText, WritesFile}
 use Rattle.acl_host.specs.declared.sinks.WriteFault.{WriteFault}
 use Rattle.aclgen_core.specs.FileLists.{IsApart, PathsDiffer, HoldsAll, SameButAt, HoldsTexts, Interrupted, WritesFiles}
@@ -58,10 +58,10 @@ whole-stops ts f0 f1 h =
 
 -- ---- calls
 
-counts-go-on : {S T U : Type 0} (faults refusals list_faults read_faults : S → ℕ) (s0 s1 s2 : S) (x : T) (r : Result U WriteFault)
-    → CountsWriting {T = T} faults refusals list_faults read_faults s0 s1 (Ok x) → CountsWriting faults refusals list_faults read_faults s1 s2 r
-    → CountsWriting faults refusals list_faults read_faults s0 s2 r
-counts-go-on faults refusals list_faults read_faults s0 s1 s2 x r p q = record {
+counts-go-on : {S T U : Type 0} (tree : TreeMembers S) (s0 s1 s2 : S) (x : T) (r : Result U WriteFault)
+    → CountsWriting {T = T} tree s0 s1 (Ok x) → CountsWriting tree s1 s2 r
+    → CountsWriting tree s0 s2 r
+counts-go-on tree s0 s1 s2 x r p q = record {
   lists_stay = q.lists_stay ∙ p.lists_stay;
   reads_stay = q.reads_stay ∙ p.reads_stay;
   faults_grow = omega (arith, p.faults_grow, q.faults_grow);
@@ -70,20 +70,19 @@ counts-go-on faults refusals list_faults read_faults s0 s1 s2 x r p q = record {
   memory = λ e h. omega (arith, p.refusals_grow, q.memory e h);
 }
 
-pub writes-cons : {S T U : Type 0} (files : S → Option (List File)) (begun : S → Option (List ℕ)) (faults refusals list_faults read_faults : S → ℕ)
-    (s0 s1 s2 : S) (t : File) (ts : List File) (x : T) (r : Result U WriteFault) → begun s0 ≡ None → PathsDiffer (t ∷ ts)
-    → WritesFile {T = T} files begun faults refusals list_faults read_faults s0 s1 t.0 t.1 (Ok x)
-    → WritesFiles files begun faults refusals list_faults read_faults s1 s2 ts r
-    → WritesFiles files begun faults refusals list_faults read_faults s0 s2 (t ∷ ts) r
-writes-cons files begun faults refusals list_faults read_faults s0 s1 s2 t ts x (Ok y) none differ p q = record {
+pub writes-cons : {S T U : Type 0} (tree : TreeMembers S) (s0 s1 s2 : S) (t : File) (ts : List File) (x : T) (r : Result U WriteFault) → tree.begun s0 ≡ None → PathsDiffer (t ∷ ts)
+    → WritesFile {T = T} tree s0 s1 t.0 t.1 (Ok x)
+    → WritesFiles tree s1 s2 ts r
+    → WritesFiles tree s0 s2 (t ∷ ts) r
+writes-cons tree s0 s1 s2 t ts x (Ok y) none differ p q = record {
   ended = q.ended ∙ p.ended ∙ sym none;
-  ok = both-go-on (HoldsText t.0 t.1) (HoldsTexts ts) (HoldsTexts (t ∷ ts)) (files s0) (files s1) (files s2) (λ a b c. holds-cons t ts a b c differ.0) p.ok q.ok;
+  ok = both-go-on (HoldsText t.0 t.1) (HoldsTexts ts) (HoldsTexts (t ∷ ts)) (tree.files s0) (tree.files s1) (tree.files s2) (λ a b c. holds-cons t ts a b c differ.0) p.ok q.ok;
   err = tt;
-  counts = counts-go-on faults refusals list_faults read_faults s0 s1 s2 x (Ok y) p.counts q.counts;
+  counts = counts-go-on tree s0 s1 s2 x (Ok y) p.counts q.counts;
 }
-writes-cons files begun faults refusals list_faults read_faults s0 s1 s2 t ts x (Err e) none differ p q = record {
+writes-cons tree s0 s1 s2 t ts x (Err e) none differ p q = record {
   ended = q.ended ∙ p.ended ∙ sym none;
   ok = tt;
-  err = both-go-on (HoldsText t.0 t.1) (Interrupted ts) (Interrupted (t ∷ ts)) (files s0) (files s1) (files s2) (λ a b c. stops-cons t ts a b c differ.0) p.ok q.err;
-  counts = counts-go-on faults refusals list_faults read_faults s0 s1 s2 x (Err e) p.counts q.counts;
+  err = both-go-on (HoldsText t.0 t.1) (Interrupted ts) (Interrupted (t ∷ ts)) (tree.files s0) (tree.files s1) (tree.files s2) (λ a b c. stops-cons t ts a b c differ.0) p.ok q.err;
+  counts = counts-go-on tree s0 s1 s2 x (Err e) p.counts q.counts;
 }

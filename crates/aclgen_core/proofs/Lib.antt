@@ -1,3 +1,4 @@
+pub mod AnsweredFaults
 pub mod FileListLaws
 pub mod OneAnswer
 pub mod PlanningLaws

@@ -16,10 +16,10 @@ use Rattle.acl_text.specs.declared.faults.Rejection.{Rejection}
 use Rattle.acl_text.specs.declared.faults.Rejection.TheVariants as rejections
 use Rattle.acl_text.proofs.ListLaws.{all_append}
 use Rattle.acl_host.specs.declared.clocks.ClockFault.{ClockFault}
-use Rattle.acl_host.specs.declared.clocks.Day.{Day}
-use Rattle.acl_host.proofs.NamedDayLaws.{same-day}
+use Rattle.acl_days.specs.declared.days.Day.{Day}
+use Rattle.acl_days.proofs.NamedDayLaws.{same-day}
 use Rattle.acl_host.specs.Files.{File, join_path}
-use Rattle.acl_host.specs.Outside.{OnlyListsAndReads}
+use Rattle.acl_host.specs.Outside.{OnlyListsAndReads, TreeMembers}
 use Rattle.acl_naming.specs.Definitions.{Naming}
 use Rattle.acl_target.specs.declared.targets.Kind.{Kind}
 use Rattle.acl_target.specs.declared.targets.Kind.TheVariants.{Cisco, Juniper, Iptables, Nftables}
@@ -443,11 +443,10 @@ no-read (rejections.Fault fault) h = cc
 no-read rejections.Memory h = cc
 
 -- A fault of what is loaded is no failure of a folder or a file.
-pub rejected-looks : {S X : Type 0} (files : S → Option (List File)) (begun : S → Option (List ℕ)) (faults refusals list_faults read_faults : S → ℕ) (old new : S)
-    (e : Rejection) (r : Result X LoadFault) → OnlyListsAndReads files begun faults refusals list_faults read_faults old new → IsErrAnd r (λ x. x ≡ of_rejection e)
-    → LoadsFiles files begun faults refusals list_faults read_faults old new r
-rejected-looks files begun faults refusals list_faults read_faults old new e (Ok x) only is = absurd is
-rejected-looks files begun faults refusals list_faults read_faults old new e (Err f) only is = record {
+pub rejected-looks : {S X : Type 0} (tree : TreeMembers S) (old new : S) (e : Rejection) (r : Result X LoadFault) → OnlyListsAndReads tree old new → IsErrAnd r (λ x. x ≡ of_rejection e)
+    → LoadsFiles tree old new r
+rejected-looks tree old new e (Ok x) only is = absurd is
+rejected-looks tree old new e (Err f) only is = record {
   only = only;
   list_failed = λ h. let same : f ≡ loads.List = cc in absurd (no-list e (sym is ∙ same));
   read_failed = λ h. let same : f ≡ loads.Read = cc in absurd (no-read e (sym is ∙ same));

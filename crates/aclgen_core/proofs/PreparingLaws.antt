@@ -7,13 +7,14 @@ use Rattle.std.specs.String.{string_bytes}
 use Rattle.std.proofs.lemmas.Grind.{flat_map-append}
 use Rattle.std.proofs.lemmas.List.{map-append, take_rest}
 use Rattle.std.proofs.lemmas.List.Elements.{All-nil, All-cons}
+use Rattle.std.specs.Option.{option_or}
 use Rattle.acl_packet.specs.declared.filtering.Outcome.{Outcome}
 use Rattle.acl_packet.specs.declared.packets.Packet.{Packet}
 use Rattle.acl_text.specs.declared.faults.Refusal.{Refusal}
 use Rattle.acl_text.specs.declared.faults.Refusal.TheVariants as refusals
 use Rattle.acl_text.proofs.ListLaws.{all_append}
-use Rattle.acl_host.specs.declared.clocks.Day.{Day}
-use Rattle.acl_naming.specs.Checking.{IsRefusal, first_of}
+use Rattle.acl_text.specs.Refusals.{IsRefusalBy}
+use Rattle.acl_days.specs.declared.days.Day.{Day}
 use Rattle.acl_naming.specs.Definitions.{Naming}
 use Rattle.acl_target.specs.declared.targets.Kind.{Kind}
 use Rattle.acl_target.specs.declared.targets.Kind.TheVariants.{Cisco, Juniper, Iptables, Nftables}
@@ -47,12 +48,12 @@ pub first-rest : {X : Type 0} (xs : List X) (x : X) → 1 ≤ length xs → x �
 first-rest [] x h e = absurd (omega (arith, h))
 first-rest (y ∷ xs) x h e = ap (λ z. z ∷ xs) (sym e) ∙ ap (λ zs. x ∷ zs) (sym (take_rest (y ∷ xs) 1))
 
-pub first-none : {X : Type 0} (a b : Option X) → first_of a b ≡ None → (a ≡ None) × (b ≡ None)
+pub first-none : {X : Type 0} (a b : Option X) → option_or a b ≡ None → (a ≡ None) × (b ≡ None)
 first-none None b e = (refl, e)
 first-none (Some x) b e = absurd (cc)
 
-pub both-none : {X : Type 0} (a b : Option X) → a ≡ None → b ≡ None → first_of a b ≡ None
-both-none a b e f = ap (λ o. first_of o b) e ∙ f
+pub both-none : {X : Type 0} (a b : Option X) → a ≡ None → b ≡ None → option_or a b ≡ None
+both-none a b e f = ap (λ o. option_or o b) e ∙ f
 
 pub all-map : {X Y : Type 0} (f : X → Y) (P : Y → Type 0) (xs : List X) → AllByRecursion (λ x. P (f x)) xs → All P (map f xs)
 all-map f P [] h = All-nil P
@@ -93,9 +94,9 @@ unfolding check_slip
 check-some f limit e = ap (option_map (limit_slip f)) e
 
 pub checks-limit : (today : Day) (r : FilterRequest) (f : Filter) (limit : Limit) (e : Refusal) → first_slip r.target today r.terms ≡ None → f ≡ filter_for today r
-    → Err limit ≡ judged (limit_of f) (count_of f) → IsRefusal (limit_slip f limit) e → Checks today r (Err e)
+    → Err limit ≡ judged (limit_of f) (count_of f) → IsRefusalBy (limit_slip f limit) e → Checks today r (Err e)
 checks-limit today r f limit (refusals.Slip t) none is e h =
-    ap (λ o. first_of o (check_slip (filter_for today r))) none ∙ ap check_slip (sym is)
+    ap (λ o. option_or o (check_slip (filter_for today r))) none ∙ ap check_slip (sym is)
     ∙ check-some f limit (judged-err (limit_of f) (count_of f) limit e) ∙ ap Some (sym h)
 checks-limit today r f limit refusals.Memory none is e h = tt
 
@@ -215,7 +216,7 @@ adds-append today xs ys p q s (Ok x) h k = record {
   taken = all_append (IsTakenFor today) xs ys h.taken k.taken;
 }
 adds-append today xs ys p q s (Err (refusals.Slip e)) h k =
-    first-in-append (request_slip today) xs ys ∙ ap (λ o. first_of o (requests_slip today ys)) h.slip_is ∙ k
+    first-in-append (request_slip today) xs ys ∙ ap (λ o. option_or o (requests_slip today ys)) h.slip_is ∙ k
 adds-append today xs ys p q s (Err refusals.Memory) h k = tt
 
 pub adds-slip : {X Y : Type 0} (today : Day) (xs ys : List FilterRequest) (p s : FileDrafts) (e : Refusal) (q : Result X Refusal) (r : Result Y Refusal)
@@ -224,7 +225,7 @@ adds-slip today xs ys p s e q (Ok y) was h is = absurd is
 adds-slip today xs ys p s e (Ok x) (Err f) was h is = absurd (cc)
 adds-slip today xs ys p s e (Err (refusals.Slip a)) (Err (refusals.Slip b)) was h is =
     let same : a ≡ b = cc in
-    first-in-append (request_slip today) xs ys ∙ ap (λ o. first_of o (requests_slip today ys)) h ∙ ap Some same
+    first-in-append (request_slip today) xs ys ∙ ap (λ o. option_or o (requests_slip today ys)) h ∙ ap Some same
 adds-slip today xs ys p s e (Err (refusals.Slip a)) (Err refusals.Memory) was h is = tt
 adds-slip today xs ys p s e (Err refusals.Memory) (Err (refusals.Slip b)) was h is = absurd (cc)
 adds-slip today xs ys p s e (Err refusals.Memory) (Err refusals.Memory) was h is = tt

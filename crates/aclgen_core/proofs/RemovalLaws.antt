@@ -16,7 +16,8 @@ use Rattle.acl_packet.specs.Addresses.{covers, same_family}
 use Rattle.acl_packet.specs.Packets.{IsPacket}
 use Rattle.acl_text.specs.declared.faults.Code.TheVariants.{TooManyPrefixes}
 use Rattle.acl_text.specs.declared.faults.Slip.{Slip}
-use Rattle.acl_host.specs.declared.clocks.Day.{Day}
+use Rattle.acl_text.specs.Refusals.{first_in}
+use Rattle.acl_days.specs.declared.days.Day.{Day}
 use Rattle.acl_host.specs.Files.{File}
 use Rattle.acl_sets.specs.Ranges.{holds}
 use Rattle.acl_naming.specs.Definitions.{Naming}
@@ -31,7 +32,7 @@ use Rattle.acl_terms.specs.declared.options.Opt.TheVariants as options
 use Rattle.acl_terms.specs.declared.terms.Term.{Term}
 use Rattle.acl_terms.specs.Outcomes.{PolicyDecides, mode_of, policy_outcome}
 use Rattle.acl_terms.specs.Resolved.{IsEmptyIn, destination_in, has_protocol, is_empty_in, is_term_live, source_in}
-use Rattle.acl_terms.specs.Slips.{first_in, slip_of}
+use Rattle.acl_terms.specs.Slips.{slip_of}
 use Rattle.acl_terms.proofs.EmptyLaws.{empty-law}
 use Rattle.acl_terms.proofs.LifeLaws.{live-law}
 use Rattle.acl_terms.proofs.PolicyLaws.{decide-as-written}

@@ -4,7 +4,7 @@ use Rattle.std.proofs.lemmas.Bool.{false≢true}
 use Rattle.std.specs.List.{AllByRecursion}
 use Rattle.acl_text.specs.declared.faults.Fault.{Fault}
 use Rattle.acl_text.specs.Output.{Rose}
-use Rattle.acl_host.specs.declared.clocks.Day.{Day}
+use Rattle.acl_days.specs.declared.days.Day.{Day}
 use Rattle.acl_host.specs.Files.{File, BothTell}
 use Rattle.acl_host.specs.Outside.{AddsFront}
 use Rattle.acl_options.specs.CommandLines.{Options}
@@ -12,10 +12,10 @@ use Rattle.acl_options.specs.ComputableOptions.{asks_clock, options_of}
 use Rattle.aclgen_core.specs.FaultLines.{outside_line, usage_line}
 use Rattle.aclgen_core.specs.FileLists.{HoldsTexts, Interrupted}
 use Rattle.aclgen_core.specs.Job.{Plan, IsJob, IsJobOf, or_day, report_of, texts_of}
-use Rattle.aclgen_core.specs.Endings.{WhereDay, WhereTold, Got, Untouched, IsWritten, Headline, EndsDone, EndsUsage, EndsRejected, RoseAt, EndsLooking, LeavesFiles, EndsWriting, LeavesReport, EndsReporting, IsRefusal, EndsTelling, EndsOutside, Leaves, EndsWanting, EndsSo, NoneRose, IsEnding, EndsAsAsked, Keeps}
+use Rattle.aclgen_core.specs.Endings.{WhereDay, WhereTold, Got, Untouched, IsWritten, Headline, EndsDone, EndsUsage, EndsRejected, RoseAt, EndsLooking, LeavesFiles, EndsWriting, LeavesReport, EndsReporting, IsRefusalLine, EndsTelling, EndsOutside, LeavesPart, EndsWanting, EndsSo, NoneRose, IsEnding, EndsAsAsked, Keeps}
 use Rattle.aclgen_core.specs.Removals.{ShadedCanGo}
 use Rattle.aclgen_core.specs.Worlds.{Disk, DiskCountsGrow, Stream, StreamCountsGrow, Watch, World, world}
-use Rattle.aclgen_core.specs.DecidingSteps.{Asks, IsReady, OnlySeen, WhereSeen, RoseLooking, DecidesRefused, DecidesPlanned, RefusesSo, Refuses, ActsDone, ActsWrite, ActsOut, ActsMemory, ActsSo, Acts, Tells, texts_in}
+use Rattle.aclgen_core.specs.DecidingSteps.{Asks, IsReady, OnlySeen, WhereSeen, RoseLooking, DecidesRefused, DecidesPlanned, RefusesSo, Refuses, ActsDone, ActsWrite, ActsOut, ActsMemory, ActsSo, Acts, TriesLine, texts_in}
 use Rattle.aclgen_core.specs.declared.endings.Ended.{Ended}
 use Rattle.aclgen_core.specs.declared.endings.Ended.TheVariants as ended
 use Rattle.aclgen_core.specs.declared.endings.Which.{Which}
@@ -143,9 +143,9 @@ untouched d d' o e e' c c' seen = record { same_files = seen.files_stay; same_ou
 
 -- What a job leaves, whatever it is.
 abbrev LeavesSo : List (List ℕ) → World → World → Day → List File → Type 0
-LeavesSo words old new day files = (job : Option (Result Plan Fault)) → IsJob words day files job → Leaves job old new files
+LeavesSo words old new day files = (job : Option (Result Plan Fault)) → IsJob words day files job → LeavesPart job old new files
 
-refused-memory : (words : List (List ℕ)) (line : List ℕ) (d d' : Disk) (o e e' : Stream) (c c' : Watch) → OnlySeen d d' → IsRefusal words (world d o e c) line
+refused-memory : (words : List (List ℕ)) (line : List ℕ) (d d' : Disk) (o e e' : Stream) (c c' : Watch) → OnlySeen d d' → IsRefusalLine words (world d o e c) line
     → WhereTold words (world d o e c) (LeavesSo words (world d o e c) (world d' o e' c'))
     → BothTell e.told e'.told (AddsFront line) → EndsWanting words (world d o e c) (world d' o e' c')
 refused-memory words line d d' o e e' c c' seen refusal leaves front = record {
@@ -155,7 +155,7 @@ refused-memory words line d d' o e e' c c' seen refusal leaves front = record {
 }
 
 refused-so : (words : List (List ℕ)) (line : List ℕ) (asked result : Ended) (d d' : Disk) (o e e' : Stream) (c c' : Watch) → d.begun ≡ None → OnlySeen d d'
-    → Asks words c c' → StreamCountsGrow e e' → IsRefusal words (world d o e c) line
+    → Asks words c c' → StreamCountsGrow e e' → IsRefusalLine words (world d o e c) line
     → WhereTold words (world d o e c) (LeavesSo words (world d o e c) (world d' o e' c'))
     → (Got line e.told e'.told → EndsSo words (world d o e c) (world d' o e' c') asked)
     → RefusesSo line asked e e' result → Keeps words (world d o e c) (world d' o e' c') result
@@ -170,9 +170,9 @@ refused-so words line asked result d d' o e e' c c' none seen asks counts refusa
     looked words d d' o e e' c c' result none seen asks counts (subst (λ (r : Ended). EndsSo words (world d o e c) (world d' o e' c') r) (sym h.0) ends)
 
 leaves-none : (words : List (List ℕ)) (day : Day) (files : List File) (known job : Option (Result Plan Fault)) (old new : World)
-    → IsJob words day files known → Leaves known old new files → IsJob words day files job → Leaves job old new files
+    → IsJob words day files known → LeavesPart known old new files → IsJob words day files job → LeavesPart job old new files
 leaves-none words day files known job old new is h other =
-    subst (λ (j : Option (Result Plan Fault)). Leaves j old new files) (one-job words day files known job is other) h
+    subst (λ (j : Option (Result Plan Fault)). LeavesPart j old new files) (one-job words day files known job is other) h
 
 pub usage-keeps : (words : List (List ℕ)) (line : List ℕ) (result : Ended) (d d' : Disk) (o e e' : Stream) (c c' : Watch) → d.begun ≡ None → OnlySeen d d'
     → Asks words c c' → options_of words ≡ None → line ≡ usage_line → Refuses line ended.Usage e e' result → Keeps words (world d o e c) (world d' o e' c') result
@@ -197,7 +197,7 @@ fault-keeps words fault line result d d' o e e' c c' none seen asked refused h =
 -- ---- failures before anything was written
 
 looking-keeps : (words : List (List ℕ)) (w : Which) (d d' : Disk) (o e e' : Stream) (c c' : Watch) → OnlySeen d d' → IsSome (options_of words)
-    → RoseAt w (world d o e c) (world d' o e' c') → Tells (outside_line w) e e' → EndsLooking words w (world d o e c) (world d' o e' c')
+    → RoseAt w (world d o e c) (world d' o e' c') → TriesLine (outside_line w) e e' → EndsLooking words w (world d o e c) (world d' o e' c')
 looking-keeps words w d d' o e e' c c' seen accepted rose told = record {
   cause = rose;
   accepted = accepted;
@@ -206,7 +206,7 @@ looking-keeps words w d d' o e e' c c' seen accepted rose told = record {
 }
 
 looking-so : (words : List (List ℕ)) (w : Which) (d d' : Disk) (o e e' : Stream) (c c' : Watch) → OnlySeen d d' → IsSome (options_of words)
-    → RoseLooking words w d d' c c' → Tells (outside_line w) e e' → EndsOutside words (world d o e c) (world d' o e' c') w
+    → RoseLooking words w d d' c c' → TriesLine (outside_line w) e e' → EndsOutside words (world d o e c) (world d' o e' c') w
 looking-so words which.List d d' o e e' c c' seen accepted rose told = looking-keeps words which.List d d' o e e' c c' seen accepted rose told
 looking-so words which.Read d d' o e e' c c' seen accepted rose told = looking-keeps words which.Read d d' o e e' c c' seen accepted rose told
 looking-so words which.Write d d' o e e' c c' seen accepted rose told = absurd rose
@@ -216,7 +216,7 @@ looking-so words which.Clock d d' o e e' c c' seen accepted rose told =
     record { asked = rose.0; looking = looking-keeps words which.Clock d d' o e e' c c' seen accepted rose.1 told }
 
 pub outside-keeps : (words : List (List ℕ)) (w : Which) (result : Ended) (d d' : Disk) (o e e' : Stream) (c c' : Watch) → d.begun ≡ None → OnlySeen d d'
-    → Asks words c c' → IsSome (options_of words) → RoseLooking words w d d' c c' → Tells (outside_line w) e e' → result ≡ ended.Outside w
+    → Asks words c c' → IsSome (options_of words) → RoseLooking words w d d' c c' → TriesLine (outside_line w) e e' → result ≡ ended.Outside w
     → Keeps words (world d o e c) (world d' o e' c') result
 outside-keeps words w result d d' o e e' c c' none seen asked accepted rose told is =
     looked words d d' o e e' c c' result none seen asked told.counts
@@ -228,7 +228,7 @@ none-left : (ts files : List File) → Interrupted ts files files
 none-left ts files = (0, record { held = tt; others = λ q _. refl })
 
 leaves-nothing : (job : Option (Result Plan Fault)) (d d' : Disk) (o e : Stream) (c c' : Watch) (files : List File) → OnlySeen d d' → d.files ≡ Some files
-    → Leaves job (world d o e c) (world d' o e c') files
+    → LeavesPart job (world d o e c) (world d' o e c') files
 leaves-nothing None d d' o e c c' files seen is = untouched d d' o e e c c' seen
 leaves-nothing (Some (Err fault)) d d' o e c c' files seen is = untouched d d' o e e c c' seen
 leaves-nothing (Some (Ok plan)) d d' o e c c' files seen is =

@@ -7,8 +7,7 @@ use Rattle.acl_host.specs.declared.sinks.WriteFault.TheVariants.{Failed, Memory}
 use Rattle.acl_host.specs.Files.{BothTell}
 use Rattle.acl_host.specs.Outside.{Writes, AddsFront}
 use Rattle.aclgen_core.specs.Endings.{Got}
-use Rattle.aclgen_core.specs.Worlds.{stream}
-use Rattle.aclgen_core.specs.DecidingSteps.{Tells}
+use Rattle.aclgen_core.specs.DecidingSteps.{TriesLine}
 
 pub whole-front : (line : List ℕ) (old new : Option (List ℕ)) → Got line old new → BothTell old new (AddsFront line)
 whole-front line None new e = e
@@ -21,7 +20,8 @@ no-front line None = refl
 no-front line (Some b) = (0, sym (append-nil b))
 
 pub tried : {S T : Type 0} {told : S → Option (List ℕ)} {faults refusals : S → ℕ} {old new : S} {line : List ℕ} (r : Result T WriteFault)
-    → Writes told faults refusals old new line r → Tells line (stream told faults refusals old) (stream told faults refusals new)
+    → Writes told faults refusals old new line r → TriesLine line (record { told = told old; faults = faults old; refusals = refusals old })
+    (record { told = told new; faults = faults new; refusals = refusals new })
 tried {told = told} {old = old} {new = new} {line = line} (Ok x) p = record {
   tried = record {
     front = whole-front line (told old) (told new) p.ok;

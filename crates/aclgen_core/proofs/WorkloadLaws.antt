@@ -2,11 +2,11 @@
 use Rattle.std.proofs.Common.{◌≡◌, ℕ, ◌<◌, ◌≤◌, pos, List, [], ◌∷◌, ◌++◌, map, flat_map, Option, None, Some, IfNone, IfSome, option_map, Result, Ok, Err, inl, refl, ap, sym, subst, ◌∙◌, arith}
 use Rattle.std.specs.List.{AllByRecursion}
 use Rattle.std.proofs.lemmas.Int.{ints}
+use Rattle.std.specs.Option.{option_or}
 use Rattle.acl_text.specs.declared.faults.Fault.{Fault}
-use Rattle.acl_host.specs.declared.clocks.Day.{Day}
+use Rattle.acl_days.specs.declared.days.Day.{Day}
 use Rattle.acl_host.specs.Files.{File}
-use Rattle.acl_host.proofs.NamedDayLaws.{same-day}
-use Rattle.acl_naming.specs.Checking.{first_of}
+use Rattle.acl_days.proofs.NamedDayLaws.{same-day}
 use Rattle.acl_policy.specs.declared.blocks.Policy.{Policy}
 use Rattle.acl_policy.specs.declared.raw_terms.RawTerm.{RawTerm}
 use Rattle.acl_target.specs.declared.targets.Target.{Target}
@@ -49,7 +49,7 @@ request-fits : (today : Day) (written : List RawTerm) (terms : List Term) (targe
     → request_slip today (request_of written terms target) ≡ None
 unfolding check_slip
 request-fits today written terms target h =
-    ap (λ o. first_of o (check_slip (filter_of target today terms))) h.0
+    ap (λ o. option_or o (check_slip (filter_of target today terms))) h.0
     ∙ ap (option_map (limit_slip (filter_of target today terms))) h.1
 
 targets-fit : (today : Day) (written : List RawTerm) (terms : List Term) (targets : List Target) (rest : List FilterRequest)
@@ -57,11 +57,11 @@ targets-fit : (today : Day) (written : List RawTerm) (terms : List Term) (target
     → requests_slip today (map (request_of written terms) targets ++ rest) ≡ None
 targets-fit today written terms [] rest h none = none
 targets-fit today written terms (target ∷ targets) rest h none =
-    ap (λ o. first_of o (requests_slip today (map (request_of written terms) targets ++ rest))) (request-fits today written terms target h.0)
+    ap (λ o. option_or o (requests_slip today (map (request_of written terms) targets ++ rest))) (request-fits today written terms target h.0)
     ∙ targets-fit today written terms targets rest h.1 none
 
 no-slip : (today : Day) (loaded : Loaded) → loaded_slip today loaded ≡ None → job_slip workload_options today loaded ≡ None
-no-slip today loaded h = ap (λ o. first_of o None) h
+no-slip today loaded h = ap (λ o. option_or o None) h
 
 -- The requests of a policy of this one block, with these terms.
 abbrev requests-by : Policy → List (List Term) → List FilterRequest

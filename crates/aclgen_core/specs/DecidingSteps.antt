@@ -5,7 +5,7 @@ use Rattle.std.specs.String.{string_bytes}
 use Rattle.acl_text.specs.Output.{Rose}
 use Rattle.acl_text.specs.declared.faults.Fault.{Fault}
 use Rattle.acl_host.specs.declared.clocks.ClockFault.{ClockFault}
-use Rattle.acl_host.specs.declared.clocks.Day.{Day}
+use Rattle.acl_days.specs.declared.days.Day.{Day}
 use Rattle.acl_host.specs.Files.{File, BothTell}
 use Rattle.acl_host.specs.Outside.{AddsFront}
 use Rattle.acl_options.specs.ComputableOptions.{asks_clock, options_of}
@@ -181,6 +181,6 @@ pub record Acts (work : Work) (d d' : Disk) (o o' e e' : Stream) (result : Ended
   pub so : ActsSo work d d' o o' e e' result
 
 -- A line was tried on the stream, and its counts did not fall.
-pub record Tells (line : List ℕ) (old new : Stream) : Type 0 where
+pub record TriesLine (line : List ℕ) (old new : Stream) : Type 0 where
   pub tried : Tried line old new
   pub counts : StreamCountsGrow old new

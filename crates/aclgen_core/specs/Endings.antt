@@ -7,7 +7,7 @@ use Rattle.acl_packet.specs.Addresses.{covers}
 use Rattle.acl_packet.specs.Packets.{IsPacket}
 use Rattle.acl_text.specs.declared.faults.Fault.{Fault}
 use Rattle.acl_text.specs.Output.{Rose}
-use Rattle.acl_host.specs.declared.clocks.Day.{Day}
+use Rattle.acl_days.specs.declared.days.Day.{Day}
 use Rattle.acl_host.specs.Files.{File, BothTell}
 use Rattle.acl_host.specs.Outside.{AddsFront}
 use Rattle.acl_naming.specs.Definitions.{Naming}
@@ -161,8 +161,8 @@ pub record EndsReporting (words : List (List ℕ)) (old new : World) : Type 0 wh
   pub line : Tried (outside_line which.Out) old.err new.err
 
 -- The line on standard error of a run that is refused.
-abbrev pub IsRefusal : List (List ℕ) → World → List ℕ → Type 0
-IsRefusal words old line = ((options_of words ≡ None) × (line ≡ usage_line))
+abbrev pub IsRefusalLine : List (List ℕ) → World → List ℕ → Type 0
+IsRefusalLine words old line = ((options_of words ≡ None) × (line ≡ usage_line))
     ⊎ (IsSome (options_of words) × ((fault : Fault) × (line ≡ fault_line fault)
     × WhereTold words old (λ day files. IsJob words day files (Some (Err fault)))))
 
@@ -170,7 +170,7 @@ IsRefusal words old line = ((options_of words ≡ None) × (line ≡ usage_line)
 pub record EndsTelling (words : List (List ℕ)) (old new : World) : Type 0 where
   pub cause : RoseAt which.Err old new
   pub untouched : Untouched old new
-  pub line : (line : List ℕ) × IsRefusal words old line × BothTell old.err.told new.err.told (AddsFront line)
+  pub line : (line : List ℕ) × IsRefusalLine words old line × BothTell old.err.told new.err.told (AddsFront line)
 
 abbrev pub EndsOutside : List (List ℕ) → World → World → Which → Type 0
 EndsOutside words old new which.List = EndsLooking words which.List old new
@@ -182,19 +182,19 @@ EndsOutside words old new which.Clock = EndsAsking words old new
 
 -- What stands where memory was wanted: with a fault nothing was touched; with a plan its writing may have been
 -- interrupted, and a front of its report may stand on standard output.
-abbrev pub Leaves : Option (Result Plan Fault) → World → World → List File → Type 0
-Leaves None old new files = Untouched old new
-Leaves (Some (Err fault)) old new files = Untouched old new
-Leaves (Some (Ok plan)) old new files = IsSomeAnd new.disk.files (Interrupted (texts_of plan) files)
+abbrev pub LeavesPart : Option (Result Plan Fault) → World → World → List File → Type 0
+LeavesPart None old new files = Untouched old new
+LeavesPart (Some (Err fault)) old new files = Untouched old new
+LeavesPart (Some (Ok plan)) old new files = IsSomeAnd new.disk.files (Interrupted (texts_of plan) files)
     × BothTell old.out.told new.out.told (AddsFront (report_of plan))
 
 -- Memory was wanted: for the words, whatever they are, for the job, or for a line.
 pub record EndsWanting (words : List (List ℕ)) (old new : World) : Type 0 where
   pub words_untouched : options_of words ≡ None → Untouched old new
   pub leaves : WhereTold words old (λ day files. (job : Option (Result Plan Fault))
-      → IsJob words day files job → Leaves job old new files)
+      → IsJob words day files job → LeavesPart job old new files)
   pub line : (new.err.told ≡ old.err.told)
-      ⊎ ((line : List ℕ) × IsRefusal words old line × BothTell old.err.told new.err.told (AddsFront line))
+      ⊎ ((line : List ℕ) × IsRefusalLine words old line × BothTell old.err.told new.err.told (AddsFront line))
 
 -- ---- the table
 

@@ -3,7 +3,7 @@ use Prim.Native.Nat.{suc}
 use Rattle.std.specs.Prelude.{◌≡◌, ◌≢◌, ℕ, List, [], ◌∷◌, take, Option, Some, Result, OnOk, OnErr}
 use Rattle.std.specs.List.{AllByRecursion}
 use Rattle.acl_host.specs.Files.{File, file_at, BothTell}
-use Rattle.acl_host.specs.Outside.{CountsWriting}
+use Rattle.acl_host.specs.Outside.{CountsWriting, TreeMembers}
 use Rattle.acl_host.specs.declared.sinks.WriteFault.{WriteFault}
 
 -- The path is none of the texts' paths.
@@ -37,10 +37,9 @@ pub record StopsAfter (count : ℕ) (texts old new : List File) : Type 0 where
 abbrev pub Interrupted : List File → List File → List File → Type 0
 Interrupted texts old new = (count : ℕ) × StopsAfter count texts old new
 
-pub record WritesFiles {S T : Type 0} (files : S → Option (List File))
-    (begun : S → Option (List ℕ)) (faults refusals list_faults read_faults : S → ℕ)
+pub record WritesFiles {S T : Type 0} (tree : TreeMembers S)
     (old new : S) (texts : List File) (result : Result T WriteFault) : Type 0 where
-  pub ended : begun new ≡ begun old
-  pub ok : OnOk result (BothTell (files old) (files new) (HoldsTexts texts))
-  pub err : OnErr result (BothTell (files old) (files new) (Interrupted texts))
-  pub counts : CountsWriting faults refusals list_faults read_faults old new result
+  pub ended : tree.begun new ≡ tree.begun old
+  pub ok : OnOk result (BothTell (tree.files old) (tree.files new) (HoldsTexts texts))
+  pub err : OnErr result (BothTell (tree.files old) (tree.files new) (Interrupted texts))
+  pub counts : CountsWriting tree old new result

@@ -1,23 +1,22 @@
 -- The filters that a policy asks for, and the first slip of one of them.
-use Rattle.std.specs.Prelude.{ℕ, Bool, true, false, if◌then◌else◌, List, [], ◌∷◌, ◌++◌, filter, map, slice_get, codes, Option, None, Some, option_map}
+use Rattle.std.specs.Prelude.{ℕ, List, [], ◌∷◌, ◌++◌, filter, map, slice_get, Option, None, Some, option_map}
+use Rattle.std.specs.Option.{option_or}
 use Rattle.acl_text.specs.declared.faults.Code.{Code}
 use Rattle.acl_text.specs.declared.faults.Code.TheVariants as codes_of
 use Rattle.acl_text.specs.declared.faults.Slip.{Slip}
-use Rattle.acl_host.specs.declared.clocks.Day.{Day}
-use Rattle.acl_naming.specs.Checking.{first_of}
+use Rattle.acl_text.specs.Refusals.{first_in, slip}
+use Rattle.acl_days.specs.declared.days.Day.{Day}
 use Rattle.acl_target.specs.declared.targets.Kind.{Kind}
 use Rattle.acl_target.specs.declared.targets.Target.{Target}
 use Rattle.acl_target.specs.Clashes.{same_kind}
 use Rattle.acl_policy.specs.declared.blocks.Block.{Block}
 use Rattle.acl_policy.specs.declared.raw_terms.RawTerm.{RawTerm}
 use Rattle.acl_terms.specs.declared.terms.Term.{Term}
-use Rattle.acl_terms.specs.Slips.{first_in}
 use Rattle.acl_platform.specs.declared.filters.Filter.{Filter}
 use Rattle.acl_platform.specs.declared.filters.Limit.{Limit}
 use Rattle.acl_platform.specs.declared.filters.Limit.TheVariants as limits
 use Rattle.acl_platform.specs.declared.rules.Rule.{Rule}
-use Rattle.acl_platform.specs.declared.rules.Test.{Test}
-use Rattle.acl_platform.specs.declared.rules.Test.TheVariants as tests
+use Rattle.acl_platform.specs.Features.{feature_word}
 use Rattle.acl_expand.specs.Expansions.{filter_of}
 use Rattle.acl_expand.specs.ExpansionSlips.{first_slip}
 use Rattle.acl_load.specs.declared.policy_loading.Loaded.{Loaded}
@@ -56,34 +55,23 @@ requests_on kind rs = filter (λ r. same_kind r.target.kind kind) rs
 
 -- ---- limits of a platform
 
-abbrev pub asks_initial : Test → Bool
-asks_initial tests.Plain = false
-asks_initial tests.AckOrRst = false
-asks_initial tests.SynNotAck = true
-asks_initial tests.Rst = false
-asks_initial tests.State = false
-
--- What the platform has no form for: the first packets of connections, else ports of SCTP.
-abbrev pub unsupported_word : Rule → List ℕ
-unsupported_word r = if asks_initial r.test then codes "tcp-initial" else codes "sctp"
-
 abbrev pub name_word : Rule → List ℕ
 name_word r = r.name
 
 -- The slip stands where the rule's term does.
 abbrev pub rule_slip : Code → (Rule → List ℕ) → Filter → Option Rule → Slip
-rule_slip code word f (Some r) = record { code = code; place = r.place; word = word r }
-rule_slip code word f None = record { code = code; place = f.place; word = [] }
+rule_slip code word f (Some r) = slip code r.place (word r)
+rule_slip code word f None = slip code f.place []
 
 abbrev pub limit_slip : Filter → Limit → Slip
 limit_slip f (limits.NameLength i) =
     rule_slip codes_of.NameLength name_word f (slice_get f.rules i)
 limit_slip f (limits.NameClash i) =
     rule_slip codes_of.NameClash name_word f (slice_get f.rules i)
-limit_slip f (limits.Unsupported i) =
-    rule_slip codes_of.Unsupported unsupported_word f (slice_get f.rules i)
+limit_slip f (limits.Unsupported i feature) =
+    rule_slip codes_of.Unsupported (λ r. feature_word feature) f (slice_get f.rules i)
 limit_slip f limits.TooManyEntries =
-    record { code = codes_of.TooManyEntries; place = f.place; word = f.name }
+    slip codes_of.TooManyEntries f.place f.name
 
 -- ---- the first slip
 
@@ -93,7 +81,7 @@ check_slip f = option_map (limit_slip f) (limit_of f)
 
 -- The slip of the terms on the target, else the limit that their filter meets.
 abbrev pub request_slip : Day → FilterRequest → Option Slip
-request_slip today r = first_of (first_slip r.target today r.terms) (check_slip (filter_for today r))
+request_slip today r = option_or (first_slip r.target today r.terms) (check_slip (filter_for today r))
 
 -- One filter after the other, in order.
 abbrev pub requests_slip : Day → List FilterRequest → Option Slip

@@ -1,16 +1,16 @@
 -- The whole job: from the words, the day and the files to what is written, or to the first fault.
 use Rattle.std.specs.Prelude.{◌≡◌, ℕ, List, [], ◌∷◌, ◌++◌, map, flat_map, Option, None, Some, Result, Ok, Err}
+use Rattle.std.specs.Option.{option_or}
 use Rattle.acl_text.specs.declared.faults.Fault.{Fault}
 use Rattle.acl_text.specs.declared.faults.Slip.{Slip}
-use Rattle.acl_host.specs.declared.clocks.Day.{Day}
+use Rattle.acl_text.specs.Refusals.{slip_fault}
+use Rattle.acl_days.specs.declared.days.Day.{Day}
 use Rattle.acl_host.specs.Files.{File}
-use Rattle.acl_naming.specs.Checking.{first_of}
 use Rattle.acl_naming.specs.Definitions.{Naming}
 use Rattle.acl_target.specs.declared.targets.Kind.{Kind}
 use Rattle.acl_target.specs.declared.targets.Kind.TheVariants.{Cisco, Juniper, Iptables, Nftables}
 use Rattle.acl_load.specs.declared.policy_loading.Loaded.{Loaded}
 use Rattle.acl_load.specs.LoadedPolicies.{GoesOn, LoadsPolicy}
-use Rattle.acl_load.specs.Loading.{fault_of}
 use Rattle.acl_platform.specs.declared.filters.Filter.{Filter}
 use Rattle.acl_render.specs.PlatformFiles.{count_of, text_on}
 use Rattle.acl_report.specs.Reports.{count_line, terms_report}
@@ -59,13 +59,13 @@ plan_of o today loaded = record {
 
 -- A slip is told with the label of its file.
 abbrev pub or_slip : List (List ℕ) → Option Slip → Plan → Result Plan Fault
-or_slip labels (Some slip) plan = Err (fault_of labels slip)
+or_slip labels (Some slip) plan = Err (slip_fault labels slip)
 or_slip labels None plan = Ok plan
 
 -- The first slip of a filter, else that of the first shaded term, where it is asked for.
 abbrev pub job_slip : Options → Day → Loaded → Option Slip
 job_slip o today loaded =
-    first_of (loaded_slip today loaded) (asked_shaded o.shade_check today loaded)
+    option_or (loaded_slip today loaded) (asked_shaded o.shade_check today loaded)
 
 abbrev pub planned : Options → Day → Loaded → Result Plan Fault
 planned o today loaded =

@@ -3,17 +3,17 @@ use Rattle.std.specs.Prelude.{ℕ, Bool, if◌then◌else◌, List, zip, Option,
 use Rattle.std.specs.List.{enumerate_from}
 use Rattle.acl_text.specs.declared.faults.Code.TheVariants.{Shaded}
 use Rattle.acl_text.specs.declared.faults.Slip.{Slip}
-use Rattle.acl_host.specs.declared.clocks.Day.{Day}
+use Rattle.acl_text.specs.Refusals.{first_in, slip}
+use Rattle.acl_days.specs.declared.days.Day.{Day}
 use Rattle.acl_target.specs.declared.targets.Target.{Target}
 use Rattle.acl_policy.specs.declared.blocks.Block.{Block}
 use Rattle.acl_terms.specs.declared.terms.Term.{Term}
-use Rattle.acl_terms.specs.Slips.{first_in}
 use Rattle.acl_shade.specs.ComputableShading.{shading_term}
 use Rattle.acl_load.specs.declared.policy_loading.Loaded.{Loaded}
 
 -- It stands at the shaded term, and its word is the name of the term that shades it.
 abbrev pub shaded_slip : Term → Term → Slip
-shaded_slip t other = record { code = Shaded; place = t.place; word = other.name }
+shaded_slip t other = slip Shaded t.place other.name
 
 abbrev pub slip_at : List Target → Day → List Term → ℕ × Term → Option Slip
 slip_at targets today terms (place, t) = option_map (shaded_slip t) (shading_term targets today terms place)

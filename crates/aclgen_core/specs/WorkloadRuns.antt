@@ -3,7 +3,7 @@
 use Rattle.std.specs.Prelude.{◌≡◌, ◌⊎◌, ℕ, ◌<◌, ◌≤◌, pos, false, List, [], ◌∷◌, map, codes, Result, Ok, None, IfNone, IfSome}
 use Rattle.acl_text.specs.declared.faults.Fault.{Fault}
 use Rattle.acl_text.specs.Output.{Rose}
-use Rattle.acl_host.specs.declared.clocks.Day.{Day}
+use Rattle.acl_days.specs.declared.days.Day.{Day}
 use Rattle.acl_host.specs.Files.{BothTell}
 use Rattle.acl_host.specs.Outside.{AddsFront}
 use Rattle.acl_options.specs.CommandLines.{Options}

@@ -1,6 +1,9 @@
 -- What lies outside a run: the files, the two streams and the clock, as their traits tell them.
 use Rattle.std.specs.Prelude.{ℕ, ◌≤◌, ℤ, List, Option}
 use Rattle.acl_host.specs.Files.{File}
+use Rattle.acl_host.specs.Outside.{TreeMembers}
+use Rattle.acl_host.specs.declared.sinks.Sink as sinks
+use Rattle.acl_host.specs.declared.clocks.Clock as clocks
 
 -- A tree: its files, the path that is begun, and how often its calls failed or wanted memory.
 pub record Disk : Type 0 where
@@ -28,26 +31,30 @@ pub record World : Type 0 where
   pub err : Stream
   pub clock : Watch
 
-abbrev pub disk : {S : Type 0} → (S → Option (List File)) → (S → Option (List ℕ)) → (S → ℕ)
-    → (S → ℕ) → (S → ℕ) → (S → ℕ) → S → Disk
-disk files begun list_faults read_faults write_faults write_refusals s = record {
-  files = files s;
-  begun = begun s;
-  list_faults = list_faults s;
-  read_faults = read_faults s;
-  write_faults = write_faults s;
-  write_refusals = write_refusals s;
+abbrev pub disk : {S : Type 0} → TreeMembers S → S → Disk
+disk t s = record {
+  files = t.files s;
+  begun = t.begun s;
+  list_faults = t.list_faults s;
+  read_faults = t.read_faults s;
+  write_faults = t.faults s;
+  write_refusals = t.refusals s;
 }
 
-abbrev pub stream : {S : Type 0} → (S → Option (List ℕ)) → (S → ℕ) → (S → ℕ) → S → Stream
-stream told faults refusals s =
-    record { told = told s; faults = faults s; refusals = refusals s }
+abbrev pub stream : {S : Type 0} → sinks.Ghosts S → S → Stream
+stream t s = record { told = t.told s; faults = t.faults s; refusals = t.refusals s }
 
-abbrev pub watch : {S : Type 0} → (S → Option ℤ) → (S → ℕ) → S → Watch
-watch day faults s = record { day = day s; faults = faults s }
+abbrev pub watch : {S : Type 0} → clocks.Ghosts S → S → Watch
+watch t s = record { day = t.day s; faults = t.faults s }
 
 abbrev pub world : Disk → Stream → Stream → Watch → World
 world d o e c = record { disk = d; out = o; err = e; clock = c }
+
+-- The world as the members of its four traits tell it.
+abbrev pub world_of : {T O E C : Type 0} → TreeMembers T → sinks.Ghosts O → sinks.Ghosts E
+    → clocks.Ghosts C → T → O → E → C → World
+world_of t o e c tree out err clock =
+    world (disk t tree) (stream o out) (stream e err) (watch c clock)
 
 -- No count falls.
 pub record DiskCountsGrow (old new : Disk) : Type 0 where

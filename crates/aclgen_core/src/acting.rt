@@ -2,7 +2,7 @@ ghost use Rattle.std.specs.Prelude.{◌≡◌, None};
 ghost use Rattle.aclgen_core.specs.FaultLines.{outside_line, usage_line};
 ghost use Rattle.aclgen_core.specs.FileLists.{PathsDiffer};
 ghost use Rattle.aclgen_core.specs.Worlds.{disk, stream};
-ghost use Rattle.aclgen_core.specs.DecidingSteps.{Acts, Refuses, Tells, texts_in};
+ghost use Rattle.aclgen_core.specs.DecidingSteps.{Acts, Refuses, TriesLine, texts_in};
 
 use crate::endings::{Ended, Which};
 use crate::fault_lines::{outside_line, usage_line};
@@ -12,8 +12,7 @@ use acl_host::{Sink, Tree, WriteFault};
 
 /// Writes the line of a refusal. The ending is the one that is asked for, unless the line was not written whole.
 pub fn refuse<E: Sink>(err: &mut E, line: &[u8], asked: Ended) -> Ended
-    ensures { Refuses line.now asked (stream E.told E.faults E.refusals err.old)
-        (stream E.told E.faults E.refusals err.new) result }
+    ensures { Refuses line.now asked (stream E.Sink err.old) (stream E.Sink err.new) result }
 {
     match err.write(line) {
         Ok(()) => asked,
@@ -24,16 +23,14 @@ pub fn refuse<E: Sink>(err: &mut E, line: &[u8], asked: Ended) -> Ended
 
 /// The whole run where the words are not text: some are no UTF-8, so that they are no command line.
 pub fn refuse_words<E: Sink>(err: &mut E) -> Ended
-    ensures { Refuses usage_line Ended.Usage (stream E.told E.faults E.refusals err.old)
-        (stream E.told E.faults E.refusals err.new) result }
+    ensures { Refuses usage_line Ended.Usage (stream E.Sink err.old) (stream E.Sink err.new) result }
 {
     refuse(err, usage_line().as_bytes(), Ended::Usage)
 }
 
 /// Tries to write the line that says what failed. A refusal of it changes nothing in the ending.
 pub fn tell_outside<E: Sink>(err: &mut E, which: Which) -> Ended
-    ensures told { Tells (outside_line which) (stream E.told E.faults E.refusals err.old)
-        (stream E.told E.faults E.refusals err.new) }
+    ensures told { TriesLine (outside_line which) (stream E.Sink err.old) (stream E.Sink err.new) }
     ensures ending { result ≡ Ended.Outside which }
 {
     let _ = err.write(outside_line(which).as_bytes());
@@ -50,11 +47,9 @@ pub fn carry_out<T: Tree, O: Sink, E: Sink>(
     requires begun { T.begun tree.old ≡ None }
     requires differ { PathsDiffer (texts_in work.now) }
     ensures { Acts work.now
-        (disk T.files T.begun T.list_faults T.read_faults T.faults T.refusals tree.old)
-        (disk T.files T.begun T.list_faults T.read_faults T.faults T.refusals tree.new)
-        (stream O.told O.faults O.refusals out.old) (stream O.told O.faults O.refusals out.new)
-        (stream E.told E.faults E.refusals err.old) (stream E.told E.faults E.refusals err.new)
-        result }
+        (disk T.Tree tree.old) (disk T.Tree tree.new)
+        (stream O.Sink out.old) (stream O.Sink out.new)
+        (stream E.Sink err.old) (stream E.Sink err.new) result }
 {
     match write_files(tree, work.files.as_slice()) {
         Ok(()) => {}

@@ -6,10 +6,11 @@ ghost use Rattle.aclgen_core.specs.DecidingSteps.{Decides, FindsDay, FollowsFrom
 use crate::endings::Which;
 use crate::fault_lines::fault_line;
 use crate::planning::{Work, make_work};
-use acl_host::{Clock, ClockFault, Day, Tree, Whole};
+use acl_days::Day;
+use acl_host::{Clock, ClockFault, Tree};
 use acl_load::LoadFault;
 use acl_options::read_options;
-use acl_text::Fault;
+use acl_text::{Fault, Whole};
 use std::alloc::Global;
 
 /// What a run is to do.
@@ -44,7 +45,7 @@ fn decision_on(alloc: Global, fault: LoadFault) -> Decision
 
 // The day that the words name, else the clock's.
 fn day_for<C: Clock>(date: Option<Day>, clock: &mut C) -> Result<Day, ClockFault>
-    ensures { FindsDay date (watch C.day C.faults clock.old) (watch C.day C.faults clock.new) result }
+    ensures { FindsDay date (watch C.Clock clock.old) (watch C.Clock clock.new) result }
 {
     match date {
         Some(day) => Ok(day),
@@ -60,9 +61,8 @@ pub fn decide<T: Tree, C: Clock>(
     clock: &mut C,
 ) -> Decision
     ensures { Decides (map string_bytes words.now)
-        (disk T.files T.begun T.list_faults T.read_faults T.faults T.refusals tree.old)
-        (disk T.files T.begun T.list_faults T.read_faults T.faults T.refusals tree.new)
-        (watch C.day C.faults clock.old) (watch C.day C.faults clock.new) result }
+        (disk T.Tree tree.old) (disk T.Tree tree.new)
+        (watch C.Clock clock.old) (watch C.Clock clock.new) result }
 {
     let options = match read_options(alloc, words) {
         Ok(Some(options)) => options,

@@ -3,9 +3,8 @@ ghost use Rattle.aclgen_core.specs.FaultLines.{outside_line, usage_line};
 ghost use Rattle.acl_load.specs.FaultLines.{fault_line};
 
 use crate::endings::Which;
-use acl_host::Whole;
 use acl_load::put_fault;
-use acl_text::{Fault, Memory};
+use acl_text::{Fault, Memory, Whole};
 use std::alloc::Global;
 
 /// The line that names a fault.

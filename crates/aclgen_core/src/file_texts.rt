@@ -2,9 +2,10 @@ ghost use Rattle.std.specs.Prelude.{◌≡◌, None, map};
 ghost use Rattle.aclgen_core.specs.FileLists.{PathsDiffer, WritesFiles};
 ghost use Rattle.aclgen_core.specs.DecidingSteps.{text_view};
 
-use acl_host::{Tree, Whole, WriteFault, write_file};
-
 /// A file that is to be written: its path and its bytes.
+use acl_host::{Tree, WriteFault, write_file};
+use acl_text::Whole;
+
 #[derive(Drop)]
 pub struct FileText {
     pub path: String,
@@ -17,8 +18,7 @@ pub struct FileText {
 pub fn write_files<T: Tree>(tree: &mut T, files: &[FileText]) -> Result<(), WriteFault>
     requires begun { T.begun tree.old ≡ None }
     requires differ { PathsDiffer (map text_view files.now) }
-    ensures { WritesFiles T.files T.begun T.faults T.refusals T.list_faults T.read_faults
-        tree.old tree.new (map text_view files.now) result }
+    ensures { WritesFiles T.Tree tree.old tree.new (map text_view files.now) result }
 {
     match files {
         [] => Ok(()),

@@ -1,6 +1,7 @@
-ghost use Rattle.std.specs.Prelude.{◌≡◌, ℕ, List, Option, Result};
+ghost use Rattle.std.specs.Prelude.{◌≡◌, ℕ, List, Option, Some, Result, Err};
+ghost use Rattle.acl_text.specs.AnsweredCodes.{IsAnswered};
 ghost use Rattle.acl_text.specs.declared.faults.Fault.{Fault};
-ghost use Rattle.acl_host.specs.declared.clocks.Day.{Day};
+ghost use Rattle.acl_days.specs.declared.days.Day.{Day};
 ghost use Rattle.acl_host.specs.Files.{File};
 ghost use Rattle.aclgen_core.specs.Job.{IsJob, Plan};
 ghost use Rattle.aclgen_core.specs.WorkloadRuns.{WorkloadsHaveNoFault};
@@ -16,6 +17,13 @@ pub fn jobs_are_one()
 pub fn jobs_are_there()
     ensures { (words : List (List ℕ)) → (day : Day) → (files : List File)
         → (job : Option (Result Plan Fault)) × IsJob words day files job }
+{}
+
+/// A law: the fault of a job has one of the codes that `aclgen` answers, which are all but five.
+#[tactic(auto, using(crate::proofs::AnsweredFaults::job_answered))]
+pub fn faults_are_answered()
+    ensures { (words : List (List ℕ)) → (day : Day) → (files : List File) → (fault : Fault)
+        → IsJob words day files (Some (Err fault)) → IsAnswered fault.code }
 {}
 
 /// A law: the workload of 1 to 1024 terms has a plan, and so no fault.

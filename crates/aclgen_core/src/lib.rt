@@ -17,5 +17,5 @@ mod workload_runs;
 
 pub use acting::refuse_words;
 pub use endings::{Ended, Which, status_of};
-pub use laws::{jobs_are_one, jobs_are_there, workloads_have_no_fault};
+pub use laws::{faults_are_answered, jobs_are_one, jobs_are_there, workloads_have_no_fault};
 pub use running::aclgen;

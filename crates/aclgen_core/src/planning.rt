@@ -18,14 +18,15 @@ ghost use Rattle.aclgen_core.specs.PreparingSteps.{
 use crate::file_texts::FileText;
 use crate::preparing::{FileDraft, FileDrafts, prepare};
 use crate::shading::refuse_shaded;
-use acl_host::{Day, Tree, Whole};
+use acl_days::Day;
+use acl_host::Tree;
 use acl_load::{LoadFault, Loaded, load, policy_fault};
 use acl_options::Options;
 use acl_platform::Filter;
 use acl_policy::Kind;
 use acl_render::render;
 use acl_report::report_terms;
-use acl_text::{Memory, Out, Refusal, Rejection};
+use acl_text::{Memory, Out, Refusal, Rejection, Whole};
 use std::alloc::Global;
 
 /// What a run is to write: its files, and the report on standard output.
@@ -134,8 +135,7 @@ pub fn make_work<T: Tree>(
     tree: &mut T,
 ) -> Result<Work, LoadFault>
     ensures makes { MakesWork (options_view options.now) today (T.files tree.old) result }
-    ensures looks { LoadsFiles T.files T.begun T.faults T.refusals T.list_faults T.read_faults
-        tree.old tree.new result }
+    ensures looks { LoadsFiles T.Tree tree.old tree.new result }
 {
     let loaded = load(alloc, tree, options.definitions, options.policy)?;
     Ok(plan(alloc, options, today, &loaded)?)

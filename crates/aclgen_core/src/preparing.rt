@@ -17,15 +17,15 @@ ghost use Rattle.aclgen_core.specs.PreparingSteps.{
 
 use crate::filter_paths::path_of;
 use crate::slips::limit_refusal;
+use acl_days::Day;
 use acl_expand::expand;
-use acl_host::{Day, Whole};
 use acl_load::{Loaded, Terms};
 use acl_platform::Filter;
 use acl_policy::{Block, Kind, Target};
 use acl_render::check;
 use acl_report::put_count;
 use acl_terms::Term;
-use acl_text::{Items, Memory, Refusal};
+use acl_text::{Items, Memory, Refusal, Whole};
 use std::alloc::Global;
 
 /// The file of a platform: its path, its filters in order, and their lines of the report.

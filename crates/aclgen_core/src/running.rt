@@ -1,6 +1,6 @@
 ghost use Rattle.std.specs.Prelude.{◌≡◌, map, None};
 ghost use Rattle.std.specs.String.{string_bytes};
-ghost use Rattle.aclgen_core.specs.Worlds.{disk, stream, watch, world};
+ghost use Rattle.aclgen_core.specs.Worlds.{world_of};
 ghost use Rattle.aclgen_core.specs.WorkloadRuns.{Runs};
 
 use crate::acting::{carry_out, refuse, tell_outside};
@@ -28,12 +28,8 @@ pub fn aclgen<T: Tree, O: Sink, E: Sink, C: Clock>(
 ) -> Ended
     requires { T.begun tree.old ≡ None }
     ensures { Runs (map string_bytes words.now)
-        (world (disk T.files T.begun T.list_faults T.read_faults T.faults T.refusals tree.old)
-        (stream O.told O.faults O.refusals out.old) (stream E.told E.faults E.refusals err.old)
-        (watch C.day C.faults clock.old))
-        (world (disk T.files T.begun T.list_faults T.read_faults T.faults T.refusals tree.new)
-        (stream O.told O.faults O.refusals out.new) (stream E.told E.faults E.refusals err.new)
-        (watch C.day C.faults clock.new)) result }
+        (world_of T.Tree O.Sink E.Sink C.Clock tree.old out.old err.old clock.old)
+        (world_of T.Tree O.Sink E.Sink C.Clock tree.new out.new err.new clock.new) result }
 {
     if let Some(terms) = read_workload(words) {
         return run_workload(alloc, terms, out, err);

@@ -1,9 +1,8 @@
 ghost use Rattle.std.specs.Prelude.{zip};
-ghost use Rattle.acl_terms.specs.Slips.{Judges, first_in};
+ghost use Rattle.acl_text.specs.Refusals.{Judges, first_in};
 ghost use Rattle.aclgen_core.specs.ShadedSlips.{block_shaded, loaded_shaded, terms_shaded};
 
-use crate::slips::refusal_at;
-use acl_host::Day;
+use acl_days::Day;
 use acl_load::{Loaded, Terms};
 use acl_policy::{Block, Target};
 use acl_shade::shading_term;
@@ -22,7 +21,7 @@ fn refuse_in_block(
 {
     for (place, term) in terms.iter().enumerate() {
         if let Some(other) = shading_term(terms, targets, today, place) {
-            return Err(refusal_at(alloc, Code::Shaded, term.place, other.name.as_slice()));
+            return Err(Refusal::at(alloc, Code::Shaded, term.place, other.name.as_slice()));
         }
     }
     Ok(())

@@ -1,5 +1,5 @@
 ghost use Rattle.std.specs.Prelude.{◌≡◌, ◌≤◌, IfOk};
-ghost use Rattle.acl_host.specs.MemoryTrees.{contents};
+ghost use Rattle.acl_memory.specs.MemoryTrees.{contents};
 ghost use Rattle.aclgen_core.specs.Worlds.{stream};
 ghost use Rattle.aclgen_core.specs.WorkloadRuns.{MakesWorkload, ReportsOn, RunsWorkload};
 ghost use Rattle.workload_laws.specs.WorkloadFiles.{workload_files};
@@ -7,8 +7,10 @@ ghost use Rattle.workload_laws.specs.WorkloadFiles.{workload_files};
 use crate::acting::tell_outside;
 use crate::endings::{Ended, Which};
 use crate::planning::{Work, make_work};
-use acl_host::{Day, MemTree, Sink, WriteFault};
+use acl_days::Day;
+use acl_host::{Sink, WriteFault};
 use acl_load::LoadFault;
+use acl_memory::MemTree;
 use acl_options::Options;
 use acl_text::Memory;
 use acl_workload::workload;
@@ -56,9 +58,8 @@ fn plan_workload(alloc: Global, terms: u32) -> Result<Work, Memory>
 // Writes the report.
 fn report_on<O: Sink, E: Sink>(text: &[u8], out: &mut O, err: &mut E) -> Ended
     ensures { ReportsOn text.now
-        (stream O.told O.faults O.refusals out.old) (stream O.told O.faults O.refusals out.new)
-        (stream E.told E.faults E.refusals err.old) (stream E.told E.faults E.refusals err.new)
-        result }
+        (stream O.Sink out.old) (stream O.Sink out.new)
+        (stream E.Sink err.old) (stream E.Sink err.new) result }
 {
     match out.write(text) {
         Ok(()) => Ended::Done,
@@ -72,9 +73,8 @@ pub fn run_workload<O: Sink, E: Sink>(alloc: Global, terms: u32, out: &mut O, er
     requires least { 1 ≤ terms }
     requires most { terms ≤ 1024 }
     ensures { RunsWorkload terms
-        (stream O.told O.faults O.refusals out.old) (stream O.told O.faults O.refusals out.new)
-        (stream E.told E.faults E.refusals err.old) (stream E.told E.faults E.refusals err.new)
-        result }
+        (stream O.Sink out.old) (stream O.Sink out.new)
+        (stream E.Sink err.old) (stream E.Sink err.new) result }
 {
     match plan_workload(alloc, terms) {
         Ok(work) => report_on(work.report.as_slice(), out, err),

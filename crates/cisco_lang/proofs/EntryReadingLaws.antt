@@ -12,7 +12,7 @@ use Rattle.std.proofs.Math.Nat.{mul-le-mul_right, zero-mul}
 use Rattle.acl_packet.specs.declared.addresses.Family.{Family}
 use Rattle.acl_packet.specs.declared.addresses.Family.TheVariants.{V4, V6}
 use Rattle.acl_packet.specs.declared.addresses.Prefix.{Prefix}
-use Rattle.acl_packet.specs.Addresses.{width_of, size_of, IsPrefixOf}
+use Rattle.acl_packet.specs.Addresses.{width_of, size_of, IsPrefixOf, everywhere}
 use Rattle.acl_packet.specs.Decimals.{number_in, digits_in}
 use Rattle.acl_packet.specs.Packets.{icmp_of}
 use Rattle.acl_packet.proofs.DecimalLaws.{number-again}
@@ -30,7 +30,7 @@ use Rattle.acl_grammar.specs.declared.rule_parts.End.{End}
 use Rattle.acl_grammar.specs.declared.rule_parts.End.TheVariants.{Source, Destination}
 use Rattle.cisco_lang.specs.declared.entry_drafts.Next.TheVariants.{Place, Wildcard, Port, Low, Tests}
 use Rattle.cisco_lang.specs.declared.entry_drafts.EntryDraft.{EntryDraft}
-use Rattle.cisco_lang.specs.Documents.{everywhere, IsEntry}
+use Rattle.cisco_lang.specs.Documents.{IsEntry}
 use Rattle.cisco_lang.specs.Texts.{action_word, proto_word, masked_words, address_words, ports_words, type_words, flags_words, end_words, entry_words}
 use Rattle.cisco_lang.specs.ReadingSteps.{draft, no_entry, with_place, with_ports, ports_of, after, proto_named, proto_in, host_in, place_in, length_in, port_in, begun, place_named, take_place, test_named, take_test, take_as, take_word, entry_in}
 

@@ -40,10 +40,6 @@ flags_fit family e = (is_none e.flags || is_proto e.proto 6) && match_all_fits f
 abbrev pub parts_fit : Family → Entry → Bool
 parts_fit family e = ports_fit e && (type_fits family e && flags_fit family e)
 
--- The prefix of all the addresses of a family.
-abbrev pub everywhere : Family → Prefix
-everywhere family = record { family = family; first = 0; len = 0 }
-
 -- An entry of a list of the family. Protocol 0 and type 255 have no number here.
 pub record IsEntry (family : Family) (e : Entry) : Type 0 where
   pub protocol : IfSome e.proto (λ n. (1 ≤ n) × (n ≤ 255))

@@ -9,7 +9,7 @@ use Rattle.acl_packet.specs.declared.addresses.Family.TheVariants.{V4, V6}
 use Rattle.acl_packet.specs.declared.addresses.Families.{Families}
 use Rattle.acl_packet.specs.declared.addresses.Families.TheVariants.{Inet, Mixed}
 use Rattle.acl_packet.specs.declared.addresses.Prefix.{Prefix}
-use Rattle.acl_packet.specs.Addresses.{width_of}
+use Rattle.acl_packet.specs.Addresses.{width_of, everywhere}
 use Rattle.acl_packet.specs.Decimals.{number_in}
 use Rattle.acl_packet.specs.Packets.{icmp_of}
 use Rattle.acl_text.specs.AddressTexts.{address_in, spelled_prefix_in}
@@ -28,7 +28,6 @@ use Rattle.cisco_lang.specs.declared.entry_drafts.Next.{Next}
 use Rattle.cisco_lang.specs.declared.entry_drafts.Next.TheVariants.{Action, Protocol, Place, Host, Wildcard, Port, Low, High, Tests}
 use Rattle.cisco_lang.specs.declared.entry_drafts.EntryDraft.{EntryDraft}
 use Rattle.cisco_lang.specs.declared.lists_drafts.ListsDraft.{ListsDraft}
-use Rattle.cisco_lang.specs.Documents.{everywhere}
 
 -- ---- the words of an entry
 

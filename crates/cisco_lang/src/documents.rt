@@ -1,5 +1,4 @@
 ghost use Rattle.std.specs.Prelude.{◌≡◌};
-ghost use Rattle.cisco_lang.specs.Documents.{everywhere};
 
 use acl_packet::{Families, Family, Prefix};
 use acl_text::{Bytes, Items};
@@ -28,17 +27,6 @@ pub struct Entry {
     pub itype: Option<u8>,
     pub flags: Option<Flags>,
     pub log: bool,
-}
-
-/// The prefix of all the addresses of the family.
-pub fn everywhere(family: Family) -> Prefix
-    ensures { result ≡ everywhere family }
-{
-    Prefix {
-        family,
-        first: 0,
-        len: 0,
-    }
 }
 
 /// A line of a list.

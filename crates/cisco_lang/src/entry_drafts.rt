@@ -4,7 +4,7 @@ ghost use Rattle.std.specs.Str.{bytes_eq};
 ghost use Rattle.acl_text.specs.Cuts.{views};
 ghost use Rattle.cisco_lang.specs.ReadingSteps.{draft, no_entry, with_place, with_ports, place_of, ports_of, after, proto_in, host_in, place_in, length_in, port_in, port_pair, begun, ports_begin, place_named, take_place, test_named, with_test, take_test, take_as, take_word, entry_in};
 
-use crate::documents::{Entry, Flags, everywhere};
+use crate::documents::{Entry, Flags};
 use acl_grammar::End;
 use acl_packet::{Family, Prefix};
 use acl_text::{read_address, read_spelled_prefix, read_u8, read_u16};
@@ -61,9 +61,9 @@ impl EntryDraft {
             entry: Entry {
                 permit: false,
                 proto: None,
-                src: everywhere(family),
+                src: Prefix::everywhere(family),
                 sport: None,
-                dst: everywhere(family),
+                dst: Prefix::everywhere(family),
                 dport: None,
                 itype: None,
                 flags: None,
@@ -136,7 +136,7 @@ impl EntryDraft {
         ensures { result ≡ place_named self.family self.entry end word.now }
     {
         if is(word, "any") {
-            self.with_place(end, everywhere(self.family), after(end))
+            self.with_place(end, Prefix::everywhere(self.family), after(end))
         } else if is(word, "host") {
             self.with_next(Next::Host(end))
         } else {

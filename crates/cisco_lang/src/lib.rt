@@ -11,6 +11,6 @@ mod validity;
 mod walking;
 
 pub use acl_grammar::{outcome, sections};
-pub use documents::{AccessList, Doc, Entry, Flags, Item, Section, everywhere};
+pub use documents::{AccessList, Doc, Entry, Flags, Item, Section};
 pub use list_rows::{EntryRow, ListEnd, ListHead, RemarkRow, SectionHead};
 pub use reading::read;

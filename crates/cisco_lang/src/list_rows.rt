@@ -1,6 +1,6 @@
 ghost use Rattle.std.specs.Prelude.{◌≡◌, ◌∷◌, [], codes, IsTrue};
 ghost use Rattle.acl_text.specs.Cuts.{views};
-ghost use Rattle.acl_text.specs.Output.{Puts};
+ghost use Rattle.acl_text.specs.Puts.{Puts};
 ghost use Rattle.acl_grammar.specs.Rows.{row, spaced, text_of_rows, words_in};
 ghost use Rattle.acl_grammar.specs.RuleParts.{log_words};
 ghost use Rattle.cisco_lang.specs.declared.documents.Item.TheVariants.{Entry as AnEntry};
@@ -98,7 +98,7 @@ impl<'a> Rows for ListHead<'a> {
 
 fn put_head<O: Out>(first: &[u8], rest: &[&[u8]], out: &mut O) -> Result<(), PutFault>
     requires { IsTrue (O.is_open out.old) }
-    ensures { Puts O.told O.faults O.refusals O.is_open O.keeps_rest out.old out.new
+    ensures { Puts O.Out out.old out.new
         (text_of_rows (row 0 (codes "no" ∷ first.now ∷ views rest.now)
         ∷ row 0 (first.now ∷ views rest.now) ∷ [])) result }
 {
@@ -266,7 +266,7 @@ impl Words for Place {
 impl Place {
     fn put_masked<O: Out>(&self, out: &mut O) -> Result<(), PutFault>
         requires { IsTrue (O.is_open out.old) }
-        ensures { Puts O.told O.faults O.refusals O.is_open O.keeps_rest out.old out.new
+        ensures { Puts O.Out out.old out.new
             (spaced (masked_words self.now.family self.now.place)) result }
     {
         match self.family {

@@ -12,7 +12,7 @@ use Rattle.acl_packet.specs.declared.filtering.Outcome.{Outcome}
 use Rattle.acl_packet.specs.declared.filtering.Verdict.{Verdict}
 use Rattle.acl_packet.specs.declared.filtering.Verdict.TheVariants.{Accept, Deny, Reject, Reset, Left}
 use Rattle.acl_packet.specs.declared.packets.Packet.{Packet}
-use Rattle.acl_packet.specs.Addresses.{covers, has_address, same_family, width_of}
+use Rattle.acl_packet.specs.Addresses.{covers, has_address, same_family, width_of, everywhere}
 use Rattle.acl_packet.specs.Outcomes.{unlogged}
 use Rattle.acl_packet.specs.Packets.{IsPacket}
 use Rattle.acl_grammar.proofs.DecisionLaws.{le_decides}
@@ -36,7 +36,7 @@ use Rattle.acl_platform.proofs.EntryLaws.{over-items}
 use Rattle.acl_grammar.specs.RuleParts.{number_holds}
 use Rattle.cisco_lang.specs.declared.documents.Item.{Item}
 use Rattle.cisco_lang.specs.declared.documents.Item.TheVariants.{Remark, Entry as AnEntry}
-use Rattle.cisco_lang.specs.Documents.{everywhere, heads_of}
+use Rattle.cisco_lang.specs.Documents.{heads_of}
 use Rattle.cisco_lang.specs.Walks.{ending, entry_holds, first_holding, flags_hold, has_entries, is_entry, items_of, port_holds, section_outcome, verdict_of, walk}
 use Rattle.gen_cisco.specs.Limits.{is_for_cisco, limit_of}
 use Rattle.gen_cisco.specs.SectionLaws.{device-is, rules-are}

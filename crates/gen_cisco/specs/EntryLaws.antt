@@ -1,7 +1,7 @@
 -- The entries of a rule that has no limit are entries of a list: proved here, and need not be
 -- believed.
 use Rattle.std.proofs.Common.{subst, ◌≡◌, ℕ, ◌≤◌, true, false, ◌&&◌, ◌||◌, Option, None, Some, IfSome, is_none, refl, ap, sym, ◌∙◌}
-use Rattle.std.proofs.lemmas.Bool.{and_from, false≢true, or_parts}
+use Rattle.std.proofs.lemmas.Bool.{and_from, false≢true}
 use Rattle.std.proofs.Math.Nat.{suc-le-suc_iff}
 use Rattle.acl_packet.specs.declared.addresses.Families.{Families}
 use Rattle.acl_packet.specs.declared.addresses.Family.{Family}
@@ -23,7 +23,7 @@ use Rattle.acl_platform.proofs.NamedNumbers.{named, no-icmp, protocol-is, type-i
 use Rattle.acl_platform.proofs.RuleNumbers.{no-destination, no-source, tcp-or-udp}
 use Rattle.acl_grammar.specs.RuleParts.{is_proto}
 use Rattle.cisco_lang.specs.Documents.{flags_fit, IsEntry, match_all_fits, ports_fit, type_fits}
-use Rattle.gen_cisco.specs.Limits.{asks_initial, is_unsupported}
+use Rattle.gen_cisco.specs.Limits.{asks_initial, asks_initial_in_ipv6}
 use Rattle.gen_cisco.specs.Sections.{entry_of, flags_of}
 
 -- ---- the type
@@ -44,17 +44,15 @@ either s proto p only none =
     ap (λ x. is_proto x 6 || is_proto x 17) one.1.0 ∙ tcp-or-udp s one.0 only none one.1.1.0
 
 ports-fit : (families : Families) (r : Rule) (proto : Option ℕ) (sport dport : Option (ℕ × ℕ)) → IsSoundRule Cisco families r
-    → is_unsupported r ≡ false → OfNumbers r.protos proto → OfRanges r.sports sport → OfRanges r.dports dport
+    → names_sctp_ports r ≡ false → OfNumbers r.protos proto → OfRanges r.sports sport → OfRanges r.dports dport
     → (is_none sport && is_none dport || (is_proto proto 6 || is_proto proto 17)) ≡ true
 ports-fit families r proto None None h u p k l = refl
 ports-fit families r proto (Some q) dport h u p k l =
-    let sctp = (or_parts (same_family r.family V6 && asks_initial r.test) (names_sctp_ports r) u).1 in
     either r.protos proto p (h.source_ports_fit k.0)
-    (no-source (holds r.protos.ranges 132) (is_all r.sports) (is_all r.dports) sctp k.0)
+    (no-source (holds r.protos.ranges 132) (is_all r.sports) (is_all r.dports) u k.0)
 ports-fit families r proto None (Some q) h u p k l =
-    let sctp = (or_parts (same_family r.family V6 && asks_initial r.test) (names_sctp_ports r) u).1 in
     either r.protos proto p (h.destination_ports_fit l.0)
-    (no-destination (holds r.protos.ranges 132) (is_all r.sports) (is_all r.dports) sctp l.0)
+    (no-destination (holds r.protos.ranges 132) (is_all r.sports) (is_all r.dports) u l.0)
 
 range-is : (s : Numbers) (o : Option (ℕ × ℕ)) → s.top ≡ 65535 → OfRanges s o → IfSome o IsPortRange
 range-is s None e h = tt
@@ -85,11 +83,15 @@ only-tcp s proto p only =
 
 -- ---- the entry
 
-pub entry-is : (families : Families) (r : Rule) (c : Combination) → IsSoundRule Cisco families r → is_unsupported r ≡ false → IsCombinationOf r c
+-- An entry can say what the rule holds.
+pub record IsSayable (r : Rule) : Type 0 where
+  pub initial : asks_initial_in_ipv6 r ≡ false
+  pub ports : names_sctp_ports r ≡ false
+
+pub entry-is : (families : Families) (r : Rule) (c : Combination) → IsSoundRule Cisco families r → IsSayable r → IsCombinationOf r c
     → IsEntry r.family (entry_of r c)
 entry-is families r c h u k =
     let e = entry_of r c in
-    let initial = (or_parts (same_family r.family V6 && asks_initial r.test) (names_sctp_ports r) u).0 in
     record {
       protocol = protocol-is Cisco families r c.proto h k.protocol;
       source = k.source;
@@ -98,9 +100,9 @@ entry-is families r c h u k =
       destination_ports = range-is r.dports c.dport h.destination_ports.top_is k.destination_ports;
       icmp_type = type-is Cisco families r c.itype h k.type_of_icmp;
       fit = and_from (ports_fit e) (type_fits r.family e && flags_fit r.family e)
-          (ports-fit families r c.proto c.sport c.dport h u k.protocol k.source_ports k.destination_ports)
+          (ports-fit families r c.proto c.sport c.dport h u.ports k.protocol k.source_ports k.destination_ports)
           (and_from (type_fits r.family e) (flags_fit r.family e) (types-fit families r c.proto c.itype h k.protocol k.type_of_icmp)
           (and_from (is_none e.flags || is_proto e.proto 6) (match_all_fits r.family e.flags)
           (of-tcp r.test c.proto (λ t. only-tcp r.protos c.proto k.protocol (h.flags_fit t)))
-          (match-all r.family r.test initial)));
+          (match-all r.family r.test u.initial)));
     }

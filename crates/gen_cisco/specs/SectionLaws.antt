@@ -17,6 +17,7 @@ use Rattle.acl_text.proofs.ListLaws.{all_append}
 use Rattle.acl_target.specs.declared.targets.Ending.TheVariants.{Neighbours}
 use Rattle.acl_target.specs.declared.targets.Kind.TheVariants.{Cisco}
 use Rattle.acl_target.specs.TargetData.{IsDevice}
+use Rattle.acl_platform.specs.declared.filters.Feature.TheVariants.{TcpInitial, SctpPorts}
 use Rattle.acl_platform.specs.declared.filters.Filter.{Filter}
 use Rattle.acl_platform.specs.declared.filters.Limit.TheVariants.{NameLength, Unsupported}
 use Rattle.acl_platform.specs.declared.rules.Rule.{Rule}
@@ -25,6 +26,7 @@ use Rattle.acl_platform.proofs.AcceptedFilters
 use Rattle.acl_platform.proofs.AcceptedFilters.{not-limited, rules-within, short-name, target-fits}
 use Rattle.acl_platform.proofs.RuleNames.{name-safe, notes-safe, rule-name}
 use Rattle.acl_platform.specs.Combinations.{combinations}
+use Rattle.acl_platform.specs.Limits.{names_sctp_ports}
 use Rattle.acl_platform.specs.Platforms.{IsAccepted}
 use Rattle.acl_platform.specs.Remarks.{remarks}
 use Rattle.acl_platform.specs.SoundFilters.{IsRuleName, IsSoundRule, target_of}
@@ -32,8 +34,8 @@ use Rattle.cisco_lang.specs.declared.documents.Item.{Item}
 use Rattle.cisco_lang.specs.declared.documents.Item.TheVariants.{Remark, Entry as AnEntry}
 use Rattle.cisco_lang.specs.Documents.{heads_of, IsEntry, IsItem, IsList, match_all_fits}
 use Rattle.cisco_lang.specs.Texts.{Spells, text_of}
-use Rattle.gen_cisco.specs.EntryLaws.{entry-is}
-use Rattle.gen_cisco.specs.Limits.{is_for_cisco, is_unsupported, limit_of, rule_limit}
+use Rattle.gen_cisco.specs.EntryLaws.{entry-is, IsSayable}
+use Rattle.gen_cisco.specs.Limits.{asks_initial_in_ipv6, is_for_cisco, limit_of, rule_limit}
 use Rattle.gen_cisco.specs.Sections.{closed, entry_of, entry_count, items_in, list_of, rule_items, section_of, wide_entry}
 
 -- ---- an accepted filter
@@ -49,12 +51,21 @@ rules-are f h = AcceptedFilters.rules-are Cisco limit_of f h
 
 -- A rule without a limit.
 abbrev pub IsWithin : Rule → Type 0
-IsWithin r = (length r.name ≤ 64) × (is_unsupported r ≡ false)
+IsWithin r = (length r.name ≤ 64) × IsSayable r
 
 rule-within : (earlier : List Rule) (r : Rule) → rule_limit earlier r ≡ None → IsWithin r
 rule-within earlier r h =
-    let name = not-limited (nat_lt 64 (length r.name)) (NameLength (length earlier)) (cond (is_unsupported r) (Some (Unsupported (length earlier))) None) h in
-    (short-name 64 (length r.name) name.0, (not-limited (is_unsupported r) (Unsupported (length earlier)) None name.1).0)
+    let place = length earlier in
+    let last = cond (names_sctp_ports r) (Some (Unsupported place SctpPorts)) None in
+    let behind = cond (asks_initial_in_ipv6 r) (Some (Unsupported place TcpInitial)) last in
+    let name = not-limited (nat_lt 64 (length r.name)) (NameLength place) behind h in
+    let initial = not-limited (asks_initial_in_ipv6 r) (Unsupported place TcpInitial) last name.1 in (
+      short-name 64 (length r.name) name.0,
+      record {
+        initial = initial.0;
+        ports = (not-limited (names_sctp_ports r) (Unsupported place SctpPorts) None initial.1).0;
+      },
+    )
 
 rules-are-within : (f : Filter) → limit_of f ≡ None → AllByRecursion IsWithin f.rules
 rules-are-within f h = rules-within rule_limit IsWithin rule-within (entry_count f) f h

@@ -5,7 +5,7 @@ use Rattle.acl_packet.specs.declared.addresses.Family.{Family}
 use Rattle.acl_packet.specs.declared.addresses.Family.TheVariants.{V4, V6}
 use Rattle.acl_packet.specs.declared.filtering.Verdict.{Verdict}
 use Rattle.acl_packet.specs.declared.filtering.Verdict.TheVariants.{Accept}
-use Rattle.acl_packet.specs.Addresses.{same_family}
+use Rattle.acl_packet.specs.Addresses.{same_family, everywhere}
 use Rattle.acl_platform.specs.declared.combinations.Combination.{Combination}
 use Rattle.acl_platform.specs.declared.filters.Filter.{Filter}
 use Rattle.acl_platform.specs.declared.rules.Rule.{Rule}
@@ -20,7 +20,7 @@ use Rattle.cisco_lang.specs.declared.documents.Item.TheVariants.{Remark, Entry a
 use Rattle.cisco_lang.specs.declared.documents.Entry.{Entry}
 use Rattle.cisco_lang.specs.declared.documents.Flags.{Flags}
 use Rattle.cisco_lang.specs.declared.documents.Flags.TheVariants as flags
-use Rattle.cisco_lang.specs.Documents.{everywhere, heads_of}
+use Rattle.cisco_lang.specs.Documents.{heads_of}
 use Rattle.cisco_lang.specs.Walks.{is_entry}
 
 -- The flags of an entry. A router follows no connection, so that no rule for it asks for one.

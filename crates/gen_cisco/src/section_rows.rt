@@ -1,6 +1,6 @@
 ghost use Rattle.std.specs.Prelude.{◌≡◌, ◌++◌, ◌∷◌, [], codes, flat_map, map, IsTrue};
 ghost use Rattle.std.specs.List.{All};
-ghost use Rattle.acl_text.specs.Output.{Puts};
+ghost use Rattle.acl_text.specs.Puts.{Puts};
 ghost use Rattle.acl_grammar.specs.Rows.{row, text_of_rows, words_in};
 ghost use Rattle.acl_packet.specs.declared.addresses.Family.TheVariants.{V6};
 ghost use Rattle.acl_platform.specs.Combinations.{IsSized, combinations};
@@ -21,20 +21,19 @@ ghost use Rattle.gen_cisco.specs.Sections.{
 
 use crate::counts::{has_rule, is_of};
 use acl_grammar::{Form, Row, Rows, Word};
-use acl_packet::{Families, Family, Verdict};
+use acl_packet::{Families, Family, Prefix, Verdict};
 use acl_platform::{
     Combination, Filter, RemarkForm, RemarkRows, Rule, RuleForm, Test, put_combinations, put_rules,
 };
 use acl_text::{Out, PutFault};
-use cisco_lang::{Entry, EntryRow, Flags, ListEnd, ListHead, RemarkRow, SectionHead, everywhere};
+use cisco_lang::{Entry, EntryRow, Flags, ListEnd, ListHead, RemarkRow, SectionHead};
 
 /// Puts the text of the section that the filter becomes, in an output that has to be open. Protocols and
 /// types of its rules have to be numbers below 256, ports below 65,536.
 pub(crate) fn put_section<O: Out>(filter: &Filter, out: &mut O) -> Result<(), PutFault>
     requires open { IsTrue (O.is_open out.old) }
     requires sized { All IsSized filter.now.rules }
-    ensures { Puts O.told O.faults O.refusals O.is_open O.keeps_rest out.old out.new
-        (text_of (section_of filter.now ∷ [])) result }
+    ensures { Puts O.Out out.old out.new (text_of (section_of filter.now ∷ [])) result }
 {
     let name = filter.name.as_slice();
     let rules = filter.rules.as_slice();
@@ -133,7 +132,7 @@ impl<'a> Rows for ListItems<'a> {
 
 fn put_closing<O: Out>(family: Family, out: &mut O) -> Result<(), PutFault>
     requires { IsTrue (O.is_open out.old) }
-    ensures { Puts O.told O.faults O.refusals O.is_open O.keeps_rest out.old out.new
+    ensures { Puts O.Out out.old out.new
         (text_of_rows (items_rows family (map (λ e. AnEntry e) (closing_entries family)))) result }
 {
     let denial = wide_row(family, false, None, None);
@@ -158,9 +157,9 @@ fn wide_row(family: Family, permit: bool, proto: Option<u8>, itype: Option<u8>) 
         entry: Entry {
             permit,
             proto,
-            src: everywhere(family),
+            src: Prefix::everywhere(family),
             sport: None,
-            dst: everywhere(family),
+            dst: Prefix::everywhere(family),
             dport: None,
             itype,
             flags: None,

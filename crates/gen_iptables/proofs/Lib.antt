@@ -1,3 +1,4 @@
+pub mod AppendRows
 pub mod EntryCounts
 pub mod GroupSteps
 pub mod NameLaws

@@ -1,5 +1,6 @@
 ghost use Rattle.std.specs.Prelude.{◌≡◌, List, IsTrue, flat_map, length, min};
-ghost use Rattle.acl_text.specs.Output.{COUNT_END, Puts};
+ghost use Rattle.acl_text.specs.Output.{COUNT_END};
+ghost use Rattle.acl_text.specs.Puts.{Puts};
 ghost use Rattle.acl_grammar.specs.Rows.{Row, text_of_rows};
 ghost use Rattle.acl_sets.specs.declared.sets.Range.{Range};
 ghost use Rattle.gen_iptables.specs.Groups.{group_choices, groups};
@@ -17,7 +18,7 @@ pub(crate) trait GroupForm {
     /// Puts the lines of the group's rows. The group without ports is no condition.
     fn put_group<O: Out>(&self, group: &[Range], out: &mut O) -> Result<(), PutFault>
         requires { IsTrue (O.is_open out.old) }
-        ensures { Puts O.told O.faults O.refusals O.is_open O.keeps_rest out.old out.new
+        ensures { Puts O.Out out.old out.new
             (text_of_rows (group_rows self.now group.now)) result };
 }
 
@@ -28,7 +29,7 @@ pub(crate) fn put_groups<F: GroupForm, O: Out>(
     out: &mut O,
 ) -> Result<(), PutFault>
     requires { IsTrue (O.is_open out.old) }
-    ensures { Puts O.told O.faults O.refusals O.is_open O.keeps_rest out.old out.new
+    ensures { Puts O.Out out.old out.new
         (text_of_rows (flat_map (F.group_rows form.now) (group_choices set.now))) result }
 {
     if set.is_all() {

@@ -24,6 +24,7 @@ impl Platform for Iptables {
 
     ghost section = { section_of };
 
+    #[tactic(auto, using(acl_platform::proofs::SoundRules::all_sized))]
     fn put_section<O: Out>(&self, filter: &Filter, out: &mut O) -> Result<(), PutFault> {
         put_section(filter, out)
     }

@@ -1,3 +1,4 @@
+ghost use Rattle.gen_iptables.specs.EntryRows.{CountIsOfAppends};
 ghost use Rattle.gen_iptables.specs.SectionNames.{FirstLine, SectionsDiffer};
 
 /// A law: a section's first line is `## ` and the text of its target.
@@ -8,4 +9,10 @@ pub fn a_section_begins_with_its_target()
 /// A law: no two sections of filters whose targets do not clash have the same hook and family.
 pub fn targets_without_clash_have_different_sections()
     ensures { SectionsDiffer }
+{}
+
+/// A law: the number of entries of a filter is that of the rows of its section which begin with `-A`.
+#[tactic(auto, using(crate::proofs::AppendRows::count_is_of_appends))]
+pub fn entries_are_rows_that_append()
+    ensures { CountIsOfAppends }
 {}

@@ -10,4 +10,7 @@ mod rule_rows;
 mod section_rows;
 
 pub use iptables::Iptables;
-pub use laws::{a_section_begins_with_its_target, targets_without_clash_have_different_sections};
+pub use laws::{
+    a_section_begins_with_its_target, entries_are_rows_that_append,
+    targets_without_clash_have_different_sections,
+};

@@ -1,6 +1,6 @@
 ghost use Rattle.std.specs.Prelude.{◌≡◌, ◌∷◌, [], IsTrue, flat_map};
 ghost use Rattle.std.specs.List.{All};
-ghost use Rattle.acl_text.specs.Output.{Puts};
+ghost use Rattle.acl_text.specs.Puts.{Puts};
 ghost use Rattle.acl_platform.specs.Combinations.{IsSized};
 ghost use Rattle.acl_platform.specs.Families.{family_of};
 ghost use Rattle.ipt_lang.specs.Texts.{chain_rows, remark_rows, text_of};
@@ -19,8 +19,7 @@ use ipt_lang::{ChainHead, JumpRow, RemarkRow, SectionHead};
 pub(crate) fn put_section<O: Out>(filter: &Filter, out: &mut O) -> Result<(), PutFault>
     requires open { IsTrue (O.is_open out.old) }
     requires sized { All IsSized filter.now.rules }
-    ensures { Puts O.told O.faults O.refusals O.is_open O.keeps_rest out.old out.new
-        (text_of (section_of filter.now ∷ [])) result }
+    ensures { Puts O.Out out.old out.new (text_of (section_of filter.now ∷ [])) result }
 {
     let chains = ChainsRows {
         hook: filter.hook,

@@ -13,7 +13,7 @@ use Rattle.acl_packet.specs.declared.packets.Packet.{Packet}
 use Rattle.acl_packet.specs.Addresses.{covers, same_family, width_of}
 use Rattle.acl_packet.specs.Outcomes.{unlogged}
 use Rattle.acl_packet.specs.Packets.{IsPacket}
-use Rattle.acl_sets.specs.LeastLists.{any_has}
+use Rattle.acl_packet.specs.AddressLists.{any_has}
 use Rattle.acl_sets.specs.Ranges.{holds}
 use Rattle.acl_target.specs.declared.targets.Ending.{Ending}
 use Rattle.acl_target.specs.declared.targets.Ending.TheVariants.{Deny}

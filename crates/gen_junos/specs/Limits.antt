@@ -4,6 +4,7 @@
 -- one term of its filter). The greatest length of a name is aclgen's own.
 use Rattle.std.specs.Prelude.{Bool, nat_lt, if◌then◌else◌, List, length, Option, None, Some}
 use Rattle.acl_target.specs.declared.targets.Kind.TheVariants.{Juniper}
+use Rattle.acl_platform.specs.declared.filters.Feature.TheVariants.{SctpPorts}
 use Rattle.acl_platform.specs.declared.filters.Filter.{Filter}
 use Rattle.acl_platform.specs.declared.filters.Limit.{Limit}
 use Rattle.acl_platform.specs.declared.filters.Limit.TheVariants.{NameLength, NameClash, Unsupported}
@@ -20,7 +21,7 @@ abbrev pub rule_limit : List Rule → Rule → Option Limit
 rule_limit earlier r =
     if nat_lt 64 (length r.name) then Some (NameLength (length earlier))
     else if is_name_taken earlier r then Some (NameClash (length earlier))
-    else if names_sctp_ports r then Some (Unsupported (length earlier))
+    else if names_sctp_ports r then Some (Unsupported (length earlier) SctpPorts)
     else None
 
 abbrev pub limit_of : Filter → Option Limit

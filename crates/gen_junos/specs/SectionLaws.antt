@@ -7,6 +7,7 @@ use Rattle.acl_packet.specs.declared.addresses.Family.{Family}
 use Rattle.acl_target.specs.declared.targets.Kind.TheVariants.{Juniper}
 use Rattle.acl_target.specs.Clashes.{is_mixed}
 use Rattle.acl_platform.specs.declared.filters.Filter.{Filter}
+use Rattle.acl_platform.specs.declared.filters.Feature.TheVariants.{SctpPorts}
 use Rattle.acl_platform.specs.declared.filters.Limit.TheVariants.{NameLength, NameClash, Unsupported}
 use Rattle.acl_platform.specs.declared.rules.Rule.{Rule}
 use Rattle.acl_platform.specs.Limits.{is_name_taken, names_sctp_ports}
@@ -32,13 +33,13 @@ record IsWithin (earlier : List Rule) (r : Rule) : Type 0 where
 rule-within : (earlier : List Rule) (r : Rule) → rule_limit earlier r ≡ None → IsWithin earlier r
 rule-within earlier r h =
     let place = length earlier in
-    let last = cond (names_sctp_ports r) (Some (Unsupported place)) None in
+    let last = cond (names_sctp_ports r) (Some (Unsupported place SctpPorts)) None in
     let name = not-limited (nat_lt 64 (length r.name)) (NameLength place) (cond (is_name_taken earlier r) (Some (NameClash place)) last) h in
     let clash = not-limited (is_name_taken earlier r) (NameClash place) last name.1 in
     record {
       short = short-name 64 (length r.name) name.0;
       new = clash.0;
-      supported = (not-limited (names_sctp_ports r) (Unsupported place) None clash.1).0;
+      supported = (not-limited (names_sctp_ports r) (Unsupported place SctpPorts) None clash.1).0;
     }
 
 abbrev IsSayable : Rule → Type 0

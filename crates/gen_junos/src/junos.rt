@@ -29,6 +29,7 @@ impl Platform for Junos {
 
     ghost section = { section_of };
 
+    #[tactic(auto, using(acl_platform::proofs::SoundRules::all_sized))]
     fn put_section<O: Out>(&self, filter: &Filter, out: &mut O) -> Result<(), PutFault> {
         put_section(filter, out)
     }

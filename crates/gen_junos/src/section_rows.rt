@@ -1,6 +1,6 @@
 ghost use Rattle.std.specs.Prelude.{◌∷◌, [], flat_map, IsTrue};
 ghost use Rattle.std.specs.List.{All};
-ghost use Rattle.acl_text.specs.Output.{Puts};
+ghost use Rattle.acl_text.specs.Puts.{Puts};
 ghost use Rattle.acl_platform.specs.Combinations.{IsSized};
 ghost use Rattle.acl_platform.specs.Families.{family_of};
 ghost use Rattle.junos_lang.specs.Texts.{note_row, term_rows, text_of};
@@ -22,8 +22,7 @@ use junos_lang::{NoteRow, SectionEnd, SectionHead, TermEnd, TermHead, ThenRows};
 pub(crate) fn put_section<O: Out>(filter: &Filter, out: &mut O) -> Result<(), PutFault>
     requires open { IsTrue (O.is_open out.old) }
     requires sized { All IsSized filter.now.rules }
-    ensures { Puts O.told O.faults O.refusals O.is_open O.keeps_rest out.old out.new
-        (text_of (section_of filter.now ∷ [])) result }
+    ensures { Puts O.Out out.old out.new (text_of (section_of filter.now ∷ [])) result }
 {
     let family = family_of(filter.families);
     let head = SectionHead {

@@ -14,7 +14,7 @@ use Rattle.acl_packet.specs.Outcomes.{unlogged}
 use Rattle.acl_packet.specs.Packets.{has_flag, is_initial, IsPacket}
 use Rattle.acl_grammar.proofs.DecisionLaws.{family_decides}
 use Rattle.acl_sets.specs.ComputableSets.{is_all}
-use Rattle.acl_sets.specs.LeastLists.{any_has}
+use Rattle.acl_packet.specs.AddressLists.{any_has}
 use Rattle.acl_sets.specs.Ranges.{holds, Numbers}
 use Rattle.acl_sets.proofs.ComputableSetLaws.{covers-holds}
 use Rattle.acl_target.specs.declared.targets.Ending.{Ending}

@@ -25,6 +25,7 @@ impl Platform for Nftables {
 
     ghost section = { section_of };
 
+    #[tactic(auto, using(acl_platform::proofs::SoundRules::all_sized))]
     fn put_section<O: Out>(&self, filter: &Filter, out: &mut O) -> Result<(), PutFault> {
         let items = ChainItems {
             families: filter.families,

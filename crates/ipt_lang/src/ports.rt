@@ -1,6 +1,6 @@
 ghost use Rattle.std.specs.Prelude.{◌≡◌, ◌∷◌, ◌&&◌, IsTrue, List, ℕ, flat_map, map};
 ghost use Rattle.std.specs.List.{join_with_byte};
-ghost use Rattle.acl_text.specs.Output.{Puts};
+ghost use Rattle.acl_text.specs.Puts.{Puts};
 ghost use Rattle.ipt_lang.specs.Texts.{is_single, key_words, port_list_words, ports_words, range_word};
 
 use acl_grammar::{Piece, PortRange, Word, WordForm, Words, put_words};
@@ -163,7 +163,7 @@ impl<'a, T, F: WordForm<T>> Piece for Others<'a, T, F> {
 
 fn put_others<T, F: WordForm<T>, O: Out>(items: &[T], form: &F, out: &mut O) -> Result<(), PutFault>
     requires { IsTrue (O.is_open out.old) }
-    ensures { Puts O.told O.faults O.refusals O.is_open O.keeps_rest out.old out.new
+    ensures { Puts O.Out out.old out.new
         (flat_map (λ x. 44 ∷ F.item_text form.now x) items.now) result }
 {
     let comma: &[u8] = b",";

@@ -1,6 +1,6 @@
 ghost use Rattle.std.specs.Prelude.{◌≡◌, ◌∷◌, [], codes, IsTrue};
 ghost use Rattle.acl_text.specs.Cuts.{views};
-ghost use Rattle.acl_text.specs.Output.{Puts};
+ghost use Rattle.acl_text.specs.Puts.{Puts};
 ghost use Rattle.acl_grammar.specs.Rows.{row, text_of_rows};
 ghost use Rattle.junos_lang.specs.Documents.{family_word};
 ghost use Rattle.junos_lang.specs.Texts.{closing, end_rows, head_rows, note_row, syslog_rows, term_row, then_rows, verdict_words};
@@ -70,8 +70,7 @@ impl<'a> Rows for SectionHead<'a> {
 #[tactic(auto, unfolding(crate::specs::Texts::head_rows))]
 fn put_head<'a, O: Out>(family: &'a [u8], name: &'a [u8], out: &mut O) -> Result<(), PutFault>
     requires { IsTrue (O.is_open out.old) }
-    ensures { Puts O.told O.faults O.refusals O.is_open O.keeps_rest out.old out.new
-        (text_of_rows (head_rows family.now name.now)) result }
+    ensures { Puts O.Out out.old out.new (text_of_rows (head_rows family.now name.now)) result }
 {
     let comment = Line {
         indent: 0,
@@ -166,8 +165,7 @@ impl Rows for TermEnd {
 /// Puts the row of one word of a part of a term.
 pub(crate) fn put_word<O: Out>(word: &[u8], out: &mut O) -> Result<(), PutFault>
     requires { IsTrue (O.is_open out.old) }
-    ensures { Puts O.told O.faults O.refusals O.is_open O.keeps_rest out.old out.new
-        (text_of_rows (row 20 (word.now ∷ []) ∷ [])) result }
+    ensures { Puts O.Out out.old out.new (text_of_rows (row 20 (word.now ∷ []) ∷ [])) result }
 {
     let line = Line {
         indent: 20,

@@ -1,5 +1,5 @@
 ghost use Rattle.std.specs.Prelude.{◌≡◌, ◌∷◌, [], IsTrue, codes};
-ghost use Rattle.acl_text.specs.Output.{Puts};
+ghost use Rattle.acl_text.specs.Puts.{Puts};
 ghost use Rattle.acl_grammar.specs.Rows.{row, text_of_rows, words_in};
 ghost use Rattle.nft_lang.specs.declared.documents.Item.TheVariants.{Rule as ARule};
 ghost use Rattle.nft_lang.specs.RuleRowSteps.{rule_of_row};
@@ -468,7 +468,7 @@ impl Form<Item> for OfFamilies {
 #[tactic(auto, unfolding(crate::specs::Texts::item_rows))]
 fn put_rule<O: Out>(families: Families, rule: &Rule, out: &mut O) -> Result<(), PutFault>
     requires { IsTrue (O.is_open out.old) }
-    ensures { Puts O.told O.faults O.refusals O.is_open O.keeps_rest out.old out.new
+    ensures { Puts O.Out out.old out.new
         (text_of_rows (item_rows families (ARule rule.now))) result }
 {
     let row = RuleRow {

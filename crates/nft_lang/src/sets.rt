@@ -1,6 +1,6 @@
 ghost use Rattle.std.specs.Prelude.{◌++◌, IsTrue, codes, decimal, map, flat_map};
 ghost use Rattle.acl_text.specs.AddressTexts.{prefix_text};
-ghost use Rattle.acl_text.specs.Output.{Puts};
+ghost use Rattle.acl_text.specs.Puts.{Puts};
 ghost use Rattle.nft_lang.specs.Texts.{set_words, with_commas};
 
 use acl_grammar::{Number, Piece, WordForm, Words};
@@ -119,7 +119,7 @@ fn put_others<T, F: WordForm<T>, O: Out>(
     out: &mut O,
 ) -> Result<(), PutFault>
     requires { IsTrue (O.is_open out.old) }
-    ensures { Puts O.told O.faults O.refusals O.is_open O.keeps_rest out.old out.new
+    ensures { Puts O.Out out.old out.new
         (flat_map (λ e. codes ", " ++ F.item_text form.now e) elements.now) result }
 {
     let comma: &[u8] = b", ";

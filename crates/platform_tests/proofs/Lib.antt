@@ -1,1 +1,2 @@
 pub mod SampleSections
+pub mod SoundSamples

@@ -1,1 +1,2 @@
 pub mod SampleFilters
+pub mod SampleRules

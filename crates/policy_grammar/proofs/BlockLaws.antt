@@ -18,7 +18,8 @@ use Rattle.acl_policy.specs.ReadingParts.{State}
 use Rattle.acl_policy.specs.ValueKinds as takes
 use Rattle.acl_policy.specs.Conditions.{Each, StandsBehind, NameIsNew, targets_of, terms_of}
 use Rattle.acl_policy.specs.Policies.{start, with_number, with_target, behind_target, behind_header_keyword, behind_word, behind_keyword, behind_begin, behind_end, values_of, last_place, end_of, policy_of}
-use Rattle.acl_policy.specs.Slips.{start_place, slip_of, slip_with}
+use Rattle.acl_text.specs.Refusals.{slip}
+use Rattle.acl_policy.specs.Slips.{start_place, slip_of}
 use Rattle.acl_policy.specs.Terms.{no_draft}
 use Rattle.acl_policy.specs.Values.{is_value, some_values}
 use Rattle.acl_policy.proofs.ClashLaws.{any_same, clash_same}
@@ -67,7 +68,7 @@ target_read : (s : State) (k : Token) (t : TargetText) → k.place ≡ t.place �
     → behind_target s k (line_named k.place t.line) ≡ Ok (with_target s (target_meant t))
 unfolding behind_target
 target_read s k t e h room = subst (λ p. (if list_any (λ x. clash x (line_meant p 0 t.line)) s.earlier
-    then Err (slip_with codes_of.FilterTwice (line_named p t.line).place (line_meant p 0 t.line).name)
+    then Err (slip codes_of.FilterTwice (line_named p t.line).place (line_meant p 0 t.line).name)
     else if nat_le 64 (length s.earlier) then Err (slip_of codes_of.TooMany k)
     else Ok (with_target s (with_number s.earlier (line_meant p 0 t.line)))) ≡ Ok (with_target s (target_meant t))) (sym e)
     (if_false (list_any (λ x. clash x (line_meant t.place 0 t.line)) s.earlier) _ _

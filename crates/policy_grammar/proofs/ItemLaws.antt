@@ -12,7 +12,7 @@ use Rattle.acl_text.specs.Steps.{◌>>=◌}
 use Rattle.acl_words.specs.declared.forms.Form.{Form}
 use Rattle.acl_words.specs.Tokens.{Token}
 use Rattle.acl_words.specs.Words.{word}
-use Rattle.acl_host.specs.NamedDays.{day_named}
+use Rattle.acl_days.specs.NamedDays.{day_named}
 use Rattle.acl_policy.specs.declared.raw_terms.RawTerm.{RawTerm}
 use Rattle.acl_words.specs.declared.word_lists.Word.{Word}
 use Rattle.acl_policy.specs.ReadingParts.{Draft}

@@ -23,11 +23,12 @@ use Rattle.acl_policy.specs.ReadingParts.{Draft}
 use Rattle.acl_policy.specs.ValueKinds.{Takes}
 use Rattle.acl_policy.specs.ValueKinds as takes
 use Rattle.acl_policy.specs.Policies.{start, with_number, with_target, behind_target, behind_header_keyword, behind_word, behind_words, behind_keyword, behind_begin, behind_end, behind_mark, is_mark, values_of, behind_marks, behind_all, last_place, end_of, policy_of}
-use Rattle.acl_policy.specs.Slips.{start_place, slip_of, slip_with}
+use Rattle.acl_text.specs.Refusals.{slip}
+use Rattle.acl_policy.specs.Slips.{start_place, slip_of}
 use Rattle.acl_policy.specs.Targets.{is_word, or_slip, family_word, chain_word, hook_word, name_word, no_choices, choice, choices_from, last_family, device_line, device_target, named_target, iptables_target, iptables_line, nftables_target, hooked_line, nftables_line, target_line}
 use Rattle.acl_policy.specs.Terms.{with_comments, term_with_addresses, term_with_protocols, term_with_lists, draft_behind}
 use Rattle.acl_policy.specs.Values.{is_value, word_of, all_values, some_values, words_with, one_value}
-use Rattle.acl_host.specs.NamedDays.{day_named}
+use Rattle.acl_days.specs.NamedDays.{day_named}
 use Rattle.policy_grammar.specs.ReadingLaws.{may_be_mended}
 use Rattle.policy_grammar.proofs.Outcomes.{bind_assoc, bind_same}
 
@@ -258,11 +259,11 @@ target_mends s k n e p = by_tests (list_any (λ x. clash x n.target) s.earlier) 
     next = with_target s (with_number s.earlier n.target)
 
     by_tests : (b c : Bool)
-        → (if b then Err (slip_with codes_of.FilterTwice n.place n.target.name) else if c then Err
+        → (if b then Err (slip codes_of.FilterTwice n.place n.target.name) else if c then Err
         (slip_of codes_of.TooMany k) else Ok next) ≡ Err e
         → may_be_mended e.code ≡ true
     by_tests true c p = ap (λ z. may_be_mended z.code)
-        (sym (one_slip {A = State} _ (slip_with codes_of.FilterTwice n.place n.target.name) e refl p))
+        (sym (one_slip {A = State} _ (slip codes_of.FilterTwice n.place n.target.name) e refl p))
     by_tests false true p = ap (λ z. may_be_mended z.code) (sym (one_slip {A = State} _ (slip_of codes_of.TooMany k) e refl p))
     by_tests false false p = no_slip next e _ refl p
 

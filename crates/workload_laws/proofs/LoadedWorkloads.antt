@@ -1,10 +1,10 @@
 -- A workload is loaded, and its filters fit.
 use Rattle.std.proofs.Common.{◌≡◌, ℕ, ◌+◌, ◌*◌, ◌<◌, ◌≤◌, zero, suc, List, [], ◌∷◌, map, None, Ok, refl, ap, sym, subst, ◌∙◌, arith}
 use Rattle.std.specs.List.{range_with_len}
-use Rattle.acl_host.specs.declared.clocks.Day.{Day}
+use Rattle.std.specs.Option.{option_or}
+use Rattle.acl_days.specs.declared.days.Day.{Day}
 use Rattle.acl_target.specs.declared.targets.Target.{Target}
 use Rattle.acl_platform.specs.declared.rules.Rule.{Rule}
-use Rattle.acl_naming.specs.Checking.{first_of}
 use Rattle.acl_expand.specs.Expansions.{filter_of, filter_with}
 use Rattle.acl_load.specs.declared.policy_loading.Loaded.{Loaded}
 use Rattle.acl_load.specs.LoadedPolicies.{AreResolved, GoesOn, LoadsPolicy, Resolves, ResolvesWith, blocks_slip, terms_slip}
@@ -28,7 +28,7 @@ use Rattle.acl_target.specs.declared.targets.Kind.TheVariants.{Cisco, Juniper, I
 no_slips : (n a m : ℕ) → a + m ≤ n → n ≤ 1024 → terms_slip (workload_naming n) (map term_meant (map term_at (range_with_len a m))) ≡ None
 no_slips n a zero within few = refl
 no_slips n a (suc m) within few =
-    ap (λ o. first_of o (terms_slip (workload_naming n) (map term_meant (map term_at (range_with_len (a + 1) m))))) (no_slip n a (omega (arith, within)) few)
+    ap (λ o. option_or o (terms_slip (workload_naming n) (map term_meant (map term_at (range_with_len (a + 1) m))))) (no_slip n a (omega (arith, within)) few)
     ∙ no_slips n (a + 1) m (omega (arith, within)) few
 
 are_resolved : (n a m : ℕ) → a + m ≤ n → n ≤ 1024 → (room : a + m ≤ 1024)
@@ -52,7 +52,7 @@ loaded_at n few = record {
 }
 
 no_fault : (n : ℕ) → n ≤ 1024 → blocks_slip (workload_naming n) (text_meant (workload_text n)).blocks ≡ None
-no_fault n few = ap (λ o. first_of o None) (no_slips n 0 n (omega arith) few)
+no_fault n few = ap (λ o. option_or o None) (no_slips n 0 n (omega arith) few)
 
 resolves : (n : ℕ) (few : n ≤ 1024)
     → Resolves (workload_naming n) (record { sources = splice_at n; policy = text_meant (workload_text n) }) (Ok (loaded_at n few))

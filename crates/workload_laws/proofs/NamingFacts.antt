@@ -11,8 +11,8 @@ use Rattle.acl_text.specs.PortRanges.{port_in, port_pair_in, ports_in}
 use Rattle.acl_text.specs.Cursors.{words_of}
 use Rattle.acl_text.specs.Cuts.{cut_at}
 use Rattle.acl_text.specs.Names.{is_name}
-use Rattle.acl_naming.specs.declared.item_words.Kind.{Kind}
-use Rattle.acl_naming.specs.declared.item_words.Kind.TheVariants.{Networks, Services}
+use Rattle.acl_naming.specs.declared.item_words.NamingKind.{NamingKind}
+use Rattle.acl_naming.specs.declared.item_words.NamingKind.TheVariants.{Networks, Services}
 use Rattle.acl_naming.specs.declared.naming_items.Item.{Item}
 use Rattle.acl_naming.specs.Definitions.{Definition}
 use Rattle.acl_naming.specs.ItemWords.{item_in, network_in, service_in, service_ports_in}
@@ -24,7 +24,7 @@ use Rattle.workload_laws.proofs.RangeLaws.{SameBelow, computed}
 
 -- The lines of a naming file, one for each number: each defines a name, which is a letter and the number.
 pub record NamedLines : Type 0 where
-  pub kind : Kind
+  pub kind : NamingKind
   pub file : ℕ
   pub letter : List ℕ
   pub line : ℕ → List ℕ

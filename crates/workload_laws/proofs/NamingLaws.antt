@@ -7,7 +7,7 @@ use Rattle.std.proofs.lemmas.Bool.Decides.{nat_tests}
 use Rattle.std.proofs.lemmas.List.FromFn.{length-map-range_with_len}
 use Rattle.acl_text.specs.declared.faults.Place.{Place}
 use Rattle.acl_text.specs.Steps.{◌>>=◌}
-use Rattle.acl_naming.specs.declared.item_words.Kind.TheVariants.{Networks, Services}
+use Rattle.acl_naming.specs.declared.item_words.NamingKind.TheVariants.{Networks, Services}
 use Rattle.acl_naming.specs.Definitions.{Definition, items_count}
 use Rattle.acl_naming.specs.NamingFiles.{file_added, line_added, lines_added, opens, without_comment}
 use Rattle.acl_naming.proofs.TableLaws.{items_more}

@@ -10,9 +10,9 @@ use Rattle.acl_text.specs.Steps.{◌>>=◌}
 use Rattle.acl_text.specs.Cursors.{words_of}
 use Rattle.acl_text.specs.Cuts.{cut_at}
 use Rattle.acl_text.specs.Names.{is_name}
-use Rattle.acl_naming.specs.declared.item_words.Kind.{Kind}
+use Rattle.acl_text.specs.Refusals.{slip}
+use Rattle.acl_naming.specs.declared.item_words.NamingKind.{NamingKind}
 use Rattle.acl_naming.specs.declared.naming_items.Item.{Item}
-use Rattle.acl_naming.specs.Checking.{slip}
 use Rattle.acl_naming.specs.Definitions.{Definition, index_of, items_count}
 use Rattle.acl_naming.specs.ItemWords.{item_in}
 use Rattle.acl_naming.specs.NamingFiles.{Outcome, bad_byte, item_added, item_put, items_added, line_added, most, split_added, trimmed, with_definition, with_items}
@@ -33,7 +33,7 @@ more_items d items = record { name = d.name; place = d.place; items = d.items ++
 has_room : (n m : ℕ) → n < m → nat_le m n ≡ false
 has_room n m below = grind (arith, nat_tests)
 
-one_put : (kind : Kind) (place : Place) (ds : List Definition) (d : Definition) (word : List ℕ) (item : Item) → item_in kind place word ≡ Some item
+one_put : (kind : NamingKind) (place : Place) (ds : List Definition) (d : Definition) (word : List ℕ) (item : Item) → item_in kind place word ≡ Some item
     → items_count (ds ++ d ∷ []) < most → item_added kind place (ds ++ d ∷ []) word ≡ Ok (ds ++ more_items d (item ∷ []) ∷ [])
 unfolding item_added
 one_put kind place ds d word item is room =
@@ -47,7 +47,7 @@ counted ds d item =
     ∙ ap (λ n. items_count ds + n) (length-append d.items (item ∷ []))
     ∙ omega (arith, items_more ds d)
 
-pub items_put : (kind : Kind) (place : Place) (ds : List Definition) (d : Definition) (words : List (List ℕ)) (items : List Item)
+pub items_put : (kind : NamingKind) (place : Place) (ds : List Definition) (d : Definition) (words : List (List ℕ)) (items : List Item)
     → map (item_in kind place) words ≡ map Some items → items_count (ds ++ d ∷ []) + length items ≤ most
     → items_added kind place (ds ++ d ∷ []) words ≡ Ok (ds ++ more_items d items ∷ [])
 items_put kind place ds d [] [] e room = ap (λ is. Ok (ds ++ record { name = d.name; place = d.place; items = is } ∷ [])) (sym (append-nil d.items))
@@ -66,18 +66,18 @@ items_put kind place ds d (w ∷ ws) (item ∷ items) e room =
     ∙ ap (λ is. Ok (ds ++ record { name = d.name; place = d.place; items = is } ∷ [])) (append_assoc d.items (item ∷ []) items)
 
 -- a line without a bad byte
-good_line : (kind : Kind) (place : Place) (is_open : Bool) (ds : List Definition) (text : List ℕ) → bad_byte text ≡ None
+good_line : (kind : NamingKind) (place : Place) (is_open : Bool) (ds : List Definition) (text : List ℕ) → bad_byte text ≡ None
     → line_added kind place is_open ds text ≡ split_added kind place is_open ds text
 good_line kind place is_open ds text good =
     ap (λ o. option_map_or {U = Outcome} (λ b. Err (slip codes.BadByte place (b ∷ []))) o (split_added kind place is_open ds text)) good
 
-cut_line : (kind : Kind) (place : Place) (is_open : Bool) (ds : List Definition) (text front rest : List ℕ) → cut_at 61 text ≡ Some (front, rest)
+cut_line : (kind : NamingKind) (place : Place) (is_open : Bool) (ds : List Definition) (text front rest : List ℕ) → cut_at 61 text ≡ Some (front, rest)
     → split_added kind place is_open ds text ≡ with_definition kind place ds (trimmed front) rest
 cut_line kind place is_open ds text front rest cut =
     ap (λ o. option_map_or {U = Outcome} (λ p. with_definition kind place ds (trimmed p.0) p.1) o (with_items kind place is_open ds (words_of text))) cut
 
 -- a line with a new name, and items behind `=`
-pub line_defines : (kind : Kind) (place : Place) (is_open : Bool) (ds : List Definition) (text front rest name : List ℕ) (items : List Item)
+pub line_defines : (kind : NamingKind) (place : Place) (is_open : Bool) (ds : List Definition) (text front rest name : List ℕ) (items : List Item)
     → bad_byte text ≡ None → cut_at 61 text ≡ Some (front, rest) → trimmed front ≡ name → is_name name ≡ true
     → map (item_in kind place) (words_of rest) ≡ map Some items → index_of ds name ≡ None → length ds < most
     → items_count ds + length items ≤ most

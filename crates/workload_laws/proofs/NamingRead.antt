@@ -3,13 +3,14 @@ use Rattle.std.proofs.Common.{◌≡◌, ℕ, ◌+◌, ◌≤◌, zero, suc, fal
 use Rattle.std.specs.List.{list_any, range_with_len}
 use Rattle.std.proofs.lemmas.Bool.{cond-false, false≢true}
 use Rattle.std.proofs.lemmas.Bool.Decides.{nat_tests}
+use Rattle.std.specs.Option.{option_or}
 use Rattle.acl_text.specs.declared.faults.Code.TheVariants.{TooLong}
 use Rattle.acl_text.specs.declared.faults.Fault.{Fault}
 use Rattle.acl_text.specs.Steps.{◌>>=◌}
 use Rattle.acl_host.specs.Files.{names_under}
 use Rattle.acl_host.specs.WholeFiles.{at_most, listing, whole_file}
-use Rattle.acl_naming.specs.declared.item_words.Kind.TheVariants.{Networks, Services}
-use Rattle.acl_naming.specs.Checking.{HasNoCycle, first_of, first_undefined, undefined_in}
+use Rattle.acl_naming.specs.declared.item_words.NamingKind.TheVariants.{Networks, Services}
+use Rattle.acl_naming.specs.Checking.{HasNoCycle, first_undefined, undefined_in}
 use Rattle.acl_naming.specs.Definitions.{Definition, Naming, index_of, items_at, items_in}
 use Rattle.acl_naming.specs.NamingFiles.{file_added}
 use Rattle.acl_naming.specs.Reach.{is_reference, refers}
@@ -65,7 +66,7 @@ all_defined : (define : ℕ → Definition) → NamesNothing define → (base : 
     → first_undefined base (map define (range_with_len a n)) ≡ None
 all_defined define h base a zero = refl
 all_defined define h base a (suc n) =
-    ap (λ o. first_of o (first_undefined base (map define (range_with_len (a + 1) n)))) (h.undefined_not base a)
+    ap (λ o. option_or o (first_undefined base (map define (range_with_len (a + 1) n)))) (h.undefined_not base a)
     ∙ all_defined define h base (a + 1) n
 
 no_reference : (define : ℕ → Definition) → NamesNothing define → (other : List ℕ) (a n i : ℕ)
@@ -97,7 +98,7 @@ naming_loaded n few =
     (sym (definitions_read n few)) (
       refl,
       record {
-        defined = ap (λ o. first_of o (first_undefined (each service n) (each service n))) (all_defined network network_alone (each network n) 0 n)
+        defined = ap (λ o. option_or o (first_undefined (each service n) (each service n))) (all_defined network network_alone (each network n) 0 n)
             ∙ all_defined service service_alone (each service n) 0 n;
         networks = no_cycle network network_alone n;
         services = no_cycle service service_alone n;

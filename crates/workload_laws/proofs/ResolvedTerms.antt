@@ -3,6 +3,7 @@ use Rattle.std.proofs.Common.{◌≡◌, ℕ, ◌+◌, ◌<◌, ◌≤◌, ◌�
 use Rattle.std.specs.List.{list_all, list_any}
 use Rattle.std.proofs.lemmas.Bool.{and_parts, false≢true}
 use Rattle.std.proofs.lemmas.Bool.Decides.{nat_tests}
+use Rattle.std.specs.Option.{option_or}
 use Rattle.acl_packet.specs.declared.addresses.Family.{Family}
 use Rattle.acl_packet.specs.declared.addresses.Family.TheVariants.{V4, V6}
 use Rattle.acl_packet.specs.declared.filtering.Verdict.TheVariants.{Accept}
@@ -12,11 +13,11 @@ use Rattle.acl_packet.specs.Packets.{has_ports}
 use Rattle.acl_text.specs.declared.faults.Code.TheVariants as codes_of
 use Rattle.acl_text.specs.declared.faults.Slip.{Slip}
 use Rattle.acl_text.specs.Notes.{note_of, safe_words}
+use Rattle.acl_text.specs.Refusals.{first_in, first_some}
 use Rattle.acl_sets.specs.declared.sets.Range.{Range}
 use Rattle.acl_sets.specs.ComputableSets.{cut_all, put_all}
 use Rattle.acl_sets.specs.Ranges.{Only}
 use Rattle.acl_naming.specs.declared.naming_items.Item.{Item}
-use Rattle.acl_naming.specs.Checking.{first_of}
 use Rattle.acl_naming.specs.ComputableReach.{addresses_of, addresses_reached, items_reached, ports_of, ports_reached}
 use Rattle.acl_naming.specs.Definitions.{index_of}
 use Rattle.acl_naming.specs.Ports.{top_port}
@@ -27,7 +28,7 @@ use Rattle.acl_terms.specs.ComputableTerms.{sets_of}
 use Rattle.acl_terms.specs.Living.{platforms_of}
 use Rattle.acl_terms.specs.Resolved.{IsResolved}
 use Rattle.acl_terms.specs.Sets.{AreSetsOf, Sets}
-use Rattle.acl_terms.specs.Slips.{address_words, first_in, first_some, port_protocol_slip, port_words, reaches_protocol, slip_of, unless, words_slips}
+use Rattle.acl_terms.specs.Slips.{address_words, port_protocol_slip, port_words, reaches_protocol, slip_of, unless, words_slips}
 use Rattle.acl_terms.specs.Soundness.{IsSound}
 use Rattle.acl_terms.proofs.ComputedLaws.{computed-sets}
 use Rattle.acl_terms.proofs.TermLaws.{term-with-resolved}
@@ -49,7 +50,7 @@ abbrev slip_by : ℕ → Option ℕ → Option ℕ → List Item → Option Slip
 slip_by i networks services items = first_some (
     first_in (unless (is_some networks) codes_of.UnknownName) (address_words (raw_at i))
     ∷ port_protocol_slip tcp_udp (raw_at i)
-    ∷ first_in (λ w. first_of (unless (is_some services) codes_of.UnknownName w)
+    ∷ first_in (λ w. option_or (unless (is_some services) codes_of.UnknownName w)
     (unless (list_all (λ q. list_any (is_service_of q) items) tcp_udp) codes_of.NoPortForProtocol w)) (port_words (raw_at i))
     ∷ words_slips tcp_udp (raw_at i))
 

@@ -6,17 +6,16 @@ use Rattle.std.proofs.lemmas.Bool.Decides.{nat_tests}
 use Rattle.acl_packet.specs.declared.addresses.Family.{Family}
 use Rattle.acl_packet.specs.declared.addresses.Family.TheVariants.{V4, V6}
 use Rattle.acl_packet.specs.declared.filtering.Verdict.TheVariants.{Accept}
-use Rattle.acl_packet.specs.Addresses.{top_address}
-use Rattle.acl_host.specs.declared.clocks.Day.{Day}
+use Rattle.acl_packet.specs.Addresses.{top_address, everywhere}
+use Rattle.acl_days.specs.declared.days.Day.{Day}
 use Rattle.acl_sets.specs.ComputableLeastLists.{halved_space}
 use Rattle.acl_sets.specs.ComputableSets.{cut_all}
-use Rattle.acl_naming.specs.Checking.{first_of}
 use Rattle.acl_naming.specs.Ports.{top_port}
 use Rattle.acl_packet.specs.declared.addresses.Prefix.{Prefix}
 use Rattle.acl_target.specs.declared.targets.Kind.{Kind}
 use Rattle.acl_target.specs.declared.targets.Kind.TheVariants.{Cisco, Juniper, Iptables, Nftables}
 use Rattle.acl_target.specs.declared.targets.Target.{Target}
-use Rattle.acl_terms.specs.Matching.{foreign_of}
+use Rattle.acl_packet.specs.Packets.{foreign_of}
 use Rattle.acl_terms.specs.Resolved.{is_empty_in, is_term_live}
 use Rattle.acl_platform.specs.declared.rules.Rule.{Rule}
 use Rattle.acl_platform.specs.declared.rules.Test.TheVariants.{Plain}
@@ -27,6 +26,7 @@ use Rattle.policy_grammar.specs.TargetTexts.{Choice}
 use Rattle.acl_packet.specs.declared.addresses.Families.TheVariants.{Inet, Mixed}
 use Rattle.acl_packet.specs.declared.filtering.Hook.TheVariants.{Forward}
 use Rattle.std.specs.Prelude.{Some}
+use Rattle.std.specs.Option.{option_or}
 use Rattle.workload_laws.specs.WorkloadPolicies.{at_line, lines_before, term_name, word_at}
 use Rattle.workload_laws.specs.WorkloadTerms.{all_to, ports, protocols, range, source4, source6}
 use Rattle.workload_laws.proofs.OneBlock.{descend}
@@ -55,8 +55,8 @@ least4 i = record { family = V4; first = 167772160 + i * 256; len = 24 } ∷ []
 abbrev pub least6 : ℕ → List Prefix
 least6 i = record { family = V6; first = 42540766411282592856903984951653826560 + i * 1208925819614629174706176; len = 48 } ∷ []
 
-abbrev everywhere : Family → List Prefix
-everywhere f = record { family = f; first = 0; len = 0 } ∷ []
+abbrev all_addresses : Family → List Prefix
+all_addresses f = everywhere f ∷ []
 
 halved4 : (i : ℕ) → i < 1024 → halved_space V4 (source4 i) ≡ least4 i
 halved4 i below = descend V4 8 24 0 (167772160 + i * 256) (655360 + i) (omega arith) (omega (arith, below))
@@ -64,10 +64,10 @@ halved4 i below = descend V4 8 24 0 (167772160 + i * 256) (655360 + i) (omega ar
 halved6 : (i : ℕ) → i < 1024 → halved_space V6 (source6 i) ≡ least6 i
 halved6 i below = descend V6 80 48 0 (42540766411282592856903984951653826560 + i * 1208925819614629174706176) (35188897218560 + i) (omega arith) (omega (arith, below))
 
-all4 : halved_space V4 (range 0 (top_address V4) ∷ []) ≡ everywhere V4
+all4 : halved_space V4 (range 0 (top_address V4) ∷ []) ≡ all_addresses V4
 all4 = descend V4 32 0 0 0 0 (omega arith) (omega arith)
 
-all6 : halved_space V6 (range 0 (top_address V6) ∷ []) ≡ everywhere V6
+all6 : halved_space V6 (range 0 (top_address V6) ∷ []) ≡ all_addresses V6
 all6 = descend V6 128 0 0 0 0 (omega arith) (omega arith)
 
 abbrev pub rule_at : Kind → ℕ → Family → List Prefix → List Prefix → Rule
@@ -88,10 +88,10 @@ rule_at kind i f src dst = record {
 }
 
 abbrev pub rule4 : Kind → ℕ → Rule
-rule4 kind i = rule_at kind i V4 (least4 i) (everywhere V4)
+rule4 kind i = rule_at kind i V4 (least4 i) (all_addresses V4)
 
 abbrev pub rule6 : Kind → ℕ → Rule
-rule6 kind i = rule_at kind i V6 (least6 i) (everywhere V6)
+rule6 kind i = rule_at kind i V6 (least6 i) (all_addresses V6)
 
 -- The rules by the networks and the list of all addresses, which the least lists are.
 abbrev found4 : Kind → ℕ → Rule
@@ -177,9 +177,9 @@ no_slip_behind target rules_at h today a (suc n) before room so_far =
     let rest = terms_from (a + 1) n (rest_small a n room) in
     let counted : prefixes_of (term_rules target today t) ≡ prefixes_of (rules_at a) = ap prefixes_of (h.rules_are today a below) in
     let sum : prefixes_with target today before t ≤ 4 * (a + 1) = omega (arith, counted, h.few_prefixes a, so_far) in
-    ap (λ o. first_of (first_of o (prefix_slip t (prefixes_with target today before t))) (slip_behind target today (prefixes_with target today before t) rest))
+    ap (λ o. option_or (option_or o (prefix_slip t (prefixes_with target today before t))) (slip_behind target today (prefixes_with target today before t) rest))
     (h.no_header today a below)
-    ∙ ap (λ o. first_of o (slip_behind target today (prefixes_with target today before t) rest))
+    ∙ ap (λ o. option_or o (slip_behind target today (prefixes_with target today before t) rest))
     (cond-true (nat_le (prefixes_with target today before t) 200000) None _ (is_few (prefixes_with target today before t) 200000 (omega (arith, sum, below))))
     ∙ no_slip_behind target rules_at h today (a + 1) n (prefixes_with target today before t) (rest_small a n room) sum
 

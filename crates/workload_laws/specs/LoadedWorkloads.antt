@@ -1,7 +1,7 @@
 -- A workload has no fault: its files are loaded, and each of its filters can be written.
 use Rattle.std.specs.Prelude.{◌≡◌, ℕ, ◌*◌, ◌<◌, ◌≤◌, List, [], ◌∷◌, map, flat_map, None, Ok}
 use Rattle.std.specs.List.{AllByRecursion}
-use Rattle.acl_host.specs.declared.clocks.Day.{Day}
+use Rattle.acl_days.specs.declared.days.Day.{Day}
 use Rattle.acl_target.specs.declared.targets.Target.{Target}
 use Rattle.acl_terms.specs.declared.terms.Term.{Term}
 use Rattle.acl_expand.specs.Expansions.{filter_of}

@@ -1,8 +1,10 @@
 ghost use Rattle.std.specs.Prelude.{◌≡◌, IfOk, None};
-ghost use Rattle.acl_host.specs.MemoryTrees.{contents};
+ghost use Rattle.acl_memory.specs.MemoryTrees.{contents};
 
 use crate::tests::words::words_of;
-use acl_host::{Clock, Day, FixedClock, MemSink, MemTree, Op, Sink, Tree};
+use acl_days::Day;
+use acl_host::{Clock, Sink, Tree};
+use acl_memory::{FixedClock, MemSink, MemTree, Op};
 use acl_text::Memory;
 use aclgen_core::{aclgen, status_of};
 use std::alloc::Global;

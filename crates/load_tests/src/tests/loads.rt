@@ -1,5 +1,6 @@
-use acl_host::{MemTree, Op, Tree};
+use acl_host::Tree;
 use acl_load::{LoadFault, load_definitions};
+use acl_memory::{MemTree, Op};
 use acl_naming::{Checked, Lookup, networks_of, ports_of};
 use acl_packet::Family;
 use acl_sets::{Range, RangeSet};

@@ -1,8 +1,9 @@
-use acl_host::{MemTree, Op, Tree, Whole};
+use acl_host::Tree;
 use acl_load::{LoadFault, Loaded, load, put_fault};
+use acl_memory::{MemTree, Op};
 use acl_packet::Verdict;
 use acl_terms::Term;
-use acl_text::{Fault, Memory, Out, PutFault};
+use acl_text::{Fault, Memory, Out, PutFault, Whole};
 use std::alloc::Global;
 use std::test::Fail;
 

@@ -1,10 +1,12 @@
 ghost use Rattle.std.specs.Prelude.{◌≡◌, true};
 
-use acl_host::{Day, MemTree, Tree, Whole, read_day};
+use acl_days::{Day, read_day};
+use acl_host::Tree;
 use acl_load::{Loaded, load};
+use acl_memory::MemTree;
 use acl_policy::Block;
 use acl_report::{put_count, report_terms};
-use acl_text::Memory;
+use acl_text::{Memory, Whole};
 use std::alloc::Global;
 use std::test::Fail;
 

@@ -6,7 +6,7 @@ use crate::tests::samples::{
     filter,
 };
 use acl_packet::{Families, Family, Verdict};
-use acl_platform::{Limit, Rules, Test, check};
+use acl_platform::{Feature, Limit, Rules, Test, check};
 use acl_target::{Ending, Kind};
 use gen_cisco::Cisco;
 use std::test::Fail;
@@ -82,17 +82,16 @@ ipv6 access-list ipv6-edge
 exit
 ";
 
-static CASES: [Case; 1] = [Case {
-    head: EDGE_HEAD,
+static EDGE_CASE: Case = Case {
     rules: EDGE_RULES,
     text: EDGE,
     lines: 14,
     entries: 4,
-}];
+};
 
 #[test]
 fn writes_every_part_of_an_entry(rt: HostRuntime) -> Result<(), Fail> {
-    expect_written(&rt, rt.alloc(), &Cisco, &CASES)
+    expect_written(&rt, rt.alloc(), &Cisco, &EDGE_HEAD, &EDGE_CASE)
 }
 
 const LONGEST: Sample = Sample {
@@ -129,10 +128,13 @@ static LIMITS: [LimitCase; 5] = [
             LONGER,
             FIRST_PACKETS,
         ],
-        Some(Limit::Unsupported(3)),
+        Some(Limit::Unsupported(3, Feature::SctpPorts)),
     ),
     (&[LONGER, FIRST_PACKETS], Some(Limit::NameLength(0))),
-    (&[FIRST_PACKETS], Some(Limit::Unsupported(0))),
+    (
+        &[FIRST_PACKETS],
+        Some(Limit::Unsupported(0, Feature::TcpInitial)),
+    ),
 ];
 
 #[test]

@@ -1,17 +1,17 @@
-ghost use Rattle.std.specs.Prelude.{flat_map, map};
+ghost use Rattle.std.specs.Prelude.{◌≡◌, flat_map, map, true};
 ghost use Rattle.std.specs.List.{All, IsDistinct};
 ghost use Rattle.std.specs.Str.{bytes_eq};
-ghost use Rattle.acl_platform.specs.Combinations.{IsSized};
 ghost use Rattle.acl_platform.specs.Limits.{filter_limit};
 ghost use Rattle.acl_platform.specs.Platforms.{IsAccepted};
+ghost use Rattle.acl_platform.specs.SoundFilters.{IsSound};
+ghost use Rattle.platform_tests.specs.SampleFilters.{filter_with, IsHeadFor};
 
 use crate::tests::samples::{
-    ANY, Head, Lines, Sample, every_second_host, filter_from, filter_of, rules,
+    ANY, Head, Lines, Sample, every_second_host, filter_from, rules, sound_filter, sound_rules,
 };
 use acl_grammar::{read_document, sections};
-use acl_host::Whole;
 use acl_platform::{Filter, Limit, Platform, RuleLimits, count_in_limit, first_limit, write_all};
-use acl_text::{Memory, PutFault};
+use acl_text::{Memory, PutFault, Whole};
 use std::alloc::Global;
 use std::process::Abort;
 use std::test::Fail;
@@ -29,7 +29,8 @@ pub(crate) fn text_of<P: Platform>(
     platform: &P,
     filter: &Filter,
 ) -> Result<Whole, PutFault>
-    requires { All IsSized filter.now.rules }
+    requires handled { P.handles filter.now ≡ true }
+    requires sound { IsSound filter.now }
 {
     let mut out = Whole::new(alloc);
     platform.put_section(filter, &mut out)?;
@@ -38,16 +39,16 @@ pub(crate) fn text_of<P: Platform>(
 
 // The lines of the section.
 pub(crate) fn lines_of<P: Platform>(platform: &P, filter: &Filter) -> Result<Lines, PutFault>
-    requires { All IsSized filter.now.rules }
+    requires handled { P.handles filter.now ≡ true }
+    requires sound { IsSound filter.now }
 {
     let mut lines = Lines::new();
     platform.put_section(filter, &mut lines)?;
     Ok(lines)
 }
 
-// A filter as the tests write it, the text of its section with its lines, and how many entries it has.
+// Rules as the tests write them, the text of their section with its lines, and how many entries it has.
 pub(crate) struct Case {
-    pub(crate) head: Head,
     pub(crate) rules: &'static [Sample],
     pub(crate) text: &'static str,
     pub(crate) lines: u64,
@@ -55,8 +56,22 @@ pub(crate) struct Case {
 }
 
 // Whether the section is written, counted and read back as the case says.
-fn is_written<P: Platform>(alloc: Global, platform: &P, case: &Case) -> Result<bool, Fail> {
-    let own = filter_of(alloc, &case.head, case.rules)?;
+#[tactic(auto, using(acl_platform::proofs::SoundRules::all_sized))]
+fn is_written<P: Platform>(
+    alloc: Global,
+    platform: &P,
+    head: &Head,
+    case: &Case,
+) -> Result<bool, Fail>
+    requires { IsHeadFor P.handles (filter_with head.now.kind head.now.name.now
+        head.now.families head.now.hook head.now.ending head.now.priority head.now.verbose
+        head.now.number) }
+{
+    let rules = match sound_rules(alloc, head, case.rules)? {
+        Some(rules) => rules,
+        None => return Ok(false),
+    };
+    let own = sound_filter(alloc, platform, head, rules)?;
     let text = text_of(alloc, platform, &own)?;
     Ok(
         text.as_slice() == case.text.as_bytes()
@@ -70,11 +85,14 @@ pub(crate) fn expect_written<P: Platform>(
     rt: &impl Abort,
     alloc: Global,
     platform: &P,
-    cases: &[Case],
-) -> Result<(), Fail> {
-    for case in cases {
-        assert!(rt; is_written(alloc, platform, case)?, "{}", case.text);
-    }
+    head: &Head,
+    case: &Case,
+) -> Result<(), Fail>
+    requires { IsHeadFor P.handles (filter_with head.now.kind head.now.name.now
+        head.now.families head.now.hook head.now.ending head.now.priority head.now.verbose
+        head.now.number) }
+{
+    assert!(rt; is_written(alloc, platform, head, case)?, "{}", case.text);
     Ok(())
 }
 

@@ -19,34 +19,33 @@ const OF_SIX: Head = Head {
     ..HEAD
 };
 
-static CASES: [Case; 3] = [
-    Case {
-        head: DENYING,
-        rules: EDGE_RULES,
-        text: EDGE,
-        lines: 29,
-        entries: 16,
-    },
-    Case {
-        head: HEAD,
-        rules: SPLIT_RULES,
-        text: SPLIT,
-        lines: 16,
-        entries: 8,
-    },
-    Case {
-        head: Head {
-            hook: Hook::Forward,
-            name: b"FORWARD",
-            ending: Ending::Accept,
-            ..OF_SIX
-        },
-        rules: FORWARD_RULES,
-        text: FORWARD,
-        lines: 16,
-        entries: 8,
-    },
-];
+const FORWARD_HEAD: Head = Head {
+    hook: Hook::Forward,
+    name: b"FORWARD",
+    ending: Ending::Accept,
+    ..OF_SIX
+};
+
+static EDGE_CASE: Case = Case {
+    rules: EDGE_RULES,
+    text: EDGE,
+    lines: 29,
+    entries: 16,
+};
+
+static SPLIT_CASE: Case = Case {
+    rules: SPLIT_RULES,
+    text: SPLIT,
+    lines: 16,
+    entries: 8,
+};
+
+static FORWARD_CASE: Case = Case {
+    rules: FORWARD_RULES,
+    text: FORWARD,
+    lines: 16,
+    entries: 8,
+};
 
 const EDGE_RULES: &[Sample] = &[
     Sample {
@@ -228,7 +227,10 @@ const FORWARD: &str = "## iptables FORWARD inet6
 
 #[test]
 fn writes_each_part_of_a_section(rt: HostRuntime) -> Result<(), Fail> {
-    expect_written(&rt, rt.alloc(), &Iptables, &CASES)
+    let alloc = rt.alloc();
+    expect_written(&rt, alloc, &Iptables, &DENYING, &EDGE_CASE)?;
+    expect_written(&rt, alloc, &Iptables, &HEAD, &SPLIT_CASE)?;
+    expect_written(&rt, alloc, &Iptables, &FORWARD_HEAD, &FORWARD_CASE)
 }
 
 const OUTPUT: Head = Head {

@@ -5,7 +5,7 @@ use crate::tests::samples::{
     ALL_OF_SCTP, ANY, DNS, DNS_BY_SCTP, HEAD, HOST, Head, LONGER_NAME, LONGEST_NAME, Sample, filter,
 };
 use acl_packet::{Families, Family, Verdict};
-use acl_platform::{Limit, Rules, Test, check};
+use acl_platform::{Feature, Limit, Rules, Test, check};
 use acl_target::{Ending, Kind};
 use acl_text::Memory;
 use gen_junos::Junos;
@@ -32,25 +32,24 @@ const TCP: Sample = Sample {
     ..ANY
 };
 
-static CASES: [Case; 2] = [
-    Case {
-        head: EDGE_HEAD,
-        rules: EDGE_RULES,
-        text: EDGE,
-        lines: 25,
-        entries: 5,
-    },
-    Case {
-        head: Head {
-            name: b"six",
-            ..EDGE_OF_SIX
-        },
-        rules: SIX_RULES,
-        text: SIX,
-        lines: 20,
-        entries: 3,
-    },
-];
+static EDGE_CASE: Case = Case {
+    rules: EDGE_RULES,
+    text: EDGE,
+    lines: 25,
+    entries: 5,
+};
+
+const SIX_HEAD: Head = Head {
+    name: b"six",
+    ..EDGE_OF_SIX
+};
+
+static SIX_CASE: Case = Case {
+    rules: SIX_RULES,
+    text: SIX,
+    lines: 20,
+    entries: 3,
+};
 
 const EDGE_RULES: &[Sample] = &[
     Sample {
@@ -128,7 +127,8 @@ firewall {
 
 #[test]
 fn writes_each_part_of_a_section(rt: HostRuntime) -> Result<(), Fail> {
-    expect_written(&rt, rt.alloc(), &Junos, &CASES)
+    expect_written(&rt, rt.alloc(), &Junos, &EDGE_HEAD, &EDGE_CASE)?;
+    expect_written(&rt, rt.alloc(), &Junos, &SIX_HEAD, &SIX_CASE)
 }
 
 const LONGEST: Sample = Sample {
@@ -156,7 +156,7 @@ static LIMITS: [LimitCase; 5] = [
     (&[LONGEST, ALL_OF_SCTP], None),
     (
         &[LONGEST, ALL_OF_SCTP, DNS_BY_SCTP, DNS_BY_SCTP, LONGER],
-        Some(Limit::Unsupported(2)),
+        Some(Limit::Unsupported(2, Feature::SctpPorts)),
     ),
     (&[LONGER], Some(Limit::NameLength(0))),
     (&[DNS_BY_UDP, DNS_BY_SCTP], Some(Limit::NameClash(1))),

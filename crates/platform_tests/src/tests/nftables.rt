@@ -1,14 +1,13 @@
 use crate::tests::generators::{
     Case, are_written, expect_most_entries, expect_written, lines_of, text_of,
 };
-use crate::tests::samples::{ANY, HEAD, Head, Sample, filter, filter_from, filter_of};
-use acl_packet::{Families, Family, Hook, Prefix, Verdict};
+use crate::tests::samples::{
+    ANY, HEAD, Head, Sample, filter, prefixes, sound_filter, sound_rule_from, sound_rules,
+};
+use acl_packet::{Families, Family, Hook, Verdict};
 use acl_platform::{Platform, Rules, Test, check};
-use acl_sets::Prefixes;
 use acl_target::{Ending, Kind};
-use acl_text::Memory;
 use gen_nftables::Nftables;
-use std::alloc::Global;
 use std::test::Fail;
 
 // A chain for what comes in, and one of both families for what goes through.
@@ -34,26 +33,25 @@ const EDGE_HEAD: Head = Head {
     ..FORWARD
 };
 
-static CASES: [Case; 2] = [
-    Case {
-        head: EDGE_HEAD,
-        rules: EDGE_RULES,
-        text: EDGE,
-        lines: 16,
-        entries: 15,
-    },
-    Case {
-        head: Head {
-            name: b"output",
-            hook: Hook::Output,
-            ..INPUT
-        },
-        rules: WEB_RULES,
-        text: WEB,
-        lines: 10,
-        entries: 3,
-    },
-];
+static EDGE_CASE: Case = Case {
+    rules: EDGE_RULES,
+    text: EDGE,
+    lines: 16,
+    entries: 15,
+};
+
+const OUTPUT: Head = Head {
+    name: b"output",
+    hook: Hook::Output,
+    ..INPUT
+};
+
+static WEB_CASE: Case = Case {
+    rules: WEB_RULES,
+    text: WEB,
+    lines: 10,
+    entries: 3,
+};
 
 const EDGE_RULES: &[Sample] = &[
     // from two prefixes to the port of names, by two protocols: refused and logged
@@ -126,7 +124,8 @@ table ip aclgen_1 {
 
 #[test]
 fn writes_every_part_of_a_rule(rt: HostRuntime) -> Result<(), Fail> {
-    expect_written(&rt, rt.alloc(), &Nftables, &CASES)
+    expect_written(&rt, rt.alloc(), &Nftables, &EDGE_HEAD, &EDGE_CASE)?;
+    expect_written(&rt, rt.alloc(), &Nftables, &OUTPUT, &WEB_CASE)
 }
 
 const BARE_EDGE_HEAD: Head = Head {
@@ -136,11 +135,21 @@ const BARE_EDGE_HEAD: Head = Head {
 
 // Without its remarks it has four lines less, and as many entries.
 #[test]
+#[tactic(auto, using(acl_platform::proofs::SoundRules::all_sized))]
 fn leaves_remarks_out(rt: HostRuntime) -> Result<(), Fail> {
-    let bare = filter_of(rt.alloc(), &BARE_EDGE_HEAD, EDGE_RULES)?;
-    assert!(rt; lines_of(&Nftables, &bare)?.is_of(12));
-    assert_eq!(rt; Nftables.entry_count(&bare), 15);
-    Ok(())
+    let alloc = rt.alloc();
+    match sound_rules(alloc, &BARE_EDGE_HEAD, EDGE_RULES)? {
+        Some(rules) => {
+            let bare = sound_filter(alloc, &Nftables, &BARE_EDGE_HEAD, rules)?;
+            assert!(rt; lines_of(&Nftables, &bare)?.is_of(12));
+            assert_eq!(rt; Nftables.entry_count(&bare), 15);
+            Ok(())
+        }
+        None => {
+            assert!(rt; false, "the rules are not sound");
+            Ok(())
+        }
+    }
 }
 
 const ANY_OF_SIX: Sample = Sample {
@@ -149,18 +158,7 @@ const ANY_OF_SIX: Sample = Sample {
 };
 
 // All addresses of IPv6 but the last.
-fn all_but_the_last(alloc: Global) -> Result<Prefixes, Memory> {
-    let mut prefixes = Prefixes::new(alloc);
-    for len in 1u8..=128 {
-        let first = u128::MAX.checked_shl(129 - u32::from(len)).unwrap_or(0);
-        prefixes.push(Prefix {
-            family: Family::V6,
-            first,
-            len,
-        })?;
-    }
-    Ok(prefixes)
-}
+const ALL_BUT_THE_LAST: &[(u128, u128)] = &[(0, u128::MAX - 1)];
 
 const FRONT: &str = "## nftables input inet6
 add table ip6 aclgen_1
@@ -182,14 +180,24 @@ const INPUT_OF_SIX: Head = Head {
 };
 
 #[test]
+#[tactic(auto, using(acl_platform::proofs::SoundRules::all_sized))]
 fn writes_prefixes_and_counts_them(rt: HostRuntime) -> Result<(), Fail> {
     let alloc = rt.alloc();
-    let own = filter_from(alloc, &INPUT_OF_SIX, &ANY_OF_SIX, all_but_the_last(alloc)?)?;
-    let text = text_of(alloc, &Nftables, &own)?;
-    assert!(rt; text.as_slice().starts_with(FRONT.as_bytes()));
-    assert!(rt; text.as_slice().ends_with(BACK.as_bytes()));
-    assert_eq!(rt; Nftables.entry_count(&own), 129);
-    Ok(())
+    let src = prefixes(alloc, Family::V6, ALL_BUT_THE_LAST)?;
+    match sound_rule_from(alloc, &INPUT_OF_SIX, &ANY_OF_SIX, src)? {
+        Some(rules) => {
+            let own = sound_filter(alloc, &Nftables, &INPUT_OF_SIX, rules)?;
+            let text = text_of(alloc, &Nftables, &own)?;
+            assert!(rt; text.as_slice().starts_with(FRONT.as_bytes()));
+            assert!(rt; text.as_slice().ends_with(BACK.as_bytes()));
+            assert_eq!(rt; Nftables.entry_count(&own), 129);
+            Ok(())
+        }
+        None => {
+            assert!(rt; false, "the rules are not sound");
+            Ok(())
+        }
+    }
 }
 
 #[test]

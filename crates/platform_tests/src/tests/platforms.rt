@@ -4,7 +4,6 @@ ghost use Rattle.acl_platform.specs.Combinations.{IsSized};
 
 use crate::tests::samples::{HEAD, Head, filter};
 use acl_grammar::{Form, Number, Row, Rows, Word};
-use acl_host::Whole;
 use acl_packet::{Conn, Family, Outcome, Packet, Prefix, Verdict};
 use acl_platform::{
     Combination, Limit, Rule, Rules, Test, count_combinations, count_in_limit, filter_outcome,
@@ -12,7 +11,7 @@ use acl_platform::{
 };
 use acl_sets::{Prefixes, Range, RangeSet};
 use acl_target::Ending;
-use acl_text::{Bytes, Memory, Out, Place, PutFault};
+use acl_text::{Bytes, Memory, Out, Place, PutFault, Whole};
 use std::alloc::Global;
 use std::test::Fail;
 

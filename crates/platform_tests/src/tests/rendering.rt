@@ -1,8 +1,8 @@
 use crate::tests::samples::{HEAD, Head, filter};
-use acl_host::Whole;
 use acl_platform::Rules;
 use acl_render::{check, render};
 use acl_target::{Ending, Kind};
+use acl_text::Whole;
 use std::test::Fail;
 
 // An IPv4 list of Cisco that denies everything.

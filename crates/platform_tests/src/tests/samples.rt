@@ -1,11 +1,17 @@
-ghost use Rattle.std.specs.Prelude.{◌≡◌, IfOk, None, true};
+ghost use Rattle.std.specs.Prelude.{◌≡◌, IfOk, IfSome, None, true};
 ghost use Rattle.std.specs.List.{All};
+ghost use Rattle.acl_packet.specs.declared.addresses.Family.TheVariants.{V4};
+ghost use Rattle.acl_sets.specs.LeastLists.{IsLeastList};
+ghost use Rattle.acl_packet.specs.AddressLists.{any_has};
 ghost use Rattle.acl_platform.specs.Combinations.{IsSized};
-ghost use Rattle.platform_tests.specs.SampleFilters.{filter_with};
+ghost use Rattle.acl_platform.specs.SoundFilters.{IsSound, IsSoundRule};
+ghost use Rattle.platform_tests.specs.SampleFilters.{filter_with, IsHeadFor};
+ghost use Rattle.platform_tests.specs.SampleRules.{HasLeastLists};
 
-use acl_packet::{Families, Family, Hook, Prefix, Verdict};
-use acl_platform::{Filter, Rule, Rules, Test};
-use acl_sets::{Prefixes, Range, RangeSet};
+use crate::tests::soundness::sound;
+use acl_packet::{Families, Family, Hook, Verdict};
+use acl_platform::{Filter, Platform, Rule, Rules, Test};
+use acl_sets::{Prefixes, Range, RangeSet, least_prefixes};
 use acl_target::{Ending, Kind};
 use acl_text::{Bytes, Memory, Out, Place, PutFault, contains_byte};
 use std::alloc::Global;
@@ -126,16 +132,36 @@ pub(crate) fn filter(alloc: Global, head: &Head, rules: Rules) -> Result<Filter,
     })
 }
 
-fn list(alloc: Global, family: Family, addresses: &[(u128, u8)]) -> Result<Prefixes, Memory> {
-    let mut prefixes = Prefixes::new(alloc);
-    for (first, len) in addresses {
-        prefixes.push(Prefix {
-            family,
-            first: *first,
-            len: *len,
-        })?;
-    }
+// The addresses of the family that are in these ranges, as the prefixes of a rule.
+pub(crate) fn prefixes(
+    alloc: Global,
+    family: Family,
+    ends: &[(u128, u128)],
+) -> Result<Prefixes, Memory>
+    ensures { IfOk result (λ ps. IsLeastList family (any_has ps) ps) }
+{
+    let addresses = set(alloc, family.top_address(), ends)?;
+    let prefixes = least_prefixes(alloc, &addresses, family)?;
     Ok(prefixes)
+}
+
+// The last address of a prefix.
+fn last(family: Family, first: u128, len: u8) -> u128 {
+    first
+        | family
+            .top_address()
+            .checked_shr(u32::from(len))
+            .unwrap_or(0)
+}
+
+fn list(alloc: Global, family: Family, addresses: &[(u128, u8)]) -> Result<Prefixes, Memory>
+    ensures { IfOk result (λ ps. IsLeastList family (any_has ps) ps) }
+{
+    let mut ends = Vec::new(alloc);
+    for (first, len) in addresses {
+        ends.push((*first, last(family, *first, *len)))?;
+    }
+    prefixes(alloc, family, ends.as_slice())
 }
 
 fn set(alloc: Global, top: u128, ends: &[(u128, u128)]) -> Result<RangeSet, Memory>
@@ -155,7 +181,9 @@ fn set(alloc: Global, top: u128, ends: &[(u128, u128)]) -> Result<RangeSet, Memo
 
 // The rule of a sample, from these prefixes in place of the sample's.
 fn rule_from(alloc: Global, sample: &Sample, src: Prefixes) -> Result<Rule, Memory>
-    ensures { IfOk result IsSized }
+    requires { IsLeastList sample.now.family (any_has src) src }
+    ensures sized { IfOk result IsSized }
+    ensures lists { IfOk result HasLeastLists }
 {
     Ok(Rule {
         name: Bytes::from_slice(alloc, sample.name)?,
@@ -181,6 +209,7 @@ pub(crate) fn filter_from(
     sample: &Sample,
     src: Prefixes,
 ) -> Result<Filter, Memory>
+    requires { IsLeastList sample.now.family (any_has src) src }
     ensures { IfOk result (λ f. All IsSized f.rules) }
 {
     let mut rules = Rules::new(alloc);
@@ -188,9 +217,7 @@ pub(crate) fn filter_from(
     filter(alloc, head, rules)
 }
 
-pub(crate) fn rules(alloc: Global, samples: &[Sample]) -> Result<Rules, Memory>
-    ensures { IfOk result (λ rs. All IsSized rs) }
-{
+pub(crate) fn rules(alloc: Global, samples: &[Sample]) -> Result<Rules, Memory> {
     let mut rules = Rules::new(alloc);
     for sample in samples {
         let src = list(alloc, sample.family, sample.src)?;
@@ -199,23 +226,72 @@ pub(crate) fn rules(alloc: Global, samples: &[Sample]) -> Result<Rules, Memory>
     Ok(rules)
 }
 
-pub(crate) fn filter_of(alloc: Global, head: &Head, samples: &[Sample]) -> Result<Filter, Memory>
-    ensures { IfOk result (λ f. All IsSized f.rules) }
+// The rules of the samples, where platforms of the head's kind can be asked to say them.
+pub(crate) fn sound_rules(
+    alloc: Global,
+    head: &Head,
+    samples: &[Sample],
+) -> Result<Option<Rules>, Memory>
+    ensures { IfOk result (λ o. IfSome o (All (IsSoundRule head.now.kind head.now.families))) }
 {
-    filter(alloc, head, rules(alloc, samples)?)
+    let mut rules = Rules::new(alloc);
+    for sample in samples {
+        let src = list(alloc, sample.family, sample.src)?;
+        match sound(head.kind, head.families, rule_from(alloc, sample, src)?) {
+            Some(rule) => rules.push(rule)?,
+            None => return Ok(None),
+        }
+    }
+    Ok(Some(rules))
+}
+
+// One such rule, from these prefixes in place of the sample's.
+pub(crate) fn sound_rule_from(
+    alloc: Global,
+    head: &Head,
+    sample: &Sample,
+    src: Prefixes,
+) -> Result<Option<Rules>, Memory>
+    requires { IsLeastList sample.now.family (any_has src) src }
+    ensures { IfOk result (λ o. IfSome o (All (IsSoundRule head.now.kind head.now.families))) }
+{
+    match sound(head.kind, head.families, rule_from(alloc, sample, src)?) {
+        Some(rule) => {
+            let mut rules = Rules::new(alloc);
+            rules.push(rule)?;
+            Ok(Some(rules))
+        }
+        None => Ok(None),
+    }
+}
+
+// The filter of these rules, about which the platform can be asked.
+pub(crate) fn sound_filter<P: Platform>(
+    alloc: Global,
+    _platform: &P,
+    head: &Head,
+    rules: Rules,
+) -> Result<Filter, Memory>
+    requires own { IsHeadFor P.handles (filter_with head.now.kind head.now.name.now
+        head.now.families head.now.hook head.now.ending head.now.priority head.now.verbose
+        head.now.number) }
+    requires rules { All (IsSoundRule head.now.kind head.now.families) rules }
+    ensures handled { IfOk result (λ f. P.handles f ≡ true) }
+    ensures sound { IfOk result IsSound }
+{
+    filter(alloc, head, rules)
 }
 
 // As many hosts of IPv4, of which no two make a prefix together.
-pub(crate) fn every_second_host(alloc: Global, count: u32) -> Result<Prefixes, Memory> {
-    let mut prefixes = Prefixes::new(alloc);
+pub(crate) fn every_second_host(alloc: Global, count: u32) -> Result<Prefixes, Memory>
+    ensures { IfOk result (λ ps. IsLeastList V4 (any_has ps) ps) }
+{
+    let mut ends = Vec::new(alloc);
     for place in 0..count {
-        prefixes.push(Prefix {
-            family: Family::V4,
-            first: u128::from(place) * 2,
-            len: 32,
-        })?;
+        let host = u128::from(place) * 2;
+        ends.push((host, host))?;
     }
-    Ok(prefixes)
+    prefixes(alloc, Family::V4, ends.as_slice())
 }
 
 // An output that counts the lines that are put, and sees whether each put is within one line.

@@ -1,8 +1,10 @@
-use acl_host::{Day, MemTree, Tree, Whole};
+use acl_days::Day;
+use acl_host::Tree;
+use acl_memory::MemTree;
 use acl_policy::{Policy, RawTerm, Target, WordList, parse, put_target};
 use acl_splice::{Sources, gather};
 use acl_target::clash;
-use acl_text::{Bytes, Memory, Refusal, Slip};
+use acl_text::{Bytes, Memory, Refusal, Slip, Whole};
 use std::alloc::Global;
 use std::str;
 use std::test::Fail;

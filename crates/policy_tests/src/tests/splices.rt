@@ -1,5 +1,6 @@
-use acl_host::{MemTree, Op, Tree};
+use acl_host::Tree;
 use acl_lines::Lines;
+use acl_memory::{MemTree, Op};
 use acl_splice::{GatherFault, Sources, gather, label};
 use acl_text::{Bytes, Fault, Memory};
 use std::alloc::Global;

@@ -2,8 +2,8 @@ ghost use Rattle.std.specs.List.{All};
 ghost use Rattle.acl_target.specs.TargetData.{IsTarget};
 
 use crate::tests::reading::{definitions, policy_of, terms_of, text, today};
+use acl_days::Day;
 use acl_expand::expand;
-use acl_host::Day;
 use acl_naming::Checked;
 use acl_packet::Prefix;
 use acl_platform::{Filter, Rule};

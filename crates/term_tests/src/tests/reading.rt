@@ -2,7 +2,9 @@ ghost use Rattle.std.specs.Prelude.{◌≤◌, IfOk, length};
 ghost use Rattle.std.specs.List.{All};
 ghost use Rattle.acl_policy.specs.Conditions.{IsPolicy, IsRawTerm};
 
-use acl_host::{Day, MemTree, Tree, read_day};
+use acl_days::{Day, read_day};
+use acl_host::Tree;
+use acl_memory::MemTree;
 use acl_naming::{Base, Checked, check, read_networks, read_services};
 use acl_policy::{Policy, RawTerm, gather, parse};
 use acl_terms::{Term, resolve};

@@ -2,7 +2,7 @@ ghost use Rattle.std.specs.List.{All};
 ghost use Rattle.acl_policy.specs.Conditions.{IsBlock};
 
 use crate::tests::reading::{definitions, policy_of, terms_of, today};
-use acl_host::Day;
+use acl_days::Day;
 use acl_naming::Checked;
 use acl_policy::Block;
 use acl_shade::shaded_by;

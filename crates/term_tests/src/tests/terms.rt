@@ -2,7 +2,7 @@ ghost use Rattle.std.specs.List.{All};
 ghost use Rattle.acl_policy.specs.Conditions.{IsRawTerm};
 
 use crate::tests::reading::{definitions, policy_of, text, today};
-use acl_host::Day;
+use acl_days::Day;
 use acl_naming::Checked;
 use acl_packet::{Conn, Family, Packet, Verdict};
 use acl_policy::RawTerm;

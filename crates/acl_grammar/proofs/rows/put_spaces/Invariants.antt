@@ -1,9 +1,8 @@
 use Rattle.std.proofs.Common.{replicate}
-use Rattle.acl_text.specs.Output.{Puts}
+use Rattle.acl_text.specs.Puts.{Puts}
 use Rattle.acl_text.proofs.Putting.{done}
 use Rattle.acl_grammar.proofs.rows.put_spaces.Given as goal
 
 abbrev pub invariant-loop-space : goal.invariant-loop-space
 invariant-loop-space g l =
-    let o = g.O.Out in
-    Puts o.told o.faults o.refusals o.is_open o.keeps_rest l.initial.out l.out (replicate l._space 32) done
+    Puts g.O.Out l.initial.out l.out (replicate l._space 32) done

@@ -1,6 +1,6 @@
 use Rattle.std.proofs.Common.{◌≡◌, ◌+◌, map, drop, IfSome}
 use Rattle.std.specs.String.{string_bytes}
-use Rattle.acl_host.specs.Outside.{OnlyReads}
+use Rattle.acl_host.specs.Outside.{OnlyReads, members}
 use Rattle.acl_load.specs.Loading.{all_of}
 use Rattle.acl_load.proofs.adding.add_all.Given as goal
 
@@ -12,7 +12,6 @@ invariant-loop-path g l = record {
       (map string_bytes (drop l.path-index l.files)) held l.so_far
       ≡ all_of (map string_bytes l.paths) l.kind l.first
       (map string_bytes l.files) held l.initial.so_far);
-  reads : OnlyReads g.T.Tree.files g.T.Tree.begun g.T.Out.faults g.T.Out.refusals
-      g.T.Tree.list_faults g.T.Tree.read_faults
-      l.initial.tree l.tree;
+  reads : OnlyReads (members g.T.Out g.T.Tree.files g.T.Tree.begun
+      g.T.Tree.list_faults g.T.Tree.read_faults) l.initial.tree l.tree;
 }

@@ -1,5 +1,5 @@
 use Rattle.std.proofs.Common.{List, ℕ, not, ◌==◌, map, take, ap, ◌∙◌, subst}
-use Rattle.acl_text.specs.Output.{Puts}
+use Rattle.acl_text.specs.Puts.{Puts}
 use Rattle.acl_load.specs.FaultLines.{visible}
 use Rattle.acl_load.specs.FaultLineSteps.{only_if, space_before}
 use Rattle.acl_load.proofs.FaultLineLaws.{parts-are}
@@ -8,9 +8,7 @@ use Rattle.acl_load.proofs.fault_lines.put_fault.Goals as goal
 pub returns : goal.returns
 returns g c =
     let fault = c.args.fault.now in
-    let o = g.O.Out in
-    let Told : List ℕ → Type 0 = λ text. Puts o.told o.faults o.refusals o.is_open o.keeps_rest c.args.out.now
-    c.put_parts.new.out text c.put_parts.result in
+    let Told : List ℕ → Type 0 = λ text. Puts g.O.Out c.args.out.now c.put_parts.new.out text c.put_parts.result in
     subst Told (parts-are fault _ _ _ _ _ _ c.as_slice-2.ensures c.only_if.ensures
     (c.only_if-2.ensures ∙ ap (only_if (not (fault.line == 0))) (c.as_bytes-number.ensures.value ∙ c.format.ensures.text))
     (c.as_bytes.ensures.value ∙ c.code_text.ensures) (c.space_before.ensures ∙ ap space_before c.as_slice-3.ensures)

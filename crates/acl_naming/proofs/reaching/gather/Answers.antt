@@ -1,4 +1,4 @@
-use Rattle.std.proofs.Common.{◌<◌, get_or, length, [], List, subst, arith}
+use Rattle.std.proofs.Common.{◌<◌, length, [], List, subst, arith}
 use Rattle.acl_sets.specs.declared.sets.Range.{Range}
 use Rattle.acl_naming.specs.declared.naming_items.Item.{Item}
 use Rattle.acl_naming.specs.Definitions.{items_at}

@@ -1,11 +1,10 @@
 use Rattle.std.proofs.Common.{flat_map, take}
-use Rattle.acl_text.specs.Output.{Puts}
+use Rattle.acl_text.specs.Puts.{Puts}
 use Rattle.acl_text.proofs.Putting.{done}
 use Rattle.acl_platform.specs.Choices.{numbers_of}
 use Rattle.acl_platform.proofs.numbers.put_numbers.Given as goal
 
 abbrev pub invariant-loop-range : goal.invariant-loop-range
 invariant-loop-range g l =
-    let o = g.O.Out in
-    Puts o.told o.faults o.refusals o.is_open o.keeps_rest l.initial.out l.out
+    Puts g.O.Out l.initial.out l.out
     (flat_map (g.F.NumberForm.number_text l.form) (numbers_of (take l.range-index l.ranges))) done

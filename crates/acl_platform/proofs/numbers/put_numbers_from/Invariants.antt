@@ -1,11 +1,10 @@
 use Rattle.std.proofs.Common.{◌-◌, flat_map}
 use Rattle.std.specs.List.{range_with_len}
-use Rattle.acl_text.specs.Output.{Puts}
+use Rattle.acl_text.specs.Puts.{Puts}
 use Rattle.acl_text.proofs.Putting.{done}
 use Rattle.acl_platform.proofs.numbers.put_numbers_from.Given as goal
 
 abbrev pub invariant-loop-number : goal.invariant-loop-number
 invariant-loop-number g l =
-    let o = g.O.Out in
-    Puts o.told o.faults o.refusals o.is_open o.keeps_rest l.initial.out l.out
+    Puts g.O.Out l.initial.out l.out
     (flat_map (g.F.NumberForm.number_text l.form) (range_with_len l.first (l.number - l.first))) done

@@ -1,11 +1,10 @@
 use Rattle.std.proofs.Common.{flat_map, take}
-use Rattle.acl_text.specs.Output.{Puts}
+use Rattle.acl_text.specs.Puts.{Puts}
 use Rattle.acl_text.proofs.Putting.{done}
 use Rattle.acl_grammar.specs.Rows.{text_of_rows}
 use Rattle.acl_platform.proofs.rule_rows.put_rules.Given as goal
 
 abbrev pub invariant-loop-rule : goal.invariant-loop-rule
 invariant-loop-rule g l =
-    let o = g.O.Out in
-    Puts o.told o.faults o.refusals o.is_open o.keeps_rest l.initial.out l.out
+    Puts g.O.Out l.initial.out l.out
     (text_of_rows (flat_map (g.F.RuleForm.rule_rows l.form) (take l.rule-index l.rules))) done

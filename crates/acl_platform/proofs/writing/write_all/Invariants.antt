@@ -1,5 +1,5 @@
 use Rattle.std.proofs.Common.{flat_map, map, take}
-use Rattle.acl_text.specs.Output.{Puts}
+use Rattle.acl_text.specs.Puts.{Puts}
 use Rattle.acl_text.proofs.Putting.{done}
 use Rattle.acl_grammar.specs.Rows.{text_of_rows}
 use Rattle.acl_platform.proofs.writing.write_all.Given as goal
@@ -7,6 +7,5 @@ use Rattle.acl_platform.proofs.writing.write_all.Given as goal
 -- the sections of the filters so far were put
 abbrev pub invariant-loop-filter : goal.invariant-loop-filter
 invariant-loop-filter g l =
-    let o = g.O.Out in
-    Puts o.told o.faults o.refusals o.is_open o.keeps_rest l.initial.out l.out
+    Puts g.O.Out l.initial.out l.out
     (text_of_rows (flat_map g.P.Section.Rows.rows (map g.P.Platform.section (take l.filter-index l.filters)))) done

@@ -1,9 +1,10 @@
 use Rattle.std.proofs.Common.{◌≡◌, ◌∷◌, ap, ◌∙◌}
 use Rattle.acl_packet.specs.declared.addresses.Family.TheVariants.{V4, V6}
 use Rattle.acl_packet.specs.Addresses.{top_address}
+use Rattle.acl_text.specs.Refusals.{first_in}
 use Rattle.acl_naming.specs.Reach.{ReachesAddress}
 use Rattle.acl_terms.specs.Matching.{AnyOf, NamesAddress}
-use Rattle.acl_terms.specs.Slips.{first_in, network_slip}
+use Rattle.acl_terms.specs.Slips.{network_slip}
 use Rattle.acl_terms.proofs.DistinctLaws.{asks-network, begun-names, given, new-first, next-names, slip-next}
 use Rattle.acl_terms.proofs.addresses.named.Goals as goal
 

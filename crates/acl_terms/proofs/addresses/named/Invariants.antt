@@ -1,8 +1,9 @@
 use Rattle.std.proofs.Common.{◌≡◌, length}
 use Rattle.acl_packet.specs.declared.addresses.Family.TheVariants.{V4, V6}
 use Rattle.acl_packet.specs.Addresses.{top_address}
+use Rattle.acl_text.specs.Refusals.{first_in}
 use Rattle.acl_terms.specs.Matching.{AnyOf, NamesAddress}
-use Rattle.acl_terms.specs.Slips.{first_in, network_slip}
+use Rattle.acl_terms.specs.Slips.{network_slip}
 use Rattle.acl_terms.proofs.SetLaws.{IsSetSoFar}
 use Rattle.acl_terms.proofs.addresses.named.Given as goal
 

@@ -1,5 +1,6 @@
 use Rattle.std.proofs.Common.{◌≡◌}
-use Rattle.acl_terms.specs.Slips.{first_in, type_slip}
+use Rattle.acl_text.specs.Refusals.{first_in}
+use Rattle.acl_terms.specs.Slips.{type_slip}
 use Rattle.acl_terms.proofs.checks.check_types.Given as goal
 
 abbrev pub invariant-loop-word : goal.invariant-loop-word

@@ -1,6 +1,6 @@
 use Rattle.std.proofs.Common.{◌≢◌, [], subst, sym}
+use Rattle.acl_text.specs.Refusals.{Judges}
 use Rattle.acl_terms.specs.DistinctSteps.{AreSame}
-use Rattle.acl_terms.specs.Slips.{Judges}
 use Rattle.acl_terms.proofs.DistinctLaws.{if-ok, same-ports, same-services, same-some}
 use Rattle.acl_terms.proofs.ports.admitted.Goals as goal
 

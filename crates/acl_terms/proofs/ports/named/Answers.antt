@@ -1,8 +1,9 @@
 use Rattle.std.proofs.Common.{◌≡◌, ◌∷◌, ap, sym, ◌∙◌}
+use Rattle.acl_text.specs.Refusals.{first_in}
 use Rattle.acl_naming.specs.Ports.{top_port}
 use Rattle.acl_naming.specs.Reach.{ReachesPort}
 use Rattle.acl_terms.specs.Matching.{AnyOf, NamesPort}
-use Rattle.acl_terms.specs.Slips.{first_in, service_slip}
+use Rattle.acl_terms.specs.Slips.{service_slip}
 use Rattle.acl_terms.proofs.DistinctLaws.{asks-service, begun-names, given, new-first, new-some, next-names, slip-next}
 use Rattle.acl_terms.proofs.SetLaws.{more-some}
 use Rattle.acl_terms.proofs.ports.named.Goals as goal

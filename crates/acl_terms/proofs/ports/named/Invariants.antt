@@ -1,7 +1,8 @@
 use Rattle.std.proofs.Common.{◌≡◌, ◌≢◌, [], length}
+use Rattle.acl_text.specs.Refusals.{first_in}
 use Rattle.acl_naming.specs.Ports.{top_port}
 use Rattle.acl_terms.specs.Matching.{AnyOf, NamesPort}
-use Rattle.acl_terms.specs.Slips.{first_in, service_slip}
+use Rattle.acl_terms.specs.Slips.{service_slip}
 use Rattle.acl_terms.proofs.SetLaws.{IsSetSoFar}
 use Rattle.acl_terms.proofs.ports.named.Given as goal
 

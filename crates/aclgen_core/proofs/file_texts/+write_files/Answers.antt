@@ -16,4 +16,4 @@ pub returns-in_ok-write_file-in-len1-up : goal.returns-in_ok-write_file-in-len1-
 returns-in_ok-write_file-in-len1-up g t c =
     let all = first_and_rest c.args.files.now c.first-item.result c.in-len1-up.len_at_least c.first-item.is in
     let first = rw (c.as_str.ensures.value, append-nil c.as_slice.result.now, c.as_slice.ensures) at c.in_ok-write_file-in-len1-up.ensures in
-    rw all (writes-cons _ _ _ _ _ _ _ _ _ (text_view c.first-item.result) _ _ _ c.requires.begun (rw all at c.requires.differ) first c.write_files.ensures)
+    rw all (writes-cons _ _ _ _ (text_view c.first-item.result) _ _ _ c.requires.begun (rw all at c.requires.differ) first c.write_files.ensures)

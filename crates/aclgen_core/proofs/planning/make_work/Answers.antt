@@ -13,5 +13,5 @@ returns-clause-makes g c =
 
 pub returns-in_err-plan-clause-looks : goal.returns-in_err-plan-clause-looks
 returns-in_err-plan-clause-looks g c =
-    rejected-looks g.T.Tree.files g.T.Tree.begun g.T.Out.faults g.T.Out.refusals g.T.Tree.list_faults g.T.Tree.read_faults c.args.tree.now c.load.new.tree
+    rejected-looks _ c.args.tree.now c.load.new.tree
     c.in_err-plan.field-0.0 c.from_residual-in_err-plan.result c.load.ensures.looks.only c.from_residual-in_err-plan.ensures.1

@@ -1,7 +1,7 @@
 -- The terms so far are not shaded: the first slip is that of the terms that are left.
 use Rattle.std.proofs.Common.{◌≡◌, drop}
 use Rattle.std.specs.List.{enumerate_from}
-use Rattle.acl_terms.specs.Slips.{first_in}
+use Rattle.acl_text.specs.Refusals.{first_in}
 use Rattle.aclgen_core.specs.ShadedSlips.{slip_at, terms_shaded}
 use Rattle.aclgen_core.proofs.shading.refuse_in_block.Given as goal
 

@@ -1,5 +1,5 @@
 use Rattle.std.proofs.Common.{ap, sym, ◌∙◌}
-use Rattle.acl_terms.specs.Slips.{first_in}
+use Rattle.acl_text.specs.Refusals.{first_in}
 use Rattle.acl_report.proofs.PairLaws.{pairs-none}
 use Rattle.aclgen_core.specs.ShadedSlips.{block_shaded}
 use Rattle.aclgen_core.proofs.shading.refuse_in_blocks.Goals as goal

@@ -1,6 +1,6 @@
 -- No term of the blocks so far is shaded: the first slip is that of the blocks that are left.
 use Rattle.std.proofs.Common.{◌≡◌, zip}
-use Rattle.acl_terms.specs.Slips.{first_in}
+use Rattle.acl_text.specs.Refusals.{first_in}
 use Rattle.acl_report.proofs.PairLaws.{pairs_left}
 use Rattle.aclgen_core.specs.ShadedSlips.{block_shaded}
 use Rattle.aclgen_core.proofs.shading.refuse_in_blocks.Given as goal

@@ -1,5 +1,5 @@
 use Rattle.std.proofs.Common.{◌≡◌, ◌-◌, ◌≤◌, List, ◌++◌, length, drop, flat_map}
-use Rattle.acl_text.specs.Output.{Puts}
+use Rattle.acl_text.specs.Puts.{Puts}
 use Rattle.acl_text.proofs.Putting.{done}
 use Rattle.acl_grammar.specs.Rows.{text_of_rows}
 use Rattle.acl_sets.specs.declared.sets.Range.{Range}
@@ -9,9 +9,8 @@ use Rattle.gen_iptables.proofs.groups.put_groups.Given as goal
 -- the groups that were put, and what is left
 abbrev pub invariant-loop-from : goal.invariant-loop-from
 invariant-loop-from g l =
-    let o = g.O.Out in
     (l.from ≤ length l.set.ranges) × ((front : List (List Range)) × ((front ++ groups (drop l.from l.set.ranges) ≡ groups l.set.ranges)
-    × Puts o.told o.faults o.refusals o.is_open o.keeps_rest l.initial.out l.out (text_of_rows (flat_map (g.F.GroupForm.group_rows l.form) front)) done))
+    × Puts g.O.Out l.initial.out l.out (text_of_rows (flat_map (g.F.GroupForm.group_rows l.form) front)) done))
 
 abbrev pub decreases-loop-from : goal.decreases-loop-from
 decreases-loop-from g l = length l.set.ranges - l.from

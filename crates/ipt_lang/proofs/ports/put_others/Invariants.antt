@@ -1,10 +1,9 @@
 use Rattle.std.proofs.Common.{take, flat_map, ◌∷◌}
-use Rattle.acl_text.specs.Output.{Puts}
+use Rattle.acl_text.specs.Puts.{Puts}
 use Rattle.acl_text.proofs.Putting.{done}
 use Rattle.ipt_lang.proofs.ports.put_others.Given as goal
 
 abbrev pub invariant-loop-item : goal.invariant-loop-item
 invariant-loop-item g l =
-    let o = g.O.Out in
-    Puts o.told o.faults o.refusals o.is_open o.keeps_rest l.initial.out l.out
+    Puts g.O.Out l.initial.out l.out
     (flat_map (λ x. 44 ∷ g.F.WordForm.item_text l.form x) (take l.item-index l.items)) done

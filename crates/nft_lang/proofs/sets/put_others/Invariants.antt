@@ -1,10 +1,9 @@
 use Rattle.std.proofs.Common.{take, flat_map, codes, ◌++◌}
-use Rattle.acl_text.specs.Output.{Puts}
+use Rattle.acl_text.specs.Puts.{Puts}
 use Rattle.acl_text.proofs.Putting.{done}
 use Rattle.nft_lang.proofs.sets.put_others.Given as goal
 
 abbrev pub invariant-loop-element : goal.invariant-loop-element
 invariant-loop-element g l =
-    let o = g.O.Out in
-    Puts o.told o.faults o.refusals o.is_open o.keeps_rest l.initial.out l.out
+    Puts g.O.Out l.initial.out l.out
     (flat_map (λ e. codes ", " ++ g.F.WordForm.item_text l.form e) (take l.element-index l.elements)) done

@@ -5,7 +5,7 @@ use Rattle.acl_text.specs.declared.faults.Place.{Place}
 use Rattle.acl_text.specs.declared.faults.Slip.{Slip}
 use Rattle.acl_text.specs.Cursors.{words_of, word_at}
 use Rattle.acl_text.proofs.CursorLaws.{words_next, words_none}
-use Rattle.acl_naming.specs.declared.item_words.Kind.{Kind}
+use Rattle.acl_naming.specs.declared.item_words.NamingKind.{NamingKind}
 use Rattle.acl_naming.specs.Definitions.{Definition}
 use Rattle.acl_naming.specs.NamingFiles.{Outcome, item_added, items_added}
 use Rattle.acl_text.proofs.AnswerLaws.{step_stops, stops_whole}
@@ -13,11 +13,11 @@ use Rattle.acl_text.specs.Answers.{slip_told}
 use Rattle.acl_text.specs.Steps.{◌>>=◌}
 use Rattle.acl_naming.proofs.naming_files.LineReader.add_items.Goals as goal
 
-abbrev added_behind : Kind → Place → List ℕ → ℕ → List Definition → Outcome
+abbrev added_behind : NamingKind → Place → List ℕ → ℕ → List Definition → Outcome
 added_behind kind place text end more = items_added kind place more (words_of (drop end text))
 
 -- the next word, and those behind it
-next_added : (kind : Kind) (place : Place) (ds : List Definition) (text : List ℕ) (from start end : ℕ)
+next_added : (kind : NamingKind) (place : Place) (ds : List Definition) (text : List ℕ) (from start end : ℕ)
     → from ≤ length text → Some (start, end) ≡ word_at text from
     → items_added kind place ds (words_of (drop from text)) ≡ (item_added kind place ds (slice_range text start end) >>= added_behind kind place text end)
 next_added kind place ds text from start end h e = ap (items_added kind place ds) (words_next text from start end h e).2

@@ -3,7 +3,7 @@ use Rattle.std.specs.List.{slice_range}
 use Rattle.acl_text.specs.declared.faults.Code.TheVariants as codes
 use Rattle.acl_text.specs.Cursors.{words_of}
 use Rattle.acl_text.proofs.CursorLaws.{words_next, words_none}
-use Rattle.acl_naming.specs.Checking.{slip}
+use Rattle.acl_text.specs.Refusals.{slip}
 use Rattle.acl_naming.specs.NamingFiles.{with_items}
 use Rattle.acl_naming.proofs.ReadLaws.{refuses_slip}
 use Rattle.acl_naming.proofs.naming_files.LineReader.go_on.Goals as goal

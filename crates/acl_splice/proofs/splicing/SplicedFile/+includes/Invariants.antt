@@ -4,7 +4,7 @@ use Rattle.acl_text.specs.Cursors.{lines_of}
 use Rattle.acl_lines.specs.LineTexts.{HasNoFeed}
 use Rattle.acl_splice.specs.Labels.{GoesOn}
 use Rattle.acl_splice.specs.Splicing.{behind_lines, behind_include}
-use Rattle.acl_host.specs.Outside.{OnlyReads}
+use Rattle.acl_host.specs.Outside.{OnlyReads, members}
 use Rattle.acl_splice.proofs.splicing.SplicedFile.+includes.Given as goal
 
 -- an include line goes one level down; a line and a file stand on the same level
@@ -19,8 +19,8 @@ decreases-add g l = 3 * l.self.now.levels + 2
 
 abbrev pub invariant-add-loop-text : goal.invariant-add-loop-text
 invariant-add-loop-text g l = record {
-  reads : OnlyReads g.T.Tree.files g.T.Tree.begun g.T.Out.faults g.T.Out.refusals
-      g.T.Tree.list_faults g.T.Tree.read_faults l.fn.tree l.tree;
+  reads : OnlyReads (members g.T.Out g.T.Tree.files g.T.Tree.begun
+      g.T.Tree.list_faults g.T.Tree.read_faults) l.fn.tree l.tree;
   read_on : GoesOn l.initial.sources l.sources;
   place : l.cursor.file ≡ l.file;
   no_feeds : AllByRecursion HasNoFeed l.cursor.lines;

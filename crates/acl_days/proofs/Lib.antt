@@ -1,0 +1,3 @@
+pub mod Calendar
+pub mod DayTextLaws
+pub mod NamedDayLaws

@@ -1,0 +1,3 @@
+pub mod Days
+pub mod DaySteps
+pub mod NamedDays

@@ -1,0 +1,5 @@
+pub mod Holding
+pub mod Memory
+pub mod MemoryFiles
+pub mod MemorySinks
+pub mod MemoryTrees

@@ -1,0 +1,16 @@
+//! Trees, streams and clocks in memory, of which chosen calls fail.
+#![tactic(auto)]
+
+mod failing;
+mod fixed_clocks;
+mod looking;
+mod mem_files;
+mod mem_names;
+mod mem_sinks;
+mod mem_trees;
+mod paths;
+
+pub use failing::Op;
+pub use fixed_clocks::FixedClock;
+pub use mem_sinks::MemSink;
+pub use mem_trees::MemTree;

@@ -1,0 +1,81 @@
+-- What is wrong with a job has a code that `aclgen` answers.
+use Rattle.std.proofs.Common.{◌≡◌, ℕ, List, zip, Option, None, Some, Result, Ok, Err, absurd, option_map, slice_get, sym, subst}
+use Rattle.std.specs.List.{enumerate_from}
+use Rattle.acl_text.specs.AnsweredCodes.{FailsAnswered, IsAnswered, SlipIsAnswered}
+use Rattle.acl_text.specs.declared.faults.Code.{Code}
+use Rattle.acl_text.specs.declared.faults.Code.TheVariants as codes_of
+use Rattle.acl_text.specs.declared.faults.Fault.{Fault}
+use Rattle.acl_text.specs.declared.faults.Slip.{Slip}
+use Rattle.acl_text.proofs.AnsweredLaws.{either, either_answered, first_answered}
+use Rattle.acl_days.specs.declared.days.Day.{Day}
+use Rattle.acl_host.specs.Files.{File}
+use Rattle.acl_target.specs.declared.targets.Target.{Target}
+use Rattle.acl_policy.specs.declared.blocks.Block.{Block}
+use Rattle.acl_terms.specs.declared.terms.Term.{Term}
+use Rattle.acl_shade.specs.ComputableShading.{shading_term}
+use Rattle.acl_platform.specs.declared.filters.Filter.{Filter}
+use Rattle.acl_platform.specs.declared.filters.Limit.{Limit}
+use Rattle.acl_platform.specs.declared.filters.Limit.TheVariants as limits
+use Rattle.acl_platform.specs.declared.rules.Rule.{Rule}
+use Rattle.acl_expand.specs.ExpansionSlips.{first_slip}
+use Rattle.acl_expand.proofs.AnsweredSlips.{expansion_answered}
+use Rattle.acl_load.specs.declared.policy_loading.Loaded.{Loaded}
+use Rattle.acl_load.proofs.AnsweredFaults.{goes_on_answered, policy_loads_answered}
+use Rattle.acl_platform.specs.Features.{feature_word}
+use Rattle.acl_render.specs.PlatformFiles.{limit_of}
+use Rattle.acl_options.specs.CommandLines.{Options}
+use Rattle.acl_options.specs.ComputableOptions.{options_of}
+use Rattle.aclgen_core.specs.FilterRequests.{FilterRequest, check_slip, filter_for, limit_slip, loaded_slip, name_word, request_slip, requests_of, rule_slip}
+use Rattle.aclgen_core.specs.Job.{IsJob, IsJobOf, Plan, Plans, job_slip, or_day, or_slip, plan_of, planned}
+use Rattle.aclgen_core.specs.ShadedSlips.{asked_shaded, block_shaded, loaded_shaded, shaded_slip, slip_at, terms_shaded}
+
+rule_good : (code : Code) (word : Rule → List ℕ) (f : Filter) (o : Option Rule) → IsAnswered code → IsAnswered (rule_slip code word f o).code
+rule_good code word f (Some r) h = h
+rule_good code word f None h = h
+
+limit_good : (f : Filter) (l : Limit) → IsAnswered (limit_slip f l).code
+limit_good f (limits.NameLength i) = rule_good codes_of.NameLength name_word f (slice_get f.rules i) tt
+limit_good f (limits.NameClash i) = rule_good codes_of.NameClash name_word f (slice_get f.rules i) tt
+limit_good f (limits.Unsupported i feature) = rule_good codes_of.Unsupported (λ r. feature_word feature) f (slice_get f.rules i) tt
+limit_good f limits.TooManyEntries = tt
+
+-- the slip that is made of something, if there is something
+map_good : {A : Type 0} (f : A → Slip) (o : Option A) → ((x : A) → IsAnswered (f x).code) → SlipIsAnswered (option_map f o)
+map_good f None h = tt
+map_good f (Some x) h = h x
+
+check_good : (f : Filter) → SlipIsAnswered (check_slip f)
+unfolding check_slip
+check_good f = map_good (limit_slip f) (limit_of f) (limit_good f)
+
+request_good : (today : Day) (r : FilterRequest) → SlipIsAnswered (request_slip today r)
+request_good today r = either_answered (first_slip r.target today r.terms) (check_slip (filter_for today r))
+    (expansion_answered r.target today r.terms) (check_good (filter_for today r))
+
+shaded_good : (targets : List Target) (today : Day) (terms : List Term) (p : ℕ × Term) → SlipIsAnswered (slip_at targets today terms p)
+shaded_good targets today terms (place, t) = map_good (shaded_slip t) (shading_term targets today terms place) (λ _. tt)
+
+loaded_good : (today : Day) (loaded : Loaded) → SlipIsAnswered (loaded_shaded today loaded)
+loaded_good today loaded = first_answered (block_shaded today) (zip loaded.policy.blocks loaded.terms)
+    (λ b. first_answered (slip_at b.0.targets today b.1) (enumerate_from 0 b.1) (shaded_good b.0.targets today b.1))
+
+job_good : (o : Options) (today : Day) (loaded : Loaded) → SlipIsAnswered (job_slip o today loaded)
+job_good o today loaded = either_answered (loaded_slip today loaded) (asked_shaded o.shade_check today loaded)
+    (first_answered (request_slip today) (requests_of loaded) (request_good today))
+    (either (λ (s : Option Slip). SlipIsAnswered s) o.shade_check _ _ (loaded_good today loaded) tt)
+
+or_slip_good : (labels : List (List ℕ)) (o : Option Slip) (plan : Plan) → SlipIsAnswered o → FailsAnswered (or_slip labels o plan)
+or_slip_good labels (Some slip) plan h = h
+or_slip_good labels None plan h = tt
+
+plans_good : (o : Options) (today : Day) (files : List File) (answer : Result Plan Fault) → Plans o today files answer → FailsAnswered answer
+plans_good o today files answer h = goes_on_answered (λ l a. a ≡ planned o today l) h.0 answer
+    (policy_loads_answered o.definitions o.policy files h.0 h.1)
+    (λ l e. subst (λ (r : Result Plan Fault). FailsAnswered r) (sym e)
+    (or_slip_good l.sources.labels (job_slip o today l) (plan_of o today l) (job_good o today l))) h.2
+
+pub job_answered : (words : List (List ℕ)) (day : Day) (files : List File) (fault : Fault) → IsJob words day files (Some (Err fault)) → IsAnswered fault.code
+job_answered words day files fault h = by (options_of words) h where
+  by : (o : Option Options) → IsJobOf o day files (Some (Err fault)) → IsAnswered fault.code
+  by None e = absurd e
+  by (Some o) e = plans_good o (or_day o.date day) files (Err fault) e

@@ -1,0 +1,4 @@
+mod days;
+mod looks;
+mod machine;
+mod memory;

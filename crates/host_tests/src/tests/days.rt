@@ -1,0 +1,42 @@
+use acl_days::{Day, put_day, read_day};
+use acl_text::{Out, Whole};
+use std::test::Fail;
+
+// Days since 1970-01-01, as GNU date counts them.
+static DAYS: [(&[u8], i32); 6] = [
+    (b"0001-01-01", -719162),
+    (b"1969-12-31", -1),
+    (b"1970-01-01", 0),
+    (b"2000-02-29", 11016),
+    (b"2026-01-15", 20468),
+    (b"9999-12-31", 2932896),
+];
+
+static NO_DAYS: [&[u8]; 8] = [
+    b"0000-01-01",
+    b"1900-02-29",
+    b"2026-02-30",
+    b"2026-13-01",
+    b"2026-1-15",
+    b"2026-01-15 ",
+    b"2026/01/15",
+    b"",
+];
+
+#[test]
+fn dates_are_read(rt: HostRuntime) {
+    for (word, number) in &DAYS {
+        assert!(rt; read_day(word).map(|day| day.number) == Some(*number));
+    }
+    for word in &NO_DAYS {
+        assert!(rt; read_day(word).is_none());
+    }
+}
+
+#[test]
+fn a_date_is_put(rt: HostRuntime) -> Result<(), Fail> {
+    let mut out = Whole::new(rt.alloc());
+    put_day(&mut out, Day { number: 20468 })?;
+    assert!(rt; out.as_slice() == b"2026-01-15".as_slice());
+    Ok(())
+}
