@@ -16,7 +16,7 @@ ghost use Rattle.acl_grammar.specs.RuleParts.{
 };
 
 use crate::pieces::{Words, put_words};
-use acl_packet::{Conn, Packet, Prefix};
+use acl_packet::{Conn, Packet, Prefix, any_has, has_ports};
 use acl_text::{Out, PutFault};
 
 /// The bit of SYN among TCP's flags (RFC 9293 section 3.1).
@@ -49,7 +49,10 @@ pub fn is_proto(proto: Option<u8>, number: u8) -> bool
 pub fn has_port_proto(proto: Option<u8>) -> bool
     ensures { result ≡ has_port_proto proto }
 {
-    is_proto(proto, 6) || is_proto(proto, 17) || is_proto(proto, 132)
+    match proto {
+        Some(proto) => has_ports(proto),
+        None => false,
+    }
 }
 
 /// Whether the number is the wanted one, where one is wanted.
@@ -83,13 +86,7 @@ pub fn admit_addresses(src: &[Prefix], dst: &[Prefix], packet: &Packet) -> bool
 fn admits_address(prefixes: &[Prefix], address: u128) -> bool
     ensures { result ≡ set_holds has_address prefixes.now address }
 {
-    is_empty(prefixes) || any_has_address(prefixes, address)
-}
-
-fn any_has_address(prefixes: &[Prefix], address: u128) -> bool
-    ensures { result ≡ list_any (λ e. has_address e address) prefixes.now }
-{
-    prefixes.iter().any(|prefix| prefix.contains(address))
+    is_empty(prefixes) || any_has(prefixes, address)
 }
 
 /// Whether the ranges have the packet's ports, end by end, where they are written.
@@ -125,10 +122,7 @@ pub fn is_empty<T>(items: &[T]) -> bool
 pub fn state_holds(wanted: bool, conn: Conn) -> bool
     ensures { result ≡ state_holds wanted conn }
 {
-    match (wanted, conn) {
-        (true, Conn::New | Conn::Invalid) => false,
-        _ => true,
-    }
+    !wanted || conn.is_tracked()
 }
 
 /// The word `log`, where a log is asked for.

@@ -18,7 +18,7 @@ use Rattle.acl_target.specs.declared.targets.Target.{Target}
 use Rattle.acl_policy.specs.declared.target_lines.NamedTarget.{NamedTarget}
 use Rattle.acl_target.specs.Clashes.{is_mixed}
 use Rattle.acl_target.specs.TargetData.{IsPriority, FitsPlatform, chain_text, hook_text, is_verdict, is_neighbours}
-use Rattle.acl_policy.specs.Targets.{is_word, or_slip, single_family, family_word, chain_word, hook_word, name_word, priority_word, no_choices, unless_some, with_policy, with_mark, with_families, with_priority, iptables_choice, nftables_choice, choice, choices_from, last_family, device_line, policy_ending, iptables_line, hooked_line, nftables_line, target_line}
+use Rattle.acl_policy.specs.Targets.{is_word, or_slip, single_family, family_word, chain_word, hook_word, name_word, priority_word, no_choices, unless_some, with_policy, with_mark, with_families, with_priority, iptables_choice, nftables_choice, choice, choices_from, last_family, device_line, default_ending, iptables_line, hooked_line, nftables_line, target_line}
 use Rattle.acl_policy.specs.Values.{is_plain}
 use Rattle.acl_text.specs.declared.faults.Code.TheVariants as codes_of
 use Rattle.acl_policy.proofs.Outcomes.{Has, ToldAt, answered_for, bind_has, if_has, some_if, then_has, and_right}
@@ -104,12 +104,12 @@ default_priority : (o : Option ℤ) → IfSome o IsPriority → IsPriority (unwr
 default_priority None h = (omega (arith, ints), omega (arith, ints))
 default_priority (Some z) h = h
 
-left_ending : (o : Option Bool) → is_neighbours (policy_ending endings.Left o) ≡ false
+left_ending : (o : Option Bool) → is_neighbours (default_ending endings.Left o) ≡ false
 left_ending None = refl
 left_ending (Some true) = refl
 left_ending (Some false) = refl
 
-deny_ending : (o : Option Bool) → is_verdict (policy_ending endings.Deny o) ≡ true
+deny_ending : (o : Option Bool) → is_verdict (default_ending endings.Deny o) ≡ true
 deny_ending None = refl
 deny_ending (Some true) = refl
 deny_ending (Some false) = refl

@@ -154,15 +154,15 @@ device_line kind k p (n ∷ ws) =
     else Err (slip_for codes_of.TargetLine n)
 
 -- `iptables CHAIN`, then `ACCEPT` or `DROP`, `nostate`, and `inet` or `inet6`.
-abbrev pub policy_ending : Ending → Option Bool → Ending
-policy_ending without None = without
-policy_ending without (Some true) = endings.Accept
-policy_ending without (Some false) = endings.Deny
+abbrev pub default_ending : Ending → Option Bool → Ending
+default_ending without None = without
+default_ending without (Some true) = endings.Accept
+default_ending without (Some false) = endings.Deny
 
 abbrev pub iptables_target : Token → Token → Hook → Choices → Target
 iptables_target k n hook c = record (target_of k n Iptables (unwrap_or c.families Inet) hook) {
   stateful = not c.marked;
-  ending = policy_ending endings.Left c.accept;
+  ending = default_ending endings.Left c.accept;
 }
 
 abbrev pub iptables_line : Token → Token → List Token → Result NamedTarget Slip
@@ -175,7 +175,7 @@ iptables_line k p (n ∷ ws) =
 abbrev pub nftables_target : Token → Token → Families → Hook → Choices → Target
 nftables_target k n families hook c = record (target_of k n Nftables families hook) {
   stateful = true;
-  ending = policy_ending endings.Deny c.accept;
+  ending = default_ending endings.Deny c.accept;
   priority = unwrap_or c.priority (pos 0);
   verbose = not c.marked;
 }

@@ -8,7 +8,7 @@ ghost use Rattle.acl_policy.specs.Targets.{
   last_family,
   device_ending,
   device_line,
-  policy_ending,
+  default_ending,
   iptables_line,
   hooked_line,
   nftables_line,
@@ -138,8 +138,8 @@ fn read_device(
     }
 }
 
-fn policy_ending(without: Ending, accept: Option<bool>) -> Ending
-    ensures { result ≡ policy_ending without accept }
+fn default_ending(without: Ending, accept: Option<bool>) -> Ending
+    ensures { result ≡ default_ending without accept }
 {
     match accept {
         None => without,
@@ -167,7 +167,7 @@ fn read_iptables(
     let families = choices.families.unwrap_or(Families::Inet);
     let mut target = make_target(alloc, keyword, name, Kind::Iptables, families, hook)?;
     target.stateful = !choices.marked;
-    target.ending = policy_ending(Ending::Left, choices.accept);
+    target.ending = default_ending(Ending::Left, choices.accept);
     Ok(NamedTarget {
         target,
         place: name.place(),
@@ -193,7 +193,7 @@ fn read_hooked(
     let choices = read_choices(alloc, Kind::Nftables, behind)?;
     let mut target = make_target(alloc, keyword, name, Kind::Nftables, families, hook)?;
     target.stateful = true;
-    target.ending = policy_ending(Ending::Deny, choices.accept);
+    target.ending = default_ending(Ending::Deny, choices.accept);
     target.priority = choices.priority.unwrap_or(0);
     target.verbose = !choices.marked;
     Ok(NamedTarget {

@@ -6,7 +6,7 @@ use Rattle.acl_packet.specs.declared.filtering.Hook.{Hook}
 use Rattle.acl_grammar.specs.Rows.{Row}
 use Rattle.ipt_lang.specs.declared.documents.Chain.{Chain}
 use Rattle.ipt_lang.specs.declared.documents.Rule.{Rule}
-use Rattle.ipt_lang.specs.Texts.{chain_row, chain_rows, head_rows, jump_row, policy_rows, remark_rows, rule_rows, section_rows, target_row}
+use Rattle.ipt_lang.specs.Texts.{chain_row, chain_rows, head_rows, jump_row, default_rows, remark_rows, rule_rows, section_rows, target_row}
 use Rattle.gen_iptables.specs.EntryRows.{CountIsOfAppends, is_append}
 use Rattle.gen_iptables.specs.Sections.{chain_size, section_of}
 
@@ -56,15 +56,15 @@ chains-each hook family (c ∷ cs) =
     let both = sum_by-cons chain_size c cs in
     omega (arith, here, first, rest, both)
 
-policy-none : (hook : Hook) (o : Option Bool) → sum_by one (policy_rows hook o) ≡ 0
-unfolding policy_rows
+policy-none : (hook : Hook) (o : Option Bool) → sum_by one (default_rows hook o) ≡ 0
+unfolding default_rows
 policy-none hook None = refl
 policy-none hook (Some accept) = refl
 
 head-none : (hook : Hook) (family : Family) (o : Option Bool) → sum_by one (head_rows hook family o) ≡ 0
 unfolding head_rows
 head-none hook family o =
-    let all = sum_by-cons one (target_row hook family) (policy_rows hook o) in
+    let all = sum_by-cons one (target_row hook family) (default_rows hook o) in
     let none : one (target_row hook family) ≡ 0 = refl in
     let rest = policy-none hook o in
     omega (arith, all, none, rest)

@@ -11,12 +11,12 @@ use Rattle.acl_platform.specs.declared.filters.Filter.{Filter}
 use Rattle.acl_platform.specs.SoundFilters.{target_of}
 use Rattle.ipt_lang.specs.declared.documents.Section.{Section}
 use Rattle.ipt_lang.specs.Documents.{hook_names}
-use Rattle.ipt_lang.specs.Texts.{chain_rows, policy_rows, text_of}
+use Rattle.ipt_lang.specs.Texts.{chain_rows, default_rows, text_of}
 use Rattle.gen_iptables.specs.Sections.{section_of}
 
 -- Behind the first line of a section stand the policy, where there is one, and the chains.
 abbrev pub section_body : Section → List Row
-section_body s = policy_rows s.hook s.accept ++ flat_map (chain_rows s.hook s.family) s.chains
+section_body s = default_rows s.hook s.accept ++ flat_map (chain_rows s.hook s.family) s.chains
 
 -- A section is a line of `## ` and its target's text, and behind it the lines of its body.
 abbrev pub FirstLine : Type 0

@@ -8,7 +8,7 @@ use Rattle.std.proofs.lemmas.Bool.Decides.{Decides-eqb}
 use Rattle.acl_packet.specs.declared.addresses.Families.{Families}
 use Rattle.acl_packet.specs.declared.filtering.Verdict.{Verdict}
 use Rattle.acl_packet.specs.declared.filtering.Verdict.TheVariants.{Accept, Deny, Reject, Reset, Left}
-use Rattle.acl_packet.specs.Packets.{has_ports as with_ports, icmp_of}
+use Rattle.acl_packet.specs.Packets.{has_ports, icmp_of}
 use Rattle.acl_text.specs.Names.{is_safe_text}
 use Rattle.acl_text.specs.Notes.{is_note}
 use Rattle.acl_sets.specs.ComputableSets.{is_all}
@@ -28,7 +28,7 @@ use Rattle.acl_platform.proofs.NamedNumbers.{no-icmp}
 use Rattle.acl_platform.proofs.RuleNames.{rule-name}
 use Rattle.acl_platform.proofs.RuleNumbers.{no-destination, no-source, tcp-or-udp, type-most}
 use Rattle.acl_grammar.specs.RuleParts.{is_empty}
-use Rattle.junos_lang.specs.Documents.{has_ports, is_alone, IsTerm, ports_fit, test_fits, types_fit, verdict_fits}
+use Rattle.junos_lang.specs.Documents.{are_tcp_or_udp, is_alone, IsTerm, ports_fit, test_fits, types_fit, verdict_fits}
 use Rattle.gen_junos.specs.Sections.{note_of, term_of, test_of}
 
 -- ---- protocols that pass a test which 0 does not
@@ -41,7 +41,7 @@ is-alone s k h none only = ap (λ ns. is_alone ns k) (alone s k h none only) ∙
 
 -- ---- ports
 
-full : (ns : List ℕ) → ns ≢ [] → list_all (λ n. n == 6 || n == 17) ns ≡ true → has_ports ns ≡ true
+full : (ns : List ℕ) → ns ≢ [] → list_all (λ n. n == 6 || n == 17) ns ≡ true → are_tcp_or_udp ns ≡ true
 full [] some all = absurd (some refl)
 full (n ∷ ns) some all = all
 
@@ -49,9 +49,9 @@ all-pass : (test : ℕ → Bool) (ns : List ℕ) → AllByRecursion (λ n. test 
 all-pass test [] h = refl
 all-pass test (n ∷ ns) h = and_from (test n) (list_all test ns) h.0 (all-pass test ns h.1)
 
-ports-known : (s : Numbers) → IsFull 255 s → Only with_ports s → holds s.ranges 132 ≡ false → has_ports (number_elements s) ≡ true
+ports-known : (s : Numbers) → IsFull 255 s → Only has_ports s → holds s.ranges 132 ≡ false → are_tcp_or_udp (number_elements s) ≡ true
 ports-known s h only none =
-    let e = not-all-elements s (not-all s with_ports refl only) in
+    let e = not-all-elements s (not-all s has_ports refl only) in
     let all = all-weaker {P = λ n. (is_all s ≡ false) × (holds s.ranges n ≡ true)} {Q = λ n. (n == 6 || n == 17) ≡ true}
     (λ n k. tcp-or-udp s n only none k.1) (number_elements s) (numbers-are s) in
     full (number_elements s) (λ none_left. some-numbers 0 255 s.ranges h.normal h.some (sym e ∙ none_left))
@@ -63,15 +63,15 @@ no-ports s e = ap (λ b. map (λ r. (r.low, r.high)) (cond b [] s.ranges)) e
 ports-by : (families : Families) (r : Rule) → IsSoundRule Juniper families r → names_sctp_ports r ≡ false
     → (sports dports : Bool) → is_all r.sports ≡ sports → is_all r.dports ≡ dports → ports_fit (term_of r) ≡ true
 ports-by families r h u true true e f =
-    let t = has_ports (number_elements r.protos) in
+    let t = are_tcp_or_udp (number_elements r.protos) in
     ap (λ ps. is_empty ps && is_empty (port_elements r.dports) || t) (no-ports r.sports e)
     ∙ ap (λ ps. is_empty ps || t) (no-ports r.dports f)
 ports-by families r h u true false e f =
-    or_right (is_empty (port_elements r.sports) && is_empty (port_elements r.dports)) (has_ports (number_elements r.protos))
+    or_right (is_empty (port_elements r.sports) && is_empty (port_elements r.dports)) (are_tcp_or_udp (number_elements r.protos))
     (ports-known r.protos h.protocols (h.destination_ports_fit f)
     (no-destination (holds r.protos.ranges 132) (is_all r.sports) (is_all r.dports) u f))
 ports-by families r h u false dports e f =
-    or_right (is_empty (port_elements r.sports) && is_empty (port_elements r.dports)) (has_ports (number_elements r.protos))
+    or_right (is_empty (port_elements r.sports) && is_empty (port_elements r.dports)) (are_tcp_or_udp (number_elements r.protos))
     (ports-known r.protos h.protocols (h.source_ports_fit e)
     (no-source (holds r.protos.ranges 132) (is_all r.sports) (is_all r.dports) u e))
 

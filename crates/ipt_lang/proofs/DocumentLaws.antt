@@ -17,7 +17,7 @@ use Rattle.ipt_lang.specs.declared.documents.Chain.{Chain}
 use Rattle.ipt_lang.specs.declared.documents.Rule.{Rule}
 use Rattle.ipt_lang.specs.declared.chains_drafts.ChainsDraft.{ChainsDraft}
 use Rattle.ipt_lang.specs.Documents.{IsRule, IsRemark, IsChain, IsSection, hook_word, family_word}
-use Rattle.ipt_lang.specs.Texts.{rule_words, chain_name, remark_rows, rule_rows, chain_row, jump_row, chain_rows, policy_rows, target_row, head_rows, section_rows, text_of}
+use Rattle.ipt_lang.specs.Texts.{rule_words, chain_name, remark_rows, rule_rows, chain_row, jump_row, chain_rows, default_rows, target_row, head_rows, section_rows, text_of}
 use Rattle.ipt_lang.specs.ReadingSteps.{rule_in, no_chain, no_draft, hook_in, ended, end_chain, with_rule, take_appended, take_target, take_policy, take_name, take_words, take_row}
 use Rattle.ipt_lang.proofs.RuleReadingLaws.{rule_again}
 use Rattle.ipt_lang.proofs.SafeRows.{sections_safe}
@@ -108,8 +108,8 @@ target_read d h f =
     ∙ ap (λ g. at (ended d) (section h g None) no_chain) (family_again f)
 
 policy_read : (ss : List Section) (h : Hook) (f : Family) (o : Option Bool)
-    → read (at ss (section h f None) no_chain) (policy_rows h o) ≡ at ss (section h f o) no_chain
-unfolding policy_rows take_words take_policy
+    → read (at ss (section h f None) no_chain) (default_rows h o) ≡ at ss (section h f o) no_chain
+unfolding default_rows take_words take_policy
 policy_read ss h f None = refl
 policy_read ss h f (Some true) = refl
 policy_read ss h f (Some false) = refl
@@ -118,7 +118,7 @@ section_read : (d : ChainsDraft) (s : Section) → IsSection s → read d (secti
 unfolding section_rows head_rows
 section_read d s h =
     let ss = ended d in
-    let policy = policy_rows s.hook s.accept in
+    let policy = default_rows s.hook s.accept in
     let chains = flat_map (chain_rows s.hook s.family) s.chains in
     let empty = at ss (section s.hook s.family s.accept) no_chain in
     then d empty (at ss s no_chain) (target_row s.hook s.family ∷ policy) chains

@@ -26,7 +26,7 @@ use Rattle.ipt_lang.specs.declared.documents.Act.TheVariants.{Log, Decide}
 use Rattle.ipt_lang.specs.declared.documents.Flags.{Flags}
 use Rattle.ipt_lang.specs.declared.documents.Flags.TheVariants.{Ack, Rst, SynNotAck}
 use Rattle.ipt_lang.specs.Documents.{IsAddresses, IsRule, is_chain_name, IsRemark, IsChain, IsSection, hook_word, family_word}
-use Rattle.ipt_lang.specs.Texts.{proto_word, proto_words, address_words, range_word, is_single, key_words, port_list_words, ports_words, type_words, flags_words, state_words, reset_words, act_words, front_words, back_words, rule_words, chain_name, remark_rows, rule_rows, chain_row, jump_row, chain_rows, policy_word, policy_rows, head_rows, section_rows}
+use Rattle.ipt_lang.specs.Texts.{proto_word, proto_words, address_words, range_word, is_single, key_words, port_list_words, ports_words, type_words, flags_words, state_words, reset_words, act_words, front_words, back_words, rule_words, chain_name, remark_rows, rule_rows, chain_row, jump_row, chain_rows, default_word, default_rows, head_rows, section_rows}
 
 -- ---- words of a rule
 
@@ -163,11 +163,11 @@ chain_safe hook f c h =
     all_append IsRow (flat_map remark_rows c.remarks) _ (all_flat IsRemark IsRow remark_rows remark_safe c.remarks h.remarks)
     (head, all_append IsRow (flat_map (rule_rows hook f c.name) c.rules) (jump_row hook c.name ∷ []) rules (jumped, tt))
 
-policy_safe : (hook : Hook) (o : Option Bool) → AreRows (policy_rows hook o)
-unfolding policy_rows
-policy_safe hook None = tt
-policy_safe hook (Some b) = (record { start = refl; words = (word (codes "-P") refl refl, (hook_safe hook, (policy b, tt))) }, tt) where
-  policy : (a : Bool) → IsWord (policy_word a)
+default_safe : (hook : Hook) (o : Option Bool) → AreRows (default_rows hook o)
+unfolding default_rows
+default_safe hook None = tt
+default_safe hook (Some b) = (record { start = refl; words = (word (codes "-P") refl refl, (hook_safe hook, (policy b, tt))) }, tt) where
+  policy : (a : Bool) → IsWord (default_word a)
   policy true = word (codes "ACCEPT") refl refl
   policy false = word (codes "DROP") refl refl
 
@@ -176,7 +176,7 @@ unfolding section_rows head_rows
 section_safe s h =
     let target : AreWords (codes "##" ∷ codes "iptables" ∷ hook_word s.hook ∷ family_word s.family ∷ []) =
     (word (codes "##") refl refl, (word (codes "iptables") refl refl, (hook_safe s.hook, (family_safe s.family, tt)))) in
-    all_append IsRow (head_rows s.hook s.family s.accept) _ (record { start = refl; words = target }, policy_safe s.hook s.accept)
+    all_append IsRow (head_rows s.hook s.family s.accept) _ (record { start = refl; words = target }, default_safe s.hook s.accept)
     (all_flat (IsChain s.family) IsRow (chain_rows s.hook s.family) (chain_safe s.hook s.family) s.chains h.chains)
 
 pub sections_safe : (doc : List Section) → AllByRecursion IsSection doc → AllByRecursion IsRow (flat_map section_rows doc)

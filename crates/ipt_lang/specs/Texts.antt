@@ -179,13 +179,13 @@ unfoldable pub chain_rows : Hook → Family → Chain → List Row
 chain_rows hook family c = flat_map remark_rows c.remarks ++ (chain_row hook c.name
     ∷ (flat_map (rule_rows hook family c.name) c.rules ++ jump_row hook c.name ∷ []))
 
-abbrev pub policy_word : Bool → List ℕ
-policy_word true = codes "ACCEPT"
-policy_word false = codes "DROP"
+abbrev pub default_word : Bool → List ℕ
+default_word true = codes "ACCEPT"
+default_word false = codes "DROP"
 
-unfoldable pub policy_rows : Hook → Option Bool → List Row
-policy_rows hook None = []
-policy_rows hook (Some accept) = row 0 (codes "-P" ∷ hook_word hook ∷ policy_word accept ∷ []) ∷ []
+unfoldable pub default_rows : Hook → Option Bool → List Row
+default_rows hook None = []
+default_rows hook (Some accept) = row 0 (codes "-P" ∷ hook_word hook ∷ default_word accept ∷ []) ∷ []
 
 -- A section begins with a comment that names its target.
 abbrev pub target_row : Hook → Family → Row
@@ -193,7 +193,7 @@ target_row hook family =
     row 0 (codes "##" ∷ codes "iptables" ∷ hook_word hook ∷ family_word family ∷ [])
 
 unfoldable pub head_rows : Hook → Family → Option Bool → List Row
-head_rows hook family accept = target_row hook family ∷ policy_rows hook accept
+head_rows hook family accept = target_row hook family ∷ default_rows hook accept
 
 unfoldable pub section_rows : Section → List Row
 section_rows s =

@@ -1,6 +1,6 @@
 ghost use Rattle.std.specs.Prelude.{◌≡◌, ◌∷◌, ◌++◌, []};
 ghost use Rattle.ipt_lang.specs.Documents.{family_word, hook_word};
-ghost use Rattle.ipt_lang.specs.Texts.{back_words, chain_name, chain_row, chain_rows, front_words, head_rows, hook_letter, jump_row, policy_rows, policy_word, remark_rows, rule_row, rule_rows, rule_words, section_rows, target_row};
+ghost use Rattle.ipt_lang.specs.Texts.{back_words, chain_name, chain_row, chain_rows, front_words, head_rows, hook_letter, jump_row, default_rows, default_word, remark_rows, rule_row, rule_rows, rule_words, section_rows, target_row};
 
 use crate::documents::{Act, Chain, Flags, Rule, Section};
 use crate::ports::PortLists;
@@ -27,7 +27,7 @@ impl Rows for SectionHead {
             hook: self.hook,
             family: self.family,
         };
-        let policy = PolicyRows {
+        let policy = DefaultRows {
             hook: self.hook,
             accept: self.accept,
         };
@@ -56,19 +56,19 @@ impl Rows for TargetRow {
 }
 
 #[derive(Drop)]
-struct PolicyRows {
+struct DefaultRows {
     hook: Hook,
     accept: Option<bool>,
 }
 
-impl Rows for PolicyRows {
-    ghost rows = { λ p. policy_rows p.hook p.accept };
+impl Rows for DefaultRows {
+    ghost rows = { λ p. default_rows p.hook p.accept };
 
-    #[tactic(auto, unfolding(crate::specs::Texts::policy_rows))]
+    #[tactic(auto, unfolding(crate::specs::Texts::default_rows))]
     fn put_rows<O: Out>(&self, out: &mut O) -> Result<(), PutFault> {
         match self.accept {
             Some(accept) => {
-                let policy: &[&[u8]] = &[hook_word(self.hook), policy_word(accept)];
+                let policy: &[&[u8]] = &[hook_word(self.hook), default_word(accept)];
                 let row = Row {
                     indent: 0,
                     first: b"-P".as_slice(),
@@ -100,8 +100,8 @@ fn family_word(family: Family) -> &'static [u8]
     }
 }
 
-fn policy_word(accept: bool) -> &'static [u8]
-    ensures { result.now ≡ policy_word accept }
+fn default_word(accept: bool) -> &'static [u8]
+    ensures { result.now ≡ default_word accept }
 {
     if accept { b"ACCEPT" } else { b"DROP" }
 }

@@ -42,13 +42,13 @@ is_alone (n ∷ []) number = n == number
 is_alone (n ∷ m ∷ numbers) number = false
 
 -- Protocols are named, and all of them are TCP or UDP.
-abbrev pub has_ports : List ℕ → Bool
-has_ports protos = not (is_empty protos) && list_all (λ n. n == 6 || n == 17) protos
+abbrev pub are_tcp_or_udp : List ℕ → Bool
+are_tcp_or_udp protos = not (is_empty protos) && list_all (λ n. n == 6 || n == 17) protos
 
 -- Ports belong to TCP and UDP, types to the family's ICMP alone, a test of flags and a reset to TCP
 -- alone. No term leaves a packet to what stands behind the filter.
 abbrev pub ports_fit : JTerm → Bool
-ports_fit t = is_empty t.sports && is_empty t.dports || has_ports t.protos
+ports_fit t = is_empty t.sports && is_empty t.dports || are_tcp_or_udp t.protos
 
 abbrev pub types_fit : Family → JTerm → Bool
 types_fit family t = is_empty t.itypes || is_alone t.protos (icmp_of family)

@@ -1,6 +1,6 @@
 ghost use Rattle.std.specs.Prelude.{◌≡◌, ◌==◌, ◌||◌, nat_le, nat_lt};
 ghost use Rattle.std.specs.List.{list_all};
-ghost use Rattle.junos_lang.specs.Documents.{has_ports, is_alone, name_of, parts_fit, ports_fit, test_fits, types_fit, verdict_fits};
+ghost use Rattle.junos_lang.specs.Documents.{are_tcp_or_udp, is_alone, name_of, parts_fit, ports_fit, test_fits, types_fit, verdict_fits};
 ghost use Rattle.junos_lang.specs.ValiditySteps.{are_addresses, are_named, are_numbers, are_ports, is_listed, is_note, is_section, is_term};
 
 use crate::documents::{JTerm, Section};
@@ -127,11 +127,11 @@ fn ports_fit(term: &JTerm) -> bool
     ensures { result ≡ ports_fit term.now }
 {
     term.sports.as_slice().is_empty() && term.dports.as_slice().is_empty()
-        || has_ports(term.protos.as_slice())
+        || are_tcp_or_udp(term.protos.as_slice())
 }
 
-fn has_ports(protos: &[u8]) -> bool
-    ensures { result ≡ has_ports protos.now }
+fn are_tcp_or_udp(protos: &[u8]) -> bool
+    ensures { result ≡ are_tcp_or_udp protos.now }
 {
     !protos.is_empty() && all_have_ports(protos)
 }

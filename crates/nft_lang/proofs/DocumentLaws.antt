@@ -26,7 +26,7 @@ use Rattle.nft_lang.specs.declared.documents.Item.{Item}
 use Rattle.nft_lang.specs.declared.documents.Item.TheVariants.{Remark, Rule as ARule}
 use Rattle.nft_lang.specs.declared.tables_drafts.TablesDraft.{TablesDraft}
 use Rattle.nft_lang.specs.Documents.{IsItem, IsSection, fits_i32, table_name}
-use Rattle.nft_lang.specs.Texts.{hook_word, families_word, policy_word, priority_word, rule_words, item_rows, head_rows, end_rows, section_rows, text_of}
+use Rattle.nft_lang.specs.Texts.{hook_word, families_word, default_word, priority_word, rule_words, item_rows, head_rows, end_rows, section_rows, text_of}
 use Rattle.nft_lang.specs.ReadingSteps.{no_section, no_draft, hook_in, table_in, priority_in, rule_in, item_in, with_item, take_four, take_outer, take_chain, take_inner, take_row}
 use Rattle.nft_lang.proofs.RuleReadingLaws.{rule_again, up_to_there}
 use Rattle.nft_lang.proofs.SafeRows.{plain_word, BeginsRule, rule_begins, signed_lacks, sections_safe}
@@ -92,9 +92,9 @@ families_again Inet = refl
 families_again Inet6 = refl
 families_again Mixed = refl
 
-policy_again : (b : Bool) → bytes_eq (policy_word b) (codes "accept;") ≡ b
-policy_again true = refl
-policy_again false = refl
+default_again : (b : Bool) → bytes_eq (default_word b) (codes "accept;") ≡ b
+default_again true = refl
+default_again false = refl
 
 number_again : (n : ℕ) → n < 2 ^ 32 → table_in (table_name n) ≡ n
 unfolding table_in
@@ -134,11 +134,11 @@ head_read : (ss : List Section) (t : Section) (h : Hook) (fs : Families) (n : �
     → read (at ss t) (head_rows h fs n p b) ≡ at ss (section h fs n p b)
 unfolding head_rows take_row take_outer take_four take_inner take_chain
 head_read ss t h fs n p b small fits =
-    ap (λ x. at ss (section x (families_in (families_word fs)) (table_in (table_name n)) (priority_in (priority_word p)) (bytes_eq (policy_word b) (codes "accept;")))) (hook_again h)
-    ∙ ap (λ x. at ss (section h x (table_in (table_name n)) (priority_in (priority_word p)) (bytes_eq (policy_word b) (codes "accept;")))) (families_again fs)
-    ∙ ap (λ x. at ss (section h fs x (priority_in (priority_word p)) (bytes_eq (policy_word b) (codes "accept;")))) (number_again n small)
-    ∙ ap (λ x. at ss (section h fs n x (bytes_eq (policy_word b) (codes "accept;")))) (priority_again p fits)
-    ∙ ap (λ x. at ss (section h fs n p x)) (policy_again b)
+    ap (λ x. at ss (section x (families_in (families_word fs)) (table_in (table_name n)) (priority_in (priority_word p)) (bytes_eq (default_word b) (codes "accept;")))) (hook_again h)
+    ∙ ap (λ x. at ss (section h x (table_in (table_name n)) (priority_in (priority_word p)) (bytes_eq (default_word b) (codes "accept;")))) (families_again fs)
+    ∙ ap (λ x. at ss (section h fs x (priority_in (priority_word p)) (bytes_eq (default_word b) (codes "accept;")))) (number_again n small)
+    ∙ ap (λ x. at ss (section h fs n x (bytes_eq (default_word b) (codes "accept;")))) (priority_again p fits)
+    ∙ ap (λ x. at ss (section h fs n p x)) (default_again b)
 
 -- ---- sections
 

@@ -33,7 +33,7 @@ use Rattle.nft_lang.specs.declared.documents.Rule.{Rule}
 use Rattle.nft_lang.specs.declared.documents.Flags.{Flags}
 use Rattle.nft_lang.specs.declared.documents.Flags.TheVariants.{Rst, SynNotAck}
 use Rattle.nft_lang.specs.Documents.{IsAddresses, IsType, IsRule, IsItem, IsSection, fits_i32, table_name}
-use Rattle.nft_lang.specs.Texts.{with_commas, set_words, ports_word, family_words, proto_words, address_word, icmp_word, port_word, flags_words, state_words, verdict_words, addresses_words, ports_words, types_words, ending_words, rule_words, item_rows, hook_word, families_word, table_word, policy_word, priority_word, head_rows, end_rows, section_rows}
+use Rattle.nft_lang.specs.Texts.{with_commas, set_words, ports_word, family_words, proto_words, address_word, icmp_word, port_word, flags_words, state_words, verdict_words, addresses_words, ports_words, types_words, ending_words, rule_words, item_rows, hook_word, families_word, table_word, default_word, priority_word, head_rows, end_rows, section_rows}
 
 -- ---- words that begin a rule, and no remark and no chain
 
@@ -285,9 +285,9 @@ name_safe n h =
     let number = decimal_word n (omega (arith, h)) in
     word (table_name n) (has-append 32 (codes "aclgen_") (decimal n) refl number.no_space) (has-append 10 (codes "aclgen_") (decimal n) refl number.no_feed)
 
-policy_safe : (b : Bool) → IsWord (policy_word b)
-policy_safe true = word (codes "accept;") refl refl
-policy_safe false = word (codes "drop;") refl refl
+default_safe : (b : Bool) → IsWord (default_word b)
+default_safe true = word (codes "accept;") refl refl
+default_safe false = word (codes "drop;") refl refl
 
 -- a byte that no priority has
 pub signed_lacks : (c : ℕ) (p : ℤ) → fits_i32 p ≡ true → is_ascii_digit c ≡ false → (45 == c) ≡ false → has_byte c (signed_decimal p) ≡ false
@@ -331,7 +331,7 @@ head_safe s h =
                           hook,
                           (
                             word (codes "priority") refl refl,
-                            (priority_safe s.priority h.priority, (word (codes "policy") refl refl, (policy_safe s.accept, tt))),
+                            (priority_safe s.priority h.priority, (word (codes "policy") refl refl, (default_safe s.accept, tt))),
                           ),
                         ),
                       ),

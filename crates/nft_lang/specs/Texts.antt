@@ -139,9 +139,9 @@ table_word Inet = codes "ip"
 table_word Inet6 = codes "ip6"
 table_word Mixed = codes "inet"
 
-abbrev pub policy_word : Bool → List ℕ
-policy_word true = codes "accept;"
-policy_word false = codes "drop;"
+abbrev pub default_word : Bool → List ℕ
+default_word true = codes "accept;"
+default_word false = codes "drop;"
 
 abbrev pub priority_word : ℤ → List ℕ
 priority_word priority = signed_decimal priority ++ codes ";"
@@ -170,7 +170,7 @@ abbrev pub chain_rows : Hook → ℤ → Bool → List Row
 chain_rows hook priority accept =
     row 4 (codes "chain" ∷ hook_word hook ∷ codes "{" ∷ [])
     ∷ row 8 (codes "type" ∷ codes "filter" ∷ codes "hook" ∷ hook_word hook ∷ codes "priority"
-    ∷ priority_word priority ∷ codes "policy" ∷ policy_word accept ∷ []) ∷ []
+    ∷ priority_word priority ∷ codes "policy" ∷ default_word accept ∷ []) ∷ []
 
 unfoldable pub head_rows : Hook → Families → ℕ → ℤ → Bool → List Row
 head_rows hook families number priority accept =

@@ -3,7 +3,7 @@ ghost use Rattle.acl_text.specs.Puts.{Puts};
 ghost use Rattle.acl_grammar.specs.Rows.{row, text_of_rows, words_in};
 ghost use Rattle.nft_lang.specs.declared.documents.Item.TheVariants.{Rule as ARule};
 ghost use Rattle.nft_lang.specs.RuleRowSteps.{rule_of_row};
-ghost use Rattle.nft_lang.specs.Texts.{address_word, end_rows, families_word, head_rows, hook_word, icmp_word, addresses_words, ports_words, table_rows, target_row, table_row, start_row, chain_rows, types_words, item_rows, policy_word, port_word, priority_word, rule_words, section_rows, table_word};
+ghost use Rattle.nft_lang.specs.Texts.{address_word, end_rows, families_word, head_rows, hook_word, icmp_word, addresses_words, ports_words, table_rows, target_row, table_row, start_row, chain_rows, types_words, item_rows, default_word, port_word, priority_word, rule_words, section_rows, table_word};
 ghost use Rattle.nft_lang.specs.Documents.{table_name};
 
 use crate::documents::{Flags, Item, Rule, Section};
@@ -260,7 +260,7 @@ impl Rows for ChainHead {
         let hook = hook_word(self.hook);
         let opening: &[&[u8]] = &[hook, b"{"];
         let kind: &[&[u8]] = &[b"filter", b"hook", hook, b"priority"];
-        let policy: &[&[u8]] = &[b"policy", policy_word(self.accept)];
+        let policy: &[&[u8]] = &[b"policy", default_word(self.accept)];
         let priority = Word {
             piece: Priority {
                 priority: self.priority,
@@ -333,8 +333,8 @@ fn table_word(families: Families) -> &'static [u8]
     }
 }
 
-fn policy_word(accept: bool) -> &'static [u8]
-    ensures { result.now ≡ policy_word accept }
+fn default_word(accept: bool) -> &'static [u8]
+    ensures { result.now ≡ default_word accept }
 {
     if accept { b"accept;" } else { b"drop;" }
 }

@@ -57,10 +57,10 @@ signed_read (negsuc n) h =
     ∙ negative_one n
 
 -- The words of a target's choices.
-abbrev policy_words : Place → Ending → List (Place × Choice)
-policy_words place endings.Accept = (place, Choice.AcceptWord) ∷ []
-policy_words place endings.Deny = (place, Choice.DropWord) ∷ []
-policy_words place _ = []
+abbrev default_words : Place → Ending → List (Place × Choice)
+default_words place endings.Accept = (place, Choice.AcceptWord) ∷ []
+default_words place endings.Deny = (place, Choice.DropWord) ∷ []
+default_words place _ = []
 
 abbrev state_words : Place → Bool → List (Place × Choice)
 state_words place true = []
@@ -78,9 +78,9 @@ abbrev line_for : Kind → Target → LineText
 line_for Cisco t = LineText.CiscoLine (record { place = t.place; text = t.name }) (Some (t.place, t.families))
 line_for Juniper t = LineText.JuniperLine (record { place = t.place; text = t.name }) (Some (t.place, t.families))
 line_for Iptables t = LineText.IptablesLine t.place t.hook
-    (policy_words t.place t.ending ++ (state_words t.place t.stateful ++ chain_family t.place t.families))
+    (default_words t.place t.ending ++ (state_words t.place t.stateful ++ chain_family t.place t.families))
 line_for Nftables t = LineText.NftablesLine t.place t.families t.place t.hook
-    (policy_words t.place t.ending ++
+    (default_words t.place t.ending ++
     ((t.place, Choice.PriorityWord (signed_text t.priority) t.priority) ∷ comment_words t.place t.verbose))
 
 abbrev pub target_for : Target → TargetText

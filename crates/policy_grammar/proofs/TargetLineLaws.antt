@@ -29,7 +29,7 @@ use Rattle.acl_target.specs.TargetData.{chain_text, hook_text}
 use Rattle.acl_target.specs.TargetTexts.{families_text}
 use Rattle.acl_policy.specs.ReadingParts.{Choices}
 use Rattle.acl_policy.specs.Conditions.{Each}
-use Rattle.acl_policy.specs.Targets.{is_word, or_slip, single_family, family_word, chain_word, hook_word, name_word, priority_word, no_choices, unless_some, with_policy, with_mark, with_families, with_priority, iptables_choice, nftables_choice, choice, choices_from, last_family, device_line, device_target, named_target, policy_ending, iptables_target, iptables_line, nftables_target, hooked_line, nftables_line, target_line}
+use Rattle.acl_policy.specs.Targets.{is_word, or_slip, single_family, family_word, chain_word, hook_word, name_word, priority_word, no_choices, unless_some, with_policy, with_mark, with_families, with_priority, iptables_choice, nftables_choice, choice, choices_from, last_family, device_line, device_target, named_target, default_ending, iptables_target, iptables_line, nftables_target, hooked_line, nftables_line, target_line}
 use Rattle.acl_policy.specs.Values.{is_plain}
 use Rattle.policy_grammar.specs.TargetTexts.{plain, Choice, choice_text, policy_said, family_said, priority_said, is_nostate, is_noverbose, said, SaysNew, IsIptablesWord, IsNftablesWord, LineText, family_words, choice_words, line_values, family_meant, ending_meant, chain_meant, hook_meant, LineStands}
 use Rattle.policy_grammar.specs.ReadingLaws.{line_named, IsLine}
@@ -228,7 +228,7 @@ hook_read p hooks.Input = refl
 hook_read p hooks.Output = refl
 hook_read p hooks.Forward = refl
 
-same_ending : (without : Ending) (o : Option Bool) → policy_ending without o ≡ ending_meant without o
+same_ending : (without : Ending) (o : Option Bool) → default_ending without o ≡ ending_meant without o
 same_ending without None = refl
 same_ending without (Some true) = refl
 same_ending without (Some false) = refl
