@@ -23,7 +23,7 @@ use Rattle.acl_naming.specs.declared.item_words.NamingKind.{NamingKind}
 use Rattle.acl_naming.specs.declared.item_words.NamingKind.TheVariants.{Networks, Services}
 use Rattle.acl_load.specs.declared.policy_loading.Loaded.{Loaded}
 use Rattle.acl_load.specs.declared.policy_texts.PolicyText.{PolicyText}
-use Rattle.acl_load.specs.LoadedPolicies.{GoesOn, LoadsPolicy, Resolves, ResolvesWith, blocks_slip, policy_at, policy_in, terms_slip}
+use Rattle.acl_load.specs.LoadedPolicies.{FirstFaultOr, LoadsPolicy, Resolves, ResolvesWith, blocks_slip, policy_at, policy_in, terms_slip}
 use Rattle.acl_load.specs.Loading.{AnswersWith, Loads, MOST_BYTES, MOST_FILES, all_of, both_kinds, definitions_of, list_of, naming_file, naming_paths, net_paths, no_definitions, or_fault, svc_paths, with_file, with_list}
 
 -- ---- files
@@ -104,12 +104,12 @@ resolves_answered naming text answer h = by (blocks_slip naming text.policy.bloc
 
 -- a step behind one that ends so, and that ends so itself
 pub goes_on_answered : {A B : Type 0} (next : A → Result B Fault → Type 0) (r : Result A Fault) (answer : Result B Fault)
-    → FailsAnswered r → ((x : A) → next x answer → FailsAnswered answer) → GoesOn next r answer → FailsAnswered answer
+    → FailsAnswered r → ((x : A) → next x answer → FailsAnswered answer) → FirstFaultOr next r answer → FailsAnswered answer
 goes_on_answered next (Err fault) answer h k e = subst (λ (r : Result _ Fault). FailsAnswered r) (sym e) h
 goes_on_answered next (Ok x) answer h k e = k x e
 
 pub policy_loads_answered : (folder path : List ℕ) (files : List File) (answer : Result Loaded Fault) → LoadsPolicy folder path files answer → FailsAnswered answer
 policy_loads_answered folder path files answer h =
-    goes_on_answered (λ naming. GoesOn (Resolves naming) (policy_at path files)) h.0 answer (loads_answered folder files h.0 h.1)
+    goes_on_answered (λ naming. FirstFaultOr (Resolves naming) (policy_at path files)) h.0 answer (loads_answered folder files h.0 h.1)
     (λ naming e. goes_on_answered (Resolves naming) (policy_at path files) answer (policy_fails path files)
     (λ text r. resolves_answered naming text answer r) e) h.2

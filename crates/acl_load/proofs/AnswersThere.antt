@@ -32,7 +32,7 @@ use Rattle.acl_naming.specs.declared.item_words.NamingKind.{NamingKind}
 use Rattle.acl_naming.specs.declared.item_words.NamingKind.TheVariants.{Networks, Services}
 use Rattle.acl_load.specs.declared.policy_loading.Loaded.{Loaded}
 use Rattle.acl_load.specs.declared.policy_texts.PolicyText.{PolicyText}
-use Rattle.acl_load.specs.LoadedPolicies.{AnswersAreThere, AreResolved, AreResolvedIn, GoesOn, IsLoadedFrom, LoadedPoliciesStand, LoadedStands, LoadsPolicy, Resolves, ResolvesWith, blocks_slip, policy_at, policy_in, terms_slip}
+use Rattle.acl_load.specs.LoadedPolicies.{AnswersAreThere, AreResolved, AreResolvedIn, FirstFaultOr, IsLoadedFrom, LoadedPoliciesStand, LoadedStands, LoadsPolicy, Resolves, ResolvesWith, blocks_slip, policy_at, policy_in, terms_slip}
 use Rattle.acl_load.specs.Loading.{AnswersWith, Loads, MOST_FILES, all_of, both_kinds, definitions_of, naming_file, naming_paths, net_paths, no_definitions, or_fault, svc_paths, with_file}
 use Rattle.acl_load.proofs.DefinitionsThere.{loads-there}
 
@@ -166,7 +166,7 @@ resolved-there n text some fits = by (blocks_slip n text.policy.blocks) refl
           record { definitions_are = refl; sources_are = refl; policy_is = refl; terms_are = lists.1 },
         )
 
-text-there : (n : Naming) (read : Result PolicyText Fault) → PortsAreSome n.services → IfOk read Fits → There (GoesOn (Resolves n) read)
+text-there : (n : Naming) (read : Result PolicyText Fault) → PortsAreSome n.services → IfOk read Fits → There (FirstFaultOr (Resolves n) read)
 text-there n (Ok text) some fits = resolved-there n text some fits
 text-there n (Err f) some fits = (Err f, refl)
 
@@ -202,13 +202,13 @@ resolved-stands n text loaded fits h = by (blocks_slip n text.policy.blocks) ref
         ok-no-err q = cc
     by None e r = stands n text loaded fits e r
 
-text-stands : (n : Naming) (read : Result PolicyText Fault) (loaded : Loaded) → IfOk read Fits → GoesOn (Resolves n) read (Ok loaded) → LoadedStands loaded
+text-stands : (n : Naming) (read : Result PolicyText Fault) (loaded : Loaded) → IfOk read Fits → FirstFaultOr (Resolves n) read (Ok loaded) → LoadedStands loaded
 text-stands n (Ok text) loaded fits h = resolved-stands n text loaded fits h
 text-stands n (Err f) loaded fits h = let e : Ok loaded ≡ Err f = h in absurd cc
 
 pub loaded-stands : LoadedPoliciesStand
 loaded-stands folder path files loaded h = by h.0 h.2
   where
-    by : (definitions : Result Naming Fault) → GoesOn (λ n. GoesOn (Resolves n) (policy_at path files)) definitions (Ok loaded) → LoadedStands loaded
+    by : (definitions : Result Naming Fault) → FirstFaultOr (λ n. FirstFaultOr (Resolves n) (policy_at path files)) definitions (Ok loaded) → LoadedStands loaded
     by (Ok n) r = text-stands n (policy_at path files) loaded (text-fits path files) r
     by (Err f) r = let e : Ok loaded ≡ Err f = r in absurd cc

@@ -21,7 +21,7 @@ use Rattle.acl_load.specs.declared.policy_texts.PolicyText.{PolicyText}
 use Rattle.acl_load.specs.LoadFaults.{load_told, of_reading}
 use Rattle.acl_load.specs.Loading.{Loads}
 use Rattle.acl_load.specs.declared.load_faults.LoadFault.{LoadFault}
-use Rattle.acl_load.specs.LoadedPolicies.{GoesOn, LoadsPolicy, Resolves, policy_at}
+use Rattle.acl_load.specs.LoadedPolicies.{FirstFaultOr, LoadsPolicy, Resolves, policy_at}
 
 -- ---- lists whose items belong together
 
@@ -68,7 +68,7 @@ pub loaded-told : {E : Type 0} (told : E → Option Fault) (held : Option (List 
     → IfSome held (λ files. Answers told (λ l. l) r (LoadsPolicy folder path files))
 loaded-told told None folder path definitions text r loaded read resolved = tt
 loaded-told told (Some files) folder path definitions text r loaded read resolved =
-    let Goes : Result Loaded Fault → Result PolicyText Fault → Type 0 = λ answer t. GoesOn (Resolves definitions) t answer in
+    let Goes : Result Loaded Fault → Result PolicyText Fault → Type 0 = λ answer t. FirstFaultOr (Resolves definitions) t answer in
     answers-more told (λ l. l) r (Resolves definitions text) (LoadsPolicy folder path files)
     (λ answer h. (Ok definitions, loaded, subst (Goes answer) (sym read) h)) resolved
 
@@ -84,7 +84,7 @@ text-told (Some files) folder path definitions e q (Err x) loaded was gives is =
   where
     by : (e : ReadFault) → Gives {X = PolicyText} read_told (Err e) (policy_at path files)
         → IfSome (load_told (of_reading e)) (λ f. LoadsPolicy folder path files (Err f))
-    by (reads.Fault f) g = (Ok definitions, loaded, subst (λ (t : Result PolicyText Fault). GoesOn (Resolves definitions) t (Err f)) (sym g) refl)
+    by (reads.Fault f) g = (Ok definitions, loaded, subst (λ (t : Result PolicyText Fault). FirstFaultOr (Resolves definitions) t (Err f)) (sym g) refl)
     by reads.Outside g = tt
     by reads.Memory g = tt
 

@@ -20,7 +20,7 @@ use Rattle.acl_terms.proofs.TermLaws.{one-term}
 use Rattle.acl_load.specs.declared.policy_loading.Loaded.{Loaded}
 use Rattle.acl_load.specs.declared.policy_texts.PolicyText.{PolicyText}
 use Rattle.acl_load.specs.Loading.{AnswersWith, definitions_of, naming_paths}
-use Rattle.acl_load.specs.LoadedPolicies.{AnswersAreOne, AreResolved, AreResolvedIn, GoesOn, IsLoadedFrom, Resolves, ResolvesWith, blocks_slip, policy_at}
+use Rattle.acl_load.specs.LoadedPolicies.{AnswersAreOne, AreResolved, AreResolvedIn, FirstFaultOr, IsLoadedFrom, Resolves, ResolvesWith, blocks_slip, policy_at}
 
 -- ---- one slip of the names
 
@@ -108,16 +108,16 @@ one-resolved None n t (Ok x) (Ok y) p q = ap Ok (one-loaded n t x y p q)
 
 one-step : {A B : Type 0} (next : A → Result B Fault → Type 0)
     → ((x : A) (a b : Result B Fault) → next x a → next x b → a ≡ b) → (r : Result A Fault) (a b : Result B Fault)
-    → GoesOn next r a → GoesOn next r b → a ≡ b
+    → FirstFaultOr next r a → FirstFaultOr next r b → a ≡ b
 one-step next one (Err f) a b p q = p ∙ sym q
 one-step next one (Ok x) a b p q = one x a b p q
 
 pub one-answer : AnswersAreOne
 one-answer folder path files a b p q =
     let same = same-loaded (naming_paths folder (names_under folder files)) (definitions_of folder files) p.0 q.0 p.1 q.1 in
-    let next : Naming → Result Loaded Fault → Type 0 = λ n answer. GoesOn (Resolves n) (policy_at path files) answer in
+    let next : Naming → Result Loaded Fault → Type 0 = λ n answer. FirstFaultOr (Resolves n) (policy_at path files) answer in
     let one_text : (n : Naming) (t : PolicyText) (x y : Result Loaded Fault) → Resolves n t x → Resolves n t y → x ≡ y =
     λ n t x y. one-resolved (blocks_slip n t.policy.blocks) n t x y in
-    let At : Result Naming Fault → Type 0 = λ r. GoesOn next r a in
+    let At : Result Naming Fault → Type 0 = λ r. FirstFaultOr next r a in
     one-step next (λ n x y. one-step (Resolves n) (one_text n) (policy_at path files) x y) q.0 a b
     (subst At same p.2) q.2

@@ -72,16 +72,16 @@ Resolves definitions text answer =
 -- ---- the whole
 
 -- A step behind one that gave a value or the first fault.
-abbrev pub GoesOn : {A B : Type 0} → (A → Result B Fault → Type 0) → Result A Fault → Result B Fault → Type 0
-GoesOn next (Err fault) answer = answer ≡ Err fault
-GoesOn next (Ok x) answer = next x answer
+abbrev pub FirstFaultOr : {A B : Type 0} → (A → Result B Fault → Type 0) → Result A Fault → Result B Fault → Type 0
+FirstFaultOr next (Err fault) answer = answer ≡ Err fault
+FirstFaultOr next (Ok x) answer = next x answer
 
 -- The answer on a folder of naming files and a policy: the naming files come first, then the policy with its
 -- included files, then its terms. The first fault is the answer, or what is loaded.
 abbrev pub LoadsPolicy : List ℕ → List ℕ → List File → Result Loaded Fault → Type 0
 LoadsPolicy folder path files answer =
     (definitions : Result Naming Fault) × Loads folder files definitions
-    × GoesOn (λ naming. GoesOn (Resolves naming) (policy_at path files)) definitions answer
+    × FirstFaultOr (λ naming. FirstFaultOr (Resolves naming) (policy_at path files)) definitions answer
 
 -- What holds of all that is loaded: the policy is one, no term of it has a slip, and each is resolved.
 pub record LoadedStands (loaded : Loaded) : Type 0 where

@@ -4,22 +4,22 @@ use Rattle.acl_text.specs.declared.faults.Fault.{Fault}
 use Rattle.acl_days.specs.declared.days.Day.{Day}
 use Rattle.acl_host.specs.Files.{File}
 use Rattle.acl_load.specs.declared.policy_loading.Loaded.{Loaded}
-use Rattle.acl_load.specs.LoadedPolicies.{GoesOn, LoadsPolicy}
+use Rattle.acl_load.specs.LoadedPolicies.{FirstFaultOr, LoadsPolicy}
 use Rattle.acl_load.proofs.AnswersThere.{answer-there}
 use Rattle.acl_load.proofs.OneAnswer.{one-answer}
 use Rattle.acl_options.specs.CommandLines.{Options}
 use Rattle.acl_options.specs.ComputableOptions.{options_of}
 use Rattle.aclgen_core.specs.Job.{Plan, Plans, IsJobOf, IsJob, or_day, planned}
 
-same-planned : (o : Options) (today : Day) (r : Result Loaded Fault) (a b : Result Plan Fault) → GoesOn (λ l x. x ≡ planned o today l) r a
-    → GoesOn (λ l x. x ≡ planned o today l) r b → a ≡ b
+same-planned : (o : Options) (today : Day) (r : Result Loaded Fault) (a b : Result Plan Fault) → FirstFaultOr (λ l x. x ≡ planned o today l) r a
+    → FirstFaultOr (λ l x. x ≡ planned o today l) r b → a ≡ b
 same-planned o today (Err f) a b p q = p ∙ sym q
 same-planned o today (Ok l) a b p q = p ∙ sym q
 
 pub same-plan : (o : Options) (today : Day) (files : List File) (a b : Result Plan Fault) → Plans o today files a → Plans o today files b → a ≡ b
 same-plan o today files a b p q =
     let same = one-answer o.definitions o.policy files p.0 q.0 p.1 q.1 in
-    let G : Result Loaded Fault → Type 0 = λ r. GoesOn (λ l x. x ≡ planned o today l) r a in
+    let G : Result Loaded Fault → Type 0 = λ r. FirstFaultOr (λ l x. x ≡ planned o today l) r a in
     same-planned o today q.0 a b (subst G same p.2) q.2
 
 same-job-of : (o : Option Options) (day : Day) (files : List File) (a b : Option (Result Plan Fault)) → IsJobOf o day files a → IsJobOf o day files b → a ≡ b

@@ -10,7 +10,7 @@ use Rattle.acl_naming.specs.Definitions.{Naming}
 use Rattle.acl_target.specs.declared.targets.Kind.{Kind}
 use Rattle.acl_target.specs.declared.targets.Kind.TheVariants.{Cisco, Juniper, Iptables, Nftables}
 use Rattle.acl_load.specs.declared.policy_loading.Loaded.{Loaded}
-use Rattle.acl_load.specs.LoadedPolicies.{GoesOn, LoadsPolicy}
+use Rattle.acl_load.specs.LoadedPolicies.{FirstFaultOr, LoadsPolicy}
 use Rattle.acl_platform.specs.declared.filters.Filter.{Filter}
 use Rattle.acl_render.specs.PlatformFiles.{count_of, text_on}
 use Rattle.acl_report.specs.Reports.{count_line, terms_report}
@@ -75,7 +75,7 @@ planned o today loaded =
 -- judged and, where it is asked for, each term, all of them before anything is written.
 abbrev pub Plans : Options → Day → List File → Result Plan Fault → Type 0
 Plans o today files answer = (loaded : Result Loaded Fault) × LoadsPolicy o.definitions o.policy files loaded
-    × GoesOn (λ l a. a ≡ planned o today l) loaded answer
+    × FirstFaultOr (λ l a. a ≡ planned o today l) loaded answer
 
 -- The day that the words name, else the clock's.
 abbrev pub or_day : Option Day → Day → Day

@@ -7,7 +7,7 @@ use Rattle.acl_target.specs.declared.targets.Target.{Target}
 use Rattle.acl_platform.specs.declared.rules.Rule.{Rule}
 use Rattle.acl_expand.specs.Expansions.{filter_of, filter_with}
 use Rattle.acl_load.specs.declared.policy_loading.Loaded.{Loaded}
-use Rattle.acl_load.specs.LoadedPolicies.{AreResolved, GoesOn, LoadsPolicy, Resolves, ResolvesWith, blocks_slip, terms_slip}
+use Rattle.acl_load.specs.LoadedPolicies.{AreResolved, FirstFaultOr, LoadsPolicy, Resolves, ResolvesWith, blocks_slip, terms_slip}
 use Rattle.acl_render.specs.PlatformFiles.{count_of, limit_of}
 use Rattle.policy_grammar.specs.PolicyTexts.{text_meant}
 use Rattle.policy_grammar.specs.TermTexts.{term_meant}
@@ -70,7 +70,7 @@ loads : (n : ℕ) → 0 < n → (few : n ≤ 1024) → LoadsPolicy workload_fold
 loads n some few = (
   Ok (workload_naming n),
   naming_loaded n few,
-  subst (λ text. GoesOn (Resolves (workload_naming n)) text (Ok (loaded_at n few))) (sym (policy_read n some few)) (resolves n few),
+  subst (λ text. FirstFaultOr (Resolves (workload_naming n)) text (Ok (loaded_at n few))) (sym (policy_read n some few)) (resolves n few),
 )
 
 filter_is : (target : Target) (rules_at : ℕ → List Rule) → Expands target rules_at → (today : Day) (n : ℕ) (few : n ≤ 1024)
