@@ -11,7 +11,7 @@ use crate::load_faults::LoadFault;
 use crate::naming_paths::naming_paths;
 use crate::slips::slip_fault;
 use acl_host::{ReadFault, Tree, listing};
-use acl_naming::{Base, Checked, check};
+use acl_naming::{Base, Checked, NamingKind, check};
 use acl_text::{Code, Fault, Refusal, Rejection};
 use std::alloc::Global;
 
