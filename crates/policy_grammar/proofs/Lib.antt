@@ -10,6 +10,7 @@ pub mod ConverseLaws
 pub mod ReadingLaws
 pub mod SlipLaws
 pub mod PrintingLaws
+pub mod FeedLaws
 pub mod DayTexts
 pub mod FittingTargets
 pub mod FittingTerms

@@ -6,6 +6,7 @@ use Rattle.acl_packet.specs.declared.addresses.Families.TheVariants.{Inet, Inet6
 use Rattle.acl_packet.specs.declared.filtering.Hook.{Hook}
 use Rattle.acl_packet.specs.declared.filtering.Hook.TheVariants as hooks
 use Rattle.acl_text.specs.declared.faults.Place.{Place}
+use Rattle.acl_text.specs.declared.file_lines.Line.{Line}
 use Rattle.acl_words.specs.declared.forms.Form.TheVariants as forms
 use Rattle.acl_words.specs.Tokens.{Token}
 use Rattle.acl_target.specs.declared.targets.Kind.{Kind}
@@ -18,6 +19,7 @@ use Rattle.acl_policy.specs.declared.blocks.Block.{Block}
 use Rattle.acl_policy.specs.declared.raw_terms.RawTerm.{RawTerm}
 use Rattle.acl_words.specs.declared.word_lists.Word.{Word}
 use Rattle.acl_policy.specs.Conditions.{Each, terms_of}
+use Rattle.acl_policy.specs.Policies.{policy_of}
 use Rattle.acl_policy.specs.Values.{is_value, form_fits}
 use Rattle.policy_grammar.specs.TargetTexts.{Choice, choice_text, SaysNew, IsIptablesWord, IsNftablesWord, LineText, family_words, choice_words, line_values, LineStands}
 use Rattle.policy_grammar.specs.TermTexts.{Key, takes_of, Item, item_values, item_words, ItemStands, TermText, items_words, term_words, TermStands}
@@ -25,7 +27,9 @@ use Rattle.policy_grammar.specs.PolicyTexts.{HeaderItem, header_item_words, Head
 use Rattle.policy_grammar.specs.PrintedWords.{IsPlainText, IsQuotedText, PrintedLine, printed_line, LineIsPrinted, printed_words}
 use Rattle.policy_grammar.specs.WrittenTexts.{CanBePrinted, FreeWordsCanBePrinted, ItemIsWritable, TermIsWritable, HeaderItemIsWritable, BlockIsWritable, HasLines, WritableTextsHaveLines, FittingPoliciesAreReadFromLines}
 use Rattle.policy_grammar.proofs.Outcomes.{and_left, and_right}
-use Rattle.policy_grammar.proofs.PrintingLaws.{printed_texts_read}
+use Rattle.policy_grammar.proofs.FeedLaws.{split_free, split_lines, split_words_are}
+use Rattle.policy_grammar.proofs.PrintingLaws.{printed_read}
+use Rattle.policy_grammar.proofs.BlockLaws.{text_read}
 use Rattle.policy_grammar.proofs.WrittenWords.{name_plain, filter_name_plain, signed_plain, literal, keyword_literal, value_printed, key_printed}
 use Rattle.policy_grammar.proofs.FittingTerms.{token_for, item_with, items_with, comment_entry, entries, all_keys, term_for}
 use Rattle.policy_grammar.proofs.FittingPolicies.{item_for, block_for, text_stands, text_means}
@@ -184,11 +188,16 @@ lines_words [] = refl
 lines_words (w ∷ ws) = ap (λ xs. w ∷ xs) (lines_words ws)
 
 pub texts_have_lines : WritableTextsHaveLines
-texts_have_lines text h w = record {
-  lines = lines_for (text_words text);
-  are_printed = lines_printed (text_words text) (text_printed text h.blocks_stand w);
-  words_are = lines_words (text_words text);
-}
+texts_have_lines text h w =
+    let printed : List PrintedLine = lines_for (text_words text) in
+    let lines : List Line = map printed_line printed in
+    record {
+      lines = split_lines lines;
+      are_lines = split_free lines;
+      words_are = split_words_are lines
+          ∙ printed_read printed (lines_printed (text_words text) (text_printed text h.blocks_stand w))
+          ∙ lines_words (text_words text);
+    }
 
 -- The text of a policy whose comments have no quote.
 comment_writable : (place : Place) (text : List ℕ) → IsQuotedText text
@@ -248,6 +257,7 @@ fitting_read_from_lines p some h quotes =
     let stands : TextStands text = text_stands p some h in
     let l : HasLines text = texts_have_lines text stands (blocks_writable p.blocks quotes) in
     record {
-      lines = map printed_line l.lines;
-      is_read = printed_texts_read text l.lines stands l.are_printed l.words_are ∙ ap Ok (sym (text_means p h));
+      lines = l.lines;
+      are_lines = l.are_lines;
+      is_read = ap policy_of l.words_are ∙ text_read text stands ∙ ap Ok (sym (text_means p h));
     }

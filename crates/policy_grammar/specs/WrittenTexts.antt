@@ -3,6 +3,7 @@
 use Rattle.std.specs.Prelude.{◌≡◌, ◌<◌, List, ◌∷◌, length, Ok}
 use Rattle.std.specs.List.{AllByRecursion}
 use Rattle.acl_text.specs.declared.file_lines.Line.{Line}
+use Rattle.acl_lines.specs.LineTexts.{HasNoFeed}
 use Rattle.acl_words.specs.Tokens.{Token}
 use Rattle.acl_words.specs.Words.{words_of}
 use Rattle.acl_policy.specs.declared.blocks.Policy.{Policy}
@@ -10,7 +11,7 @@ use Rattle.acl_policy.specs.Conditions.{terms_of, IsPolicy}
 use Rattle.acl_policy.specs.Policies.{policy_of}
 use Rattle.policy_grammar.specs.TermTexts.{Key, Item, item_values, TermText}
 use Rattle.policy_grammar.specs.PolicyTexts.{HeaderItem, BlockText, text_words, TextStands}
-use Rattle.policy_grammar.specs.PrintedWords.{TextIs, IsQuotedText, PrintedLine, LineIsPrinted, printed_words}
+use Rattle.policy_grammar.specs.PrintedWords.{TextIs, IsQuotedText}
 
 abbrev pub CanBePrinted : List Token → Type 0
 CanBePrinted ws = AllByRecursion (λ w. TextIs w.form w.text) ws
@@ -34,11 +35,15 @@ pub record BlockIsWritable (b : BlockText) : Type 0 where
   pub items_are : AllByRecursion HeaderItemIsWritable b.items
   pub terms_are : AllByRecursion TermIsWritable b.terms
 
+-- A line ends where a line feed stands, so it has none. A string that has one goes on in the next line.
+abbrev pub AreLines : List Line → Type 0
+AreLines lines = AllByRecursion (λ l. HasNoFeed l.text) lines
+
 -- Lines that have just the words of the text.
 pub record HasLines (text : List BlockText) : Type 0 where
-  pub lines : List PrintedLine
-  pub are_printed : AllByRecursion LineIsPrinted lines
-  pub words_are : printed_words lines ≡ text_words text
+  pub lines : List Line
+  pub are_lines : AreLines lines
+  pub words_are : words_of lines ≡ text_words text
 
 abbrev pub WritableTextsHaveLines : Type 0
 WritableTextsHaveLines = (text : List BlockText) → TextStands text → AllByRecursion BlockIsWritable text
@@ -47,6 +52,7 @@ WritableTextsHaveLines = (text : List BlockText) → TextStands text → AllByRe
 -- Lines from which the policy is read.
 pub record IsReadFromLines (p : Policy) : Type 0 where
   pub lines : List Line
+  pub are_lines : AreLines lines
   pub is_read : policy_of (words_of lines) ≡ Ok p
 
 -- Each policy that has a block, fits, and has no `"` in a comment is read from some lines.
