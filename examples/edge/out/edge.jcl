@@ -130,6 +130,16 @@ firewall {
 firewall {
     family inet6 {
         replace: filter outside-in6 {
+            /* IPv6 does not work without these. */
+            term neighbours {
+                from {
+                    next-header [ 58 ];
+                    icmp-type [ 135 136 ];
+                }
+                then {
+                    accept;
+                }
+            }
             /* Sources that no packet from outside may have. */
             term bogons {
                 from {
@@ -200,16 +210,6 @@ firewall {
                 from {
                     next-header [ 58 ];
                     icmp-type [ 1 2 3 128 129 ];
-                }
-                then {
-                    accept;
-                }
-            }
-            /* IPv6 does not work without these. */
-            term neighbours {
-                from {
-                    next-header [ 58 ];
-                    icmp-type [ 135 136 ];
                 }
                 then {
                     accept;
@@ -300,20 +300,20 @@ firewall {
                     accept;
                 }
             }
-            term ping6 {
-                from {
-                    next-header [ 58 ];
-                    icmp-type [ 1 2 3 128 129 ];
-                }
-                then {
-                    accept;
-                }
-            }
             /* IPv6 does not work without these. */
             term neighbours {
                 from {
                     next-header [ 58 ];
                     icmp-type [ 135 136 ];
+                }
+                then {
+                    accept;
+                }
+            }
+            term ping6 {
+                from {
+                    next-header [ 58 ];
+                    icmp-type [ 1 2 3 128 129 ];
                 }
                 then {
                     accept;
