@@ -1,5 +1,5 @@
 -- What is wrong with a job has a code that `aclgen` answers.
-use Rattle.std.proofs.Common.{◌≡◌, ℕ, List, zip, Option, None, Some, Result, Ok, Err, absurd, option_map, slice_get, sym, subst}
+use Rattle.std.proofs.Common.{◌≡◌, ℕ, List, zip, Option, None, Some, Result, Ok, Err, option_map, slice_get, sym, subst}
 use Rattle.std.specs.List.{enumerate_from}
 use Rattle.acl_text.specs.AnsweredCodes.{FailsAnswered, IsAnswered, SlipIsAnswered}
 use Rattle.acl_text.specs.declared.faults.Code.{Code}

@@ -1,3 +1,4 @@
+pub mod ReportedFiles
 pub mod AnsweredFaults
 pub mod FileListLaws
 pub mod OneAnswer
