@@ -1,0 +1,6 @@
+import os
+
+os.makedirs('in/def', exist_ok=True)
+with open('in/def/n.net', 'w') as file:
+    file.writelines('N%d = 192.0.2.1\n' % i for i in range(1, 1501))
+    file.write('LAST = 1.2.3.256\n')

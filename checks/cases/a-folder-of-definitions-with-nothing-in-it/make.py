@@ -1,0 +1,3 @@
+import os
+
+os.makedirs('in/def', exist_ok=True)

@@ -1,0 +1,13 @@
+/* juniper edge inet */
+firewall {
+    family inet {
+        replace: filter edge {
+            /* yyyyyyyyyyyyyyyyyyyyyyyyyyyyyyyyyyyyyyyyyyyyyyyyyyyyyyyyyyyyyyyyyyyyyyyyyyyyyyy */
+            term t {
+                then {
+                    accept;
+                }
+            }
+        }
+    }
+}
