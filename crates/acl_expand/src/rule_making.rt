@@ -50,7 +50,7 @@ fn verdict_on(kind: Kind, verdict: Verdict) -> Verdict
 fn everywhere(alloc: Global, family: Family) -> Result<Prefixes, Memory>
     ensures { IfOk result (λ ps. ps ≡ everywhere family ∷ []) }
 {
-    let mut prefixes = Prefixes::new(alloc);
+    let mut prefixes = Prefixes::with_capacity(alloc, 1)?;
     prefixes.push(Prefix::everywhere(family))?;
     Ok(prefixes)
 }

@@ -25,7 +25,21 @@ impl<P: Piece, W: Words> Piece for Row<P, W> {
     }
 }
 
+const SPACES: [u8; 32] = [b' '; 32];
+
+// Puts so many spaces, by one put where they are as few as rows of a device have.
 fn put_spaces<O: Out>(count: usize, out: &mut O) -> Result<(), PutFault>
+    requires { IsTrue (O.is_open out.old) }
+    ensures { Puts O.Out out.old out.new (replicate count 32) result }
+{
+    if count <= 32 {
+        out.put(&SPACES[..count])
+    } else {
+        put_each_space(count, out)
+    }
+}
+
+fn put_each_space<O: Out>(count: usize, out: &mut O) -> Result<(), PutFault>
     requires { IsTrue (O.is_open out.old) }
     ensures { Puts O.Out out.old out.new (replicate count 32) result }
 {

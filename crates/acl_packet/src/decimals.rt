@@ -1,4 +1,4 @@
-ghost use Rattle.std.specs.Prelude.{◌≡◌, ℕ, ◌≤◌, IfSome, IfNone};
+ghost use Rattle.std.specs.Prelude.{◌≡◌, ℕ, ◌≤◌, ◌<◌, IfSome, IfNone};
 ghost use Rattle.acl_packet.specs.Decimals.{IsNumber, digits_in, has_front, number_in};
 
 /// The number that the word spells, where it is at most `max`.
@@ -52,10 +52,41 @@ fn number_of(word: &[u8], max: u128) -> Option<u128>
     ensures { result ≡ number_in max word.now }
 {
     if has_front(word) {
-        digits_of(word, max)
+        digits_at_most(word, max)
     } else {
         None
     }
+}
+
+// A small limit needs no wide numbers.
+fn digits_at_most(word: &[u8], max: u128) -> Option<u128>
+    ensures { result ≡ digits_in max 0 word.now }
+{
+    if max < 4_294_967_296 {
+        let number = short_digits(word, max as u64)?;
+        Some(u128::from(number))
+    } else {
+        digits_of(word, max)
+    }
+}
+
+#[tactic(auto, unfolding(crate::specs::Decimals::digits_in))]
+fn short_digits(word: &[u8], max: u64) -> Option<u64>
+    requires { max < 4294967296 }
+    ensures { result ≡ digits_in max 0 word.now }
+{
+    let mut value: u64 = 0;
+    for c in word {
+        if !c.is_ascii_digit() {
+            return None;
+        }
+        let next = value * 10 + u64::from(*c - b'0');
+        if next > max {
+            return None;
+        }
+        value = next;
+    }
+    Some(value)
 }
 
 fn has_front(word: &[u8]) -> bool

@@ -62,7 +62,7 @@ pub fn cut_ranges(alloc: Global, ranges: &[Range], family: Family) -> Result<Pre
     requires { IsNormal 0 (2 ^ width_of family - 1) ranges.now }
     ensures { IfOk result (λ ps. CutsAll family ranges.now ps) }
 {
-    let mut prefixes = Items::new(alloc);
+    let mut prefixes = Items::with_capacity(alloc, ranges.len())?;
     for range in ranges {
         push_cuts(&mut prefixes, *range, family)?;
     }

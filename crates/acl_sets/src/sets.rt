@@ -103,6 +103,9 @@ impl RangeSet {
             holds s.ranges x ≡ holds self.now.ranges x && not (holds other.now.ranges x)) }
         ensures computed { IfOk result (λ s. s.ranges ≡ cut_all other.now.ranges self.now.ranges) }
     {
+        if other.list.is_empty() {
+            return self.copy(alloc);
+        }
         Ok(RangeSet {
             limit: self.limit,
             list: sweeps::cut(alloc, &self.list, &other.list)?,

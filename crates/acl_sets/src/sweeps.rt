@@ -15,7 +15,7 @@ pub fn sorted(alloc: Global, ranges: &[Range]) -> Result<Vec<Range>, Memory>
     ensures rising { IfOk result (λ v. IsNonDecreasingBy (λ r. r.low) v.items) }
 {
     let mut out = Vec::from_slice(alloc, ranges)?;
-    out.sort_by_key(|range| range.low)?;
+    out.sort_unstable_by_key(|range| range.low);
     Ok(out)
 }
 
@@ -23,7 +23,7 @@ pub fn sorted(alloc: Global, ranges: &[Range]) -> Result<Vec<Range>, Memory>
 pub fn merged(alloc: Global, ranges: &[Range]) -> Result<Vec<Range>, Memory>
     ensures { IfOk result (λ v. v.items ≡ merged ranges.now) }
 {
-    let mut out = Vec::new(alloc);
+    let mut out = Vec::with_capacity(alloc, ranges.len())?;
     let [first, rest @ ..] = ranges else {
         return Ok(out);
     };
@@ -60,7 +60,7 @@ fn push_lower<'a>(
 fn woven(alloc: Global, ranges: &[Range], others: &[Range]) -> Result<Vec<Range>, Memory>
     ensures { IfOk result (λ v. v.items ≡ woven ranges.now others.now) }
 {
-    let mut out = Vec::new(alloc);
+    let mut out = Vec::with_capacity(alloc, ranges.len().saturating_add(others.len()))?;
     let mut rest = others;
     for range in ranges {
         rest = push_lower(&mut out, range.low, rest)?;

@@ -28,8 +28,38 @@ pub(crate) fn push_byte(text: &mut ShortText, n: u128)
     ensures items { text.new ≡ text.old ++ decimal n }
     ensures len { length text.new ≤ length text.old + 3 }
 {
-    let mut buffer = Buffer::new();
-    text.push_all(buffer.format(n).as_bytes());
+    push_octet(text, n as u8);
+}
+
+// Adds a number of three digits at most.
+#[tactic(auto, using(std::proofs::lemmas::Fmt::decimal_digit, std::proofs::lemmas::Fmt::decimal_step))]
+fn push_octet(text: &mut ShortText, n: u8)
+    requires room { length text.old + 3 ≤ 64 }
+    ensures items { text.new ≡ text.old ++ decimal n }
+    ensures len { length text.new ≤ length text.old + 3 }
+{
+    if n < 10 {
+        text.push(b'0' + n);
+    } else {
+        push_tens(text, n / 10);
+        text.push(b'0' + n % 10);
+    }
+}
+
+// Adds a number of two digits at most.
+#[tactic(auto, using(std::proofs::lemmas::Fmt::decimal_digit, std::proofs::lemmas::Fmt::decimal_step))]
+fn push_tens(text: &mut ShortText, n: u8)
+    requires room { length text.old + 2 ≤ 64 }
+    requires small { n < 100 }
+    ensures items { text.new ≡ text.old ++ decimal n }
+    ensures len { length text.new ≤ length text.old + 2 }
+{
+    if n < 10 {
+        text.push(b'0' + n);
+    } else {
+        text.push(b'0' + n / 10);
+        text.push(b'0' + n % 10);
+    }
 }
 
 // The first number of an address, which is any of 104 bits where the address is no IPv4 one.
@@ -43,6 +73,19 @@ fn push_first(text: &mut ShortText, n: u128)
     text.push_all(buffer.format(n).as_bytes());
 }
 
+fn push_front(text: &mut ShortText, n: u128)
+    requires room { length text.old + 32 ≤ 64 }
+    requires small { n < 2 ^ 104 }
+    ensures items { text.new ≡ text.old ++ decimal n }
+    ensures len { length text.new ≤ length text.old + 32 }
+{
+    if n < 256 {
+        push_byte(text, n);
+    } else {
+        push_first(text, n);
+    }
+}
+
 /// Adds the text of the address.
 #[tactic(auto, unfolding(crate::specs::Ipv4::ipv4_text))]
 pub(crate) fn push_ipv4(text: &mut ShortText, address: u128)
@@ -50,7 +93,7 @@ pub(crate) fn push_ipv4(text: &mut ShortText, address: u128)
     ensures items { text.new ≡ text.old ++ ipv4_text address }
     ensures len { length text.new ≤ length text.old + 44 }
 {
-    push_first(text, address >> 24);
+    push_front(text, address >> 24);
     text.push(b'.');
     push_byte(text, (address >> 16) % 256);
     text.push(b'.');

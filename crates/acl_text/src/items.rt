@@ -1,4 +1,4 @@
-ghost use Rattle.std.specs.Prelude.{◌≡◌, List, [], ◌∷◌, ◌++◌, OnOk, OnErr};
+ghost use Rattle.std.specs.Prelude.{◌≡◌, List, [], ◌∷◌, ◌++◌, OnOk, OnErr, IfOk};
 
 use crate::texts::Memory;
 use std::alloc::Global;
@@ -24,6 +24,15 @@ impl<T: Drop> Items<T> {
         Items {
             items: Vec::new(alloc),
         }
+    }
+
+    /// The list without items, with room for so many.
+    pub fn with_capacity(alloc: Global, room: usize) -> Result<Self, Memory>
+        ensures { IfOk result (λ items. items ≡ []) }
+    {
+        Ok(Items {
+            items: Vec::with_capacity(alloc, room)?,
+        })
     }
 
     /// Adds the item at the end, or nothing where memory is wanted.

@@ -47,8 +47,8 @@ impl ShortText {
         ensures items { self.new ≡ self.old ++ bytes.now }
         ensures len { length self.new ≡ length self.old + length bytes.now }
     {
-        for byte in bytes {
-            self.push(*byte);
-        }
+        let end = self.end + bytes.len();
+        self.bytes[self.end..end].copy_from_slice(bytes);
+        self.end = end;
     }
 }

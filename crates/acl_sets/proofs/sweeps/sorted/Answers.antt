@@ -5,5 +5,5 @@ use Rattle.acl_sets.proofs.sweeps.sorted.Goals as goal
 
 pub returns-clause-rising : goal.returns-clause-rising
 returns-clause-rising c =
-    IsNonDecreasingBy-from_sort_by_key (λ (r : Range). r.low) _ c.in_ok-sort_by_key.ensures.sorted
+    IsNonDecreasingBy-from_sort_by_key (λ (r : Range). r.low) _ c.sort_unstable_by_key.ensures.sorted
     (λ a r q k. search rules)
