@@ -1,3 +1,4 @@
 pub mod Expansions
 pub mod ExpansionSlips
+pub mod KnownRules
 pub mod TermRules

@@ -1,3 +1,4 @@
+pub mod AcceptedTexts
 pub mod TakenFilters
 pub mod LeftLaws
 pub mod FewerRulesLaws

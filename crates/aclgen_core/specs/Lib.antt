@@ -2,6 +2,7 @@ pub mod DecidingSteps
 pub mod Endings
 pub mod FaultLines
 pub mod FileLists
+pub mod FilterFiles
 pub mod FilterPaths
 pub mod FilterRequests
 pub mod Job
