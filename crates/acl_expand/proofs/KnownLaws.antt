@@ -19,7 +19,8 @@ use Rattle.acl_terms.specs.Resolved.{is_empty_in, is_term_live}
 use Rattle.acl_platform.specs.declared.rules.Rule.{Rule}
 use Rattle.acl_platform.proofs.AcceptedFilters.{same-kind-is}
 use Rattle.acl_expand.specs.ExpansionSlips.{first_slip, header_at, header_named, header_slip, prefix_slip, prefixes_of, prefixes_with, slip_behind, term_slip}
-use Rattle.acl_expand.specs.KnownRules.{AlikeHaveTheSameRules, AreAlike, IsKnown, fits, rules_for, same_answer, target_rules}
+use Rattle.acl_expand.specs.KnownRules.{AlikeHaveTheSameRules, AreAlike, IsKnown, fits, same_answer}
+use Rattle.acl_expand.specs.KnownRuleSteps.{rules_for, target_rules}
 use Rattle.acl_expand.specs.TermRules.{conditions_by, family_rules, members, rule_of, rules_of, term_rules}
 use Rattle.acl_expand.specs.declared.known_rules.TargetRules.{TargetRules}
 

@@ -1,11 +1,10 @@
 -- The rules of terms that are known from other targets.
-use Rattle.std.specs.Prelude.{◌≡◌, Bool, true, false, not, ◌&&◌, if◌then◌else◌, List, [], ◌∷◌, Option, None, Some}
+use Rattle.std.specs.Prelude.{◌≡◌, Bool, true, false, not, ◌&&◌, List, None}
 use Rattle.std.specs.List.{AllByRecursion}
 use Rattle.acl_days.specs.declared.days.Day.{Day}
 use Rattle.acl_target.specs.declared.targets.Target.{Target}
 use Rattle.acl_target.specs.Clashes.{same_families, same_kind}
 use Rattle.acl_terms.specs.declared.terms.Term.{Term}
-use Rattle.acl_platform.specs.declared.rules.Rule.{Rule}
 use Rattle.acl_expand.specs.ExpansionSlips.{first_slip}
 use Rattle.acl_expand.specs.TermRules.{rules_of}
 use Rattle.acl_expand.specs.declared.known_rules.KnownRules.{KnownRules}
@@ -25,14 +24,6 @@ AlikeHaveTheSameRules = (a b : Target) (today : Day) (terms : List Term) → Are
 
 -- ---- the rules on a target, with what they depend on
 
-abbrev pub target_rules : Target → List Rule → TargetRules
-target_rules t rules = record {
-  kind = t.kind;
-  families = t.families;
-  stateful = t.stateful;
-  rules = rules;
-}
-
 abbrev pub same_answer : Bool → Bool → Bool
 same_answer true b = b
 same_answer false b = not b
@@ -40,11 +31,6 @@ same_answer false b = not b
 abbrev pub fits : TargetRules → Target → Bool
 fits r t = same_kind r.kind t.kind
     && (same_families r.families t.families && same_answer r.stateful t.stateful)
-
--- The first that fit the target.
-abbrev pub rules_for : Target → List TargetRules → Option (List Rule)
-rules_for t [] = None
-rules_for t (r ∷ rs) = if fits r t then Some r.rules else rules_for t rs
 
 -- They are the rules of the terms on each target that they fit, and the terms have no slip there.
 pub record IsKnown (today : Day) (terms : List Term) (r : TargetRules) : Type 0 where

@@ -5,7 +5,8 @@ ghost use Rattle.acl_target.specs.TargetData.{IsTarget};
 ghost use Rattle.acl_platform.specs.SoundFilters.{IsSound};
 ghost use Rattle.acl_expand.specs.Expansions.{DecidesAsTerms, filter_of};
 ghost use Rattle.acl_expand.specs.ExpansionSlips.{first_slip};
-ghost use Rattle.acl_expand.specs.KnownRules.{AreKnown, fits, rules_for, target_rules};
+ghost use Rattle.acl_expand.specs.KnownRules.{AreKnown, fits};
+ghost use Rattle.acl_expand.specs.KnownRuleSteps.{rules_for, target_rules};
 ghost use Rattle.acl_expand.specs.TermRules.{rules_of};
 
 use crate::expanding::{filter_with, rules_of};
@@ -96,9 +97,10 @@ impl KnownRules {
         if let Some(rules) = rules_for(self.lists.as_slice(), target) {
             return Ok(rules.share()?);
         }
-        let rules = SharedRules::new(alloc, rules_of(alloc, terms, target, today)?)?;
-        self.keep(target, rules.share()?)?;
-        Ok(rules)
+        let rules = rules_of(alloc, terms, target, today)?;
+        let shared = SharedRules::new(alloc, rules)?;
+        self.keep(target, shared.share()?)?;
+        Ok(shared)
     }
 
     /// The filter of the terms on the target that day, or their first slip there, as `expand` gives it.

@@ -1,4 +1,4 @@
-pub mod AcceptedTexts
+pub mod AcceptedTextLaws
 pub mod TakenFilters
 pub mod LeftLaws
 pub mod FewerRulesLaws

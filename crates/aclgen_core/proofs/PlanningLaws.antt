@@ -41,7 +41,7 @@ use Rattle.acl_load.specs.LoadFaults.{LoadsFiles, of_rejection}
 use Rattle.acl_text.specs.Output.{Rose}
 use Rattle.acl_load.specs.LoadedPolicies.{AreResolved, AreResolvedIn, LoadsPolicy}
 use Rattle.acl_render.specs.PlatformFiles.{AreApart, IsFileText, IsTaken, limit_of, text_on}
-use Rattle.acl_render.proofs.AcceptedTexts.{text-accepted}
+use Rattle.acl_render.proofs.AcceptedTextLaws.{text-accepted}
 use Rattle.acl_render.proofs.ShortListsLaws.{taken-short}
 use Rattle.acl_options.specs.CommandLines.{Options}
 use Rattle.acl_options.specs.ComputableOptions.{asks_clock, asks_clock_for, options_of}
@@ -52,7 +52,7 @@ use Rattle.aclgen_core.specs.declared.deciding.Decision.TheVariants as decided
 use Rattle.aclgen_core.specs.Endings.{DecidesAsPolicy, IsFileOf, IsShort, WhereDay}
 use Rattle.aclgen_core.specs.declared.endings.Which.TheVariants as which
 use Rattle.aclgen_core.specs.FileLists.{IsApart, PathsDiffer}
-use Rattle.aclgen_core.specs.FilterFiles.{IsWritable, file_view}
+use Rattle.aclgen_core.specs.WritingSteps.{IsWritable, file_view}
 use Rattle.aclgen_core.specs.FilterPaths.{ending_of, last_part, path_of, without_pol}
 use Rattle.aclgen_core.specs.FilterRequests.{FilterRequest, block_requests, filter_for, request_of, loaded_slip, requests_in, requests_of, requests_on}
 use Rattle.aclgen_core.specs.Job.{Plan, Plans, IsJob, IsJobOf, file_of, file_report, file_with, files_on, filters_of, or_day, or_slip, plan_of, platforms, report_line}

@@ -9,7 +9,7 @@ use Rattle.acl_host.specs.Files.{File, BothTell}
 use Rattle.acl_host.specs.Outside.{AddsFront}
 use Rattle.acl_options.specs.ComputableOptions.{asks_clock, options_of}
 use Rattle.aclgen_core.specs.FileLists.{HoldsTexts, Interrupted}
-use Rattle.aclgen_core.specs.FilterFiles.{AreWritable, file_view}
+use Rattle.aclgen_core.specs.WritingSteps.{AreWritable, file_view}
 use Rattle.aclgen_core.specs.Job.{Plan, IsJob, filters_of, report_of, texts_of}
 use Rattle.acl_load.specs.declared.load_faults.LoadFault.{LoadFault}
 use Rattle.acl_load.specs.declared.load_faults.LoadFault.TheVariants as loads

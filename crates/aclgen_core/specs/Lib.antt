@@ -2,7 +2,6 @@ pub mod DecidingSteps
 pub mod Endings
 pub mod FaultLines
 pub mod FileLists
-pub mod FilterFiles
 pub mod FilterPaths
 pub mod FilterRequests
 pub mod Job
@@ -14,3 +13,4 @@ pub mod Statuses
 pub mod WorkloadPlans
 pub mod WorkloadRuns
 pub mod Worlds
+pub mod WritingSteps

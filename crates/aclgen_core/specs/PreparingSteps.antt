@@ -19,7 +19,7 @@ use Rattle.acl_render.specs.PlatformFiles.{IsTaken, count_of}
 use Rattle.acl_options.specs.CommandLines.{Options}
 use Rattle.acl_report.specs.Reports.{count_line}
 use Rattle.aclgen_core.specs.DecidingSteps.{IsReady}
-use Rattle.aclgen_core.specs.FilterFiles.{AreWritable}
+use Rattle.aclgen_core.specs.WritingSteps.{AreWritable}
 use Rattle.aclgen_core.specs.FilterPaths.{path_of}
 use Rattle.aclgen_core.specs.FilterRequests.{FilterRequest, filter_for, loaded_slip, request_slip, requests_of, requests_on, requests_slip}
 use Rattle.aclgen_core.specs.Job.{Plan, Plans, job_slip, plan_of, planned, platforms, report_line}

@@ -1,6 +1,6 @@
 ghost use Rattle.std.specs.Prelude.{◌≡◌, None};
 ghost use Rattle.aclgen_core.specs.FaultLines.{outside_line, usage_line};
-ghost use Rattle.aclgen_core.specs.FilterFiles.{AreWritable};
+ghost use Rattle.aclgen_core.specs.WritingSteps.{AreWritable};
 ghost use Rattle.aclgen_core.specs.Worlds.{disk, stream};
 ghost use Rattle.aclgen_core.specs.DecidingSteps.{Acts, Refuses, ReportsOn, TriesLine};
 

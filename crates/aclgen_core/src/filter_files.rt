@@ -4,7 +4,7 @@ ghost use Rattle.std.specs.String.{string_bytes};
 ghost use Rattle.acl_host.specs.Writing.{WritesFile};
 ghost use Rattle.acl_render.specs.PlatformFiles.{text_on};
 ghost use Rattle.aclgen_core.specs.FileLists.{PathsDiffer, WritesFiles};
-ghost use Rattle.aclgen_core.specs.FilterFiles.{IsWritable, file_view};
+ghost use Rattle.aclgen_core.specs.WritingSteps.{IsWritable, file_view};
 
 use acl_host::{Tree, WriteFault};
 use acl_platform::Filter;

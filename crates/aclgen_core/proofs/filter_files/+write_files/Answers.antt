@@ -2,7 +2,7 @@ use Rattle.std.proofs.Common.{◌≡◌, ◌≤◌, ◌-◌, List, [], ◌∷◌
 use Rattle.std.specs.List.{All}
 use Rattle.std.proofs.lemmas.List.Elements.{All-tail}
 use Rattle.aclgen_core.specs.declared.filter_files.FilterFile.{FilterFile}
-use Rattle.aclgen_core.specs.FilterFiles.{IsWritable, file_view}
+use Rattle.aclgen_core.specs.WritingSteps.{IsWritable, file_view}
 use Rattle.aclgen_core.proofs.FileListLaws.{writes-cons}
 use Rattle.aclgen_core.proofs.PreparingLaws.{first-rest}
 use Rattle.aclgen_core.proofs.filter_files.+write_files.Goals as goal
