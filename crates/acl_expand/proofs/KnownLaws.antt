@@ -1,7 +1,8 @@
 -- Targets that are alike have the same rules of the same terms.
-use Rattle.std.proofs.Common.{◌≡◌, ℕ, ◌+◌, Bool, true, false, cond, not, ◌&&◌, List, [], ◌∷◌, ◌++◌, map, flat_map, Option, None, Some, IfSome, refl, ap, sym, ◌∙◌}
+use Rattle.std.proofs.Common.{◌≡◌, ℕ, ◌+◌, Bool, true, false, cond, not, ◌&&◌, List, [], ◌∷◌, ◌++◌, map, flat_map, Option, None, Some, IfSome, refl, ap, sym, subst, ◌∙◌}
 use Rattle.std.specs.List.{AllByRecursion}
-use Rattle.std.specs.Option.{option_or}
+use Rattle.std.specs.Option.{option_copied, option_or}
+use Rattle.std.specs.Borrow.{Bor}
 use Rattle.std.proofs.lemmas.Bool.{and_parts, false≢true}
 use Rattle.acl_packet.specs.declared.addresses.Families.{Families}
 use Rattle.acl_packet.specs.declared.addresses.Families.TheVariants.{Inet, Inet6, Mixed}
@@ -127,3 +128,11 @@ known-for today terms t (r ∷ rs) known = by (fits r t) refl (known-for today t
         → IfSome (cond b (Some r.rules) (rules_for t rs)) (λ rules. (first_slip t today terms ≡ None) × (rules ≡ rules_of t today terms))
     by true e more = (known.0.no_slip t e, known.0.rules_are t e)
     by false e more = more
+
+pub known-found : (today : Day) (terms : List Term) (t : Target) (lists slice : List TargetRules) (found : Option (Bor (List Rule))) (rules : Bor (List Rule))
+    → AllByRecursion (IsKnown today terms) lists → slice ≡ lists → found ≡ Some rules → option_copied found ≡ rules_for t slice
+    → (first_slip t today terms ≡ None) × (rules.now ≡ rules_of t today terms)
+known-found today terms t lists slice found rules known same is copied =
+    let e : Some rules.now ≡ rules_for t lists = sym (ap option_copied is) ∙ copied ∙ ap (rules_for t) same in
+    subst (λ (o : Option (List Rule)). IfSome o (λ rs. (first_slip t today terms ≡ None) × (rs ≡ rules_of t today terms))) (sym e)
+    (known-for today terms t lists known)

@@ -9,7 +9,6 @@ pub fn filters_decide_as_written()
 
 /// A law: on targets of one platform, with the same families, that know connections or do not, terms have the same
 /// rules, and the same first slip.
-#[tactic(auto, using(crate::proofs::KnownLaws::alike_have_the_same_rules))]
 pub fn alike_targets_have_the_same_rules()
     ensures { AlikeHaveTheSameRules }
 {}

@@ -261,14 +261,14 @@ all-taken today kind [] h = All-nil (IsTaken kind)
 all-taken today kind (r ∷ rs) h = All-cons (IsTaken kind) (filter_for today r) (map (filter_for today) rs) h.0 (all-taken today kind rs h.1)
 
 -- The platform takes its filters, and they are apart.
-pub record FitTogether (kind : Kind) (fs : List Filter) : Type 0 where
-  pub taken : All (IsTaken kind) fs
-  pub apart : AreApart fs
+record FitTogether (kind : Kind) (fs : List Filter) : Type 0 where
+  taken : All (IsTaken kind) fs
+  apart : AreApart fs
 
 abbrev AllFit : FileDrafts → Type 0
 AllFit drafts = (kind : Kind) → FitTogether kind (draft_on kind drafts).filters
 
-pub fit-on : (output policy : List ℕ) (today : Day) (loaded : Loaded) (drafts : FileDrafts) → IsPolicy loaded.policy
+fit-on : (output policy : List ℕ) (today : Day) (loaded : Loaded) (drafts : FileDrafts) → IsPolicy loaded.policy
     → AreResolvedIn loaded.definitions loaded.policy.blocks loaded.terms → PreparesAll output policy today loaded drafts → AllFit drafts
 fit-on output policy today loaded drafts fits resolved p = λ kind.
     let taken = all-on kind (IsTakenFor today) (λ (r : FilterRequest). IsTaken kind (filter_for today r))
