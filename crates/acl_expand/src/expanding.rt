@@ -9,7 +9,7 @@ ghost use Rattle.acl_expand.specs.TermRules.{rules_of, term_rules};
 use crate::rule_making::push_term;
 use crate::slips::{check_header, check_prefixes, prefixes_behind};
 use acl_days::Day;
-use acl_platform::{Filter, Rules};
+use acl_platform::{Filter, Rules, SharedRules};
 use acl_target::Target;
 use acl_terms::Term;
 use acl_text::{Bytes, Items, Memory, Refusal};
@@ -36,9 +36,14 @@ fn add_term(
     Ok(total)
 }
 
-// The rules of the terms, or their first slip.
+/// The rules of the terms, or their first slip.
 #[tactic(auto, unfolding(crate::specs::ExpansionSlips::first_slip))]
-fn rules_of(alloc: Global, terms: &[Term], target: &Target, today: Day) -> Result<Rules, Refusal>
+pub(crate) fn rules_of(
+    alloc: Global,
+    terms: &[Term],
+    target: &Target,
+    today: Day,
+) -> Result<Rules, Refusal>
     ensures judged { Judges result (first_slip target.now today terms.now) }
     ensures rules { IfOk result (λ rules. rules ≡ rules_of target.now today terms.now) }
 {
@@ -50,7 +55,12 @@ fn rules_of(alloc: Global, terms: &[Term], target: &Target, today: Day) -> Resul
     Ok(rules)
 }
 
-fn filter_with(alloc: Global, target: &Target, rules: Rules) -> Result<Filter, Memory>
+/// The data of the target, with rules.
+pub(crate) fn filter_with(
+    alloc: Global,
+    target: &Target,
+    rules: SharedRules,
+) -> Result<Filter, Memory>
     ensures { IfOk result (λ f. f ≡ filter_with target.now rules) }
 {
     Ok(Filter {
@@ -81,5 +91,6 @@ pub fn expand(alloc: Global, terms: &[Term], target: &Target, today: Day) -> Res
     ensures decides { IfOk result (DecidesAsTerms target.now today terms.now) }
 {
     let rules = rules_of(alloc, terms, target, today)?;
-    Ok(filter_with(alloc, target, rules)?)
+    let shared = SharedRules::new(alloc, rules)?;
+    Ok(filter_with(alloc, target, shared)?)
 }

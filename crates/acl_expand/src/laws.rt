@@ -1,7 +1,14 @@
 ghost use Rattle.acl_expand.specs.Expansions.{FiltersDecideAsWritten};
+ghost use Rattle.acl_expand.specs.KnownRules.{AlikeHaveTheSameRules};
 
 /// A law: the filter of resolved terms decides as the block's terms as they are written, as far as its platform
 /// can show it.
 pub fn filters_decide_as_written()
     ensures { FiltersDecideAsWritten }
+{}
+
+/// A law: on targets of one platform, with the same families, that know connections or do not, terms have the same
+/// rules, and the same first slip.
+pub fn alike_targets_have_the_same_rules()
+    ensures { AlikeHaveTheSameRules }
 {}

@@ -3,9 +3,11 @@
 
 mod conditions;
 mod expanding;
+mod known_rules;
 mod laws;
 mod rule_making;
 mod slips;
 
 pub use expanding::expand;
-pub use laws::filters_decide_as_written;
+pub use known_rules::KnownRules;
+pub use laws::{alike_targets_have_the_same_rules, filters_decide_as_written};

@@ -21,7 +21,7 @@ use Rattle.acl_platform.specs.SoundFilters.{IsSoundRule, target_of}
 
 -- ---- its kind
 
-same-kind-is : (k kind : Kind) → same_kind k kind ≡ true → k ≡ kind
+pub same-kind-is : (k kind : Kind) → same_kind k kind ≡ true → k ≡ kind
 same-kind-is Cisco Cisco h = refl
 same-kind-is Cisco Juniper h = absurd (false≢true h)
 same-kind-is Cisco Iptables h = absurd (false≢true h)

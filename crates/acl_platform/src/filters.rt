@@ -2,7 +2,7 @@ ghost use Rattle.std.specs.Prelude.{◌≡◌};
 ghost use Rattle.acl_platform.specs.Families.{family_of};
 ghost use Rattle.acl_platform.specs.Features.{feature_word};
 
-use crate::rules::Rules;
+use crate::shared_rules::SharedRules;
 use acl_packet::{Families, Family, Hook};
 use acl_target::{Ending, Kind};
 use acl_text::{Bytes, Place};
@@ -21,7 +21,7 @@ pub struct Filter {
     pub priority: i32,
     pub verbose: bool,
     pub number: u32,
-    pub rules: Rules,
+    pub rules: SharedRules,
 }
 
 /// What a policy can ask for, and not each platform can say.

@@ -16,6 +16,7 @@ mod rule_counts;
 mod rule_rows;
 mod rules;
 mod seen_names;
+mod shared_rules;
 mod writing;
 
 pub use choices::{Choices, NumberChoices, RangeChoices};
@@ -31,4 +32,5 @@ pub use remarks::{NoteRows, RemarkForm, RemarkRows};
 pub use rule_counts::{RuleCount, count_rules};
 pub use rule_rows::{RuleForm, put_rules};
 pub use rules::{Rule, Rules, Test};
+pub use shared_rules::SharedRules;
 pub use writing::write_all;

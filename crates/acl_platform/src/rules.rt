@@ -38,5 +38,5 @@ pub struct Rule {
     pub log: bool,
 }
 
-/// The rules of a filter, in order.
+/// Rules, in order.
 pub type Rules = Items<Rule>;

@@ -1,3 +1,4 @@
+pub mod AcceptedTextLaws
 pub mod TakenFilters
 pub mod LeftLaws
 pub mod FewerRulesLaws

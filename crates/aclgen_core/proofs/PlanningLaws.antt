@@ -8,7 +8,7 @@ use Rattle.std.specs.String.{string_bytes}
 use Rattle.std.specs.Str.{bytes_eq}
 use Rattle.std.proofs.lemmas.Bool.{and_parts, eqb-true, false_from_ne_true, false≢true}
 use Rattle.std.proofs.lemmas.List.{append_cancel_left, map-append}
-use Rattle.std.proofs.lemmas.List.Elements.{All-cons, All-nil}
+use Rattle.std.proofs.lemmas.List.Elements.{All-cons, All-from_recursion, All-nil}
 use Rattle.std.proofs.lemmas.Slice.Eq.{bytes_eq-Decides}
 use Rattle.acl_grammar.proofs.ListLaws.{flat_twice}
 use Rattle.acl_text.specs.declared.faults.Fault.{Fault}
@@ -40,24 +40,27 @@ use Rattle.acl_load.specs.FaultLines.{fault_line}
 use Rattle.acl_load.specs.LoadFaults.{LoadsFiles, of_rejection}
 use Rattle.acl_text.specs.Output.{Rose}
 use Rattle.acl_load.specs.LoadedPolicies.{AreResolved, AreResolvedIn, LoadsPolicy}
-use Rattle.acl_render.specs.PlatformFiles.{AreApart, IsFileText, IsTaken, limit_of}
+use Rattle.acl_render.specs.PlatformFiles.{AreApart, IsFileText, IsTaken, limit_of, text_on}
+use Rattle.acl_render.proofs.AcceptedTextLaws.{text-accepted}
 use Rattle.acl_render.proofs.ShortListsLaws.{taken-short}
 use Rattle.acl_options.specs.CommandLines.{Options}
 use Rattle.acl_options.specs.ComputableOptions.{asks_clock, asks_clock_for, options_of}
 use Rattle.acl_report.specs.Reports.{terms_report}
-use Rattle.aclgen_core.specs.DecidingSteps.{Asks, DecidesPlanned, DecidesSo, FindsDay, FollowsFrom, IsDayFor, IsReady, RoseLooking}
+use Rattle.aclgen_core.specs.DecidingSteps.{Asks, DecidesPlanned, DecidesSo, FindsDay, FollowsFrom, IsDayFor, IsReady, RoseLooking, texts_in}
 use Rattle.aclgen_core.specs.declared.deciding.Decision.{Decision}
 use Rattle.aclgen_core.specs.declared.deciding.Decision.TheVariants as decided
 use Rattle.aclgen_core.specs.Endings.{DecidesAsPolicy, IsFileOf, IsShort, WhereDay}
 use Rattle.aclgen_core.specs.declared.endings.Which.TheVariants as which
 use Rattle.aclgen_core.specs.FileLists.{IsApart, PathsDiffer}
+use Rattle.aclgen_core.specs.WritingSteps.{IsWritable, file_view}
 use Rattle.aclgen_core.specs.FilterPaths.{ending_of, last_part, path_of, without_pol}
 use Rattle.aclgen_core.specs.FilterRequests.{FilterRequest, block_requests, filter_for, request_of, loaded_slip, requests_in, requests_of, requests_on}
 use Rattle.aclgen_core.specs.Job.{Plan, Plans, IsJob, IsJobOf, file_of, file_report, file_with, files_on, filters_of, or_day, or_slip, plan_of, platforms, report_line}
-use Rattle.aclgen_core.specs.PreparingSteps.{AreRendered, IsPlanned, IsTakenFor, IsWorkOf, MakesWork, PlansLoaded, JudgesAll, PreparesAll, draft_on, text_with, texts_on}
+use Rattle.aclgen_core.specs.PreparingSteps.{IsPlanned, IsTakenFor, IsWorkOf, MakesWork, PlansLoaded, JudgesAll, PreparesAll, draft_on, filter_file_on, filter_file_with}
 use Rattle.aclgen_core.specs.ShadedSlips.{asked_shaded}
 use Rattle.aclgen_core.specs.Worlds.{Disk, Watch}
 use Rattle.aclgen_core.specs.declared.planning.Work.{Work}
+use Rattle.aclgen_core.specs.declared.preparing.FileDraft.{FileDraft}
 use Rattle.aclgen_core.specs.declared.preparing.FileDrafts.{FileDrafts}
 use Rattle.aclgen_core.proofs.PreparingLaws.{both-none, decides-at, resolved-requests}
 
@@ -257,9 +260,17 @@ all-taken : (today : Day) (kind : Kind) (rs : List FilterRequest) → AllByRecur
 all-taken today kind [] h = All-nil (IsTaken kind)
 all-taken today kind (r ∷ rs) h = All-cons (IsTaken kind) (filter_for today r) (map (filter_for today) rs) h.0 (all-taken today kind rs h.1)
 
-pub rendered-on : (output policy : List ℕ) (today : Day) (loaded : Loaded) (drafts : FileDrafts) → IsPolicy loaded.policy
-    → AreResolvedIn loaded.definitions loaded.policy.blocks loaded.terms → PreparesAll output policy today loaded drafts → AreRendered drafts
-rendered-on output policy today loaded drafts fits resolved p = λ kind.
+-- The platform takes its filters, and they are apart.
+record FitTogether (kind : Kind) (fs : List Filter) : Type 0 where
+  taken : All (IsTaken kind) fs
+  apart : AreApart fs
+
+abbrev AllFit : FileDrafts → Type 0
+AllFit drafts = (kind : Kind) → FitTogether kind (draft_on kind drafts).filters
+
+fit-on : (output policy : List ℕ) (today : Day) (loaded : Loaded) (drafts : FileDrafts) → IsPolicy loaded.policy
+    → AreResolvedIn loaded.definitions loaded.policy.blocks loaded.terms → PreparesAll output policy today loaded drafts → AllFit drafts
+fit-on output policy today loaded drafts fits resolved p = λ kind.
     let taken = all-on kind (IsTakenFor today) (λ (r : FilterRequest). IsTaken kind (filter_for today r))
     (λ r e t. subst (λ k. IsTaken k (filter_for today r)) e t) (requests_of loaded) p.taken in
     let is = sym (p.each kind).filters_are in
@@ -281,6 +292,37 @@ map-flat g f (x ∷ xs) = map-append g (f x) (flat_map f xs) ∙ ap (λ ys. map 
 all-flat : {A B : Type 0} (Q : B → Type 0) (f : A → List B) → ((x : A) → AllByRecursion Q (f x)) → (xs : List A) → AllByRecursion Q (flat_map f xs)
 all-flat Q f each [] = tt
 all-flat Q f each (x ∷ xs) = all_append Q (f x) (flat_map f xs) (each x) (all-flat Q f each xs)
+
+-- The text of a platform's file, where it has filters.
+abbrev text_with : Kind → List ℕ → List Filter → List File
+text_with kind path [] = []
+text_with kind path (f ∷ fs) = (path, text_on kind (f ∷ fs)) ∷ []
+
+abbrev texts_on : FileDrafts → Kind → List File
+texts_on drafts kind = text_with kind (string_bytes (draft_on kind drafts).path) (draft_on kind drafts).filters
+
+view-with : (kind : Kind) (draft : FileDraft) (fs : List Filter)
+    → map file_view (filter_file_with kind draft fs) ≡ text_with kind (string_bytes draft.path) fs
+view-with kind draft [] = refl
+view-with kind draft (f ∷ fs) = refl
+
+texts-from : (drafts : FileDrafts) (work : Work) → work.files.items ≡ flat_map (filter_file_on drafts) platforms
+    → texts_in work ≡ flat_map (texts_on drafts) platforms
+texts-from drafts work e =
+    ap (map file_view) e ∙ map-flat file_view (filter_file_on drafts) platforms
+    ∙ flat-same (λ kind. map file_view (filter_file_on drafts kind)) (texts_on drafts)
+    (λ kind. view-with kind (draft_on kind drafts) (draft_on kind drafts).filters) platforms
+
+writable-with : (kind : Kind) (draft : FileDraft) (fs : List Filter) → FitTogether kind fs → AllByRecursion IsWritable (filter_file_with kind draft fs)
+writable-with kind draft [] h = tt
+writable-with kind draft (f ∷ fs) h = (record { taken = h.taken; apart = h.apart }, tt)
+
+all-writable : (drafts : FileDrafts) (work : Work) → AllFit drafts → work.files.items ≡ flat_map (filter_file_on drafts) platforms
+    → All IsWritable work.files.items
+all-writable drafts work fit e =
+    All-from_recursion IsWritable work.files.items (subst (AllByRecursion IsWritable) (sym e)
+    (all-flat IsWritable (filter_file_on drafts)
+    (λ kind. writable-with kind (draft_on kind drafts) (draft_on kind drafts).filters (fit kind)) platforms))
 
 one-text : (kind : Kind) (path : List ℕ) (today : Day) (rs : List FilterRequest) → text_with kind path (map (filter_for today) rs) ≡ map (file_of today) (file_with kind path rs)
 one-text kind path today [] = refl
@@ -362,14 +404,11 @@ as-policy n today Juniper rs resolved h = record { spelled = h.spelled; decides 
 as-policy n today Iptables rs resolved h = record { spelled = h.spelled; decides = λ k. decides-at n today rs k _ resolved (h.decides k) }
 as-policy n today Nftables rs resolved h = record { spelled = h.spelled; decides = λ k. decides-at n today rs k _ resolved (h.decides k) }
 
-some-more : {A B : Type 0} (f : A → B) (x : A) (xs : List A) → map f (x ∷ xs) ≢ []
-some-more f x xs e = cc
-
 file-is : (n : Naming) (today : Day) (kind : Kind) (path : List ℕ) (rs : List FilterRequest) → AllByRecursion (λ (r : FilterRequest). AreResolved n r.written r.terms) rs
-    → (map (filter_for today) rs ≢ [] → IsFileText kind DecidesAs (map (filter_for today) rs) (map (filter_for today) rs))
+    → IsFileText kind DecidesAs (map (filter_for today) rs) (map (filter_for today) rs)
     → AllByRecursion (IsFileOf n today) (file_with kind path rs)
 file-is n today kind path [] resolved h = tt
-file-is n today kind path (r ∷ rs) resolved h = (as-policy n today kind (r ∷ rs) resolved (h (some-more (filter_for today) r rs)), tt)
+file-is n today kind path (r ∷ rs) resolved h = (as-policy n today kind (r ∷ rs) resolved h, tt)
 
 short-one : (today : Day) (r : FilterRequest) → IsTakenFor today r → IsShort (filter_for today r)
 unfolding limit_of
@@ -383,8 +422,9 @@ short-with today kind path [] h = tt
 short-with today kind path (r ∷ rs) h = (all-by (filter_for today) (IsTakenFor today) IsShort (short-one today) (r ∷ rs) h, tt)
 
 pub is-planned : (o : Options) (today : Day) (loaded : Loaded) (drafts : FileDrafts) (work : Work) → JudgesAll o today loaded drafts
-    → IsWorkOf (terms_report today o.exp_info loaded) drafts work → AreResolvedIn loaded.definitions loaded.policy.blocks loaded.terms → IsPlanned o today loaded work
-is-planned o today loaded drafts work judged w resolved =
+    → IsWorkOf (terms_report today o.exp_info loaded) drafts work → IsPolicy loaded.policy
+    → AreResolvedIn loaded.definitions loaded.policy.blocks loaded.terms → IsPlanned o today loaded work
+is-planned o today loaded drafts work judged w fits resolved =
     let p = judged.prepared in
     let clean = both-none (loaded_slip today loaded) (asked_shaded o.shade_check today loaded) p.slip_is judged.none_shaded in
     let all = requests_of loaded in
@@ -394,11 +434,13 @@ is-planned o today loaded drafts work judged w resolved =
     ∙ ap (text_with k (path k)) (p.each k).filters_are ∙ one-text k (path k) today (requests_on k all) in
     let line : (k : Kind) → (draft_on k drafts).report.bytes ≡ flat_map (file_report today) (files_on o all k) = λ k.
     (p.each k).report_is ∙ one-report k (path k) today (requests_on k all) in
+    let fit = fit-on o.output o.policy today loaded drafts fits resolved p in
+    let texts = texts-from drafts work w.files_are in
     let resolved-all = resolved-requests loaded.definitions loaded.policy.blocks loaded.terms resolved in
     record {
       plan_is = ap (λ s. or_slip loaded.sources.labels s (plan_of o today loaded)) clean;
       ready = record {
-        texts_are = w.texts_are ∙ flat-same (texts_on drafts) (λ k. map (file_of today) (files_on o all k)) text platforms
+        texts_are = texts ∙ flat-same (texts_on drafts) (λ k. map (file_of today) (files_on o all k)) text platforms
             ∙ sym (map-flat (file_of today) (files_on o all) platforms);
         report_is = w.report_is ∙ ap (λ t. terms_report today o.exp_info loaded ++ t)
             (flat-same (λ k. (draft_on k drafts).report.bytes) (λ k. flat_map (file_report today) (files_on o all k)) line platforms
@@ -406,20 +448,24 @@ is-planned o today loaded drafts work judged w resolved =
         each = all-flat (IsFileOf loaded.definitions today) (files_on o all)
             (λ k. file-is loaded.definitions today k (path k) (requests_on k all)
             (all-on k (λ r. AreResolved loaded.definitions r.written r.terms) (λ r. AreResolved loaded.definitions r.written r.terms) (λ r _ x. x) all resolved-all)
-            (subst (λ (fs : List Filter). fs ≢ [] → IsFileText k DecidesAs fs fs) (p.each k).filters_are (w.accepted k))) platforms;
+            (subst (λ (fs : List Filter). IsFileText k DecidesAs fs fs) (p.each k).filters_are
+            (text-accepted k (draft_on k drafts).filters (fit k).taken (fit k).apart))) platforms;
         short = all-flat (λ f. AllByRecursion IsShort (filters_of today f)) (files_on o all)
             (λ k. short-with today k (path k) (requests_on k all)
             (all-on k (IsTakenFor today) (IsTakenFor today) (λ r _ x. x) all p.taken)) platforms;
       };
-      differ = subst PathsDiffer (sym w.texts_are) (paths-differ o.output o.policy drafts (λ k. (p.each k).path_is));
+      writable = record {
+        differ = subst PathsDiffer (sym texts) (paths-differ o.output o.policy drafts (λ k. (p.each k).path_is));
+        fit = all-writable drafts work fit w.files_are;
+      };
     }
 
 -- ---- the files
 
 pub makes-planned : (told : Option (List File)) (o : Options) (today : Day) (loaded : Loaded) (work : Work)
     → IfSome told (λ files. LoadsPolicy o.definitions o.policy files (Ok loaded)) → IsPlanned o today loaded work → MakesWork o today told (Ok work)
-makes-planned None o today loaded work loads p = (tt, p.differ)
-makes-planned (Some files) o today loaded work loads p = ((plan_of o today loaded, (Ok loaded, loads, sym p.plan_is), p.ready), p.differ)
+makes-planned None o today loaded work loads p = (tt, p.writable)
+makes-planned (Some files) o today loaded work loads p = ((plan_of o today loaded, (Ok loaded, loads, sym p.plan_is), p.ready), p.writable)
 
 makes-fault : (told : Option (List File)) (o : Options) (today : Day) (loaded : Loaded) (e : Rejection)
     → IfSome told (λ files. LoadsPolicy o.definitions o.policy files (Ok loaded)) → PlansLoaded o today loaded (Err e) → MakesWork o today told (Err (of_rejection e))
@@ -490,7 +536,7 @@ decides-planned words o today work d c e f h = record {
         subst (λ (w : Option Options). IsJobOf w day files (Some (Ok p.0))) (sym e) (subst (λ (x : Day). Plans o x files (Ok p.0)) (sym is) p.1),
         p.2,
       )) h.0;
-  differ = h.1;
+  writable = h.1;
 }
 
 seen-fault : (told : Option (List File)) (words : List (List ℕ)) (o : Options) (c : Watch) (today : Day) (fault other : Fault) → options_of words ≡ Some o → IsDayFor o.date c.day today

@@ -1,5 +1,5 @@
 -- What is done where the files are written and the report is not yet.
-use Rattle.std.proofs.Common.{◌≡◌, None}
+use Rattle.std.proofs.Common.{◌≡◌, None, inr}
 use Rattle.acl_host.specs.Files.{BothTell}
 use Rattle.aclgen_core.specs.declared.endings.Ended.{Ended}
 use Rattle.aclgen_core.specs.declared.endings.Ended.TheVariants as ended
@@ -28,8 +28,9 @@ reported_so work d d' o o' e e' ended.Memory held r =
     record {
       left = both-more (HoldsTexts (texts_in work)) _ d.files d'.files
           (λ x y h. whole-stops (texts_in work) x y h) held;
-      report_front = r.so.0;
-      err_rests = r.so.1;
+      cause = inr r.so.0;
+      report_front = r.so.1;
+      err_rests = r.so.2;
     }
 
 -- The files are whole, and the report was written behind them, or not.

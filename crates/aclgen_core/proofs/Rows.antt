@@ -1,5 +1,5 @@
 -- The rows of the endings, from what deciding and acting give.
-use Rattle.std.proofs.Common.{◌≡◌, ℕ, ℤ, inl, inr, Bool, true, false, List, Option, None, Some, Result, Ok, Err, IfSome, IsSome, IsSomeAnd, refl, sym, subst, ◌∙◌, le_refl, arith}
+use Rattle.std.proofs.Common.{◌≡◌, ◌⊎◌, ℕ, ℤ, inl, inr, Bool, true, false, List, [], Option, None, Some, Result, Ok, Err, IfSome, IsSome, IsSomeAnd, refl, sym, subst, ◌∙◌, le_refl, arith}
 use Rattle.std.proofs.lemmas.Bool.{false≢true}
 use Rattle.std.specs.List.{AllByRecursion}
 use Rattle.acl_text.specs.declared.faults.Fault.{Fault}
@@ -149,8 +149,10 @@ refused-memory : (words : List (List ℕ)) (line : List ℕ) (d d' : Disk) (o e 
     → WhereTold words d c (LeavesSo words (world d o e c) (world d' o e' c'))
     → BothTell e.told e'.told (AddsFront line) → EndsWanting words (world d o e c) (world d' o e' c')
 refused-memory words line d d' o e e' c c' seen refusal leaves front = record {
+  cause = inl seen.files_stay;
   words_untouched = λ _. untouched d d' o e e' c c' seen;
   leaves = leaves;
+  report = ([], no-front [] o.told);
   line = inr (line, refusal, front);
 }
 
@@ -238,8 +240,10 @@ pub memory-keeps : (words : List (List ℕ)) (d d' : Disk) (o e : Stream) (c c' 
     → Keeps words (world d o e c) (world d' o e c') ended.Memory
 memory-keeps words d d' o e c c' none seen asked =
     let ends : EndsWanting words (world d o e c) (world d' o e c') = record {
+      cause = inl seen.files_stay;
       words_untouched = λ _. untouched d d' o e e c c' seen;
       leaves = told-given words c d.files (LeavesSo words (world d o e c) (world d' o e c')) (λ day files is job _. leaves-nothing job d d' o e c c' files seen is);
+      report = ([], no-front [] o.told);
       line = inl refl;
     } in
     looked words d d' o e e c c' ended.Memory none seen asked (still e) ends
@@ -328,11 +332,13 @@ out-row words work d d' o o' e e' c c' planned acts = record {
 memory-row : (words : List (List ℕ)) (work : Work) (d d' : Disk) (o o' e e' : Stream) (c c' : Watch) → DecidesPlanned words work d c → ActsMemory work d d' o o' e e'
     → EndsWanting words (world d o e c) (world d' o' e' c')
 memory-row words work d d' o o' e e' c c' planned acts = record {
+  cause = inr acts.cause;
   words_untouched = λ none. absurd (no-options (options_of words) none planned.accepted);
   leaves = planned-leaves words work d c
       (LeavesSo words (world d o e c) (world d' o' e' c'))
       (λ day files is plan known ready job. leaves-none words day files (Some (Ok plan)) job (world d o e c) (world d' o' e' c') known
       (left-plan plan work d d' files is ready acts.left, subst (λ t. BothTell o.told o'.told (AddsFront t)) ready.report_is acts.report_front)) planned;
+  report = (work.report.bytes, acts.report_front);
   line = inl acts.err_rests;
 }
 
@@ -350,6 +356,11 @@ acts-row words work d d' o o' e e' c c' (ended.Outside which.Clock) planned acts
 acts-row words work d d' o o' e e' c c' ended.Memory planned acts = memory-row words work d d' o o' e e' c c' planned acts
 
 -- What acting gives holds from the tree as it was before deciding, which changed none of its files.
+
+refused-from : (d s d' : Disk) (o o' : Stream) → OnlySeen d s → Rose s.write_refusals d'.write_refusals ⊎ Rose o.refusals o'.refusals
+    → Rose d.write_refusals d'.write_refusals ⊎ Rose o.refusals o'.refusals
+refused-from d s d' o o' seen (inl h) = inl (subst (λ n. Rose n d'.write_refusals) seen.refusals_stay h)
+refused-from d s d' o o' seen (inr h) = inr h
 
 acts-from : (work : Work) (d s d' : Disk) (o o' e e' : Stream) (result : Ended) → OnlySeen d s → ActsSo work s d' o o' e e' result → ActsSo work d d' o o' e e' result
 acts-from work d s d' o o' e e' ended.Done seen h = record {
@@ -376,6 +387,7 @@ acts-from work d s d' o o' e e' (ended.Outside which.Out) seen h = record {
 acts-from work d s d' o o' e e' (ended.Outside which.Err) seen h = absurd h
 acts-from work d s d' o o' e e' (ended.Outside which.Clock) seen h = absurd h
 acts-from work d s d' o o' e e' ended.Memory seen h = record {
+  cause = refused-from d s d' o o' seen h.cause;
   left = subst (λ t. BothTell t d'.files (Interrupted (texts_in work))) seen.files_stay h.left;
   report_front = h.report_front;
   err_rests = h.err_rests;

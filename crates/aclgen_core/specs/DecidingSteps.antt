@@ -1,7 +1,6 @@
 -- What the private steps of a run give: deciding, which only looks, and acting.
 use Rattle.std.specs.Prelude.{◌≡◌, ℕ, ◌≤◌, ℤ, ◌⊎◌, true, List, Option, None, Some, Result, Ok, Err, map, IfSome, IsSome}
 use Rattle.std.specs.List.{AllByRecursion}
-use Rattle.std.specs.String.{string_bytes}
 use Rattle.acl_text.specs.Output.{Rose}
 use Rattle.acl_text.specs.declared.faults.Fault.{Fault}
 use Rattle.acl_host.specs.declared.clocks.ClockFault.{ClockFault}
@@ -9,7 +8,8 @@ use Rattle.acl_days.specs.declared.days.Day.{Day}
 use Rattle.acl_host.specs.Files.{File, BothTell}
 use Rattle.acl_host.specs.Outside.{AddsFront}
 use Rattle.acl_options.specs.ComputableOptions.{asks_clock, options_of}
-use Rattle.aclgen_core.specs.FileLists.{HoldsTexts, Interrupted, PathsDiffer}
+use Rattle.aclgen_core.specs.FileLists.{HoldsTexts, Interrupted}
+use Rattle.aclgen_core.specs.WritingSteps.{AreWritable, file_view}
 use Rattle.aclgen_core.specs.Job.{Plan, IsJob, filters_of, report_of, texts_of}
 use Rattle.acl_load.specs.declared.load_faults.LoadFault.{LoadFault}
 use Rattle.acl_load.specs.declared.load_faults.LoadFault.TheVariants as loads
@@ -24,16 +24,12 @@ use Rattle.aclgen_core.specs.declared.endings.Ended.{Ended}
 use Rattle.aclgen_core.specs.declared.endings.Ended.TheVariants as ended
 use Rattle.aclgen_core.specs.declared.endings.Which.{Which}
 use Rattle.aclgen_core.specs.declared.endings.Which.TheVariants as which
-use Rattle.aclgen_core.specs.declared.file_texts.FileText.{FileText}
 use Rattle.aclgen_core.specs.declared.planning.Work.{Work}
 
 -- ---- deciding
 
-abbrev pub text_view : FileText → File
-text_view f = (string_bytes f.path, f.text.bytes)
-
 abbrev pub texts_in : Work → List File
-texts_in work = map text_view work.files.items
+texts_in work = map file_view work.files.items
 
 -- The texts and the report are those of the plan, each text is one that the headline speaks of, and the filters are
 -- short.
@@ -73,7 +69,7 @@ pub record DecidesPlanned (words : List (List ℕ)) (work : Work) (old : Disk) (
   pub accepted : IsSome (options_of words)
   pub planned : WhereTold words old c (λ day files. (plan : Plan)
       × IsJob words day files (Some (Ok plan)) × IsReady plan work)
-  pub differ : PathsDiffer (texts_in work)
+  pub writable : AreWritable work.files.items
 
 abbrev pub DecidesSo : List (List ℕ) → Disk → Disk → Watch → Watch → Decision → Type 0
 DecidesSo words old new c c' decided.Usage = options_of words ≡ None
@@ -153,6 +149,7 @@ pub record ActsOut (work : Work) (old new : Disk) (out out' err err' : Stream) :
   pub line : Tried (outside_line which.Out) err err'
 
 pub record ActsMemory (work : Work) (old new : Disk) (out out' err err' : Stream) : Type 0 where
+  pub cause : Rose old.write_refusals new.write_refusals ⊎ Rose out.refusals out'.refusals
   pub left : BothTell old.files new.files (Interrupted (texts_in work))
   pub report_front : BothTell out.told out'.told (AddsFront work.report.bytes)
   pub err_rests : err'.told ≡ err.told

@@ -188,11 +188,18 @@ LeavesPart (Some (Err fault)) old new files = Untouched old new
 LeavesPart (Some (Ok plan)) old new files = IsSomeAnd new.disk.files (Interrupted (texts_of plan) files)
     × BothTell old.out.told new.out.told (AddsFront (report_of plan))
 
--- Memory was wanted: for the words, whatever they are, for the job, or for a line.
+-- The tree, or standard output, refused for want of memory.
+abbrev pub RefusedMemory : World → World → Type 0
+RefusedMemory old new = Rose old.disk.write_refusals new.disk.write_refusals ⊎ Rose old.out.refusals new.out.refusals
+
+-- Memory was wanted: for the words, whatever they are, for the job, or for a line. The files are as at entry, unless
+-- the tree or standard output refused; standard output got a front of a report, or nothing, whatever the tree tells.
 pub record EndsWanting (words : List (List ℕ)) (old new : World) : Type 0 where
+  pub cause : (new.disk.files ≡ old.disk.files) ⊎ RefusedMemory old new
   pub words_untouched : options_of words ≡ None → Untouched old new
   pub leaves : WhereTold words old.disk old.clock (λ day files. (job : Option (Result Plan Fault))
       → IsJob words day files job → LeavesPart job old new files)
+  pub report : (text : List ℕ) × BothTell old.out.told new.out.told (AddsFront text)
   pub line : (new.err.told ≡ old.err.told)
       ⊎ ((line : List ℕ) × IsRefusalLine words old line × BothTell old.err.told new.err.told (AddsFront line))
 

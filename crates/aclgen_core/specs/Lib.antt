@@ -13,3 +13,4 @@ pub mod Statuses
 pub mod WorkloadPlans
 pub mod WorkloadRuns
 pub mod Worlds
+pub mod WritingSteps

@@ -1,6 +1,6 @@
 -- What the private steps that make a policy's filters give.
-use Rattle.std.specs.Prelude.{◌≡◌, ◌≢◌, ℕ, true, List, [], ◌∷◌, ◌++◌, map, flat_map, Option, None, Some, Result, Ok, Err, IfSome}
-use Rattle.std.specs.List.{All, AllByRecursion}
+use Rattle.std.specs.Prelude.{◌≡◌, ℕ, true, List, [], ◌∷◌, ◌++◌, map, flat_map, Option, None, Some, Result, Ok, Err, IfSome}
+use Rattle.std.specs.List.{AllByRecursion}
 use Rattle.std.specs.String.{string_bytes}
 use Rattle.acl_text.specs.declared.faults.Refusal.{Refusal}
 use Rattle.acl_text.specs.declared.faults.Refusal.TheVariants as refusals
@@ -12,20 +12,20 @@ use Rattle.acl_target.specs.declared.targets.Kind.{Kind}
 use Rattle.acl_target.specs.declared.targets.Kind.TheVariants.{Cisco, Juniper, Iptables, Nftables}
 use Rattle.acl_target.specs.declared.targets.Target.{Target}
 use Rattle.acl_platform.specs.declared.filters.Filter.{Filter}
-use Rattle.acl_platform.specs.Platforms.{DecidesAs}
 use Rattle.acl_load.specs.declared.load_faults.LoadFault.{LoadFault}
 use Rattle.acl_load.specs.declared.policy_loading.Loaded.{Loaded}
 use Rattle.acl_load.specs.LoadFaults.{load_told}
-use Rattle.acl_render.specs.PlatformFiles.{AreApart, IsFileText, IsTaken, count_of, text_on}
+use Rattle.acl_render.specs.PlatformFiles.{IsTaken, count_of}
 use Rattle.acl_options.specs.CommandLines.{Options}
 use Rattle.acl_report.specs.Reports.{count_line}
-use Rattle.aclgen_core.specs.DecidingSteps.{IsReady, texts_in}
-use Rattle.aclgen_core.specs.FileLists.{PathsDiffer}
+use Rattle.aclgen_core.specs.DecidingSteps.{IsReady}
+use Rattle.aclgen_core.specs.WritingSteps.{AreWritable}
 use Rattle.aclgen_core.specs.FilterPaths.{path_of}
 use Rattle.aclgen_core.specs.FilterRequests.{FilterRequest, filter_for, loaded_slip, request_slip, requests_of, requests_on, requests_slip}
 use Rattle.aclgen_core.specs.Job.{Plan, Plans, job_slip, plan_of, planned, platforms, report_line}
 use Rattle.aclgen_core.specs.ShadedSlips.{asked_shaded}
 use Rattle.aclgen_core.specs.WorkloadRuns.{PlansWorkload}
+use Rattle.aclgen_core.specs.declared.filter_files.FilterFile.{FilterFile}
 use Rattle.aclgen_core.specs.declared.planning.Work.{Work}
 use Rattle.aclgen_core.specs.declared.preparing.FileDraft.{FileDraft}
 use Rattle.aclgen_core.specs.declared.preparing.FileDrafts.{FileDrafts}
@@ -135,45 +135,36 @@ JudgesSo o today loaded (Ok drafts) = JudgesAll o today loaded drafts
 JudgesSo o today loaded (Err (refusals.Slip s)) = job_slip o today loaded ≡ Some s
 JudgesSo o today loaded (Err refusals.Memory) = Unit {0}
 
--- ---- the texts
+-- ---- the files
 
--- The filters of a platform's file are such as its text wants.
-pub record IsRendered (kind : Kind) (draft : FileDraft) : Type 0 where
-  pub taken : All (IsTaken kind) draft.filters
-  pub apart : AreApart draft.filters
+-- The file of a platform, where it has filters.
+abbrev pub filter_file_with : Kind → FileDraft → List Filter → List FilterFile
+filter_file_with kind draft [] = []
+filter_file_with kind draft (f ∷ fs) =
+    record { kind = kind; path = draft.path; filters = f ∷ fs } ∷ []
 
-abbrev pub AreRendered : FileDrafts → Type 0
-AreRendered drafts = (kind : Kind) → IsRendered kind (draft_on kind drafts)
+abbrev pub filter_file_of : Kind → FileDraft → List FilterFile
+filter_file_of kind draft = filter_file_with kind draft draft.filters
 
--- The text of a platform's file, where it has filters.
-abbrev pub text_with : Kind → List ℕ → List Filter → List File
-text_with kind path [] = []
-text_with kind path (f ∷ fs) = (path, text_on kind (f ∷ fs)) ∷ []
-
-abbrev pub texts_on : FileDrafts → Kind → List File
-texts_on drafts kind =
-    text_with kind (string_bytes (draft_on kind drafts).path) (draft_on kind drafts).filters
+abbrev pub filter_file_on : FileDrafts → Kind → List FilterFile
+filter_file_on drafts kind = filter_file_of kind (draft_on kind drafts)
 
 pub record AddsFile (kind : Kind) (draft : FileDraft) (old new : Work) : Type 0 where
-  pub texts_are : texts_in new
-      ≡ texts_in old ++ text_with kind (string_bytes draft.path) draft.filters
+  pub files_are : new.files.items ≡ old.files.items ++ filter_file_of kind draft
   pub report_is : new.report.bytes ≡ old.report.bytes ++ draft.report.bytes
   pub opened : new.report.is_open ≡ true
-  pub accepted : draft.filters ≢ [] → IsFileText kind DecidesAs draft.filters draft.filters
 
--- The work has the text of each platform's file and, behind these lines, its report, in the order of the platforms.
+-- The work has each platform's file and, behind these lines, its report, in the order of the platforms.
 pub record IsWorkOf (lines : List ℕ) (drafts : FileDrafts) (work : Work) : Type 0 where
-  pub texts_are : texts_in work ≡ flat_map (texts_on drafts) platforms
+  pub files_are : work.files.items ≡ flat_map (filter_file_on drafts) platforms
   pub report_is : work.report.bytes
       ≡ lines ++ flat_map (λ kind. (draft_on kind drafts).report.bytes) platforms
-  pub accepted : (kind : Kind) → (draft_on kind drafts).filters ≢ []
-      → IsFileText kind DecidesAs (draft_on kind drafts).filters (draft_on kind drafts).filters
 
 -- What is to be written of a loaded policy.
 pub record IsPlanned (o : Options) (today : Day) (loaded : Loaded) (work : Work) : Type 0 where
   pub plan_is : planned o today loaded ≡ Ok (plan_of o today loaded)
   pub ready : IsReady (plan_of o today loaded) work
-  pub differ : PathsDiffer (texts_in work)
+  pub writable : AreWritable work.files.items
 
 abbrev pub PlansLoaded : Options → Day → Loaded → Result Work Rejection → Type 0
 PlansLoaded o today loaded (Ok work) = IsPlanned o today loaded work
@@ -183,7 +174,7 @@ PlansLoaded o today loaded (Err rejections.Memory) = Unit {0}
 -- What is to be written of the tree's files.
 abbrev pub MakesWork : Options → Day → Option (List File) → Result Work LoadFault → Type 0
 MakesWork o today told (Ok work) = IfSome told (λ files. (plan : Plan) × Plans o today files (Ok plan)
-    × IsReady plan work) × PathsDiffer (texts_in work)
+    × IsReady plan work) × AreWritable work.files.items
 MakesWork o today told (Err e) =
     IfSome told (λ files. IfSome (load_told e) (λ fault. Plans o today files (Err fault)))
 

@@ -38,7 +38,8 @@ abbrev pub Reports : List ℕ → Stream → Stream → Stream → Stream → En
 Reports text o o' e e' ended.Done = Got text o.told o'.told × (e'.told ≡ e.told)
 Reports text o o' e e' (ended.Outside which.Out) = Rose o.faults o'.faults
     × BothTell o.told o'.told (AddsFront text) × Tried (outside_line which.Out) e e'
-Reports text o o' e e' ended.Memory = BothTell o.told o'.told (AddsFront text) × (e'.told ≡ e.told)
+Reports text o o' e e' ended.Memory = Rose o.refusals o'.refusals
+    × BothTell o.told o'.told (AddsFront text) × (e'.told ≡ e.told)
 Reports text o o' e e' result = ⊥
 
 -- The workload has a plan (`WorkloadsHaveNoFault`), and its report is on standard output.

@@ -1,12 +1,12 @@
 ghost use Rattle.std.specs.Prelude.{◌≡◌, None};
 ghost use Rattle.aclgen_core.specs.FaultLines.{outside_line, usage_line};
-ghost use Rattle.aclgen_core.specs.FileLists.{PathsDiffer};
+ghost use Rattle.aclgen_core.specs.WritingSteps.{AreWritable};
 ghost use Rattle.aclgen_core.specs.Worlds.{disk, stream};
-ghost use Rattle.aclgen_core.specs.DecidingSteps.{Acts, Refuses, ReportsOn, TriesLine, texts_in};
+ghost use Rattle.aclgen_core.specs.DecidingSteps.{Acts, Refuses, ReportsOn, TriesLine};
 
 use crate::endings::{Ended, Which};
 use crate::fault_lines::{outside_line, usage_line};
-use crate::file_texts::write_files;
+use crate::filter_files::write_files;
 use crate::planning::Work;
 use acl_host::{Sink, Tree, WriteFault};
 
@@ -59,7 +59,7 @@ pub fn carry_out<T: Tree, O: Sink, E: Sink>(
     err: &mut E,
 ) -> Ended
     requires begun { T.begun tree.old ≡ None }
-    requires differ { PathsDiffer (texts_in work.now) }
+    requires writable { AreWritable work.now.files.items }
     ensures { Acts work.now
         (disk T.Tree tree.old) (disk T.Tree tree.new)
         (stream O.Sink out.old) (stream O.Sink out.new)

@@ -5,7 +5,7 @@ mod acting;
 mod deciding;
 mod endings;
 mod fault_lines;
-mod file_texts;
+mod filter_files;
 mod filter_paths;
 mod laws;
 mod planning;

@@ -1,30 +1,25 @@
 ghost use Rattle.std.specs.Prelude.{◌≡◌, true, IfOk, OnOk};
 ghost use Rattle.std.specs.List.{All};
-ghost use Rattle.acl_platform.specs.Platforms.{DecidesAs};
 ghost use Rattle.acl_policy.specs.Conditions.{IsBlock, IsPolicy};
 ghost use Rattle.acl_load.specs.LoadedPolicies.{AreResolvedIn};
 ghost use Rattle.acl_load.specs.LoadFaults.{LoadsFiles};
-ghost use Rattle.acl_render.specs.PlatformFiles.{AreApart, IsFileText, IsTaken, text_on};
 ghost use Rattle.acl_options.specs.CodeViews.{options_view};
 ghost use Rattle.aclgen_core.specs.PreparingSteps.{
   AddsFile,
-  AreRendered,
   IsWorkOf,
   JudgesSo,
   MakesWork,
   PlansLoaded,
 };
 
-use crate::file_texts::FileText;
+use crate::filter_files::FilterFile;
 use crate::preparing::{FileDraft, FileDrafts, prepare};
 use crate::shading::refuse_shaded;
 use acl_days::Day;
 use acl_host::Tree;
 use acl_load::{LoadFault, Loaded, load, policy_fault};
 use acl_options::Options;
-use acl_platform::Filter;
 use acl_policy::Kind;
-use acl_render::render;
 use acl_report::report_terms;
 use acl_text::{Memory, Out, Refusal, Rejection, Whole};
 use std::alloc::Global;
@@ -32,58 +27,42 @@ use std::alloc::Global;
 /// What a run is to write: its files, and the report on standard output.
 #[derive(Drop)]
 pub struct Work {
-    pub files: Vec<FileText>,
+    pub files: Vec<FilterFile>,
     pub report: Whole,
 }
 
-// The text of the platform's file.
-fn text_of(alloc: Global, kind: Kind, filters: &[Filter]) -> Result<Whole, Memory>
-    requires taken { All (IsTaken kind) filters.now }
-    requires apart { AreApart filters.now }
-    ensures text { IfOk result (λ text. text.bytes ≡ text_on kind filters.now) }
-    ensures accepted { IfOk result (λ _. IsFileText kind DecidesAs filters.now filters.now) }
-{
-    let mut text = Whole::new(alloc);
-    match render(kind, filters, &mut text) {
-        Ok(()) => Ok(text),
-        Err(_) => Err(Memory),
-    }
-}
-
 // Adds the platform's file, where it has filters, and the report on them.
-fn add_file(alloc: Global, kind: Kind, draft: FileDraft, work: &mut Work) -> Result<(), Memory>
-    requires open { work.old.report.is_open ≡ true }
-    requires taken { All (IsTaken kind) draft.filters }
-    requires apart { AreApart draft.filters }
+fn add_file(kind: Kind, draft: FileDraft, work: &mut Work) -> Result<(), Memory>
+    requires { work.old.report.is_open ≡ true }
     ensures { OnOk result (AddsFile kind draft work.old work.new) }
 {
     if work.report.put(draft.report.as_slice()).is_err() {
         return Err(Memory);
     }
-    let filters = draft.filters.as_slice();
-    if filters.is_empty() {
+    if draft.filters.as_slice().is_empty() {
         return Ok(());
     }
-    let text = text_of(alloc, kind, filters)?;
-    let path = draft.path;
-    work.files.push(FileText { path, text })?;
+    work.files.push(FilterFile {
+        kind,
+        path: draft.path,
+        filters: draft.filters,
+    })?;
     Ok(())
 }
 
 // The files of the drafts, and the report: what stands there, and then the lines on the files.
 fn work_of(alloc: Global, drafts: FileDrafts, report: Whole) -> Result<Work, Memory>
-    requires open { report.is_open ≡ true }
-    requires rendered { AreRendered drafts }
+    requires { report.is_open ≡ true }
     ensures { IfOk result (IsWorkOf report.bytes drafts) }
 {
     let mut work = Work {
         files: Vec::new(alloc),
         report,
     };
-    add_file(alloc, Kind::Cisco, drafts.cisco, &mut work)?;
-    add_file(alloc, Kind::Juniper, drafts.juniper, &mut work)?;
-    add_file(alloc, Kind::Iptables, drafts.iptables, &mut work)?;
-    add_file(alloc, Kind::Nftables, drafts.nftables, &mut work)?;
+    add_file(Kind::Cisco, drafts.cisco, &mut work)?;
+    add_file(Kind::Juniper, drafts.juniper, &mut work)?;
+    add_file(Kind::Iptables, drafts.iptables, &mut work)?;
+    add_file(Kind::Nftables, drafts.nftables, &mut work)?;
     Ok(work)
 }
 

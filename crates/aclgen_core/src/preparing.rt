@@ -3,6 +3,7 @@ ghost use Rattle.std.specs.List.{All};
 ghost use Rattle.acl_target.specs.TargetData.{IsTarget};
 ghost use Rattle.acl_policy.specs.declared.raw_terms.RawTerm.{RawTerm};
 ghost use Rattle.acl_policy.specs.Conditions.{IsBlock};
+ghost use Rattle.acl_expand.specs.KnownRules.{AreKnown};
 ghost use Rattle.aclgen_core.specs.FilterPaths.{path_of};
 ghost use Rattle.aclgen_core.specs.FilterRequests.{request_of, requests_in};
 ghost use Rattle.aclgen_core.specs.PreparingSteps.{
@@ -18,7 +19,7 @@ ghost use Rattle.aclgen_core.specs.PreparingSteps.{
 use crate::filter_paths::path_of;
 use crate::slips::limit_refusal;
 use acl_days::Day;
-use acl_expand::expand;
+use acl_expand::KnownRules;
 use acl_load::{Loaded, Terms};
 use acl_platform::Filter;
 use acl_policy::{Block, Kind, Target};
@@ -65,11 +66,14 @@ fn checked_filter(
     today: Day,
     target: &Target,
     terms: &[Term],
+    known: &mut KnownRules,
 ) -> Result<(Filter, u64), Refusal>
-    requires { IsTarget target.now }
-    ensures { Checks today (request_of [] terms.now target.now) result }
+    requires sound { IsTarget target.now }
+    requires known { AreKnown today terms.now known.old }
+    ensures checks { Checks today (request_of [] terms.now target.now) result }
+    ensures known { OnOk result (AreKnown today terms.now known.new) }
 {
-    let filter = expand(alloc, terms, target, today)?;
+    let filter = known.expand(alloc, terms, target, today)?;
     match check(&filter) {
         Ok(entries) => Ok((filter, entries)),
         Err(limit) => Err(limit_refusal(alloc, &filter, limit)),
@@ -82,13 +86,16 @@ fn add_filter(
     today: Day,
     target: &Target,
     terms: &[Term],
+    known: &mut KnownRules,
     drafts: &mut FileDrafts,
 ) -> Result<(), Refusal>
     requires sound { IsTarget target.now }
+    requires known { AreKnown today terms.now known.old }
     requires open { AreOpen drafts.old }
-    ensures { Adds today (request_of [] terms.now target.now ∷ []) drafts.old drafts.new result }
+    ensures adds { Adds today (request_of [] terms.now target.now ∷ []) drafts.old drafts.new result }
+    ensures known { OnOk result (AreKnown today terms.now known.new) }
 {
-    let (filter, entries) = checked_filter(alloc, today, target, terms)?;
+    let (filter, entries) = checked_filter(alloc, today, target, terms, known)?;
     match target.kind {
         Kind::Cisco => add_to(&mut drafts.cisco, target, filter, entries)?,
         Kind::Juniper => add_to(&mut drafts.juniper, target, filter, entries)?,
@@ -104,9 +111,11 @@ fn add_filters(
     today: Day,
     targets: &[Target],
     terms: &[Term],
+    known: &mut KnownRules,
     drafts: &mut FileDrafts,
 ) -> Result<(), Refusal>
     requires sound { All IsTarget targets.now }
+    requires known { AreKnown today terms.now known.old }
     requires open { AreOpen drafts.old }
     ensures { (written : List RawTerm) → Adds today (map (request_of written terms.now) targets.now)
         drafts.old drafts.new result }
@@ -114,8 +123,8 @@ fn add_filters(
     match targets {
         [] => Ok(()),
         [target, more @ ..] => {
-            add_filter(alloc, today, target, terms, drafts)?;
-            add_filters(alloc, today, more, terms, drafts)
+            add_filter(alloc, today, target, terms, known, drafts)?;
+            add_filters(alloc, today, more, terms, known, drafts)
         }
     }
 }
@@ -139,7 +148,8 @@ fn add_blocks(
         return Ok(());
     };
     let targets = block.targets.as_slice();
-    add_filters(alloc, today, targets, terms.as_slice(), drafts)?;
+    let mut known = KnownRules::new(alloc);
+    add_filters(alloc, today, targets, terms.as_slice(), &mut known, drafts)?;
     add_blocks(alloc, today, more, others, drafts)
 }
 

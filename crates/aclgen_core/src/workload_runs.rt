@@ -1,5 +1,6 @@
-ghost use Rattle.std.specs.Prelude.{◌≡◌, ◌≤◌, IfOk};
+ghost use Rattle.std.specs.Prelude.{◌≡◌, ◌≤◌, IfOk, None};
 ghost use Rattle.acl_memory.specs.MemoryTrees.{contents};
+ghost use Rattle.aclgen_core.specs.WritingSteps.{AreWritable};
 ghost use Rattle.aclgen_core.specs.Worlds.{stream};
 ghost use Rattle.aclgen_core.specs.PreparingSteps.{MakesWorkload};
 ghost use Rattle.aclgen_core.specs.WorkloadRuns.{RunsWorkload};
@@ -7,6 +8,7 @@ ghost use Rattle.workload_laws.specs.WorkloadFiles.{workload_files};
 
 use crate::acting::report_on;
 use crate::endings::Ended;
+use crate::filter_files::write_files;
 use crate::planning::{Work, make_work};
 use acl_days::Day;
 use acl_host::Sink;
@@ -24,7 +26,8 @@ const TODAY: Day = Day { number: 20_454 };
 fn workload_tree(alloc: Global, terms: u32) -> Result<MemTree, Memory>
     requires least { 1 ≤ terms }
     requires most { terms ≤ 1024 }
-    ensures { IfOk result (λ tree. (contents tree).files ≡ workload_files terms) }
+    ensures files { IfOk result (λ tree. (contents tree).files ≡ workload_files terms) }
+    ensures begun { IfOk result (λ tree. (contents tree).begun ≡ None) }
 {
     let texts = workload(alloc, terms)?;
     let mut tree = MemTree::new(alloc);
@@ -35,12 +38,14 @@ fn workload_tree(alloc: Global, terms: u32) -> Result<MemTree, Memory>
 }
 
 // What is to be written of the workload. It has no fault, and a tree in memory lists and reads: only memory may be wanting.
-fn plan_workload(alloc: Global, terms: u32) -> Result<Work, Memory>
+fn plan_workload(alloc: Global, terms: u32, tree: &mut MemTree) -> Result<Work, Memory>
     requires least { 1 ≤ terms }
     requires most { terms ≤ 1024 }
-    ensures { IfOk result (MakesWorkload terms) }
+    requires files { (contents tree.old).files ≡ workload_files terms }
+    ensures made { IfOk result (MakesWorkload terms) }
+    ensures writable { IfOk result (λ work. AreWritable work.files.items) }
+    ensures begun { (contents tree.new).begun ≡ (contents tree.old).begun }
 {
-    let mut tree = workload_tree(alloc, terms)?;
     let options = Options {
         policy: "pol/w.pol",
         definitions: "def",
@@ -49,10 +54,24 @@ fn plan_workload(alloc: Global, terms: u32) -> Result<Work, Memory>
         exp_info: 2,
         shade_check: false,
     };
-    match make_work(alloc, &options, TODAY, &mut tree) {
+    match make_work(alloc, &options, TODAY, tree) {
         Ok(work) => Ok(work),
         Err(LoadFault::Fault(_)) => unreachable!(),
         Err(LoadFault::List | LoadFault::Read | LoadFault::Memory) => Err(Memory),
+    }
+}
+
+// The workload is compiled: its files are written into its tree.
+fn compile_workload(alloc: Global, terms: u32) -> Result<Work, Memory>
+    requires least { 1 ≤ terms }
+    requires most { terms ≤ 1024 }
+    ensures { IfOk result (MakesWorkload terms) }
+{
+    let mut tree = workload_tree(alloc, terms)?;
+    let work = plan_workload(alloc, terms, &mut tree)?;
+    match write_files(&mut tree, work.files.as_slice()) {
+        Ok(()) => Ok(work),
+        Err(_) => Err(Memory),
     }
 }
 
@@ -64,7 +83,7 @@ pub fn run_workload<O: Sink, E: Sink>(alloc: Global, terms: u32, out: &mut O, er
         (stream O.Sink out.old) (stream O.Sink out.new)
         (stream E.Sink err.old) (stream E.Sink err.new) result }
 {
-    match plan_workload(alloc, terms) {
+    match compile_workload(alloc, terms) {
         Ok(work) => report_on(work.report.as_slice(), out, err),
         Err(Memory) => Ended::Memory,
     }

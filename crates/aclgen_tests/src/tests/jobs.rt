@@ -204,8 +204,29 @@ out/a.acl: cisco low extended: entries 1
 out/a.acl: cisco sums extended: entries 1
 ";
 
+const TWO_ALIKE: &[u8] =
+    b"header { target:: cisco edge extended target:: cisco rim extended }\nterm t { action:: accept }\n";
+
+const ALIKE_SECTIONS: &[u8] = b"! cisco edge extended
+no ip access-list extended edge
+ip access-list extended edge
+ remark t
+ permit ip any any
+exit
+! cisco rim extended
+no ip access-list extended rim
+ip access-list extended rim
+ remark t
+ permit ip any any
+exit
+";
+
+const ALIKE_REPORT: &[u8] = b"out/a.acl: cisco edge extended: entries 1
+out/a.acl: cisco rim extended: entries 1
+";
+
 // A clock that fails is not asked where the words name the day.
-static TWO_BLOCKS_CASES: [Case; 2] = [
+static WHOLE_CASES: [Case; 3] = [
     Case {
         policy: TWO_BLOCKS,
         file: Some(SECTIONS),
@@ -222,11 +243,17 @@ static TWO_BLOCKS_CASES: [Case; 2] = [
         report: REPORT,
         ..CASE
     },
+    Case {
+        policy: TWO_ALIKE,
+        file: Some(ALIKE_SECTIONS),
+        report: ALIKE_REPORT,
+        ..CASE
+    },
 ];
 
 #[test]
-fn a_policy_of_two_blocks_is_written_whole(rt: HostRuntime) -> Result<(), Fail> {
-    expect(&rt, rt.alloc(), &TWO_BLOCKS_CASES)
+fn policies_of_two_blocks_or_targets_are_written_whole(rt: HostRuntime) -> Result<(), Fail> {
+    expect(&rt, rt.alloc(), &WHOLE_CASES)
 }
 
 const FOUR_PLATFORMS: &[u8] =
@@ -553,6 +580,34 @@ fn an_interrupted_writing_leaves_whole_files(rt: HostRuntime) -> Result<(), Fail
     let left = left_by(alloc, tree_of(alloc, FOUR_PLATFORMS)?, &INTERRUPTED)?;
     assert_eq!(rt; left.status, 3);
     assert!(rt; has_the_first_file(&left.tree));
+    assert!(rt; left.out.as_slice().is_empty());
+    assert_eq!(rt; left.err.as_slice(), b"aclgen: write failed\n".as_slice());
+    Ok(())
+}
+
+// The second piece of the first file fails.
+const CUT_OFF: Run = Run {
+    tree: Some((Op::Append, 2)),
+    ..PLAIN
+};
+
+// The first file has a part of its text, and the others are not there.
+fn has_a_part_of_the_first(tree: &MemTree) -> bool {
+    let part = tree.file("out/a.acl").unwrap_or(LIST_OF_WEB);
+    LIST_OF_WEB.starts_with(part)
+        && part.len() < LIST_OF_WEB.len()
+        && tree.file("out/a.jcl").is_none()
+        && tree.file("out/a.ipt").is_none()
+        && tree.file("out/a.nft").is_none()
+}
+
+// A text goes into its file piece by piece: the first file is cut off, and the next one is not begun.
+#[test]
+fn a_text_that_is_cut_off_ends_the_writing(rt: HostRuntime) -> Result<(), Fail> {
+    let alloc = rt.alloc();
+    let left = left_by(alloc, tree_of(alloc, FOUR_PLATFORMS)?, &CUT_OFF)?;
+    assert_eq!(rt; left.status, 3);
+    assert!(rt; has_a_part_of_the_first(&left.tree));
     assert!(rt; left.out.as_slice().is_empty());
     assert_eq!(rt; left.err.as_slice(), b"aclgen: write failed\n".as_slice());
     Ok(())

@@ -1,4 +1,6 @@
 use crate::tests::samples::{HEAD, Head, filter};
+use acl_host::Tree;
+use acl_memory::MemTree;
 use acl_platform::Rules;
 use acl_render::{check, render};
 use acl_target::{Ending, Kind};
@@ -24,5 +26,21 @@ fn a_filter_is_checked_and_its_file_rendered(rt: HostRuntime) -> Result<(), Fail
         text.as_slice(),
         b"! cisco edge extended\nno ip access-list extended edge\nip access-list extended edge\n deny ip any any\nexit\n".as_slice()
     );
+    Ok(())
+}
+
+// The bytes of a file are those that an output in memory gets.
+#[test]
+fn a_file_holds_what_is_rendered(rt: HostRuntime) -> Result<(), Fail> {
+    let alloc = rt.alloc();
+    let edge = filter(alloc, &EDGE_HEAD, Rules::new(alloc))?;
+    let mut text = Whole::new(alloc);
+    let mut tree = MemTree::new(alloc);
+    tree.begin("out/a.acl")?;
+    let filters = [edge];
+    render(Kind::Cisco, &filters, &mut text)?;
+    render(Kind::Cisco, &filters, &mut tree)?;
+    tree.finish()?;
+    assert_eq!(rt; tree.file("out/a.acl"), Some(text.as_slice()));
     Ok(())
 }

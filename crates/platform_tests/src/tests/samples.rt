@@ -10,7 +10,7 @@ ghost use Rattle.platform_tests.specs.SampleRules.{HasLeastLists};
 
 use crate::tests::soundness::sound;
 use acl_packet::{Families, Family, Hook, Verdict};
-use acl_platform::{Filter, Platform, Rule, Rules, Test};
+use acl_platform::{Filter, Platform, Rule, Rules, SharedRules, Test};
 use acl_sets::{Prefixes, Range, RangeSet, least_prefixes};
 use acl_target::{Ending, Kind};
 use acl_text::{Bytes, Memory, Out, Place, PutFault, contains_byte};
@@ -128,7 +128,7 @@ pub(crate) fn filter(alloc: Global, head: &Head, rules: Rules) -> Result<Filter,
         priority: head.priority,
         verbose: head.verbose,
         number: head.number,
-        rules,
+        rules: SharedRules::new(alloc, rules)?,
     })
 }
 

@@ -13,4 +13,4 @@ returns-in_ok-add_filter-in-len1-up t c = λ written.
     let all = first-rest c.args.targets.now first c.in-len1-up.len_at_least c.target-item.is in
     let P : List Target → Type 0 = λ ts. Adds today (map (request_of written terms) ts) c.args.drafts.now c.add_filters.new.drafts c.add_filters.result in
     subst P (sym all) (adds-append today (request_of written terms first ∷ []) _ _ _ _ c.add_filters.result
-    (adds-written today written terms first _ _ c.in_ok-add_filter-in-len1-up.ensures) (c.add_filters.ensures written))
+    (adds-written today written terms first _ _ c.in_ok-add_filter-in-len1-up.ensures.adds) (c.add_filters.ensures written))

@@ -1,0 +1,134 @@
+-- The text of filters that a platform takes, no two of which are for one name: its language accepts it.
+use Rattle.std.proofs.Common.{◌≡◌, ℕ, zero, suc, false, List, [], ◌∷◌, ◌++◌, IfSome, Option, map, flat_map, slice_get, refl, ap, subst, ◌∙◌, append-nil}
+use Rattle.std.specs.List.{All, AllByRecursion, IsDistinct}
+use Rattle.std.specs.Set.{is_member}
+use Rattle.std.specs.Str.{bytes_eq}
+use Rattle.std.proofs.lemmas.Bool.{or_from}
+use Rattle.std.proofs.lemmas.List.Elements.{recursion_from_All}
+use Rattle.acl_packet.specs.declared.packets.Packet.{Packet}
+use Rattle.acl_packet.specs.declared.filtering.Outcome.{Outcome}
+use Rattle.acl_grammar.specs.Documents.{SpellsRows, outcome_at}
+use Rattle.acl_grammar.specs.Naming.{in_common}
+use Rattle.acl_grammar.specs.Rows.{Row, text_of_rows}
+use Rattle.acl_grammar.proofs.JoinLaws.{joined_documents, nothing_is_spelled}
+use Rattle.acl_grammar.proofs.ListLaws.{joined_text}
+use Rattle.acl_target.specs.declared.targets.Kind.{Kind}
+use Rattle.acl_target.specs.declared.targets.Kind.TheVariants.{Cisco, Juniper, Iptables, Nftables}
+use Rattle.acl_platform.specs.declared.filters.Filter.{Filter}
+use Rattle.acl_platform.specs.Limits.{is_for}
+use Rattle.acl_platform.specs.Platforms.{DecidesAs, IsAccepted}
+use Rattle.cisco_lang.specs.Documents as cisco
+use Rattle.cisco_lang.specs.Texts as cisco_texts
+use Rattle.cisco_lang.specs.Walks as cisco_walks
+use Rattle.junos_lang.specs.Documents as junos
+use Rattle.junos_lang.specs.Texts as junos_texts
+use Rattle.junos_lang.specs.Walks as junos_walks
+use Rattle.ipt_lang.specs.Documents as ipt
+use Rattle.ipt_lang.specs.Texts as ipt_texts
+use Rattle.ipt_lang.specs.Walks as ipt_walks
+use Rattle.nft_lang.specs.Documents as nft
+use Rattle.nft_lang.specs.Texts as nft_texts
+use Rattle.nft_lang.specs.Walks as nft_walks
+use Rattle.gen_cisco.specs.DecisionLaws as cisco_decisions
+use Rattle.gen_cisco.specs.SectionLaws as cisco_laws
+use Rattle.gen_cisco.specs.Sections as cisco_sections
+use Rattle.gen_cisco.proofs.ListNames as cisco_names
+use Rattle.gen_junos.specs.DecisionLaws as junos_decisions
+use Rattle.gen_junos.specs.SectionLaws as junos_laws
+use Rattle.gen_junos.specs.Sections as junos_sections
+use Rattle.gen_junos.proofs.NameLaws as junos_names
+use Rattle.gen_iptables.specs.DecisionLaws as ipt_decisions
+use Rattle.gen_iptables.specs.SectionLaws as ipt_laws
+use Rattle.gen_iptables.specs.Sections as ipt_sections
+use Rattle.gen_iptables.proofs.NameLaws as ipt_names
+use Rattle.gen_nftables.specs.DecisionLaws as nft_decisions
+use Rattle.gen_nftables.specs.SectionLaws as nft_laws
+use Rattle.gen_nftables.specs.Sections as nft_sections
+use Rattle.gen_nftables.proofs.TableNames as nft_names
+use Rattle.acl_render.specs.PlatformFiles.{AreApart, IsFileText, IsTaken, limit_on}
+use Rattle.acl_render.proofs.TakenFilters.{accepted, kinds, numbers-differ, of-iptables, of-junos, of-nftables}
+
+-- ---- documents of sections
+
+-- names of which no two are the same: a front of them has none in common with the rest
+apart-right : (name : List ℕ) (xs ys : List (List ℕ)) → AllByRecursion (λ other. bytes_eq name other ≡ false) (xs ++ ys)
+    → is_member bytes_eq ys name ≡ false
+apart-right name [] [] h = refl
+apart-right name [] (y ∷ ys) h = or_from (bytes_eq name y) (is_member bytes_eq ys name) h.0 (apart-right name [] ys h.1)
+apart-right name (x ∷ xs) ys h = apart-right name xs ys h.1
+
+none-in-common : (xs ys : List (List ℕ)) → IsDistinct bytes_eq (xs ++ ys) → in_common xs ys ≡ false
+unfolding IsDistinct
+none-in-common [] ys h = refl
+none-in-common (x ∷ xs) ys h =
+    or_from (is_member bytes_eq ys x) (in_common xs ys) (apart-right x xs ys h.0) (none-in-common xs ys h.1)
+
+distinct-right : (xs ys : List (List ℕ)) → IsDistinct bytes_eq (xs ++ ys) → IsDistinct bytes_eq ys
+unfolding IsDistinct
+distinct-right [] ys h = h
+distinct-right (x ∷ xs) ys h = distinct-right xs ys h.1
+
+-- the joined texts of the sections spell the document of the sections
+all-spelled : {S : Type 0} (accepted : Filter → Type 0) (valid : S → Type 0) (names : S → List (List ℕ)) (rows : S → List Row) (section : Filter → S)
+    → ((f : Filter) → accepted f → SpellsRows valid names rows (text_of_rows (flat_map rows (section f ∷ []))) (section f ∷ []))
+    → (fs : List Filter) → AllByRecursion accepted fs → IsDistinct bytes_eq (flat_map names (map section fs))
+    → SpellsRows valid names rows (text_of_rows (flat_map rows (map section fs))) (map section fs)
+all-spelled accepted valid names rows section one [] h d = nothing_is_spelled valid names rows
+all-spelled {S = S} accepted valid names rows section one (f ∷ fs) h d =
+    let here = names (section f) in
+    let sections = map section fs in
+    let later = flat_map names sections in
+    let rest = all-spelled accepted valid names rows section one fs h.1 (distinct-right here later d) in
+    let apart = ap (λ xs. in_common xs later) (append-nil here) ∙ none-in-common here later d in
+    let texts = joined_text rows (section f ∷ []) sections in
+    subst (λ bytes. SpellsRows valid names rows bytes (section f ∷ sections)) texts
+    (joined_documents valid names rows (text_of_rows (flat_map rows (section f ∷ []))) (text_of_rows (flat_map rows sections))
+    (section f ∷ []) sections (one f h.0) rest apart)
+
+-- the section at a place decides as the filter there
+all-decide : {S : Type 0} (accepted : Filter → Type 0) (outcome : S → Packet → Option Outcome) (section : Filter → S)
+    → ((f : Filter) → accepted f → DecidesAs f (outcome (section f)))
+    → (fs : List Filter) → AllByRecursion accepted fs
+    → (k : ℕ) → IfSome (slice_get fs k) (λ f. DecidesAs f (outcome_at outcome (map section fs) k))
+all-decide accepted outcome section one [] h k = tt
+all-decide accepted outcome section one (f ∷ fs) h zero = one f h.0
+all-decide accepted outcome section one (f ∷ fs) h (suc k) = all-decide accepted outcome section one fs h.1 k
+
+-- ---- the platforms
+
+all-accepted : (kind : Kind) (fs : List Filter) → All (IsTaken kind) fs → AllByRecursion (IsAccepted (is_for kind) (limit_on kind)) fs
+all-accepted kind fs taken = recursion_from_All (IsAccepted (is_for kind) (limit_on kind)) fs (accepted kind fs taken)
+
+pub text-accepted : (kind : Kind) (fs : List Filter) → All (IsTaken kind) fs → AreApart fs → IsFileText kind DecidesAs fs fs
+text-accepted Cisco fs taken apart =
+    let P = IsAccepted (is_for Cisco) (limit_on Cisco) in
+    let each = all-accepted Cisco fs taken in
+    record {
+      spelled = all-spelled P cisco.IsSection cisco.list_names cisco_texts.section_rows cisco_sections.section_of cisco_laws.section_is_spelled fs each
+          (cisco_names.all-differ fs false (kinds Cisco fs taken) apart.clash_not);
+      decides = all-decide P cisco_walks.section_outcome cisco_sections.section_of cisco_decisions.section_decides fs each;
+    }
+text-accepted Juniper fs taken apart =
+    let P = IsAccepted (is_for Juniper) (limit_on Juniper) in
+    let each = all-accepted Juniper fs taken in
+    record {
+      spelled = all-spelled P junos.IsSection junos.filter_names junos_texts.section_rows junos_sections.section_of junos_laws.section_is_spelled fs each
+          (junos_names.all-differ fs false (of-junos fs taken) apart.clash_not);
+      decides = all-decide P junos_walks.section_outcome junos_sections.section_of junos_decisions.section_decides fs each;
+    }
+text-accepted Iptables fs taken apart =
+    let P = IsAccepted (is_for Iptables) (limit_on Iptables) in
+    let each = all-accepted Iptables fs taken in
+    record {
+      spelled = all-spelled P ipt.IsSection ipt.hook_names ipt_texts.section_rows ipt_sections.section_of ipt_laws.section_is_spelled fs each
+          (ipt_names.all-differ fs false (of-iptables fs taken) apart.clash_not);
+      decides = all-decide P ipt_walks.section_outcome ipt_sections.section_of ipt_decisions.section_decides fs each;
+    }
+text-accepted Nftables fs taken apart =
+    let P = IsAccepted (is_for Nftables) (limit_on Nftables) in
+    let each = all-accepted Nftables fs taken in
+    record {
+      spelled = all-spelled P nft.IsSection nft.table_names nft_texts.section_rows nft_sections.section_of nft_laws.section_is_spelled fs each
+          (nft_names.all-differ fs false (of-nftables fs taken) (numbers-differ fs apart.numbers_differ));
+      decides = all-decide P nft_walks.section_outcome nft_sections.section_of nft_decisions.section_decides fs each;
+    }

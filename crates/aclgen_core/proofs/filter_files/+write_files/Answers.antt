@@ -1,0 +1,14 @@
+use Rattle.std.proofs.Common.{◌≡◌, ◌≤◌, ◌-◌, List, [], ◌∷◌, map, take, drop, length, get_or, ap, sym, subst}
+use Rattle.std.specs.List.{All}
+use Rattle.std.proofs.lemmas.List.Elements.{All-tail}
+use Rattle.aclgen_core.specs.declared.filter_files.FilterFile.{FilterFile}
+use Rattle.aclgen_core.specs.WritingSteps.{IsWritable, file_view}
+use Rattle.aclgen_core.proofs.FileListLaws.{writes-cons}
+use Rattle.aclgen_core.proofs.PreparingLaws.{first-rest}
+use Rattle.aclgen_core.proofs.filter_files.+write_files.Goals as goal
+
+pub returns-in_ok-write_filters-in-len1-up : goal.returns-in_ok-write_filters-in-len1-up
+returns-in_ok-write_filters-in-len1-up g t c =
+    let first = c.first-item.result in
+    let all = ap (map file_view) (first-rest c.args.files.now first c.in-len1-up.len_at_least c.first-item.is) in
+    rw all (writes-cons _ _ _ _ (file_view first) _ _ _ c.requires.begun (rw all at c.requires.differ) c.in_ok-write_filters-in-len1-up.ensures c.write_files.ensures)
