@@ -360,6 +360,70 @@ fn the_words_of_a_term(rt: HostRuntime) -> Result<(), Fail> {
     Ok(())
 }
 
+// The words of all lists of the first term, list by list.
+fn lists_of(alloc: Global, bytes: &[u8]) -> Result<String, Memory> {
+    let sources = spliced(alloc, bytes, b"")?;
+    let mut all = String::new(alloc);
+    let Ok(policy) = read(alloc, &sources) else {
+        return Ok(all);
+    };
+    for block in policy.blocks.as_slice() {
+        for term in block.terms.as_slice() {
+            add_words(&mut all, &term.sources)?;
+            add_words(&mut all, &term.source_excludes)?;
+            add_words(&mut all, &term.destinations)?;
+            add_words(&mut all, &term.destination_excludes)?;
+            add_words(&mut all, &term.protocols)?;
+            add_words(&mut all, &term.source_ports)?;
+            add_words(&mut all, &term.destination_ports)?;
+            add_words(&mut all, &term.icmp_types)?;
+            add_words(&mut all, &term.options)?;
+            add_words(&mut all, &term.platforms)?;
+            add_words(&mut all, &term.not_platforms)?;
+        }
+    }
+    Ok(all)
+}
+
+#[test]
+fn each_keyword_has_a_list_of_its_own(rt: HostRuntime) -> Result<(), Fail> {
+    let policy = b"header { target:: cisco e } term t { source-address:: A source-exclude:: B
+        destination-address:: C destination-exclude:: D protocol:: tcp source-port:: F
+        destination-port:: G icmp-type:: echo-reply option:: rst platform:: cisco
+        platform-exclude:: juniper source-exclude:: b platform-exclude:: iptables action:: deny }";
+    assert_eq!(rt;
+        lists_of(rt.alloc(), policy)?.as_str(),
+        "A |B b |C |D |tcp |F |G |echo-reply |rst |cisco |juniper iptables |"
+    );
+    Ok(())
+}
+
+// A keyword that stands once is repeated; a word that is none of the table is no keyword.
+#[test]
+fn keywords_that_stand_once(rt: HostRuntime) -> Result<(), Fail> {
+    let table: [(&[u8], &str); 9] = [
+        (b" owner:: a\n owner:: a }", "0:3 Repeated owner::"),
+        (b" action:: deny\n action:: deny }", "0:3 Repeated action::"),
+        (b" logging:: true\n logging:: true }", "0:3 Repeated logging::"),
+        (
+            b" expiration:: 2026-01-15\n expiration:: 2026-01-15 }",
+            "0:3 Repeated expiration::",
+        ),
+        (b" option:: rst option:: rst action:: deny }", "none"),
+        (b" comment:: \"\" comment:: \"\" action:: deny }", "none"),
+        (b"\n target:: cisco f }", "0:3 Keyword target::"),
+        (b"\n address-exclude:: A }", "0:3 Keyword address-exclude::"),
+        (b"\n Action:: deny }", "0:3 Keyword Action::"),
+    ];
+    let alloc = rt.alloc();
+    for (rest, slip) in table {
+        let before = b"header { target:: cisco e }\nterm t {";
+        let policy = repeated(alloc, before, rest, 1, b"")?;
+        assert_eq!(rt; first_slip(alloc, policy.as_slice())?.as_str(), slip);
+    }
+    Ok(())
+}
+
 fn numbered_names(
     alloc: Global,
     before: &[u8],
