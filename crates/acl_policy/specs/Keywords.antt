@@ -28,9 +28,11 @@ entry keywords.SourceAddress = repeats (codes "source-address::") takes.Name
 entry keywords.SourceExclude = repeats (codes "source-exclude::") takes.Name
 entry keywords.DestinationAddress = repeats (codes "destination-address::") takes.Name
 entry keywords.DestinationExclude = repeats (codes "destination-exclude::") takes.Name
+entry keywords.Address = repeats (codes "address::") takes.Name
 entry keywords.Protocol = repeats (codes "protocol::") takes.Protocol
 entry keywords.SourcePort = repeats (codes "source-port::") takes.Name
 entry keywords.DestinationPort = repeats (codes "destination-port::") takes.Name
+entry keywords.Port = repeats (codes "port::") takes.Name
 entry keywords.IcmpType = repeats (codes "icmp-type::") takes.IcmpType
 entry keywords.Opt = repeats (codes "option::") takes.Opt
 entry keywords.Logging = stands_once (codes "logging::") takes.Logging
@@ -43,7 +45,9 @@ all_keywords =
     keywords.Comment ∷ keywords.Owner ∷ keywords.Action
     ∷ keywords.SourceAddress ∷ keywords.SourceExclude
     ∷ keywords.DestinationAddress ∷ keywords.DestinationExclude
-    ∷ keywords.Protocol ∷ keywords.SourcePort ∷ keywords.DestinationPort ∷ keywords.IcmpType
+    ∷ keywords.Address
+    ∷ keywords.Protocol ∷ keywords.SourcePort ∷ keywords.DestinationPort ∷ keywords.Port
+    ∷ keywords.IcmpType
     ∷ keywords.Opt ∷ keywords.Logging ∷ keywords.Expiration
     ∷ keywords.Platform ∷ keywords.PlatformExclude ∷ []
 

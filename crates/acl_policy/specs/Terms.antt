@@ -73,9 +73,11 @@ list_at t keywords.SourceAddress = t.sources
 list_at t keywords.SourceExclude = t.source_excludes
 list_at t keywords.DestinationAddress = t.destinations
 list_at t keywords.DestinationExclude = t.destination_excludes
+list_at t keywords.Address = t.addresses
 list_at t keywords.Protocol = t.protocols
 list_at t keywords.SourcePort = t.source_ports
 list_at t keywords.DestinationPort = t.destination_ports
+list_at t keywords.Port = t.ports
 list_at t keywords.IcmpType = t.icmp_types
 list_at t keywords.Opt = t.options
 list_at t keywords.Platform = t.platforms
@@ -87,9 +89,11 @@ with_list t keywords.SourceAddress ws = record t { sources = ws }
 with_list t keywords.SourceExclude ws = record t { source_excludes = ws }
 with_list t keywords.DestinationAddress ws = record t { destinations = ws }
 with_list t keywords.DestinationExclude ws = record t { destination_excludes = ws }
+with_list t keywords.Address ws = record t { addresses = ws }
 with_list t keywords.Protocol ws = record t { protocols = ws }
 with_list t keywords.SourcePort ws = record t { source_ports = ws }
 with_list t keywords.DestinationPort ws = record t { destination_ports = ws }
+with_list t keywords.Port ws = record t { ports = ws }
 with_list t keywords.IcmpType ws = record t { icmp_types = ws }
 with_list t keywords.Opt ws = record t { options = ws }
 with_list t keywords.Platform ws = record t { platforms = ws }

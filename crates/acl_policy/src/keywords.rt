@@ -13,9 +13,13 @@ pub enum Keyword {
     SourceExclude,
     DestinationAddress,
     DestinationExclude,
+    /// `address::`: of either side.
+    Address,
     Protocol,
     SourcePort,
     DestinationPort,
+    /// `port::`: of either side.
+    Port,
     IcmpType,
     Opt,
     Logging,
@@ -43,7 +47,7 @@ const AGAIN: bool = false;
 const NAMES: Values = (Takes::Name, AGAIN);
 
 /// The keywords: how each is written, what its values are, and whether it may stand again.
-const TABLE: [(&[u8], Keyword, Values); 16] = [
+const TABLE: [(&[u8], Keyword, Values); 18] = [
     (b"comment::", Keyword::Comment, (Takes::String, AGAIN)),
     (b"owner::", Keyword::Owner, (Takes::Any, ONCE)),
     (b"action::", Keyword::Action, (Takes::Action, ONCE)),
@@ -51,9 +55,11 @@ const TABLE: [(&[u8], Keyword, Values); 16] = [
     (b"source-exclude::", Keyword::SourceExclude, NAMES),
     (b"destination-address::", Keyword::DestinationAddress, NAMES),
     (b"destination-exclude::", Keyword::DestinationExclude, NAMES),
+    (b"address::", Keyword::Address, NAMES),
     (b"protocol::", Keyword::Protocol, (Takes::Protocol, AGAIN)),
     (b"source-port::", Keyword::SourcePort, NAMES),
     (b"destination-port::", Keyword::DestinationPort, NAMES),
+    (b"port::", Keyword::Port, NAMES),
     (b"icmp-type::", Keyword::IcmpType, (Takes::IcmpType, AGAIN)),
     (b"option::", Keyword::Opt, (Takes::Opt, AGAIN)),
     (b"logging::", Keyword::Logging, (Takes::Logging, ONCE)),

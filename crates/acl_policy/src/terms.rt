@@ -69,9 +69,11 @@ fn put_values(
         Keyword::SourceExclude => push_all(&mut draft.term.source_excludes, values),
         Keyword::DestinationAddress => push_all(&mut draft.term.destinations, values),
         Keyword::DestinationExclude => push_all(&mut draft.term.destination_excludes, values),
+        Keyword::Address => push_all(&mut draft.term.addresses, values),
         Keyword::Protocol => push_all(&mut draft.term.protocols, values),
         Keyword::SourcePort => push_all(&mut draft.term.source_ports, values),
         Keyword::DestinationPort => push_all(&mut draft.term.destination_ports, values),
+        Keyword::Port => push_all(&mut draft.term.ports, values),
         Keyword::IcmpType => push_all(&mut draft.term.icmp_types, values),
         Keyword::Opt => push_all(&mut draft.term.options, values),
         Keyword::Logging => {

@@ -373,9 +373,11 @@ fn lists_of(alloc: Global, bytes: &[u8]) -> Result<String, Memory> {
             add_words(&mut all, &term.source_excludes)?;
             add_words(&mut all, &term.destinations)?;
             add_words(&mut all, &term.destination_excludes)?;
+            add_words(&mut all, &term.addresses)?;
             add_words(&mut all, &term.protocols)?;
             add_words(&mut all, &term.source_ports)?;
             add_words(&mut all, &term.destination_ports)?;
+            add_words(&mut all, &term.ports)?;
             add_words(&mut all, &term.icmp_types)?;
             add_words(&mut all, &term.options)?;
             add_words(&mut all, &term.platforms)?;
@@ -388,12 +390,13 @@ fn lists_of(alloc: Global, bytes: &[u8]) -> Result<String, Memory> {
 #[test]
 fn each_keyword_has_a_list_of_its_own(rt: HostRuntime) -> Result<(), Fail> {
     let policy = b"header { target:: cisco e } term t { source-address:: A source-exclude:: B
-        destination-address:: C destination-exclude:: D protocol:: tcp source-port:: F
-        destination-port:: G icmp-type:: echo-reply option:: rst platform:: cisco
-        platform-exclude:: juniper source-exclude:: b platform-exclude:: iptables action:: deny }";
+        destination-address:: C destination-exclude:: D address:: E protocol:: tcp source-port:: F
+        destination-port:: G port:: H icmp-type:: echo-reply option:: rst platform:: cisco
+        platform-exclude:: juniper source-exclude:: b address:: e1 e2 port:: h
+        platform-exclude:: iptables action:: deny }";
     assert_eq!(rt;
         lists_of(rt.alloc(), policy)?.as_str(),
-        "A |B b |C |D |tcp |F |G |echo-reply |rst |cisco |juniper iptables |"
+        "A |B b |C |D |E e1 e2 |tcp |F |G |H h |echo-reply |rst |cisco |juniper iptables |"
     );
     Ok(())
 }
@@ -401,7 +404,7 @@ fn each_keyword_has_a_list_of_its_own(rt: HostRuntime) -> Result<(), Fail> {
 // A keyword that stands once is repeated; a word that is none of the table is no keyword.
 #[test]
 fn keywords_that_stand_once(rt: HostRuntime) -> Result<(), Fail> {
-    let table: [(&[u8], &str); 9] = [
+    let table: [(&[u8], &str); 13] = [
         (b" owner:: a\n owner:: a }", "0:3 Repeated owner::"),
         (b" action:: deny\n action:: deny }", "0:3 Repeated action::"),
         (b" logging:: true\n logging:: true }", "0:3 Repeated logging::"),
@@ -411,6 +414,10 @@ fn keywords_that_stand_once(rt: HostRuntime) -> Result<(), Fail> {
         ),
         (b" option:: rst option:: rst action:: deny }", "none"),
         (b" comment:: \"\" comment:: \"\" action:: deny }", "none"),
+        (b" address:: A address:: A action:: deny }", "none"),
+        (b" port:: A port:: A action:: deny }", "none"),
+        (b"\n address:: 10.0.0.0/8 }", "0:3 Value 10.0.0.0/8"),
+        (b"\n port:: }", "0:3 Missing port::"),
         (b"\n target:: cisco f }", "0:3 Keyword target::"),
         (b"\n address-exclude:: A }", "0:3 Keyword address-exclude::"),
         (b"\n Action:: deny }", "0:3 Keyword Action::"),
