@@ -407,7 +407,10 @@ fn keywords_that_stand_once(rt: HostRuntime) -> Result<(), Fail> {
     let table: [(&[u8], &str); 13] = [
         (b" owner:: a\n owner:: a }", "0:3 Repeated owner::"),
         (b" action:: deny\n action:: deny }", "0:3 Repeated action::"),
-        (b" logging:: true\n logging:: true }", "0:3 Repeated logging::"),
+        (
+            b" logging:: true\n logging:: true }",
+            "0:3 Repeated logging::",
+        ),
         (
             b" expiration:: 2026-01-15\n expiration:: 2026-01-15 }",
             "0:3 Repeated expiration::",
