@@ -7,7 +7,6 @@ use Rattle.std.proofs.lemmas.List.{map-append}
 use Rattle.acl_packet.specs.declared.addresses.Families.{Families}
 use Rattle.acl_text.specs.declared.faults.Code.TheVariants as codes_of
 use Rattle.acl_text.specs.declared.faults.Slip.{Slip}
-use Rattle.acl_days.specs.NamedDays.{day_named}
 use Rattle.acl_text.specs.Steps.{◌>>=◌}
 use Rattle.acl_words.specs.declared.forms.Form.{Form}
 use Rattle.acl_words.specs.declared.forms.Form.TheVariants as forms
@@ -16,7 +15,9 @@ use Rattle.acl_target.specs.declared.targets.Kind.{Kind}
 use Rattle.acl_target.specs.declared.targets.Kind.TheVariants.{Cisco, Juniper, Iptables, Nftables}
 use Rattle.acl_target.specs.Clashes.{clash}
 use Rattle.acl_policy.specs.declared.choices.Choices.{Choices}
-use Rattle.acl_policy.specs.declared.raw_terms.RawTerm.{RawTerm}
+use Rattle.acl_policy.specs.declared.keywords.Keyword.{Keyword}
+use Rattle.acl_policy.specs.declared.keywords.Keyword.TheVariants as keywords
+use Rattle.acl_policy.specs.declared.keywords.Row.{Row}
 use Rattle.acl_words.specs.declared.word_lists.Word.{Word}
 use Rattle.acl_policy.specs.declared.states.Part.{Part}
 use Rattle.acl_policy.specs.declared.states.Part.TheVariants.{Start, Header, InHeader, HeaderEnd, Term, Named, InTerm, TermEnd}
@@ -30,8 +31,10 @@ use Rattle.acl_policy.specs.Policies.{most_targets, with_number, with_target, be
 use Rattle.acl_text.specs.Refusals.{slip}
 use Rattle.acl_policy.specs.Slips.{slip_of, slip_for}
 use Rattle.acl_policy.specs.Targets.{is_word, or_slip, single_family, family_word, chain_word, hook_word, name_word, priority_word, no_choices, unless_some, with_policy, with_mark, with_families, with_priority, iptables_choice, nftables_choice, choice, choices_from, last_family, device_line, iptables_line, hooked_line, nftables_line, target_line}
-use Rattle.acl_policy.specs.Terms.{with_comment, with_comments, draft_with_comments, term_with_addresses, term_with_protocols, term_with_lists, draft_behind}
-use Rattle.acl_policy.specs.Values.{is_value, word_of, all_values, some_values, words_with, one_value}
+use Rattle.acl_policy.specs.Keywords.{entry, row_of, row_named}
+use Rattle.acl_policy.specs.Terms.{with_comment, with_comments, list_at, with_list, with_values, has_stood, item_behind, row_behind, draft_behind}
+use Rattle.acl_policy.specs.Values.{is_value, word_of, all_values, some_values, one_value}
+use Rattle.acl_policy.proofs.KeywordLaws.{named_row}
 use Rattle.acl_policy.proofs.Outcomes.{Has, bind_has, if_has, some_if, then_has}
 
 -- A judging of words that may be cut: what the first ones leave is judged with the further ones.
@@ -74,17 +77,20 @@ values_joined (Ok u) (Ok v) z all first rest e h = subst (λ r. (r >>= λ _. Ok 
 values_joined (Ok u) (Err s) z all first rest e h = subst (λ r. (r >>= λ _. Ok all) ≡ Err s) (sym e) refl
 values_joined (Err s) y z all first rest e h = subst (λ r. (r >>= λ _. Ok all) ≡ Err s) (sym e) refl
 
-list_in_parts : (kind : Takes) (k v w : Token) (vs more : List Token)
-    → IsCut (λ before ws. words_with kind k ws before) (v ∷ vs) (w ∷ more)
-list_in_parts kind k v w vs more = record {
-  at = λ before. values_joined (some_values kind k (v ∷ vs)) (some_values kind k (w ∷ more)) _ _ _
-      (λ (ws : List Word). ws ++ map word_of (w ∷ more))
-      (some_in_parts kind k v w vs more) (lists_joined before (v ∷ vs) (w ∷ more));
-}
-
 comments_joined : (d : Draft) (vs more : List Token) → with_comments d (vs ++ more) ≡ with_comments (with_comments d vs) more
 comments_joined d [] more = refl
 comments_joined d (v ∷ vs) more = comments_joined (with_comment d v.text) vs more
+
+-- The values of a keyword that may stand again.
+values_in_parts : (d : Draft) (key : Keyword) (vs more : List Token) → (entry key).once ≡ false
+    → with_values d key (vs ++ more) ≡ with_values (with_values d key vs) key more
+values_in_parts d keywords.Comment vs more h = comments_joined d vs more
+values_in_parts d keywords.Owner vs more h = cc
+values_in_parts d keywords.Action vs more h = cc
+values_in_parts d keywords.Logging vs more h = cc
+values_in_parts d keywords.Expiration vs more h = cc
+values_in_parts d key vs more h =
+    ap (λ xs. record d { term = with_list d.term key xs }) (lists_joined (list_at d.term key) vs more)
 
 -- A judging of a part of what is read is cut where that of the part is.
 cut_part : {T U : Type 0} (f : U → List Token → Result U Slip) (part : T → U) (put : T → U → T) (vs more : List Token)
@@ -150,6 +156,17 @@ stays_before : {A B : Type 0} (f : List Token → Result A Slip) (g : A → Resu
     → Stays f vs more → Stays (λ ws. f ws >>= g) vs more
 stays_before f g vs more h = record { is_slip = still_slip (f vs) g h.is_slip; same = ap (λ x. x >>= g) h.same }
 
+slip_same : {A B : Type 0} (x y : Result A Slip) (g h : A → Result B Slip) → IsSlip x → y ≡ x → (y >>= g) ≡ (x >>= h)
+slip_same (Ok a) y g h s e = absurd s
+slip_same (Err q) y g h s e = ap (λ z. z >>= g) e
+
+stays_then : {A B : Type 0} (f : List Token → Result A Slip) (g : List Token → A → Result B Slip) (vs more : List Token)
+    → Stays f vs more → Stays (λ ws. f ws >>= g ws) vs more
+stays_then f g vs more h = record {
+  is_slip = still_slip (f vs) (g vs) h.is_slip;
+  same = slip_same (f vs) (f (vs ++ more)) (g (vs ++ more)) (g vs) h.is_slip h.same;
+}
+
 stays_head : {A : Type 0} (f : List Token → Result A Slip) (v : Token) (vs more : List Token)
     → Stays (λ ws. f (v ∷ ws)) vs more → Stays f (v ∷ vs) more
 stays_head f v vs more h = record { is_slip = h.is_slip; same = h.same }
@@ -158,7 +175,7 @@ stays_head f v vs more h = record { is_slip = h.is_slip; same = h.same }
 one_stays : (kind : Takes) (k v w : Token) (vs more : List Token) → Stays (one_value kind k) (v ∷ w ∷ vs) more
 one_stays kind k v w vs more = record { is_slip = either (is_value kind v); same = refl }
   where
-    either : (c : Bool) → IsSlip {A = Word} (if c then Err (slip_for codes_of.Value w) else Err (slip_for codes_of.Value v))
+    either : (c : Bool) → IsSlip {A = Unit {0}} (if c then Err (slip_for codes_of.Value w) else Err (slip_for codes_of.Value v))
     either true = tt
     either false = tt
 
@@ -291,78 +308,33 @@ module _ (k a b m : Token) (rest others : List Token) where
   abbrev further : List Token
   further = m ∷ others
 
-  list_cut : (kind : Takes) (part : RawTerm → List Word) (put : RawTerm → List Word → RawTerm)
-      → ((t : RawTerm) (u : List Word) → part (put t u) ≡ u) → ((t : RawTerm) (u v : List Word) → put (put t u) v ≡ put t v)
-      → IsCut (λ t ws. words_with kind k ws (part t) >>= λ u. Ok (put t u)) some further
-  list_cut kind part put gets puts = cut_part (λ before ws. words_with kind k ws before) part put some further gets puts
-      (list_in_parts kind k a m (b ∷ rest) others)
-
   slip_cut : {T : Type 0} (e : Slip) → IsCut {T = T} (λ t ws. Err e) some further
   slip_cut e = record { at = λ t. refl }
 
-  addresses_cut : IsCut (λ t ws. term_with_addresses t k ws) some further
-  unfolding term_with_addresses
-  addresses_cut = cut_if (bytes_eq k.text (codes "source-address::")) _ _ some further
-      (list_cut takes.Name (λ t. t.sources) (λ t xs. record t { sources = xs }) (λ t u. refl) (λ t u v. refl))
-      (cut_if (bytes_eq k.text (codes "source-exclude::")) _ _ some further
-      (list_cut takes.Name (λ t. t.source_excludes) (λ t xs. record t { source_excludes = xs }) (λ t u. refl) (λ t u v. refl))
-      (cut_if (bytes_eq k.text (codes "destination-address::")) _ _ some further
-      (list_cut takes.Name (λ t. t.destinations) (λ t xs. record t { destinations = xs }) (λ t u. refl) (λ t u v. refl))
-      (cut_if (bytes_eq k.text (codes "destination-exclude::")) _ _ some further
-      (list_cut takes.Name (λ t. t.destination_excludes) (λ t xs. record t { destination_excludes = xs }) (λ t u. refl) (λ t u v. refl))
-      (slip_cut (slip_of codes_of.Keyword k)))))
+  once_stays : (r : Row) (d : Draft)
+      → Stays (λ ws. if has_stood d r.keyword then Err (slip_of codes_of.Repeated k) else one_value r.takes k ws) some further
+  once_stays r d = stays_if (has_stood d r.keyword) _ _ some further (stays_slip (slip_of codes_of.Repeated k) some further)
+      (one_stays r.takes k a b rest further)
 
-  protocols_cut : IsCut (λ t ws. term_with_protocols t k ws) some further
-  unfolding term_with_protocols
-  protocols_cut = cut_if (bytes_eq k.text (codes "protocol::")) _ _ some further
-      (list_cut takes.Protocol (λ t. t.protocols) (λ t xs. record t { protocols = xs }) (λ t u. refl) (λ t u v. refl))
-      (cut_if (bytes_eq k.text (codes "source-port::")) _ _ some further
-      (list_cut takes.Name (λ t. t.source_ports) (λ t xs. record t { source_ports = xs }) (λ t u. refl) (λ t u v. refl))
-      (cut_if (bytes_eq k.text (codes "destination-port::")) _ _ some further
-      (list_cut takes.Name (λ t. t.destination_ports) (λ t xs. record t { destination_ports = xs }) (λ t u. refl) (λ t u v. refl))
-      (cut_if (bytes_eq k.text (codes "icmp-type::")) _ _ some further
-      (list_cut takes.IcmpType (λ t. t.icmp_types) (λ t xs. record t { icmp_types = xs }) (λ t u. refl) (λ t u v. refl))
-      addresses_cut)))
-
-  lists_cut : IsCut (λ t ws. term_with_lists t k ws) some further
-  unfolding term_with_lists
-  lists_cut = cut_if (bytes_eq k.text (codes "option::")) _ _ some further
-      (list_cut takes.Opt (λ t. t.options) (λ t xs. record t { options = xs }) (λ t u. refl) (λ t u v. refl))
-      (cut_if (bytes_eq k.text (codes "platform::")) _ _ some further
-      (list_cut takes.Name (λ t. t.platforms) (λ t xs. record t { platforms = xs }) (λ t u. refl) (λ t u v. refl))
-      (cut_if (bytes_eq k.text (codes "platform-exclude::")) _ _ some further
-      (list_cut takes.Name (λ t. t.not_platforms) (λ t xs. record t { not_platforms = xs }) (λ t u. refl) (λ t u v. refl))
-      protocols_cut))
-
-  comments_cut : IsCut (λ d ws. draft_with_comments d k ws) some further
-  comments_cut = record {
-    at = λ d. values_joined (some_values takes.String k some) (some_values takes.String k further) _ _ _
-        (λ t. with_comments t further) (some_in_parts takes.String k a m (b ∷ rest) others) (comments_joined d some further);
+  item_by : (r : Row) (c : Bool) → (c ≡ false → (entry r.keyword).once ≡ false)
+      → IsCut (λ (d : Draft) ws. (if c
+      then (if has_stood d r.keyword then Err (slip_of codes_of.Repeated k) else one_value r.takes k ws)
+      else some_values r.takes k ws) >>= λ _. Ok (with_values d r.keyword ws)) some further
+  item_by r true h = cut_stays _ some further (λ d. stays_then _ (λ ws _. Ok (with_values d r.keyword ws)) some further (once_stays r d))
+  item_by r false h = record {
+    at = λ d. values_joined (some_values r.takes k some) (some_values r.takes k further) _ _ _
+        (λ t. with_values t r.keyword further) (some_in_parts r.takes k a m (b ∷ rest) others)
+        (values_in_parts d r.keyword some further (h refl));
   }
 
-  once_cut : (kind : Takes) (is_there : Draft → Bool) (put : Draft → Word → Draft)
-      → IsCut (λ d ws. if is_there d then Err (slip_of codes_of.Repeated k)
-      else (one_value kind k ws >>= λ w. Ok (put d w))) some further
-  once_cut kind is_there put = cut_stays _ some further (λ d. stays_if (is_there d) _ _ some further
-      (stays_slip (slip_of codes_of.Repeated k) some further)
-      (stays_before (one_value kind k) _ some further (one_stays kind k a b rest further)))
-
-  term_cut : IsCut {T = Draft} (λ d ws. term_with_lists d.term k ws >>= λ t. Ok (record d { term = t })) some further
-  term_cut = cut_part (λ t ws. term_with_lists t k ws) (λ d. d.term) (λ d t. record d { term = t }) some further
-      (λ d t. refl) (λ d t u. refl) lists_cut
+  row_cut : (o : Option Row) → IfSome o (λ r. r ≡ row_of r.keyword) → IsCut (λ d ws. row_behind o d k ws) some further
+  unfolding item_behind
+  row_cut None h = slip_cut (slip_of codes_of.Keyword k)
+  row_cut (Some r) h = item_by r r.once (λ e. ap (λ (x : Row). x.once) (sym h) ∙ e)
 
   draft_cut : IsCut (λ d ws. draft_behind d k ws) some further
   unfolding draft_behind
-  draft_cut = cut_if (bytes_eq k.text (codes "comment::")) _ _ some further comments_cut
-      (cut_if (bytes_eq k.text (codes "owner::")) _ _ some further
-      (once_cut takes.Any (λ d. d.has_owner) (λ d w. record d { has_owner = true }))
-      (cut_if (bytes_eq k.text (codes "action::")) _ _ some further
-      (once_cut takes.Action (λ d. d.has_action) (λ d w. record d { term = record d.term { action = w }; has_action = true }))
-      (cut_if (bytes_eq k.text (codes "logging::")) _ _ some further
-      (once_cut takes.Logging (λ d. d.term.logging) (λ d w. record d { term = record d.term { logging = true } }))
-      (cut_if (bytes_eq k.text (codes "expiration::")) _ _ some further
-      (once_cut takes.Day (λ d. is_some d.term.expires) (λ d w. record d { term = record d.term { expires = day_named w.text } }))
-      term_cut))))
+  draft_cut = row_cut (row_named k.text) (named_row k.text)
 
   -- Those of a header.
   target_line_stays : (c : List Token) → 6 ≤ length c → Stays (target_line k) (a ∷ b ∷ c) further

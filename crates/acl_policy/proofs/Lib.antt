@@ -1,6 +1,7 @@
 pub mod ClashLaws
 pub mod ClausesInParts
 pub mod JudgingLaws
+pub mod KeywordLaws
 pub mod NameLaws
 pub mod Outcomes
 pub mod PolicyFit

@@ -61,6 +61,10 @@ pub some_from : {A : Type 0} (P : A → Type 0) (o : Option A) → ((a : A) → 
 some_from P (Some a) h = h a refl
 some_from P None h = tt
 
+pub weaker_some : {A : Type 0} (P Q : A → Type 0) (x : Option A) → IfSome x P → ((a : A) → P a → Q a) → IfSome x Q
+weaker_some P Q (Some a) h k = k a h
+weaker_some P Q None h k = tt
+
 pub and_right : (b c : Bool) → (b && c) ≡ true → c ≡ true
 and_right true c h = h
 and_right false c h = cc

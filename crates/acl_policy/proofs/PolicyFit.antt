@@ -33,23 +33,23 @@ use Rattle.acl_policy.specs.declared.states.Part.{Part}
 use Rattle.acl_policy.specs.declared.states.Part.TheVariants.{Start, Header, InHeader, HeaderEnd, Term, Named, InTerm, TermEnd}
 use Rattle.acl_policy.specs.declared.states.State.{State}
 use Rattle.acl_policy.specs.declared.target_lines.NamedTarget.{NamedTarget}
-use Rattle.acl_policy.specs.declared.values.Takes.{Takes}
 use Rattle.acl_policy.specs.declared.values.Takes.TheVariants as takes
 use Rattle.acl_target.specs.Clashes.{clash, same_kind}
-use Rattle.acl_policy.specs.Conditions.{lists_of, IsRawTerm, Each, StandsBehind, NumbersDiffer, NameIsNew, IsBlock, targets_of, terms_of, IsPolicy}
+use Rattle.acl_policy.specs.Conditions.{IsRawTerm, Each, StandsBehind, NumbersDiffer, NameIsNew, IsBlock, targets_of, terms_of, IsPolicy}
 use Rattle.acl_target.specs.TargetData.{IsTarget, FitsPlatform}
 use Rattle.acl_policy.specs.Policies.{start, with_number, behind_target, behind_header_keyword, behind_name, with_block, behind_word, behind_words, behind_keyword, behind_begin, behind_end, behind_mark, is_mark, values_of, behind_marks, behind_all, last_place, end_of, policy_of}
 use Rattle.acl_policy.specs.PolicyPlaces.{TermStands, BlockStands, PolicyStands, IsSlipPlace}
+use Rattle.acl_policy.specs.Keywords.{entry}
 use Rattle.acl_policy.specs.Slips.{start_place}
 use Rattle.acl_policy.specs.Targets.{is_word, target_line}
-use Rattle.acl_policy.specs.Terms.{no_word, draft_behind}
+use Rattle.acl_policy.specs.Terms.{no_word, list_at, draft_behind}
 use Rattle.acl_policy.specs.Values.{is_plain, is_value, word_of, some_values, text_fits}
 use Rattle.acl_policy.proofs.ClashLaws.{any_same, clash_same}
 use Rattle.acl_text.specs.AnsweredCodes.{EndsAnswered}
 use Rattle.acl_text.specs.declared.faults.Code.TheVariants as codes_of
 use Rattle.acl_policy.proofs.Outcomes.{Has, ToldAt, answered_for, bind_has, if_has, at_other, and_right, not_false}
 use Rattle.acl_policy.proofs.TargetFit.{IsNamed, line_good, renumbered}
-use Rattle.acl_policy.proofs.TermFit.{Stand, Fits, ListFits, Sound, some_fit, draft_sound, term_sound}
+use Rattle.acl_policy.proofs.TermFit.{Stand, Fits, Sound, some_fit, draft_sound, term_sound}
 
 each_push : {A : Type 0} (R : List A → A → Type 0) (before xs : List A) (x : A) → Each R before xs → R (before ++ xs) x
     → Each R before (xs ++ x ∷ [])
@@ -365,14 +365,14 @@ module _ (At : Place → Type 0) where
     record {
       name_is = named;
       action_is = (h.action_fits acted).0;
-      words_fit = All-weaker (ListFits At) (λ (l : Takes × List Word). All (λ w. text_fits l.0 w.text ≡ true) l.1)
-          (λ l g. All-weaker (Fits At l.0) (λ w. text_fits l.0 w.text ≡ true) (λ w f. f.0) l.1 g) (lists_of d.term) h.lists;
+      words_fit = λ key. All-weaker (Fits At (entry key).takes) (λ w. text_fits (entry key).takes w.text ≡ true) (λ w f. f.0)
+          (list_at d.term key) (h.lists key);
     },
     record {
       name_stands = a;
       action_stands = (h.action_fits acted).1;
-      lists_stand = All-weaker (ListFits At) (λ (l : Takes × List Word). All (λ (w : Word). At w.place) l.1)
-          (λ l g. All-weaker (Fits At l.0) (λ (w : Word). At w.place) (λ w f. f.1) l.1 g) (lists_of d.term) h.lists;
+      lists_stand = λ key. All-weaker (Fits At (entry key).takes) (λ (w : Word). At w.place) (λ w f. f.1)
+          (list_at d.term key) (h.lists key);
     },
   )
 

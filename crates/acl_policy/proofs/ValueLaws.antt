@@ -1,5 +1,5 @@
 -- The values of a keyword that takes words are plain words.
-use Rattle.std.proofs.Common.{◌≡◌, ℕ, true, List, [], ◌∷◌, Ok, refl, subst, sym, ◌∙◌}
+use Rattle.std.proofs.Common.{◌≡◌, ℕ, true, List, [], ◌∷◌, Ok, refl, ap, subst, sym, ◌∙◌}
 use Rattle.std.specs.List.{All}
 use Rattle.std.proofs.lemmas.Bool.{and_parts}
 use Rattle.std.proofs.lemmas.List.Elements.{All-nil, All-cons}
@@ -10,7 +10,11 @@ use Rattle.acl_words.specs.declared.forms.Form.TheVariants as forms
 use Rattle.acl_words.specs.Tokens.{IsRun, Token}
 use Rattle.acl_policy.specs.declared.values.Takes.{Takes}
 use Rattle.acl_policy.specs.declared.values.Takes.TheVariants as takes
-use Rattle.acl_policy.specs.Values.{all_values, form_fits, is_plain, is_value, some_values, takes_words, text_fits}
+use Rattle.acl_policy.specs.declared.keywords.Row.{Row}
+use Rattle.acl_policy.specs.declared.term_drafts.Draft.{Draft}
+use Rattle.acl_policy.specs.Keywords.{entry, row_of}
+use Rattle.acl_policy.specs.Terms.{has_stood, item_checked}
+use Rattle.acl_policy.specs.Values.{all_values, form_fits, is_plain, is_value, one_value, some_values, takes_words, text_fits}
 use Rattle.acl_policy.proofs.Outcomes.{Has, if_has, weaker}
 
 -- The word is no string, keyword or brace.
@@ -45,8 +49,26 @@ all_plain kind (w ∷ ws) takes = if_has Anywhere (λ _. All IsPlainWord (w ∷ 
     (all_plain kind ws takes) (λ _ g. All-cons IsPlainWord w ws (plain_word kind w takes c) g))
     (λ _. tt)
 
-pub some_plain : (kind : Takes) (k : Token) (ws : List Token) → takes_words kind ≡ true
-    → some_values kind k ws ≡ Ok tt → All IsPlainWord ws
-some_plain kind k [] takes e = All-nil IsPlainWord
-some_plain kind k (w ∷ ws) takes e =
-    subst (λ r. Has Anywhere (λ _. All IsPlainWord (w ∷ ws)) r) e (all_plain kind (w ∷ ws) takes)
+some_plain : (kind : Takes) (k : Token) (ws : List Token) → takes_words kind ≡ true
+    → Has Anywhere (λ _. All IsPlainWord ws) (some_values kind k ws)
+some_plain kind k [] takes = tt
+some_plain kind k (w ∷ ws) takes = all_plain kind (w ∷ ws) takes
+
+one_plain : (kind : Takes) (k : Token) (ws : List Token) → takes_words kind ≡ true
+    → Has Anywhere (λ _. All IsPlainWord ws) (one_value kind k ws)
+one_plain kind k [] takes = tt
+one_plain kind k (w ∷ []) takes = if_has Anywhere (λ _. All IsPlainWord (w ∷ [])) (is_value kind w) _ _
+    (λ c. All-cons IsPlainWord w [] (plain_word kind w takes c) (All-nil IsPlainWord)) (λ _. tt)
+one_plain kind k (w ∷ v ∷ ws) takes =
+    if_has Anywhere (λ _. All IsPlainWord (w ∷ v ∷ ws)) (is_value kind w) _ _ (λ _. tt) (λ _. tt)
+
+item_plain : (r : Row) (d : Draft) (k : Token) (ws : List Token) → takes_words r.takes ≡ true
+    → Has Anywhere (λ _. All IsPlainWord ws) (item_checked r d k ws)
+item_plain r d k ws takes = if_has Anywhere (λ _. All IsPlainWord ws) r.once _ _
+    (λ _. if_has Anywhere (λ _. All IsPlainWord ws) (has_stood d r.keyword) _ _ (λ _. tt) (λ _. one_plain r.takes k ws takes))
+    (λ _. some_plain r.takes k ws takes)
+
+pub checked_plain : (r : Row) (d : Draft) (k : Token) (ws : List Token) → r ≡ row_of r.keyword
+    → item_checked r d k ws ≡ Ok tt → takes_words (entry r.keyword).takes ≡ true → All IsPlainWord ws
+checked_plain r d k ws is e takes = subst (Has Anywhere (λ _. All IsPlainWord ws)) e
+    (item_plain r d k ws (ap (λ (x : Row). takes_words x.takes) is ∙ takes))

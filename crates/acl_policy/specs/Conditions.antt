@@ -6,34 +6,25 @@ use Rattle.std.specs.List.{All, AllPairs, list_any, count_by}
 use Rattle.std.specs.Str.{bytes_eq}
 use Rattle.acl_text.specs.Names.{is_name}
 use Rattle.acl_policy.specs.declared.raw_terms.RawTerm.{RawTerm}
-use Rattle.acl_words.specs.declared.word_lists.Word.{Word}
 use Rattle.acl_target.specs.declared.targets.Target.{Target}
 use Rattle.acl_policy.specs.declared.blocks.Block.{Block}
 use Rattle.acl_policy.specs.declared.blocks.Policy.{Policy}
-use Rattle.acl_policy.specs.declared.values.Takes.{Takes}
-use Rattle.acl_policy.specs.declared.values.Takes.TheVariants as takes
+use Rattle.acl_policy.specs.declared.keywords.Keyword.{Keyword}
 use Rattle.acl_target.specs.Clashes.{clash, same_kind}
 use Rattle.acl_target.specs.TargetData.{IsTarget}
+use Rattle.acl_policy.specs.Keywords.{entry}
+use Rattle.acl_policy.specs.Terms.{list_at}
 use Rattle.acl_policy.specs.Values.{is_action, text_fits}
 
--- The words of a term, list by list, each list with what its keyword takes.
-abbrev pub lists_of : RawTerm → List (Takes × List Word)
-lists_of t =
-    (takes.Name, t.sources) ∷ (takes.Name, t.source_excludes)
-    ∷ (takes.Name, t.destinations) ∷ (takes.Name, t.destination_excludes)
-    ∷ (takes.Protocol, t.protocols) ∷ (takes.Name, t.source_ports)
-    ∷ (takes.Name, t.destination_ports) ∷ (takes.IcmpType, t.icmp_types)
-    ∷ (takes.Opt, t.options) ∷ (takes.Name, t.platforms)
-    ∷ (takes.Name, t.not_platforms) ∷ []
-
--- Each word of each list is one that the keyword takes.
-abbrev pub WordsFit : List (Takes × List Word) → Type 0
-WordsFit lists = All (λ l. All (λ w. text_fits l.0 w.text ≡ true) l.1) lists
+-- Each word is one that its keyword takes.
+abbrev pub WordsFit : RawTerm → Type 0
+WordsFit t =
+    (key : Keyword) → All (λ w. text_fits (entry key).takes w.text ≡ true) (list_at t key)
 
 pub record IsRawTerm (t : RawTerm) : Type 0 where
   pub name_is : is_name t.name.text ≡ true
   pub action_is : is_action t.action.text ≡ true
-  pub words_fit : WordsFit (lists_of t)
+  pub words_fit : WordsFit t
 
 -- Each item of a list stands so to those before it.
 abbrev pub Each : {A : Type 0} → (List A → A → Type 0) → List A → List A → Type 0

@@ -1,10 +1,10 @@
 pub mod Conditions
 pub mod JudgingSteps
+pub mod Keywords
 pub mod Policies
 pub mod PolicyPlaces
 pub mod ReadingParts
 pub mod Slips
 pub mod Targets
 pub mod Terms
-pub mod ValueKinds
 pub mod Values

@@ -4,11 +4,12 @@ use Rattle.std.specs.List.{All}
 use Rattle.acl_text.specs.declared.faults.Place.{Place}
 use Rattle.acl_text.specs.declared.file_lines.Line.{Line}
 use Rattle.acl_words.specs.Places.{IsLinePlace}
+use Rattle.acl_policy.specs.declared.keywords.Keyword.{Keyword}
 use Rattle.acl_policy.specs.declared.raw_terms.RawTerm.{RawTerm}
 use Rattle.acl_words.specs.declared.word_lists.Word.{Word}
 use Rattle.acl_policy.specs.declared.blocks.Block.{Block}
 use Rattle.acl_policy.specs.declared.blocks.Policy.{Policy}
-use Rattle.acl_policy.specs.Conditions.{lists_of}
+use Rattle.acl_policy.specs.Terms.{list_at}
 use Rattle.acl_policy.specs.Slips.{start_place}
 
 -- The words stand at such places.
@@ -18,7 +19,7 @@ WordsStand At ws = All (λ w. At w.place) ws
 pub record TermStands (At : Place → Type 0) (t : RawTerm) : Type 0 where
   pub name_stands : At t.name.place
   pub action_stands : At t.action.place
-  pub lists_stand : All (λ l. WordsStand At l.1) (lists_of t)
+  pub lists_stand : (key : Keyword) → WordsStand At (list_at t key)
 
 pub record BlockStands (At : Place → Type 0) (b : Block) : Type 0 where
   pub targets_stand : All (λ t. At t.place) b.targets

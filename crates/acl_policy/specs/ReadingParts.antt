@@ -1,5 +1,6 @@
 -- What the reading of a policy keeps, by names for laws of other crates: the code keeps these types to itself.
 use Rattle.acl_policy.specs.declared.choices.Choices.{Choices as ReadChoices}
+use Rattle.acl_policy.specs.declared.keywords.Row.{Row as ReadRow}
 use Rattle.acl_policy.specs.declared.states.Part.{Part as ReadPart}
 use Rattle.acl_policy.specs.declared.states.Part.TheVariants as parts
 use Rattle.acl_policy.specs.declared.states.State.{State as ReadState}
@@ -17,6 +18,9 @@ NamedTarget = ReadTarget
 
 abbrev pub Draft : Type 0
 Draft = ReadDraft
+
+abbrev pub Row : Type 0
+Row = ReadRow
 
 -- Where the reading stands.
 abbrev pub Part : Type 0

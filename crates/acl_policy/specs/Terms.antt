@@ -1,17 +1,20 @@
--- The keywords of a term.
-use Rattle.std.specs.Prelude.{ℕ, Bool, true, false, if◌then◌else◌, List, [], ◌∷◌, ◌++◌, None, is_some, Result, Ok, Err, codes}
-use Rattle.std.specs.Str.{bytes_eq}
-use Rattle.acl_text.specs.declared.faults.Code.TheVariants.{Keyword, Repeated}
+-- What the keywords of a term leave in it.
+use Rattle.std.specs.Prelude.{ℕ, Bool, true, false, if◌then◌else◌, List, [], ◌∷◌, ◌++◌, map, Option, None, Some, is_some, Result, Ok, Err}
+use Rattle.acl_text.specs.declared.faults.Code.TheVariants as codes_of
 use Rattle.acl_text.specs.declared.faults.Slip.{Slip}
 use Rattle.acl_words.specs.Tokens.{Token}
 use Rattle.acl_policy.specs.declared.term_drafts.Draft.{Draft}
 use Rattle.acl_words.specs.declared.word_lists.Word.{Word}
 use Rattle.acl_policy.specs.declared.raw_terms.RawTerm.{RawTerm}
-use Rattle.acl_policy.specs.declared.values.Takes.TheVariants as takes
+use Rattle.acl_policy.specs.declared.keywords.Keyword.{Keyword}
+use Rattle.acl_policy.specs.declared.keywords.Keyword.TheVariants as keywords
+use Rattle.acl_policy.specs.declared.keywords.Row.{Row}
+use Rattle.acl_days.specs.declared.days.Day.{Day}
 use Rattle.acl_days.specs.NamedDays.{day_named}
+use Rattle.acl_policy.specs.Keywords.{row_named}
 use Rattle.acl_policy.specs.Slips.{slip_of, start_place}
 use Rattle.acl_text.specs.Steps.{◌>>=◌}
-use Rattle.acl_policy.specs.Values.{some_values, words_with, one_value}
+use Rattle.acl_policy.specs.Values.{some_values, one_value, word_of}
 
 abbrev pub no_word : Word
 no_word = record { place = start_place; text = [] }
@@ -25,9 +28,11 @@ empty_term name = record {
   source_excludes = [];
   destinations = [];
   destination_excludes = [];
+  addresses = [];
   protocols = [];
   source_ports = [];
   destination_ports = [];
+  ports = [];
   icmp_types = [];
   options = [];
   logging = false;
@@ -62,83 +67,84 @@ abbrev pub with_comments : Draft → List Token → Draft
 with_comments d [] = d
 with_comments d (w ∷ ws) = with_comments (with_comment d w.text) ws
 
-abbrev pub draft_with_comments : Draft → Token → List Token → Result Draft Slip
-draft_with_comments d k ws = some_values takes.String k ws >>= λ _. Ok (with_comments d ws)
+-- The words of a keyword that takes a list of them; the others keep none.
+abbrev pub list_at : RawTerm → Keyword → List Word
+list_at t keywords.SourceAddress = t.sources
+list_at t keywords.SourceExclude = t.source_excludes
+list_at t keywords.DestinationAddress = t.destinations
+list_at t keywords.DestinationExclude = t.destination_excludes
+list_at t keywords.Address = t.addresses
+list_at t keywords.Protocol = t.protocols
+list_at t keywords.SourcePort = t.source_ports
+list_at t keywords.DestinationPort = t.destination_ports
+list_at t keywords.Port = t.ports
+list_at t keywords.IcmpType = t.icmp_types
+list_at t keywords.Opt = t.options
+list_at t keywords.Platform = t.platforms
+list_at t keywords.PlatformExclude = t.not_platforms
+list_at t _ = []
 
--- The owner is not written.
-abbrev pub draft_with_owner : Draft → Token → List Token → Result Draft Slip
-draft_with_owner d k ws =
-    if d.has_owner then Err (slip_of Repeated k)
-    else (one_value takes.Any k ws >>= λ _. Ok (record d { has_owner = true }))
+abbrev pub with_list : RawTerm → Keyword → List Word → RawTerm
+with_list t keywords.SourceAddress ws = record t { sources = ws }
+with_list t keywords.SourceExclude ws = record t { source_excludes = ws }
+with_list t keywords.DestinationAddress ws = record t { destinations = ws }
+with_list t keywords.DestinationExclude ws = record t { destination_excludes = ws }
+with_list t keywords.Address ws = record t { addresses = ws }
+with_list t keywords.Protocol ws = record t { protocols = ws }
+with_list t keywords.SourcePort ws = record t { source_ports = ws }
+with_list t keywords.DestinationPort ws = record t { destination_ports = ws }
+with_list t keywords.Port ws = record t { ports = ws }
+with_list t keywords.IcmpType ws = record t { icmp_types = ws }
+with_list t keywords.Opt ws = record t { options = ws }
+with_list t keywords.Platform ws = record t { platforms = ws }
+with_list t keywords.PlatformExclude ws = record t { not_platforms = ws }
+with_list t _ ws = t
 
-abbrev pub draft_with_action : Draft → Token → List Token → Result Draft Slip
-draft_with_action d k ws =
-    if d.has_action then Err (slip_of Repeated k)
-    else (one_value takes.Action k ws >>= λ w. Ok (record d {
-      term = record d.term { action = w };
-      has_action = true;
-    }))
+abbrev pub first_word : List Token → Word
+first_word [] = no_word
+first_word (w ∷ ws) = word_of w
 
-abbrev pub draft_with_logging : Draft → Token → List Token → Result Draft Slip
-draft_with_logging d k ws =
-    if d.term.logging then Err (slip_of Repeated k)
-    else (one_value takes.Logging k ws >>= λ _. Ok (record d {
-      term = record d.term { logging = true };
-    }))
+abbrev pub first_day : List Token → Option Day
+first_day [] = None
+first_day (w ∷ ws) = day_named w.text
 
-abbrev pub draft_with_expiration : Draft → Token → List Token → Result Draft Slip
-draft_with_expiration d k ws =
-    if is_some d.term.expires then Err (slip_of Repeated k)
-    else (one_value takes.Day k ws >>= λ w. Ok (record d {
-      term = record d.term { expires = day_named w.text };
-    }))
+-- The draft with the values of one more keyword. The owner is not written.
+abbrev pub with_values : Draft → Keyword → List Token → Draft
+with_values d keywords.Comment ws = with_comments d ws
+with_values d keywords.Owner ws = record d { has_owner = true }
+with_values d keywords.Action ws = record d {
+  term = record d.term { action = first_word ws };
+  has_action = true;
+}
+with_values d keywords.Logging ws = record d { term = record d.term { logging = true } }
+with_values d keywords.Expiration ws = record d { term = record d.term { expires = first_day ws } }
+with_values d key ws = record d {
+  term = with_list d.term key (list_at d.term key ++ map word_of ws);
+}
 
--- The keywords of addresses.
-unfoldable pub term_with_addresses : RawTerm → Token → List Token → Result RawTerm Slip
-term_with_addresses t k ws =
-    if bytes_eq k.text (codes "source-address::")
-    then (words_with takes.Name k ws t.sources >>= λ xs. Ok (record t { sources = xs }))
-    else if bytes_eq k.text (codes "source-exclude::")
-    then (words_with takes.Name k ws t.source_excludes
-    >>= λ xs. Ok (record t { source_excludes = xs }))
-    else if bytes_eq k.text (codes "destination-address::")
-    then (words_with takes.Name k ws t.destinations >>= λ xs. Ok (record t { destinations = xs }))
-    else if bytes_eq k.text (codes "destination-exclude::")
-    then (words_with takes.Name k ws t.destination_excludes
-    >>= λ xs. Ok (record t { destination_excludes = xs }))
-    else Err (slip_of Keyword k)
+-- Whether a keyword that stands once has stood.
+abbrev pub has_stood : Draft → Keyword → Bool
+has_stood d keywords.Owner = d.has_owner
+has_stood d keywords.Action = d.has_action
+has_stood d keywords.Logging = d.term.logging
+has_stood d keywords.Expiration = is_some d.term.expires
+has_stood d _ = false
 
--- Those of protocols and ports.
-unfoldable pub term_with_protocols : RawTerm → Token → List Token → Result RawTerm Slip
-term_with_protocols t k ws =
-    if bytes_eq k.text (codes "protocol::")
-    then (words_with takes.Protocol k ws t.protocols >>= λ xs. Ok (record t { protocols = xs }))
-    else if bytes_eq k.text (codes "source-port::")
-    then (words_with takes.Name k ws t.source_ports >>= λ xs. Ok (record t { source_ports = xs }))
-    else if bytes_eq k.text (codes "destination-port::")
-    then (words_with takes.Name k ws t.destination_ports
-    >>= λ xs. Ok (record t { destination_ports = xs }))
-    else if bytes_eq k.text (codes "icmp-type::")
-    then (words_with takes.IcmpType k ws t.icmp_types >>= λ xs. Ok (record t { icmp_types = xs }))
-    else term_with_addresses t k ws
+abbrev pub item_checked : Row → Draft → Token → List Token → Result (Unit {0}) Slip
+item_checked r d k ws =
+    if r.once
+    then (if has_stood d r.keyword then Err (slip_of codes_of.Repeated k)
+    else one_value r.takes k ws)
+    else some_values r.takes k ws
 
--- Those of options and platforms.
-unfoldable pub term_with_lists : RawTerm → Token → List Token → Result RawTerm Slip
-term_with_lists t k ws =
-    if bytes_eq k.text (codes "option::")
-    then (words_with takes.Opt k ws t.options >>= λ xs. Ok (record t { options = xs }))
-    else if bytes_eq k.text (codes "platform::")
-    then (words_with takes.Name k ws t.platforms >>= λ xs. Ok (record t { platforms = xs }))
-    else if bytes_eq k.text (codes "platform-exclude::")
-    then (words_with takes.Name k ws t.not_platforms >>= λ xs. Ok (record t { not_platforms = xs }))
-    else term_with_protocols t k ws
+unfoldable pub item_behind : Row → Draft → Token → List Token → Result Draft Slip
+item_behind r d k ws = item_checked r d k ws >>= λ _. Ok (with_values d r.keyword ws)
+
+-- What is behind the row of a keyword, where the term has such a keyword.
+abbrev pub row_behind : Option Row → Draft → Token → List Token → Result Draft Slip
+row_behind None d k ws = Err (slip_of codes_of.Keyword k)
+row_behind (Some r) d k ws = item_behind r d k ws
 
 -- A keyword of a term, with its values.
 unfoldable pub draft_behind : Draft → Token → List Token → Result Draft Slip
-draft_behind d k ws =
-    if bytes_eq k.text (codes "comment::") then draft_with_comments d k ws
-    else if bytes_eq k.text (codes "owner::") then draft_with_owner d k ws
-    else if bytes_eq k.text (codes "action::") then draft_with_action d k ws
-    else if bytes_eq k.text (codes "logging::") then draft_with_logging d k ws
-    else if bytes_eq k.text (codes "expiration::") then draft_with_expiration d k ws
-    else (term_with_lists d.term k ws >>= λ t. Ok (record d { term = t }))
+draft_behind d k ws = row_behind (row_named k.text) d k ws

@@ -1,5 +1,6 @@
 -- The values of keywords.
-use Rattle.std.specs.Prelude.{ℕ, Bool, true, false, ◌&&◌, ◌||◌, if◌then◌else◌, List, [], ◌∷◌, ◌++◌, map, is_some, Result, Ok, Err, codes}
+use Rattle.std.specs.Prelude.{◌≡◌, ℕ, Bool, true, false, ◌&&◌, ◌||◌, if◌then◌else◌, List, [], ◌∷◌, is_some, Result, Ok, Err, codes}
+use Rattle.std.specs.List.{All}
 use Rattle.std.specs.Str.{bytes_eq}
 use Rattle.acl_packet.specs.declared.addresses.Family.TheVariants.{V4, V6}
 use Rattle.acl_packet.specs.NumberWords.{protocol_in, icmp_in}
@@ -14,7 +15,6 @@ use Rattle.acl_policy.specs.declared.values.Takes.{Takes}
 use Rattle.acl_policy.specs.declared.values.Takes.TheVariants as takes
 use Rattle.acl_days.specs.NamedDays.{day_named}
 use Rattle.acl_policy.specs.Slips.{slip_of, slip_for}
-use Rattle.acl_text.specs.Steps.{◌>>=◌}
 
 abbrev pub is_action : List ℕ → Bool
 is_action bs = bytes_eq bs (codes "accept") || bytes_eq bs (codes "deny")
@@ -68,6 +68,10 @@ takes_words _ = true
 abbrev pub is_value : Takes → Token → Bool
 is_value kind w = form_fits kind w.form && text_fits kind w.text
 
+-- None of the words is a string, a keyword or a brace.
+abbrev pub ArePlain : List Token → Type 0
+ArePlain ws = All (λ w. w.form ≡ Plain) ws
+
 abbrev pub word_of : Token → Word
 word_of w = record { place = w.place; text = w.text }
 
@@ -81,14 +85,9 @@ abbrev pub some_values : Takes → Token → List Token → Result (Unit {0}) Sl
 some_values kind keyword [] = Err (slip_of Missing keyword)
 some_values kind keyword (w ∷ ws) = all_values kind (w ∷ ws)
 
--- The values stand behind those of the same keyword before.
-abbrev pub words_with : Takes → Token → List Token → List Word → Result (List Word) Slip
-words_with kind keyword ws before =
-    some_values kind keyword ws >>= λ _. Ok (before ++ map word_of ws)
-
 -- A keyword has one value.
-abbrev pub one_value : Takes → Token → List Token → Result Word Slip
+abbrev pub one_value : Takes → Token → List Token → Result (Unit {0}) Slip
 one_value kind keyword [] = Err (slip_of Missing keyword)
-one_value kind keyword (w ∷ []) = if is_value kind w then Ok (word_of w) else Err (slip_for Value w)
+one_value kind keyword (w ∷ []) = if is_value kind w then Ok tt else Err (slip_for Value w)
 one_value kind keyword (w ∷ v ∷ ws) =
     if is_value kind w then Err (slip_for Value v) else Err (slip_for Value w)

@@ -1,5 +1,5 @@
 ghost use Rattle.std.specs.Prelude.{◌≡◌, [], ◌++◌, IfOk, OnOk};
-ghost use Rattle.acl_policy.specs.Terms.{draft_of, no_draft, with_comment, with_comments};
+ghost use Rattle.acl_policy.specs.Terms.{no_word, draft_of, no_draft, with_comment, with_comments};
 
 use crate::raw_terms::RawTerm;
 use acl_text::{Bytes, Memory, Place};
@@ -16,25 +16,33 @@ pub(crate) struct Draft {
     pub(crate) has_action: bool,
 }
 
+/// The word where none stands.
+pub(crate) fn no_word(alloc: Global) -> Word
+    ensures { result ≡ no_word }
+{
+    Word {
+        place: Place { file: 0, line: 0 },
+        text: Bytes::new(alloc),
+    }
+}
+
 /// The draft of a term of the name, before its first keyword.
 pub(crate) fn draft_of(alloc: Global, name: Word) -> Draft
     ensures { result ≡ draft_of name }
 {
-    let action = Word {
-        place: Place { file: 0, line: 0 },
-        text: Bytes::new(alloc),
-    };
     let term = RawTerm {
         name,
         comments: Bytes::new(alloc),
-        action,
+        action: no_word(alloc),
         sources: WordList::new(alloc),
         source_excludes: WordList::new(alloc),
         destinations: WordList::new(alloc),
         destination_excludes: WordList::new(alloc),
+        addresses: WordList::new(alloc),
         protocols: WordList::new(alloc),
         source_ports: WordList::new(alloc),
         destination_ports: WordList::new(alloc),
+        ports: WordList::new(alloc),
         icmp_types: WordList::new(alloc),
         options: WordList::new(alloc),
         logging: false,
@@ -54,13 +62,7 @@ pub(crate) fn draft_of(alloc: Global, name: Word) -> Draft
 pub(crate) fn no_draft(alloc: Global) -> Draft
     ensures { result ≡ no_draft }
 {
-    draft_of(
-        alloc,
-        Word {
-            place: Place { file: 0, line: 0 },
-            text: Bytes::new(alloc),
-        },
-    )
+    draft_of(alloc, no_word(alloc))
 }
 
 fn add_comment(draft: &mut Draft, text: &[u8]) -> Result<(), Memory>

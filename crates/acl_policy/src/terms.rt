@@ -1,145 +1,134 @@
-ghost use Rattle.std.specs.Prelude.{◌≡◌};
-ghost use Rattle.acl_text.specs.Answers.{Leaves, slip_told};
+ghost use Rattle.std.specs.Prelude.{◌≡◌, true, IfOk, OnOk};
+ghost use Rattle.acl_text.specs.Answers.{Gives, Leaves, slip_told};
+ghost use Rattle.acl_policy.specs.Keywords.{entry, row_of};
 ghost use Rattle.acl_policy.specs.Terms.{
-  draft_with_comments,
-  draft_with_owner,
-  draft_with_action,
-  draft_with_logging,
-  draft_with_expiration,
-  term_with_addresses,
-  term_with_protocols,
-  term_with_lists,
+  first_word,
+  first_day,
+  with_values,
+  has_stood,
+  item_checked,
+  item_behind,
   draft_behind,
 };
+ghost use Rattle.acl_policy.specs.Values.{ArePlain, takes_words};
 
 use crate::clauses::Clause;
-use crate::raw_terms::RawTerm;
-use crate::term_drafts::{Draft, add_comments};
-use crate::values::{Takes, check_values, is_text, one_value, push_values};
+use crate::keywords::{Keyword, Row, row_named};
+use crate::term_drafts::{Draft, add_comments, no_word};
+use crate::values::{check_one, check_values, push_all, word_of};
 use crate::word_slips::refusal_at;
-use acl_days::read_day;
-use acl_text::{Code, Refusal};
-use acl_words::Token;
+use acl_days::{Day, read_day};
+use acl_text::{Code, Memory, Refusal};
+use acl_words::{Token, Word};
 use std::alloc::Global;
 
-fn judge_comment(alloc: Global, draft: &mut Draft, clause: &Clause<'_>) -> Result<(), Refusal>
-    ensures { Leaves slip_told draft.new result
-        (draft_with_comments draft.old clause.now.keyword.now clause.now.values.now) }
+fn first_word(alloc: Global, values: &[Token<'_>]) -> Result<Word, Memory>
+    ensures { IfOk result (λ w. w ≡ first_word values.now) }
 {
-    check_values(alloc, Takes::String, clause)?;
-    add_comments(draft, clause.values)?;
-    Ok(())
+    match values {
+        [] => Ok(no_word(alloc)),
+        [value, ..] => word_of(alloc, value),
+    }
 }
 
-fn judge_owner(alloc: Global, draft: &mut Draft, clause: &Clause<'_>) -> Result<(), Refusal>
-    ensures { Leaves slip_told draft.new result
-        (draft_with_owner draft.old clause.now.keyword.now clause.now.values.now) }
+fn first_day(values: &[Token<'_>]) -> Option<Day>
+    ensures { result ≡ first_day values.now }
 {
-    if draft.has_owner {
-        return Err(refusal_at(alloc, Code::Repeated, clause.keyword));
+    match values {
+        [] => None,
+        [value, ..] => read_day(value.text()),
     }
-    let _owner = one_value(alloc, Takes::Any, clause)?;
-    draft.has_owner = true;
-    Ok(())
 }
 
-fn judge_action(alloc: Global, draft: &mut Draft, clause: &Clause<'_>) -> Result<(), Refusal>
-    ensures { Leaves slip_told draft.new result
-        (draft_with_action draft.old clause.now.keyword.now clause.now.values.now) }
+fn put_action(alloc: Global, draft: &mut Draft, values: &[Token<'_>]) -> Result<(), Memory>
+    ensures { OnOk result (draft.new ≡ with_values draft.old Keyword.Action values.now) }
 {
-    if draft.has_action {
-        return Err(refusal_at(alloc, Code::Repeated, clause.keyword));
-    }
-    draft.term.action = one_value(alloc, Takes::Action, clause)?;
+    draft.term.action = first_word(alloc, values)?;
     draft.has_action = true;
     Ok(())
 }
 
-fn judge_logging(alloc: Global, draft: &mut Draft, clause: &Clause<'_>) -> Result<(), Refusal>
-    ensures { Leaves slip_told draft.new result
-        (draft_with_logging draft.old clause.now.keyword.now clause.now.values.now) }
+/// Puts the values of a keyword into the draft.
+fn put_values(
+    alloc: Global,
+    draft: &mut Draft,
+    keyword: Keyword,
+    values: &[Token<'_>],
+) -> Result<(), Memory>
+    requires { takes_words (entry keyword).takes ≡ true → ArePlain values.now }
+    ensures { OnOk result (draft.new ≡ with_values draft.old keyword values.now) }
 {
-    if draft.term.logging {
+    match keyword {
+        Keyword::Comment => add_comments(draft, values),
+        Keyword::Owner => {
+            draft.has_owner = true;
+            Ok(())
+        }
+        Keyword::Action => put_action(alloc, draft, values),
+        Keyword::SourceAddress => push_all(&mut draft.term.sources, values),
+        Keyword::SourceExclude => push_all(&mut draft.term.source_excludes, values),
+        Keyword::DestinationAddress => push_all(&mut draft.term.destinations, values),
+        Keyword::DestinationExclude => push_all(&mut draft.term.destination_excludes, values),
+        Keyword::Address => push_all(&mut draft.term.addresses, values),
+        Keyword::Protocol => push_all(&mut draft.term.protocols, values),
+        Keyword::SourcePort => push_all(&mut draft.term.source_ports, values),
+        Keyword::DestinationPort => push_all(&mut draft.term.destination_ports, values),
+        Keyword::Port => push_all(&mut draft.term.ports, values),
+        Keyword::IcmpType => push_all(&mut draft.term.icmp_types, values),
+        Keyword::Opt => push_all(&mut draft.term.options, values),
+        Keyword::Logging => {
+            draft.term.logging = true;
+            Ok(())
+        }
+        Keyword::Expiration => {
+            draft.term.expires = first_day(values);
+            Ok(())
+        }
+        Keyword::Platform => push_all(&mut draft.term.platforms, values),
+        Keyword::PlatformExclude => push_all(&mut draft.term.not_platforms, values),
+    }
+}
+
+/// Whether a keyword that stands once has stood.
+fn has_stood(draft: &Draft, keyword: Keyword) -> bool
+    ensures { result ≡ has_stood draft.now keyword }
+{
+    match keyword {
+        Keyword::Owner => draft.has_owner,
+        Keyword::Action => draft.has_action,
+        Keyword::Logging => draft.term.logging,
+        Keyword::Expiration => draft.term.expires.is_some(),
+        _ => false,
+    }
+}
+
+fn check_item(alloc: Global, row: Row, draft: &Draft, clause: &Clause<'_>) -> Result<(), Refusal>
+    ensures { Gives slip_told result
+        (item_checked row draft.now clause.now.keyword.now clause.now.values.now) }
+{
+    if !row.once {
+        return check_values(alloc, row.takes, clause);
+    }
+    if has_stood(draft, row.keyword) {
         return Err(refusal_at(alloc, Code::Repeated, clause.keyword));
     }
-    let _word = one_value(alloc, Takes::Logging, clause)?;
-    draft.term.logging = true;
-    Ok(())
+    check_one(alloc, row.takes, clause)
 }
 
-fn judge_expiration(alloc: Global, draft: &mut Draft, clause: &Clause<'_>) -> Result<(), Refusal>
+#[tactic(auto, unfolding(crate::specs::Terms::item_behind), using(crate::proofs::ValueLaws::checked_plain))]
+fn judge_item(
+    alloc: Global,
+    row: Row,
+    draft: &mut Draft,
+    clause: &Clause<'_>,
+) -> Result<(), Refusal>
+    requires { row ≡ row_of row.keyword }
     ensures { Leaves slip_told draft.new result
-        (draft_with_expiration draft.old clause.now.keyword.now clause.now.values.now) }
+        (item_behind row draft.old clause.now.keyword.now clause.now.values.now) }
 {
-    if draft.term.expires.is_some() {
-        return Err(refusal_at(alloc, Code::Repeated, clause.keyword));
-    }
-    let word = one_value(alloc, Takes::Day, clause)?;
-    draft.term.expires = read_day(word.text.as_slice());
+    check_item(alloc, row, draft, clause)?;
+    put_values(alloc, draft, row.keyword, clause.values)?;
     Ok(())
-}
-
-#[tactic(auto, unfolding(crate::specs::Terms::term_with_addresses))]
-fn judge_addresses(alloc: Global, term: &mut RawTerm, clause: &Clause<'_>) -> Result<(), Refusal>
-    ensures { Leaves slip_told term.new result
-        (term_with_addresses term.old clause.now.keyword.now clause.now.values.now) }
-{
-    if is_text(clause.keyword, b"source-address::") {
-        push_values(alloc, Takes::Name, &mut term.sources, clause)?;
-        Ok(())
-    } else if is_text(clause.keyword, b"source-exclude::") {
-        push_values(alloc, Takes::Name, &mut term.source_excludes, clause)?;
-        Ok(())
-    } else if is_text(clause.keyword, b"destination-address::") {
-        push_values(alloc, Takes::Name, &mut term.destinations, clause)?;
-        Ok(())
-    } else if is_text(clause.keyword, b"destination-exclude::") {
-        push_values(alloc, Takes::Name, &mut term.destination_excludes, clause)?;
-        Ok(())
-    } else {
-        Err(refusal_at(alloc, Code::Keyword, clause.keyword))
-    }
-}
-
-#[tactic(auto, unfolding(crate::specs::Terms::term_with_protocols))]
-fn judge_protocols(alloc: Global, term: &mut RawTerm, clause: &Clause<'_>) -> Result<(), Refusal>
-    ensures { Leaves slip_told term.new result
-        (term_with_protocols term.old clause.now.keyword.now clause.now.values.now) }
-{
-    if is_text(clause.keyword, b"protocol::") {
-        push_values(alloc, Takes::Protocol, &mut term.protocols, clause)?;
-        Ok(())
-    } else if is_text(clause.keyword, b"source-port::") {
-        push_values(alloc, Takes::Name, &mut term.source_ports, clause)?;
-        Ok(())
-    } else if is_text(clause.keyword, b"destination-port::") {
-        push_values(alloc, Takes::Name, &mut term.destination_ports, clause)?;
-        Ok(())
-    } else if is_text(clause.keyword, b"icmp-type::") {
-        push_values(alloc, Takes::IcmpType, &mut term.icmp_types, clause)?;
-        Ok(())
-    } else {
-        judge_addresses(alloc, term, clause)
-    }
-}
-
-#[tactic(auto, unfolding(crate::specs::Terms::term_with_lists))]
-fn judge_lists(alloc: Global, term: &mut RawTerm, clause: &Clause<'_>) -> Result<(), Refusal>
-    ensures { Leaves slip_told term.new result
-        (term_with_lists term.old clause.now.keyword.now clause.now.values.now) }
-{
-    if is_text(clause.keyword, b"option::") {
-        push_values(alloc, Takes::Opt, &mut term.options, clause)?;
-        Ok(())
-    } else if is_text(clause.keyword, b"platform::") {
-        push_values(alloc, Takes::Name, &mut term.platforms, clause)?;
-        Ok(())
-    } else if is_text(clause.keyword, b"platform-exclude::") {
-        push_values(alloc, Takes::Name, &mut term.not_platforms, clause)?;
-        Ok(())
-    } else {
-        judge_protocols(alloc, term, clause)
-    }
 }
 
 /// Judges a keyword of a term with its values, and puts them into the draft.
@@ -152,18 +141,8 @@ pub(crate) fn judge_term_keyword(
     ensures { Leaves slip_told draft.new result
         (draft_behind draft.old clause.now.keyword.now clause.now.values.now) }
 {
-    if is_text(clause.keyword, b"comment::") {
-        judge_comment(alloc, draft, clause)
-    } else if is_text(clause.keyword, b"owner::") {
-        judge_owner(alloc, draft, clause)
-    } else if is_text(clause.keyword, b"action::") {
-        judge_action(alloc, draft, clause)
-    } else if is_text(clause.keyword, b"logging::") {
-        judge_logging(alloc, draft, clause)
-    } else if is_text(clause.keyword, b"expiration::") {
-        judge_expiration(alloc, draft, clause)
-    } else {
-        judge_lists(alloc, &mut draft.term, clause)?;
-        Ok(())
+    match row_named(clause.keyword.text()) {
+        None => Err(refusal_at(alloc, Code::Keyword, clause.keyword)),
+        Some(row) => judge_item(alloc, row, draft, clause),
     }
 }

@@ -1,7 +1,6 @@
-ghost use Rattle.std.specs.Prelude.{◌≡◌, ◌++◌, true, IfOk, OnOk, map};
-ghost use Rattle.std.specs.List.{All};
+ghost use Rattle.std.specs.Prelude.{◌≡◌, ◌++◌, IfOk, OnOk, map};
 ghost use Rattle.std.specs.Str.{bytes_eq};
-ghost use Rattle.acl_text.specs.Answers.{Gives, Leaves, slip_told};
+ghost use Rattle.acl_text.specs.Answers.{Gives, slip_told};
 ghost use Rattle.acl_policy.specs.Values.{
   is_action,
   is_option,
@@ -11,12 +10,11 @@ ghost use Rattle.acl_policy.specs.Values.{
   is_quoted,
   text_fits,
   form_fits,
-  takes_words,
   is_value,
+  ArePlain,
   word_of,
   all_values,
   some_values,
-  words_with,
   one_value,
 };
 
@@ -28,9 +26,9 @@ use acl_text::{Bytes, Code, Memory, Refusal, is_name};
 use acl_words::{Form, Token, Word, WordList};
 use std::alloc::Global;
 
-/// What the values of a keyword are.
+/// What the values of a keyword are: but for the first two, words of some kind.
 #[derive(Clone, Copy, Debug, PartialEq, Eq)]
-pub(crate) enum Takes {
+pub enum Takes {
     /// A string.
     String,
     /// A word or a string.
@@ -158,41 +156,25 @@ pub(crate) fn check_values(alloc: Global, kind: Takes, clause: &Clause<'_>) -> R
     }
 }
 
-fn push_all(words: &mut WordList, values: &[Token<'_>]) -> Result<(), Memory>
-    requires { All (λ w. w.form ≡ Form.Plain) values.now }
+/// Checks that the keyword has one value, which is one that it takes.
+pub(crate) fn check_one(alloc: Global, kind: Takes, clause: &Clause<'_>) -> Result<(), Refusal>
+    ensures { Gives slip_told result (one_value kind clause.now.keyword.now clause.now.values.now) }
+{
+    match clause.values {
+        [] => Err(refusal_at(alloc, Code::Missing, clause.keyword)),
+        [value, ..] if !is_value(kind, value) => { Err(refusal_for(alloc, Code::Value, value)) }
+        [_] => Ok(()),
+        [_, second, ..] => Err(refusal_for(alloc, Code::Value, second)),
+    }
+}
+
+/// Adds values that are no strings.
+pub(crate) fn push_all(words: &mut WordList, values: &[Token<'_>]) -> Result<(), Memory>
+    requires { ArePlain values.now }
     ensures { OnOk result (words.new ≡ words.old ++ map word_of values.now) }
 {
     for value in values {
         words.push(value.place(), value.text())?;
     }
     Ok(())
-}
-
-/// Adds the values of a keyword that takes any number of words.
-#[tactic(auto, using(crate::proofs::ValueLaws::some_plain))]
-pub(crate) fn push_values(
-    alloc: Global,
-    kind: Takes,
-    words: &mut WordList,
-    clause: &Clause<'_>,
-) -> Result<(), Refusal>
-    requires { takes_words kind ≡ true }
-    ensures { Leaves slip_told words.new result
-        (words_with kind clause.now.keyword.now clause.now.values.now words.old) }
-{
-    check_values(alloc, kind, clause)?;
-    push_all(words, clause.values)?;
-    Ok(())
-}
-
-/// The value of a keyword that takes one.
-pub(crate) fn one_value(alloc: Global, kind: Takes, clause: &Clause<'_>) -> Result<Word, Refusal>
-    ensures { Gives slip_told result (one_value kind clause.now.keyword.now clause.now.values.now) }
-{
-    match clause.values {
-        [] => Err(refusal_at(alloc, Code::Missing, clause.keyword)),
-        [value, ..] if !is_value(kind, value) => { Err(refusal_for(alloc, Code::Value, value)) }
-        [value] => Ok(word_of(alloc, value)?),
-        [_, second, ..] => Err(refusal_for(alloc, Code::Value, second)),
-    }
 }

@@ -15,7 +15,7 @@ use Rattle.acl_target.specs.Clashes.{clash, same_kind}
 use Rattle.acl_policy.specs.declared.blocks.Block.{Block}
 use Rattle.acl_policy.specs.ReadingParts.{Header, InHeader, HeaderEnd, TermEnd}
 use Rattle.acl_policy.specs.ReadingParts.{State}
-use Rattle.acl_policy.specs.ValueKinds as takes
+use Rattle.acl_policy.specs.declared.values.Takes.TheVariants as takes
 use Rattle.acl_policy.specs.Conditions.{Each, StandsBehind, NameIsNew, targets_of, terms_of}
 use Rattle.acl_policy.specs.Policies.{start, with_number, with_target, behind_target, behind_header_keyword, behind_word, behind_keyword, behind_begin, behind_end, values_of, last_place, end_of, policy_of}
 use Rattle.acl_text.specs.Refusals.{slip}

@@ -17,6 +17,8 @@ use Rattle.acl_target.specs.declared.targets.Kind.{Kind}
 use Rattle.acl_target.specs.declared.targets.Target.{Target}
 use Rattle.acl_target.specs.Clashes.{clash, same_kind}
 use Rattle.acl_policy.specs.declared.blocks.Block.{Block}
+use Rattle.acl_policy.specs.declared.keywords.Keyword.{Keyword}
+use Rattle.acl_policy.specs.declared.keywords.Keyword.TheVariants as keywords
 use Rattle.acl_policy.specs.declared.raw_terms.RawTerm.{RawTerm}
 use Rattle.acl_words.specs.declared.word_lists.Word.{Word}
 use Rattle.acl_policy.specs.ReadingParts.{Part}
@@ -24,19 +26,21 @@ use Rattle.acl_policy.specs.ReadingParts.{Start, Header, InHeader, HeaderEnd, Te
 use Rattle.acl_policy.specs.ReadingParts.{State}
 use Rattle.acl_policy.specs.ReadingParts.{NamedTarget}
 use Rattle.acl_policy.specs.ReadingParts.{Draft}
-use Rattle.acl_policy.specs.ValueKinds as takes
+use Rattle.acl_policy.specs.declared.values.Takes.TheVariants as takes
 use Rattle.acl_policy.specs.Conditions.{Each, StandsBehind, NameIsNew, targets_of, terms_of}
 use Rattle.acl_policy.specs.Policies.{start, with_number, with_target, behind_target, behind_header_keyword, behind_name, with_block, behind_word, behind_words, behind_keyword, behind_begin, behind_end, behind_mark, is_mark, values_of, behind_marks, behind_all, last_place, end_of, policy_of}
+use Rattle.acl_policy.specs.Keywords.{entry}
 use Rattle.acl_policy.specs.Slips.{start_place}
 use Rattle.acl_policy.specs.Targets.{is_word, target_line}
 use Rattle.acl_policy.specs.Terms.{no_draft, draft_behind}
 use Rattle.acl_policy.specs.Values.{is_plain, is_value, word_of, some_values}
 use Rattle.policy_grammar.specs.TargetTexts.{plain, LineText, TargetText, line_meant, target_meant}
-use Rattle.policy_grammar.specs.TermTexts.{Key, key_text, Item, item_words, values_at, ItemStands, TermText, items_words, term_words, term_meant, TermStands}
+use Rattle.policy_grammar.specs.TermTexts.{Item, item_words, values_at, ItemStands, TermText, items_words, term_words, term_meant, TermStands}
 use Rattle.policy_grammar.specs.PolicyTexts.{HeaderItem, header_item_words, header_item_targets, HeaderItemStands, BlockText, header_words, block_words, block_meant, BlockStands, text_words, blocks_meant}
 use Rattle.policy_grammar.specs.ReadingLaws.{IsLine, IsBraceText, HasText}
 use Rattle.policy_grammar.proofs.Outcomes.{bind_ok, if_ok, and_left, and_right}
-use Rattle.policy_grammar.proofs.ItemLaws.{draft_from, pushed, DayFits, item_checked, item_reads, AreValues, some_taken, checked_taken, draft_keyed}
+use Rattle.acl_policy.proofs.KeywordLaws.{keyword_known}
+use Rattle.policy_grammar.proofs.ItemLaws.{draft_from, pushed, DayFits, checked, item_reads, AreValues, some_taken, checked_taken}
 use Rattle.policy_grammar.proofs.TargetLineLaws.{line_read_is, plain_is, word_is}
 use Rattle.policy_grammar.proofs.TermLaws.{values_push, day_fits}
 use Rattle.policy_grammar.proofs.BlockLaws.{renumbered, clashes_same, number_same}
@@ -250,8 +254,8 @@ remark_reads : (s : State) (ws : List Token) (k : Token) (vs : List Token) → s
     → k.form ≡ forms.Keyword
     → k.text ≡ codes "comment::" → IfOk (some_values takes.String k vs >>= λ _. Ok s) (Reads (ws ++ k ∷ vs))
 remark_reads s ws k vs p h f t =
-    bind_ok (λ _. AreValues Key.CommentKey (λ _. []) vs) (Reads (ws ++ k ∷ vs)) (some_values takes.String k vs) (λ _. Ok s)
-    (some_taken Key.CommentKey (λ _. []) k vs refl)
+    bind_ok (λ _. AreValues keywords.Comment (λ _. []) vs) (Reads (ws ++ k ∷ vs)) (some_values takes.String k vs) (λ _. Ok s)
+    (some_taken keywords.Comment (λ _. []) k vs refl)
     (λ _ v. let i : HeaderItem = HeaderItem.Remark k.place v.first v.more in
     subst (λ q. ReadsAt q s (ws ++ k ∷ vs)) (sym p) (record {
       blocks = h.blocks;
@@ -361,25 +365,25 @@ record ItemRead (name : Word) (items : List Item) (k : Token) (vs : List Token) 
 
 item_of : (name : Word) (items : List Item) (k : Token) (vs : List Token) → DayFits (values_at items) → k.form ≡ forms.Keyword
     → IfOk (draft_behind (draft_from name (values_at items)) k vs) (ItemRead name items k vs)
-item_of name items k vs days f = by_key (draft_behind d k vs) refl (draft_keyed d k vs)
+item_of name items k vs days f = by_key (draft_behind d k vs) refl (keyword_known d k vs)
   where
     d : Draft
     d = draft_from name (values_at items)
 
-    keyed : (key : Key) → k.text ≡ key_text key → IfOk (draft_behind d k vs) (ItemRead name items k vs)
+    keyed : (key : Keyword) → k.text ≡ (entry key).text → IfOk (draft_behind d k vs) (ItemRead name items k vs)
     keyed key e = subst (λ r. IfOk r (ItemRead name items k vs)) (sym (item_reads name (values_at items) k key vs days e))
-        (bind_ok (λ _. AreValues key (values_at items) vs) (ItemRead name items k vs) (item_checked key (values_at items) k vs) _
+        (bind_ok (λ _. AreValues key (values_at items) vs) (ItemRead name items k vs) (checked key (values_at items) k vs) _
         (checked_taken key (values_at items) k vs)
         (λ _ v. let i : Item = record { place = k.place; key = key; first = v.first; more = v.more } in record {
           item = i;
           stands = record { values_are = v.values_are; one_value = v.one_value; first_time = v.first_time };
-          words_are = λ j. mark_is k forms.Keyword (key_text key) f e j ∷ v.words_are j;
+          words_are = λ j. mark_is k forms.Keyword (entry key).text f e j ∷ v.words_are j;
           draft_is =
               ap (λ ws. draft_from name (pushed (values_at items) key (map word_of ws))) v.words_are
               ∙ ap (draft_from name) (values_push items i);
         }))
 
-    by_key : (r : Result Draft Slip) → draft_behind d k vs ≡ r → IfOk r (λ _. (key : Key) × (k.text ≡ key_text key))
+    by_key : (r : Result Draft Slip) → draft_behind d k vs ≡ r → IfOk r (λ _. (key : Keyword) × (k.text ≡ (entry key).text))
         → IfOk (draft_behind d k vs) (ItemRead name items k vs)
     by_key (Ok x) e h = keyed h.0 h.1
     by_key (Err x) e h = subst (λ r. IfOk r (ItemRead name items k vs)) (sym e) tt

@@ -1,5 +1,5 @@
 -- A term that fits is what the text of a term means.
-use Rattle.std.proofs.Common.{◌≡◌, ℕ, Bool, true, false, ◌&&◌, ◌||◌, if◌then◌else◌, List, [], ◌∷◌, ◌++◌, map, flat_map, is_some, Option, None, Some, refl, ap, sym, subst, ◌∙◌, append-nil, codes}
+use Rattle.std.proofs.Common.{◌≡◌, ℕ, Bool, true, false, not, ◌&&◌, ◌||◌, if◌then◌else◌, List, [], ◌∷◌, ◌++◌, map, flat_map, is_some, Option, None, Some, refl, ap, sym, subst, ◌∙◌, append-nil, codes}
 use Rattle.std.specs.List.{All, AllByRecursion, list_all, list_any}
 use Rattle.std.proofs.lemmas.Grind.{flat_map-append}
 use Rattle.std.proofs.lemmas.List.Elements.{recursion_from_All}
@@ -10,14 +10,18 @@ use Rattle.acl_words.specs.Tokens.{Token}
 use Rattle.acl_words.specs.Words.{word}
 use Rattle.acl_days.specs.declared.days.Day.{Day}
 use Rattle.acl_days.specs.DaySteps.{date_text}
-use Rattle.acl_policy.specs.ValueKinds.{Takes}
-use Rattle.acl_policy.specs.ValueKinds as takes
+use Rattle.acl_policy.specs.declared.keywords.Keyword.{Keyword}
+use Rattle.acl_policy.specs.declared.keywords.Keyword.TheVariants as keywords
+use Rattle.acl_policy.specs.declared.values.Takes.{Takes}
+use Rattle.acl_policy.specs.declared.values.Takes.TheVariants as takes
 use Rattle.acl_policy.specs.declared.raw_terms.RawTerm.{RawTerm}
 use Rattle.acl_words.specs.declared.word_lists.Word.{Word}
-use Rattle.acl_policy.specs.Conditions.{Each, lists_of, IsRawTerm}
+use Rattle.acl_policy.specs.Conditions.{Each, IsRawTerm}
+use Rattle.acl_policy.specs.Keywords.{all_keywords, entry}
+use Rattle.acl_policy.specs.Terms.{list_at}
 use Rattle.acl_policy.specs.Values.{is_value, word_of, text_fits}
-use Rattle.policy_grammar.specs.TermTexts.{Key, takes_of, stands_once, same_key, Item, values_at, comment_text, some_word, day_meant, term_from, ItemStands, TermText, term_meant, TermStands}
-use Rattle.policy_grammar.proofs.Outcomes.{and_left, and_right, and_both}
+use Rattle.policy_grammar.specs.TermTexts.{same_keyword, Item, values_at, comment_text, some_word, day_meant, term_from, ItemStands, TermText, term_meant, TermStands}
+use Rattle.policy_grammar.proofs.Outcomes.{and_left, and_right, and_both, not_true}
 use Rattle.policy_grammar.proofs.DayTexts.{day_text_named}
 
 -- A word that is written as a keyword takes it.
@@ -52,44 +56,44 @@ words_again kind [] = refl
 words_again kind (w ∷ ws) = ap (λ xs. w ∷ xs) (words_again kind ws)
 
 -- An item for each keyword that has words.
-abbrev pub item_with : Key → List Word → List Item
+abbrev pub item_with : Keyword → List Word → List Item
 item_with key [] = []
 item_with key (w ∷ ws) = record {
   place = w.place;
   key = key;
-  first = token_for (takes_of key) w;
-  more = map (token_for (takes_of key)) ws;
+  first = token_for (entry key).takes w;
+  more = map (token_for (entry key).takes) ws;
 } ∷ []
 
-abbrev pub items_with : (Key → List Word) → List Key → List Item
+abbrev pub items_with : (Keyword → List Word) → List Keyword → List Item
 items_with at keys = flat_map (λ key. item_with key (at key)) keys
 
-abbrev words_under : (Key → List Word) → List Key → Key → List Word
-words_under at keys q = flat_map (λ key. if same_key q key then at key else []) keys
+abbrev words_under : (Keyword → List Word) → List Keyword → Keyword → List Word
+words_under at keys q = flat_map (λ key. if same_keyword q key then at key else []) keys
 
-item_under : (q key : Key) (ws : List Word) (rest : List Item)
-    → values_at (item_with key ws ++ rest) q ≡ (if same_key q key then ws else []) ++ values_at rest q
-item_under q key [] rest = by_key (same_key q key)
+item_under : (q key : Keyword) (ws : List Word) (rest : List Item)
+    → values_at (item_with key ws ++ rest) q ≡ (if same_keyword q key then ws else []) ++ values_at rest q
+item_under q key [] rest = by_key (same_keyword q key)
   where
     by_key : (b : Bool) → values_at rest q ≡ (if b then [] else []) ++ values_at rest q
     by_key true = refl
     by_key false = refl
 item_under q key (w ∷ ws) rest =
-    ap (λ xs. (if same_key q key then w ∷ xs else []) ++ values_at rest q) (words_again (takes_of key) ws)
+    ap (λ xs. (if same_keyword q key then w ∷ xs else []) ++ values_at rest q) (words_again (entry key).takes ws)
 
-items_under : (at : Key → List Word) (keys : List Key) (q : Key) → values_at (items_with at keys) q ≡ words_under at keys q
+items_under : (at : Keyword → List Word) (keys : List Keyword) (q : Keyword) → values_at (items_with at keys) q ≡ words_under at keys q
 items_under at [] q = refl
 items_under at (key ∷ keys) q =
     item_under q key (at key) (items_with at keys)
-    ∙ ap (λ xs. (if same_key q key then at key else []) ++ xs) (items_under at keys q)
+    ∙ ap (λ xs. (if same_keyword q key then at key else []) ++ xs) (items_under at keys q)
 
 -- No keyword stands twice.
-none_under : (at : Key → List Word) (keys : List Key) (q : Key) → list_any (same_key q) keys ≡ false → words_under at keys q ≡ []
+none_under : (at : Keyword → List Word) (keys : List Keyword) (q : Keyword) → list_any (same_keyword q) keys ≡ false → words_under at keys q ≡ []
 none_under at [] q h = refl
-none_under at (key ∷ keys) q h = by_key (same_key q key) h (none_under at keys q)
+none_under at (key ∷ keys) q h = by_key (same_keyword q key) h (none_under at keys q)
   where
-    by_key : (b : Bool) → (b || list_any (same_key q) keys) ≡ false
-        → (list_any (same_key q) keys ≡ false → words_under at keys q ≡ [])
+    by_key : (b : Bool) → (b || list_any (same_keyword q) keys) ≡ false
+        → (list_any (same_keyword q) keys ≡ false → words_under at keys q ≡ [])
         → (if b then at key else []) ++ words_under at keys q ≡ []
     by_key true h go = cc
     by_key false h go = go h
@@ -99,18 +103,18 @@ rest_of [] = []
 rest_of (w ∷ ws) = ws
 
 -- The words of each keyword are values of it.
-record EntriesFit (at : Key → List Word) : Type 0 where
-  fits : (key : Key) → list_all (λ w. text_fits (takes_of key) w.text) (at key) ≡ true
-  once : (key : Key) → stands_once key ≡ true → rest_of (at key) ≡ []
+record EntriesFit (at : Keyword → List Word) : Type 0 where
+  fits : (key : Keyword) → list_all (λ w. text_fits (entry key).takes w.text) (at key) ≡ true
+  once : (key : Keyword) → (entry key).once ≡ true → rest_of (at key) ≡ []
 
-items_more : (at : Key → List Word) (before : List Key) (key : Key)
+items_more : (at : Keyword → List Word) (before : List Keyword) (key : Keyword)
     → items_with at (before ++ key ∷ []) ≡ items_with at before ++ item_with key (at key)
 items_more at before key =
     flat_map-append (λ k. item_with k (at k)) before (key ∷ [])
     ∙ ap (λ xs. items_with at before ++ xs) (append-nil (item_with key (at key)))
 
-items_stand : (at : Key → List Word) (before keys : List Key) → EntriesFit at
-    → Each (λ b key. list_any (same_key key) b ≡ false) before keys
+items_stand : (at : Keyword → List Word) (before keys : List Keyword) → EntriesFit at
+    → Each (λ b key. list_any (same_keyword key) b ≡ false) before keys
     → Each ItemStands (items_with at before) (items_with at keys)
 items_stand at before [] h d = tt
 items_stand at before (key ∷ keys) h d =
@@ -124,15 +128,15 @@ items_stand at before (key ∷ keys) h d =
         (ap (λ ws. items_with at before ++ item_with key ws) e ∙ append-nil (items_with at before)) go
     by_words (w ∷ ws) e go = (
       record {
-        values_are = tokens_fit (takes_of key) (w ∷ ws)
-            (subst (λ xs. list_all (λ v. text_fits (takes_of key) v.text) xs ≡ true) e (h.fits key));
-        one_value = λ c. ap (map (token_for (takes_of key))) (only c);
+        values_are = tokens_fit (entry key).takes (w ∷ ws)
+            (subst (λ xs. list_all (λ v. text_fits (entry key).takes v.text) xs ≡ true) e (h.fits key));
+        one_value = λ c. ap (map (token_for (entry key).takes)) (only c);
         first_time = λ c. items_under at before key ∙ none_under at before key d.0;
       },
       subst (λ xs. Each ItemStands (items_with at before ++ item_with key xs) (items_with at keys)) e go,
     )
       where
-        only : stands_once key ≡ true → ws ≡ []
+        only : (entry key).once ≡ true → ws ≡ []
         only c = ap rest_of (sym e) ∙ h.once key c
 
 -- The words of each keyword of a term.
@@ -148,23 +152,13 @@ abbrev pub day_entry : Place → Option Day → List Word
 day_entry place None = []
 day_entry place (Some d) = record { place = place; text = date_text d.number } ∷ []
 
-abbrev pub entries : RawTerm → Key → List Word
-entries t Key.CommentKey = comment_entry t.name.place t.comments
-entries t Key.OwnerKey = []
-entries t Key.ActionKey = t.action ∷ []
-entries t Key.SourceKey = t.sources
-entries t Key.SourceExcludeKey = t.source_excludes
-entries t Key.DestinationKey = t.destinations
-entries t Key.DestinationExcludeKey = t.destination_excludes
-entries t Key.ProtocolKey = t.protocols
-entries t Key.SourcePortKey = t.source_ports
-entries t Key.DestinationPortKey = t.destination_ports
-entries t Key.IcmpTypeKey = t.icmp_types
-entries t Key.OptionKey = t.options
-entries t Key.LoggingKey = logging_entry t.name.place t.logging
-entries t Key.ExpirationKey = day_entry t.name.place t.expires
-entries t Key.PlatformKey = t.platforms
-entries t Key.PlatformExcludeKey = t.not_platforms
+abbrev pub entries : RawTerm → Keyword → List Word
+entries t keywords.Comment = comment_entry t.name.place t.comments
+entries t keywords.Owner = []
+entries t keywords.Action = t.action ∷ []
+entries t keywords.Logging = logging_entry t.name.place t.logging
+entries t keywords.Expiration = day_entry t.name.place t.expires
+entries t key = list_at t key
 
 comment_again : (place : Place) (text : List ℕ) → comment_text (comment_entry place text) ≡ text
 comment_again place [] = refl
@@ -185,39 +179,26 @@ term_again t = λ i. record t {
   expires = day_again t.name.place t.expires i;
 }
 
-abbrev pub all_keys : List Key
-all_keys =
-    Key.CommentKey ∷ Key.OwnerKey ∷ Key.ActionKey ∷ Key.SourceKey ∷ Key.SourceExcludeKey ∷
-    Key.DestinationKey ∷ Key.DestinationExcludeKey ∷ Key.ProtocolKey ∷ Key.SourcePortKey ∷ Key.DestinationPortKey ∷
-    Key.IcmpTypeKey ∷ Key.OptionKey ∷ Key.LoggingKey ∷ Key.ExpirationKey ∷ Key.PlatformKey ∷
-    Key.PlatformExcludeKey ∷ []
+abbrev differ_test : List Keyword → List Keyword → Bool
+differ_test before [] = true
+differ_test before (key ∷ keys) = not (list_any (same_keyword key) before) && differ_test (before ++ key ∷ []) keys
 
-keys_differ : Each (λ b key. list_any (same_key key) b ≡ false) [] all_keys
-keys_differ = (
-  refl,
-  (
-    refl,
-    (refl, (refl, (refl, (refl, (refl, (refl, (refl, (refl, (refl, (refl, (refl, (refl, (refl, (refl, tt)))))))))))))),
-  ),
+differ_if : (before keys : List Keyword) → differ_test before keys ≡ true
+    → Each (λ b key. list_any (same_keyword key) b ≡ false) before keys
+differ_if before [] h = tt
+differ_if before (key ∷ keys) h = (
+  not_true (list_any (same_keyword key) before)
+      (and_left (not (list_any (same_keyword key) before)) (differ_test (before ++ key ∷ []) keys) h),
+  differ_if (before ++ key ∷ []) keys
+      (and_right (not (list_any (same_keyword key) before)) (differ_test (before ++ key ∷ []) keys) h),
 )
 
-under_all : (at : Key → List Word) (q : Key) → words_under at all_keys q ≡ at q
-under_all at Key.CommentKey = append-nil (at Key.CommentKey)
-under_all at Key.OwnerKey = append-nil (at Key.OwnerKey)
-under_all at Key.ActionKey = append-nil (at Key.ActionKey)
-under_all at Key.SourceKey = append-nil (at Key.SourceKey)
-under_all at Key.SourceExcludeKey = append-nil (at Key.SourceExcludeKey)
-under_all at Key.DestinationKey = append-nil (at Key.DestinationKey)
-under_all at Key.DestinationExcludeKey = append-nil (at Key.DestinationExcludeKey)
-under_all at Key.ProtocolKey = append-nil (at Key.ProtocolKey)
-under_all at Key.SourcePortKey = append-nil (at Key.SourcePortKey)
-under_all at Key.DestinationPortKey = append-nil (at Key.DestinationPortKey)
-under_all at Key.IcmpTypeKey = append-nil (at Key.IcmpTypeKey)
-under_all at Key.OptionKey = append-nil (at Key.OptionKey)
-under_all at Key.LoggingKey = append-nil (at Key.LoggingKey)
-under_all at Key.ExpirationKey = append-nil (at Key.ExpirationKey)
-under_all at Key.PlatformKey = append-nil (at Key.PlatformKey)
-under_all at Key.PlatformExcludeKey = append-nil (at Key.PlatformExcludeKey)
+keys_differ : Each (λ b key. list_any (same_keyword key) b ≡ false) [] all_keywords
+keys_differ = differ_if [] all_keywords refl
+
+under_all : (at : Keyword → List Word) (q : Keyword) → words_under at all_keywords q ≡ at q
+under_all at keywords.Comment = append-nil (at keywords.Comment)
+under_all at key = append-nil (at key)
 
 -- A list of words that fits.
 list_fits : (kind : Takes) (ws : List Word) → All (λ w. text_fits kind w.text ≡ true) ws
@@ -228,9 +209,6 @@ list_fits kind ws h = by_words ws (recursion_from_All (λ w. text_fits kind w.te
         → list_all (λ w. text_fits kind w.text) ws ≡ true
     by_words [] h = refl
     by_words (w ∷ ws) h = and_both (text_fits kind w.text) (list_all (λ v. text_fits kind v.text) ws) h.0 (by_words ws h.1)
-
-abbrev ListFits : Takes × List Word → Type 0
-ListFits l = All (λ w. text_fits l.0 w.text ≡ true) l.1
 
 comment_fits : (place : Place) (text : List ℕ) → list_all (λ w. text_fits takes.String w.text) (comment_entry place text) ≡ true
 comment_fits place [] = refl
@@ -244,34 +222,24 @@ day_fits : (place : Place) (o : Option Day) → list_all (λ w. text_fits takes.
 day_fits place None = refl
 day_fits place (Some d) = ap (λ r. is_some r && true) (day_text_named d)
 
-entry_fits : (t : RawTerm) → IsRawTerm t → AllByRecursion ListFits (lists_of t) → (key : Key)
-    → list_all (λ w. text_fits (takes_of key) w.text) (entries t key) ≡ true
-entry_fits t h l Key.CommentKey = comment_fits t.name.place t.comments
-entry_fits t h l Key.OwnerKey = refl
-entry_fits t h l Key.ActionKey = ap (λ b. b && true) h.action_is
-entry_fits t h l Key.SourceKey = list_fits takes.Name t.sources l.0
-entry_fits t h l Key.SourceExcludeKey = list_fits takes.Name t.source_excludes l.1.0
-entry_fits t h l Key.DestinationKey = list_fits takes.Name t.destinations l.1.1.0
-entry_fits t h l Key.DestinationExcludeKey = list_fits takes.Name t.destination_excludes l.1.1.1.0
-entry_fits t h l Key.ProtocolKey = list_fits takes.Protocol t.protocols l.1.1.1.1.0
-entry_fits t h l Key.SourcePortKey = list_fits takes.Name t.source_ports l.1.1.1.1.1.0
-entry_fits t h l Key.DestinationPortKey = list_fits takes.Name t.destination_ports l.1.1.1.1.1.1.0
-entry_fits t h l Key.IcmpTypeKey = list_fits takes.IcmpType t.icmp_types l.1.1.1.1.1.1.1.0
-entry_fits t h l Key.OptionKey = list_fits takes.Opt t.options l.1.1.1.1.1.1.1.1.0
-entry_fits t h l Key.PlatformKey = list_fits takes.Name t.platforms l.1.1.1.1.1.1.1.1.1.0
-entry_fits t h l Key.PlatformExcludeKey = list_fits takes.Name t.not_platforms l.1.1.1.1.1.1.1.1.1.1.0
-entry_fits t h l Key.LoggingKey = logging_fits t.name.place t.logging
-entry_fits t h l Key.ExpirationKey = day_fits t.name.place t.expires
+entry_fits : (t : RawTerm) → IsRawTerm t → (key : Keyword)
+    → list_all (λ w. text_fits (entry key).takes w.text) (entries t key) ≡ true
+entry_fits t h keywords.Comment = comment_fits t.name.place t.comments
+entry_fits t h keywords.Owner = refl
+entry_fits t h keywords.Action = ap (λ b. b && true) h.action_is
+entry_fits t h keywords.Logging = logging_fits t.name.place t.logging
+entry_fits t h keywords.Expiration = day_fits t.name.place t.expires
+entry_fits t h key = list_fits (entry key).takes (list_at t key) (h.words_fit key)
 
-one_entry : (t : RawTerm) (key : Key) → stands_once key ≡ true → rest_of (entries t key) ≡ []
-one_entry t Key.OwnerKey c = refl
-one_entry t Key.ActionKey c = refl
-one_entry t Key.LoggingKey c = by_flag t.logging
+one_entry : (t : RawTerm) (key : Keyword) → (entry key).once ≡ true → rest_of (entries t key) ≡ []
+one_entry t keywords.Owner c = refl
+one_entry t keywords.Action c = refl
+one_entry t keywords.Logging c = by_flag t.logging
   where
     by_flag : (b : Bool) → rest_of (logging_entry t.name.place b) ≡ []
     by_flag true = refl
     by_flag false = refl
-one_entry t Key.ExpirationKey c = by_day t.expires
+one_entry t keywords.Expiration c = by_day t.expires
   where
     by_day : (o : Option Day) → rest_of (day_entry t.name.place o) ≡ []
     by_day None = refl
@@ -283,12 +251,12 @@ term_for t = record {
   place = t.name.place;
   name = t.name;
   begin = t.name.place;
-  items = items_with (entries t) all_keys;
+  items = items_with (entries t) all_keywords;
   end = t.name.place;
 }
 
-values_again : (t : RawTerm) → values_at (items_with (entries t) all_keys) ≡ entries t
-values_again t = λ i q. (items_under (entries t) all_keys q ∙ under_all (entries t) q) i
+values_again : (t : RawTerm) → values_at (items_with (entries t) all_keywords) ≡ entries t
+values_again t = λ i q. (items_under (entries t) all_keywords q ∙ under_all (entries t) q) i
 
 pub term_means : (t : RawTerm) → term_meant (term_for t) ≡ t
 term_means t = ap (term_from t.name) (values_again t) ∙ term_again t
@@ -296,7 +264,7 @@ term_means t = ap (term_from t.name) (values_again t) ∙ term_again t
 pub term_stands : (t : RawTerm) → IsRawTerm t → TermStands (term_for t)
 term_stands t h = record {
   name_is = h.name_is;
-  items_stand = items_stand (entries t) [] all_keys
-      (record { fits = entry_fits t h (recursion_from_All ListFits (lists_of t) h.words_fit); once = one_entry t }) keys_differ;
-  has_action = ap (λ at. some_word (at Key.ActionKey)) (values_again t);
+  items_stand = items_stand (entries t) [] all_keywords
+      (record { fits = entry_fits t h; once = one_entry t }) keys_differ;
+  has_action = ap (λ at. some_word (at keywords.Action)) (values_again t);
 }

@@ -1,7 +1,7 @@
 -- Steps that give a value or a slip, one behind the other, and what holds of the values that they give.
-use Rattle.std.proofs.Common.{◌≡◌, Bool, true, false, not, ◌&&◌, if◌then◌else◌, Option, None, Some, Result, Ok, Err, IfOk, IfSome, refl, ap, ◌∙◌}
+use Rattle.std.proofs.Common.{◌≡◌, Bool, true, false, not, ◌&&◌, if◌then◌else◌, Result, Ok, Err, IfOk, refl, ap, ◌∙◌}
 use Rattle.acl_text.specs.Steps.{◌>>=◌}
-pub use Rattle.acl_policy.proofs.Outcomes.{some_if, then_has, and_right}
+pub use Rattle.acl_policy.proofs.Outcomes.{some_if, then_has, weaker_some, and_right}
 
 pub bind_assoc : {A B C E : Type 0} (x : Result A E) (f : A → Result B E) (g : B → Result C E)
     → ((x >>= f) >>= g) ≡ (x >>= λ a. f a >>= g)
@@ -29,10 +29,6 @@ weaker_ok P Q (Err e) h k = tt
 pub always_ok : {A E : Type 0} (P : Type 0) (x : Result A E) → P → IfOk x (λ _. P)
 always_ok P (Ok a) p = p
 always_ok P (Err e) p = tt
-
-pub weaker_some : {A : Type 0} (P Q : A → Type 0) (x : Option A) → IfSome x P → ((a : A) → P a → Q a) → IfSome x Q
-weaker_some P Q (Some a) h k = k a h
-weaker_some P Q None h k = tt
 
 pub and_left : (b c : Bool) → (b && c) ≡ true → b ≡ true
 and_left true c h = refl

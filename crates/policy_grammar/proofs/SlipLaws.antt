@@ -1,5 +1,5 @@
 -- Slips: one that is found at a word stays, whatever stands behind it.
-use Rattle.std.proofs.Common.{◌≡◌, ℕ, Bool, true, false, nat_le, if◌then◌else◌, List, [], ◌∷◌, ◌++◌, map, length, is_some, Result, Ok, Err, IfErr, refl, ap, sym, subst, ◌∙◌, codes}
+use Rattle.std.proofs.Common.{◌≡◌, Bool, true, false, nat_le, if◌then◌else◌, List, [], ◌∷◌, ◌++◌, length, Option, None, Some, Result, Ok, Err, IfErr, refl, ap, sym, subst, ◌∙◌, codes}
 use Rattle.std.specs.Str.{bytes_eq}
 use Rattle.std.specs.List.{list_any}
 use Rattle.acl_packet.specs.declared.addresses.Families.{Families}
@@ -14,21 +14,19 @@ use Rattle.acl_target.specs.declared.targets.Kind.{Kind}
 use Rattle.acl_target.specs.declared.targets.Kind.TheVariants.{Cisco, Juniper, Iptables, Nftables}
 use Rattle.acl_target.specs.Clashes.{clash}
 use Rattle.acl_policy.specs.ReadingParts.{Choices}
-use Rattle.acl_policy.specs.declared.raw_terms.RawTerm.{RawTerm}
-use Rattle.acl_words.specs.declared.word_lists.Word.{Word}
 use Rattle.acl_policy.specs.ReadingParts.{Part}
 use Rattle.acl_policy.specs.ReadingParts.{InHeader, InTerm}
 use Rattle.acl_policy.specs.ReadingParts.{State}
-use Rattle.acl_policy.specs.ReadingParts.{Draft}
-use Rattle.acl_policy.specs.ValueKinds.{Takes}
-use Rattle.acl_policy.specs.ValueKinds as takes
+use Rattle.acl_policy.specs.ReadingParts.{Draft, Row}
+use Rattle.acl_policy.specs.declared.values.Takes.{Takes}
+use Rattle.acl_policy.specs.declared.values.Takes.TheVariants as takes
 use Rattle.acl_policy.specs.Policies.{start, with_number, with_target, behind_target, behind_header_keyword, behind_word, behind_words, behind_keyword, behind_begin, behind_end, behind_mark, is_mark, values_of, behind_marks, behind_all, last_place, end_of, policy_of}
 use Rattle.acl_text.specs.Refusals.{slip}
 use Rattle.acl_policy.specs.Slips.{start_place, slip_of}
 use Rattle.acl_policy.specs.Targets.{is_word, or_slip, family_word, chain_word, hook_word, name_word, no_choices, choice, choices_from, last_family, device_line, device_target, named_target, iptables_target, iptables_line, nftables_target, hooked_line, nftables_line, target_line}
-use Rattle.acl_policy.specs.Terms.{with_comments, term_with_addresses, term_with_protocols, term_with_lists, draft_behind}
-use Rattle.acl_policy.specs.Values.{is_value, word_of, all_values, some_values, words_with, one_value}
-use Rattle.acl_days.specs.NamedDays.{day_named}
+use Rattle.acl_policy.specs.Keywords.{row_named}
+use Rattle.acl_policy.specs.Terms.{with_values, has_stood, item_checked, item_behind, row_behind, draft_behind}
+use Rattle.acl_policy.specs.Values.{is_value, all_values, some_values, one_value}
 use Rattle.policy_grammar.specs.ReadingLaws.{may_be_mended}
 use Rattle.policy_grammar.proofs.Outcomes.{bind_assoc, bind_same}
 
@@ -136,77 +134,26 @@ one_stays : (kind : Takes) (k : Token) (xs ys : List Token) → Stays (one_value
 one_stays kind k [] ys = mended_stays (slip_of codes_of.Missing k) _ _ refl refl
 one_stays kind k (w ∷ []) [] = same _
 one_stays kind k (w ∷ []) (v ∷ ys) =
-    if_stays (is_value kind w) _ _ _ _ (λ e p q. no_slip (word_of w) e (Ok (word_of w)) refl p) (same _)
+    if_stays (is_value kind w) _ _ _ _ (λ e p q. no_slip tt e (Ok tt) refl p) (same _)
 one_stays kind k (w ∷ v ∷ ws) ys = same _
 
-words_stay : (kind : Takes) (k : Token) (xs ys : List Token) (before : List Word)
-    → Stays (words_with kind k xs before) (words_with kind k (xs ++ ys) before)
-words_stay kind k xs ys before = first_stays (some_values kind k xs) (some_values kind k (xs ++ ys)) _ _ (some_stay kind k xs ys)
-    (never (λ _. before ++ map word_of xs))
+-- Keywords of terms.
+item_stays : (r : Row) (d : Draft) (k : Token) (xs ys : List Token)
+    → Stays (item_checked r d k xs) (item_checked r d k (xs ++ ys))
+item_stays r d k xs ys = if_stays r.once _ _ _ _
+    (if_stays (has_stood d r.keyword) _ _ _ _ (same _) (one_stays r.takes k xs ys))
+    (some_stay r.takes k xs ys)
 
--- Keywords of terms: one of a list, and one that stands once.
-list_stays : (text : List ℕ) (kind : Takes) (k : Token) (xs ys : List Token) (before : List Word) (next : List Word → RawTerm)
-    (rest rest' : Result RawTerm Slip) → Stays rest rest'
-    → Stays (if bytes_eq k.text text then (words_with kind k xs before >>= λ ws. Ok (next ws)) else rest)
-    (if bytes_eq k.text text then (words_with kind k (xs ++ ys) before >>= λ ws. Ok (next ws)) else rest')
-list_stays text kind k xs ys before next rest rest' h = if_stays (bytes_eq k.text text) _ _ _ _
-    (first_stays (words_with kind k xs before) (words_with kind k (xs ++ ys) before) _ _ (words_stay kind k xs ys before)
-    (never next))
-    h
-
-once_stays : (text : List ℕ) (seen : Bool) (kind : Takes) (k : Token) (xs ys : List Token) (next : Word → Draft)
-    (rest rest' : Result Draft Slip) → Stays rest rest'
-    → Stays (if bytes_eq k.text text then (if seen then Err (slip_of codes_of.Repeated k) else
-    (one_value kind k xs >>= λ w. Ok (next w))) else rest)
-    (if bytes_eq k.text text then (if seen then Err (slip_of codes_of.Repeated k) else
-    (one_value kind k (xs ++ ys) >>= λ w. Ok (next w))) else rest')
-once_stays text seen kind k xs ys next rest rest' h = if_stays (bytes_eq k.text text) _ _ _ _
-    (if_stays seen _ _ _ _ (same _)
-    (first_stays (one_value kind k xs) (one_value kind k (xs ++ ys)) _ _ (one_stays kind k xs ys) (never next)))
-    h
-
-addresses_stay : (t : RawTerm) (k : Token) (xs ys : List Token)
-    → Stays (term_with_addresses t k xs) (term_with_addresses t k (xs ++ ys))
-unfolding term_with_addresses
-addresses_stay t k xs ys =
-    list_stays (codes "source-address::") takes.Name k xs ys t.sources (λ ws. record t { sources = ws }) _ _
-    (list_stays (codes "source-exclude::") takes.Name k xs ys t.source_excludes (λ ws. record t { source_excludes = ws }) _ _
-    (list_stays (codes "destination-address::") takes.Name k xs ys t.destinations (λ ws. record t { destinations = ws }) _ _
-    (list_stays (codes "destination-exclude::") takes.Name k xs ys t.destination_excludes
-    (λ ws. record t { destination_excludes = ws }) _ _ (same _))))
-
-protocols_stay : (t : RawTerm) (k : Token) (xs ys : List Token)
-    → Stays (term_with_protocols t k xs) (term_with_protocols t k (xs ++ ys))
-unfolding term_with_protocols
-protocols_stay t k xs ys =
-    list_stays (codes "protocol::") takes.Protocol k xs ys t.protocols (λ ws. record t { protocols = ws }) _ _
-    (list_stays (codes "source-port::") takes.Name k xs ys t.source_ports (λ ws. record t { source_ports = ws }) _ _
-    (list_stays (codes "destination-port::") takes.Name k xs ys t.destination_ports
-    (λ ws. record t { destination_ports = ws }) _ _
-    (list_stays (codes "icmp-type::") takes.IcmpType k xs ys t.icmp_types (λ ws. record t { icmp_types = ws }) _ _
-    (addresses_stay t k xs ys))))
-
-lists_stay : (t : RawTerm) (k : Token) (xs ys : List Token) → Stays (term_with_lists t k xs) (term_with_lists t k (xs ++ ys))
-unfolding term_with_lists
-lists_stay t k xs ys =
-    list_stays (codes "option::") takes.Opt k xs ys t.options (λ ws. record t { options = ws }) _ _
-    (list_stays (codes "platform::") takes.Name k xs ys t.platforms (λ ws. record t { platforms = ws }) _ _
-    (list_stays (codes "platform-exclude::") takes.Name k xs ys t.not_platforms (λ ws. record t { not_platforms = ws }) _ _
-    (protocols_stay t k xs ys)))
+row_stays : (o : Option Row) (d : Draft) (k : Token) (xs ys : List Token)
+    → Stays (row_behind o d k xs) (row_behind o d k (xs ++ ys))
+unfolding item_behind
+row_stays None d k xs ys = same _
+row_stays (Some r) d k xs ys = first_stays (item_checked r d k xs) (item_checked r d k (xs ++ ys)) _ _ (item_stays r d k xs ys)
+    (never (λ _. with_values d r.keyword xs))
 
 draft_stays : (d : Draft) (k : Token) (xs ys : List Token) → Stays (draft_behind d k xs) (draft_behind d k (xs ++ ys))
 unfolding draft_behind
-draft_stays d k xs ys =
-    if_stays (bytes_eq k.text (codes "comment::")) _ _ _ _
-    (first_stays (some_values takes.String k xs) _ _ _ (some_stay takes.String k xs ys) (never (λ _. with_comments d xs)))
-    (once_stays (codes "owner::") d.has_owner takes.Any k xs ys (λ _. record d { has_owner = true }) _ _
-    (once_stays (codes "action::") d.has_action takes.Action k xs ys
-    (λ w. record d { term = record d.term { action = w }; has_action = true }) _ _
-    (once_stays (codes "logging::") d.term.logging takes.Logging k xs ys
-    (λ _. record d { term = record d.term { logging = true } }) _ _
-    (once_stays (codes "expiration::") (is_some d.term.expires) takes.Day k xs ys
-    (λ w. record d { term = record d.term { expires = day_named w.text } }) _ _
-    (first_stays (term_with_lists d.term k xs) _ _ _ (lists_stay d.term k xs ys) (never (λ t. record d { term = t })))))))
+draft_stays d k xs ys = row_stays (row_named k.text) d k xs ys
 
 -- Target lines.
 family_stays : (kind : Kind) (xs ys : List Token) → Stays (last_family kind xs) (last_family kind (xs ++ ys))

@@ -12,19 +12,22 @@ use Rattle.acl_words.specs.declared.forms.Form.TheVariants as forms
 use Rattle.acl_words.specs.Tokens.{Token}
 use Rattle.acl_words.specs.Words.{word}
 use Rattle.acl_days.specs.NamedDays.{day_named}
+use Rattle.acl_policy.specs.declared.keywords.Keyword.{Keyword}
+use Rattle.acl_policy.specs.declared.keywords.Keyword.TheVariants as keywords
 use Rattle.acl_policy.specs.declared.raw_terms.RawTerm.{RawTerm}
 use Rattle.acl_words.specs.declared.word_lists.Word.{Word}
 use Rattle.acl_policy.specs.ReadingParts.{Term, Named, InTerm, TermEnd}
 use Rattle.acl_policy.specs.ReadingParts.{State}
 use Rattle.acl_policy.specs.ReadingParts.{Draft}
-use Rattle.acl_policy.specs.ValueKinds.{Takes}
-use Rattle.acl_policy.specs.ValueKinds as takes
+use Rattle.acl_policy.specs.declared.values.Takes.{Takes}
+use Rattle.acl_policy.specs.declared.values.Takes.TheVariants as takes
 use Rattle.acl_policy.specs.Conditions.{Each, NameIsNew}
+use Rattle.acl_policy.specs.Keywords.{entry}
 use Rattle.acl_policy.specs.Policies.{behind_word, behind_name, behind_keyword, behind_begin, behind_end, is_mark, values_of, with_term}
 use Rattle.acl_policy.specs.Terms.{no_draft, draft_of, draft_behind}
 use Rattle.acl_policy.specs.Values.{is_plain, is_quoted, is_value, word_of, form_fits, text_fits}
 use Rattle.policy_grammar.specs.TargetTexts.{plain}
-use Rattle.policy_grammar.specs.TermTexts.{Key, key_text, takes_of, stands_once, same_key, Item, item_values, item_words, values_at, some_word, day_meant, ItemStands, TermText, items_words, term_words, term_meant, TermStands}
+use Rattle.policy_grammar.specs.TermTexts.{same_keyword, Item, item_values, item_words, values_at, some_word, day_meant, ItemStands, TermText, items_words, term_words, term_meant, TermStands}
 use Rattle.policy_grammar.proofs.Outcomes.{and_left, and_right, and_both, is_not, if_true, if_false}
 use Rattle.policy_grammar.proofs.Units.{walk, no_marks, walk_word, walk_begin, walk_end, walk_keyword}
 use Rattle.policy_grammar.proofs.ItemLaws.{draft_from, pushed, DayFits, item_reads, item_stands}
@@ -57,11 +60,11 @@ values_unmarked kind (w ∷ ws) h =
     (values_unmarked kind ws (and_right (is_value kind w) (list_all (is_value kind) ws) h))
 
 -- The values of each keyword with one more item.
-value_behind : (before : List Item) (i : Item) (q : Key)
+value_behind : (before : List Item) (i : Item) (q : Keyword)
     → pushed (values_at before) i.key (map word_of (item_values i)) q ≡ values_at (before ++ i ∷ []) q
 value_behind before i q =
-    by_key (same_key q i.key) (values_at before q) (map word_of (item_values i))
-    ∙ sym (flat_map-append (λ (j : Item). if same_key q j.key then map word_of (item_values j) else []) before (i ∷ []))
+    by_key (same_keyword q i.key) (values_at before q) (map word_of (item_values i))
+    ∙ sym (flat_map-append (λ (j : Item). if same_keyword q j.key then map word_of (item_values j) else []) before (i ∷ []))
   where
     by_key : (b : Bool) (xs ys : List Word) → (if b then xs ++ ys else xs) ≡ xs ++ ((if b then ys else []) ++ [])
     by_key true xs ys = ap (λ zs. xs ++ zs) (sym (append-nil ys))
@@ -72,10 +75,10 @@ pub values_push : (before : List Item) (i : Item)
 values_push before i = λ j q. value_behind before i q j
 
 -- A day that was read is one.
-day_pushed : (key : Key) (at : Key → List Word) (first : Token) (more : List Token)
-    → list_all (is_value (takes_of key)) (first ∷ more) ≡ true → (stands_once key ≡ true → at key ≡ [])
+day_pushed : (key : Keyword) (at : Keyword → List Word) (first : Token) (more : List Token)
+    → list_all (is_value (entry key).takes) (first ∷ more) ≡ true → ((entry key).once ≡ true → at key ≡ [])
     → DayFits at → DayFits (pushed at key (map word_of (first ∷ more)))
-day_pushed Key.ExpirationKey at first more v new h =
+day_pushed keywords.Expiration at first more v new h =
     subst (λ xs. is_some (day_meant (xs ++ map word_of (first ∷ more))) ≡ some_word (xs ++ map word_of (first ∷ more)))
     (sym (new refl))
     (and_right (is_plain first.form) (is_some (day_named first.text))
@@ -88,7 +91,7 @@ day_fits before i h d = subst DayFits (values_push before i)
     (day_pushed i.key (values_at before) i.first i.more h.values_are h.first_time d)
 
 -- The reader inside a term.
-abbrev pub in_term : State → Word → (Key → List Word) → State
+abbrev pub in_term : State → Word → (Keyword → List Word) → State
 in_term s name at = record s { part = InTerm; draft = draft_from name at }
 
 item_read : (s : State) (name : Word) (before : List Item) (i : Item) (rest : List Token) → ItemStands before i
@@ -97,14 +100,14 @@ item_read : (s : State) (name : Word) (before : List Item) (i : Item) (rest : Li
     → walk (in_term s name (values_at before)) (item_words i ++ rest) ≡ walk (in_term s name (values_at (before ++ i ∷ []))) rest
 unfolding behind_keyword
 item_read s name before i rest h d e =
-    let at : Key → List Word = values_at before in
-    let k : Token = word i.place forms.Keyword (key_text i.key) in
+    let at : Keyword → List Word = values_at before in
+    let k : Token = word i.place forms.Keyword (entry i.key).text in
     let next : Draft = draft_from name (pushed at i.key (map word_of (item_values i))) in
     let drafted : draft_behind (draft_from name at) k (item_values i) ≡ Ok next =
     item_reads name at k i.key (item_values i) d refl
     ∙ ap (λ r. r >>= λ _. Ok next) (item_stands i.key at k i.first i.more h.values_are h.one_value h.first_time) in
-    walk_keyword (in_term s name at) i.place (key_text i.key) (item_values i) rest
-    (values_unmarked (takes_of i.key) (item_values i) h.values_are) e
+    walk_keyword (in_term s name at) i.place (entry i.key).text (item_values i) rest
+    (values_unmarked (entry i.key).takes (item_values i) h.values_are) e
     ∙ ap (λ r. (r >>= λ t. Ok (record (in_term s name at) { draft = t })) >>= λ u. walk u rest) drafted
     ∙ ap (λ q. walk (in_term s name q) rest) (values_push before i)
 
@@ -150,10 +153,10 @@ name_read s name n new few =
     ∙ if_false (list_any (λ (t : RawTerm). bytes_eq t.name.text name.text) s.terms) _ _ new
     ∙ if_false (nat_le 1024 s.term_count) _ _ (few_terms s.term_count few)
 
-term_ended : (s : State) (t : TermText) → some_word (values_at t.items Key.ActionKey) ≡ true → (m : Token)
+term_ended : (s : State) (t : TermText) → some_word (values_at t.items keywords.Action) ≡ true → (m : Token)
     → behind_end InTerm (in_term s t.name (values_at t.items)) m ≡ Ok (with_term (in_term s t.name (values_at t.items)))
 unfolding behind_end
-term_ended s t h m = if_true (some_word (values_at t.items Key.ActionKey)) _ _ h
+term_ended s t h m = if_true (some_word (values_at t.items keywords.Action)) _ _ h
 
 term_read : (s : State) (t : TermText) (rest : List Token) → TermMayStand s → TermStands t → NameIsNew s.terms (term_meant t)
     → s.term_count < 1024 → walk s (term_words t ++ rest) ≡ walk (behind_term s t) rest

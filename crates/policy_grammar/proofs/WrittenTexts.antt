@@ -14,15 +14,18 @@ use Rattle.acl_target.specs.declared.targets.Kind.TheVariants.{Cisco, Juniper, I
 use Rattle.acl_target.specs.declared.targets.Target.{Target}
 use Rattle.acl_target.specs.TargetData.{chain_text, hook_text}
 use Rattle.acl_target.specs.TargetTexts.{families_text}
-use Rattle.acl_policy.specs.ValueKinds.{Takes}
+use Rattle.acl_policy.specs.declared.keywords.Keyword.{Keyword}
+use Rattle.acl_policy.specs.declared.keywords.Keyword.TheVariants as keywords
+use Rattle.acl_policy.specs.declared.values.Takes.{Takes}
 use Rattle.acl_policy.specs.declared.blocks.Block.{Block}
 use Rattle.acl_policy.specs.declared.raw_terms.RawTerm.{RawTerm}
 use Rattle.acl_words.specs.declared.word_lists.Word.{Word}
 use Rattle.acl_policy.specs.Conditions.{Each, terms_of}
+use Rattle.acl_policy.specs.Keywords.{all_keywords, entry}
 use Rattle.acl_policy.specs.Policies.{policy_of}
 use Rattle.acl_policy.specs.Values.{is_value, form_fits}
 use Rattle.policy_grammar.specs.TargetTexts.{Choice, choice_text, SaysNew, IsIptablesWord, IsNftablesWord, LineText, family_words, choice_words, line_values, LineStands}
-use Rattle.policy_grammar.specs.TermTexts.{Key, takes_of, Item, item_values, item_words, ItemStands, TermText, items_words, term_words, TermStands}
+use Rattle.policy_grammar.specs.TermTexts.{Item, item_values, item_words, ItemStands, TermText, items_words, term_words, TermStands}
 use Rattle.policy_grammar.specs.PolicyTexts.{HeaderItem, header_item_words, HeaderItemStands, BlockText, header_words, block_words, BlockStands, text_words, TextStands}
 use Rattle.policy_grammar.specs.PrintedWords.{IsPlainText, IsQuotedText, PrintedLine, printed_line, LineIsPrinted, printed_words}
 use Rattle.policy_grammar.specs.WrittenTexts.{CanBePrinted, FreeWordsCanBePrinted, ItemIsWritable, TermIsWritable, HeaderItemIsWritable, BlockIsWritable, HasLines, WritableTextsHaveLines, FittingPoliciesAreReadFromLines}
@@ -30,8 +33,8 @@ use Rattle.policy_grammar.proofs.Outcomes.{and_left, and_right}
 use Rattle.policy_grammar.proofs.FeedLaws.{split_free, split_lines, split_words_are}
 use Rattle.policy_grammar.proofs.PrintingLaws.{printed_read}
 use Rattle.policy_grammar.proofs.BlockLaws.{text_read}
-use Rattle.policy_grammar.proofs.WrittenWords.{name_plain, filter_name_plain, signed_plain, literal, keyword_literal, value_printed, key_printed}
-use Rattle.policy_grammar.proofs.FittingTerms.{token_for, item_with, items_with, comment_entry, entries, all_keys, term_for}
+use Rattle.policy_grammar.proofs.WrittenWords.{name_plain, filter_name_plain, signed_plain, literal, keyword_literal, value_printed, keyword_printed}
+use Rattle.policy_grammar.proofs.FittingTerms.{token_for, item_with, items_with, comment_entry, entries, term_for}
 use Rattle.policy_grammar.proofs.FittingPolicies.{item_for, block_for, text_stands, text_means}
 
 can_on : (xs ys : List Token) → CanBePrinted xs → CanBePrinted ys → CanBePrinted (xs ++ ys)
@@ -107,30 +110,17 @@ others_printed kind (w ∷ ws) e h = (
       (and_right (is_value kind w) (list_all (is_value kind) ws) h),
 )
 
-values_printed : (key : Key) (ws : List Token) → list_all (is_value (takes_of key)) ws ≡ true → FreeWordsCanBePrinted key ws
+values_printed : (key : Keyword) (ws : List Token) → list_all (is_value (entry key).takes) ws ≡ true → FreeWordsCanBePrinted key ws
     → CanBePrinted ws
-values_printed Key.CommentKey ws h f = f
-values_printed Key.OwnerKey ws h f = f
-values_printed Key.ActionKey ws h f = others_printed (takes_of Key.ActionKey) ws refl h
-values_printed Key.SourceKey ws h f = others_printed (takes_of Key.SourceKey) ws refl h
-values_printed Key.SourceExcludeKey ws h f = others_printed (takes_of Key.SourceExcludeKey) ws refl h
-values_printed Key.DestinationKey ws h f = others_printed (takes_of Key.DestinationKey) ws refl h
-values_printed Key.DestinationExcludeKey ws h f = others_printed (takes_of Key.DestinationExcludeKey) ws refl h
-values_printed Key.ProtocolKey ws h f = others_printed (takes_of Key.ProtocolKey) ws refl h
-values_printed Key.SourcePortKey ws h f = others_printed (takes_of Key.SourcePortKey) ws refl h
-values_printed Key.DestinationPortKey ws h f = others_printed (takes_of Key.DestinationPortKey) ws refl h
-values_printed Key.IcmpTypeKey ws h f = others_printed (takes_of Key.IcmpTypeKey) ws refl h
-values_printed Key.OptionKey ws h f = others_printed (takes_of Key.OptionKey) ws refl h
-values_printed Key.LoggingKey ws h f = others_printed (takes_of Key.LoggingKey) ws refl h
-values_printed Key.ExpirationKey ws h f = others_printed (takes_of Key.ExpirationKey) ws refl h
-values_printed Key.PlatformKey ws h f = others_printed (takes_of Key.PlatformKey) ws refl h
-values_printed Key.PlatformExcludeKey ws h f = others_printed (takes_of Key.PlatformExcludeKey) ws refl h
+values_printed keywords.Comment ws h f = f
+values_printed keywords.Owner ws h f = f
+values_printed key ws h f = others_printed (entry key).takes ws refl h
 
 items_printed : (before items : List Item) → Each ItemStands before items → AllByRecursion ItemIsWritable items
     → CanBePrinted (items_words items)
 items_printed before [] h w = tt
 items_printed before (i ∷ is) h w =
-    can_on (item_words i) (items_words is) (key_printed i.key, values_printed i.key (item_values i) h.0.values_are w.0)
+    can_on (item_words i) (items_words is) (keyword_printed i.key, values_printed i.key (item_values i) h.0.values_are w.0)
     (items_printed (before ++ i ∷ []) is h.1 w.1)
 
 term_printed : (t : TermText) → TermStands t → TermIsWritable t → CanBePrinted (term_words t)
@@ -201,23 +191,23 @@ texts_have_lines text h w =
 
 -- The text of a policy whose comments have no quote.
 comment_writable : (place : Place) (text : List ℕ) → IsQuotedText text
-    → CanBePrinted (map (token_for (takes_of Key.CommentKey)) (comment_entry place text))
+    → CanBePrinted (map (token_for (entry keywords.Comment).takes) (comment_entry place text))
 comment_writable place [] h = tt
 comment_writable place (b ∷ bs) h = (h, tt)
 
-entry_writable : (t : RawTerm) → IsQuotedText t.comments → (key : Key)
-    → FreeWordsCanBePrinted key (map (token_for (takes_of key)) (entries t key))
-entry_writable t h Key.CommentKey = comment_writable t.name.place t.comments h
-entry_writable t h Key.OwnerKey = tt
+entry_writable : (t : RawTerm) → IsQuotedText t.comments → (key : Keyword)
+    → FreeWordsCanBePrinted key (map (token_for (entry key).takes) (entries t key))
+entry_writable t h keywords.Comment = comment_writable t.name.place t.comments h
+entry_writable t h keywords.Owner = tt
 entry_writable t h _ = tt
 
-items_writable : (at : Key → List Word) (keys : List Key)
-    → ((key : Key) → FreeWordsCanBePrinted key (map (token_for (takes_of key)) (at key)))
+items_writable : (at : Keyword → List Word) (keys : List Keyword)
+    → ((key : Keyword) → FreeWordsCanBePrinted key (map (token_for (entry key).takes) (at key)))
     → AllByRecursion ItemIsWritable (items_with at keys)
 items_writable at [] h = tt
 items_writable at (key ∷ keys) h = by_words (at key) (h key) (items_writable at keys h)
   where
-    by_words : (ws : List Word) → FreeWordsCanBePrinted key (map (token_for (takes_of key)) ws)
+    by_words : (ws : List Word) → FreeWordsCanBePrinted key (map (token_for (entry key).takes) ws)
         → AllByRecursion ItemIsWritable (items_with at keys)
         → AllByRecursion ItemIsWritable (item_with key ws ++ items_with at keys)
     by_words [] f go = go
@@ -226,7 +216,7 @@ items_writable at (key ∷ keys) h = by_words (at key) (h key) (items_writable a
 terms_writable : (ts : List RawTerm) → AllByRecursion (λ (t : RawTerm). IsQuotedText t.comments) ts
     → AllByRecursion TermIsWritable (map term_for ts)
 terms_writable [] h = tt
-terms_writable (t ∷ ts) h = (items_writable (entries t) all_keys (entry_writable t h.0), terms_writable ts h.1)
+terms_writable (t ∷ ts) h = (items_writable (entries t) all_keywords (entry_writable t h.0), terms_writable ts h.1)
 
 targets_writable : (ts : List Target) → AllByRecursion HeaderItemIsWritable (map item_for ts)
 targets_writable [] = tt

@@ -22,10 +22,12 @@ use Rattle.acl_days.specs.DaySteps.{day_in}
 use Rattle.acl_days.specs.Days.{two_digits, full_date, IsDayText}
 use Rattle.acl_days.specs.NamedDays.{day_at, day_named}
 use Rattle.acl_days.proofs.DayTextLaws.{day-text-found}
-use Rattle.acl_policy.specs.ValueKinds.{Takes}
-use Rattle.acl_policy.specs.ValueKinds as takes
+use Rattle.acl_policy.specs.declared.keywords.Keyword.{Keyword}
+use Rattle.acl_policy.specs.declared.keywords.Keyword.TheVariants as keywords
+use Rattle.acl_policy.specs.declared.values.Takes.{Takes}
+use Rattle.acl_policy.specs.declared.values.Takes.TheVariants as takes
+use Rattle.acl_policy.specs.Keywords.{entry}
 use Rattle.acl_policy.specs.Values.{is_action, is_option, is_logging, is_icmp_type, is_plain, is_value, text_fits, form_fits}
-use Rattle.policy_grammar.specs.TermTexts.{Key, key_text}
 use Rattle.policy_grammar.specs.PrintedWords.{begins_with_colon, has_colons, is_word_byte, IsPlainText, IsKeywordText, TextIs}
 use Rattle.policy_grammar.proofs.Outcomes.{and_left, and_right, and_both}
 use Rattle.policy_grammar.proofs.TargetLineLaws.{plain_is}
@@ -258,21 +260,17 @@ value_printed kind w e h =
     (sym (plain_is w (only_plain kind w.form e (and_left (form_fits kind w.form) (text_fits kind w.text) h))))
     (text_plain kind w.text e (and_right (form_fits kind w.form) (text_fits kind w.text) h))
 
--- Keywords.
-pub key_printed : (key : Key) → IsKeywordText (key_text key)
-key_printed Key.CommentKey = keyword_literal (codes "comment") refl refl
-key_printed Key.OwnerKey = keyword_literal (codes "owner") refl refl
-key_printed Key.ActionKey = keyword_literal (codes "action") refl refl
-key_printed Key.SourceKey = keyword_literal (codes "source-address") refl refl
-key_printed Key.SourceExcludeKey = keyword_literal (codes "source-exclude") refl refl
-key_printed Key.DestinationKey = keyword_literal (codes "destination-address") refl refl
-key_printed Key.DestinationExcludeKey = keyword_literal (codes "destination-exclude") refl refl
-key_printed Key.ProtocolKey = keyword_literal (codes "protocol") refl refl
-key_printed Key.SourcePortKey = keyword_literal (codes "source-port") refl refl
-key_printed Key.DestinationPortKey = keyword_literal (codes "destination-port") refl refl
-key_printed Key.IcmpTypeKey = keyword_literal (codes "icmp-type") refl refl
-key_printed Key.OptionKey = keyword_literal (codes "option") refl refl
-key_printed Key.LoggingKey = keyword_literal (codes "logging") refl refl
-key_printed Key.ExpirationKey = keyword_literal (codes "expiration") refl refl
-key_printed Key.PlatformKey = keyword_literal (codes "platform") refl refl
-key_printed Key.PlatformExcludeKey = keyword_literal (codes "platform-exclude") refl refl
+-- Keywords: the bytes before the last two.
+abbrev front_of : List ℕ → List ℕ
+front_of [] = []
+front_of (a ∷ []) = []
+front_of (a ∷ b ∷ []) = []
+front_of (a ∷ b ∷ c ∷ bs) = a ∷ front_of (b ∷ c ∷ bs)
+
+keyword_text : (text : List ℕ) → list_all is_word_byte (front_of text) ≡ true → has_colons (front_of text ++ codes ":") ≡ false
+    → text ≡ front_of text ++ codes "::" → IsKeywordText text
+keyword_text text h k e = record { front = front_of text; bytes_are = h; no_colons = k; text_is = e }
+
+pub keyword_printed : (key : Keyword) → IsKeywordText (entry key).text
+keyword_printed keywords.Comment = keyword_text (codes "comment::") refl refl refl
+keyword_printed key = keyword_text (entry key).text refl refl refl

@@ -12,7 +12,7 @@ use Rattle.acl_words.specs.Words.{word}
 use Rattle.acl_target.specs.declared.targets.Target.{Target}
 use Rattle.acl_policy.specs.declared.blocks.Block.{Block}
 use Rattle.acl_policy.specs.declared.blocks.Policy.{Policy}
-use Rattle.acl_policy.specs.ValueKinds as takes
+use Rattle.acl_policy.specs.declared.values.Takes.TheVariants as takes
 use Rattle.acl_policy.specs.Conditions.{Each, StandsBehind, NameIsNew, targets_of, terms_of}
 use Rattle.acl_policy.specs.Values.{is_value}
 use Rattle.policy_grammar.specs.TargetTexts.{plain, TargetText, target_words, target_meant, LineStands}

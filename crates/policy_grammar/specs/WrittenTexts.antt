@@ -7,18 +7,20 @@ use Rattle.acl_lines.specs.LineTexts.{HasNoFeed}
 use Rattle.acl_words.specs.Tokens.{Token}
 use Rattle.acl_words.specs.Words.{words_of}
 use Rattle.acl_policy.specs.declared.blocks.Policy.{Policy}
+use Rattle.acl_policy.specs.declared.keywords.Keyword.{Keyword}
+use Rattle.acl_policy.specs.declared.keywords.Keyword.TheVariants as keywords
 use Rattle.acl_policy.specs.Conditions.{terms_of, IsPolicy}
 use Rattle.acl_policy.specs.Policies.{policy_of}
-use Rattle.policy_grammar.specs.TermTexts.{Key, Item, item_values, TermText}
+use Rattle.policy_grammar.specs.TermTexts.{Item, item_values, TermText}
 use Rattle.policy_grammar.specs.PolicyTexts.{HeaderItem, BlockText, text_words, TextStands}
 use Rattle.policy_grammar.specs.PrintedWords.{TextIs, IsQuotedText}
 
 abbrev pub CanBePrinted : List Token → Type 0
 CanBePrinted ws = AllByRecursion (λ w. TextIs w.form w.text) ws
 
-abbrev pub FreeWordsCanBePrinted : Key → List Token → Type 0
-FreeWordsCanBePrinted Key.CommentKey ws = CanBePrinted ws
-FreeWordsCanBePrinted Key.OwnerKey ws = CanBePrinted ws
+abbrev pub FreeWordsCanBePrinted : Keyword → List Token → Type 0
+FreeWordsCanBePrinted keywords.Comment ws = CanBePrinted ws
+FreeWordsCanBePrinted keywords.Owner ws = CanBePrinted ws
 FreeWordsCanBePrinted _ ws = Unit {0}
 
 abbrev pub ItemIsWritable : Item → Type 0

@@ -4,8 +4,10 @@ use Rattle.acl_packet.specs.declared.addresses.Families.TheVariants.{Inet, Mixed
 use Rattle.acl_packet.specs.declared.filtering.Hook.TheVariants.{Forward}
 use Rattle.acl_text.specs.declared.faults.Place.{Place}
 use Rattle.acl_words.specs.declared.word_lists.Word.{Word}
+use Rattle.acl_policy.specs.declared.keywords.Keyword.{Keyword}
+use Rattle.acl_policy.specs.declared.keywords.Keyword.TheVariants as keywords
 use Rattle.policy_grammar.specs.TargetTexts.{Choice, LineText, plain}
-use Rattle.policy_grammar.specs.TermTexts.{Item, Key, TermText}
+use Rattle.policy_grammar.specs.TermTexts.{Item, TermText}
 use Rattle.policy_grammar.specs.PolicyTexts.{BlockText, HeaderItem}
 use Rattle.workload_laws.specs.WorkloadNames.{each, network_name, service_name}
 
@@ -38,7 +40,7 @@ abbrev pub term_name : ℕ → List ℕ
 term_name i = codes "t" ++ decimal i
 
 -- A keyword and its values in a line.
-abbrev pub item_at : ℕ → Key → List ℕ → List (List ℕ) → Item
+abbrev pub item_at : ℕ → Keyword → List ℕ → List (List ℕ) → Item
 item_at n key value values = record {
   place = at_line n;
   key = key;
@@ -47,10 +49,10 @@ item_at n key value values = record {
 }
 
 abbrev pub term_items : ℕ → ℕ → List Item
-term_items n i = item_at (n + 2) Key.SourceKey (network_name i) []
-    ∷ item_at (n + 3) Key.DestinationPortKey (service_name i) []
-    ∷ item_at (n + 4) Key.ProtocolKey (codes "tcp") (codes "udp" ∷ [])
-    ∷ item_at (n + 5) Key.ActionKey (codes "accept") [] ∷ []
+term_items n i = item_at (n + 2) keywords.SourceAddress (network_name i) []
+    ∷ item_at (n + 3) keywords.DestinationPort (service_name i) []
+    ∷ item_at (n + 4) keywords.Protocol (codes "tcp") (codes "udp" ∷ [])
+    ∷ item_at (n + 5) keywords.Action (codes "accept") [] ∷ []
 
 abbrev pub term_behind : ℕ → ℕ → TermText
 term_behind n i = record {

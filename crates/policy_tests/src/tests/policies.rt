@@ -360,6 +360,80 @@ fn the_words_of_a_term(rt: HostRuntime) -> Result<(), Fail> {
     Ok(())
 }
 
+// The words of all lists of the first term, list by list.
+fn lists_of(alloc: Global, bytes: &[u8]) -> Result<String, Memory> {
+    let sources = spliced(alloc, bytes, b"")?;
+    let mut all = String::new(alloc);
+    let Ok(policy) = read(alloc, &sources) else {
+        return Ok(all);
+    };
+    for block in policy.blocks.as_slice() {
+        for term in block.terms.as_slice() {
+            add_words(&mut all, &term.sources)?;
+            add_words(&mut all, &term.source_excludes)?;
+            add_words(&mut all, &term.destinations)?;
+            add_words(&mut all, &term.destination_excludes)?;
+            add_words(&mut all, &term.addresses)?;
+            add_words(&mut all, &term.protocols)?;
+            add_words(&mut all, &term.source_ports)?;
+            add_words(&mut all, &term.destination_ports)?;
+            add_words(&mut all, &term.ports)?;
+            add_words(&mut all, &term.icmp_types)?;
+            add_words(&mut all, &term.options)?;
+            add_words(&mut all, &term.platforms)?;
+            add_words(&mut all, &term.not_platforms)?;
+        }
+    }
+    Ok(all)
+}
+
+#[test]
+fn each_keyword_has_a_list_of_its_own(rt: HostRuntime) -> Result<(), Fail> {
+    let policy = b"header { target:: cisco e } term t { source-address:: A source-exclude:: B
+        destination-address:: C destination-exclude:: D address:: E protocol:: tcp source-port:: F
+        destination-port:: G port:: H icmp-type:: echo-reply option:: rst platform:: cisco
+        platform-exclude:: juniper source-exclude:: b address:: e1 e2 port:: h
+        platform-exclude:: iptables action:: deny }";
+    assert_eq!(rt;
+        lists_of(rt.alloc(), policy)?.as_str(),
+        "A |B b |C |D |E e1 e2 |tcp |F |G |H h |echo-reply |rst |cisco |juniper iptables |"
+    );
+    Ok(())
+}
+
+// A keyword that stands once is repeated; a word that is none of the table is no keyword.
+#[test]
+fn keywords_that_stand_once(rt: HostRuntime) -> Result<(), Fail> {
+    let table: [(&[u8], &str); 13] = [
+        (b" owner:: a\n owner:: a }", "0:3 Repeated owner::"),
+        (b" action:: deny\n action:: deny }", "0:3 Repeated action::"),
+        (
+            b" logging:: true\n logging:: true }",
+            "0:3 Repeated logging::",
+        ),
+        (
+            b" expiration:: 2026-01-15\n expiration:: 2026-01-15 }",
+            "0:3 Repeated expiration::",
+        ),
+        (b" option:: rst option:: rst action:: deny }", "none"),
+        (b" comment:: \"\" comment:: \"\" action:: deny }", "none"),
+        (b" address:: A address:: A action:: deny }", "none"),
+        (b" port:: A port:: A action:: deny }", "none"),
+        (b"\n address:: 10.0.0.0/8 }", "0:3 Value 10.0.0.0/8"),
+        (b"\n port:: }", "0:3 Missing port::"),
+        (b"\n target:: cisco f }", "0:3 Keyword target::"),
+        (b"\n address-exclude:: A }", "0:3 Keyword address-exclude::"),
+        (b"\n Action:: deny }", "0:3 Keyword Action::"),
+    ];
+    let alloc = rt.alloc();
+    for (rest, slip) in table {
+        let before = b"header { target:: cisco e }\nterm t {";
+        let policy = repeated(alloc, before, rest, 1, b"")?;
+        assert_eq!(rt; first_slip(alloc, policy.as_slice())?.as_str(), slip);
+    }
+    Ok(())
+}
+
 fn numbered_names(
     alloc: Global,
     before: &[u8],
