@@ -9,6 +9,7 @@ pub mod OnceLaws
 pub mod PolicyLaws
 pub mod PortLaws
 pub mod SetLaws
+pub mod SideLaws
 pub mod SlipLaws
 pub mod SoundLaws
 pub mod TermLaws

@@ -62,6 +62,7 @@ fn meet(set: &RangeSet, other: &RangeSet) -> bool
     begins_in(set, other.ranges()) || begins_in(other, set.ranges())
 }
 
+#[tactic(auto, using(crate::proofs::SideLaws::apart_law))]
 fn is_apart(set: &RangeSet, other: &RangeSet) -> bool
     requires { set.now.top ≡ other.now.top }
     ensures { result ≡ has_none (in_both set.now other.now) }
@@ -91,6 +92,7 @@ fn has_no_destination(side: Side, set: &RangeSet, either: &RangeSet) -> bool
     }
 }
 
+#[tactic(auto, using(crate::proofs::SideLaws::source_tops, crate::proofs::SideLaws::destination_tops))]
 fn lacks_addresses(term: &Term, family: Family, side: Side) -> bool
     ensures { result ≡ (has_none (sources_on side family term.now)
         || has_none (destinations_on side family term.now)) }
@@ -100,6 +102,7 @@ fn lacks_addresses(term: &Term, family: Family, side: Side) -> bool
         || has_no_destination(side, destination_in(family, term), either)
 }
 
+#[tactic(auto, using(crate::proofs::SideLaws::sport_tops, crate::proofs::SideLaws::dport_tops))]
 fn lacks_ports(term: &Term, side: Side) -> bool
     ensures { result ≡ (has_none (sports_on side term.now) || has_none (dports_on side term.now)) }
 {
@@ -107,6 +110,7 @@ fn lacks_ports(term: &Term, side: Side) -> bool
         || has_no_destination(side, &term.dports, &term.ports)
 }
 
+#[tactic(auto, using(crate::proofs::EmptyLaws::pair_tests))]
 fn has_nothing_on(term: &Term, family: Family, pair: SidePair) -> bool
     ensures { result ≡ is_pair_empty family term.now pair }
 {
