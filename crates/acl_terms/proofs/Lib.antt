@@ -6,6 +6,7 @@ pub mod LifeLaws
 pub mod MatchLaws
 pub mod NumberLaws
 pub mod OnceLaws
+pub mod PairLaws
 pub mod PolicyLaws
 pub mod PortLaws
 pub mod SetLaws
