@@ -131,7 +131,7 @@ unfolding is_empty_in
 empty-law f t = all-law (is_pair_empty f t) (IsPairEmpty f t) (pairs_of t) (pair-empty-law f t)
 
 -- The tests of a pair's sets, addresses and ports apart.
-pub pair_tests : (a b c d e : Bool) → ((a || b) || (c || d)) || e ≡ (a || (b || (c || (d || false)))) || e
+pub pair_tests : (a b c d e : Bool) → (((a || b) || (c || d)) || e) ≡ ((a || (b || (c || (d || false)))) || e)
 pair_tests true b c d e = refl
 pair_tests false true c d e = refl
 pair_tests false false true d e = refl
