@@ -1,7 +1,7 @@
 -- A term has the addresses and ports of a packet where one of its pairs of sides does.
 use Rattle.std.proofs.Common.{◌≡◌, ℕ, Bool, true, false, ◌&&◌, ◌||◌, List, [], ◌∷◌, inl, inr, refl, ap, sym, ◌∙◌, arith}
 use Rattle.std.specs.List.{list_any}
-use Rattle.std.proofs.lemmas.Bool.{and_from, and_parts, both_ways, or_left, cases_Bool}
+use Rattle.std.proofs.lemmas.Bool.{and_from, and_parts, both_ways, false_from_ne_true}
 use Rattle.std.proofs.lemmas.List.Folds.{Any-from_list_any}
 use Rattle.acl_packet.specs.declared.addresses.Family.{Family}
 use Rattle.acl_packet.specs.declared.addresses.Family.TheVariants.{V4, V6}
@@ -10,11 +10,13 @@ use Rattle.acl_sets.specs.Ranges.{Numbers, IsNormal, holds}
 use Rattle.acl_sets.specs.ComputableSets.{is_all}
 use Rattle.acl_sets.proofs.RangeLaws.{at_top}
 use Rattle.acl_sets.proofs.ComputableSetLaws.{covers-holds}
+use Rattle.acl_terms.specs.declared.options.Mode.{Mode}
 use Rattle.acl_terms.specs.declared.sides.Side.{Side}
 use Rattle.acl_terms.specs.declared.sides.Side.TheVariants.{Whole, Source, Destination}
 use Rattle.acl_terms.specs.declared.sides.SidePair.{SidePair}
 use Rattle.acl_terms.specs.declared.terms.Term.{Term}
-use Rattle.acl_terms.specs.Resolved.{IsEmptyIn, addresses_match, destination_cut, destination_in, destinations_on, dports_on, either_in, ends_match, has_protocol, holds_either, in_both, pairs_of, ports_match, side_pairs, sides_of, source_cut, source_in, sources_on, sports_on}
+use Rattle.acl_terms.specs.Options.{passes}
+use Rattle.acl_terms.specs.Resolved.{IsEmptyIn, addresses_match, destination_cut, destination_in, destinations_on, dports_on, either_in, ends_match, has_protocol, holds_either, in_both, matches, pairs_of, ports_match, side_pairs, sides_of, source_cut, source_in, sources_on, sports_on}
 use Rattle.acl_terms.proofs.SideLaws.{both-holds, destination-normal, destination_tops, dport_tops, source-normal, source_tops, sport_tops}
 
 -- ---- sides
@@ -159,3 +161,12 @@ matched-some f t p ends ports empty =
       ]
       | inr n ↦ both_ways (has_protocol f t p.proto) (n p.proto) a.0
     ]
+
+pub empty_matches_none : (mode : Mode) (t : Term) (p : Packet) → IsEmptyIn p.family t → matches mode t p ≡ false
+unfolding matches
+empty_matches_none mode t p empty =
+    let last : Bool = holds t.itypes.ranges p.itype && passes t.option mode t.dport_named p in
+    false_from_ne_true (matches mode t p) (λ h.
+    let a = and_parts (ends_match p.family t p) (ports_match t p && last) h in
+    let b = and_parts (ports_match t p) last a.1 in
+    matched-some p.family t p a.0 b.0 empty)
