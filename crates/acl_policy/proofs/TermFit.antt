@@ -77,7 +77,7 @@ module _ (At : Place → Type 0) where
   -- a keyword of the n-th list
   list_fits : (name action : Word) (t : RawTerm) (n : ℕ) (kind : Takes) (old : List Word) (next : List Word → RawTerm)
       (k : Token) (ws : List Token) → TermOf At name action t → At k.place → Stand At ws
-      → n < 11 → get_or (lists_of t) n (kind, []) ≡ (kind, old)
+      → n < 13 → get_or (lists_of t) n (kind, []) ≡ (kind, old)
       → ((xs : List Word) → lists_of (next xs) ≡ set (lists_of t) n (kind, xs))
       → ((xs : List Word) → (next xs).name ≡ t.name) → ((xs : List Word) → (next xs).action ≡ t.action)
       → Has (ToldAt At) (TermOf At name action) (words_with kind k ws old >>= λ xs. Ok (next xs))
@@ -107,32 +107,32 @@ module _ (At : Place → Type 0) where
       → Has (ToldAt At) (TermOf At n a) (term_with_protocols t k ws)
   unfolding term_with_protocols
   protocols_fit n a t k ws h p s = if_has (ToldAt At) (TermOf At n a) (bytes_eq k.text (codes "protocol::")) _ _
-      (λ _. list_fits n a t 4 takes.Protocol t.protocols (λ xs. record t { protocols = xs }) k ws h p s (omega arith) refl (λ _. refl) (λ _. refl) (λ _. refl))
+      (λ _. list_fits n a t 5 takes.Protocol t.protocols (λ xs. record t { protocols = xs }) k ws h p s (omega arith) refl (λ _. refl) (λ _. refl) (λ _. refl))
       (λ _. if_has (ToldAt At) (TermOf At n a) (bytes_eq k.text (codes "source-port::")) _ _
-      (λ _. list_fits n a t 5 takes.Name t.source_ports (λ xs. record t { source_ports = xs }) k ws h p s (omega arith) refl (λ _. refl) (λ _. refl) (λ _. refl))
+      (λ _. list_fits n a t 6 takes.Name t.source_ports (λ xs. record t { source_ports = xs }) k ws h p s (omega arith) refl (λ _. refl) (λ _. refl) (λ _. refl))
       (λ _. if_has (ToldAt At) (TermOf At n a) (bytes_eq k.text (codes "destination-port::")) _ _
-      (λ _. list_fits n a t 6 takes.Name t.destination_ports (λ xs. record t { destination_ports = xs }) k ws h p s (omega arith) refl (λ _. refl) (λ _. refl) (λ _. refl))
+      (λ _. list_fits n a t 7 takes.Name t.destination_ports (λ xs. record t { destination_ports = xs }) k ws h p s (omega arith) refl (λ _. refl) (λ _. refl) (λ _. refl))
       (λ _. if_has (ToldAt At) (TermOf At n a) (bytes_eq k.text (codes "icmp-type::")) _ _
-      (λ _. list_fits n a t 7 takes.IcmpType t.icmp_types (λ xs. record t { icmp_types = xs }) k ws h p s (omega arith) refl (λ _. refl) (λ _. refl) (λ _. refl))
+      (λ _. list_fits n a t 9 takes.IcmpType t.icmp_types (λ xs. record t { icmp_types = xs }) k ws h p s (omega arith) refl (λ _. refl) (λ _. refl) (λ _. refl))
       (λ _. addresses_fit n a t k ws h p s))))
 
   lists_fit : (n a : Word) (t : RawTerm) (k : Token) (ws : List Token) → TermOf At n a t → At k.place → Stand At ws
       → Has (ToldAt At) (TermOf At n a) (term_with_lists t k ws)
   unfolding term_with_lists
   lists_fit n a t k ws h p s = if_has (ToldAt At) (TermOf At n a) (bytes_eq k.text (codes "option::")) _ _
-      (λ _. list_fits n a t 8 takes.Opt t.options (λ xs. record t { options = xs }) k ws h p s (omega arith) refl (λ _. refl) (λ _. refl) (λ _. refl))
+      (λ _. list_fits n a t 10 takes.Opt t.options (λ xs. record t { options = xs }) k ws h p s (omega arith) refl (λ _. refl) (λ _. refl) (λ _. refl))
       (λ _. if_has (ToldAt At) (TermOf At n a) (bytes_eq k.text (codes "platform::")) _ _
-      (λ _. list_fits n a t 9 takes.Name t.platforms (λ xs. record t { platforms = xs }) k ws h p s (omega arith) refl (λ _. refl) (λ _. refl) (λ _. refl))
+      (λ _. list_fits n a t 11 takes.Name t.platforms (λ xs. record t { platforms = xs }) k ws h p s (omega arith) refl (λ _. refl) (λ _. refl) (λ _. refl))
       (λ _. if_has (ToldAt At) (TermOf At n a) (bytes_eq k.text (codes "platform-exclude::")) _ _
-      (λ _. list_fits n a t 10 takes.Name t.not_platforms (λ xs. record t { not_platforms = xs }) k ws h p s (omega arith) refl (λ _. refl) (λ _. refl) (λ _. refl))
+      (λ _. list_fits n a t 12 takes.Name t.not_platforms (λ xs. record t { not_platforms = xs }) k ws h p s (omega arith) refl (λ _. refl) (λ _. refl) (λ _. refl))
       (λ _. protocols_fit n a t k ws h p s)))
 
   pub draft_sound : (name : Word) → Sound At name (draft_of name)
   draft_sound name = record {
     name_is = refl;
     action_fits = λ h. no_action h;
-    lists = no_words (takes.Name ∷ takes.Name ∷ takes.Name ∷ takes.Name ∷ takes.Protocol ∷ takes.Name
-        ∷ takes.Name ∷ takes.IcmpType ∷ takes.Opt ∷ takes.Name ∷ takes.Name ∷ []);
+    lists = no_words (takes.Name ∷ takes.Name ∷ takes.Name ∷ takes.Name ∷ takes.Name ∷ takes.Protocol ∷ takes.Name
+        ∷ takes.Name ∷ takes.Name ∷ takes.IcmpType ∷ takes.Opt ∷ takes.Name ∷ takes.Name ∷ []);
   }
     where
       no_action : {P : Type 0} → false ≡ true → P

@@ -21,8 +21,10 @@ abbrev pub lists_of : RawTerm → List (Takes × List Word)
 lists_of t =
     (takes.Name, t.sources) ∷ (takes.Name, t.source_excludes)
     ∷ (takes.Name, t.destinations) ∷ (takes.Name, t.destination_excludes)
+    ∷ (takes.Name, t.addresses)
     ∷ (takes.Protocol, t.protocols) ∷ (takes.Name, t.source_ports)
-    ∷ (takes.Name, t.destination_ports) ∷ (takes.IcmpType, t.icmp_types)
+    ∷ (takes.Name, t.destination_ports) ∷ (takes.Name, t.ports)
+    ∷ (takes.IcmpType, t.icmp_types)
     ∷ (takes.Opt, t.options) ∷ (takes.Name, t.platforms)
     ∷ (takes.Name, t.not_platforms) ∷ []
 

@@ -13,9 +13,13 @@ pub struct RawTerm {
     pub source_excludes: WordList,
     pub destinations: WordList,
     pub destination_excludes: WordList,
+    /// The words of `address::`: of either side.
+    pub addresses: WordList,
     pub protocols: WordList,
     pub source_ports: WordList,
     pub destination_ports: WordList,
+    /// The words of `port::`: of either side.
+    pub ports: WordList,
     pub icmp_types: WordList,
     pub options: WordList,
     pub logging: bool,

@@ -40,6 +40,12 @@ address_set n f words excludes = record {
       (admitted (top_address f) (word_addresses n f) words);
 }
 
+abbrev pub named_address_set : Naming → Family → List Word → Numbers
+named_address_set n f words = record {
+  top = top_address f;
+  ranges = admitted (top_address f) (word_addresses n f) words;
+}
+
 abbrev pub word_ports : Naming → List ℕ → Word → List Range
 word_ports n protos w = flat_map (λ q. ports_reached n.services q w.text) protos
 
@@ -61,9 +67,12 @@ sets_of n t = record {
   src6 = address_set n V6 t.sources t.source_excludes;
   dst4 = address_set n V4 t.destinations t.destination_excludes;
   dst6 = address_set n V6 t.destinations t.destination_excludes;
+  addr4 = named_address_set n V4 t.addresses;
+  addr6 = named_address_set n V6 t.addresses;
   protos = number_set (λ w. protocol_in w.text) t.protocols;
   sports = port_set n (protocols_of t.protocols) t.source_ports;
   dports = port_set n (protocols_of t.protocols) t.destination_ports;
+  ports = port_set n (protocols_of t.protocols) t.ports;
   itypes = number_set (λ w. type_in (icmp_family (protocols_of t.protocols)) w.text) t.icmp_types;
 }
 

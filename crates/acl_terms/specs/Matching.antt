@@ -29,10 +29,18 @@ Admits P (x ∷ xs) = AnyOf P (x ∷ xs)
 abbrev pub NamesAddress : Naming → Family → ℕ → Word → Type 0
 NamesAddress n f x w = ReachesAddress n.networks w.text f x
 
--- One of the names reaches the address, where any is written, and none of the excluded ones does.
+-- One of the names reaches the address, where any is written.
+abbrev pub IsNamedAddress : Naming → Family → List Word → ℕ → Type 0
+IsNamedAddress n f words x = Admits (NamesAddress n f x) words
+
+-- So it is, and none of the excluded names reaches it.
 abbrev pub IsAddress : Naming → Family → List Word → List Word → ℕ → Type 0
 IsAddress n f words excludes x =
-    Admits (NamesAddress n f x) words × (AnyOf (NamesAddress n f x) excludes → ⊥)
+    IsNamedAddress n f words x × (AnyOf (NamesAddress n f x) excludes → ⊥)
+
+-- One of the names reaches the one address or the other, where any is written.
+abbrev pub IsEitherAddress : Naming → Family → List Word → ℕ → ℕ → Type 0
+IsEitherAddress n f words x y = Admits (λ w. NamesAddress n f x w ⊎ NamesAddress n f y w) words
 
 -- ---- protocols and ports
 
@@ -55,6 +63,10 @@ NamesPort n protos x w = AnyOf (λ q. ReachesPort n.services w.text q x) protos
 
 abbrev pub IsPort : Naming → List ℕ → List Word → ℕ → Type 0
 IsPort n protos words x = Admits (NamesPort n protos x) words
+
+abbrev pub IsEitherPort : Naming → List ℕ → List Word → ℕ → ℕ → Type 0
+IsEitherPort n protos words x y =
+    Admits (λ w. NamesPort n protos x w ⊎ NamesPort n protos y w) words
 
 -- ---- ICMP types
 
@@ -91,8 +103,10 @@ is_written (w ∷ ws) = true
 pub record Matches (n : Naming) (t : RawTerm) (mode : Mode) (p : Packet) : Type 0 where
   pub source : IsAddress n p.family t.sources t.source_excludes p.src
   pub destination : IsAddress n p.family t.destinations t.destination_excludes p.dst
+  pub either_address : IsEitherAddress n p.family t.addresses p.src p.dst
   pub protocol : IsProtocolIn p.family t.protocols p.proto
   pub source_port : IsPort n (protocols_of t.protocols) t.source_ports p.sport
   pub destination_port : IsPort n (protocols_of t.protocols) t.destination_ports p.dport
+  pub either_port : IsEitherPort n (protocols_of t.protocols) t.ports p.sport p.dport
   pub icmp_type : IsType (icmp_family (protocols_of t.protocols)) t.icmp_types p.itype
   pub option : passes (option_of t.options) mode (is_written t.destination_ports) p ≡ true

@@ -1,8 +1,10 @@
 -- What private functions give on the way to a term's sets.
-use Rattle.std.specs.Prelude.{ℕ, List, Option, flat_map, option_to_list}
+use Rattle.std.specs.Prelude.{ℕ, Bool, ◌||◌, List, Option, flat_map, option_to_list}
+use Rattle.std.specs.List.{list_any}
 use Rattle.std.specs.Option.{option_or}
 use Rattle.acl_packet.specs.declared.addresses.Family.{Family}
 use Rattle.acl_sets.specs.declared.sets.Range.{Range}
+use Rattle.acl_sets.specs.Ranges.{Numbers, holds}
 use Rattle.acl_text.specs.declared.faults.Code.TheVariants as codes
 use Rattle.acl_text.specs.declared.faults.Slip.{Slip}
 use Rattle.acl_text.specs.Refusals.{first_in}
@@ -30,10 +32,15 @@ protocol_slip services q w =
 -- The questions on names, end by end.
 abbrev pub ends_slip : List Definition → RawTerm → Option Slip
 ends_slip networks t =
-    option_or (option_or (first_in (network_slip networks) t.sources)
+    option_or (option_or (option_or (first_in (network_slip networks) t.sources)
     (first_in (network_slip networks) t.source_excludes))
     (option_or (first_in (network_slip networks) t.destinations)
-    (first_in (network_slip networks) t.destination_excludes))
+    (first_in (network_slip networks) t.destination_excludes)))
+    (first_in (network_slip networks) t.addresses)
+
+-- A range of the one set begins in the other.
+abbrev pub meet : Numbers → Numbers → Bool
+meet s other = list_any (λ r. holds s.ranges r.low) other.ranges || list_any (λ r. holds other.ranges r.low) s.ranges
 
 -- The sets of a term from its parts.
 abbrev pub sets_by : Parts → Sets
@@ -42,8 +49,11 @@ sets_by p = record {
   src6 = p.ends.src.v6;
   dst4 = p.ends.dst.v4;
   dst6 = p.ends.dst.v6;
+  addr4 = p.ends.either.v4;
+  addr6 = p.ends.either.v6;
   protos = p.protos;
   sports = p.ports.sports;
   dports = p.ports.dports;
+  ports = p.ports.ports;
   itypes = p.itypes;
 }

@@ -46,11 +46,12 @@ reaches_protocol base name q = list_any (is_service_of q) (items_reached base na
 
 -- The words that name addresses, in the order of the fields.
 abbrev pub address_words : RawTerm → List Word
-address_words t = t.sources ++ t.source_excludes ++ (t.destinations ++ t.destination_excludes)
+address_words t =
+    t.sources ++ t.source_excludes ++ (t.destinations ++ t.destination_excludes) ++ t.addresses
 
 -- The words that name ports, in the order of the fields.
 abbrev pub port_words : RawTerm → List Word
-port_words t = t.source_ports ++ t.destination_ports
+port_words t = t.source_ports ++ t.destination_ports ++ t.ports
 
 -- Which name of addresses is the first that no network has?
 abbrev pub network_slip : List Definition → Word → Option Slip

@@ -35,8 +35,9 @@ abbrev pub is_left : Verdict → Bool
 is_left verdicts.Left = true
 is_left _ = false
 
-pub record IsSound (name note : List ℕ) (src4 src6 dst4 dst6 protos sports dports : Numbers)
-    (dport_named : Bool) (itypes : Numbers) (option : Opt) (verdict : Verdict) : Type 0 where
+pub record IsSound (name note : List ℕ) (src4 src6 dst4 dst6 addr4 addr6 : Numbers)
+    (addr_named : Bool) (protos sports dports : Numbers) (dport_named : Bool) (ports : Numbers)
+    (port_named : Bool) (itypes : Numbers) (option : Opt) (verdict : Verdict) : Type 0 where
   pub name_is : is_name name ≡ true
   pub note_is : is_note note ≡ true
   pub src4_top : src4.top ≡ top_address V4
@@ -47,6 +48,12 @@ pub record IsSound (name note : List ℕ) (src4 src6 dst4 dst6 protos sports dpo
   pub dst4_normal : IsNormal 0 dst4.top dst4.ranges
   pub dst6_top : dst6.top ≡ top_address V6
   pub dst6_normal : IsNormal 0 dst6.top dst6.ranges
+  pub addr4_top : addr4.top ≡ top_address V4
+  pub addr4_normal : IsNormal 0 addr4.top addr4.ranges
+  pub addr4_named : addr_named ≡ false → is_all addr4 ≡ true
+  pub addr6_top : addr6.top ≡ top_address V6
+  pub addr6_normal : IsNormal 0 addr6.top addr6.ranges
+  pub addr6_named : addr_named ≡ false → is_all addr6 ≡ true
   pub protos_top : protos.top ≡ 255
   pub protos_normal : IsNormal 0 protos.top protos.ranges
   pub protos_lack_0 : is_all protos ≡ false → holds protos.ranges 0 ≡ false
@@ -59,6 +66,11 @@ pub record IsSound (name note : List ℕ) (src4 src6 dst4 dst6 protos sports dpo
   pub dports_some : dports.ranges ≢ []
   pub dports_fit : is_all dports ≡ false → Only has_ports protos
   pub dports_named : dport_named ≡ false → is_all dports ≡ true
+  pub ports_top : ports.top ≡ top_port
+  pub ports_normal : IsNormal 0 ports.top ports.ranges
+  pub ports_some : ports.ranges ≢ []
+  pub ports_fit : is_all ports ≡ false → Only has_ports protos
+  pub ports_named : port_named ≡ false → is_all ports ≡ true
   pub itypes_top : itypes.top ≡ 255
   pub itypes_normal : IsNormal 0 itypes.top itypes.ranges
   pub itypes_some : itypes.ranges ≢ []

@@ -24,11 +24,12 @@ pub(crate) struct Addresses {
     pub(crate) v6: RangeSet,
 }
 
-/// The addresses of a term's two ends.
+/// The addresses of a term's two ends, and those of which it asks either end.
 #[derive(Drop)]
 pub(crate) struct Ends {
     pub(crate) src: Addresses,
     pub(crate) dst: Addresses,
+    pub(crate) either: Addresses,
 }
 
 // The addresses of the family that the word's name reaches.
@@ -109,23 +110,28 @@ fn end_of(
     })
 }
 
-// The addresses of a term's ends, end by end.
-fn both_ends(alloc: Global, base: &Checked, raw: &RawTerm) -> Result<Ends, Refusal>
+// The addresses of a term's ends, end by end, and those of either end.
+fn by_ends(alloc: Global, base: &Checked, raw: &RawTerm) -> Result<Ends, Refusal>
     ensures judged { Judges result (ends_slip base.now.networks raw.now) }
-    ensures v4 { IfOk result (λ e. IsAddressSet base.now V4 raw.now e.src.v4 e.dst.v4) }
-    ensures v6 { IfOk result (λ e. IsAddressSet base.now V6 raw.now e.src.v6 e.dst.v6) }
+    ensures v4 { IfOk result (λ e.
+        IsAddressSet base.now V4 raw.now e.src.v4 e.dst.v4 e.either.v4) }
+    ensures v6 { IfOk result (λ e.
+        IsAddressSet base.now V6 raw.now e.src.v6 e.dst.v6 e.either.v6) }
 {
     let src = end_of(alloc, base, &raw.sources, &raw.source_excludes)?;
     let dst = end_of(alloc, base, &raw.destinations, &raw.destination_excludes)?;
-    Ok(Ends { src, dst })
+    let either = admitted(alloc, base, &raw.addresses)?;
+    Ok(Ends { src, dst, either })
 }
 
 /// The addresses of a term's ends, or the first name that no network has.
 #[tactic(auto, using(crate::proofs::SlipLaws::networks_by_ends))]
 pub(crate) fn ends_of(alloc: Global, base: &Checked, raw: &RawTerm) -> Result<Ends, Refusal>
     ensures judged { Judges result (networks_slip base.now.networks raw.now) }
-    ensures v4 { IfOk result (λ e. IsAddressSet base.now V4 raw.now e.src.v4 e.dst.v4) }
-    ensures v6 { IfOk result (λ e. IsAddressSet base.now V6 raw.now e.src.v6 e.dst.v6) }
+    ensures v4 { IfOk result (λ e.
+        IsAddressSet base.now V4 raw.now e.src.v4 e.dst.v4 e.either.v4) }
+    ensures v6 { IfOk result (λ e.
+        IsAddressSet base.now V6 raw.now e.src.v6 e.dst.v6 e.either.v6) }
 {
-    both_ends(alloc, base, raw)
+    by_ends(alloc, base, raw)
 }

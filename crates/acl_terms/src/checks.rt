@@ -233,21 +233,31 @@ fn check_reset(alloc: Global, protos: &[u8], word: &WordRef<'_>) -> Result<(), R
     )
 }
 
-/// Whether ports stand only with TCP, UDP and SCTP. The slip is at the first word of ports.
-pub(crate) fn check_port_protocol(
+fn check_ports_of_ends(
     alloc: Global,
-    protos: &[u8],
+    passed: bool,
     sources: &WordList,
     destinations: &WordList,
 ) -> Result<(), Refusal>
-    ensures { Judges result (first_unless (only has_ports protos.now) codes.PortProtocol
-        (sources.now ++ destinations.now)) }
+    ensures { Judges result (first_unless passed codes.PortProtocol (sources.now ++ destinations.now)) }
 {
-    let passed = only_ports(protos);
     match sources.first() {
         None => check_first(alloc, passed, Code::PortProtocol, destinations),
         Some(_) => check_first(alloc, passed, Code::PortProtocol, sources),
     }
+}
+
+/// Whether ports stand only with TCP, UDP and SCTP. The slip is at the first word of ports.
+pub(crate) fn check_port_protocol(
+    alloc: Global,
+    protos: &[u8],
+    raw: &RawTerm,
+) -> Result<(), Refusal>
+    ensures { Judges result (port_protocol_slip protos.now raw.now) }
+{
+    let passed = only_ports(protos);
+    check_ports_of_ends(alloc, passed, &raw.source_ports, &raw.destination_ports)?;
+    check_first(alloc, passed, Code::PortProtocol, &raw.ports)
 }
 
 /// The questions on words that are no names: ICMP types, options, the action.

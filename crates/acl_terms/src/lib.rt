@@ -4,6 +4,7 @@
 mod addresses;
 mod checks;
 mod distinct;
+mod emptiness;
 mod laws;
 mod living;
 mod matching;
@@ -12,14 +13,19 @@ mod options;
 mod ports;
 mod protocols;
 mod resolving;
+mod side_sets;
+mod sides;
 mod terms;
 
+pub use emptiness::{is_empty_in, is_pair_empty};
 pub use laws::{
     policies_decide_as_written, terms_are_one, terms_are_there, terms_live_as_written,
     terms_match_as_written,
 };
 pub use living::is_live;
-pub use matching::{destination_in, is_empty_in, matches, source_in};
+pub use matching::{destination_in, either_in, matches, source_in};
 pub use options::{Mode, Opt};
 pub use resolving::resolve;
+pub use side_sets::{dports_on, pairs_of, sports_on};
+pub use sides::{Side, SidePair};
 pub use terms::{Platforms, Term};

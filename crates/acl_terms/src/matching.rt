@@ -1,14 +1,12 @@
-ghost use Rattle.std.specs.Prelude.{◌≡◌, ◌↔◌, IsTrue};
-ghost use Rattle.std.specs.List.{list_all};
+ghost use Rattle.std.specs.Prelude.{◌≡◌};
 ghost use Rattle.acl_terms.specs.Options.{passes};
 ghost use Rattle.acl_terms.specs.Resolved.{
-  IsEmptyIn,
+  addresses_match,
   destination_in,
+  either_in,
   ends_match,
-  has_no_protocol,
   has_protocol,
-  is_empty_in,
-  is_just,
+  holds_either,
   matches,
   ports_match,
   source_in,
@@ -17,7 +15,7 @@ ghost use Rattle.acl_terms.specs.Resolved.{
 use crate::options::{Mode, Opt};
 use crate::terms::Term;
 use acl_packet::{Family, Packet, has_flag};
-use acl_sets::{Range, RangeSet};
+use acl_sets::RangeSet;
 
 // ---- options
 
@@ -67,6 +65,16 @@ pub fn destination_in(family: Family, term: &Term) -> &RangeSet
     }
 }
 
+/// The addresses of the family of which the term asks either side of a packet.
+pub fn either_in(family: Family, term: &Term) -> &RangeSet
+    ensures { result.now ≡ either_in family term.now }
+{
+    match family {
+        Family::V4 => &term.addr4,
+        Family::V6 => &term.addr6,
+    }
+}
+
 fn has_protocol(family: Family, term: &Term, proto: u8) -> bool
     ensures { result ≡ has_protocol family term.now proto }
 {
@@ -74,22 +82,39 @@ fn has_protocol(family: Family, term: &Term, proto: u8) -> bool
         && (term.protos.is_all() || proto != family.foreign_number())
 }
 
+fn holds_either(set: &RangeSet, first: u128, second: u128) -> bool
+    ensures { result ≡ holds_either set.now first second }
+{
+    set.contains(first) || set.contains(second)
+}
+
+fn addresses_match(term: &Term, packet: &Packet) -> bool
+    ensures { result ≡ addresses_match packet.now.family term.now packet.now }
+{
+    source_in(packet.family, term).contains(packet.src)
+        && destination_in(packet.family, term).contains(packet.dst)
+        && holds_either(either_in(packet.family, term), packet.src, packet.dst)
+}
+
 fn ends_match(term: &Term, packet: &Packet) -> bool
     ensures { result ≡ ends_match packet.now.family term.now packet.now }
 {
-    has_protocol(packet.family, term, packet.proto)
-        && source_in(packet.family, term).contains(packet.src)
-        && destination_in(packet.family, term).contains(packet.dst)
+    has_protocol(packet.family, term, packet.proto) && addresses_match(term, packet)
 }
 
 fn ports_match(term: &Term, packet: &Packet) -> bool
     ensures { result ≡ ports_match term.now packet.now }
 {
-    term.sports.contains(u128::from(packet.sport)) && term.dports.contains(u128::from(packet.dport))
+    let sport = u128::from(packet.sport);
+    let dport = u128::from(packet.dport);
+    term.sports.contains(sport)
+        && term.dports.contains(dport)
+        && holds_either(&term.ports, sport, dport)
 }
 
-/// Whether the term matches the packet: the family's source and destination hold its addresses, the family's
-/// protocols its protocol, the port sets its ports, the types its ICMP type, and it passes the option.
+/// Whether the term matches the packet: the family's source and destination hold its addresses, what is asked of
+/// either address one of them, the family's protocols its protocol, the port sets its ports, what is asked of either
+/// port one of them, the types its ICMP type, and it passes the option.
 #[tactic(auto, unfolding(crate::specs::Resolved::matches))]
 pub fn matches(term: &Term, mode: Mode, packet: &Packet) -> bool
     ensures { result ≡ matches mode term.now packet.now }
@@ -98,42 +123,4 @@ pub fn matches(term: &Term, mode: Mode, packet: &Packet) -> bool
         && ports_match(term, packet)
         && term.itypes.contains(u128::from(packet.itype))
         && passes(term.option, mode, term.dport_named, packet)
-}
-
-// ---- emptiness
-
-fn is_just(number: u8, range: &Range) -> bool
-    ensures { result ≡ is_just number range.now }
-{
-    range.low == u128::from(number) && range.high == u128::from(number)
-}
-
-fn are_just(number: u8, ranges: &[Range]) -> bool
-    ensures { result ≡ list_all (is_just number) ranges.now }
-{
-    ranges.iter().all(|r| is_just(number, r))
-}
-
-fn has_no_protocol(family: Family, term: &Term) -> bool
-    ensures { result ≡ has_no_protocol family term.now }
-{
-    !term.protos.is_all() && are_just(family.foreign_number(), term.protos.ranges())
-}
-
-#[tactic(auto, unfolding(crate::specs::Resolved::is_empty_in))]
-fn has_nothing_in(term: &Term, family: Family) -> bool
-    ensures { result ≡ is_empty_in family term.now }
-{
-    source_in(family, term).is_empty()
-        || destination_in(family, term).is_empty()
-        || has_no_protocol(family, term)
-}
-
-/// Whether the term is empty in the family: its source, its destination or its protocols there are none. Where
-/// protocols are named, 58 is none of IPv4 and 1 none of IPv6.
-pub fn is_empty_in(term: &Term, family: Family) -> bool
-    ensures exact { IsTrue result ↔ IsEmptyIn family term.now }
-    ensures computed { result ≡ is_empty_in family term.now }
-{
-    has_nothing_in(term, family)
 }

@@ -19,11 +19,12 @@ use std::alloc::Global;
 // The highest port.
 const TOP: u128 = 65535;
 
-/// The ports of a term, from which and to which.
+/// The ports of a term, from which and to which, and those of either.
 #[derive(Drop)]
 pub(crate) struct TermPorts {
     pub(crate) sports: RangeSet,
     pub(crate) dports: RangeSet,
+    pub(crate) ports: RangeSet,
 }
 
 // The ports that the word's name reaches with the protocol.
@@ -124,9 +125,14 @@ pub(crate) fn ports_of_term(
     requires { port_words raw.now ≢ [] → protos.now ≢ [] }
     ensures judged { Judges result (services_slip base.now.services protos.now raw.now) }
     ensures ports { IfOk result (λ p.
-        IsPortSet base.now protos.now raw.now p.sports p.dports) }
+        IsPortSet base.now protos.now raw.now p.sports p.dports p.ports) }
 {
     let sports = admitted(alloc, base, protos, &raw.source_ports)?;
     let dports = admitted(alloc, base, protos, &raw.destination_ports)?;
-    Ok(TermPorts { sports, dports })
+    let ports = admitted(alloc, base, protos, &raw.ports)?;
+    Ok(TermPorts {
+        sports,
+        dports,
+        ports,
+    })
 }

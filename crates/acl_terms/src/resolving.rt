@@ -37,7 +37,7 @@ fn parts_of(alloc: Global, base: &Checked, raw: &RawTerm) -> Result<Parts, Refus
 {
     let protos = protocols_of(alloc, &raw.protocols)?;
     let ends = ends_of(alloc, base, raw)?;
-    check_port_protocol(alloc, &protos, &raw.source_ports, &raw.destination_ports)?;
+    check_port_protocol(alloc, &protos, raw)?;
     let ports = ports_of_term(alloc, base, &protos, raw)?;
     check_words(alloc, &protos, raw)?;
     let family = icmp_family(&protos);
@@ -74,9 +74,14 @@ pub fn resolve(alloc: Global, base: &Checked, raw: &RawTerm) -> Result<Term, Ref
 {
     let parts = parts_of(alloc, base, raw)?;
     let Parts {
-        ends: Ends { src, dst },
+        ends: Ends { src, dst, either },
         protos,
-        ports: TermPorts { sports, dports },
+        ports:
+            TermPorts {
+                sports,
+                dports,
+                ports,
+            },
         itypes,
     } = parts;
     let name = Bytes::from_slice(alloc, raw.name.text.as_slice())?;
@@ -89,10 +94,15 @@ pub fn resolve(alloc: Global, base: &Checked, raw: &RawTerm) -> Result<Term, Ref
         src6: src.v6,
         dst4: dst.v4,
         dst6: dst.v6,
+        addr4: either.v4,
+        addr6: either.v6,
+        addr_named: is_written(&raw.addresses),
         protos,
         sports,
         dports,
         dport_named: is_written(&raw.destination_ports),
+        ports,
+        port_named: is_written(&raw.ports),
         itypes,
         option: option_of(&raw.options),
         verdict: verdict_of(raw.action.text.as_slice()),

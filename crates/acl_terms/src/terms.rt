@@ -18,9 +18,11 @@ ghost use Rattle.acl_terms.specs.Soundness.{IsSound, normal-prop};
 
 /// A term whose words stand for numbers.
 ///
-/// `src4` to `dst6` are the addresses of a family, less the excluded ones; `protos`, `sports`, `dports` and
-/// `itypes` are all numbers where none are named. `dport_named` says that `destination-port::` is written.
-/// `only` has the platforms of `platform::`, where it is written, and `never` those of `platform-exclude::`.
+/// `src4` to `dst6` are the addresses of a family, less the excluded ones. `addr4` and `addr6` are those of
+/// `address::`, of which a packet has one at least, as its source or its destination; `ports` are those of `port::`
+/// likewise. These, `protos`, `sports`, `dports` and `itypes` are all numbers where none are named. `addr_named`,
+/// `dport_named` and `port_named` say that `address::`, `destination-port::` and `port::` are written. `only` has the
+/// platforms of `platform::`, where it is written, and `never` those of `platform-exclude::`.
 #[derive(Debug, Drop)]
 pub struct Term {
     pub name: Bytes,
@@ -30,10 +32,15 @@ pub struct Term {
     pub src6: RangeSet,
     pub dst4: RangeSet,
     pub dst6: RangeSet,
+    pub addr4: RangeSet,
+    pub addr6: RangeSet,
+    pub addr_named: bool,
     pub protos: RangeSet,
     pub sports: RangeSet,
     pub dports: RangeSet,
     pub dport_named: bool,
+    pub ports: RangeSet,
+    pub port_named: bool,
     pub itypes: RangeSet,
     pub option: Opt,
     pub verdict: Verdict,
@@ -41,6 +48,6 @@ pub struct Term {
     pub expires: Option<Day>,
     pub only: Option<Platforms>,
     pub never: Platforms,
-    pub ghost sound: { IsSound name note src4 src6 dst4 dst6 protos sports dports dport_named itypes
-        option verdict } by { Prim.hlevel (props, normal-prop) },
+    pub ghost sound: { IsSound name note src4 src6 dst4 dst6 addr4 addr6 addr_named protos sports
+        dports dport_named ports port_named itypes option verdict } by { Prim.hlevel (props, normal-prop) },
 }

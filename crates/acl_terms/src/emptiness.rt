@@ -1,0 +1,149 @@
+ghost use Rattle.std.specs.Prelude.{◌≡◌, ◌↔◌, ◌||◌, IsTrue};
+ghost use Rattle.std.specs.List.{list_all, list_any};
+ghost use Rattle.acl_sets.specs.Ranges.{holds};
+ghost use Rattle.acl_terms.specs.Resolved.{
+  IsEmptyIn,
+  IsPairEmpty,
+  destination_cut,
+  destinations_on,
+  dports_on,
+  has_no_protocol,
+  has_none,
+  in_both,
+  is_empty_in,
+  is_just,
+  is_pair_empty,
+  pairs_of,
+  source_cut,
+  sources_on,
+  sports_on,
+};
+ghost use Rattle.acl_terms.specs.SetSteps.{meet};
+
+use crate::matching::{destination_in, either_in, source_in};
+use crate::side_sets::pairs_of;
+use crate::sides::{Side, SidePair};
+use crate::terms::Term;
+use acl_packet::Family;
+use acl_sets::{Range, RangeSet};
+
+// ---- protocols
+
+fn is_just(number: u8, range: &Range) -> bool
+    ensures { result ≡ is_just number range.now }
+{
+    range.low == u128::from(number) && range.high == u128::from(number)
+}
+
+fn are_just(number: u8, ranges: &[Range]) -> bool
+    ensures { result ≡ list_all (is_just number) ranges.now }
+{
+    ranges.iter().all(|r| is_just(number, r))
+}
+
+fn has_no_protocol(family: Family, term: &Term) -> bool
+    ensures { result ≡ has_no_protocol family term.now }
+{
+    !term.protos.is_all() && are_just(family.foreign_number(), term.protos.ranges())
+}
+
+// ---- what two sets share
+
+fn begins_in(set: &RangeSet, ranges: &[Range]) -> bool
+    ensures { result ≡ list_any (λ r. holds set.now.ranges r.low) ranges.now }
+{
+    ranges.iter().any(|r| set.contains(r.low))
+}
+
+// Whether some number is in both sets. Then a range of the one begins in the other; no memory is needed to see it.
+fn meet(set: &RangeSet, other: &RangeSet) -> bool
+    ensures { result ≡ meet set.now other.now }
+{
+    begins_in(set, other.ranges()) || begins_in(other, set.ranges())
+}
+
+fn is_apart(set: &RangeSet, other: &RangeSet) -> bool
+    requires { set.now.top ≡ other.now.top }
+    ensures { result ≡ has_none (in_both set.now other.now) }
+{
+    !meet(set, other)
+}
+
+// ---- sides
+
+fn has_no_source(side: Side, set: &RangeSet, either: &RangeSet) -> bool
+    requires { set.now.top ≡ either.now.top }
+    ensures { result ≡ has_none (source_cut side set.now either.now) }
+{
+    match side {
+        Side::Source => is_apart(set, either),
+        Side::Whole | Side::Destination => set.is_empty(),
+    }
+}
+
+fn has_no_destination(side: Side, set: &RangeSet, either: &RangeSet) -> bool
+    requires { set.now.top ≡ either.now.top }
+    ensures { result ≡ has_none (destination_cut side set.now either.now) }
+{
+    match side {
+        Side::Destination => is_apart(set, either),
+        Side::Whole | Side::Source => set.is_empty(),
+    }
+}
+
+fn lacks_addresses(term: &Term, family: Family, side: Side) -> bool
+    ensures { result ≡ (has_none (sources_on side family term.now)
+        || has_none (destinations_on side family term.now)) }
+{
+    let either = either_in(family, term);
+    has_no_source(side, source_in(family, term), either)
+        || has_no_destination(side, destination_in(family, term), either)
+}
+
+fn lacks_ports(term: &Term, side: Side) -> bool
+    ensures { result ≡ (has_none (sports_on side term.now) || has_none (dports_on side term.now)) }
+{
+    has_no_source(side, &term.sports, &term.ports)
+        || has_no_destination(side, &term.dports, &term.ports)
+}
+
+fn has_nothing_on(term: &Term, family: Family, pair: SidePair) -> bool
+    ensures { result ≡ is_pair_empty family term.now pair }
+{
+    lacks_addresses(term, family, pair.addresses)
+        || lacks_ports(term, pair.ports)
+        || has_no_protocol(family, term)
+}
+
+/// Whether the term is empty on the pair of sides, in the family: its source, its destination, its source ports, its
+/// destination ports or its protocols there are none.
+pub fn is_pair_empty(term: &Term, family: Family, pair: SidePair) -> bool
+    ensures exact { IsTrue result ↔ IsPairEmpty family term.now pair }
+    ensures computed { result ≡ is_pair_empty family term.now pair }
+{
+    has_nothing_on(term, family, pair)
+}
+
+// ---- the whole term
+
+fn are_empty(pairs: &[SidePair], term: &Term, family: Family) -> bool
+    ensures { result ≡ list_all (is_pair_empty family term.now) pairs.now }
+{
+    pairs.iter().all(|pair| has_nothing_on(term, family, *pair))
+}
+
+#[tactic(auto, unfolding(crate::specs::Resolved::is_empty_in))]
+fn has_nothing_in(term: &Term, family: Family) -> bool
+    ensures { result ≡ is_empty_in family term.now }
+{
+    are_empty(pairs_of(term), term, family)
+}
+
+/// Whether the term is empty in the family: it is on each pair of its sides. Where protocols are named, 58 is none of
+/// IPv4 and 1 none of IPv6.
+pub fn is_empty_in(term: &Term, family: Family) -> bool
+    ensures exact { IsTrue result ↔ IsEmptyIn family term.now }
+    ensures computed { result ≡ is_empty_in family term.now }
+{
+    has_nothing_in(term, family)
+}
