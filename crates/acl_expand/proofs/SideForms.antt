@@ -1,6 +1,5 @@
--- The sets of a term on a pair of its sides.
-use Rattle.std.proofs.Common.{◌≡◌, ◌≢◌, ℕ, ◌≤◌, Bool, true, false, ◌&&◌, ◌||◌, ◌==◌, [], length, refl, ap, sym, subst, ◌∙◌, arith}
-use Rattle.std.specs.List.{list_any}
+-- The sets of a term on a pair of its sides: their tops and forms, when they are all, and when they are none.
+use Rattle.std.proofs.Common.{◌≡◌, ◌≢◌, ℕ, ◌≤◌, Bool, true, false, ◌&&◌, ◌||◌, ◌==◌, [], length, refl, ap, ◌∙◌, arith}
 use Rattle.std.proofs.lemmas.Bool.{both_ways, or_parts}
 use Rattle.acl_packet.specs.declared.addresses.Family.{Family}
 use Rattle.acl_packet.specs.declared.addresses.Family.TheVariants.{V4, V6}
@@ -8,105 +7,96 @@ use Rattle.acl_packet.specs.Addresses.{top_address}
 use Rattle.acl_packet.specs.Packets.{has_ports}
 use Rattle.acl_sets.specs.ComputableSets.{is_all}
 use Rattle.acl_sets.specs.Ranges.{IsNormal, Numbers, Only, holds}
-use Rattle.acl_sets.proofs.ComputableSetLaws.{covers-holds, holds-covers, shared_all-holds, shared_all-normal}
+use Rattle.acl_sets.proofs.ComputableSetLaws.{covers-holds, holds-covers}
 use Rattle.acl_terms.specs.declared.sides.Side.{Side}
 use Rattle.acl_terms.specs.declared.sides.Side.TheVariants.{Whole, Source, Destination}
 use Rattle.acl_terms.specs.declared.sides.SidePair.{SidePair}
 use Rattle.acl_terms.specs.declared.terms.Term.{Term}
 use Rattle.acl_terms.specs.Resolved.{destination_cut, destination_in, destinations_on, dports_on, either_in, has_no_protocol, has_none, in_both, is_pair_empty, source_cut, source_in, sources_on, sports_on}
+use Rattle.acl_terms.proofs.SideLaws.{both-holds, both-normal, destination-cut-normal, destination-normal, destination_tops, dport_tops, either-normal, source-cut-normal, source-normal, source_tops, sport_tops}
 
--- ---- sets that are cut
+-- ---- tops
 
-pub both-holds : (s e : Numbers) (x : ℕ) → IsNormal 0 s.top s.ranges → holds (in_both s e).ranges x ≡ (holds s.ranges x && holds e.ranges x)
-both-holds s e x n = shared_all-holds 0 s.top e.ranges s.ranges x n
+source-top : (f : Family) (t : Term) → (source_in f t).top ≡ top_address f
+source-top V4 t = t.sound.src4_top
+source-top V6 t = t.sound.src6_top
 
--- The set is in normal form, up to the top.
-pub record IsUpTo (top : ℕ) (s : Numbers) : Type 0 where
-  pub top_is : s.top ≡ top
-  pub normal : IsNormal 0 s.top s.ranges
+destination-top : (f : Family) (t : Term) → (destination_in f t).top ≡ top_address f
+destination-top V4 t = t.sound.dst4_top
+destination-top V6 t = t.sound.dst6_top
 
-pub both-is : (top : ℕ) (s e : Numbers) → IsUpTo top s → IsUpTo top e → IsUpTo top (in_both s e)
-both-is top s e h k = record {
-  top_is = h.top_is;
-  normal = subst (λ n. IsNormal 0 n (in_both s e).ranges) (k.top_is ∙ sym h.top_is)
-      (shared_all-normal 0 e.top 0 s.top e.ranges s.ranges k.normal h.normal);
-}
+source-cut-top : (side : Side) (s e : Numbers) → (source_cut side s e).top ≡ s.top
+source-cut-top Whole s e = refl
+source-cut-top Source s e = refl
+source-cut-top Destination s e = refl
 
-source-cut-is : (top : ℕ) (side : Side) (s e : Numbers) → IsUpTo top s → IsUpTo top e → IsUpTo top (source_cut side s e)
-source-cut-is top Whole s e h k = h
-source-cut-is top Source s e h k = both-is top s e h k
-source-cut-is top Destination s e h k = h
+destination-cut-top : (side : Side) (s e : Numbers) → (destination_cut side s e).top ≡ s.top
+destination-cut-top Whole s e = refl
+destination-cut-top Source s e = refl
+destination-cut-top Destination s e = refl
 
-destination-cut-is : (top : ℕ) (side : Side) (s e : Numbers) → IsUpTo top s → IsUpTo top e → IsUpTo top (destination_cut side s e)
-destination-cut-is top Whole s e h k = h
-destination-cut-is top Source s e h k = h
-destination-cut-is top Destination s e h k = both-is top s e h k
+pub sources-top : (side : Side) (f : Family) (t : Term) → (sources_on side f t).top ≡ top_address f
+sources-top side f t = source-cut-top side (source_in f t) (either_in f t) ∙ source-top f t
 
--- ---- the sets of a term
+pub destinations-top : (side : Side) (f : Family) (t : Term) → (destinations_on side f t).top ≡ top_address f
+destinations-top side f t = destination-cut-top side (destination_in f t) (either_in f t) ∙ destination-top f t
 
-pub source-is : (f : Family) (t : Term) → IsUpTo (top_address f) (source_in f t)
-source-is V4 t = record { top_is = t.sound.src4_top; normal = t.sound.src4_normal }
-source-is V6 t = record { top_is = t.sound.src6_top; normal = t.sound.src6_normal }
+pub sports-top : (side : Side) (t : Term) → (sports_on side t).top ≡ 65535
+sports-top side t = source-cut-top side t.sports t.ports ∙ t.sound.sports_top
 
-pub destination-is : (f : Family) (t : Term) → IsUpTo (top_address f) (destination_in f t)
-destination-is V4 t = record { top_is = t.sound.dst4_top; normal = t.sound.dst4_normal }
-destination-is V6 t = record { top_is = t.sound.dst6_top; normal = t.sound.dst6_normal }
+pub dports-top : (side : Side) (t : Term) → (dports_on side t).top ≡ 65535
+dports-top side t = destination-cut-top side t.dports t.ports ∙ t.sound.dports_top
 
-pub either-is : (f : Family) (t : Term) → IsUpTo (top_address f) (either_in f t)
-either-is V4 t = record { top_is = t.sound.addr4_top; normal = t.sound.addr4_normal }
-either-is V6 t = record { top_is = t.sound.addr6_top; normal = t.sound.addr6_normal }
+-- ---- normal forms
 
-pub sports-are : (t : Term) → IsUpTo 65535 t.sports
-sports-are t = record { top_is = t.sound.sports_top; normal = t.sound.sports_normal }
+pub sources-normal : (side : Side) (f : Family) (t : Term) → IsNormal 0 (sources_on side f t).top (sources_on side f t).ranges
+sources-normal side f t = source-cut-normal side (source_in f t) (either_in f t) (source_tops f t) (source-normal f t) (either-normal f t)
 
-pub dports-are : (t : Term) → IsUpTo 65535 t.dports
-dports-are t = record { top_is = t.sound.dports_top; normal = t.sound.dports_normal }
+pub destinations-normal : (side : Side) (f : Family) (t : Term) → IsNormal 0 (destinations_on side f t).top (destinations_on side f t).ranges
+destinations-normal side f t =
+    destination-cut-normal side (destination_in f t) (either_in f t) (destination_tops f t) (destination-normal f t) (either-normal f t)
 
-pub ports-are : (t : Term) → IsUpTo 65535 t.ports
-ports-are t = record { top_is = t.sound.ports_top; normal = t.sound.ports_normal }
+pub sports-normal : (side : Side) (t : Term) → IsNormal 0 (sports_on side t).top (sports_on side t).ranges
+sports-normal side t = source-cut-normal side t.sports t.ports (sport_tops t) t.sound.sports_normal t.sound.ports_normal
 
-pub sources-on-are : (side : Side) (f : Family) (t : Term) → IsUpTo (top_address f) (sources_on side f t)
-sources-on-are side f t = source-cut-is (top_address f) side (source_in f t) (either_in f t) (source-is f t) (either-is f t)
-
-pub destinations-on-are : (side : Side) (f : Family) (t : Term) → IsUpTo (top_address f) (destinations_on side f t)
-destinations-on-are side f t = destination-cut-is (top_address f) side (destination_in f t) (either_in f t) (destination-is f t) (either-is f t)
-
-pub sports-on-are : (side : Side) (t : Term) → IsUpTo 65535 (sports_on side t)
-sports-on-are side t = source-cut-is 65535 side t.sports t.ports (sports-are t) (ports-are t)
-
-pub dports-on-are : (side : Side) (t : Term) → IsUpTo 65535 (dports_on side t)
-dports-on-are side t = destination-cut-is 65535 side t.dports t.ports (dports-are t) (ports-are t)
+pub dports-normal : (side : Side) (t : Term) → IsNormal 0 (dports_on side t).top (dports_on side t).ranges
+dports-normal side t = destination-cut-normal side t.dports t.ports (dport_tops t) t.sound.dports_normal t.sound.ports_normal
 
 -- ---- sets that are all
 
 pub all-held : (s : Numbers) (x : ℕ) → is_all s ≡ true → x ≤ s.top → holds s.ranges x ≡ true
 all-held s x e h = covers-holds s.ranges 0 s.top x e (omega arith) h
 
-both-all : (top : ℕ) (s e : Numbers) → IsUpTo top s → IsUpTo top e → is_all s ≡ true → is_all e ≡ true → is_all (in_both s e) ≡ true
-both-all top s e h k p q =
-    holds-covers 0 s.top (in_both s e).ranges 0 s.top (both-is top s e h k).normal (omega arith)
-    (λ x _ within. both-holds s e x h.normal ∙ ap (λ b. b && holds e.ranges x) (all-held s x p within)
-    ∙ all-held e x q (omega (arith, within, h.top_is, k.top_is)))
+both-all : (s e : Numbers) → s.top ≡ e.top → IsNormal 0 s.top s.ranges → IsNormal 0 e.top e.ranges
+    → is_all s ≡ true → is_all e ≡ true → is_all (in_both s e) ≡ true
+both-all s e tops n m p q =
+    holds-covers 0 s.top (in_both s e).ranges 0 s.top (both-normal s e tops n m) (omega arith)
+    (λ x _ within. both-holds s e x n ∙ ap (λ b. b && holds e.ranges x) (all-held s x p within)
+    ∙ all-held e x q (omega (arith, within, tops)))
 
 -- A cut of two sets is not all only where one of the two is not.
-both-fit : (P : Type 0) (top : ℕ) (s e : Numbers) → IsUpTo top s → IsUpTo top e → (is_all s ≡ false → P) → (is_all e ≡ false → P)
-    → is_all (in_both s e) ≡ false → P
-both-fit P top s e h k left right part = by (is_all s) (is_all e) refl refl
+both-fit : (P : Type 0) (s e : Numbers) → s.top ≡ e.top → IsNormal 0 s.top s.ranges → IsNormal 0 e.top e.ranges
+    → (is_all s ≡ false → P) → (is_all e ≡ false → P) → is_all (in_both s e) ≡ false → P
+both-fit P s e tops n m left right part = by (is_all s) (is_all e) refl refl
   where
     by : (a b : Bool) → is_all s ≡ a → is_all e ≡ b → P
     by false b p q = left p
     by true false p q = right q
-    by true true p q = absurd (both_ways (is_all (in_both s e)) part (both-all top s e h k p q))
+    by true true p q = absurd (both_ways (is_all (in_both s e)) part (both-all s e tops n m p q))
 
 pub sports-fit : (side : Side) (t : Term) → is_all (sports_on side t) ≡ false → Only has_ports t.protos
 sports-fit Whole t e = t.sound.sports_fit e
-sports-fit Source t e = both-fit (Only has_ports t.protos) 65535 t.sports t.ports (sports-are t) (ports-are t) t.sound.sports_fit t.sound.ports_fit e
+sports-fit Source t e =
+    both-fit (Only has_ports t.protos) t.sports t.ports (sport_tops t) t.sound.sports_normal t.sound.ports_normal
+    t.sound.sports_fit t.sound.ports_fit e
 sports-fit Destination t e = t.sound.sports_fit e
 
 pub dports-fit : (side : Side) (t : Term) → is_all (dports_on side t) ≡ false → Only has_ports t.protos
 dports-fit Whole t e = t.sound.dports_fit e
 dports-fit Source t e = t.sound.dports_fit e
-dports-fit Destination t e = both-fit (Only has_ports t.protos) 65535 t.dports t.ports (dports-are t) (ports-are t) t.sound.dports_fit t.sound.ports_fit e
+dports-fit Destination t e =
+    both-fit (Only has_ports t.protos) t.dports t.ports (dport_tops t) t.sound.dports_normal t.sound.ports_normal
+    t.sound.dports_fit t.sound.ports_fit e
 
 -- Where nothing is asked of either address, each is one of which it might be.
 pub either-all : (f : Family) (t : Term) (x : ℕ) → t.addr_named ≡ false → x ≤ top_address f → holds (either_in f t).ranges x ≡ true
