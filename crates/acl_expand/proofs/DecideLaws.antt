@@ -25,7 +25,7 @@ use Rattle.acl_platform.specs.Rules.{decided_by, rule_holds, rules_outcome}
 use Rattle.acl_expand.specs.declared.conditions.Conditions.{Conditions}
 use Rattle.acl_expand.specs.Expansions.{DecidesAsTerms, FiltersDecideAsWritten, filter_of}
 use Rattle.acl_expand.specs.TermRules.{conditions_by, family_rules, members, pair_rules, rule_of, rules_of, term_rules, verdict_on}
-use Rattle.acl_expand.proofs.HoldLaws.{term-step}
+use Rattle.acl_expand.proofs.HoldLaws.{in-range, term-step}
 
 -- ---- rules with one decision
 
@@ -123,7 +123,7 @@ rules-decide target today [] p is c = ending-shown target.kind target.ending p
 rules-decide target today (t ∷ terms) p is c =
     let o = shown target.kind (outcome_of t) in
     over-alike target.ending o (term_rules target today t) (rules_of target today terms) p (term-alike target today t)
-    ∙ ap (λ b. cond b o (rules_outcome target.ending (rules_of target today terms) p)) (term-step target today t p is c)
+    ∙ ap (λ b. cond b o (rules_outcome target.ending (rules_of target today terms) p)) (term-step target today t p (in-range p is) c)
     ∙ ap (λ x. cond (decides target today p t) o x) (rules-decide target today terms p is c)
     ∙ shown-choice target.kind (decides target today p t) (outcome_of t) (policy_outcome target today terms p)
 

@@ -41,10 +41,29 @@ use Rattle.acl_expand.proofs.AnyLaws.{any-as, any-flat, any-left, any-map, any-r
 use Rattle.acl_expand.proofs.SetForms.{and-true, just-holds, least-holds, or-false, protocol-holds, tcp-or-udp, udp-holds}
 use Rattle.acl_expand.proofs.SideForms.{destinations-normal, destinations-top, either-all, ports-all, sources-normal, sources-top}
 
+-- ---- packets
+
+-- The parts of a packet are numbers of which sets hold all that a term asks nothing of.
+pub record IsInRange (p : Packet) : Type 0 where
+  pub source : p.src ≤ top_address p.family
+  pub source_port : p.sport < 65536
+  pub destination_port : p.dport < 65536
+
+address-within : (f : Family) (x : ℕ) → x < 2 ^ width_of f → x ≤ top_address f
+address-within V4 x h = omega (arith, h)
+address-within V6 x h = omega (arith, h)
+
+pub in-range : (p : Packet) → IsPacket p → IsInRange p
+in-range p is = record {
+  source = address-within p.family p.src is.source;
+  source_port = is.source_port;
+  destination_port = is.destination_port;
+}
+
 -- ---- one rule
 
 -- What a rule holds, in the sets of its term on a pair of sides.
-abbrev with-sets : Family → Term → SidePair → Packet → Bool → Bool → Bool
+abbrev pub with-sets : Family → Term → SidePair → Packet → Bool → Bool → Bool
 with-sets f t pair p proto dport = proto && (holds (sources_on pair.addresses f t).ranges p.src
     && (holds (destinations_on pair.addresses f t).ranges p.dst && (holds (sports_on pair.ports t).ranges p.sport && (dport
     && holds t.itypes.ranges p.itype))))
@@ -60,7 +79,7 @@ abbrev on-pair : Family → Term → Packet → Bool → SidePair → Bool
 on-pair f t p o pair = (has_protocol f t p.proto && addresses-on f t p pair.addresses)
     && (ports-on t p pair.ports && (holds t.itypes.ranges p.itype && o))
 
-rule-sets : (kind : Kind) (f : Family) (t : Term) (pair : SidePair) (c : Conditions) (p : Packet)
+pub rule-sets : (kind : Kind) (f : Family) (t : Term) (pair : SidePair) (c : Conditions) (p : Packet)
     → rule_holds (rule_of kind f t pair c) p
     ≡ (same_family f p.family && (with-sets f t pair p (holds c.protos.ranges p.proto) (holds c.dports.ranges p.dport)
     && rules.passes c.test p))
@@ -179,7 +198,7 @@ udp-alone true true d h ack u e n is = absurd (both_ways true n refl)
 udp-alone true false d h ack u e n is = absurd (both_ways h e is)
 udp-alone false c d h ack u e n is = and-true u
 
-established-step : (kind : Kind) (f : Family) (t : Term) (pair : SidePair) (p : Packet) (tcp udp : Bool) → IsPacket p
+established-step : (kind : Kind) (f : Family) (t : Term) (pair : SidePair) (p : Packet) (tcp udp : Bool) → IsInRange p
     → Only is_tcp_or_udp t.protos → holds t.protos.ranges 6 ≡ tcp → holds t.protos.ranges 17 ≡ udp
     → list_any (λ r. rule_holds r p) (map (rule_of kind f t pair) (established_conditions f t pair.ports tcp udp))
     ≡ (same_family f p.family && on-pair f t p (terms.passes options.Established Stateless t.dport_named p) pair)
@@ -226,7 +245,7 @@ established-step kind f t pair p false udp is only e d =
 
 -- ---- any option
 
-option-step : (o : Opt) (mode : Mode) (kind : Kind) (f : Family) (t : Term) (pair : SidePair) (p : Packet) → t.option ≡ o → IsPacket p
+option-step : (o : Opt) (mode : Mode) (kind : Kind) (f : Family) (t : Term) (pair : SidePair) (p : Packet) → t.option ≡ o → IsInRange p
     → list_any (λ r. rule_holds r p) (map (rule_of kind f t pair) (conditions_by o mode f t pair.ports))
     ≡ (same_family f p.family && on-pair f t p (terms.passes o mode t.dport_named p) pair)
 option-step options.Plain mode kind f t pair p e is = whole-step kind f t pair tests.Plain p true (λ _. refl)
@@ -275,7 +294,7 @@ pair-shut f t p o pair w =
 abbrev passed-by : Target → Term → Packet → Bool
 passed-by target t p = terms.passes t.option (mode_of target) t.dport_named p
 
-by-emptiness : (b : Bool) (target : Target) (t : Term) (f : Family) (pair : SidePair) (p : Packet) → is_pair_empty f t pair ≡ b → IsPacket p
+by-emptiness : (b : Bool) (target : Target) (t : Term) (f : Family) (pair : SidePair) (p : Packet) → is_pair_empty f t pair ≡ b → IsInRange p
     → list_any (λ r. rule_holds r p) (cond b [] (map (rule_of target.kind f t pair) (conditions_by t.option (mode_of target) f t pair.ports)))
     ≡ (same_family f p.family && on-pair f t p (passed-by target t p) pair)
 by-emptiness true target t f pair p e is =
@@ -283,7 +302,7 @@ by-emptiness true target t f pair p e is =
     (pair-shut f t p (passed-by target t p) pair ((pair-empty-law f t pair).0 e)))
 by-emptiness false target t f pair p e is = option-step t.option (mode_of target) target.kind f t pair p refl is
 
-pair-step : (target : Target) (t : Term) (f : Family) (pair : SidePair) (p : Packet) → IsPacket p
+pair-step : (target : Target) (t : Term) (f : Family) (pair : SidePair) (p : Packet) → IsInRange p
     → list_any (λ r. rule_holds r p) (pair_rules target t f pair) ≡ (same_family f p.family && on-pair f t p (passed-by target t p) pair)
 unfolding pair_rules
 pair-step target t f pair p is = by-emptiness (is_pair_empty f t pair) target t f pair p refl is
@@ -357,15 +376,11 @@ family-is V4 V6 e = absurd (both_ways false refl e)
 family-is V6 V4 e = absurd (both_ways false refl e)
 family-is V6 V6 e = refl
 
-address-within : (f : Family) (x : ℕ) → x < 2 ^ width_of f → x ≤ top_address f
-address-within V4 x h = omega (arith, h)
-address-within V6 x h = omega (arith, h)
-
 where-same : (b : Bool) (x y : Bool) → (b ≡ true → x ≡ y) → (b && x) ≡ (b && y)
 where-same true x y h = h refl
 where-same false x y h = refl
 
-pub family-step : (target : Target) (t : Term) (f : Family) (p : Packet) → IsPacket p
+pub family-step : (target : Target) (t : Term) (f : Family) (p : Packet) → IsInRange p
     → list_any (λ r. rule_holds r p) (family_rules target t f) ≡ (same_family f p.family && matches_in f (mode_of target) t p)
 unfolding family_rules
 family-step target t f p is =
@@ -380,7 +395,7 @@ family-step target t f p is =
     ∙ on-sides same h k (addresses-on f t p) (ports-on t p) t.addr_named t.port_named
     ∙ where-same same ((h && list_any (addresses-on f t p) (sides_of t.addr_named)) && (ports && k)) (matches_in f (mode_of target) t p) (λ e.
     ap (λ x. (h && x) && (ports && k)) (addresses-any f t p t.addr_named refl
-    (address-within f p.src (subst (λ g. p.src < 2 ^ width_of g) (family-is f p.family e) is.source)))
+    (subst (λ g. p.src ≤ top_address g) (family-is f p.family e) is.source))
     ∙ ap (λ x. (h && addresses_match f t p) && (x && k)) (ports-any t p t.port_named refl (omega (arith, sport))))
 
 -- ---- all families of a target
@@ -399,7 +414,7 @@ members-any rows test Mixed V6 passed h c =
     ap (λ rs. list_any test (rows V4 ++ rs)) (append-nil (rows V6)) ∙ list_any-append test (rows V4) (rows V6)
     ∙ ap (λ b. b || list_any test (rows V6)) (h V4) ∙ h V6
 
-by-life : (b : Bool) (target : Target) (t : Term) (p : Packet) → IsPacket p → covers target.families p.family ≡ true
+by-life : (b : Bool) (target : Target) (t : Term) (p : Packet) → IsInRange p → covers target.families p.family ≡ true
     → list_any (λ r. rule_holds r p) (cond b (flat_map (family_rules target t) (members target.families)) [])
     ≡ (b && matches (mode_of target) t p)
 unfolding matches
@@ -409,7 +424,7 @@ by-life true target t p is c =
 by-life false target t p is c = refl
 
 -- Some rule of a live term holds a packet of the target's families exactly where the term matches it.
-pub term-step : (target : Target) (today : Day) (t : Term) (p : Packet) → IsPacket p → covers target.families p.family ≡ true
+pub term-step : (target : Target) (today : Day) (t : Term) (p : Packet) → IsInRange p → covers target.families p.family ≡ true
     → list_any (λ r. rule_holds r p) (term_rules target today t) ≡ decides target today p t
 unfolding term_rules
 term-step target today t p is c = by-life (is_term_live t target.kind today) target t p is c

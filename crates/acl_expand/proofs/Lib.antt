@@ -3,6 +3,7 @@ pub mod AnyLaws
 pub mod DecideLaws
 pub mod FilterLaws
 pub mod HoldLaws
+pub mod RuleLaws
 pub mod SetForms
 pub mod SideForms
 pub mod SoundLaws

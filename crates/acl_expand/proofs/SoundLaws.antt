@@ -63,10 +63,10 @@ full : (top : ℕ) (s : Numbers) → s.top ≡ top → IsNormal 0 s.top s.ranges
 full top s e n some = record { top_is = e; normal = subst (λ k. IsNormal 0 k s.ranges) e n; some = some }
 
 -- The protocols of a rule are some of its term's.
-record AreProtocols (f : Family) (t : Term) (s : Numbers) : Type 0 where
-  full : IsFull 255 s
-  held : (x : ℕ) → holds s.ranges x ≡ true → has_protocol f t x ≡ true
-  named : is_all s ≡ false → is_all t.protos ≡ false
+pub record AreProtocols (f : Family) (t : Term) (s : Numbers) : Type 0 where
+  pub full : IsFull 255 s
+  pub held : (x : ℕ) → holds s.ranges x ≡ true → has_protocol f t x ≡ true
+  pub named : is_all s ≡ false → is_all t.protos ≡ false
 
 family-normal : (f : Family) (t : Term) (b : Bool)
     → IsNormal 0 t.protos.top (cond b t.protos (record { top = t.protos.top; ranges = cut_all (just (foreign_of f) ∷ []) t.protos.ranges })).ranges
@@ -246,13 +246,13 @@ known-verdict Nftables Left e = absurd (both_ways true e refl)
 -- ---- one rule
 
 -- What the conditions of a rule owe.
-record Fits (kind : Kind) (f : Family) (t : Term) (c : Conditions) : Type 0 where
-  name : IsOneOf c.suffix protocol_suffixes
-  protos : AreProtocols f t c.protos
-  dports : IsFull 65535 c.dports
-  dports_fit : is_all c.dports ≡ false → Only has_ports c.protos
-  flags : tests_flags c.test ≡ true → Only is_tcp c.protos
-  known : has_test kind c.test ≡ true
+pub record Fits (kind : Kind) (f : Family) (t : Term) (c : Conditions) : Type 0 where
+  pub name : IsOneOf c.suffix protocol_suffixes
+  pub protos : AreProtocols f t c.protos
+  pub dports : IsFull 65535 c.dports
+  pub dports_fit : is_all c.dports ≡ false → Only has_ports c.protos
+  pub flags : tests_flags c.test ≡ true → Only is_tcp c.protos
+  pub known : has_test kind c.test ≡ true
 
 address-suffixed : (side : Side) → IsOneOf (address_suffix side) address_suffixes
 address-suffixed Whole = inl refl
@@ -445,7 +445,7 @@ rst-known Juniper = refl
 rst-known Iptables = refl
 rst-known Nftables = refl
 
-option-fits : (o : Opt) (mode : Mode) (kind : Kind) (f : Family) (t : Term) (pair : SidePair) → t.option ≡ o → is_pair_empty f t pair ≡ false
+pub option-fits : (o : Opt) (mode : Mode) (kind : Kind) (f : Family) (t : Term) (pair : SidePair) → t.option ≡ o → is_pair_empty f t pair ≡ false
     → KnowsTests kind mode → AllByRecursion (Fits kind f t) (conditions_by o mode f t pair.ports)
 option-fits options.Plain mode kind f t pair e some known =
     (whole-fits kind f t pair tests.Plain some (plain-known kind) (no-flags f t tests.Plain refl), tt)

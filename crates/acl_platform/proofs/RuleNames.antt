@@ -70,9 +70,9 @@ one-named text (t ∷ ts) h (inr is) = one-named text ts h.1 is
 pub rule-name : (name : List ℕ) → IsRuleName name → length name ≤ 128 → is_name name ≡ true
 rule-name name (term, address, port, protocol, is, a, p, q, e) short =
     suffixed term (address ++ (port ++ protocol)) name is
-    (all-bytes address (port ++ protocol) (one-named address address_suffixes (refl, refl, refl, tt) a)
-    (all-bytes port protocol (one-named port port_suffixes (refl, refl, refl, tt) p)
-    (one-named protocol protocol_suffixes (refl, refl, refl, tt) q))) e short
+    (all-bytes address (port ++ protocol) (one-named address address_suffixes (refl, (refl, (refl, tt))) a)
+    (all-bytes port protocol (one-named port port_suffixes (refl, (refl, (refl, tt))) p)
+    (one-named protocol protocol_suffixes (refl, (refl, (refl, tt))) q))) e short
 
 pub name-safe : (name : List ℕ) → is_name name ≡ true → is_safe_text name ≡ true
 name-safe [] is = absurd (false≢true is)
