@@ -8,7 +8,7 @@ use Rattle.acl_packet.specs.declared.addresses.Family.{Family}
 use Rattle.acl_packet.specs.declared.packets.Packet.{Packet}
 use Rattle.acl_packet.specs.Packets.{has_ack_or_rst}
 use Rattle.acl_days.specs.declared.days.Day.{Day}
-use Rattle.acl_sets.specs.Ranges.{holds}
+use Rattle.acl_sets.specs.Ranges.{Numbers, holds}
 use Rattle.acl_target.specs.declared.targets.Target.{Target}
 use Rattle.acl_target.specs.FilterEndings.{ending_outcome}
 use Rattle.acl_terms.specs.declared.options.Mode.{Mode}
@@ -18,12 +18,13 @@ use Rattle.acl_terms.specs.declared.options.Opt.TheVariants.{Plain, Established,
 use Rattle.acl_terms.specs.declared.terms.Term.{Term}
 use Rattle.acl_terms.specs.Options.{passes}
 use Rattle.acl_terms.specs.Outcomes.{decides, mode_of, outcome_of, policy_outcome}
-use Rattle.acl_terms.specs.Resolved.{IsEmptyIn, destination_in, ends_match, has_protocol, is_term_live, matches, ports_match, source_in}
+use Rattle.acl_terms.specs.Resolved.{addresses_match, destination_in, either_in, ends_match, has_protocol, holds_either, is_term_live, matches, ports_match, source_in}
 use Rattle.acl_terms.proofs.LifeLaws.{live-law}
+use Rattle.acl_terms.proofs.PairLaws.{matched-some}
 use Rattle.acl_shade.specs.ComputableShading.{is_shaded, shades, unshaded, unshaded_behind}
 use Rattle.acl_shade.specs.Deletions.{AnyShadedTermsCanGo, ShadedTermsCanGo, ShadingTermStays, without, without_from}
 use Rattle.acl_shade.proofs.ChosenTerms.{is_told, only-shaded, only-told, OnlyShaded, told_go}
-use Rattle.acl_shade.specs.Shading.{LiesWithinIn, OptionCovers, PortsNamed, Shades}
+use Rattle.acl_shade.specs.Shading.{LiesWithinIn, OptionCovers, PortsNamed, Shades, SomeLiesWithin}
 use Rattle.acl_shade.proofs.ShadingLaws.{shading-law}
 
 -- ---- what a term decides, a shading one does
@@ -57,31 +58,51 @@ option-passes mode i j p covers h = elim covers [
       (subst (λ o. passes o mode j.dport_named p ≡ true) (sym same.0) h)
 ]
 
--- a term that has the ends of a packet is not empty in its family
-not-empty : (f : Family) (j : Term) (p : Packet) → ends_match f j p ≡ true → IsEmptyIn f j → ⊥
-not-empty f j p h e =
-    let a = and_parts (has_protocol f j p.proto)
-    (holds (source_in f j).ranges p.src && holds (destination_in f j).ranges p.dst) h in
-    let b = and_parts (holds (source_in f j).ranges p.src) (holds (destination_in f j).ranges p.dst) a.1 in
-    elim e [
-      | inl s ↦ both_ways (holds (source_in f j).ranges p.src) (s p.src) b.0
-      | inr r ↦ elim r [
-        | inl d ↦ both_ways (holds (destination_in f j).ranges p.dst) (d p.dst) b.1
-        | inr n ↦ both_ways (has_protocol f j p.proto) (n p.proto) a.0
+-- One of two numbers is in a set, where one of them is in a set that lies within it, or both are in two sets of which
+-- one does.
+either-too : (a s d other : Numbers) (x y : ℕ) → SomeLiesWithin (a ∷ s ∷ d ∷ []) other
+    → holds s.ranges x ≡ true → holds d.ranges y ≡ true → holds_either a x y ≡ true → holds_either other x y ≡ true
+either-too a s d other x y w hs hd ha =
+    let first = holds other.ranges x in
+    let second = holds other.ranges y in
+    elim w [
+      | inl within ↦ elim (or_cases (holds a.ranges x) (holds a.ranges y) ha) [
+        | inl l ↦ or_left first second (within x l)
+        | inr r ↦ or_right first second (within y r)
+      ]
+      | inr u ↦ elim u [
+        | inl within ↦ or_left first second (within x hs)
+        | inr v ↦ elim v [
+          | inl within ↦ or_right first second (within y hd)
+          | inr e ↦ absurd e
+        ]
       ]
     ]
 
 ends-too : (f : Family) (i j : Term) (p : Packet) → LiesWithinIn f i j → ends_match f j p ≡ true
     → ends_match f i p ≡ true
 ends-too f i j p w h =
-    let a = and_parts (has_protocol f j p.proto)
-    (holds (source_in f j).ranges p.src && holds (destination_in f j).ranges p.dst) h in
-    let b = and_parts (holds (source_in f j).ranges p.src) (holds (destination_in f j).ranges p.dst) a.1 in
-    and_from (has_protocol f i p.proto)
-    (holds (source_in f i).ranges p.src && holds (destination_in f i).ranges p.dst)
-    (w.protocols p.proto a.0)
-    (and_from (holds (source_in f i).ranges p.src) (holds (destination_in f i).ranges p.dst)
-    (w.source p.src b.0) (w.destination p.dst b.1))
+    let a = and_parts (has_protocol f j p.proto) (addresses_match f j p) h in
+    let b = and_parts (holds (source_in f j).ranges p.src)
+    (holds (destination_in f j).ranges p.dst && holds_either (either_in f j) p.src p.dst) a.1 in
+    let c = and_parts (holds (destination_in f j).ranges p.dst) (holds_either (either_in f j) p.src p.dst) b.1 in
+    and_from (has_protocol f i p.proto) (addresses_match f i p) (w.protocols p.proto a.0)
+    (and_from (holds (source_in f i).ranges p.src)
+    (holds (destination_in f i).ranges p.dst && holds_either (either_in f i) p.src p.dst) (w.source p.src b.0)
+    (and_from (holds (destination_in f i).ranges p.dst) (holds_either (either_in f i) p.src p.dst)
+    (w.destination p.dst c.0)
+    (either-too (either_in f j) (source_in f j) (destination_in f j) (either_in f i) p.src p.dst w.either b.0 c.0 c.1)))
+
+ports-too : (targets : List Target) (today : Day) (i j : Term) (p : Packet) → Shades targets today i j
+    → ports_match j p ≡ true → ports_match i p ≡ true
+ports-too targets today i j p s h =
+    let a = and_parts (holds j.sports.ranges p.sport)
+    (holds j.dports.ranges p.dport && holds_either j.ports p.sport p.dport) h in
+    let b = and_parts (holds j.dports.ranges p.dport) (holds_either j.ports p.sport p.dport) a.1 in
+    and_from (holds i.sports.ranges p.sport) (holds i.dports.ranges p.dport && holds_either i.ports p.sport p.dport)
+    (s.source_ports p.sport a.0)
+    (and_from (holds i.dports.ranges p.dport) (holds_either i.ports p.sport p.dport) (s.destination_ports p.dport b.0)
+    (either-too j.ports j.sports j.dports i.ports p.sport p.dport s.either_ports a.0 b.0 b.1))
 
 matches-too : (targets : List Target) (today : Day) (mode : Mode) (i j : Term) (p : Packet)
     → Shades targets today i j → matches mode j p ≡ true → matches mode i p ≡ true
@@ -92,14 +113,12 @@ matches-too targets today mode i j p s h =
     && (holds j.itypes.ranges p.itype && passes j.option mode j.dport_named p)) h in
     let b = and_parts (ports_match j p)
     (holds j.itypes.ranges p.itype && passes j.option mode j.dport_named p) a.1 in
-    let c = and_parts (holds j.sports.ranges p.sport) (holds j.dports.ranges p.dport) b.0 in
     let d = and_parts (holds j.itypes.ranges p.itype) (passes j.option mode j.dport_named p) b.1 in
     and_from (ends_match f i p) (ports_match i p
     && (holds i.itypes.ranges p.itype && passes i.option mode i.dport_named p))
-    (ends-too f i j p (s.addresses.each f (not-empty f j p a.0)) a.0)
+    (ends-too f i j p (s.addresses.each f (matched-some f j p a.0 b.0)) a.0)
     (and_from (ports_match i p) (holds i.itypes.ranges p.itype && passes i.option mode i.dport_named p)
-    (and_from (holds i.sports.ranges p.sport) (holds i.dports.ranges p.dport)
-    (s.source_ports p.sport c.0) (s.destination_ports p.dport c.1))
+    (ports-too targets today i j p s b.0)
     (and_from (holds i.itypes.ranges p.itype) (passes i.option mode i.dport_named p)
     (s.types p.itype d.0) (option-passes mode i j p s.option d.1)))
 

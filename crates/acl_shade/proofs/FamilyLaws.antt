@@ -12,11 +12,11 @@ use Rattle.acl_sets.proofs.RangeLaws.{at_top, ends_of, in_range}
 use Rattle.acl_sets.proofs.ComputableSetLaws.{covered-subset, covers-holds, holds-covers, subset-covered}
 use Rattle.acl_terms.specs.declared.terms.Term.{Term}
 use Rattle.acl_packet.specs.Packets.{foreign_of}
-use Rattle.acl_terms.specs.Resolved.{IsEmptyIn, destination_in, has_protocol, is_empty_in, source_in}
+use Rattle.acl_terms.specs.Resolved.{IsEmptyIn, destination_in, either_in, has_protocol, is_empty_in, source_in}
 use Rattle.acl_terms.proofs.EmptyLaws.{empty-law}
 use Rattle.acl_terms.proofs.TestLaws.{true-not}
-use Rattle.acl_shade.specs.ComputableShading.{fits_in, has_above, has_below, has_others, lies_within, lies_within_in, lies_within_in_each, protocols_within}
-use Rattle.acl_shade.specs.Shading.{LiesWithin, LiesWithinIn, LiesWithinInEach}
+use Rattle.acl_shade.specs.ComputableShading.{addresses_within, fits_in, has_above, has_below, has_others, lies_within, lies_within_in, lies_within_in_each, protocols_within, some_within}
+use Rattle.acl_shade.specs.Shading.{LiesWithin, LiesWithinIn, LiesWithinInEach, SomeLiesWithin}
 
 -- ---- sets
 
@@ -51,6 +51,43 @@ number-apart top rs qs k r within is n h =
 source-normal : (f : Family) (t : Term) → IsNormal 0 (top_address f) (source_in f t).ranges
 source-normal V4 t = normal-at t.src4 (top_address V4) t.sound.src4_top t.sound.src4_normal
 source-normal V6 t = normal-at t.src6 (top_address V6) t.sound.src6_top t.sound.src6_normal
+
+either-normal : (f : Family) (t : Term) → IsNormal 0 (top_address f) (either_in f t).ranges
+either-normal V4 t = normal-at t.addr4 (top_address V4) t.sound.addr4_top t.sound.addr4_normal
+either-normal V6 t = normal-at t.addr6 (top_address V6) t.sound.addr6_top t.sound.addr6_normal
+
+-- Of three sets.
+pub some-law : (top : ℕ) (a b c other : Numbers) → IsNormal 0 top a.ranges → IsNormal 0 top b.ranges
+    → IsNormal 0 top c.ranges → IsNormal 0 top other.ranges
+    → (some_within (a ∷ b ∷ c ∷ []) other ≡ true) ↔ SomeLiesWithin (a ∷ b ∷ c ∷ []) other
+some-law top a b c other n m k l =
+    let x = lies_within a other in
+    let y = lies_within b other in
+    let z = lies_within c other in
+    let p = within-law top a other n l in
+    let q = within-law top b other m l in
+    let r = within-law top c other k l in (
+      λ h. elim (or_cases x (y || (z || false)) h) [
+        | inl s ↦ inl (p.0 s)
+        | inr u ↦ elim (or_cases y (z || false) u) [
+          | inl s ↦ inr (inl (q.0 s))
+          | inr v ↦ elim (or_cases z false v) [
+            | inl s ↦ inr (inr (inl (r.0 s)))
+            | inr w ↦ absurd (both_ways false refl w)
+          ]
+        ]
+      ],
+      λ w. elim w [
+        | inl s ↦ or_left x (y || (z || false)) (p.1 s)
+        | inr u ↦ or_right x (y || (z || false)) (elim u [
+          | inl s ↦ or_left y (z || false) (q.1 s)
+          | inr v ↦ or_right y (z || false) (elim v [
+            | inl s ↦ or_left z false (r.1 s)
+            | inr e ↦ absurd e
+          ])
+        ])
+      ],
+    )
 
 destination-normal : (f : Family) (t : Term) → IsNormal 0 (top_address f) (destination_in f t).ranges
 destination-normal V4 t = normal-at t.dst4 (top_address V4) t.sound.dst4_top t.sound.dst4_normal
@@ -197,11 +234,21 @@ in-law f i j =
     let source = within-law (top_address f) (source_in f j) (source_in f i) (source-normal f j) (source-normal f i) in
     let destination = within-law (top_address f) (destination_in f j) (destination_in f i) (destination-normal f j)
     (destination-normal f i) in
+    let c = some_within (either_in f j ∷ source_in f j ∷ destination_in f j ∷ []) (either_in f i) in
+    let either = some-law (top_address f) (either_in f j) (source_in f j) (destination_in f j) (either_in f i)
+    (either-normal f j) (source-normal f j) (destination-normal f j) (either-normal f i) in
     let protocols = protocols-law f i j in (
-      λ h. let p = and_parts (a && b) (protocols_within f i j) h in
-          let q = and_parts a b p.0 in
-          record { source = source.0 q.0; destination = destination.0 q.1; protocols = protocols.0 p.1 },
-      λ w. and_from (a && b) (protocols_within f i j) (and_from a b (source.1 w.source) (destination.1 w.destination))
+      λ h. let p = and_parts (addresses_within f i j) (protocols_within f i j) h in
+          let q = and_parts (a && b) c p.0 in
+          let r = and_parts a b q.0 in
+          record {
+            source = source.0 r.0;
+            destination = destination.0 r.1;
+            either = either.0 q.1;
+            protocols = protocols.0 p.1;
+          },
+      λ w. and_from (addresses_within f i j) (protocols_within f i j)
+          (and_from (a && b) c (and_from a b (source.1 w.source) (destination.1 w.destination)) (either.1 w.either))
           (protocols.1 w.protocols),
     )
 

@@ -1,5 +1,5 @@
 -- When a term shades another: the function says what the relation says.
-use Rattle.std.proofs.Common.{◌≡◌, ◌↔◌, ◌⊎◌, Bool, true, false, not, ◌&&◌, ◌||◌, List, get_or, inl, inr, refl, sym, subst}
+use Rattle.std.proofs.Common.{◌≡◌, ◌↔◌, ◌⊎◌, Bool, true, false, not, ◌&&◌, ◌||◌, List, [], ◌∷◌, get_or, inl, inr, refl, sym, subst}
 use Rattle.std.specs.List.{list_all, list_any}
 use Rattle.std.proofs.lemmas.Bool.{and_from, and_parts, both_ways, or_cases, or_left, or_right}
 use Rattle.std.proofs.lemmas.List.Elements.{All-contains, Contains-get_or}
@@ -14,9 +14,9 @@ use Rattle.acl_terms.specs.declared.terms.Term.{Term}
 use Rattle.acl_terms.specs.Resolved.{IsTermLive, is_term_live}
 use Rattle.acl_terms.proofs.LifeLaws.{live-law}
 use Rattle.acl_terms.proofs.TestLaws.{true-not}
-use Rattle.acl_shade.specs.ComputableShading.{is_live_where, lies_within, lies_within_in_each, numbers_within, option_covers, shades}
-use Rattle.acl_shade.specs.Shading.{IsLiveWhere, LiesWithin, OptionCovers, PortsNamed, Shades}
-use Rattle.acl_shade.proofs.FamilyLaws.{each-law, normal-at, within-law}
+use Rattle.acl_shade.specs.ComputableShading.{is_live_where, lies_within, lies_within_in_each, numbers_within, option_covers, ports_within, shades, some_within}
+use Rattle.acl_shade.specs.Shading.{IsLiveWhere, LiesWithin, OptionCovers, PortsNamed, Shades, SomeLiesWithin}
+use Rattle.acl_shade.proofs.FamilyLaws.{each-law, normal-at, some-law, within-law}
 
 -- ---- ports and types
 
@@ -29,6 +29,14 @@ sports-law : (i j : Term) → (lies_within j.sports i.sports ≡ true) ↔ LiesW
 sports-law i j = within-law top_port j.sports i.sports
     (normal-at j.sports top_port j.sound.sports_top j.sound.sports_normal)
     (normal-at i.sports top_port i.sound.sports_top i.sound.sports_normal)
+
+either-ports-law : (i j : Term) → (some_within (j.ports ∷ j.sports ∷ j.dports ∷ []) i.ports ≡ true)
+    ↔ SomeLiesWithin (j.ports ∷ j.sports ∷ j.dports ∷ []) i.ports
+either-ports-law i j = some-law top_port j.ports j.sports j.dports i.ports
+    (normal-at j.ports top_port j.sound.ports_top j.sound.ports_normal)
+    (normal-at j.sports top_port j.sound.sports_top j.sound.sports_normal)
+    (normal-at j.dports top_port j.sound.dports_top j.sound.dports_normal)
+    (normal-at i.ports top_port i.sound.ports_top i.sound.ports_normal)
 
 types-law : (i j : Term) → (lies_within j.itypes i.itypes ≡ true) ↔ LiesWithin j.itypes i.itypes
 types-law i j = within-law 255 j.itypes i.itypes (normal-at j.itypes 255 j.sound.itypes_top j.sound.itypes_normal)
@@ -114,25 +122,29 @@ unfolding shades
 shading-law targets today i j =
     let d = lies_within j.dports i.dports in
     let s = lies_within j.sports i.sports in
+    let k = some_within (j.ports ∷ j.sports ∷ j.dports ∷ []) i.ports in
     let t = lies_within j.itypes i.itypes in
     let o = option_covers i.option i.dport_named j.option j.dport_named in
     let e = lies_within_in_each i j in
     let l = is_live_where targets today i j in (
       λ h. let p = and_parts (numbers_within i j && o) (e && l) h in
           let q = and_parts (numbers_within i j) o p.0 in
-          let n = and_parts (d && s) t q.0 in
-          let m = and_parts d s n.0 in
+          let n = and_parts (ports_within i j) t q.0 in
+          let u = and_parts (d && s) k n.0 in
+          let m = and_parts d s u.0 in
           let r = and_parts e l p.1 in
           record {
             live = (life-law targets today i j).0 r.1;
             addresses = (each-law i j).0 r.0;
             source_ports = (sports-law i j).0 m.1;
             destination_ports = (dports-law i j).0 m.0;
+            either_ports = (either-ports-law i j).0 u.1;
             types = (types-law i j).0 n.1;
             option = (option-law i j).0 q.1;
           },
       λ w. and_from (numbers_within i j && o) (e && l)
-          (and_from (numbers_within i j) o (and_from (d && s) t (and_from d s ((dports-law i j).1 w.destination_ports)
-          ((sports-law i j).1 w.source_ports)) ((types-law i j).1 w.types)) ((option-law i j).1 w.option))
+          (and_from (numbers_within i j) o (and_from (ports_within i j) t (and_from (d && s) k
+          (and_from d s ((dports-law i j).1 w.destination_ports) ((sports-law i j).1 w.source_ports))
+          ((either-ports-law i j).1 w.either_ports)) ((types-law i j).1 w.types)) ((option-law i j).1 w.option))
           (and_from e l ((each-law i j).1 w.addresses) ((life-law targets today i j).1 w.live)),
     )

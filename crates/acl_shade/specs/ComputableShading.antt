@@ -13,7 +13,7 @@ use Rattle.acl_terms.specs.declared.options.Opt.{Opt}
 use Rattle.acl_terms.specs.declared.options.Opt.TheVariants.{Plain, Established, TcpEstablished, TcpInitial, Rst}
 use Rattle.acl_terms.specs.declared.terms.Term.{Term}
 use Rattle.acl_packet.specs.Packets.{foreign_of}
-use Rattle.acl_terms.specs.Resolved.{destination_in, is_empty_in, is_term_live, source_in}
+use Rattle.acl_terms.specs.Resolved.{destination_in, either_in, is_empty_in, is_term_live, source_in}
 use Rattle.acl_shade.specs.Shading.{Shades}
 
 -- ---- ports, types and options
@@ -21,10 +21,17 @@ use Rattle.acl_shade.specs.Shading.{Shades}
 abbrev pub lies_within : Numbers → Numbers → Bool
 lies_within s other = all_covered s.ranges other.ranges
 
--- The ports and the types of the term j lie within those of the term i.
+abbrev pub some_within : List Numbers → Numbers → Bool
+some_within sets other = list_any (λ s. lies_within s other) sets
+
+-- The ports of the term j lie within those of the term i: from which, to which, and of either.
+abbrev pub ports_within : Term → Term → Bool
+ports_within i j = lies_within j.dports i.dports && lies_within j.sports i.sports
+    && some_within (j.ports ∷ j.sports ∷ j.dports ∷ []) i.ports
+
+-- The ports and the types do.
 abbrev pub numbers_within : Term → Term → Bool
-numbers_within i j =
-    lies_within j.dports i.dports && lies_within j.sports i.sports && lies_within j.itypes i.itypes
+numbers_within i j = ports_within i j && lies_within j.itypes i.itypes
 
 -- The one option asks for nothing, or for what the other asks for. The flags say whether a destination port is named.
 abbrev pub option_covers : Opt → Bool → Opt → Bool → Bool
@@ -53,10 +60,15 @@ abbrev pub protocols_within : Family → Term → Term → Bool
 protocols_within f i j = is_all i.protos
     || (not (is_all j.protos) && list_all (has_others (foreign_of f) i.protos.ranges) j.protos.ranges)
 
+-- The addresses of the term j in the family lie within those of i.
+abbrev pub addresses_within : Family → Term → Term → Bool
+addresses_within f i j = lies_within (source_in f j) (source_in f i)
+    && lies_within (destination_in f j) (destination_in f i)
+    && some_within (either_in f j ∷ source_in f j ∷ destination_in f j ∷ []) (either_in f i)
+
 -- What the term j has in the family lies within what i has there.
 abbrev pub lies_within_in : Family → Term → Term → Bool
-lies_within_in f i j = lies_within (source_in f j) (source_in f i)
-    && lies_within (destination_in f j) (destination_in f i) && protocols_within f i j
+lies_within_in f i j = addresses_within f i j && protocols_within f i j
 
 abbrev pub fits_in : Family → Term → Term → Bool
 fits_in f i j = is_empty_in f j || lies_within_in f i j

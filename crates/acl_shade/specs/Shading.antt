@@ -1,6 +1,6 @@
 -- When an earlier term of a block shades a later one: the earlier one decides each packet that the later one would, on
 -- every target, so that the later one can go (Capirca, the option `--shade_check`).
-use Rattle.std.specs.Prelude.{◌≡◌, ◌⊎◌, ℕ, ◌<◌, true, false, List, IsSomeAnd, slice_get, Contains}
+use Rattle.std.specs.Prelude.{◌≡◌, ◌⊎◌, ℕ, ◌<◌, true, false, List, [], ◌∷◌, IsSomeAnd, slice_get, Contains}
 use Rattle.acl_packet.specs.declared.addresses.Family.{Family}
 use Rattle.acl_packet.specs.declared.addresses.Family.TheVariants.{V4, V6}
 use Rattle.acl_days.specs.declared.days.Day.{Day}
@@ -9,7 +9,8 @@ use Rattle.acl_target.specs.declared.targets.Target.{Target}
 use Rattle.acl_terms.specs.declared.options.Opt.{Opt}
 use Rattle.acl_terms.specs.declared.options.Opt.TheVariants.{Plain, Established}
 use Rattle.acl_terms.specs.declared.terms.Term.{Term}
-use Rattle.acl_terms.specs.Resolved.{IsEmptyIn, IsTermLive, destination_in, has_protocol, source_in}
+use Rattle.acl_terms.specs.Matching.{AnyOf}
+use Rattle.acl_terms.specs.Resolved.{IsEmptyIn, IsTermLive, destination_in, either_in, has_protocol, source_in}
 
 -- ---- life
 
@@ -24,10 +25,16 @@ pub record IsLiveWhere (targets : List Target) (today : Day) (i j : Term) : Type
 abbrev pub LiesWithin : Numbers → Numbers → Type 0
 LiesWithin s other = (x : ℕ) → holds s.ranges x ≡ true → holds other.ranges x ≡ true
 
--- Of a family, the sources, the destinations and the protocols of the one term lie within those of the other.
+-- One of the sets lies within the other set.
+abbrev pub SomeLiesWithin : List Numbers → Numbers → Type 0
+SomeLiesWithin sets other = AnyOf (λ s. LiesWithin s other) sets
+
+-- Of a family, the sources, the destinations and the protocols of the one term lie within those of the other. So does
+-- what it asks of either address, or its sources, or its destinations, within what the other asks of either.
 pub record LiesWithinIn (f : Family) (i j : Term) : Type 0 where
   pub source : LiesWithin (source_in f j) (source_in f i)
   pub destination : LiesWithin (destination_in f j) (destination_in f i)
+  pub either : SomeLiesWithin (either_in f j ∷ source_in f j ∷ destination_in f j ∷ []) (either_in f i)
   pub protocols : (n : ℕ) → has_protocol f j n ≡ true → has_protocol f i n ≡ true
 
 -- So it is in each family in which the term is not empty, and there is such a family. All families are asked, whatever
@@ -56,6 +63,7 @@ pub record Shades (targets : List Target) (today : Day) (i j : Term) : Type 0 wh
   pub addresses : LiesWithinInEach i j
   pub source_ports : LiesWithin j.sports i.sports
   pub destination_ports : LiesWithin j.dports i.dports
+  pub either_ports : SomeLiesWithin (j.ports ∷ j.sports ∷ j.dports ∷ []) i.ports
   pub types : LiesWithin j.itypes i.itypes
   pub option : OptionCovers i j
 

@@ -1,8 +1,9 @@
-ghost use Rattle.std.specs.Prelude.{◌≡◌, ℕ, ◌<◌, ◌&&◌, ◌||◌, false, IfNone, IfSome, length, not, option_map};
+ghost use Rattle.std.specs.Prelude.{◌≡◌, ℕ, ◌<◌, ◌&&◌, ◌||◌, false, [], ◌∷◌, IfNone, IfSome, length, not, option_map};
 ghost use Rattle.std.specs.List.{list_all, list_any, position};
 ghost use Rattle.acl_sets.specs.ComputableSets.{covers};
-ghost use Rattle.acl_terms.specs.Resolved.{destination_in, source_in, is_term_live};
+ghost use Rattle.acl_terms.specs.Resolved.{destination_in, either_in, source_in, is_term_live};
 ghost use Rattle.acl_shade.specs.ComputableShading.{
+  addresses_within,
   fits_in,
   has_above,
   has_below,
@@ -13,10 +14,12 @@ ghost use Rattle.acl_shade.specs.ComputableShading.{
   lies_within_in_each,
   numbers_within,
   option_covers,
+  ports_within,
   protocols_within,
   shaded_by,
   shades,
   shading_term,
+  some_within,
 };
 ghost use Rattle.acl_shade.specs.Shading.{IsShadedBy, ShadesAt};
 
@@ -24,7 +27,7 @@ use acl_days::Day;
 use acl_packet::Family;
 use acl_sets::{Range, RangeSet};
 use acl_target::Target;
-use acl_terms::{Opt, Term, destination_in, is_empty_in, is_live, source_in};
+use acl_terms::{Opt, Term, destination_in, either_in, is_empty_in, is_live, source_in};
 
 // ---- ports, types and options
 
@@ -46,11 +49,41 @@ fn types_within(earlier: &Term, term: &Term) -> bool
     term.itypes.subset_of(&earlier.itypes)
 }
 
+// Whether one of three sets lies within the other: what is asked of either side, and what of each.
+fn some_within(
+    other: &RangeSet,
+    either: &RangeSet,
+    source: &RangeSet,
+    destination: &RangeSet,
+) -> bool
+    requires either { either.now.top ≡ other.now.top }
+    requires source { source.now.top ≡ other.now.top }
+    requires destination { destination.now.top ≡ other.now.top }
+    ensures { result ≡ some_within (either.now ∷ source.now ∷ destination.now ∷ []) other.now }
+{
+    lies_within(either, other) || lies_within(source, other) || lies_within(destination, other)
+}
+
+fn either_ports_within(earlier: &Term, term: &Term) -> bool
+    ensures { result ≡ some_within (term.now.ports ∷ term.now.sports ∷ term.now.dports ∷ [])
+        earlier.now.ports }
+{
+    some_within(&earlier.ports, &term.ports, &term.sports, &term.dports)
+}
+
 // Destination ports come first, since most terms differ there.
+fn ports_within(earlier: &Term, term: &Term) -> bool
+    ensures { result ≡ ports_within earlier.now term.now }
+{
+    dports_within(earlier, term)
+        && sports_within(earlier, term)
+        && either_ports_within(earlier, term)
+}
+
 fn numbers_within(earlier: &Term, term: &Term) -> bool
     ensures { result ≡ numbers_within earlier.now term.now }
 {
-    dports_within(earlier, term) && sports_within(earlier, term) && types_within(earlier, term)
+    ports_within(earlier, term) && types_within(earlier, term)
 }
 
 fn option_covers(earlier: &Term, term: &Term) -> bool
@@ -111,6 +144,26 @@ fn destination_within(family: Family, earlier: &Term, term: &Term) -> bool
     )
 }
 
+fn either_within(family: Family, earlier: &Term, term: &Term) -> bool
+    ensures { result ≡ some_within (either_in family term.now ∷ source_in family term.now
+        ∷ destination_in family term.now ∷ []) (either_in family earlier.now) }
+{
+    some_within(
+        either_in(family, earlier),
+        either_in(family, term),
+        source_in(family, term),
+        destination_in(family, term),
+    )
+}
+
+fn addresses_within(family: Family, earlier: &Term, term: &Term) -> bool
+    ensures { result ≡ addresses_within family earlier.now term.now }
+{
+    source_within(family, earlier, term)
+        && destination_within(family, earlier, term)
+        && either_within(family, earlier, term)
+}
+
 fn covers(ranges: &[Range], low: u128, high: u128) -> bool
     ensures { result ≡ covers ranges.now low high }
 {
@@ -159,9 +212,7 @@ fn protocols_within(family: Family, earlier: &Term, term: &Term) -> bool
 fn lies_within_in(family: Family, earlier: &Term, term: &Term) -> bool
     ensures { result ≡ lies_within_in family earlier.now term.now }
 {
-    source_within(family, earlier, term)
-        && destination_within(family, earlier, term)
-        && protocols_within(family, earlier, term)
+    addresses_within(family, earlier, term) && protocols_within(family, earlier, term)
 }
 
 fn fits_in(family: Family, earlier: &Term, term: &Term) -> bool

@@ -20,8 +20,8 @@ use Rattle.acl_naming.specs.Ports.{top_port}
 use Rattle.acl_naming.specs.Reach.{ReachesPort}
 use Rattle.acl_naming.proofs.ComputedReachLaws.{addresses_computed, ports_computed}
 use Rattle.acl_naming.specs.ComputableReach.{ports_reached}
-use Rattle.acl_terms.specs.ComputableTerms.{admitted, named, address_set, number_set, port_set, sets_of, word_addresses, word_numbers, word_ports}
-use Rattle.acl_terms.specs.Matching.{Admits, AnyOf, IsAddress, IsPort, NamesAddress, NamesPort, icmp_family, protocols_of, type_in}
+use Rattle.acl_terms.specs.ComputableTerms.{admitted, named, address_set, named_address_set, number_set, port_set, sets_of, word_addresses, word_numbers, word_ports}
+use Rattle.acl_terms.specs.Matching.{Admits, AnyOf, IsAddress, IsNamedAddress, IsPort, NamesAddress, NamesPort, icmp_family, protocols_of, type_in}
 use Rattle.acl_terms.specs.Sets.{AreSetsOf, IsSetOf, Sets}
 use Rattle.acl_terms.specs.SetSteps.{single}
 use Rattle.acl_terms.proofs.NumberLaws.{one-number, single-held}
@@ -61,11 +61,26 @@ one-of-sets n t s u h k =
     let b = one-set (IsAddress n V6 t.sources t.source_excludes) (top_address V6) s.src6 u.src6 h.ipv6.0 k.ipv6.0 in
     let c = one-set (IsAddress n V4 t.destinations t.destination_excludes) (top_address V4) s.dst4 u.dst4 h.ipv4.1 k.ipv4.1 in
     let d = one-set (IsAddress n V6 t.destinations t.destination_excludes) (top_address V6) s.dst6 u.dst6 h.ipv6.1 k.ipv6.1 in
+    let k4 = one-set (IsNamedAddress n V4 t.addresses) (top_address V4) s.addr4 u.addr4 h.ipv4.2 k.ipv4.2 in
+    let k6 = one-set (IsNamedAddress n V6 t.addresses) (top_address V6) s.addr6 u.addr6 h.ipv6.2 k.ipv6.2 in
     let e = one-set (λ x. Admits (λ w. protocol_in w.text ≡ Some x) t.protocols) 255 s.protos u.protos h.protos_are k.protos_are in
     let f = one-set (IsPort n qs t.source_ports) top_port s.sports u.sports h.ports.0 k.ports.0 in
     let g = one-set (IsPort n qs t.destination_ports) top_port s.dports u.dports h.ports.1 k.ports.1 in
+    let p = one-set (IsPort n qs t.ports) top_port s.ports u.ports h.ports.2 k.ports.2 in
     let i = one-set (λ x. Admits (λ w. type_in (icmp_family qs) w.text ≡ Some x) t.icmp_types) 255 s.itypes u.itypes h.itypes_are k.itypes_are in
-    λ j. record { src4 = a j; src6 = b j; dst4 = c j; dst6 = d j; protos = e j; sports = f j; dports = g j; itypes = i j }
+    λ j. record {
+      src4 = a j;
+      src6 = b j;
+      dst4 = c j;
+      dst6 = d j;
+      addr4 = k4 j;
+      addr6 = k6 j;
+      protos = e j;
+      sports = f j;
+      dports = g j;
+      ports = p j;
+      itypes = i j;
+    }
 
 -- ---- the ranges of many items
 
@@ -122,6 +137,12 @@ admitted-set P top f (a ∷ xs) fit exact = named-set P top f (a ∷ xs) fit exa
 
 -- ---- the sets
 
+named-address-is : (n : Naming) (f : Family) (words : List Word)
+    → IsSetOf (IsNamedAddress n f words) (top_address f) (named_address_set n f words)
+named-address-is n f words = admitted-set (NamesAddress n f) (top_address f) (word_addresses n f) words
+    (λ w. are_ranges 0 (top_address f) (word_addresses n f w) (addresses_computed n.networks f w.text).0)
+    (λ w x l. (addresses_computed n.networks f w.text).1 x l)
+
 address-is : (n : Naming) (f : Family) (words excludes : List Word)
     → IsSetOf (IsAddress n f words excludes) (top_address f) (address_set n f words excludes)
 address-is n f words excludes =
@@ -165,14 +186,16 @@ number-is number words within = admitted-set (λ x w. number w ≡ Some x) 255 (
 
 -- The sets that are computed, where ports are some.
 pub computed-sets : (n : Naming) (t : RawTerm) → (sets_of n t).sports.ranges ≢ [] → (sets_of n t).dports.ranges ≢ []
-    → AreSetsOf n t (sets_of n t)
+    → (sets_of n t).ports.ranges ≢ [] → AreSetsOf n t (sets_of n t)
 unfolding sets_of
-computed-sets n t from into =
+computed-sets n t from into either =
     let qs = protocols_of t.protocols in record {
-      ipv4 = (address-is n V4 t.sources t.source_excludes, address-is n V4 t.destinations t.destination_excludes);
-      ipv6 = (address-is n V6 t.sources t.source_excludes, address-is n V6 t.destinations t.destination_excludes);
+      ipv4 = (address-is n V4 t.sources t.source_excludes, address-is n V4 t.destinations t.destination_excludes,
+          named-address-is n V4 t.addresses);
+      ipv6 = (address-is n V6 t.sources t.source_excludes, address-is n V6 t.destinations t.destination_excludes,
+          named-address-is n V6 t.addresses);
       protos_are = number-is (λ w. protocol_in w.text) t.protocols (λ w k e. (protocol-within k w.text e).1);
-      ports = (port-is n qs t.source_ports, port-is n qs t.destination_ports, from, into);
+      ports = (port-is n qs t.source_ports, port-is n qs t.destination_ports, port-is n qs t.ports, from, into, either);
       itypes_are = number-is (λ w. type_in (icmp_family qs) w.text) t.icmp_types
           (λ w k e. let l = type-within (icmp_family qs) k w.text e in omega arith);
     }
@@ -186,4 +209,7 @@ sets_computed n t s h =
     h.ports.0 (port-is n qs t.source_ports) in
     let into = same-ranges (IsPort n qs t.destination_ports) top_port s.dports (port_set n qs t.destination_ports)
     h.ports.1 (port-is n qs t.destination_ports) in
-    one-of-sets n t s (sets_of n t) h (computed-sets n t (λ e. h.ports.2 (from ∙ e)) (λ e. h.ports.3 (into ∙ e)))
+    let either = same-ranges (IsPort n qs t.ports) top_port s.ports (port_set n qs t.ports)
+    h.ports.2 (port-is n qs t.ports) in
+    one-of-sets n t s (sets_of n t) h
+    (computed-sets n t (λ e. h.ports.3 (from ∙ e)) (λ e. h.ports.4 (into ∙ e)) (λ e. h.ports.5 (either ∙ e)))

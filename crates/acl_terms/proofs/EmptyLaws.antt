@@ -1,18 +1,23 @@
 -- When a resolved term is empty in a family.
-use Rattle.std.proofs.Common.{◌≡◌, ◌↔◌, ℕ, ◌+◌, Bool, true, false, not, ◌&&◌, ◌||◌, ◌==◌, List, [], ◌∷◌, inl, inr, refl, arith}
-use Rattle.std.specs.List.{list_all}
+use Rattle.std.proofs.Common.{◌≡◌, ◌↔◌, ℕ, ◌+◌, Bool, true, false, not, ◌&&◌, ◌||◌, ◌==◌, List, [], ◌∷◌, get_or, inl, inr, refl, arith}
+use Rattle.std.specs.Prelude.{Contains}
+use Rattle.std.specs.List.{AllByRecursion, list_all, list_any}
 use Rattle.std.proofs.lemmas.Bool.{and_from, and_parts, or_cases, or_left, or_right, both_ways, false_from_ne_true, eqb-true, eq-eqb}
+use Rattle.std.proofs.lemmas.List.Elements.{All-contains, Contains-get_or}
+use Rattle.std.proofs.lemmas.List.Sums.{AllPass-from_list_all, list_all-from_AllPass}
 use Rattle.acl_packet.specs.declared.addresses.Family.{Family}
-use Rattle.acl_packet.specs.declared.addresses.Family.TheVariants.{V4, V6}
 use Rattle.acl_sets.specs.declared.sets.Range.{Range}
 use Rattle.acl_sets.specs.Ranges.{Numbers, IsNormal, holds, inside}
-use Rattle.acl_sets.proofs.RangeLaws.{ends_of, in_range, first-holds, empty-holds, none-empty}
+use Rattle.acl_sets.proofs.RangeLaws.{ends_of, in_range, first-holds}
 use Rattle.acl_sets.proofs.ComputableSetLaws.{covers-holds}
-use Rattle.acl_terms.proofs.TestLaws.{true-not}
+use Rattle.acl_terms.specs.declared.sides.SidePair.{SidePair}
 use Rattle.acl_terms.specs.declared.terms.Term.{Term}
+use Rattle.acl_terms.specs.Matching.{AnyOf}
 use Rattle.acl_packet.specs.Packets.{foreign_of}
-use Rattle.acl_terms.specs.Resolved.{IsEmptyIn, destination_in, has_no_protocol, has_none, is_empty_in, is_just, source_in}
+use Rattle.acl_terms.specs.Resolved.{HasNone, IsEmptyIn, IsPairEmpty, destination_in, destinations_on, dports_on, either_in, has_no_protocol, has_none, is_empty_in, is_just, is_pair_empty, pair_sets, pairs_of, source_in, sources_on, sports_on}
 use Rattle.acl_sets.specs.ComputableSets.{is_all}
+use Rattle.acl_terms.proofs.SideLaws.{destination-cut-normal, destination-normal, destination_tops, dport_tops, either-normal, none-held, source-cut-normal, source-normal, source_tops, sport_tops}
+use Rattle.acl_terms.proofs.TestLaws.{true-not}
 
 just-held : (k : ℕ) (rs : List Range) (x : ℕ) → list_all (is_just k) rs ≡ true → holds rs x ≡ true → x ≡ k
 just-held k [] x a h = absurd (both_ways false refl h)
@@ -72,40 +77,63 @@ no-protocol k s normal = (
       (λ x e. eqb-true x k (held (holds s.ranges x) (is_all s) (x == k) (h x) part e))),
 )
 
-none-held : (s : Numbers) → IsNormal 0 s.top s.ranges → (has_none s ≡ true) ↔ ((x : ℕ) → holds s.ranges x ≡ false)
-none-held s normal = (
-  λ h x. empty-holds s.ranges x h,
-  λ h. none-empty 0 s.top s.ranges normal (λ x _. h x),
+-- ---- lists of tests
+
+any-law : {A : Type 0} (test : A → Bool) (P : A → Type 0) (xs : List A)
+    → AllByRecursion (λ x. (test x ≡ true) ↔ P x) xs → (list_any test xs ≡ true) ↔ AnyOf P xs
+any-law test P [] h = (λ e. absurd (both_ways false refl e), λ a. absurd a)
+any-law test P (x ∷ xs) h =
+    let rest = any-law test P xs h.1 in (
+      λ e. elim (or_cases (test x) (list_any test xs) e) [ inl l ↦ inl (h.0.0 l) | inr r ↦ inr (rest.0 r) ],
+      λ a. elim a [
+        | inl p ↦ or_left (test x) (list_any test xs) (h.0.1 p)
+        | inr r ↦ or_right (test x) (list_any test xs) (rest.1 r)
+      ],
+    )
+
+all-law : {A : Type 0} (test : A → Bool) (P : A → Type 0) (xs : List A) → ((x : A) → (test x ≡ true) ↔ P x)
+    → (list_all test xs ≡ true) ↔ ((x : A) → Contains xs x → P x)
+all-law test P xs each = (
+  λ h x within. (each x).0 (All-contains (λ t. test t ≡ true) xs x (AllPass-from_list_all test xs h) within),
+  λ w. list_all-from_AllPass test xs (λ k d within. (each (get_or xs k d)).1
+      (w (get_or xs k d) (Contains-get_or xs k d within))),
 )
 
-pub source-normal : (f : Family) (t : Term) → IsNormal 0 (source_in f t).top (source_in f t).ranges
-source-normal V4 t = t.sound.src4_normal
-source-normal V6 t = t.sound.src6_normal
+-- ---- pairs of sides
 
-pub destination-normal : (f : Family) (t : Term) → IsNormal 0 (destination_in f t).top (destination_in f t).ranges
-destination-normal V4 t = t.sound.dst4_normal
-destination-normal V6 t = t.sound.dst6_normal
+pub pair-empty-law : (f : Family) (t : Term) (pair : SidePair) → (is_pair_empty f t pair ≡ true) ↔ IsPairEmpty f t pair
+pair-empty-law f t pair =
+    let a = pair.addresses in
+    let p = pair.ports in
+    let either = either_in f t in
+    let sets = any-law has_none HasNone (pair_sets f t pair) (
+      none-held (sources_on a f t) (source-cut-normal a (source_in f t) either (source_tops f t) (source-normal f t)
+          (either-normal f t)),
+      none-held (destinations_on a f t) (destination-cut-normal a (destination_in f t) either (destination_tops f t)
+          (destination-normal f t) (either-normal f t)),
+      none-held (sports_on p t) (source-cut-normal p t.sports t.ports (sport_tops t) t.sound.sports_normal
+          t.sound.ports_normal),
+      none-held (dports_on p t) (destination-cut-normal p t.dports t.ports (dport_tops t) t.sound.dports_normal
+          t.sound.ports_normal),
+      tt,
+    ) in
+    let c = no-protocol (foreign_of f) t.protos t.sound.protos_normal in
+    let none : Bool = list_any has_none (pair_sets f t pair) in (
+      λ h. elim (or_cases none (has_no_protocol f t) h) [ inl l ↦ inl (sets.0 l) | inr r ↦ inr (c.0 r) ],
+      λ w. elim w [
+        | inl l ↦ or_left none (has_no_protocol f t) (sets.1 l)
+        | inr r ↦ or_right none (has_no_protocol f t) (c.1 r)
+      ],
+    )
 
 pub empty-law : (f : Family) (t : Term) → (is_empty_in f t ≡ true) ↔ IsEmptyIn f t
 unfolding is_empty_in
-empty-law f t =
-    let a = none-held (source_in f t) (source-normal f t) in
-    let b = none-held (destination_in f t) (destination-normal f t) in
-    let c = no-protocol (foreign_of f) t.protos t.sound.protos_normal in (
-      λ h. elim (or_cases (has_none (source_in f t) || has_none (destination_in f t)) (has_no_protocol f t) h) [
-        | inl l ↦ elim (or_cases (has_none (source_in f t)) (has_none (destination_in f t)) l) [
-          | inl s ↦ inl (a.0 s)
-          | inr d ↦ inr (inl (b.0 d))
-        ]
-        | inr p ↦ inr (inr (c.0 p))
-      ],
-      λ w. elim w [
-        | inl s ↦ or_left (has_none (source_in f t) || has_none (destination_in f t)) (has_no_protocol f t)
-            (or_left (has_none (source_in f t)) (has_none (destination_in f t)) (a.1 s))
-        | inr r ↦ elim r [
-          | inl d ↦ or_left (has_none (source_in f t) || has_none (destination_in f t)) (has_no_protocol f t)
-              (or_right (has_none (source_in f t)) (has_none (destination_in f t)) (b.1 d))
-          | inr p ↦ or_right (has_none (source_in f t) || has_none (destination_in f t)) (has_no_protocol f t) (c.1 p)
-        ]
-      ],
-    )
+empty-law f t = all-law (is_pair_empty f t) (IsPairEmpty f t) (pairs_of t) (pair-empty-law f t)
+
+-- The tests of a pair's sets, addresses and ports apart.
+pub pair_tests : (a b c d e : Bool) → (((a || b) || (c || d)) || e) ≡ ((a || (b || (c || (d || false)))) || e)
+pair_tests true b c d e = refl
+pair_tests false true c d e = refl
+pair_tests false false true d e = refl
+pair_tests false false false true e = refl
+pair_tests false false false false e = refl

@@ -6,9 +6,11 @@ pub mod LifeLaws
 pub mod MatchLaws
 pub mod NumberLaws
 pub mod OnceLaws
+pub mod PairLaws
 pub mod PolicyLaws
 pub mod PortLaws
 pub mod SetLaws
+pub mod SideLaws
 pub mod SlipLaws
 pub mod SoundLaws
 pub mod TermLaws

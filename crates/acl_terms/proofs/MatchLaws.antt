@@ -1,6 +1,6 @@
 -- A resolved term matches as the written one does.
-use Rattle.std.proofs.Common.{◌≡◌, ◌↔◌, ℕ, ◌^◌, ◌<◌, ◌≤◌, Bool, true, false, not, ◌&&◌, ◌||◌, ◌==◌, List, [], ◌∷◌, Some, refl, ap, sym, ◌∙◌, arith}
-use Rattle.std.proofs.lemmas.Bool.{and_from, and_parts, or_left, both_ways, false_from_ne_true}
+use Rattle.std.proofs.Common.{◌≡◌, ◌↔◌, ℕ, ◌^◌, ◌<◌, ◌≤◌, Bool, true, false, not, ◌&&◌, ◌||◌, ◌==◌, ◌⊎◌, List, [], ◌∷◌, Some, inl, inr, refl, ap, sym, ◌∙◌, arith}
+use Rattle.std.proofs.lemmas.Bool.{and_from, and_parts, or_cases, or_left, or_right, both_ways, false_from_ne_true}
 use Rattle.acl_packet.specs.declared.addresses.Family.{Family}
 use Rattle.acl_packet.specs.declared.addresses.Family.TheVariants.{V4, V6}
 use Rattle.acl_packet.specs.declared.packets.Packet.{Packet}
@@ -14,9 +14,9 @@ use Rattle.acl_policy.specs.declared.raw_terms.RawTerm.{RawTerm}
 use Rattle.acl_naming.specs.Definitions.{Naming}
 use Rattle.acl_terms.specs.declared.options.Mode.{Mode}
 use Rattle.acl_terms.specs.declared.terms.Term.{Term}
-use Rattle.acl_terms.specs.Matching.{IsAddress, IsProtocol, IsProtocolIn, Matches, is_written, protocols_of}
+use Rattle.acl_terms.specs.Matching.{Admits, AnyOf, IsAddress, IsNamedAddress, IsProtocol, IsProtocolIn, Matches, NamesAddress, NamesPort, is_written, protocols_of}
 use Rattle.acl_terms.specs.Options.{option_of, passes}
-use Rattle.acl_terms.specs.Resolved.{IsResolved, destination_in, ends_match, has_protocol, matches, ports_match, sets_in, source_in}
+use Rattle.acl_terms.specs.Resolved.{IsResolved, addresses_match, destination_in, either_in, ends_match, has_protocol, holds_either, matches, ports_match, sets_in, source_in}
 use Rattle.acl_terms.specs.Sets.{AreSetsOf, IsSetOf}
 use Rattle.acl_sets.specs.ComputableSets.{is_all}
 use Rattle.acl_terms.proofs.SoundLaws.{named-number, no-zero, whole}
@@ -28,6 +28,35 @@ both a b p q = (
   λ r. and_from a b (p.1 r.0) (q.1 r.1),
 )
 
+-- One of a list has the one fact or the other, where one has the one or one has the other.
+any-either : {A : Type 0} (P Q : A → Type 0) (xs : List A)
+    → AnyOf (λ x. P x ⊎ Q x) xs ↔ (AnyOf P xs ⊎ AnyOf Q xs)
+any-either P Q [] = (λ a. absurd a, λ e. elim e [ inl a ↦ a | inr b ↦ b ])
+any-either P Q (x ∷ xs) =
+    let rest = any-either P Q xs in (
+      λ a. elim a [
+        | inl h ↦ elim h [ inl p ↦ inl (inl p) | inr q ↦ inr (inl q) ]
+        | inr t ↦ elim (rest.0 t) [ inl p ↦ inl (inr p) | inr q ↦ inr (inr q) ]
+      ],
+      λ e. elim e [
+        | inl a ↦ elim a [ inl p ↦ inl (inl p) | inr r ↦ inr (rest.1 (inl r)) ]
+        | inr b ↦ elim b [ inl q ↦ inl (inr q) | inr r ↦ inr (rest.1 (inr r)) ]
+      ],
+    )
+
+admits-either : {A : Type 0} (P Q : A → Type 0) (xs : List A)
+    → Admits (λ x. P x ⊎ Q x) xs ↔ (Admits P xs ⊎ Admits Q xs)
+admits-either P Q [] = (λ _. inl tt, λ _. tt)
+admits-either P Q (x ∷ xs) = any-either P Q (x ∷ xs)
+
+either-is : {A : Type 0} (P Q : A → Type 0) (xs : List A) (a b : Bool) → (a ≡ true) ↔ Admits P xs
+    → (b ≡ true) ↔ Admits Q xs → ((a || b) ≡ true) ↔ Admits (λ x. P x ⊎ Q x) xs
+either-is P Q xs a b p q =
+    let e = admits-either P Q xs in (
+      λ h. e.1 (elim (or_cases a b h) [ inl l ↦ inl (p.0 l) | inr r ↦ inr (q.0 r) ]),
+      λ w. elim (e.0 w) [ inl l ↦ or_left a b (p.1 l) | inr r ↦ or_right a b (q.1 r) ],
+    )
+
 source-is : (n : Naming) (raw : RawTerm) (t : Term) (f : Family) (x : ℕ) → AreSetsOf n raw (sets_in t)
     → x < 2 ^ width_of f → (holds (source_in f t).ranges x ≡ true) ↔ IsAddress n f raw.sources raw.source_excludes x
 source-is n raw t V4 x are l = are.ipv4.0.exact x (omega arith)
@@ -38,6 +67,11 @@ destination-is : (n : Naming) (raw : RawTerm) (t : Term) (f : Family) (x : ℕ) 
     → (holds (destination_in f t).ranges x ≡ true) ↔ IsAddress n f raw.destinations raw.destination_excludes x
 destination-is n raw t V4 x are l = are.ipv4.1.exact x (omega arith)
 destination-is n raw t V6 x are l = are.ipv6.1.exact x (omega arith)
+
+named-is : (n : Naming) (raw : RawTerm) (t : Term) (f : Family) (x : ℕ) → AreSetsOf n raw (sets_in t)
+    → x < 2 ^ width_of f → (holds (either_in f t).ranges x ≡ true) ↔ IsNamedAddress n f raw.addresses x
+named-is n raw t V4 x are l = are.ipv4.2.exact x (omega arith)
+named-is n raw t V6 x are l = are.ipv6.2.exact x (omega arith)
 
 -- Named protocols are never all: none of them is 0.
 not-all : (ws : List Word) (w : Word) (s : Numbers) → IsSetOf (IsProtocol (w ∷ ws)) 255 s → is_all s ≡ false
@@ -83,27 +117,41 @@ match-as-written n raw t mode p fits is =
     let destination = destination-is n raw t f p.dst are d in
     let sport = are.ports.0.exact p.sport (let l = fits.source_port in omega arith) in
     let dport = are.ports.1.exact p.dport (let l = fits.destination_port in omega arith) in
+    let either_address = either-is (NamesAddress n f p.src) (NamesAddress n f p.dst) raw.addresses
+    (holds (either_in f t).ranges p.src) (holds (either_in f t).ranges p.dst) (named-is n raw t f p.src are s)
+    (named-is n raw t f p.dst are d) in
+    let either_port = either-is (NamesPort n qs p.sport) (NamesPort n qs p.dport) raw.ports
+    (holds t.ports.ranges p.sport) (holds t.ports.ranges p.dport)
+    (are.ports.2.exact p.sport (let l = fits.source_port in omega arith))
+    (are.ports.2.exact p.dport (let l = fits.destination_port in omega arith)) in
     let itype = are.itypes_are.exact p.itype (let l = fits.type_fits in omega arith) in
     let same = option-is n raw t mode p is in
     let option : (passes t.option mode t.dport_named p ≡ true)
     ↔ (passes (option_of raw.options) mode (is_written raw.destination_ports) p ≡ true) =
     (λ h. sym same ∙ h, λ h. same ∙ h) in
-    let ends = both (has_protocol f t p.proto)
-    (holds (source_in f t).ranges p.src && holds (destination_in f t).ranges p.dst) proto
-    (both (holds (source_in f t).ranges p.src) (holds (destination_in f t).ranges p.dst) source destination) in
-    let ports = both (holds t.sports.ranges p.sport) (holds t.dports.ranges p.dport) sport dport in
+    let addresses = both (holds (source_in f t).ranges p.src)
+    (holds (destination_in f t).ranges p.dst && holds_either (either_in f t) p.src p.dst) source
+    (both (holds (destination_in f t).ranges p.dst) (holds_either (either_in f t) p.src p.dst) destination
+    either_address) in
+    let ends = both (has_protocol f t p.proto) (addresses_match f t p) proto addresses in
+    let ports = both (holds t.sports.ranges p.sport)
+    (holds t.dports.ranges p.dport && holds_either t.ports p.sport p.dport) sport
+    (both (holds t.dports.ranges p.dport) (holds_either t.ports p.sport p.dport) dport either_port) in
     let last = both (holds t.itypes.ranges p.itype) (passes t.option mode t.dport_named p) itype option in
     let law = both (ends_match f t p) (ports_match t p
     && (holds t.itypes.ranges p.itype && passes t.option mode t.dport_named p)) ends
     (both (ports_match t p) (holds t.itypes.ranges p.itype && passes t.option mode t.dport_named p) ports last) in (
       λ h. let r = law.0 h in record {
         source = r.0.1.0;
-        destination = r.0.1.1;
+        destination = r.0.1.1.0;
+        either_address = r.0.1.1.1;
         protocol = r.0.0;
         source_port = r.1.0.0;
-        destination_port = r.1.0.1;
+        destination_port = r.1.0.1.0;
+        either_port = r.1.0.1.1;
         icmp_type = r.1.1.0;
         option = r.1.1.1;
       },
-      λ m. law.1 ((m.protocol, (m.source, m.destination)), ((m.source_port, m.destination_port), (m.icmp_type, m.option))),
+      λ m. law.1 ((m.protocol, (m.source, (m.destination, m.either_address))),
+          ((m.source_port, (m.destination_port, m.either_port)), (m.icmp_type, m.option))),
     )

@@ -8,6 +8,7 @@ use Rattle.acl_sets.proofs.RangeLaws.{in_range}
 use Rattle.acl_terms.specs.Matching.{AnyOf}
 use Rattle.acl_terms.specs.Sets.{IsSetOf}
 use Rattle.acl_terms.proofs.TestLaws.{true-not}
+use Rattle.acl_terms.proofs.WordLaws.{none-more}
 
 -- ---- some of a list
 
@@ -81,6 +82,13 @@ less-set P Q top s m u hs hm t n e = record {
         ((true-not (holds m.ranges x)).1 (false_from_ne_true (holds m.ranges x) (λ h. w.1 (b.0 h)))),
   );
 }
+
+-- Nothing is taken away where nothing is named.
+pub none-less : {A : Type 0} (P : ℕ → Type 0) (Q : ℕ → A → Type 0) (top : ℕ) (xs : List A) (s : Numbers) → xs ≡ []
+    → IsSetOf P top s → IsSetOf (λ x. P x × (AnyOf (Q x) xs → ⊥)) top s
+none-less P Q top [] s e h =
+    same-set P (λ x. P x × (AnyOf (Q x) [] → ⊥)) top s (λ x. (λ p. (p, λ a. a), λ q. q.0)) h
+none-less P Q top (x ∷ xs) s e h = absurd (none-more x xs e)
 
 -- The union with the set of the next item of a list.
 pub more-set : {A : Type 0} (P : ℕ → A → Type 0) (top : ℕ) (xs : List A) (i : ℕ) (a d : A)

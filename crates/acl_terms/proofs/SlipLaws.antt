@@ -3,7 +3,9 @@ use Rattle.std.proofs.Common.{◌≡◌, ℕ, Bool, true, false, List, [], ◌�
 use Rattle.std.specs.Prelude.{is_some, ◌≢◌, Err}
 use Rattle.std.proofs.lemmas.Bool.{both_ways}
 use Rattle.std.specs.Option.{option_or}
+use Rattle.acl_packet.specs.Packets.{has_ports}
 use Rattle.acl_text.specs.declared.faults.Code.{Code}
+use Rattle.acl_text.specs.declared.faults.Code.TheVariants as codes
 use Rattle.acl_text.specs.declared.faults.Slip.{Slip}
 use Rattle.acl_text.specs.declared.faults.Refusal.{Refusal}
 use Rattle.acl_text.specs.Refusals.{IsRefusalBy, Judges, first_in}
@@ -12,8 +14,8 @@ use Rattle.acl_words.specs.declared.word_lists.Word.{Word}
 use Rattle.acl_policy.specs.declared.raw_terms.RawTerm.{RawTerm}
 use Rattle.acl_naming.specs.Definitions.{Definition}
 use Rattle.acl_terms.specs.Matching.{only}
-use Rattle.acl_terms.specs.SetSteps.{ends_slip}
-use Rattle.acl_terms.specs.Slips.{first_unless, network_slip, networks_slip, service_slip, services_slip, slip_at, unless}
+use Rattle.acl_terms.specs.SetSteps.{ends_slip, ports_by_ends_slip}
+use Rattle.acl_terms.specs.Slips.{first_unless, network_slip, networks_slip, port_protocol_slip, service_slip, services_slip, slip_at, unless}
 use Rattle.acl_terms.proofs.WordLaws.{first-passed, some-only}
 
 pub first-of-assoc : {X : Type 0} (a b c : Option X) → option_or (option_or a b) c ≡ option_or a (option_or b c)
@@ -30,17 +32,38 @@ first-in-append question (x ∷ xs) ys =
 pub networks_by_ends : (networks : List Definition) (t : RawTerm) → networks_slip networks t ≡ ends_slip networks t
 networks_by_ends networks t =
     let q : Word → Option Slip = network_slip networks in
-    first-in-append q (t.sources ++ t.source_excludes) (t.destinations ++ t.destination_excludes)
+    first-in-append q (t.sources ++ t.source_excludes ++ (t.destinations ++ t.destination_excludes)) t.addresses
+    ∙ ap (λ o. option_or o (first_in q t.addresses))
+    (first-in-append q (t.sources ++ t.source_excludes) (t.destinations ++ t.destination_excludes)
     ∙ ap (λ o. option_or o (first_in q (t.destinations ++ t.destination_excludes)))
     (first-in-append q t.sources t.source_excludes)
     ∙ ap (λ o. option_or (option_or (first_in q t.sources) (first_in q t.source_excludes)) o)
-    (first-in-append q t.destinations t.destination_excludes)
+    (first-in-append q t.destinations t.destination_excludes))
 
 pub services_by_ends : (services : List Definition) (protos : List ℕ) (t : RawTerm)
     → services_slip services protos t
-    ≡ option_or (first_in (service_slip services protos) t.source_ports) (first_in (service_slip services protos) t.destination_ports)
+    ≡ option_or (option_or (first_in (service_slip services protos) t.source_ports)
+    (first_in (service_slip services protos) t.destination_ports)) (first_in (service_slip services protos) t.ports)
 services_by_ends services protos t =
-    first-in-append (service_slip services protos) t.source_ports t.destination_ports
+    let q : Word → Option Slip = service_slip services protos in
+    first-in-append q (t.source_ports ++ t.destination_ports) t.ports
+    ∙ ap (λ o. option_or o (first_in q t.ports)) (first-in-append q t.source_ports t.destination_ports)
+
+-- The first word of two lists is that of the first one, where it has any.
+first-unless-append : (passed : Bool) (code : Code) (xs ys : List Word)
+    → first_unless passed code (xs ++ ys) ≡ option_or (first_unless passed code xs) (first_unless passed code ys)
+first-unless-append passed code [] ys = refl
+first-unless-append false code (x ∷ xs) ys = refl
+first-unless-append true code (x ∷ xs) [] = refl
+first-unless-append true code (x ∷ xs) (y ∷ ys) = refl
+
+pub port_protocol_by_ends : (protos : List ℕ) (t : RawTerm)
+    → port_protocol_slip protos t ≡ ports_by_ends_slip (only has_ports protos) t
+port_protocol_by_ends protos t =
+    let b = only has_ports protos in
+    let code = codes.PortProtocol in
+    first-unless-append b code (t.source_ports ++ t.destination_ports) t.ports
+    ∙ ap (λ o. option_or o (first_unless b code t.ports)) (first-unless-append b code t.source_ports t.destination_ports)
 
 -- ---- answers of one word
 

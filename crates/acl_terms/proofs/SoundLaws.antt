@@ -1,5 +1,5 @@
 -- The sets of a term without a slip fulfil what every term does.
-use Rattle.std.proofs.Common.{◌≡◌, ◌≢◌, ℕ, ◌≤◌, Bool, true, false, cond, List, [], ◌∷◌, Option, None, Some, inl, refl, ap, sym, ◌∙◌, arith}
+use Rattle.std.proofs.Common.{◌≡◌, ◌≢◌, ℕ, ◌≤◌, Bool, true, false, cond, List, [], ◌∷◌, ◌++◌, Option, None, Some, inl, refl, ap, sym, ◌∙◌, arith}
 use Rattle.std.specs.Prelude.{is_some, codes as codes_of}
 use Rattle.std.specs.Str.{bytes_eq}
 use Rattle.std.proofs.lemmas.Bool.{both_ways, false_from_ne_true}
@@ -8,6 +8,7 @@ use Rattle.acl_packet.specs.declared.addresses.Family.{Family}
 use Rattle.acl_packet.specs.declared.addresses.Family.TheVariants.{V4, V6}
 use Rattle.acl_packet.specs.declared.filtering.Verdict.{Verdict}
 use Rattle.acl_packet.specs.declared.filtering.Verdict.TheVariants as verdicts
+use Rattle.acl_packet.specs.Addresses.{top_address}
 use Rattle.acl_packet.specs.NumberWords.{protocol_in}
 use Rattle.acl_packet.specs.Packets.{has_ports}
 use Rattle.acl_text.specs.declared.faults.Code.{Code}
@@ -23,7 +24,7 @@ use Rattle.acl_naming.specs.Definitions.{Naming}
 use Rattle.acl_naming.specs.Ports.{top_port}
 use Rattle.acl_terms.specs.declared.options.Opt.{Opt}
 use Rattle.acl_terms.specs.declared.options.Opt.TheVariants.{Plain, Established, TcpEstablished, TcpInitial, Rst}
-use Rattle.acl_terms.specs.Matching.{AnyOf, Admits, IsProtocol, IsType, NamesPort, only, is_number, icmp_family, type_in, protocols_of, is_written}
+use Rattle.acl_terms.specs.Matching.{AnyOf, Admits, IsProtocol, IsType, NamesAddress, NamesPort, only, is_number, icmp_family, type_in, protocols_of, is_written}
 use Rattle.acl_terms.specs.Options.{option_of, verdict_of}
 use Rattle.acl_terms.specs.Sets.{IsSetOf, Sets, AreSetsOf}
 use Rattle.acl_terms.specs.Slips.{first_unless, slip_of, type_slip, option_fits, verdict_fits, is_tcp_or_udp, port_words, networks_slip, port_protocol_slip, services_slip, words_slips, types_slip, clash_slip, option_slip, reset_slip}
@@ -205,12 +206,14 @@ not-written (w ∷ ws) P top s h e = absurd (both_ways true e refl)
 
 pub sound : (n : Naming) (t : RawTerm) (s : Sets) → is_name t.name.text ≡ true
     → is_note (note_of t.comments) ≡ true → slip_of n t ≡ None → AreSetsOf n t s
-    → IsSound t.name.text (note_of t.comments) s.src4 s.src6 s.dst4 s.dst6 s.protos s.sports s.dports
-    (is_written t.destination_ports) s.itypes (option_of t.options) (verdict_of t.action.text)
+    → IsSound t.name.text (note_of t.comments) s.src4 s.src6 s.dst4 s.dst6 s.addr4 s.addr6
+    (is_written t.addresses) s.protos s.sports s.dports (is_written t.destination_ports) s.ports (is_written t.ports)
+    s.itypes (option_of t.options) (verdict_of t.action.text)
 sound n t s name note clean are =
     let qs = protocols_of t.protocols in
     let p = passes-all n t clean in
     let named = NamesPort n qs in
+    let ends = t.source_ports ++ t.destination_ports in
     record {
       name_is = name;
       note_is = note;
@@ -222,22 +225,35 @@ sound n t s name note clean are =
       dst4_normal = are.ipv4.1.normal;
       dst6_top = are.ipv6.1.top_is;
       dst6_normal = are.ipv6.1.normal;
+      addr4_top = are.ipv4.2.top_is;
+      addr4_normal = are.ipv4.2.normal;
+      addr4_named = not-written t.addresses (NamesAddress n V4) (top_address V4) s.addr4 are.ipv4.2;
+      addr6_top = are.ipv6.2.top_is;
+      addr6_normal = are.ipv6.2.normal;
+      addr6_named = not-written t.addresses (NamesAddress n V6) (top_address V6) s.addr6 are.ipv6.2;
       protos_top = are.protos_are.top_is;
       protos_normal = are.protos_are.normal;
       protos_lack_0 = lack-zero t.protocols s.protos are.protos_are;
       sports_top = are.ports.0.top_is;
       sports_normal = are.ports.0.normal;
-      sports_some = are.ports.2;
+      sports_some = are.ports.3;
       sports_fit = λ e. only-held has_ports t.protocols s.protos are.protos_are
           (ports-fit n (NamesPort n qs) top_port t.source_ports s.sports (only has_ports qs) codes.PortProtocol (port_words t)
-          are.ports.0 (left-some t.source_ports t.destination_ports) p.ports e);
+          are.ports.0 (λ h. left-some ends t.ports (left-some t.source_ports t.destination_ports h)) p.ports e);
       dports_top = are.ports.1.top_is;
       dports_normal = are.ports.1.normal;
-      dports_some = are.ports.3;
+      dports_some = are.ports.4;
       dports_fit = λ e. only-held has_ports t.protocols s.protos are.protos_are
           (ports-fit n (NamesPort n qs) top_port t.destination_ports s.dports (only has_ports qs) codes.PortProtocol (port_words t)
-          are.ports.1 (right-some t.source_ports t.destination_ports) p.ports e);
+          are.ports.1 (λ h. left-some ends t.ports (right-some t.source_ports t.destination_ports h)) p.ports e);
       dports_named = not-written t.destination_ports (NamesPort n qs) top_port s.dports are.ports.1;
+      ports_top = are.ports.2.top_is;
+      ports_normal = are.ports.2.normal;
+      ports_some = are.ports.5;
+      ports_fit = λ e. only-held has_ports t.protocols s.protos are.protos_are
+          (ports-fit n (NamesPort n qs) top_port t.ports s.ports (only has_ports qs) codes.PortProtocol (port_words t)
+          are.ports.2 (right-some ends t.ports) p.ports e);
+      ports_named = not-written t.ports (NamesPort n qs) top_port s.ports are.ports.2;
       itypes_top = are.itypes_are.top_is;
       itypes_normal = are.itypes_are.normal;
       itypes_some = types-some (icmp_family qs) t.icmp_types s.itypes are.itypes_are p.types;
@@ -258,10 +274,13 @@ sound n t s name note clean are =
     }
 
 -- The same for fields that equal those.
-pub sound-fields : (n : Naming) (t : RawTerm) (s : Sets) (name note : List ℕ) (named : Bool) (option : Opt) (verdict : Verdict)
-    → name ≡ t.name.text → note ≡ note_of t.comments → named ≡ is_written t.destination_ports
+pub sound-fields : (n : Naming) (t : RawTerm) (s : Sets) (name note : List ℕ) (addr_named dport_named port_named : Bool)
+    (option : Opt) (verdict : Verdict)
+    → name ≡ t.name.text → note ≡ note_of t.comments → addr_named ≡ is_written t.addresses
+    → dport_named ≡ is_written t.destination_ports → port_named ≡ is_written t.ports
     → option ≡ option_of t.options → verdict ≡ verdict_of t.action.text
     → is_name t.name.text ≡ true → is_note note ≡ true → slip_of n t ≡ None → AreSetsOf n t s
-    → IsSound name note s.src4 s.src6 s.dst4 s.dst6 s.protos s.sports s.dports named s.itypes option verdict
-sound-fields n t s name note named option verdict e1 e2 e3 e4 e5 is safe clean are =
-    rw (e1, e2, e3, e4, e5) (sound n t s is (sym (ap is_note e2) ∙ safe) clean are)
+    → IsSound name note s.src4 s.src6 s.dst4 s.dst6 s.addr4 s.addr6 addr_named s.protos s.sports s.dports dport_named
+    s.ports port_named s.itypes option verdict
+sound-fields n t s name note addr_named dport_named port_named option verdict e1 e2 e3 e4 e5 e6 e7 is safe clean are =
+    rw (e1, e2, e3, e4, e5, e6, e7) (sound n t s is (sym (ap is_note e2) ∙ safe) clean are)

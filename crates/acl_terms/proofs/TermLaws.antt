@@ -1,5 +1,5 @@
 -- A written term is resolved in one way, and in some way where it has no slip.
-use Rattle.std.proofs.Common.{◌≡◌, ◌≢◌, ℕ, Bool, List, [], ◌∷◌, Option, None, inl, refl, ap, sym, ◌∙◌, subst}
+use Rattle.std.proofs.Common.{◌≡◌, ◌≢◌, ℕ, Bool, List, [], ◌∷◌, ◌++◌, Option, None, inl, refl, ap, sym, ◌∙◌, subst}
 use Rattle.std.proofs.Props.{props}
 use Rattle.std.specs.List.{list_all}
 use Rattle.std.proofs.lemmas.Bool.{and_parts}
@@ -45,7 +45,9 @@ record Fields : Type 0 where
   place : Place
   note : List ℕ
   sets : Sets
+  addr_named : Bool
   dport_named : Bool
+  port_named : Bool
   option : Opt
   verdict : Verdict
   log : Bool
@@ -54,8 +56,9 @@ record Fields : Type 0 where
   never : Platforms
 
 AreSound : Fields → Type 0
-AreSound f = IsSound f.name f.note f.sets.src4 f.sets.src6 f.sets.dst4 f.sets.dst6 f.sets.protos f.sets.sports
-    f.sets.dports f.dport_named f.sets.itypes f.option f.verdict
+AreSound f = IsSound f.name f.note f.sets.src4 f.sets.src6 f.sets.dst4 f.sets.dst6 f.sets.addr4 f.sets.addr6
+    f.addr_named f.sets.protos f.sets.sports f.sets.dports f.dport_named f.sets.ports f.port_named f.sets.itypes
+    f.option f.verdict
 
 fields-of : Term → Fields
 fields-of t = record {
@@ -63,7 +66,9 @@ fields-of t = record {
   place = t.place;
   note = t.note;
   sets = sets_in t;
+  addr_named = t.addr_named;
   dport_named = t.dport_named;
+  port_named = t.port_named;
   option = t.option;
   verdict = t.verdict;
   log = t.log;
@@ -82,10 +87,15 @@ term-of f sound = record {
   src6 = f.sets.src6;
   dst4 = f.sets.dst4;
   dst6 = f.sets.dst6;
+  addr4 = f.sets.addr4;
+  addr6 = f.sets.addr6;
+  addr_named = f.addr_named;
   protos = f.sets.protos;
   sports = f.sets.sports;
   dports = f.sets.dports;
   dport_named = f.dport_named;
+  ports = f.sets.ports;
+  port_named = f.port_named;
   itypes = f.sets.itypes;
   option = f.option;
   verdict = f.verdict;
@@ -99,8 +109,9 @@ term-of f sound = record {
 one-proof : (f : Fields) (p q : AreSound f) → p ≡ q
 unfolding AreSound
 one-proof f p q =
-    let prop : IsProp (IsSound f.name f.note f.sets.src4 f.sets.src6 f.sets.dst4 f.sets.dst6 f.sets.protos f.sets.sports
-    f.sets.dports f.dport_named f.sets.itypes f.option f.verdict) = hlevel (props, normal-prop) in prop p q
+    let prop : IsProp (IsSound f.name f.note f.sets.src4 f.sets.src6 f.sets.dst4 f.sets.dst6 f.sets.addr4 f.sets.addr6
+    f.addr_named f.sets.protos f.sets.sports f.sets.dports f.dport_named f.sets.ports f.port_named f.sets.itypes
+    f.option f.verdict) = hlevel (props, normal-prop) in prop p q
 
 same-term : (f g : Fields) → f ≡ g → (p : AreSound f) (q : AreSound g) → term-of f p ≡ term-of g q
 same-term f g e p =
@@ -118,7 +129,9 @@ same-fields n raw t u h k =
       place = (a.place ∙ sym b.place) j;
       note = (a.note ∙ sym b.note) j;
       sets = sets j;
+      addr_named = (a.addr_named ∙ sym b.addr_named) j;
       dport_named = (a.dport_named ∙ sym b.dport_named) j;
+      port_named = (a.port_named ∙ sym b.port_named) j;
       option = (a.option ∙ sym b.option) j;
       verdict = (a.verdict ∙ sym b.verdict) j;
       log = (a.log ∙ sym b.log) j;
@@ -158,16 +171,23 @@ sets-there n raw some clean =
     let qs = protocols_of raw.protocols in
     let p = passes-all n raw clean in
     let question = service_slip n.services qs in
+    let ends = raw.source_ports ++ raw.destination_ports in
+    let all = parts (first_in question ends) (first_in question raw.ports)
+    (sym (first-in-append question ends raw.ports) ∙ p.services) in
     let both = parts (first_in question raw.source_ports) (first_in question raw.destination_ports)
-    (sym (first-in-append question raw.source_ports raw.destination_ports) ∙ p.services) in
+    (sym (first-in-append question raw.source_ports raw.destination_ports) ∙ all.0) in
     let named = ports-some qs has_ports codes.PortProtocol (port_words raw) p.ports in
     computed-sets n raw
-    (port-some n qs raw.source_ports some (λ h. named (left-some raw.source_ports raw.destination_ports h)) both.0)
-    (port-some n qs raw.destination_ports some (λ h. named (right-some raw.source_ports raw.destination_ports h)) both.1)
+    (port-some n qs raw.source_ports some
+    (λ h. named (left-some ends raw.ports (left-some raw.source_ports raw.destination_ports h))) both.0)
+    (port-some n qs raw.destination_ports some
+    (λ h. named (left-some ends raw.ports (right-some raw.source_ports raw.destination_ports h))) both.1)
+    (port-some n qs raw.ports some (λ h. named (right-some ends raw.ports h)) all.1)
 
 abbrev pub IsWrittenSound : RawTerm → Sets → Type 0
-IsWrittenSound raw s = IsSound raw.name.text (note_of raw.comments) s.src4 s.src6 s.dst4 s.dst6 s.protos s.sports
-    s.dports (is_written raw.destination_ports) s.itypes (option_of raw.options) (verdict_of raw.action.text)
+IsWrittenSound raw s = IsSound raw.name.text (note_of raw.comments) s.src4 s.src6 s.dst4 s.dst6 s.addr4 s.addr6
+    (is_written raw.addresses) s.protos s.sports s.dports (is_written raw.destination_ports) s.ports
+    (is_written raw.ports) s.itypes (option_of raw.options) (verdict_of raw.action.text)
 
 -- The written term, with these sets.
 abbrev pub term-with : (raw : RawTerm) (s : Sets) → IsWrittenSound raw s → Term
@@ -179,10 +199,15 @@ term-with raw s sound = record {
   src6 = s.src6;
   dst4 = s.dst4;
   dst6 = s.dst6;
+  addr4 = s.addr4;
+  addr6 = s.addr6;
+  addr_named = is_written raw.addresses;
   protos = s.protos;
   sports = s.sports;
   dports = s.dports;
   dport_named = is_written raw.destination_ports;
+  ports = s.ports;
+  port_named = is_written raw.ports;
   itypes = s.itypes;
   option = option_of raw.options;
   verdict = verdict_of raw.action.text;
@@ -202,7 +227,9 @@ term-with-resolved n raw s sound are = record {
     name = refl;
     place = refl;
     note = refl;
+    addr_named = refl;
     dport_named = refl;
+    port_named = refl;
     option = refl;
     verdict = refl;
     log = refl;

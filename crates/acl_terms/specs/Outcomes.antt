@@ -1,5 +1,5 @@
 -- What a policy does with a packet: the first live term that matches decides, else the ending of the target.
-use Rattle.std.specs.Prelude.{◌≡◌, ◌↔◌, ◌⊎◌, Bool, true, ◌&&◌, if◌then◌else◌, List, [], ◌∷◌}
+use Rattle.std.specs.Prelude.{◌≡◌, ◌↔◌, ◌⊎◌, Bool, true, false, ◌&&◌, if◌then◌else◌, List, [], ◌∷◌}
 use Rattle.std.specs.List.{AllZip}
 use Rattle.acl_packet.specs.declared.filtering.Outcome.{Outcome}
 use Rattle.acl_packet.specs.declared.filtering.Verdict.{Verdict}
@@ -19,7 +19,7 @@ use Rattle.acl_terms.specs.declared.terms.Term.{Term}
 use Rattle.acl_terms.specs.Living.{IsLive}
 use Rattle.acl_terms.specs.Matching.{Matches}
 use Rattle.acl_terms.specs.Options.{verdict_of}
-use Rattle.acl_terms.specs.Resolved.{IsResolved, IsTermLive, is_term_live, matches}
+use Rattle.acl_terms.specs.Resolved.{IsEmptyIn, IsResolved, IsTermLive, is_term_live, matches}
 
 -- Whether a target knows connections.
 abbrev pub mode_of : Target → Mode
@@ -88,3 +88,7 @@ abbrev pub PoliciesDecideAsWritten : Type 0
 PoliciesDecideAsWritten = (n : Naming) (target : Target) (today : Day) (raws : List RawTerm)
     (ts : List Term) (p : Packet) → IsPacket p → AllZip (IsResolved n) raws ts
     → PolicyDecides n target today raws p (policy_outcome target today ts p)
+
+-- A term that is empty in a family matches no packet of it.
+abbrev pub EmptyTermsMatchNone : Type 0
+EmptyTermsMatchNone = (mode : Mode) (t : Term) (p : Packet) → IsEmptyIn p.family t → matches mode t p ≡ false

@@ -14,7 +14,7 @@ use Rattle.acl_naming.specs.Definitions.{Definition}
 use Rattle.acl_terms.specs.declared.resolving.Parts.{Parts}
 use Rattle.acl_terms.specs.Matching.{type_in}
 use Rattle.acl_terms.specs.Sets.{Sets}
-use Rattle.acl_terms.specs.Slips.{is_defined, network_slip, reaches_protocol, unless}
+use Rattle.acl_terms.specs.Slips.{first_unless, is_defined, network_slip, reaches_protocol, unless}
 
 -- The numbers of the words of `icmp-type::`.
 abbrev pub types_of : Option Family → List Word → List ℕ
@@ -28,6 +28,13 @@ abbrev pub protocol_slip : List Definition → ℕ → Word → Option Slip
 protocol_slip services q w =
     option_or (unless (is_defined services w.text) codes.UnknownName w)
     (unless (reaches_protocol services w.text q) codes.NoPortForProtocol w)
+
+-- The question on protocols, end by end.
+abbrev pub ports_by_ends_slip : Bool → RawTerm → Option Slip
+ports_by_ends_slip passed t =
+    option_or (option_or (first_unless passed codes.PortProtocol t.source_ports)
+    (first_unless passed codes.PortProtocol t.destination_ports))
+    (first_unless passed codes.PortProtocol t.ports)
 
 -- The questions on names, end by end.
 abbrev pub ends_slip : List Definition → RawTerm → Option Slip

@@ -88,7 +88,7 @@ fn admitted(alloc: Global, base: &Checked, words: &WordList) -> Result<Addresses
     }
 }
 
-// The addresses of an end: those of the words, less the excluded ones.
+// The addresses of an end: those of the words, less the excluded ones. Where none is excluded nothing is copied.
 fn end_of(
     alloc: Global,
     base: &Checked,
@@ -103,11 +103,16 @@ fn end_of(
         (top_address V6) a.v6) }
 {
     let taken = admitted(alloc, base, words)?;
-    let excluded = named(alloc, base, excludes)?;
-    Ok(Addresses {
-        v4: taken.v4.subtract(alloc, &excluded.v4)?,
-        v6: taken.v6.subtract(alloc, &excluded.v6)?,
-    })
+    match excludes.first() {
+        None => Ok(taken),
+        Some(_) => {
+            let excluded = named(alloc, base, excludes)?;
+            Ok(Addresses {
+                v4: taken.v4.subtract(alloc, &excluded.v4)?,
+                v6: taken.v6.subtract(alloc, &excluded.v6)?,
+            })
+        }
+    }
 }
 
 // The addresses of a term's ends, end by end, and those of either end.

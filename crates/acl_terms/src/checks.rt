@@ -1,10 +1,10 @@
-ghost use Rattle.std.specs.Prelude.{◌≡◌, ◌++◌, is_some};
-ghost use Rattle.acl_text.specs.declared.faults.Code.TheVariants as codes;
+ghost use Rattle.std.specs.Prelude.{◌≡◌, is_some};
 ghost use Rattle.std.specs.List.{list_all};
 ghost use Rattle.acl_packet.specs.Packets.{has_ports};
 ghost use Rattle.acl_text.specs.Refusals.{IsRefusalBy, Judges, first_in, first_some};
 ghost use Rattle.acl_terms.specs.Matching.{icmp_family, is_number, only, type_in};
 ghost use Rattle.acl_terms.specs.Options.{option_of, opt_named, verdict_of};
+ghost use Rattle.acl_terms.specs.SetSteps.{ports_by_ends_slip};
 ghost use Rattle.acl_terms.specs.Slips.{clash_slip, first_unless, is_tcp_or_udp, option_fits, option_slip, port_protocol_slip, reset_slip, same_slip, slip_at, type_slip, types_slip, unless, verdict_fits, words_slips};
 
 use crate::options::Opt;
@@ -233,21 +233,16 @@ fn check_reset(alloc: Global, protos: &[u8], word: &WordRef<'_>) -> Result<(), R
     )
 }
 
-fn check_ports_of_ends(
-    alloc: Global,
-    passed: bool,
-    sources: &WordList,
-    destinations: &WordList,
-) -> Result<(), Refusal>
-    ensures { Judges result (first_unless passed codes.PortProtocol (sources.now ++ destinations.now)) }
+fn check_ports_by_ends(alloc: Global, passed: bool, raw: &RawTerm) -> Result<(), Refusal>
+    ensures { Judges result (ports_by_ends_slip passed raw.now) }
 {
-    match sources.first() {
-        None => check_first(alloc, passed, Code::PortProtocol, destinations),
-        Some(_) => check_first(alloc, passed, Code::PortProtocol, sources),
-    }
+    check_first(alloc, passed, Code::PortProtocol, &raw.source_ports)?;
+    check_first(alloc, passed, Code::PortProtocol, &raw.destination_ports)?;
+    check_first(alloc, passed, Code::PortProtocol, &raw.ports)
 }
 
 /// Whether ports stand only with TCP, UDP and SCTP. The slip is at the first word of ports.
+#[tactic(auto, using(crate::proofs::SlipLaws::port_protocol_by_ends))]
 pub(crate) fn check_port_protocol(
     alloc: Global,
     protos: &[u8],
@@ -255,9 +250,7 @@ pub(crate) fn check_port_protocol(
 ) -> Result<(), Refusal>
     ensures { Judges result (port_protocol_slip protos.now raw.now) }
 {
-    let passed = only_ports(protos);
-    check_ports_of_ends(alloc, passed, &raw.source_ports, &raw.destination_ports)?;
-    check_first(alloc, passed, Code::PortProtocol, &raw.ports)
+    check_ports_by_ends(alloc, only_ports(protos), raw)
 }
 
 /// The questions on words that are no names: ICMP types, options, the action.

@@ -18,7 +18,6 @@ ghost use Rattle.acl_terms.specs.Resolved.{
   sources_on,
   sports_on,
 };
-ghost use Rattle.acl_terms.specs.SetSteps.{meet};
 
 use crate::matching::{destination_in, either_in, source_in};
 use crate::side_sets::pairs_of;
@@ -55,18 +54,15 @@ fn begins_in(set: &RangeSet, ranges: &[Range]) -> bool
     ranges.iter().any(|r| set.contains(r.low))
 }
 
-// Whether some number is in both sets. Then a range of the one begins in the other; no memory is needed to see it.
-fn meet(set: &RangeSet, other: &RangeSet) -> bool
-    ensures { result ≡ meet set.now other.now }
-{
-    begins_in(set, other.ranges()) || begins_in(other, set.ranges())
-}
-
-fn is_apart(set: &RangeSet, other: &RangeSet) -> bool
+// Whether no number is in both sets. Where one is, a range of the one begins in the other; so no memory is needed.
+#[tactic(auto, using(crate::proofs::SideLaws::apart_law))]
+fn are_apart(set: &RangeSet, other: &RangeSet) -> bool
     requires { set.now.top ≡ other.now.top }
     ensures { result ≡ has_none (in_both set.now other.now) }
 {
-    !meet(set, other)
+    let ranges = set.ranges();
+    let others = other.ranges();
+    !(begins_in(set, others) || begins_in(other, ranges))
 }
 
 // ---- sides
@@ -76,7 +72,7 @@ fn has_no_source(side: Side, set: &RangeSet, either: &RangeSet) -> bool
     ensures { result ≡ has_none (source_cut side set.now either.now) }
 {
     match side {
-        Side::Source => is_apart(set, either),
+        Side::Source => are_apart(set, either),
         Side::Whole | Side::Destination => set.is_empty(),
     }
 }
@@ -86,11 +82,12 @@ fn has_no_destination(side: Side, set: &RangeSet, either: &RangeSet) -> bool
     ensures { result ≡ has_none (destination_cut side set.now either.now) }
 {
     match side {
-        Side::Destination => is_apart(set, either),
+        Side::Destination => are_apart(set, either),
         Side::Whole | Side::Source => set.is_empty(),
     }
 }
 
+#[tactic(auto, using(crate::proofs::SideLaws::source_tops, crate::proofs::SideLaws::destination_tops))]
 fn lacks_addresses(term: &Term, family: Family, side: Side) -> bool
     ensures { result ≡ (has_none (sources_on side family term.now)
         || has_none (destinations_on side family term.now)) }
@@ -100,6 +97,7 @@ fn lacks_addresses(term: &Term, family: Family, side: Side) -> bool
         || has_no_destination(side, destination_in(family, term), either)
 }
 
+#[tactic(auto, using(crate::proofs::SideLaws::sport_tops, crate::proofs::SideLaws::dport_tops))]
 fn lacks_ports(term: &Term, side: Side) -> bool
     ensures { result ≡ (has_none (sports_on side term.now) || has_none (dports_on side term.now)) }
 {
@@ -107,6 +105,7 @@ fn lacks_ports(term: &Term, side: Side) -> bool
         || has_no_destination(side, &term.dports, &term.ports)
 }
 
+#[tactic(auto, using(crate::proofs::EmptyLaws::pair_tests))]
 fn has_nothing_on(term: &Term, family: Family, pair: SidePair) -> bool
     ensures { result ≡ is_pair_empty family term.now pair }
 {

@@ -19,7 +19,7 @@ mod terms;
 
 pub use emptiness::{is_empty_in, is_pair_empty};
 pub use laws::{
-    policies_decide_as_written, terms_are_one, terms_are_there, terms_live_as_written,
+    empty_terms_match_none, policies_decide_as_written, terms_are_one, terms_are_there, terms_live_as_written,
     terms_match_as_written,
 };
 pub use living::is_live;

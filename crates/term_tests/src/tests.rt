@@ -1,4 +1,5 @@
 mod filters;
 mod reading;
 mod shades;
+mod sides;
 mod terms;

@@ -195,3 +195,59 @@ static SETS: [(&[u8], &str); 8] = [
 fn shaded_by_protocols_ports_and_types(rt: HostRuntime) -> Result<(), Fail> {
     expect(&rt, rt.alloc(), &SETS)
 }
+
+static EITHER: [(&[u8], &str); 12] = [
+    (
+        b"term a { address:: TEN action:: deny } term b { source-address:: LOW action:: deny }",
+        "-0",
+    ),
+    (
+        b"term a { address:: TEN action:: deny } term b { destination-address:: LOW action:: deny }",
+        "-0",
+    ),
+    (
+        b"term a { address:: TEN action:: deny } term b { address:: LOW action:: deny }",
+        "-0",
+    ),
+    (
+        b"term a { address:: LOW action:: deny } term b { address:: TEN action:: deny }",
+        "--",
+    ),
+    (
+        b"term a { source-address:: TEN action:: deny } term b { destination-address:: TEN action:: deny } term c { address:: LOW action:: deny }",
+        "---",
+    ),
+    (
+        b"term a { source-address:: TEN action:: deny } term b { source-address:: LOW address:: LOW action:: deny }",
+        "-0",
+    ),
+    (
+        b"term a { action:: deny } term b { address:: LOW action:: deny }",
+        "-0",
+    ),
+    (
+        b"term a { action:: deny } term b { address:: LOW source-exclude:: LOW destination-exclude:: LOW action:: deny }",
+        "--",
+    ),
+    (
+        b"term a { protocol:: tcp port:: WEB action:: deny } term b { protocol:: tcp source-port:: HTTP action:: deny }",
+        "-0",
+    ),
+    (
+        b"term a { protocol:: tcp port:: WEB action:: deny } term b { protocol:: tcp destination-port:: HTTP action:: deny }",
+        "-0",
+    ),
+    (
+        b"term a { protocol:: tcp destination-port:: WEB action:: deny } term b { protocol:: tcp port:: HTTP action:: deny }",
+        "--",
+    ),
+    (
+        b"term a { address:: TEN protocol:: udp port:: DNS action:: deny } term b { source-address:: LOW protocol:: udp destination-port:: DNS action:: deny }",
+        "-0",
+    ),
+];
+
+#[test]
+fn shaded_on_either_side(rt: HostRuntime) -> Result<(), Fail> {
+    expect(&rt, rt.alloc(), &EITHER)
+}

@@ -32,7 +32,7 @@ fn first_of(alloc: Global, base: &Checked, raws: &[RawTerm]) -> Result<Term, Ref
 }
 
 // The term of these items, which begin in line 2, as `parse` and `resolve` give it.
-fn term_of(alloc: Global, base: &Checked, items: &[u8]) -> Result<Term, Refusal> {
+pub(crate) fn term_of(alloc: Global, base: &Checked, items: &[u8]) -> Result<Term, Refusal> {
     let mut text = Bytes::from_slice(alloc, b"header { target:: cisco e } term t {\n")?;
     text.push_all(items)?;
     text.push_all(b" }\n")?;
@@ -58,7 +58,11 @@ fn slip_of(alloc: Global, items: &[u8]) -> Result<String, Refusal> {
     }
 }
 
-fn expect_slips(rt: &impl Abort, alloc: Global, rows: &[(&[u8], &str)]) -> Result<(), Fail> {
+pub(crate) fn expect_slips(
+    rt: &impl Abort,
+    alloc: Global,
+    rows: &[(&[u8], &str)],
+) -> Result<(), Fail> {
     for (items, slip) in rows {
         assert_eq!(rt; slip_of(alloc, items)?.as_str(), *slip);
     }

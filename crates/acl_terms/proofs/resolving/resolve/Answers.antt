@@ -10,9 +10,11 @@ pub invariant_of-result : goal.invariant_of-result
 invariant_of-result c =
     let p = c.in_ok-parts.parts in
     record {
-      sound = sound-fields c.args.base.now c.args.raw.now (sets_by p) c.in_ok-name.name c.in_ok-note.note c.is_written.result c.option_of.result c.verdict_of.result
+      sound = sound-fields c.args.base.now c.args.raw.now (sets_by p) c.in_ok-name.name c.in_ok-note.note
+          c.is_written.result c.is_written-2.result c.is_written-3.result c.option_of.result c.verdict_of.result
           (c.in_ok-name.ensures ∙ c.as_slice.ensures) (c.in_ok-note.ensures.exact ∙ ap note_of c.as_slice-2.ensures)
-          c.is_written.ensures c.option_of.ensures (c.verdict_of.ensures ∙ ap verdict_of c.as_slice-3.ensures)
+          c.is_written.ensures c.is_written-2.ensures c.is_written-3.ensures
+          c.option_of.ensures (c.verdict_of.ensures ∙ ap verdict_of c.as_slice-3.ensures)
           c.requires.name_is c.in_ok-note.ensures.safe c.in_ok-parts.ensures.judged c.in_ok-parts.ensures.sets;
     }
 
