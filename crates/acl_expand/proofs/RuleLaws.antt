@@ -63,7 +63,7 @@ passed tests.State f src dst proto sport dport itype = refl
 
 -- A rule of a term holds some packet.
 rule-packet : (kind : Kind) (families : Families) (f : Family) (t : Term) (pair : SidePair) (c : Conditions) → covers families f ≡ true
-    → is_pair_empty f t pair ≡ false → Fits kind f t c → (more : List Rule)
+    → is_pair_empty f t pair ≡ false → Fits Iptables f t c → (more : List Rule)
     → HasPacket families f (rule_of kind f t pair c ∷ more)
 rule-packet kind families f t pair c covered some fits more =
     let side = pair.addresses in
