@@ -1,9 +1,9 @@
 -- The sets of a term on a pair of its sides: their tops and forms, when they are all, and when they are none.
-use Rattle.std.proofs.Common.{◌≡◌, ◌≢◌, ℕ, ◌≤◌, Bool, true, false, ◌&&◌, ◌||◌, ◌==◌, [], length, refl, ap, ◌∙◌, arith}
+use Rattle.std.proofs.Common.{◌≡◌, ◌≢◌, ℕ, ◌+◌, ◌^◌, ◌≤◌, Bool, true, false, ◌&&◌, ◌||◌, ◌==◌, [], length, refl, ap, ◌∙◌, arith}
 use Rattle.std.proofs.lemmas.Bool.{both_ways, or_parts}
 use Rattle.acl_packet.specs.declared.addresses.Family.{Family}
 use Rattle.acl_packet.specs.declared.addresses.Family.TheVariants.{V4, V6}
-use Rattle.acl_packet.specs.Addresses.{top_address}
+use Rattle.acl_packet.specs.Addresses.{top_address, width_of}
 use Rattle.acl_packet.specs.Packets.{has_ports}
 use Rattle.acl_sets.specs.ComputableSets.{is_all}
 use Rattle.acl_sets.specs.Ranges.{IsNormal, Numbers, Only, holds}
@@ -35,6 +35,14 @@ destination-cut-top Whole s e = refl
 destination-cut-top Source s e = refl
 destination-cut-top Destination s e = refl
 
+pub source_end : (f : Family) (t : Term) → (source_in f t).top + 1 ≡ 2 ^ width_of f
+source_end V4 t = ap (λ n. n + 1) t.sound.src4_top
+source_end V6 t = ap (λ n. n + 1) t.sound.src6_top
+
+pub destination_end : (f : Family) (t : Term) → (destination_in f t).top + 1 ≡ 2 ^ width_of f
+destination_end V4 t = ap (λ n. n + 1) t.sound.dst4_top
+destination_end V6 t = ap (λ n. n + 1) t.sound.dst6_top
+
 pub sources-top : (side : Side) (f : Family) (t : Term) → (sources_on side f t).top ≡ top_address f
 sources-top side f t = source-cut-top side (source_in f t) (either_in f t) ∙ source-top f t
 
@@ -44,8 +52,8 @@ destinations-top side f t = destination-cut-top side (destination_in f t) (eithe
 pub sports-top : (side : Side) (t : Term) → (sports_on side t).top ≡ 65535
 sports-top side t = source-cut-top side t.sports t.ports ∙ t.sound.sports_top
 
-pub dports-top : (side : Side) (t : Term) → (dports_on side t).top ≡ 65535
-dports-top side t = destination-cut-top side t.dports t.ports ∙ t.sound.dports_top
+pub dports_top : (side : Side) (t : Term) → (dports_on side t).top ≡ 65535
+dports_top side t = destination-cut-top side t.dports t.ports ∙ t.sound.dports_top
 
 -- ---- normal forms
 

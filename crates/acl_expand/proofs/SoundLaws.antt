@@ -39,7 +39,7 @@ use Rattle.acl_expand.specs.declared.conditions.Conditions.{Conditions}
 use Rattle.acl_expand.specs.ExpansionSlips.{extension_headers, header_named}
 use Rattle.acl_expand.specs.TermRules.{address_suffix, client_ports, conditions_by, established_conditions, just, least_list, only_protocol, port_suffix, protocols_in, rule_of, udp_alone, udp_half, udp_ports, verdict_on, whole, with_ports}
 use Rattle.acl_expand.proofs.SetForms.{just-holds, just-range, least-holds, protocol-holds, tcp-or-udp}
-use Rattle.acl_expand.proofs.SideForms.{all-held, destinations-normal, destinations-top, dports-fit, dports-normal, dports-top, some-on, some-ranges, sources-normal, sources-top, sports-fit, sports-normal, sports-top}
+use Rattle.acl_expand.proofs.SideForms.{all-held, destinations-normal, destinations-top, dports-fit, dports-normal, dports_top, some-on, some-ranges, sources-normal, sources-top, sports-fit, sports-normal, sports-top}
 
 -- ---- lists of prefixes
 
@@ -295,7 +295,7 @@ rule-sound kind families f t pair c covered some header fits =
 
 own-ports : (f : Family) (t : Term) (pair : SidePair) → is_pair_empty f t pair ≡ false → IsFull 65535 (dports_on pair.ports t)
 own-ports f t pair some =
-    full 65535 (dports_on pair.ports t) (dports-top pair.ports t) (dports-normal pair.ports t)
+    full 65535 (dports_on pair.ports t) (dports_top pair.ports t) (dports-normal pair.ports t)
     (some-ranges (dports_on pair.ports t) (some-on f t pair some).dports)
 
 whole-fits : (kind : Kind) (f : Family) (t : Term) (pair : SidePair) (test : Test) → is_pair_empty f t pair ≡ false → has_test kind test ≡ true
@@ -327,14 +327,14 @@ client-normal = (omega arith, omega arith, omega arith, tt)
 
 -- The ports of UDP are a set up to the greatest port, which may have none.
 udp-top : (t : Term) (side : Side) (b : Bool) → (cond b (dports_on side t) (in_both (dports_on side t) client_ports)).top ≡ 65535
-udp-top t side true = dports-top side t
-udp-top t side false = dports-top side t
+udp-top t side true = dports_top side t
+udp-top t side false = dports_top side t
 
 udp-normal : (t : Term) (side : Side) (b : Bool)
     → IsNormal 0 (cond b (dports_on side t) (in_both (dports_on side t) client_ports)).top
     (cond b (dports_on side t) (in_both (dports_on side t) client_ports)).ranges
 udp-normal t side true = dports-normal side t
-udp-normal t side false = both-normal (dports_on side t) client_ports (dports-top side t) (dports-normal side t) client-normal
+udp-normal t side false = both-normal (dports_on side t) client_ports (dports_top side t) (dports-normal side t) client-normal
 
 -- Conditions that leave some port fit, where they do but for that.
 with-ports-fit : (kind : Kind) (f : Family) (t : Term) (c : Conditions) → (has_none c.dports ≡ false → Fits kind f t c)

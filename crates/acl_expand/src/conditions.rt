@@ -80,6 +80,7 @@ fn protocols_in(alloc: Global, family: Family, term: &Term) -> Result<RangeSet, 
     }
 }
 
+#[tactic(auto, using(crate::proofs::SideForms::dports_top))]
 fn udp_ports(alloc: Global, term: &Term, side: Side) -> Result<RangeSet, Memory>
     ensures { IfOk result (λ s. s ≡ udp_ports term.now side) }
 {

@@ -76,6 +76,7 @@ fn list_of(alloc: Global, family: Family, set: &RangeSet) -> Result<Prefixes, Me
 }
 
 // The least list of the term's sources on the side, in the family.
+#[tactic(auto, using(acl_terms::proofs::SideLaws::source_tops, crate::proofs::SideForms::source_end))]
 fn sources(alloc: Global, family: Family, term: &Term, side: Side) -> Result<Prefixes, Memory>
     ensures { IfOk result (λ ps. ps ≡ least_list family (sources_on side family term.now)) }
 {
@@ -87,6 +88,7 @@ fn sources(alloc: Global, family: Family, term: &Term, side: Side) -> Result<Pre
 }
 
 // The least list of its destinations on the side.
+#[tactic(auto, using(acl_terms::proofs::SideLaws::destination_tops, crate::proofs::SideForms::destination_end))]
 fn destinations(alloc: Global, family: Family, term: &Term, side: Side) -> Result<Prefixes, Memory>
     ensures { IfOk result (λ ps. ps ≡ least_list family (destinations_on side family term.now)) }
 {
