@@ -190,10 +190,16 @@ pub computed-sets : (n : Naming) (t : RawTerm) → (sets_of n t).sports.ranges �
 unfolding sets_of
 computed-sets n t from into either =
     let qs = protocols_of t.protocols in record {
-      ipv4 = (address-is n V4 t.sources t.source_excludes, address-is n V4 t.destinations t.destination_excludes,
-          named-address-is n V4 t.addresses);
-      ipv6 = (address-is n V6 t.sources t.source_excludes, address-is n V6 t.destinations t.destination_excludes,
-          named-address-is n V6 t.addresses);
+      ipv4 = (
+        address-is n V4 t.sources t.source_excludes,
+        address-is n V4 t.destinations t.destination_excludes,
+        named-address-is n V4 t.addresses,
+      );
+      ipv6 = (
+        address-is n V6 t.sources t.source_excludes,
+        address-is n V6 t.destinations t.destination_excludes,
+        named-address-is n V6 t.addresses,
+      );
       protos_are = number-is (λ w. protocol_in w.text) t.protocols (λ w k e. (protocol-within k w.text e).1);
       ports = (port-is n qs t.source_ports, port-is n qs t.destination_ports, port-is n qs t.ports, from, into, either);
       itypes_are = number-is (λ w. type_in (icmp_family qs) w.text) t.icmp_types

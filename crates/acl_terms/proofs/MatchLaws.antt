@@ -152,6 +152,8 @@ match-as-written n raw t mode p fits is =
         icmp_type = r.1.1.0;
         option = r.1.1.1;
       },
-      λ m. law.1 ((m.protocol, (m.source, (m.destination, m.either_address))),
-          ((m.source_port, (m.destination_port, m.either_port)), (m.icmp_type, m.option))),
+      λ m. law.1 (
+        (m.protocol, (m.source, (m.destination, m.either_address))),
+        ((m.source_port, (m.destination_port, m.either_port)), (m.icmp_type, m.option)),
+      ),
     )

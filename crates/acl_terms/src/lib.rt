@@ -19,8 +19,8 @@ mod terms;
 
 pub use emptiness::{is_empty_in, is_pair_empty};
 pub use laws::{
-    empty_terms_match_none, policies_decide_as_written, terms_are_one, terms_are_there, terms_live_as_written,
-    terms_match_as_written,
+    empty_terms_match_none, policies_decide_as_written, terms_are_one, terms_are_there,
+    terms_live_as_written, terms_match_as_written,
 };
 pub use living::is_live;
 pub use matching::{destination_in, either_in, matches, source_in};

@@ -76,12 +76,11 @@ pub fn resolve(alloc: Global, base: &Checked, raw: &RawTerm) -> Result<Term, Ref
     let Parts {
         ends: Ends { src, dst, either },
         protos,
-        ports:
-            TermPorts {
-                sports,
-                dports,
-                ports,
-            },
+        ports: TermPorts {
+            sports,
+            dports,
+            ports,
+        },
         itypes,
     } = parts;
     let name = Bytes::from_slice(alloc, raw.name.text.as_slice())?;

@@ -76,9 +76,12 @@ sets_by networks services = record {
   src6 = record { top = top_address V6; ranges = addresses_in V6 networks };
   dst4 = all_to (top_address V4);
   dst6 = all_to (top_address V6);
+  addr4 = all_to (top_address V4);
+  addr6 = all_to (top_address V6);
   protos = protocols;
   sports = all_to top_port;
   dports = record { top = top_port; ranges = ports_in services };
+  ports = all_to top_port;
   itypes = all_to 255;
 }
 
@@ -111,7 +114,8 @@ tcp_or_udp test six seventeen x h = elim (either (nat_le 6 x && nat_le x 6) _ h)
 ]
 
 pub is_sound : (i : ℕ) → i < 1024 → IsSound (term_name i) [] (term_sets i).src4 (term_sets i).src6 (term_sets i).dst4 (term_sets i).dst6
-    (term_sets i).protos (term_sets i).sports (term_sets i).dports true (term_sets i).itypes Plain Accept
+    (term_sets i).addr4 (term_sets i).addr6 false (term_sets i).protos (term_sets i).sports (term_sets i).dports true
+    (term_sets i).ports false (term_sets i).itypes Plain Accept
 is_sound i below = record {
   name_is = term_names i below;
   note_is = refl;
@@ -123,6 +127,12 @@ is_sound i below = record {
   dst4_normal = (omega arith, omega arith, omega arith, tt);
   dst6_top = refl;
   dst6_normal = (omega arith, omega arith, omega arith, tt);
+  addr4_top = refl;
+  addr4_normal = (omega arith, omega arith, omega arith, tt);
+  addr4_named = λ h. refl;
+  addr6_top = refl;
+  addr6_normal = (omega arith, omega arith, omega arith, tt);
+  addr6_named = λ h. refl;
   protos_top = refl;
   protos_normal = (omega arith, omega arith, omega arith, (omega arith, omega arith, omega arith, tt));
   protos_lack_0 = λ h. refl;
@@ -135,6 +145,11 @@ is_sound i below = record {
   dports_some = λ e. cc;
   dports_fit = λ h. tcp_or_udp has_ports refl refl;
   dports_named = λ h. absurd (false≢true (sym h));
+  ports_top = refl;
+  ports_normal = (omega arith, omega arith, omega arith, tt);
+  ports_some = λ e. cc;
+  ports_fit = λ h. absurd (false≢true (sym h));
+  ports_named = λ h. refl;
   itypes_top = refl;
   itypes_normal = (omega arith, omega arith, omega arith, tt);
   itypes_some = λ e. cc;
@@ -155,10 +170,15 @@ resolved_term i below = record {
   src6 = (term_sets i).src6;
   dst4 = (term_sets i).dst4;
   dst6 = (term_sets i).dst6;
+  addr4 = (term_sets i).addr4;
+  addr6 = (term_sets i).addr6;
+  addr_named = false;
   protos = (term_sets i).protos;
   sports = (term_sets i).sports;
   dports = (term_sets i).dports;
   dport_named = true;
+  ports = (term_sets i).ports;
+  port_named = false;
   itypes = (term_sets i).itypes;
   option = Plain;
   verdict = Accept;
@@ -176,7 +196,8 @@ is_resolved n i below few small =
     (subst (AreSetsOf (workload_naming n) (raw_at i)) (sets_are n i below few)
     (computed-sets (workload_naming n) (raw_at i)
     (λ e. some (sym (ap (λ (s : Sets). s.sports.ranges) (sets_are n i below few)) ∙ e))
-    (λ e. some_port (sym (ap (λ (s : Sets). s.dports.ranges) (sets_are n i below few)) ∙ e))))
+    (λ e. some_port (sym (ap (λ (s : Sets). s.dports.ranges) (sets_are n i below few)) ∙ e))
+    (λ e. some (sym (ap (λ (s : Sets). s.ports.ranges) (sets_are n i below few)) ∙ e))))
   where
     some : (all_to top_port).ranges ≡ [] → ⊥
     some e = cc

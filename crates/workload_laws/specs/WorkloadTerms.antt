@@ -34,8 +34,11 @@ term_sets i = record {
   src6 = record { top = top_address V6; ranges = source6 i };
   dst4 = all_to (top_address V4);
   dst6 = all_to (top_address V6);
+  addr4 = all_to (top_address V4);
+  addr6 = all_to (top_address V6);
   protos = protocols;
   sports = all_to top_port;
   dports = record { top = top_port; ranges = ports i };
+  ports = all_to top_port;
   itypes = all_to 255;
 }

@@ -7,9 +7,11 @@ use acl_text::Refusal;
 use std::alloc::Global;
 use std::test::Fail;
 
-const NETWORKS: &[u8] = b"WEB = 192.0.2.10\nTEN = 10.0.0.0/8\nSIX = 2001:db8::10\nALL = 0.0.0.0/0 ::/0\n";
+const NETWORKS: &[u8] =
+    b"WEB = 192.0.2.10\nTEN = 10.0.0.0/8\nSIX = 2001:db8::10\nALL = 0.0.0.0/0 ::/0\n";
 
-const SERVICES: &[u8] = b"HTTP = 80/tcp\nBOTH = 80/tcp 53/udp\nDNS = 53/tcp 53/udp\nANY = 0-65535/tcp\n";
+const SERVICES: &[u8] =
+    b"HTTP = 80/tcp\nBOTH = 80/tcp 53/udp\nDNS = 53/tcp 53/udp\nANY = 0-65535/tcp\n";
 
 fn base_of(alloc: Global) -> Result<Checked, Refusal> {
     definitions(alloc, NETWORKS, SERVICES)
@@ -175,7 +177,8 @@ const SOURCE_DNS: &[u8] = b"protocol:: udp source-port:: DNS port:: DNS action::
 const MIXED: &[u8] = b"protocol:: tcp udp port:: BOTH action:: deny";
 
 // The port is asked of either side, so that no destination port is named.
-const ESTABLISHED: &[u8] = b"address:: TEN protocol:: tcp udp port:: DNS option:: established action:: deny";
+const ESTABLISHED: &[u8] =
+    b"address:: TEN protocol:: tcp udp port:: DNS option:: established action:: deny";
 
 static PORTS: [(&[u8], u8, u16, u16, u8, bool); 15] = [
     (DNS, 17, 53, 9, 0, true),
@@ -225,10 +228,7 @@ static PAIRS: [(&[u8], &str); 16] = [
     (b"action:: deny", "-"),
     (b"source-address:: SIX action:: deny", "e"),
     (b"address:: TEN action:: deny", "--"),
-    (
-        b"address:: TEN source-exclude:: TEN action:: deny",
-        "e-",
-    ),
+    (b"address:: TEN source-exclude:: TEN action:: deny", "e-"),
     (
         b"address:: TEN destination-address:: WEB action:: deny",
         "-e",
