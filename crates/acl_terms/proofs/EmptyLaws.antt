@@ -109,13 +109,13 @@ pair-empty-law f t pair =
     let sets = any-law has_none HasNone (pair_sets f t pair) (
       none-held (sources_on a f t) (source-cut-normal a (source_in f t) either (source_tops f t) (source-normal f t)
           (either-normal f t)),
-      none-held (destinations_on a f t) (destination-cut-normal a (destination_in f t) either (destination_tops f t)
+      (none-held (destinations_on a f t) (destination-cut-normal a (destination_in f t) either (destination_tops f t)
           (destination-normal f t) (either-normal f t)),
-      none-held (sports_on p t) (source-cut-normal p t.sports t.ports (sport_tops t) t.sound.sports_normal
+      (none-held (sports_on p t) (source-cut-normal p t.sports t.ports (sport_tops t) t.sound.sports_normal
           t.sound.ports_normal),
-      none-held (dports_on p t) (destination-cut-normal p t.dports t.ports (dport_tops t) t.sound.dports_normal
+      (none-held (dports_on p t) (destination-cut-normal p t.dports t.ports (dport_tops t) t.sound.dports_normal
           t.sound.ports_normal),
-      tt,
+      tt))),
     ) in
     let c = no-protocol (foreign_of f) t.protos t.sound.protos_normal in
     let none : Bool = list_any has_none (pair_sets f t pair) in (
