@@ -95,10 +95,10 @@ rule-packet kind families f t pair c covered some fits more =
       refl,
       covered,
       or_left (rule_holds (rule_of kind f t pair c) p) (list_any (λ r. rule_holds r p) more)
-      (rule-sets kind f t pair c p
-      ∙ and_from (same_family f f) (with-sets f t pair p (holds c.protos.ranges proto.0) dports && passes c.test p) (itself f)
-      (and_from (with-sets f t pair p (holds c.protos.ranges proto.0) dports) (passes c.test p) sets
-      (passed c.test f src.0 dst.0 proto.0 sport.0 dport.0 itype.0))),
+          (rule-sets kind f t pair c p
+          ∙ and_from (same_family f f) (with-sets f t pair p (holds c.protos.ranges proto.0) dports && passes c.test p) (itself f)
+          (and_from (with-sets f t pair p (holds c.protos.ranges proto.0) dports) (passes c.test p) sets
+          (passed c.test f src.0 dst.0 proto.0 sport.0 dport.0 itype.0))),
     )
 
 -- ---- all rules of a term
@@ -157,13 +157,23 @@ each-packet R families f rows each (x ∷ xs) r h =
     elim (or_cases (list_any (of_family f) (rows x)) (list_any (of_family f) (flat_map rows xs))
     (sym (list_any-append (of_family f) (rows x) (flat_map rows xs)) ∙ h)) [
       | inl e ↦
-          let q = each x r.0 e in
-          (q.0, q.1, q.2, q.3, list_any-append (λ c. rule_holds c q.0) (rows x) (flat_map rows xs)
-          ∙ or_left (list_any (λ c. rule_holds c q.0) (rows x)) (list_any (λ c. rule_holds c q.0) (flat_map rows xs)) q.4)
+          let q = each x r.0 e in (
+            q.0,
+            q.1,
+            q.2,
+            q.3,
+            list_any-append (λ c. rule_holds c q.0) (rows x) (flat_map rows xs)
+                ∙ or_left (list_any (λ c. rule_holds c q.0) (rows x)) (list_any (λ c. rule_holds c q.0) (flat_map rows xs)) q.4,
+          )
       | inr e ↦
-          let q = each-packet R families f rows each xs r.1 e in
-          (q.0, q.1, q.2, q.3, list_any-append (λ c. rule_holds c q.0) (rows x) (flat_map rows xs)
-          ∙ or_right (list_any (λ c. rule_holds c q.0) (rows x)) (list_any (λ c. rule_holds c q.0) (flat_map rows xs)) q.4)
+          let q = each-packet R families f rows each xs r.1 e in (
+            q.0,
+            q.1,
+            q.2,
+            q.3,
+            list_any-append (λ c. rule_holds c q.0) (rows x) (flat_map rows xs)
+                ∙ or_right (list_any (λ c. rule_holds c q.0) (rows x)) (list_any (λ c. rule_holds c q.0) (flat_map rows xs)) q.4,
+          )
     ]
 
 all-same : {A : Type 0} (P : Type 0) (xs : List A) → P → AllByRecursion (λ (x : A). P) xs

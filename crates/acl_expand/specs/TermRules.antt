@@ -155,7 +155,7 @@ unfoldable pub pair_rules : Target → Term → Family → SidePair → List Rul
 pair_rules target t f pair =
     if is_pair_empty f t pair then []
     else map (rule_of target.kind f t pair)
-        (conditions_by t.option (mode_of target) f t pair.ports)
+    (conditions_by t.option (mode_of target) f t pair.ports)
 
 -- The sides of a term, the source before the destination, and those for addresses before those for ports.
 unfoldable pub family_rules : Target → Term → Family → List Rule

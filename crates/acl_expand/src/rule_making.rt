@@ -82,7 +82,11 @@ fn sources(alloc: Global, family: Family, term: &Term, side: Side) -> Result<Pre
 {
     let set = source_in(family, term);
     match side {
-        Side::Source => list_of(alloc, family, &set.intersect(alloc, either_in(family, term))?),
+        Side::Source => list_of(
+            alloc,
+            family,
+            &set.intersect(alloc, either_in(family, term))?,
+        ),
         Side::Whole | Side::Destination => list_of(alloc, family, set),
     }
 }
@@ -94,7 +98,11 @@ fn destinations(alloc: Global, family: Family, term: &Term, side: Side) -> Resul
 {
     let set = destination_in(family, term);
     match side {
-        Side::Destination => list_of(alloc, family, &set.intersect(alloc, either_in(family, term))?),
+        Side::Destination => list_of(
+            alloc,
+            family,
+            &set.intersect(alloc, either_in(family, term))?,
+        ),
         Side::Whole | Side::Source => list_of(alloc, family, set),
     }
 }
