@@ -15,16 +15,17 @@ use Rattle.acl_target.specs.declared.targets.Kind.{Kind}
 use Rattle.acl_target.specs.declared.targets.Kind.TheVariants.{Cisco, Juniper, Iptables, Nftables}
 use Rattle.acl_target.specs.declared.targets.Target.{Target}
 use Rattle.acl_target.specs.FilterEndings.{ending_outcome, is_neighbour_discovery}
+use Rattle.acl_terms.specs.declared.sides.SidePair.{SidePair}
 use Rattle.acl_terms.specs.declared.terms.Term.{Term}
 use Rattle.acl_terms.specs.Outcomes.{decides, denied, mode_of, outcome_of, policy_outcome, shown}
-use Rattle.acl_terms.specs.Resolved.{is_empty_in, is_term_live}
+use Rattle.acl_terms.specs.Resolved.{is_pair_empty, is_term_live, pairs_of}
 use Rattle.acl_terms.proofs.PolicyLaws.{decide-as-written}
 use Rattle.acl_platform.specs.declared.rules.Rule.{Rule}
 use Rattle.acl_platform.specs.Rules.{decided_by, rule_holds, rules_outcome}
 use Rattle.acl_expand.specs.declared.conditions.Conditions.{Conditions}
 use Rattle.acl_expand.specs.Expansions.{DecidesAsTerms, FiltersDecideAsWritten, filter_of}
-use Rattle.acl_expand.specs.TermRules.{conditions_by, family_rules, members, rule_of, rules_of, term_rules, verdict_on}
-use Rattle.acl_expand.proofs.HoldLaws.{term-step}
+use Rattle.acl_expand.specs.TermRules.{conditions_by, family_rules, members, pair_rules, rule_of, rules_of, term_rules, verdict_on}
+use Rattle.acl_expand.proofs.HoldLaws.{in-range, term-step}
 
 -- ---- rules with one decision
 
@@ -56,26 +57,30 @@ verdict-shown Juniper t = refl
 verdict-shown Iptables t = refl
 verdict-shown Nftables t = refl
 
-conditions-alike : (kind : Kind) (f : Family) (t : Term) (cs : List Conditions) → Alike (shown kind (outcome_of t)) (map (rule_of kind f t) cs)
-conditions-alike kind f t [] = tt
-conditions-alike kind f t (c ∷ cs) = (verdict-shown kind t, conditions-alike kind f t cs)
+conditions-alike : (kind : Kind) (f : Family) (t : Term) (pair : SidePair) (cs : List Conditions)
+    → Alike (shown kind (outcome_of t)) (map (rule_of kind f t pair) cs)
+conditions-alike kind f t pair [] = tt
+conditions-alike kind f t pair (c ∷ cs) = (verdict-shown kind t, conditions-alike kind f t pair cs)
 
 by-emptiness : (b : Bool) (o : Outcome) (rules : List Rule) → Alike o rules → Alike o (cond b [] rules)
 by-emptiness true o rules h = tt
 by-emptiness false o rules h = h
 
+pair-alike : (target : Target) (t : Term) (f : Family) (pair : SidePair) → Alike (shown target.kind (outcome_of t)) (pair_rules target t f pair)
+unfolding pair_rules
+pair-alike target t f pair =
+    by-emptiness (is_pair_empty f t pair) (shown target.kind (outcome_of t))
+    (map (rule_of target.kind f t pair) (conditions_by t.option (mode_of target) f t pair.ports))
+    (conditions-alike target.kind f t pair (conditions_by t.option (mode_of target) f t pair.ports))
+
+each-alike : {A : Type 0} (o : Outcome) (rows : A → List Rule) → ((a : A) → Alike o (rows a)) → (xs : List A) → Alike o (flat_map rows xs)
+each-alike o rows h [] = tt
+each-alike o rows h (x ∷ xs) = joined o (rows x) (flat_map rows xs) (h x) (each-alike o rows h xs)
+
 family-alike : (target : Target) (t : Term) (f : Family) → Alike (shown target.kind (outcome_of t)) (family_rules target t f)
 unfolding family_rules
 family-alike target t f =
-    by-emptiness (is_empty_in f t) (shown target.kind (outcome_of t))
-    (map (rule_of target.kind f t) (conditions_by t.option (mode_of target) f t))
-    (conditions-alike target.kind f t (conditions_by t.option (mode_of target) f t))
-
-families-alike : (target : Target) (t : Term) (fs : List Family) → Alike (shown target.kind (outcome_of t)) (flat_map (family_rules target t) fs)
-families-alike target t [] = tt
-families-alike target t (f ∷ fs) =
-    joined (shown target.kind (outcome_of t)) (family_rules target t f) (flat_map (family_rules target t) fs)
-    (family-alike target t f) (families-alike target t fs)
+    each-alike (shown target.kind (outcome_of t)) (pair_rules target t f) (pair-alike target t f) (pairs_of t)
 
 by-life : (b : Bool) (o : Outcome) (rules : List Rule) → Alike o rules → Alike o (cond b rules [])
 by-life true o rules h = h
@@ -85,7 +90,8 @@ term-alike : (target : Target) (today : Day) (t : Term) → Alike (shown target.
 unfolding term_rules
 term-alike target today t =
     by-life (is_term_live t target.kind today) (shown target.kind (outcome_of t))
-    (flat_map (family_rules target t) (members target.families)) (families-alike target t (members target.families))
+    (flat_map (family_rules target t) (members target.families))
+    (each-alike (shown target.kind (outcome_of t)) (family_rules target t) (family-alike target t) (members target.families))
 
 -- ---- the ending, and first match
 
@@ -117,7 +123,7 @@ rules-decide target today [] p is c = ending-shown target.kind target.ending p
 rules-decide target today (t ∷ terms) p is c =
     let o = shown target.kind (outcome_of t) in
     over-alike target.ending o (term_rules target today t) (rules_of target today terms) p (term-alike target today t)
-    ∙ ap (λ b. cond b o (rules_outcome target.ending (rules_of target today terms) p)) (term-step target today t p is c)
+    ∙ ap (λ b. cond b o (rules_outcome target.ending (rules_of target today terms) p)) (term-step target today t p (in-range p is) c)
     ∙ ap (λ x. cond (decides target today p t) o x) (rules-decide target today terms p is c)
     ∙ shown-choice target.kind (decides target today p t) (outcome_of t) (policy_outcome target today terms p)
 

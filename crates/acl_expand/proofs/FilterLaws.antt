@@ -1,7 +1,7 @@
 -- Terms without a slip make a sound filter.
 use Rattle.std.proofs.Common.{◌≡◌, ℕ, Bool, true, false, cond, not, ◌&&◌, List, [], ◌∷◌, ◌++◌, map, flat_map, Option, None, Some, refl}
-use Rattle.std.specs.List.{AllByRecursion}
-use Rattle.std.proofs.lemmas.Bool.{and_from, both_ways}
+use Rattle.std.specs.List.{AllByRecursion, list_all}
+use Rattle.std.proofs.lemmas.Bool.{and_from, and_left, and_right, both_ways}
 use Rattle.std.specs.Option.{option_or}
 use Rattle.acl_packet.specs.declared.addresses.Families.{Families}
 use Rattle.acl_packet.specs.declared.addresses.Families.TheVariants.{Inet, Inet6, Mixed}
@@ -14,16 +14,17 @@ use Rattle.acl_target.specs.declared.targets.Kind.TheVariants.{Cisco, Juniper, I
 use Rattle.acl_target.specs.declared.targets.Target.{Target}
 use Rattle.acl_target.specs.TargetData.{FitsPlatform, IsTarget}
 use Rattle.acl_terms.specs.declared.options.Mode.TheVariants.{Stateful, Stateless}
+use Rattle.acl_terms.specs.declared.sides.SidePair.{SidePair}
 use Rattle.acl_terms.specs.declared.terms.Term.{Term}
 use Rattle.acl_terms.specs.Outcomes.{mode_of}
-use Rattle.acl_terms.specs.Resolved.{is_empty_in, is_term_live}
+use Rattle.acl_terms.specs.Resolved.{is_empty_in, is_pair_empty, is_term_live, pairs_of}
 use Rattle.acl_terms.proofs.WordLaws.{parts}
 use Rattle.acl_platform.specs.declared.rules.Rule.{Rule}
 use Rattle.acl_platform.specs.SoundFilters.{IsSound, IsSoundRule}
 use Rattle.acl_expand.specs.Expansions.{filter_of}
 use Rattle.acl_expand.specs.ExpansionSlips.{first_slip, header_at, header_named, header_slip, is_for_ipv6, prefix_slip, prefixes_with, slip_behind}
-use Rattle.acl_expand.specs.TermRules.{conditions_by, family_rules, members, rule_of, rules_of, term_rules}
-use Rattle.acl_expand.proofs.SoundLaws.{KnowsTests, NoHeader, family-sound}
+use Rattle.acl_expand.specs.TermRules.{conditions_by, family_rules, members, pair_rules, rule_of, rules_of, term_rules}
+use Rattle.acl_expand.proofs.SoundLaws.{KnowsTests, NoHeader, pair-sound}
 
 knows : (kind : Kind) (target : Target) (b : Bool) → target.stateful ≡ b → FitsPlatform kind target → KnowsTests kind (cond b Stateful Stateless)
 knows Cisco target true e fits = absurd (both_ways target.stateful fits.stateless e)
@@ -44,13 +45,27 @@ by-emptiness : (P : Rule → Type 0) (b e : Bool) (rules : List Rule) → e ≡ 
 by-emptiness P true e rules is h = tt
 by-emptiness P false e rules is h = h is
 
+-- What holds of the rules on each pair that is not empty holds of all of them.
+pairs-sound : (P : Rule → Type 0) (target : Target) (t : Term) (f : Family) (pairs : List SidePair)
+    → (list_all (is_pair_empty f t) pairs ≡ false → (pair : SidePair) → is_pair_empty f t pair ≡ false
+    → AllByRecursion P (map (rule_of target.kind f t pair) (conditions_by t.option (mode_of target) f t pair.ports)))
+    → AllByRecursion P (flat_map (pair_rules target t f) pairs)
+unfolding pair_rules
+pairs-sound P target t f [] h = tt
+pairs-sound P target t f (pair ∷ pairs) h =
+    let empty : Bool = is_pair_empty f t pair in
+    let others : Bool = list_all (is_pair_empty f t) pairs in
+    joined P (pair_rules target t f pair) (flat_map (pair_rules target t f) pairs)
+    (by-emptiness P empty empty (map (rule_of target.kind f t pair) (conditions_by t.option (mode_of target) f t pair.ports)) refl
+    (λ some. h (and_left empty others some) pair some))
+    (pairs-sound P target t f pairs (λ e. h (and_right empty others e)))
+
 rules-sound : (target : Target) (t : Term) (f : Family) → IsTarget target → covers target.families f ≡ true
     → (is_empty_in f t ≡ false → NoHeader f t) → AllByRecursion (IsSoundRule target.kind target.families) (family_rules target t f)
-unfolding family_rules
+unfolding family_rules is_empty_in
 rules-sound target t f is covered header =
-    by-emptiness (IsSoundRule target.kind target.families) (is_empty_in f t) (is_empty_in f t)
-    (map (rule_of target.kind f t) (conditions_by t.option (mode_of target) f t)) refl
-    (λ some. family-sound target.kind (mode_of target) target.families f t covered some (header some)
+    pairs-sound (IsSoundRule target.kind target.families) target t f (pairs_of t)
+    (λ some pair here. pair-sound target.kind (mode_of target) target.families f t pair covered here (header some)
     (knows target.kind target target.stateful refl is.platform))
 
 over-members : (P : Rule → Type 0) (rows : Family → List Rule) (families : Families)

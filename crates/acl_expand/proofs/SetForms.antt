@@ -14,15 +14,18 @@ use Rattle.acl_sets.specs.ComputableSets.{above, covers, cut, cut_all, is_all}
 use Rattle.acl_packet.specs.AddressLists.{any_has}
 use Rattle.acl_sets.specs.Ranges.{IsNormal, IsRange, Numbers, Only, holds, inside}
 use Rattle.acl_sets.proofs.ComputableLeastListLaws.{halved_space-least}
-use Rattle.acl_sets.proofs.ComputableSetLaws.{covers-holds, cut_all-holds}
+use Rattle.acl_sets.proofs.ComputableSetLaws.{cut_all-holds}
 use Rattle.acl_sets.proofs.HalvesFacts.{step_whole}
 use Rattle.acl_sets.proofs.LeastListLaws.{least_list-holds, normal-addresses}
 use Rattle.acl_sets.proofs.RangeLaws.{in_range, ends_of}
+use Rattle.acl_terms.specs.declared.sides.Side.{Side}
 use Rattle.acl_terms.specs.declared.terms.Term.{Term}
 use Rattle.acl_packet.specs.Packets.{foreign_of}
-use Rattle.acl_terms.specs.Resolved.{destination_in, has_protocol, source_in}
+use Rattle.acl_terms.specs.Resolved.{dports_on, has_protocol, in_both}
 use Rattle.acl_terms.specs.Slips.{is_tcp_or_udp}
+use Rattle.acl_terms.proofs.SideLaws.{both-holds}
 use Rattle.acl_expand.specs.TermRules.{client_ports, just, least_list, protocols_in, udp_ports}
+use Rattle.acl_expand.proofs.SideForms.{dports-normal}
 
 -- ---- tests
 
@@ -102,14 +105,6 @@ least-holds f s e n a =
     least_list-holds f (λ x. holds s.ranges x) (halved_space f s.ranges)
     (normal-addresses f s.top s.ranges n (end-of f s.top e)) (halved_space-least f s.top s.ranges n) a
 
-pub source-top : (f : Family) (t : Term) → (source_in f t).top ≡ top_address f
-source-top V4 t = t.sound.src4_top
-source-top V6 t = t.sound.src6_top
-
-pub destination-top : (f : Family) (t : Term) → (destination_in f t).top ≡ top_address f
-destination-top V4 t = t.sound.dst4_top
-destination-top V6 t = t.sound.dst6_top
-
 -- ---- one number
 
 inside-just : (n x : ℕ) (b : Bool) → (x == n) ≡ b → (nat_le n x && nat_le x n) ≡ b
@@ -167,17 +162,14 @@ client-holds x h =
     let within : nat_le x 65535 ≡ true = le-leb x 65535 (omega arith) in
     or-false (nat_le 1024 x && nat_le x 65535) ∙ ap (λ b. nat_le 1024 x && b) within ∙ and-true (nat_le 1024 x)
 
-pub all-held : (s : Numbers) (x : ℕ) → is_all s ≡ true → x ≤ s.top → holds s.ranges x ≡ true
-all-held s x e h = covers-holds s.ranges 0 s.top x e (omega arith) h
+ports-named : (t : Term) (side : Side) (x : ℕ) (b : Bool) → x < 65536
+    → holds (cond b (dports_on side t) (in_both (dports_on side t) client_ports)).ranges x
+    ≡ (holds (dports_on side t).ranges x && (b || nat_le 1024 x))
+ports-named t side x true h = sym (and-true (holds (dports_on side t).ranges x))
+ports-named t side x false h =
+    both-holds (dports_on side t) client_ports x (dports-normal side t)
+    ∙ ap (λ b. holds (dports_on side t).ranges x && b) (client-holds x h)
 
-ports-named : (t : Term) (x : ℕ) (b : Bool) → t.dport_named ≡ b → x < 65536
-    → holds (cond b t.dports client_ports).ranges x ≡ (holds t.dports.ranges x && (b || nat_le 1024 x))
-ports-named t x true e h = sym (and-true (holds t.dports.ranges x))
-ports-named t x false e h =
-    let top = t.sound.dports_top in
-    client-holds x h ∙ sym (ap (λ b. b && nat_le 1024 x)
-    (all-held t.dports x (t.sound.dports_named e) (omega (arith, top))))
-
-pub udp-holds : (t : Term) (x : ℕ) → x < 65536
-    → holds (udp_ports t).ranges x ≡ (holds t.dports.ranges x && (t.dport_named || nat_le 1024 x))
-udp-holds t x h = ports-named t x t.dport_named refl h
+pub udp-holds : (t : Term) (side : Side) (x : ℕ) → x < 65536
+    → holds (udp_ports t side).ranges x ≡ (holds (dports_on side t).ranges x && (t.dport_named || nat_le 1024 x))
+udp-holds t side x h = ports-named t side x t.dport_named h

@@ -1,5 +1,5 @@
 -- The rules of terms are sound rules of the target's filter.
-use Rattle.std.proofs.Common.{◌≡◌, ◌≢◌, ℕ, ◌≤◌, Bool, true, false, cond, not, ◌&&◌, ◌||◌, ◌==◌, List, [], ◌∷◌, ◌++◌, map, codes, Option, None, Some, inl, inr, refl, ap, sym, subst, ◌∙◌, append-nil, arith}
+use Rattle.std.proofs.Common.{◌≡◌, ◌≢◌, ℕ, ◌≤◌, Bool, true, false, cond, not, ◌&&◌, ◌||◌, ◌==◌, List, [], ◌∷◌, map, Option, None, Some, inl, inr, refl, ap, sym, subst, ◌∙◌, arith}
 use Rattle.std.specs.List.{AllByRecursion, find}
 use Rattle.std.proofs.Math.Path.{fun_ext}
 use Rattle.std.proofs.lemmas.Bool.{and_from, and_parts, or_from, or_left, both_ways, false_from_ne_true, eqb-true}
@@ -19,23 +19,27 @@ use Rattle.acl_sets.proofs.ComputableLeastListLaws.{halved_space-least}
 use Rattle.acl_sets.proofs.ComputableSetLaws.{cut_all-normal}
 use Rattle.acl_target.specs.declared.targets.Kind.{Kind}
 use Rattle.acl_target.specs.declared.targets.Kind.TheVariants.{Cisco, Juniper, Iptables, Nftables}
-use Rattle.acl_text.specs.Names.{is_name}
 use Rattle.acl_terms.specs.declared.options.Mode.{Mode}
 use Rattle.acl_terms.specs.declared.options.Mode.TheVariants.{Stateful, Stateless}
 use Rattle.acl_terms.specs.declared.options.Opt.{Opt}
 use Rattle.acl_terms.specs.declared.options.Opt.TheVariants as options
+use Rattle.acl_terms.specs.declared.sides.Side.{Side}
+use Rattle.acl_terms.specs.declared.sides.Side.TheVariants.{Whole, Source, Destination}
+use Rattle.acl_terms.specs.declared.sides.SidePair.{SidePair}
 use Rattle.acl_terms.specs.declared.terms.Term.{Term}
-use Rattle.acl_terms.specs.Resolved.{destination_in, has_protocol, is_empty_in, source_in}
+use Rattle.acl_terms.specs.Resolved.{destinations_on, dports_on, has_none, has_protocol, in_both, is_pair_empty, sources_on, sports_on}
 use Rattle.acl_terms.specs.Slips.{is_tcp_or_udp}
 use Rattle.acl_terms.specs.Soundness.{is_established, is_left, is_reset, needs_tcp}
-use Rattle.acl_terms.proofs.EmptyLaws.{destination-normal, empty-law, source-normal}
+use Rattle.acl_terms.proofs.EmptyLaws.{pair-empty-law}
+use Rattle.acl_terms.proofs.SideLaws.{both-normal, none-held}
 use Rattle.acl_platform.specs.declared.rules.Test.{Test}
 use Rattle.acl_platform.specs.declared.rules.Test.TheVariants as tests
-use Rattle.acl_platform.specs.SoundFilters.{has_test, has_verdict, IsFull, IsFullList, IsRuleName, IsSoundRule, is_named_protocol, is_tcp, tests_flags}
+use Rattle.acl_platform.specs.SoundFilters.{has_test, has_verdict, IsFull, IsFullList, IsOneOf, IsSoundRule, address_suffixes, is_named_protocol, is_tcp, port_suffixes, protocol_suffixes, tests_flags}
 use Rattle.acl_expand.specs.declared.conditions.Conditions.{Conditions}
 use Rattle.acl_expand.specs.ExpansionSlips.{extension_headers, header_named}
-use Rattle.acl_expand.specs.TermRules.{client_ports, conditions_by, established_conditions, just, least_list, only_protocol, protocols_in, rule_of, verdict_on, whole}
-use Rattle.acl_expand.proofs.SetForms.{all-held, destination-top, just-holds, just-range, least-holds, protocol-holds, source-top, tcp-or-udp}
+use Rattle.acl_expand.specs.TermRules.{address_suffix, client_ports, conditions_by, established_conditions, just, least_list, only_protocol, port_suffix, protocols_in, rule_of, udp_alone, udp_half, udp_ports, verdict_on, whole, with_ports}
+use Rattle.acl_expand.proofs.SetForms.{just-holds, just-range, least-holds, protocol-holds, tcp-or-udp}
+use Rattle.acl_expand.proofs.SideForms.{all-held, destinations-normal, destinations-top, dports-fit, dports-normal, dports_top, some-on, some-ranges, sources-normal, sources-top, sports-fit, sports-normal, sports-top}
 
 -- ---- lists of prefixes
 
@@ -46,18 +50,11 @@ least-own f s e n =
     let P : (ℕ → Bool) → Type 0 = λ set. IsLeastList f set (least_list f s) in
     subst P (fun_ext (λ a. sym (least-holds f s e n a))) (halved_space-least f s.top s.ranges n)
 
-sources-full : (f : Family) (t : Term) → is_empty_in f t ≡ false → IsFullList f (least_list f (source_in f t))
-sources-full f t h = record {
-  least = least-own f (source_in f t) (source-top f t) (source-normal f t);
-  some = λ empty. both_ways (is_empty_in f t) h ((empty-law f t).1 (inl (λ x.
-      sym (least-holds f (source_in f t) (source-top f t) (source-normal f t) x) ∙ ap (λ ps. any_has ps x) empty)));
-}
-
-destinations-full : (f : Family) (t : Term) → is_empty_in f t ≡ false → IsFullList f (least_list f (destination_in f t))
-destinations-full f t h = record {
-  least = least-own f (destination_in f t) (destination-top f t) (destination-normal f t);
-  some = λ empty. both_ways (is_empty_in f t) h ((empty-law f t).1 (inr (inl (λ x.
-      sym (least-holds f (destination_in f t) (destination-top f t) (destination-normal f t) x) ∙ ap (λ ps. any_has ps x) empty))));
+-- That of a set with some number is not empty.
+full-list : (f : Family) (s : Numbers) → s.top ≡ top_address f → IsNormal 0 s.top s.ranges → has_none s ≡ false → IsFullList f (least_list f s)
+full-list f s top n some = record {
+  least = least-own f s top n;
+  some = λ empty. both_ways (has_none s) some ((none-held s n).1 (λ x. sym (least-holds f s top n x) ∙ ap (λ ps. any_has ps x) empty));
 }
 
 -- ---- sets
@@ -66,10 +63,10 @@ full : (top : ℕ) (s : Numbers) → s.top ≡ top → IsNormal 0 s.top s.ranges
 full top s e n some = record { top_is = e; normal = subst (λ k. IsNormal 0 k s.ranges) e n; some = some }
 
 -- The protocols of a rule are some of its term's.
-record AreProtocols (f : Family) (t : Term) (s : Numbers) : Type 0 where
-  full : IsFull 255 s
-  held : (x : ℕ) → holds s.ranges x ≡ true → has_protocol f t x ≡ true
-  named : is_all s ≡ false → is_all t.protos ≡ false
+pub record AreProtocols (f : Family) (t : Term) (s : Numbers) : Type 0 where
+  pub full : IsFull 255 s
+  pub held : (x : ℕ) → holds s.ranges x ≡ true → has_protocol f t x ≡ true
+  pub named : is_all s ≡ false → is_all t.protos ≡ false
 
 family-normal : (f : Family) (t : Term) (b : Bool)
     → IsNormal 0 t.protos.top (cond b t.protos (record { top = t.protos.top; ranges = cut_all (just (foreign_of f) ∷ []) t.protos.ranges })).ranges
@@ -89,13 +86,13 @@ family-named : (f : Family) (t : Term) (b : Bool) → is_all t.protos ≡ b
 family-named f t true e h = sym e ∙ h
 family-named f t false e h = refl
 
-family-protocols : (f : Family) (t : Term) → is_empty_in f t ≡ false → AreProtocols f t (protocols_in f t)
-family-protocols f t h = record {
+family-protocols : (f : Family) (t : Term) (pair : SidePair) → is_pair_empty f t pair ≡ false → AreProtocols f t (protocols_in f t)
+family-protocols f t pair h = record {
   full = record {
     top_is = family-top f t (is_all t.protos);
     normal = subst (λ k. IsNormal 0 k (protocols_in f t).ranges) t.sound.protos_top (family-normal f t (is_all t.protos));
-    some = λ empty. both_ways (is_empty_in f t) h ((empty-law f t).1 (inr (inr (λ x.
-        sym (protocol-holds f t x) ∙ ap (λ rs. holds rs x) empty))));
+    some = λ empty. both_ways (is_pair_empty f t pair) h ((pair-empty-law f t pair).1 (inr (λ x.
+        sym (protocol-holds f t x) ∙ ap (λ rs. holds rs x) empty)));
   };
   held = λ x e. sym (protocol-holds f t x) ∙ e;
   named = λ e. family-named f t (is_all t.protos) refl e;
@@ -249,30 +246,42 @@ known-verdict Nftables Left e = absurd (both_ways true e refl)
 -- ---- one rule
 
 -- What the conditions of a rule owe.
-record Fits (kind : Kind) (f : Family) (t : Term) (c : Conditions) : Type 0 where
-  name : IsRuleName kind (t.name ++ c.suffix)
-  protos : AreProtocols f t c.protos
-  dports : IsFull 65535 c.dports
-  dports_fit : is_all c.dports ≡ false → Only has_ports c.protos
-  flags : tests_flags c.test ≡ true → Only is_tcp c.protos
-  known : has_test kind c.test ≡ true
+pub record Fits (kind : Kind) (f : Family) (t : Term) (c : Conditions) : Type 0 where
+  pub name : IsOneOf c.suffix protocol_suffixes
+  pub protos : AreProtocols f t c.protos
+  pub dports : IsFull 65535 c.dports
+  pub dports_fit : is_all c.dports ≡ false → Only has_ports c.protos
+  pub flags : tests_flags c.test ≡ true → Only is_tcp c.protos
+  pub known : has_test kind c.test ≡ true
 
-rule-sound : (kind : Kind) (families : Families) (f : Family) (t : Term) (c : Conditions) → covers families f ≡ true
-    → is_empty_in f t ≡ false → NoHeader f t → Fits kind f t c → IsSoundRule kind families (rule_of kind f t c)
-rule-sound kind families f t c covered some header fits =
+address-suffixed : (side : Side) → IsOneOf (address_suffix side) address_suffixes
+address-suffixed Whole = inl refl
+address-suffixed Source = inr (inl refl)
+address-suffixed Destination = inr (inr (inl refl))
+
+port-suffixed : (side : Side) → IsOneOf (port_suffix side) port_suffixes
+port-suffixed Whole = inl refl
+port-suffixed Source = inr (inl refl)
+port-suffixed Destination = inr (inr (inl refl))
+
+rule-sound : (kind : Kind) (families : Families) (f : Family) (t : Term) (pair : SidePair) (c : Conditions) → covers families f ≡ true
+    → is_pair_empty f t pair ≡ false → NoHeader f t → Fits kind f t c → IsSoundRule kind families (rule_of kind f t pair c)
+rule-sound kind families f t pair c covered some header fits =
     let s = t.sound in
-    let p = fits.protos in record {
+    let p = fits.protos in
+    let side = pair.addresses in
+    let has = some-on f t pair some in record {
       family = covered;
-      name = fits.name;
+      name = (t.name, address_suffix side, port_suffix pair.ports, c.suffix, s.name_is, address-suffixed side, port-suffixed pair.ports, fits.name, refl);
       note = s.note_is;
-      sources = sources-full f t some;
-      destinations = destinations-full f t some;
+      sources = full-list f (sources_on side f t) (sources-top side f t) (sources-normal side f t) has.sources;
+      destinations = full-list f (destinations_on side f t) (destinations-top side f t) (destinations-normal side f t) has.destinations;
       protocols = p.full;
-      source_ports = full 65535 t.sports s.sports_top s.sports_normal s.sports_some;
+      source_ports = full 65535 (sports_on pair.ports t) (sports-top pair.ports t) (sports-normal pair.ports t) (some-ranges (sports_on pair.ports t) has.sports);
       destination_ports = fits.dports;
       types = full 255 t.itypes s.itypes_top s.itypes_normal s.itypes_some;
       protocols_named = λ e x h. names-protocol f t x header (p.named e) (p.held x h);
-      source_ports_fit = λ e. fewer f t c.protos has_ports p (s.sports_fit e);
+      source_ports_fit = λ e. fewer f t c.protos has_ports p (sports-fit pair.ports t e);
       destination_ports_fit = fits.dports_fit;
       types_fit = λ e x h. types-family f t x e (term-holds f t c.protos p x h) (p.held x h);
       types_named = s.itypes_lack_255;
@@ -284,54 +293,57 @@ rule-sound kind families f t c covered some header fits =
 
 -- ---- the conditions of a term
 
-plain-name : (kind : Kind) (t : Term) → IsRuleName kind (t.name ++ [])
-plain-name Cisco t = inl (ap is_name (append-nil t.name) ∙ t.sound.name_is)
-plain-name Juniper t = inl (ap is_name (append-nil t.name) ∙ t.sound.name_is)
-plain-name Iptables t = inl (ap is_name (append-nil t.name) ∙ t.sound.name_is)
-plain-name Nftables t = ap is_name (append-nil t.name) ∙ t.sound.name_is
+own-ports : (f : Family) (t : Term) (pair : SidePair) → is_pair_empty f t pair ≡ false → IsFull 65535 (dports_on pair.ports t)
+own-ports f t pair some =
+    full 65535 (dports_on pair.ports t) (dports_top pair.ports t) (dports-normal pair.ports t)
+    (some-ranges (dports_on pair.ports t) (some-on f t pair some).dports)
 
-tcp-name : (kind : Kind) (t : Term) → has_test kind tests.AckOrRst ≡ true → IsRuleName kind (t.name ++ codes "-tcp")
-tcp-name Cisco t e = inr (t.name, (t.sound.name_is, inl refl))
-tcp-name Juniper t e = inr (t.name, (t.sound.name_is, inl refl))
-tcp-name Iptables t e = inr (t.name, (t.sound.name_is, inl refl))
-tcp-name Nftables t e = absurd (both_ways false refl e)
-
-udp-name : (kind : Kind) (t : Term) → has_test kind tests.AckOrRst ≡ true → IsRuleName kind (t.name ++ codes "-udp")
-udp-name Cisco t e = inr (t.name, (t.sound.name_is, inr refl))
-udp-name Juniper t e = inr (t.name, (t.sound.name_is, inr refl))
-udp-name Iptables t e = inr (t.name, (t.sound.name_is, inr refl))
-udp-name Nftables t e = absurd (both_ways false refl e)
-
-own-ports : (t : Term) → IsFull 65535 t.dports
-own-ports t = full 65535 t.dports t.sound.dports_top t.sound.dports_normal t.sound.dports_some
-
-whole-fits : (kind : Kind) (f : Family) (t : Term) (test : Test) → is_empty_in f t ≡ false → has_test kind test ≡ true
-    → (tests_flags test ≡ true → Only is_tcp (protocols_in f t)) → Fits kind f t (whole f t test)
-whole-fits kind f t test some known flags =
-    let p = family-protocols f t some in record {
-      name = plain-name kind t;
+whole-fits : (kind : Kind) (f : Family) (t : Term) (pair : SidePair) (test : Test) → is_pair_empty f t pair ≡ false → has_test kind test ≡ true
+    → (tests_flags test ≡ true → Only is_tcp (protocols_in f t)) → Fits kind f t (whole f t pair.ports test)
+whole-fits kind f t pair test some known flags =
+    let p = family-protocols f t pair some in record {
+      name = inl refl;
       protos = p;
-      dports = own-ports t;
-      dports_fit = λ e. fewer f t (protocols_in f t) has_ports p (t.sound.dports_fit e);
+      dports = own-ports f t pair some;
+      dports_fit = λ e. fewer f t (protocols_in f t) has_ports p (dports-fit pair.ports t e);
       flags = flags;
       known = known;
     }
 
 -- A test of flags where the option asks for TCP alone.
-tcp-fits : (kind : Kind) (f : Family) (t : Term) (test : Test) → is_empty_in f t ≡ false → has_test kind test ≡ true
-    → needs_tcp t.option ≡ true → Fits kind f t (whole f t test)
-tcp-fits kind f t test some known asks =
-    whole-fits kind f t test some known
-    (λ _. fewer f t (protocols_in f t) is_tcp (family-protocols f t some) (t.sound.flags_fit asks))
+tcp-fits : (kind : Kind) (f : Family) (t : Term) (pair : SidePair) (test : Test) → is_pair_empty f t pair ≡ false → has_test kind test ≡ true
+    → needs_tcp t.option ≡ true → Fits kind f t (whole f t pair.ports test)
+tcp-fits kind f t pair test some known asks =
+    whole-fits kind f t pair test some known
+    (λ _. fewer f t (protocols_in f t) is_tcp (family-protocols f t pair some) (t.sound.flags_fit asks))
 
 no-flags : (f : Family) (t : Term) (test : Test) → tests_flags test ≡ false → tests_flags test ≡ true → Only is_tcp (protocols_in f t)
 no-flags f t test n e = absurd (both_ways (tests_flags test) n e)
 
 -- ---- `established` where connections are not known
 
-udp-normal : (t : Term) (b : Bool) → IsFull 65535 (cond b t.dports client_ports)
-udp-normal t true = own-ports t
-udp-normal t false = record { top_is = refl; normal = (omega arith, omega arith, omega arith, tt); some = λ e. cc }
+client-normal : IsNormal 0 client_ports.top client_ports.ranges
+client-normal = (omega arith, omega arith, omega arith, tt)
+
+-- The ports of UDP are a set up to the greatest port, which may have none.
+udp-top : (t : Term) (side : Side) (b : Bool) → (cond b (dports_on side t) (in_both (dports_on side t) client_ports)).top ≡ 65535
+udp-top t side true = dports_top side t
+udp-top t side false = dports_top side t
+
+udp-normal : (t : Term) (side : Side) (b : Bool)
+    → IsNormal 0 (cond b (dports_on side t) (in_both (dports_on side t) client_ports)).top
+    (cond b (dports_on side t) (in_both (dports_on side t) client_ports)).ranges
+udp-normal t side true = dports-normal side t
+udp-normal t side false = both-normal (dports_on side t) client_ports (dports_top side t) (dports-normal side t) client-normal
+
+-- Conditions that leave some port fit, where they do but for that.
+with-ports-fit : (kind : Kind) (f : Family) (t : Term) (c : Conditions) → (has_none c.dports ≡ false → Fits kind f t c)
+    → AllByRecursion (Fits kind f t) (with_ports c)
+with-ports-fit kind f t c fits = by (has_none c.dports) refl
+  where
+    by : (b : Bool) → has_none c.dports ≡ b → AllByRecursion (Fits kind f t) (cond b [] (c ∷ []))
+    by true e = tt
+    by false e = (fits e, tt)
 
 with-ports : (t : Term) → Only is_tcp_or_udp t.protos → Only has_ports t.protos
 with-ports t only = λ x e. or_left (x == 6 || x == 17) (x == 132) (only x e)
@@ -361,53 +373,52 @@ has-17 : (f : Family) (t : Term) → holds t.protos.ranges 17 ≡ true → has_p
 has-17 V4 t e = family-has V4 t 17 refl e
 has-17 V6 t e = family-has V6 t 17 refl e
 
-established-fit : (kind : Kind) (f : Family) (t : Term) (tcp udp : Bool) → is_empty_in f t ≡ false
+udp-full : (t : Term) (side : Side) → has_none (udp_ports t side) ≡ false → IsFull 65535 (udp_ports t side)
+udp-full t side some =
+    full 65535 (udp_ports t side) (udp-top t side t.dport_named) (udp-normal t side t.dport_named) (some-ranges (udp_ports t side) some)
+
+established-fit : (kind : Kind) (f : Family) (t : Term) (pair : SidePair) (tcp udp : Bool) → is_pair_empty f t pair ≡ false
     → has_test kind tests.AckOrRst ≡ true → has_test kind tests.Plain ≡ true → Only is_tcp_or_udp t.protos
     → holds t.protos.ranges 6 ≡ tcp → holds t.protos.ranges 17 ≡ udp
-    → AllByRecursion (Fits kind f t) (established_conditions f t tcp udp)
-established-fit kind f t true true some known plain only e d =
+    → AllByRecursion (Fits kind f t) (established_conditions f t pair.ports tcp udp)
+established-fit kind f t pair true true some known plain only e d =
     let p = one-protocol f t 6 (omega arith) only (has-6 f t e) in
     let q = one-protocol f t 17 (omega arith) only (has-17 f t d) in (
       record {
-        name = tcp-name kind t known;
+        name = inr (inl refl);
         protos = p;
-        dports = own-ports t;
+        dports = own-ports f t pair some;
         dports_fit = λ _. fewer f t (only_protocol 6) has_ports p (with-ports t only);
         flags = λ _ x h. only-one 6 x h;
         known = known;
       },
-      (
-        record {
-          name = udp-name kind t known;
-          protos = q;
-          dports = udp-normal t t.dport_named;
-          dports_fit = λ _. fewer f t (only_protocol 17) has_ports q (with-ports t only);
-          flags = λ n. absurd (both_ways false refl n);
-          known = plain;
-        },
-        tt,
-      ),
+      with-ports-fit kind f t (udp_half t pair.ports) (λ left. record {
+        name = inr (inr (inl refl));
+        protos = q;
+        dports = udp-full t pair.ports left;
+        dports_fit = λ _. fewer f t (only_protocol 17) has_ports q (with-ports t only);
+        flags = λ n. absurd (both_ways false refl n);
+        known = plain;
+      }),
     )
-established-fit kind f t true false some known plain only e d = (
-  whole-fits kind f t tests.AckOrRst some known (λ _ x h.
+established-fit kind f t pair true false some known plain only e d = (
+  whole-fits kind f t pair tests.AckOrRst some known (λ _ x h.
       tcp-left (has_protocol f t x) (x == 6) (x == 17)
       (tcp-or-udp f t x (x == 6) (x == 17) refl refl only ∙ ap (λ y. ((x == 6) && y) || ((x == 17) && holds t.protos.ranges 17)) e
       ∙ ap (λ y. ((x == 6) && true) || ((x == 17) && y)) d)
-      ((family-protocols f t some).held x h)),
+      ((family-protocols f t pair some).held x h)),
   tt,
 )
-established-fit kind f t false udp some known plain only e d =
-    let p = family-protocols f t some in (
-      record {
-        name = plain-name kind t;
-        protos = p;
-        dports = udp-normal t t.dport_named;
-        dports_fit = λ _. fewer f t (protocols_in f t) has_ports p (with-ports t only);
-        flags = λ n. absurd (both_ways false refl n);
-        known = plain;
-      },
-      tt,
-    )
+established-fit kind f t pair false udp some known plain only e d =
+    let p = family-protocols f t pair some in
+    with-ports-fit kind f t (udp_alone f t pair.ports) (λ left. record {
+      name = inl refl;
+      protos = p;
+      dports = udp-full t pair.ports left;
+      dports_fit = λ _. fewer f t (protocols_in f t) has_ports p (with-ports t only);
+      flags = λ n. absurd (both_ways false refl n);
+      known = plain;
+    })
 
 -- ---- any option
 
@@ -434,34 +445,34 @@ rst-known Juniper = refl
 rst-known Iptables = refl
 rst-known Nftables = refl
 
-option-fits : (o : Opt) (mode : Mode) (kind : Kind) (f : Family) (t : Term) → t.option ≡ o → is_empty_in f t ≡ false
-    → KnowsTests kind mode → AllByRecursion (Fits kind f t) (conditions_by o mode f t)
-option-fits options.Plain mode kind f t e some known =
-    (whole-fits kind f t tests.Plain some (plain-known kind) (no-flags f t tests.Plain refl), tt)
-option-fits options.Established Stateful kind f t e some known =
-    (whole-fits kind f t tests.State some known (no-flags f t tests.State refl), tt)
-option-fits options.Established Stateless kind f t e some known =
-    established-fit kind f t (holds t.protos.ranges 6) (holds t.protos.ranges 17) some known (plain-known kind)
+pub option-fits : (o : Opt) (mode : Mode) (kind : Kind) (f : Family) (t : Term) (pair : SidePair) → t.option ≡ o → is_pair_empty f t pair ≡ false
+    → KnowsTests kind mode → AllByRecursion (Fits kind f t) (conditions_by o mode f t pair.ports)
+option-fits options.Plain mode kind f t pair e some known =
+    (whole-fits kind f t pair tests.Plain some (plain-known kind) (no-flags f t tests.Plain refl), tt)
+option-fits options.Established Stateful kind f t pair e some known =
+    (whole-fits kind f t pair tests.State some known (no-flags f t tests.State refl), tt)
+option-fits options.Established Stateless kind f t pair e some known =
+    established-fit kind f t pair (holds t.protos.ranges 6) (holds t.protos.ranges 17) some known (plain-known kind)
     (t.sound.established_fits (ap is_established e)) refl refl
-option-fits options.TcpEstablished Stateful kind f t e some known =
-    (whole-fits kind f t tests.State some known (no-flags f t tests.State refl), tt)
-option-fits options.TcpEstablished Stateless kind f t e some known =
-    (tcp-fits kind f t tests.AckOrRst some known (ap needs_tcp e), tt)
-option-fits options.TcpInitial mode kind f t e some known =
-    (tcp-fits kind f t tests.SynNotAck some (initial-known kind) (ap needs_tcp e), tt)
-option-fits options.Rst mode kind f t e some known =
-    (tcp-fits kind f t tests.Rst some (rst-known kind) (ap needs_tcp e), tt)
+option-fits options.TcpEstablished Stateful kind f t pair e some known =
+    (whole-fits kind f t pair tests.State some known (no-flags f t tests.State refl), tt)
+option-fits options.TcpEstablished Stateless kind f t pair e some known =
+    (tcp-fits kind f t pair tests.AckOrRst some known (ap needs_tcp e), tt)
+option-fits options.TcpInitial mode kind f t pair e some known =
+    (tcp-fits kind f t pair tests.SynNotAck some (initial-known kind) (ap needs_tcp e), tt)
+option-fits options.Rst mode kind f t pair e some known =
+    (tcp-fits kind f t pair tests.Rst some (rst-known kind) (ap needs_tcp e), tt)
 
-conditions-sound : (kind : Kind) (families : Families) (f : Family) (t : Term) (cs : List Conditions) → covers families f ≡ true
-    → is_empty_in f t ≡ false → NoHeader f t → AllByRecursion (Fits kind f t) cs
-    → AllByRecursion (IsSoundRule kind families) (map (rule_of kind f t) cs)
-conditions-sound kind families f t [] covered some header h = tt
-conditions-sound kind families f t (c ∷ cs) covered some header h =
-    (rule-sound kind families f t c covered some header h.0, conditions-sound kind families f t cs covered some header h.1)
+conditions-sound : (kind : Kind) (families : Families) (f : Family) (t : Term) (pair : SidePair) (cs : List Conditions) → covers families f ≡ true
+    → is_pair_empty f t pair ≡ false → NoHeader f t → AllByRecursion (Fits kind f t) cs
+    → AllByRecursion (IsSoundRule kind families) (map (rule_of kind f t pair) cs)
+conditions-sound kind families f t pair [] covered some header h = tt
+conditions-sound kind families f t pair (c ∷ cs) covered some header h =
+    (rule-sound kind families f t pair c covered some header h.0, conditions-sound kind families f t pair cs covered some header h.1)
 
-pub family-sound : (kind : Kind) (mode : Mode) (families : Families) (f : Family) (t : Term) → covers families f ≡ true
-    → is_empty_in f t ≡ false → NoHeader f t → KnowsTests kind mode
-    → AllByRecursion (IsSoundRule kind families) (map (rule_of kind f t) (conditions_by t.option mode f t))
-family-sound kind mode families f t covered some header known =
-    conditions-sound kind families f t (conditions_by t.option mode f t) covered some header
-    (option-fits t.option mode kind f t refl some known)
+pub pair-sound : (kind : Kind) (mode : Mode) (families : Families) (f : Family) (t : Term) (pair : SidePair) → covers families f ≡ true
+    → is_pair_empty f t pair ≡ false → NoHeader f t → KnowsTests kind mode
+    → AllByRecursion (IsSoundRule kind families) (map (rule_of kind f t pair) (conditions_by t.option mode f t pair.ports))
+pair-sound kind mode families f t pair covered some header known =
+    conditions-sound kind families f t pair (conditions_by t.option mode f t pair.ports) covered some header
+    (option-fits t.option mode kind f t pair refl some known)

@@ -18,10 +18,13 @@ use Rattle.acl_terms.specs.declared.options.Mode.{Mode}
 use Rattle.acl_terms.specs.declared.options.Mode.TheVariants.{Stateful, Stateless}
 use Rattle.acl_terms.specs.declared.options.Opt.{Opt}
 use Rattle.acl_terms.specs.declared.options.Opt.TheVariants as options
+use Rattle.acl_terms.specs.declared.sides.Side.{Side}
+use Rattle.acl_terms.specs.declared.sides.Side.TheVariants.{Whole, Source, Destination}
+use Rattle.acl_terms.specs.declared.sides.SidePair.{SidePair}
 use Rattle.acl_terms.specs.declared.terms.Term.{Term}
 use Rattle.acl_packet.specs.Packets.{foreign_of}
 use Rattle.acl_terms.specs.Outcomes.{denied, mode_of}
-use Rattle.acl_terms.specs.Resolved.{destination_in, is_empty_in, is_term_live, source_in}
+use Rattle.acl_terms.specs.Resolved.{destinations_on, dports_on, has_none, in_both, is_pair_empty, is_term_live, pairs_of, sources_on, sports_on}
 use Rattle.acl_platform.specs.declared.rules.Rule.{Rule}
 use Rattle.acl_platform.specs.declared.rules.Test.{Test}
 use Rattle.acl_platform.specs.declared.rules.Test.TheVariants as tests
@@ -59,17 +62,28 @@ verdict_on Juniper v = v
 verdict_on Iptables v = v
 verdict_on Nftables v = v
 
--- The rule of a term in a family with these conditions: all else is the term's.
-abbrev pub rule_of : Kind → Family → Term → Conditions → Rule
-rule_of kind f t c = record {
-  name = t.name ++ c.suffix;
+-- A rule that asks an address or a port of one side says so in its name.
+abbrev pub address_suffix : Side → List ℕ
+address_suffix Whole = []
+address_suffix Source = codes "-src"
+address_suffix Destination = codes "-dst"
+
+abbrev pub port_suffix : Side → List ℕ
+port_suffix Whole = []
+port_suffix Source = codes "-sport"
+port_suffix Destination = codes "-dport"
+
+-- The rule of a term in a family on a pair of sides, with these conditions: all else is the term's.
+abbrev pub rule_of : Kind → Family → Term → SidePair → Conditions → Rule
+rule_of kind f t pair c = record {
+  name = t.name ++ (address_suffix pair.addresses ++ (port_suffix pair.ports ++ c.suffix));
   place = t.place;
   note = t.note;
   family = f;
-  src = least_list f (source_in f t);
-  dst = least_list f (destination_in f t);
+  src = least_list f (sources_on pair.addresses f t);
+  dst = least_list f (destinations_on pair.addresses f t);
   protos = c.protos;
-  sports = t.sports;
+  sports = sports_on pair.ports t;
   dports = c.dports;
   itypes = t.itypes;
   test = c.test;
@@ -77,65 +91,75 @@ rule_of kind f t c = record {
   log = t.log;
 }
 
--- The term's own protocols and ports, with a test.
-abbrev pub whole : Family → Term → Test → Conditions
-whole f t test = record {
+-- The term's own protocols and its ports on a side, with a test.
+abbrev pub whole : Family → Term → Side → Test → Conditions
+whole f t side test = record {
   suffix = [];
   protos = protocols_in f t;
-  dports = t.dports;
+  dports = dports_on side t;
   test = test;
 }
 
 -- Of UDP, `established` asks for a port of a client, where the term names no destination port.
-abbrev pub udp_ports : Term → Numbers
-udp_ports t = if t.dport_named then t.dports else client_ports
+abbrev pub udp_ports : Term → Side → Numbers
+udp_ports t side =
+    if t.dport_named then dports_on side t else in_both (dports_on side t) client_ports
 
-abbrev pub udp_alone : Family → Term → Conditions
-udp_alone f t = record {
+abbrev pub udp_alone : Family → Term → Side → Conditions
+udp_alone f t side = record {
   suffix = [];
   protos = protocols_in f t;
-  dports = udp_ports t;
+  dports = udp_ports t side;
   test = tests.Plain;
 }
 
-abbrev pub tcp_half : Term → Conditions
-tcp_half t = record {
+abbrev pub tcp_half : Term → Side → Conditions
+tcp_half t side = record {
   suffix = codes "-tcp";
   protos = only_protocol 6;
-  dports = t.dports;
+  dports = dports_on side t;
   test = tests.AckOrRst;
 }
 
-abbrev pub udp_half : Term → Conditions
-udp_half t = record {
+abbrev pub udp_half : Term → Side → Conditions
+udp_half t side = record {
   suffix = codes "-udp";
   protos = only_protocol 17;
-  dports = udp_ports t;
+  dports = udp_ports t side;
   test = tests.Plain;
 }
 
+-- Conditions that leave no destination port are those of no rule.
+abbrev pub with_ports : Conditions → List Conditions
+with_ports c = if has_none c.dports then [] else c ∷ []
+
 -- `established` where connections are not known, over TCP and UDP or one of them.
-abbrev pub established_conditions : Family → Term → Bool → Bool → List Conditions
-established_conditions f t true true = tcp_half t ∷ udp_half t ∷ []
-established_conditions f t true false = whole f t tests.AckOrRst ∷ []
-established_conditions f t false udp = udp_alone f t ∷ []
+abbrev pub established_conditions : Family → Term → Side → Bool → Bool → List Conditions
+established_conditions f t side true true = tcp_half t side ∷ with_ports (udp_half t side)
+established_conditions f t side true false = whole f t side tests.AckOrRst ∷ []
+established_conditions f t side false udp = with_ports (udp_alone f t side)
 
--- The conditions of a term's rules by its option. TCP is 6 and UDP 17.
-abbrev pub conditions_by : Opt → Mode → Family → Term → List Conditions
-conditions_by options.Plain mode f t = whole f t tests.Plain ∷ []
-conditions_by options.Established Stateful f t = whole f t tests.State ∷ []
-conditions_by options.Established Stateless f t =
-    established_conditions f t (holds t.protos.ranges 6) (holds t.protos.ranges 17)
-conditions_by options.TcpEstablished Stateful f t = whole f t tests.State ∷ []
-conditions_by options.TcpEstablished Stateless f t = whole f t tests.AckOrRst ∷ []
-conditions_by options.TcpInitial mode f t = whole f t tests.SynNotAck ∷ []
-conditions_by options.Rst mode f t = whole f t tests.Rst ∷ []
+-- The conditions of a term's rules by its option, where its ports are those on a side. TCP is 6 and UDP 17.
+abbrev pub conditions_by : Opt → Mode → Family → Term → Side → List Conditions
+conditions_by options.Plain mode f t side = whole f t side tests.Plain ∷ []
+conditions_by options.Established Stateful f t side = whole f t side tests.State ∷ []
+conditions_by options.Established Stateless f t side =
+    established_conditions f t side (holds t.protos.ranges 6) (holds t.protos.ranges 17)
+conditions_by options.TcpEstablished Stateful f t side = whole f t side tests.State ∷ []
+conditions_by options.TcpEstablished Stateless f t side = whole f t side tests.AckOrRst ∷ []
+conditions_by options.TcpInitial mode f t side = whole f t side tests.SynNotAck ∷ []
+conditions_by options.Rst mode f t side = whole f t side tests.Rst ∷ []
 
--- A term that is empty in the family has no rule there.
+-- A pair of sides on which the term is empty in the family has no rule there.
+unfoldable pub pair_rules : Target → Term → Family → SidePair → List Rule
+pair_rules target t f pair =
+    if is_pair_empty f t pair then []
+    else map (rule_of target.kind f t pair)
+    (conditions_by t.option (mode_of target) f t pair.ports)
+
+-- The sides of a term, the source before the destination, and those for addresses before those for ports.
 unfoldable pub family_rules : Target → Term → Family → List Rule
-family_rules target t f =
-    if is_empty_in f t then []
-    else map (rule_of target.kind f t) (conditions_by t.option (mode_of target) f t)
+family_rules target t f = flat_map (pair_rules target t f) (pairs_of t)
 
 -- The families of a target, IPv4 first.
 abbrev pub members : Families → List Family

@@ -17,7 +17,7 @@ ghost use Rattle.acl_expand.specs.TermRules.{
 use acl_packet::Family;
 use acl_platform::Test;
 use acl_sets::{Range, RangeSet};
-use acl_terms::Term;
+use acl_terms::{Side, Term, dports_on};
 use acl_text::{Bytes, Memory};
 use std::alloc::Global;
 
@@ -80,65 +80,73 @@ fn protocols_in(alloc: Global, family: Family, term: &Term) -> Result<RangeSet, 
     }
 }
 
-fn udp_ports(alloc: Global, term: &Term) -> Result<RangeSet, Memory>
-    ensures { IfOk result (λ s. s ≡ udp_ports term.now) }
+#[tactic(auto, using(crate::proofs::SideForms::dports_top))]
+fn udp_ports(alloc: Global, term: &Term, side: Side) -> Result<RangeSet, Memory>
+    ensures { IfOk result (λ s. s ≡ udp_ports term.now side) }
 {
+    let ports = dports_on(alloc, side, term)?;
     if term.dport_named {
-        term.dports.copy(alloc)
+        Ok(ports)
     } else {
-        client_ports(alloc)
+        ports.intersect(alloc, &client_ports(alloc)?)
     }
 }
 
-/// The term's own protocols and ports, with a test.
+/// The term's own protocols and its ports on a side, with a test.
 pub(crate) fn whole(
     alloc: Global,
     family: Family,
     term: &Term,
+    side: Side,
     test: Test,
 ) -> Result<Conditions, Memory>
-    ensures { IfOk result (λ c. c ≡ whole family term.now test) }
+    ensures { IfOk result (λ c. c ≡ whole family term.now side test) }
 {
     Ok(Conditions {
         suffix: Bytes::new(alloc),
         protos: protocols_in(alloc, family, term)?,
-        dports: term.dports.copy(alloc)?,
+        dports: dports_on(alloc, side, term)?,
         test,
     })
 }
 
 /// Those of `established` over UDP alone.
-pub(crate) fn udp_alone(alloc: Global, family: Family, term: &Term) -> Result<Conditions, Memory>
-    ensures { IfOk result (λ c. c ≡ udp_alone family term.now) }
+pub(crate) fn udp_alone(
+    alloc: Global,
+    family: Family,
+    term: &Term,
+    side: Side,
+) -> Result<Conditions, Memory>
+    ensures { IfOk result (λ c. c ≡ udp_alone family term.now side) }
 {
     Ok(Conditions {
         suffix: Bytes::new(alloc),
         protos: protocols_in(alloc, family, term)?,
-        dports: udp_ports(alloc, term)?,
+        dports: udp_ports(alloc, term, side)?,
         test: Test::Plain,
     })
 }
 
 /// Those of `established` over TCP, where UDP has a rule of its own.
-pub(crate) fn tcp_half(alloc: Global, term: &Term) -> Result<Conditions, Memory>
-    ensures { IfOk result (λ c. c ≡ tcp_half term.now) }
+pub(crate) fn tcp_half(alloc: Global, term: &Term, side: Side) -> Result<Conditions, Memory>
+    ensures { IfOk result (λ c. c ≡ tcp_half term.now side) }
 {
     Ok(Conditions {
         suffix: Bytes::from_slice(alloc, b"-tcp")?,
         protos: only_protocol(alloc, 6)?,
-        dports: term.dports.copy(alloc)?,
+        dports: dports_on(alloc, side, term)?,
         test: Test::AckOrRst,
     })
 }
 
 /// Those of `established` over UDP, where TCP has a rule of its own.
-pub(crate) fn udp_half(alloc: Global, term: &Term) -> Result<Conditions, Memory>
-    ensures { IfOk result (λ c. c ≡ udp_half term.now) }
+pub(crate) fn udp_half(alloc: Global, term: &Term, side: Side) -> Result<Conditions, Memory>
+    ensures { IfOk result (λ c. c ≡ udp_half term.now side) }
 {
     Ok(Conditions {
         suffix: Bytes::from_slice(alloc, b"-udp")?,
         protos: only_protocol(alloc, 17)?,
-        dports: udp_ports(alloc, term)?,
+        dports: udp_ports(alloc, term, side)?,
         test: Test::Plain,
     })
 }

@@ -79,10 +79,12 @@ pub(crate) fn filter_with(
 
 /// The filter of the terms on the target that day, or their first slip there.
 ///
-/// Each live term becomes one rule for each family of the target in which it is not empty, IPv4 first, and two
-/// where its option asks different things of TCP and of UDP. Slips, term by term: `ExtensionHeader`, the least
-/// number of an extension header that a term for IPv6 names, and `TooManyPrefixes`, the name of the term with
-/// whose rules the filter's lists have more than 200,000 prefixes.
+/// Each live term becomes one rule for each family of the target, IPv4 first, and for each pair of sides in that family
+/// on which it is not empty there: the source before the destination where it names addresses of either, and within
+/// each the source port before the destination port where it names ports of either. There are two rules where its
+/// option asks different things of TCP and of UDP, and none where the option leaves no port of UDP. Slips, term by term:
+/// `ExtensionHeader`, the least number of an extension header that a term for IPv6 names, and `TooManyPrefixes`, the
+/// name of the term with whose rules the filter's lists have more than 200,000 prefixes.
 pub fn expand(alloc: Global, terms: &[Term], target: &Target, today: Day) -> Result<Filter, Refusal>
     requires { IsTarget target.now }
     ensures slip { Judges result (first_slip target.now today terms.now) }

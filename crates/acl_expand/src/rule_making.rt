@@ -2,13 +2,16 @@ ghost use Rattle.std.specs.Prelude.{◌≡◌, ◌+◌, ◌^◌, ◌++◌, [], �
 ghost use Rattle.acl_packet.specs.Addresses.{everywhere, width_of};
 ghost use Rattle.acl_sets.specs.Ranges.{holds};
 ghost use Rattle.acl_terms.specs.Outcomes.{denied, mode_of};
-ghost use Rattle.acl_terms.specs.Resolved.{destination_in, is_term_live, source_in};
+ghost use Rattle.acl_terms.specs.Resolved.{destinations_on, is_term_live, sources_on};
 ghost use Rattle.acl_expand.specs.TermRules.{
+  address_suffix,
   conditions_by,
   established_conditions,
   family_rules,
   least_list,
   members,
+  pair_rules,
+  port_suffix,
   rule_of,
   tcp_half,
   term_rules,
@@ -16,6 +19,7 @@ ghost use Rattle.acl_expand.specs.TermRules.{
   udp_half,
   verdict_on,
   whole,
+  with_ports,
 };
 
 use crate::conditions::{Conditions, tcp_half, udp_alone, udp_half, whole};
@@ -24,7 +28,10 @@ use acl_packet::{Families, Family, Prefix, Verdict};
 use acl_platform::{Rule, Rules, Test};
 use acl_sets::{Prefixes, RangeSet, least_prefixes};
 use acl_target::{Kind, Target};
-use acl_terms::{Mode, Opt, Term, is_empty_in, is_live};
+use acl_terms::{
+    Mode, Opt, Side, SidePair, Term, destination_in, either_in, is_live, is_pair_empty, pairs_of,
+    source_in, sports_on,
+};
 use acl_text::{Bytes, Memory};
 use std::alloc::Global;
 
@@ -68,58 +75,94 @@ fn list_of(alloc: Global, family: Family, set: &RangeSet) -> Result<Prefixes, Me
     }
 }
 
-// The least list of the term's sources in the family.
-fn sources(alloc: Global, family: Family, term: &Term) -> Result<Prefixes, Memory>
-    ensures { IfOk result (λ ps. ps ≡ least_list family (source_in family term.now)) }
+// The least list of the term's sources on the side, in the family.
+#[tactic(auto, using(acl_terms::proofs::SideLaws::source_tops, crate::proofs::SideForms::source_end))]
+fn sources(alloc: Global, family: Family, term: &Term, side: Side) -> Result<Prefixes, Memory>
+    ensures { IfOk result (λ ps. ps ≡ least_list family (sources_on side family term.now)) }
 {
-    match family {
-        Family::V4 => list_of(alloc, Family::V4, &term.src4),
-        Family::V6 => list_of(alloc, Family::V6, &term.src6),
+    let set = source_in(family, term);
+    match side {
+        Side::Source => list_of(
+            alloc,
+            family,
+            &set.intersect(alloc, either_in(family, term))?,
+        ),
+        Side::Whole | Side::Destination => list_of(alloc, family, set),
     }
 }
 
-// The least list of its destinations.
-fn destinations(alloc: Global, family: Family, term: &Term) -> Result<Prefixes, Memory>
-    ensures { IfOk result (λ ps. ps ≡ least_list family (destination_in family term.now)) }
+// The least list of its destinations on the side.
+#[tactic(auto, using(acl_terms::proofs::SideLaws::destination_tops, crate::proofs::SideForms::destination_end))]
+fn destinations(alloc: Global, family: Family, term: &Term, side: Side) -> Result<Prefixes, Memory>
+    ensures { IfOk result (λ ps. ps ≡ least_list family (destinations_on side family term.now)) }
 {
-    match family {
-        Family::V4 => list_of(alloc, Family::V4, &term.dst4),
-        Family::V6 => list_of(alloc, Family::V6, &term.dst6),
+    let set = destination_in(family, term);
+    match side {
+        Side::Destination => list_of(
+            alloc,
+            family,
+            &set.intersect(alloc, either_in(family, term))?,
+        ),
+        Side::Whole | Side::Source => list_of(alloc, family, set),
     }
 }
 
-fn rule_name(alloc: Global, term: &Term, suffix: &Bytes) -> Result<Bytes, Memory>
-    ensures { IfOk result (λ b. b ≡ term.now.name ++ suffix.now) }
+fn address_suffix(side: Side) -> &'static [u8]
+    ensures { result.now ≡ address_suffix side }
+{
+    match side {
+        Side::Whole => b"",
+        Side::Source => b"-src",
+        Side::Destination => b"-dst",
+    }
+}
+
+fn port_suffix(side: Side) -> &'static [u8]
+    ensures { result.now ≡ port_suffix side }
+{
+    match side {
+        Side::Whole => b"",
+        Side::Source => b"-sport",
+        Side::Destination => b"-dport",
+    }
+}
+
+fn rule_name(alloc: Global, term: &Term, pair: SidePair, suffix: &Bytes) -> Result<Bytes, Memory>
+    ensures { IfOk result (λ b. b ≡ term.now.name
+        ++ (address_suffix pair.addresses ++ (port_suffix pair.ports ++ suffix.now))) }
 {
     let mut name = Bytes::from_slice(alloc, term.name.as_slice())?;
+    name.push_all(address_suffix(pair.addresses))?;
+    name.push_all(port_suffix(pair.ports))?;
     name.push_all(suffix.as_slice())?;
     Ok(name)
 }
 
-// A term in one of its families, on a platform of the kind.
+// A term in one of its families on a pair of its sides, on a platform of the kind.
 #[derive(Clone, Copy)]
-struct FamilyTerm<'a> {
+struct PairTerm<'a> {
     kind: Kind,
     family: Family,
     term: &'a Term,
+    pair: SidePair,
 }
 
-impl<'a> FamilyTerm<'a> {
+impl<'a> PairTerm<'a> {
     // The rule of the term with the conditions.
     fn rule(&self, alloc: Global, conditions: Conditions) -> Result<Rule, Memory>
         ensures { IfOk result (λ r. r
-            ≡ rule_of self.now.kind self.now.family self.now.term.now conditions) }
+            ≡ rule_of self.now.kind self.now.family self.now.term.now self.now.pair conditions) }
     {
         let term = self.term;
         Ok(Rule {
-            name: rule_name(alloc, term, &conditions.suffix)?,
+            name: rule_name(alloc, term, self.pair, &conditions.suffix)?,
             place: term.place,
             note: Bytes::from_slice(alloc, term.note.as_slice())?,
             family: self.family,
-            src: sources(alloc, self.family, term)?,
-            dst: destinations(alloc, self.family, term)?,
+            src: sources(alloc, self.family, term, self.pair.addresses)?,
+            dst: destinations(alloc, self.family, term, self.pair.addresses)?,
             protos: conditions.protos,
-            sports: term.sports.copy(alloc)?,
+            sports: sports_on(alloc, self.pair.ports, term)?,
             dports: conditions.dports,
             itypes: term.itypes.copy(alloc)?,
             test: conditions.test,
@@ -130,46 +173,68 @@ impl<'a> FamilyTerm<'a> {
 
     // Adds that rule at the end.
     fn push(&self, alloc: Global, rules: &mut Rules, conditions: Conditions) -> Result<(), Memory>
-        ensures { OnOk result (rules.new ≡ rules.old
-            ++ rule_of self.now.kind self.now.family self.now.term.now conditions ∷ []) }
+        ensures { OnOk result (rules.new ≡ rules.old ++ rule_of self.now.kind self.now.family
+            self.now.term.now self.now.pair conditions ∷ []) }
     {
         rules.push(self.rule(alloc, conditions)?)
+    }
+
+    // The same, where the conditions leave some destination port.
+    fn push_with_ports(
+        &self,
+        alloc: Global,
+        rules: &mut Rules,
+        conditions: Conditions,
+    ) -> Result<(), Memory>
+        ensures { OnOk result (rules.new ≡ rules.old
+            ++ map (rule_of self.now.kind self.now.family self.now.term.now self.now.pair)
+            (with_ports conditions)) }
+    {
+        if conditions.dports.is_empty() {
+            Ok(())
+        } else {
+            self.push(alloc, rules, conditions)
+        }
     }
 
     // The same with the term's own protocols and ports, and a test.
     fn push_whole(&self, alloc: Global, rules: &mut Rules, test: Test) -> Result<(), Memory>
         ensures { OnOk result (rules.new ≡ rules.old ++ rule_of self.now.kind self.now.family
-            self.now.term.now (whole self.now.family self.now.term.now test) ∷ []) }
+            self.now.term.now self.now.pair
+            (whole self.now.family self.now.term.now self.now.pair.ports test) ∷ []) }
     {
-        let conditions = whole(alloc, self.family, self.term, test)?;
+        let conditions = whole(alloc, self.family, self.term, self.pair.ports, test)?;
         self.push(alloc, rules, conditions)
     }
 
     // The two rules of `established` over TCP and UDP, where connections are not known.
     fn push_halves(&self, alloc: Global, rules: &mut Rules) -> Result<(), Memory>
         ensures { OnOk result (rules.new ≡ rules.old
-            ++ map (rule_of self.now.kind self.now.family self.now.term.now)
-            (tcp_half self.now.term.now ∷ udp_half self.now.term.now ∷ [])) }
+            ++ map (rule_of self.now.kind self.now.family self.now.term.now self.now.pair)
+            (tcp_half self.now.term.now self.now.pair.ports
+            ∷ with_ports (udp_half self.now.term.now self.now.pair.ports))) }
     {
-        let tcp = tcp_half(alloc, self.term)?;
+        let tcp = tcp_half(alloc, self.term, self.pair.ports)?;
         self.push(alloc, rules, tcp)?;
-        let udp = udp_half(alloc, self.term)?;
-        self.push(alloc, rules, udp)
+        let udp = udp_half(alloc, self.term, self.pair.ports)?;
+        self.push_with_ports(alloc, rules, udp)
     }
 
     fn push_udp(&self, alloc: Global, rules: &mut Rules) -> Result<(), Memory>
-        ensures { OnOk result (rules.new ≡ rules.old ++ rule_of self.now.kind self.now.family
-            self.now.term.now (udp_alone self.now.family self.now.term.now) ∷ []) }
+        ensures { OnOk result (rules.new ≡ rules.old
+            ++ map (rule_of self.now.kind self.now.family self.now.term.now self.now.pair)
+            (with_ports (udp_alone self.now.family self.now.term.now self.now.pair.ports))) }
     {
-        let udp = udp_alone(alloc, self.family, self.term)?;
-        self.push(alloc, rules, udp)
+        let udp = udp_alone(alloc, self.family, self.term, self.pair.ports)?;
+        self.push_with_ports(alloc, rules, udp)
     }
 
     // The rules of `established` where connections are not known.
     fn push_established(&self, alloc: Global, rules: &mut Rules) -> Result<(), Memory>
         ensures { OnOk result (rules.new ≡ rules.old
-            ++ map (rule_of self.now.kind self.now.family self.now.term.now)
-            (conditions_by Opt.Established Mode.Stateless self.now.family self.now.term.now)) }
+            ++ map (rule_of self.now.kind self.now.family self.now.term.now self.now.pair)
+            (conditions_by Opt.Established Mode.Stateless self.now.family self.now.term.now
+            self.now.pair.ports)) }
     {
         match (self.term.protos.contains(6), self.term.protos.contains(17)) {
             (true, true) => self.push_halves(alloc, rules),
@@ -178,11 +243,12 @@ impl<'a> FamilyTerm<'a> {
         }
     }
 
-    // The rules of the term in a family in which it is not empty.
+    // The rules of the term on a pair of sides that is not empty in the family.
     fn push_by_option(&self, alloc: Global, rules: &mut Rules, mode: Mode) -> Result<(), Memory>
         ensures { OnOk result (rules.new ≡ rules.old
-            ++ map (rule_of self.now.kind self.now.family self.now.term.now)
-            (conditions_by self.now.term.now.option mode self.now.family self.now.term.now)) }
+            ++ map (rule_of self.now.kind self.now.family self.now.term.now self.now.pair)
+            (conditions_by self.now.term.now.option mode self.now.family self.now.term.now
+            self.now.pair.ports)) }
     {
         let test = match (self.term.option, mode) {
             (Opt::Established, Mode::Stateless) => return self.push_established(alloc, rules),
@@ -206,7 +272,31 @@ fn mode_of(target: &Target) -> Mode
     }
 }
 
-// Adds the rules of the term in the family.
+// Adds the rules of the term in the family, on the pair of sides.
+#[tactic(auto, unfolding(crate::specs::TermRules::pair_rules))]
+fn push_pair(
+    alloc: Global,
+    rules: &mut Rules,
+    target: &Target,
+    family: Family,
+    term: &Term,
+    pair: SidePair,
+) -> Result<(), Memory>
+    ensures { OnOk result (rules.new ≡ rules.old ++ pair_rules target.now term.now family pair) }
+{
+    if is_pair_empty(term, family, pair) {
+        return Ok(());
+    }
+    let term = PairTerm {
+        kind: target.kind,
+        family,
+        term,
+        pair,
+    };
+    term.push_by_option(alloc, rules, mode_of(target))
+}
+
+// Adds the rules of the term in the family, on each pair of its sides.
 #[tactic(auto, unfolding(crate::specs::TermRules::family_rules))]
 fn push_family(
     alloc: Global,
@@ -217,15 +307,11 @@ fn push_family(
 ) -> Result<(), Memory>
     ensures { OnOk result (rules.new ≡ rules.old ++ family_rules target.now term.now family) }
 {
-    if is_empty_in(term, family) {
-        return Ok(());
+    let pairs = pairs_of(term);
+    for pair in pairs {
+        push_pair(alloc, rules, target, family, term, *pair)?;
     }
-    let term = FamilyTerm {
-        kind: target.kind,
-        family,
-        term,
-    };
-    term.push_by_option(alloc, rules, mode_of(target))
+    Ok(())
 }
 
 // Adds the rules of the term in each family of the target.

@@ -1,14 +1,12 @@
 -- Names of rules are names and free texts, and so are notes.
-use Rattle.std.proofs.Common.{◌≡◌, ℕ, ◌≤◌, Bool, true, false, ◌&&◌, ◌||◌, ◌==◌, not, nat_le, List, [], ◌∷◌, ◌++◌, ◌⊎◌, inl, inr, length, codes, refl, ap, sym, subst, ◌∙◌}
+use Rattle.std.proofs.Common.{◌≡◌, ℕ, ◌≤◌, Bool, true, false, ◌&&◌, ◌||◌, ◌==◌, not, nat_le, List, [], ◌∷◌, ◌++◌, inl, inr, length, codes, refl, ap, sym, subst, ◌∙◌}
 use Rattle.std.specs.List.{list_all, AllByRecursion}
 use Rattle.std.proofs.lemmas.Bool.{and_from, and_parts, eqb-true, false≢true, or_left}
 use Rattle.acl_text.specs.Names.{is_name, is_name_byte, is_safe_byte, is_safe_text, single_spaced}
 use Rattle.acl_text.specs.Notes.{is_note}
 use Rattle.acl_grammar.proofs.DecisionLaws.{le_decides}
-use Rattle.acl_target.specs.declared.targets.Kind.{Kind}
-use Rattle.acl_target.specs.declared.targets.Kind.TheVariants.{Cisco, Juniper, Iptables, Nftables}
 use Rattle.acl_platform.specs.Remarks.{notes}
-use Rattle.acl_platform.specs.SoundFilters.{IsRuleName, IsSplitName}
+use Rattle.acl_platform.specs.SoundFilters.{IsOneOf, IsRuleName, address_suffixes, port_suffixes, protocol_suffixes}
 
 not_space : (b : ℕ) → is_name_byte b ≡ true → (b == 32) ≡ false
 not_space b e = by_test (b == 32) refl
@@ -52,27 +50,29 @@ all-bytes (x ∷ xs) ys h k =
     let p = and_parts (is_name_byte x) (list_all is_name_byte xs) h in
     and_from (is_name_byte x) (list_all is_name_byte (xs ++ ys)) p.0 (all-bytes xs ys p.1 k)
 
-split-name : (term suffix name : List ℕ) → is_name term ≡ true → list_all is_name_byte suffix ≡ true → name ≡ term ++ suffix → length name ≤ 128
+suffixed : (term suffix name : List ℕ) → is_name term ≡ true → list_all is_name_byte suffix ≡ true → name ≡ term ++ suffix → length name ≤ 128
     → is_name name ≡ true
-split-name [] suffix name is h e short = absurd (false≢true is)
-split-name (b ∷ bs) suffix name is h e short =
+suffixed [] suffix name is h e short = absurd (false≢true is)
+suffixed (b ∷ bs) suffix name is h e short =
     let parts = and_parts (nat_le (length (b ∷ bs)) 128) (list_all is_name_byte (b ∷ bs)) is in
     let size = ap length e in
     subst (λ (n : List ℕ). is_name n ≡ true) (sym e)
     (and_from (nat_le (length (b ∷ (bs ++ suffix))) 128) (list_all is_name_byte (b ∷ (bs ++ suffix)))
     ((le_decides (length (b ∷ (bs ++ suffix))) 128).1 (subst (λ n. n ≤ 128) size short)) (all-bytes (b ∷ bs) suffix parts.1 h))
 
-of-term : (name : List ℕ) → ((is_name name ≡ true) ⊎ IsSplitName name) → length name ≤ 128 → is_name name ≡ true
-of-term name (inl is) short = is
-of-term name (inr (term, (is, inl e))) short = split-name term (codes "-tcp") name is refl e short
-of-term name (inr (term, (is, inr e))) short = split-name term (codes "-udp") name is refl e short
+one-named : (text : List ℕ) (texts : List (List ℕ)) → AllByRecursion (λ t. list_all is_name_byte t ≡ true) texts → IsOneOf text texts
+    → list_all is_name_byte text ≡ true
+one-named text [] h is = absurd is
+one-named text (t ∷ ts) h (inl e) = ap (list_all is_name_byte) e ∙ h.0
+one-named text (t ∷ ts) h (inr is) = one-named text ts h.1 is
 
 -- a rule's name that is not too long is a name
-pub rule-name : (kind : Kind) (name : List ℕ) → IsRuleName kind name → length name ≤ 128 → is_name name ≡ true
-rule-name Cisco name h short = of-term name h short
-rule-name Juniper name h short = of-term name h short
-rule-name Iptables name h short = of-term name h short
-rule-name Nftables name h short = h
+pub rule-name : (name : List ℕ) → IsRuleName name → length name ≤ 128 → is_name name ≡ true
+rule-name name (term, address, port, protocol, is, a, p, q, e) short =
+    suffixed term (address ++ (port ++ protocol)) name is
+    (all-bytes address (port ++ protocol) (one-named address address_suffixes (refl, (refl, (refl, tt))) a)
+    (all-bytes port protocol (one-named port port_suffixes (refl, (refl, (refl, tt))) p)
+    (one-named protocol protocol_suffixes (refl, (refl, (refl, tt))) q))) e short
 
 pub name-safe : (name : List ℕ) → is_name name ≡ true → is_safe_text name ≡ true
 name-safe [] is = absurd (false≢true is)

@@ -1,6 +1,6 @@
 -- What a sound filter is: its data are such as a target of its kind has, and each rule is one that
 -- its platform can be asked to say. Generators take sound filters alone.
-use Rattle.std.specs.Prelude.{◌≡◌, ◌≢◌, ℕ, ◌++◌, Bool, true, false, not, ◌&&◌, ◌==◌, List, [], ◌⊎◌, codes}
+use Rattle.std.specs.Prelude.{◌≡◌, ◌≢◌, ℕ, ◌++◌, Bool, true, false, not, ◌&&◌, ◌==◌, List, [], ◌∷◌, ◌⊎◌, codes}
 use Rattle.std.specs.List.{AllByRecursion}
 use Rattle.acl_packet.specs.declared.addresses.Families.{Families}
 use Rattle.acl_packet.specs.declared.addresses.Family.{Family}
@@ -76,23 +76,32 @@ has_verdict Iptables verdict = true
 has_verdict Nftables Left = false
 has_verdict Nftables verdict = true
 
--- A rule has the name of its term, with a suffix where the term became one for TCP and one for UDP:
--- that is for platforms that do not follow connections, and nftables does.
-abbrev pub IsSplitName : List ℕ → Type 0
-IsSplitName name = (term : List ℕ) × ((is_name term ≡ true)
-    × ((name ≡ term ++ codes "-tcp") ⊎ (name ≡ term ++ codes "-udp")))
+-- What may follow the name of its term in a rule's name: the side on which an address is asked for, then the side of a
+-- port, then the protocol of a rule that has a part of the term's.
+abbrev pub address_suffixes : List (List ℕ)
+address_suffixes = [] ∷ codes "-src" ∷ codes "-dst" ∷ []
 
-abbrev pub IsRuleName : Kind → List ℕ → Type 0
-IsRuleName Cisco name = (is_name name ≡ true) ⊎ IsSplitName name
-IsRuleName Juniper name = (is_name name ≡ true) ⊎ IsSplitName name
-IsRuleName Iptables name = (is_name name ≡ true) ⊎ IsSplitName name
-IsRuleName Nftables name = is_name name ≡ true
+abbrev pub port_suffixes : List (List ℕ)
+port_suffixes = [] ∷ codes "-sport" ∷ codes "-dport" ∷ []
+
+abbrev pub protocol_suffixes : List (List ℕ)
+protocol_suffixes = [] ∷ codes "-tcp" ∷ codes "-udp" ∷ []
+
+-- The text is one of the list.
+abbrev pub IsOneOf : List ℕ → List (List ℕ) → Type 0
+IsOneOf text [] = ⊥
+IsOneOf text (t ∷ ts) = (text ≡ t) ⊎ IsOneOf text ts
+
+abbrev pub IsRuleName : List ℕ → Type 0
+IsRuleName name = (term address port protocol : List ℕ) × (is_name term ≡ true)
+    × IsOneOf address address_suffixes × IsOneOf port port_suffixes
+    × IsOneOf protocol protocol_suffixes × (name ≡ term ++ (address ++ (port ++ protocol)))
 
 -- Ports belong to TCP, UDP and SCTP, types to the family's ICMP, flags and resets to TCP. A type
 -- that is named is below 255, so that a document can write it on each platform.
 pub record IsSoundRule (kind : Kind) (families : Families) (r : Rule) : Type 0 where
   pub family : covers families r.family ≡ true
-  pub name : IsRuleName kind r.name
+  pub name : IsRuleName r.name
   pub note : is_note r.note ≡ true
   pub sources : IsFullList r.family r.src
   pub destinations : IsFullList r.family r.dst

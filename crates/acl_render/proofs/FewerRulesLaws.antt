@@ -94,7 +94,9 @@ ipt-falls fewer earlier r h none =
     (if-none (is_name_taken fewer r) (NameClash (length fewer)) None (name-free fewer earlier r h second.0) refl)
 
 nft-falls : IsFalling nft.rule_limit
-nft-falls fewer earlier r h none = refl
+nft-falls fewer earlier r h none =
+    let first = not-limited (nat_lt 128 (length r.name)) (NameLength (length earlier)) None none in
+    if-none (nat_lt 128 (length r.name)) (NameLength (length fewer)) None first.0 refl
 
 -- ---- the limit of the count
 

@@ -5,46 +5,36 @@ use Rattle.std.specs.Prelude.{flat_map, zip, slice_index_or}
 use Rattle.std.specs.List.{AllByRecursion, Contains, list_any}
 use Rattle.std.proofs.lemmas.Bool.{and_from, and_parts, both_ways, false_from_ne_true, leb-true, le-leb}
 use Rattle.std.proofs.lemmas.List.Elements.{recursion_from_All}
-use Rattle.std.proofs.lemmas.List.Folds.{list_any-append}
-use Rattle.acl_packet.specs.declared.addresses.Families.{Families}
-use Rattle.acl_packet.specs.declared.addresses.Families.TheVariants.{Inet, Inet6, Mixed}
 use Rattle.acl_packet.specs.declared.addresses.Family.{Family}
-use Rattle.acl_packet.specs.declared.addresses.Family.TheVariants.{V4, V6}
 use Rattle.acl_packet.specs.declared.filtering.Outcome.{Outcome}
 use Rattle.acl_packet.specs.declared.packets.Packet.{Packet}
-use Rattle.acl_packet.specs.Addresses.{covers, same_family}
+use Rattle.acl_packet.specs.Addresses.{covers}
 use Rattle.acl_packet.specs.Packets.{IsPacket}
 use Rattle.acl_text.specs.declared.faults.Code.TheVariants.{TooManyPrefixes}
 use Rattle.acl_text.specs.declared.faults.Slip.{Slip}
 use Rattle.acl_text.specs.Refusals.{first_in}
 use Rattle.acl_days.specs.declared.days.Day.{Day}
 use Rattle.acl_host.specs.Files.{File}
-use Rattle.acl_sets.specs.Ranges.{holds}
 use Rattle.acl_naming.specs.Definitions.{Naming}
 use Rattle.acl_target.specs.declared.targets.Target.{Target}
 use Rattle.acl_policy.specs.declared.blocks.Block.{Block}
 use Rattle.acl_policy.specs.declared.raw_terms.RawTerm.{RawTerm}
 use Rattle.acl_policy.specs.Conditions.{IsBlock}
-use Rattle.acl_terms.specs.declared.options.Mode.{Mode}
-use Rattle.acl_terms.specs.declared.options.Mode.TheVariants.{Stateful, Stateless}
-use Rattle.acl_terms.specs.declared.options.Opt.{Opt}
-use Rattle.acl_terms.specs.declared.options.Opt.TheVariants as options
 use Rattle.acl_terms.specs.declared.terms.Term.{Term}
-use Rattle.acl_terms.specs.Outcomes.{PolicyDecides, mode_of, policy_outcome}
-use Rattle.acl_terms.specs.Resolved.{IsEmptyIn, destination_in, has_protocol, is_empty_in, is_term_live, source_in}
+use Rattle.acl_terms.specs.Outcomes.{PolicyDecides, policy_outcome}
 use Rattle.acl_terms.specs.Slips.{slip_of}
-use Rattle.acl_terms.proofs.EmptyLaws.{empty-law}
-use Rattle.acl_terms.proofs.LifeLaws.{live-law}
 use Rattle.acl_terms.proofs.PolicyLaws.{decide-as-written}
 use Rattle.acl_platform.specs.declared.filters.Filter.{Filter}
 use Rattle.acl_platform.specs.declared.filters.Limit.{Limit}
-use Rattle.acl_platform.specs.declared.rules.Rule.{Rule}
 use Rattle.acl_expand.specs.Expansions.{filter_of}
 use Rattle.acl_expand.specs.ExpansionSlips.{first_slip, header_slip, most_prefixes, prefix_slip, prefixes_with, slip_behind, term_slip}
-use Rattle.acl_expand.specs.TermRules.{conditions_by, established_conditions, family_rules, members, rule_of, rules_of, term_rules}
+use Rattle.acl_expand.specs.TermRules.{rules_of, term_rules}
+use Rattle.acl_expand.proofs.AnyLaws.{any-flat}
+use Rattle.acl_expand.proofs.HoldLaws.{term-step}
+use Rattle.acl_expand.proofs.RuleLaws.{holds-in-family, of_family, term-packet}
 use Rattle.acl_shade.specs.ComputableShading.{is_shaded, unshaded, unshaded_behind}
-use Rattle.acl_shade.specs.Shading.{LiesWithinIn, Shades}
-use Rattle.acl_shade.proofs.DeletionLaws.{shaded-go, shading-stays}
+use Rattle.acl_shade.specs.Shading.{Shades}
+use Rattle.acl_shade.proofs.DeletionLaws.{decides-too, shaded-go, shading-stays}
 use Rattle.acl_load.specs.LoadedPolicies.{AreResolved, AreResolvedIn, blocks_slip, terms_slip}
 use Rattle.acl_load.proofs.AnswersThere.{loaded-stands}
 use Rattle.acl_render.specs.FewerRules.{IsLeftOf}
@@ -140,149 +130,25 @@ slips-none target today less more (x ∷ xs) (y ∷ ys) h (inr left) none =
 
 -- ---- of which families there are rules
 
-abbrev of_family : Family → Rule → Bool
-of_family f r = same_family r.family f
-
 abbrev has_rule : Target → Day → Family → Term → Bool
-has_rule target today f t = is_term_live t target.kind today && (covers target.families f && not (is_empty_in f t))
+has_rule target today f t = list_any (of_family f) (term_rules target today t)
 
-or-none : (b : Bool) → (b || false) ≡ b
-or-none true = refl
-or-none false = refl
-
-or-twice : (b : Bool) → (b || b) ≡ b
-or-twice true = refl
-or-twice false = refl
-
-abbrev SomeOf : {C : Type 0} → List C → Type 0
-SomeOf {C} all = (c : C) × (more : List C) × (all ≡ c ∷ more)
-
-some-established : (f : Family) (t : Term) (tcp udp : Bool) → SomeOf (established_conditions f t tcp udp)
-some-established f t true true = (_, _, refl)
-some-established f t true false = (_, _, refl)
-some-established f t false udp = (_, _, refl)
-
-some-conditions : (option : Opt) (mode : Mode) (f : Family) (t : Term) → SomeOf (conditions_by option mode f t)
-some-conditions options.Plain mode f t = (_, _, refl)
-some-conditions options.Established Stateful f t = (_, _, refl)
-some-conditions options.Established Stateless f t = some-established f t (holds t.protos.ranges 6) (holds t.protos.ranges 17)
-some-conditions options.TcpEstablished Stateful f t = (_, _, refl)
-some-conditions options.TcpEstablished Stateless f t = (_, _, refl)
-some-conditions options.TcpInitial mode f t = (_, _, refl)
-some-conditions options.Rst mode f t = (_, _, refl)
-
-rules-any : {C : Type 0} (rule : C → Rule) (of f : Family) → ((c : C) → (rule c).family ≡ of) → (c : C) (more : List C)
-    → list_any (of_family f) (map rule (c ∷ more)) ≡ same_family of f
-rules-any rule of f is c [] = or-none (same_family (rule c).family f) ∙ ap (λ g. same_family g f) (is c)
-rules-any rule of f is c (d ∷ more) =
-    ap (λ g. same_family g f || list_any (of_family f) (map rule (d ∷ more))) (is c)
-    ∙ ap (λ b. same_family of f || b) (rules-any rule of f is d more) ∙ or-twice (same_family of f)
-
-family-any : (target : Target) (t : Term) (of f : Family) → list_any (of_family f) (family_rules target t of) ≡ (not (is_empty_in of t) && same_family of f)
-unfolding family_rules
-family-any target t of f = by (is_empty_in of t)
-  where
-    by : (b : Bool) → list_any (of_family f) (if b then [] else map (rule_of target.kind of t) (conditions_by t.option (mode_of target) of t)) ≡ (not b && same_family of f)
-    by true = refl
-    by false =
-        let some = some-conditions t.option (mode_of target) of t in
-        ap (λ cs. list_any (of_family f) (map (rule_of target.kind of t) cs)) some.2 ∙ rules-any (rule_of target.kind of t) of f (λ c. refl) some.0 some.1
-
-abbrev by_family : Family → Bool → Bool → Bool
-by_family V4 four six = not four
-by_family V6 four six = not six
-
-abbrev members_any : Families → Bool → Bool → Bool
-members_any Inet four six = four || false
-members_any Inet6 four six = six || false
-members_any Mixed four six = four || (six || false)
-
-both-families : (families : Families) (f : Family) (four six : Bool)
-    → members_any families (not four && same_family V4 f) (not six && same_family V6 f) ≡ (covers families f && by_family f four six)
-both-families Inet V4 true six = refl
-both-families Inet V4 false six = refl
-both-families Inet V6 true six = refl
-both-families Inet V6 false six = refl
-both-families Inet6 V4 four true = refl
-both-families Inet6 V4 four false = refl
-both-families Inet6 V6 four true = refl
-both-families Inet6 V6 four false = refl
-both-families Mixed V4 true true = refl
-both-families Mixed V4 true false = refl
-both-families Mixed V4 false six = refl
-both-families Mixed V6 true true = refl
-both-families Mixed V6 true false = refl
-both-families Mixed V6 false true = refl
-both-families Mixed V6 false false = refl
-
-any-flat : {A B : Type 0} (test : B → Bool) (f : A → List B) (xs : List A) → list_any test (flat_map f xs) ≡ list_any (λ x. list_any test (f x)) xs
-any-flat test f [] = refl
-any-flat test f (x ∷ xs) = list_any-append test (f x) (flat_map f xs) ∙ ap (λ b. list_any test (f x) || b) (any-flat test f xs)
-
-any-as : {A : Type 0} (p q : A → Bool) → ((x : A) → p x ≡ q x) → (xs : List A) → list_any p xs ≡ list_any q xs
-any-as p q h [] = refl
-any-as p q h (x ∷ xs) = ap (λ b. b || list_any p xs) (h x) ∙ ap (λ b. q x || b) (any-as p q h xs)
-
-over-members : (families : Families) (p : Family → Bool) → list_any p (members families) ≡ members_any families (p V4) (p V6)
-over-members Inet p = refl
-over-members Inet6 p = refl
-over-members Mixed p = refl
-
-own-family : (f : Family) (t : Term) → by_family f (is_empty_in V4 t) (is_empty_in V6 t) ≡ not (is_empty_in f t)
-own-family V4 t = refl
-own-family V6 t = refl
-
-term-any : (target : Target) (today : Day) (f : Family) (t : Term) → list_any (of_family f) (term_rules target today t) ≡ has_rule target today f t
-unfolding term_rules
-term-any target today f t = by (is_term_live t target.kind today)
-  where
-    open-families : list_any (of_family f) (flat_map (family_rules target t) (members target.families)) ≡ (covers target.families f && not (is_empty_in f t))
-    open-families =
-        any-flat (of_family f) (family_rules target t) (members target.families)
-        ∙ any-as (λ g. list_any (of_family f) (family_rules target t g)) (λ g. not (is_empty_in g t) && same_family g f) (λ g. family-any target t g f) (members target.families)
-        ∙ over-members target.families (λ g. not (is_empty_in g t) && same_family g f)
-        ∙ both-families target.families f (is_empty_in V4 t) (is_empty_in V6 t)
-        ∙ ap (λ b. covers target.families f && b) (own-family f t)
-
-    by : (b : Bool) → list_any (of_family f) (if b then flat_map (family_rules target t) (members target.families) else [])
-        ≡ (b && (covers target.families f && not (is_empty_in f t)))
-    by true = open-families
-    by false = refl
-
-not-true : (b : Bool) → not b ≡ true → b ≡ false
-not-true true h = absurd (both_ways false refl h)
-not-true false h = refl
-
--- A term that shades one which is not empty in a family is not empty there.
-still-some : (f : Family) (i j : Term) → (IsEmptyIn f j → ⊥) → LiesWithinIn f i j → is_empty_in f i ≡ false
-still-some f i j some within = false_from_ne_true (is_empty_in f i) (λ e. some (emptied ((empty-law f i).0 e)))
-  where
-    emptied : IsEmptyIn f i → IsEmptyIn f j
-    emptied (inl h) = inl (λ x. false_from_ne_true (holds (source_in f j).ranges x) (λ is. both_ways (holds (source_in f i).ranges x) (h x) (within.source x is)))
-    emptied (inr (inl h)) =
-        inr (inl (λ x. false_from_ne_true (holds (destination_in f j).ranges x) (λ is. both_ways (holds (destination_in f i).ranges x) (h x) (within.destination x is))))
-    emptied (inr (inr h)) = inr (inr (λ x. false_from_ne_true (has_protocol f j x) (λ is. both_ways (has_protocol f i x) (h x) (within.protocols x is))))
-
--- It has a rule where the shaded one has one.
+-- A term has a rule in each family in which one that it shades has one: it matches the packet that the other's rule holds.
 shading-has : (targets : List Target) (today : Day) (target : Target) (f : Family) → Contains targets target → (i j : Term) → Shades targets today i j
     → has_rule target today f j ≡ true → has_rule target today f i ≡ true
 shading-has targets today target f there i j h has =
-    let p = and_parts (is_term_live j target.kind today) (covers target.families f && not (is_empty_in f j)) has in
-    let q = and_parts (covers target.families f) (not (is_empty_in f j)) p.1 in
-    let some : IsEmptyIn f j → ⊥ = λ e. both_ways (is_empty_in f j) (not-true (is_empty_in f j) q.1) ((empty-law f j).1 e) in
-    let live = (live-law i target.kind today).1 (h.live.everywhere target there ((live-law j target.kind today).0 p.0)) in
-    and_from (is_term_live i target.kind today) (covers target.families f && not (is_empty_in f i)) live
-    (and_from (covers target.families f) (not (is_empty_in f i)) q.0 (ap not (still-some f i j some (h.addresses.each f some))))
+    let q = term-packet target today j f has in
+    let p = q.0 in
+    let covered : covers target.families p.family ≡ true = ap (covers target.families) q.2 ∙ q.3 in
+    let decided = decides-too targets today target p there i j h (sym (term-step target today j p q.1 covered) ∙ q.4) in
+    subst (λ g. has_rule target today g i ≡ true) q.2 (holds-in-family (term_rules target today i) p (term-step target today i p q.1 covered ∙ decided))
 
 families-stay : (targets : List Target) (today : Day) (terms : List Term) (target : Target) (f : Family) → Contains targets target
     → list_any (of_family f) (rules_of target today (unshaded targets today terms)) ≡ list_any (of_family f) (rules_of target today terms)
 families-stay targets today terms target f there =
-    let as-terms : (ts : List Term) → list_any (of_family f) (rules_of target today ts) ≡ list_any (has_rule target today f) ts = λ ts.
-    any-flat (of_family f) (term_rules target today) ts
-    ∙ any-as (λ t. list_any (of_family f) (term_rules target today t)) (has_rule target today f) (term-any target today f) ts in
-    as-terms (unshaded targets today terms)
+    any-flat (of_family f) (term_rules target today) (unshaded targets today terms)
     ∙ shading-stays targets today terms (has_rule target today f) (shading-has targets today target f there)
-    ∙ sym (as-terms terms)
+    ∙ sym (any-flat (of_family f) (term_rules target today) terms)
 
 -- ---- the filter on a target
 

@@ -72,8 +72,8 @@ rules-are-within f h = rules-within rule_limit IsWithin rule-within (entry_count
 
 -- ---- items
 
-name-is-safe : (name : List ℕ) → IsRuleName Cisco name → length name ≤ 64 → is_safe_text name ≡ true
-name-is-safe name h short = name-safe name (rule-name Cisco name h (le_trans short (lit≤ tt)))
+name-is-safe : (name : List ℕ) → IsRuleName name → length name ≤ 64 → is_safe_text name ≡ true
+name-is-safe name h short = name-safe name (rule-name name h (le_trans short (lit≤ tt)))
 
 rule-valid : (families : Families) (r : Rule) → IsSoundRule Cisco families r → IsWithin r → AllByRecursion (IsItem r.family) (rule_items r)
 rule-valid families r h w =

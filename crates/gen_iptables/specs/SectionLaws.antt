@@ -70,8 +70,8 @@ rules-short f h = rules-within rule_limit IsShort (λ earlier r k. (rule-within 
 
 -- ---- chains
 
-named : (name : List ℕ) → IsRuleName Iptables name → length name ≤ 24 → is_name name ≡ true
-named name h short = rule-name Iptables name h (le_trans short (lit≤ tt))
+named : (name : List ℕ) → IsRuleName name → length name ≤ 24 → is_name name ≡ true
+named name h short = rule-name name h (le_trans short (lit≤ tt))
 
 chain-is : (families : Families) (r : Rule) → IsSoundRule Iptables families r → IsShort r → IsChain r.family (chain_of r)
 chain-is families r h short =

@@ -112,7 +112,7 @@ term-is families r h short u =
     let tcp = is-alone r.protos 6 h.protocols refl in
     record {
       noted = note-safe r.note h.note;
-      named = rule-name Juniper r.name h.name (le_trans short (lit≤ tt));
+      named = rule-name r.name h.name (le_trans short (lit≤ tt));
       sources = addresses-are r.family r.src h.sources;
       destinations = addresses-are r.family r.dst h.destinations;
       protocols = numbers-small r.protos h.protocols;

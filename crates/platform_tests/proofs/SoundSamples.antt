@@ -1,5 +1,5 @@
 -- Rules of the tests that pass the test are sound.
-use Rattle.std.proofs.Common.{◌≡◌, ℕ, Bool, true, false, not, ◌&&◌, ◌||◌, ◌==◌, List, [], ◌∷◌, inl, inr, refl, subst, sym, arith}
+use Rattle.std.proofs.Common.{◌≡◌, ℕ, Bool, true, false, not, ◌&&◌, ◌||◌, ◌==◌, List, [], ◌∷◌, inl, inr, refl, subst, sym, append-nil, arith}
 use Rattle.std.specs.Prelude.{ℤ, IfOk, Result, Ok, Err}
 use Rattle.std.specs.List.{All, list_all}
 use Rattle.std.proofs.Math.Path.{fun_ext}
@@ -22,7 +22,6 @@ use Rattle.acl_packet.specs.AddressLists.{any_has}
 use Rattle.acl_sets.specs.Ranges.{holds, inside, Numbers, Only}
 use Rattle.acl_target.specs.declared.targets.Ending.{Ending}
 use Rattle.acl_target.specs.declared.targets.Kind.{Kind}
-use Rattle.acl_target.specs.declared.targets.Kind.TheVariants.{Cisco, Juniper, Iptables, Nftables}
 use Rattle.acl_platform.specs.declared.filters.Filter.{Filter}
 use Rattle.acl_platform.specs.declared.rules.Rule.{Rule}
 use Rattle.acl_platform.specs.SoundFilters.{has_test, has_verdict, is_named_protocol, IsRuleName, IsSound, IsSoundRule, is_tcp, tests_flags}
@@ -107,11 +106,8 @@ one-asks false false d h = (λ e. absurd (false≢true e), λ e. absurd (false�
 
 -- ---- a rule
 
-name-of : (kind : Kind) (name : List ℕ) → is_name name ≡ true → IsRuleName kind name
-name-of Cisco name h = inl h
-name-of Juniper name h = inl h
-name-of Iptables name h = inl h
-name-of Nftables name h = h
+name-of : (name : List ℕ) → is_name name ≡ true → IsRuleName name
+name-of name h = (name, [], [], [], h, inl refl, inl refl, inl refl, sym (append-nil name))
 
 pub sound : (kind : Kind) (families : Families) (r : Rule) → HasLeastLists r → HasFullSets r
     → words_fit families r ≡ true → numbers_fit r ≡ true → is_known kind r ≡ true → IsSoundRule kind families r
@@ -127,7 +123,7 @@ sound kind families r l s w n k =
     let flags = one-asks (tests_flags r.test) (is_reset r.verdict) (are_ones is_tcp r.protos) back.1 in
     record {
       family = words.0;
-      name = name-of kind r.name texts.0;
+      name = name-of r.name texts.0;
       note = texts.1;
       sources = record { least = l.sources; some = s.sources };
       destinations = record { least = l.destinations; some = s.destinations };

@@ -19,7 +19,7 @@ use Rattle.acl_packet.specs.Packets.{foreign_of}
 use Rattle.acl_terms.specs.Resolved.{is_empty_in, is_term_live}
 use Rattle.acl_platform.specs.declared.rules.Rule.{Rule}
 use Rattle.acl_platform.specs.declared.rules.Test.TheVariants.{Plain}
-use Rattle.acl_expand.specs.TermRules.{family_rules, just, rules_of, term_rules, verdict_on}
+use Rattle.acl_expand.specs.TermRules.{family_rules, just, pair_rules, rules_of, term_rules, verdict_on}
 use Rattle.acl_expand.specs.ExpansionSlips.{first_slip, header_slip, prefix_slip, prefixes_of, prefixes_with, slip_behind}
 use Rattle.policy_grammar.specs.TargetTexts.{LineText, line_meant}
 use Rattle.policy_grammar.specs.TargetTexts.{Choice}
@@ -139,19 +139,19 @@ mixed_expands kind target finds = record {
 }
 
 pub cisco_expands : Expands cisco (mixed_rules Cisco)
-unfolding term_rules family_rules is_empty_in is_term_live header_slip
+unfolding term_rules family_rules pair_rules is_empty_in is_term_live header_slip
 cisco_expands = mixed_expands Cisco cisco (record { rules_are = λ today i below. refl; no_header = λ today i below. refl })
 
 pub juniper_expands : Expands juniper (inet_rules Juniper)
-unfolding term_rules family_rules is_empty_in is_term_live header_slip
+unfolding term_rules family_rules pair_rules is_empty_in is_term_live header_slip
 juniper_expands = inet_expands Juniper juniper (record { rules_are = λ today i below. refl; no_header = λ today i below. refl })
 
 pub iptables_expands : Expands iptables (inet_rules Iptables)
-unfolding term_rules family_rules is_empty_in is_term_live header_slip
+unfolding term_rules family_rules pair_rules is_empty_in is_term_live header_slip
 iptables_expands = inet_expands Iptables iptables (record { rules_are = λ today i below. refl; no_header = λ today i below. refl })
 
 pub nftables_expands : Expands nftables (mixed_rules Nftables)
-unfolding term_rules family_rules is_empty_in is_term_live header_slip
+unfolding term_rules family_rules pair_rules is_empty_in is_term_live header_slip
 nftables_expands = mixed_expands Nftables nftables (record { rules_are = λ today i below. refl; no_header = λ today i below. refl })
 
 -- ---- all terms

@@ -256,6 +256,44 @@ fn policies_of_two_blocks_or_targets_are_written_whole(rt: HostRuntime) -> Resul
     expect(&rt, rt.alloc(), &WHOLE_CASES)
 }
 
+const EACH_SIDE: &[u8] = b"! cisco edge extended
+no ip access-list extended edge
+ip access-list extended edge
+ remark a-src
+ permit ip 10.0.0.0 0.0.0.127 any
+ remark a-dst
+ permit ip any 10.0.0.0 0.0.0.127
+ remark b-dst
+ deny ip host 192.0.2.10 10.0.0.128 0.0.0.127
+exit
+";
+
+static EITHER_SIDE: [Case; 2] = [
+    // of the second term the side of the source is empty
+    Case {
+        policy: b"header { target:: cisco edge extended }
+term a { address:: LOW action:: accept }
+term b { address:: HIGH source-address:: WEB action:: deny }
+",
+        file: Some(EACH_SIDE),
+        report: b"out/a.acl: cisco edge extended: entries 3\n",
+        ..CASE
+    },
+    Case {
+        policy: b"header { target:: iptables INPUT }
+term aaaaaaaaaaaaaaaaaaaaa { address:: LOW action:: accept }
+",
+        status: 1,
+        line: b"pol/a.pol:2: F41 NameLength aaaaaaaaaaaaaaaaaaaaa-src\n",
+        ..CASE
+    },
+];
+
+#[test]
+fn either_side_becomes_a_rule_for_each(rt: HostRuntime) -> Result<(), Fail> {
+    expect(&rt, rt.alloc(), &EITHER_SIDE)
+}
+
 const FOUR_PLATFORMS: &[u8] =
     b"header { target:: nftables inet input target:: iptables INPUT DROP target:: juniper six inet6 }
 term web { destination-address:: WEB SIX protocol:: tcp action:: accept }

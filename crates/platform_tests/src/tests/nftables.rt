@@ -1,11 +1,12 @@
 use crate::tests::generators::{
-    Case, are_written, expect_most_entries, expect_written, lines_of, text_of,
+    Case, LimitCase, are_written, expect_limits, expect_most_entries, expect_written, lines_of,
+    text_of,
 };
 use crate::tests::samples::{
     ANY, HEAD, Head, Sample, filter, prefixes, sound_filter, sound_rule_from, sound_rules,
 };
 use acl_packet::{Families, Family, Hook, Verdict};
-use acl_platform::{Platform, Rules, Test, check};
+use acl_platform::{Limit, Platform, Rules, Test, check};
 use acl_target::{Ending, Kind};
 use gen_nftables::Nftables;
 use std::test::Fail;
@@ -203,6 +204,27 @@ fn writes_prefixes_and_counts_them(rt: HostRuntime) -> Result<(), Fail> {
 #[test]
 fn takes_as_many_entries_as_a_device_is_given(rt: HostRuntime) -> Result<(), Fail> {
     expect_most_entries(&rt, rt.alloc(), &Nftables, &INPUT)
+}
+
+// A name of 128 bytes with the endings of its sides, and one byte more.
+const LONGEST: Sample = Sample {
+    name: b"nnnnnnnnnnnnnnnnnnnnnnnnnnnnnnnnnnnnnnnnnnnnnnnnnnnnnnnnnnnnnnnnnnnnnnnnnnnnnnnnnnnnnnnnnnnnnnnnnnnnnnnnnnnnnnnnnnnnnn-src-sport",
+    ..ANY
+};
+
+const LONGER: Sample = Sample {
+    name: b"nnnnnnnnnnnnnnnnnnnnnnnnnnnnnnnnnnnnnnnnnnnnnnnnnnnnnnnnnnnnnnnnnnnnnnnnnnnnnnnnnnnnnnnnnnnnnnnnnnnnnnnnnnnnnnnnnnnnnnn-src-sport",
+    ..ANY
+};
+
+static LIMITS: [LimitCase; 2] = [
+    (&[LONGEST, LONGEST], None),
+    (&[LONGEST, LONGER], Some(Limit::NameLength(1))),
+];
+
+#[test]
+fn takes_names_of_128_bytes_that_need_not_differ(rt: HostRuntime) -> Result<(), Fail> {
+    expect_limits(&rt, rt.alloc(), &Nftables, &LIMITS)
 }
 
 const EMPTY: &str = "## nftables input inet

@@ -193,6 +193,39 @@ static ESTABLISHED: [Row; 5] = [
     ),
 ];
 
+static SIDES: [Row; 5] = [
+    (
+        CISCO,
+        "term a {\n address:: LOW\n protocol:: udp\n port:: DNS\n action:: accept\n}",
+        "a-src-sport V4 Accept Plain; 17-17;; 167772160/25\na-src-dport V4 Accept Plain; 17-17; 53-53; 167772160/25\na-dst-sport V4 Accept Plain; 17-17;; 0/0\na-dst-dport V4 Accept Plain; 17-17; 53-53; 0/0\n",
+    ),
+    (
+        CISCO,
+        "term a {\n address:: LOW\n source-address:: HIGH\n action:: accept\n}",
+        "a-dst V4 Accept Plain;;; 167772288/25\n",
+    ),
+    (
+        "nftables mixed input",
+        "term a {\n address:: LOW SIX\n action:: deny\n}",
+        "a-src V4 Deny Plain;;; 167772160/25\na-dst V4 Deny Plain;;; 0/0\na-src V6 Deny Plain;;; 0/1\na-dst V6 Deny Plain;;; 0/0\n",
+    ),
+    (
+        "juniper e inet",
+        "term est {\n protocol:: tcp udp\n port:: DNS\n option:: established\n action:: accept\n}",
+        "est-sport-tcp V4 Accept AckOrRst; 6-6;; 0/0\nest-sport-udp V4 Accept Plain; 17-17; 1024-65535; 0/0\nest-dport-tcp V4 Accept AckOrRst; 6-6; 53-53; 0/0\n",
+    ),
+    (
+        CISCO,
+        "term a {\n address:: LOW\n source-address:: HIGH\n destination-address:: HIGH\n action:: accept\n}",
+        "",
+    ),
+];
+
+#[test]
+fn either_side_becomes_rules_by_sides(rt: HostRuntime) -> Result<(), Fail> {
+    expect(&rt, rt.alloc(), &SIDES)
+}
+
 #[test]
 fn established_becomes_rules_by_protocol(rt: HostRuntime) -> Result<(), Fail> {
     expect(&rt, rt.alloc(), &ESTABLISHED)
