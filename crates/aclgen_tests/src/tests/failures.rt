@@ -183,8 +183,7 @@ fn left_after(alloc: Global, words: &str, calls: &Calls) -> Result<Left, Memory>
 const DATED: &str =
     " --policy_file pol/a.pol --definitions_directory def --output_directory out --date 2026-01-15";
 
-const UNDATED: &str =
-    " --policy_file pol/a.pol --definitions_directory def --output_directory out";
+const UNDATED: &str = " --policy_file pol/a.pol --definitions_directory def --output_directory out";
 
 const WITHOUT_POLICY: &str =
     " --policy_file pol/b.pol --definitions_directory def --output_directory out --date 2026-01-15";
@@ -430,7 +429,10 @@ fn each_append_fails_once(rt: HostRuntime) -> Result<(), Fail> {
         }
         match files_before_the_cut(&left, &case) {
             Some(whole) => {
-                assert!(rt; whole == before || whole == before.saturating_add(1), "append {nth}");
+                assert!(rt;
+                    whole == before || whole == before.saturating_add(1),
+                    "append {nth}"
+                );
                 before = whole;
             }
             None => assert!(rt; false, "append {nth}"),

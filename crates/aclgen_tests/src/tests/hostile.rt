@@ -21,39 +21,25 @@ term t {
 }
 ";
 
-// The naming file, the policy, and one more file with its path.
-#[derive(Clone, Copy)]
-struct Input<'a> {
-    networks: &'a [u8],
-    policy: &'a [u8],
-    path: &'a str,
-    more: &'a [u8],
-}
-
-const INPUT: Input<'static> = Input {
-    networks: NETWORKS,
-    policy: POLICY,
-    path: "pol/e.inc",
-    more: b"",
-};
-
-fn tree_of(alloc: Global, input: &Input<'_>) -> Result<MemTree, Memory>
+// The naming file and the policy; and beside it a file that includes itself, and one without bytes.
+fn tree_of(alloc: Global, networks: &[u8], policy: &[u8]) -> Result<MemTree, Memory>
     ensures { IfOk result (λ t. (contents t).begun ≡ None) }
 {
     let mut tree = MemTree::new(alloc);
-    tree.put_file("def/n.net", input.networks)?;
-    tree.put_file("pol/a.pol", input.policy)?;
-    tree.put_file(input.path, input.more)?;
+    tree.put_file("def/n.net", networks)?;
+    tree.put_file("pol/a.pol", policy)?;
+    tree.put_file("pol/a.inc", b"#include 'a.inc'\n")?;
+    tree.put_file("pol/e.inc", b"")?;
     Ok(tree)
 }
 
-fn left_of(alloc: Global, input: &Input<'_>) -> Result<Left, Memory> {
-    left_by(alloc, tree_of(alloc, input)?, &PLAIN)
+fn left_of(alloc: Global, networks: &[u8], policy: &[u8]) -> Result<Left, Memory> {
+    left_by(alloc, tree_of(alloc, networks, policy)?, &PLAIN)
 }
 
 // Whether the input is refused with this line alone, and no file is made.
-fn is_refused(alloc: Global, input: &Input<'_>, line: &[u8]) -> Result<bool, Memory> {
-    let left = left_of(alloc, input)?;
+fn is_refused(alloc: Global, networks: &[u8], policy: &[u8], line: &[u8]) -> Result<bool, Memory> {
+    let left = left_of(alloc, networks, policy)?;
     Ok(
         left.status == 1
             && left.err.as_slice() == line
@@ -62,43 +48,33 @@ fn is_refused(alloc: Global, input: &Input<'_>, line: &[u8]) -> Result<bool, Mem
     )
 }
 
-static REFUSED: [(Input<'static>, &[u8]); 4] = [
+// Naming files, policies, and the lines on them.
+static REFUSED: [(&[u8], &[u8], &[u8]); 4] = [
     (
-        Input {
-            policy: b"#include 'a.inc'\n",
-            path: "pol/a.inc",
-            more: b"#include 'a.inc'\n",
-            ..INPUT
-        },
+        NETWORKS,
+        b"#include 'a.inc'\n",
         b"pol/a.inc:1: F21 IncludeDepth a.inc\n",
     ),
     (
-        Input {
-            policy: b"#include '../x'\n",
-            ..INPUT
-        },
+        NETWORKS,
+        b"#include '../x'\n",
         b"pol/a.pol:1: F22 IncludePath ../x\n",
     ),
+    (b"A = \x00", POLICY, b"def/n.net:1: F11 BadByte ?\n"),
     (
-        Input {
-            networks: b"A = \x00",
-            ..INPUT
-        },
-        b"def/n.net:1: F11 BadByte ?\n",
-    ),
-    (
-        Input {
-            policy: b"header {\n  target:: cisco edge extended\n}\nterm t {\n  comment:: \"x\n  action:: accept\n}\n",
-            ..INPUT
-        },
+        NETWORKS,
+        b"header {\n  target:: cisco edge extended\n}\nterm t {\n  comment:: \"x\n  action:: accept\n}\n",
         b"pol/a.pol:5: F23 Syntax \"\n",
     ),
 ];
 
 #[test]
 fn short_hostile_inputs_are_refused(rt: HostRuntime) -> Result<(), Fail> {
-    for (place, (input, line)) in REFUSED.iter().enumerate() {
-        assert!(rt; is_refused(rt.alloc(), input, line)?, "input {place}");
+    for (place, (networks, policy, line)) in REFUSED.iter().enumerate() {
+        assert!(rt;
+            is_refused(rt.alloc(), networks, policy, line)?,
+            "input {place}"
+        );
     }
     Ok(())
 }
@@ -133,8 +109,9 @@ fn many_hosts(alloc: Global) -> Result<Vec<u8>, Memory> {
 fn many_terms(alloc: Global, count: u32) -> Result<Vec<u8>, Memory> {
     let mut text = Vec::from_slice(alloc, b"header {\n  target:: cisco edge extended\n}\n")?;
     for i in 0..count {
-        let term =
-            format!(in alloc; "term t{i} {{\n  source-address:: L\n  action:: accept\n}}\n")?;
+        let term = format!(in alloc;
+            "term t{i} {{\n  source-address:: L\n  action:: accept\n}}\n"
+        )?;
         text.extend_from_slice(term.as_bytes())?;
     }
     Ok(text)
@@ -144,23 +121,13 @@ fn many_terms(alloc: Global, count: u32) -> Result<Vec<u8>, Memory> {
 fn long_hostile_inputs_are_refused(rt: HostRuntime) -> Result<(), Fail> {
     let alloc = rt.alloc();
     let includes = many(alloc, 1025, b"#include 'e.inc'\n")?;
-    let input = Input {
-        policy: &includes,
-        ..INPUT
-    };
-    assert!(rt; is_refused(alloc, &input, b"pol/a.pol:1025: F39 IncludeCount e.inc\n")?);
+    let line = b"pol/a.pol:1025: F39 IncludeCount e.inc\n";
+    assert!(rt; is_refused(alloc, NETWORKS, &includes, line)?);
     let spaces = many(alloc, 4_194_305, b" ")?;
-    let input = Input {
-        policy: &spaces,
-        ..INPUT
-    };
-    assert!(rt; is_refused(alloc, &input, b"pol/a.pol: F10 TooLong\n")?);
+    assert!(rt; is_refused(alloc, NETWORKS, &spaces, b"pol/a.pol: F10 TooLong\n")?);
     let names = many_names(alloc, 16_385)?;
-    let input = Input {
-        networks: &names,
-        ..INPUT
-    };
-    assert!(rt; is_refused(alloc, &input, b"def/n.net:16385: F16 TooMany N16384\n")?);
+    let line = b"def/n.net:16385: F16 TooMany N16384\n";
+    assert!(rt; is_refused(alloc, &names, POLICY, line)?);
     Ok(())
 }
 
@@ -169,12 +136,8 @@ fn long_hostile_inputs_are_refused(rt: HostRuntime) -> Result<(), Fail> {
 fn more_than_200000_prefixes_are_refused(rt: HostRuntime) -> Result<(), Fail> {
     let hosts = many_hosts(rt.alloc())?;
     let terms = many_terms(rt.alloc(), 20)?;
-    let input = Input {
-        networks: &hosts,
-        policy: &terms,
-        ..INPUT
-    };
-    assert!(rt; is_refused(rt.alloc(), &input, b"pol/a.pol:80: F45 TooManyPrefixes t19\n")?);
+    let line = b"pol/a.pol:80: F45 TooManyPrefixes t19\n";
+    assert!(rt; is_refused(rt.alloc(), &hosts, &terms, line)?);
     Ok(())
 }
 
@@ -186,14 +149,12 @@ ip access-list extended edge-in
 exit
 ";
 
+const WEB_POLICY: &[u8] =
+    b"header {\r\n  target:: cisco edge-in extended\r\n}\r\nterm web {\r\n  destination-address:: WEB\r\n  protocol:: tcp\r\n  action:: accept\r\n}\r\n";
+
 #[test]
 fn lines_may_end_in_a_carriage_return(rt: HostRuntime) -> Result<(), Fail> {
-    let input = Input {
-        networks: b"WEB = 192.0.2.10/32\r\n",
-        policy: b"header {\r\n  target:: cisco edge-in extended\r\n}\r\nterm web {\r\n  destination-address:: WEB\r\n  protocol:: tcp\r\n  action:: accept\r\n}\r\n",
-        ..INPUT
-    };
-    let left = left_of(rt.alloc(), &input)?;
+    let left = left_of(rt.alloc(), b"WEB = 192.0.2.10/32\r\n", WEB_POLICY)?;
     assert_eq!(rt; left.status, 0);
     assert_eq!(rt; left.tree.file("out/a.acl"), Some(WEB_LIST));
     assert_eq!(rt;
@@ -237,11 +198,7 @@ fn outcome_of(
     }
 }
 
-fn outcome_on_cisco(
-    alloc: Global,
-    text: &[u8],
-    packet: &Packet,
-) -> Result<Option<Outcome>, Memory>
+fn outcome_on_cisco(alloc: Global, text: &[u8], packet: &Packet) -> Result<Option<Outcome>, Memory>
     requires { IsPacket packet.now }
 {
     match cisco_lang::read(alloc, text)? {
@@ -250,11 +207,7 @@ fn outcome_on_cisco(
     }
 }
 
-fn outcome_on_junos(
-    alloc: Global,
-    text: &[u8],
-    packet: &Packet,
-) -> Result<Option<Outcome>, Memory>
+fn outcome_on_junos(alloc: Global, text: &[u8], packet: &Packet) -> Result<Option<Outcome>, Memory>
     requires { IsPacket packet.now }
 {
     match junos_lang::read(alloc, text)? {
@@ -353,11 +306,7 @@ fn is_of_the_term_alone(
     let (kind, target, path) = *platform;
     let (word, verdict) = *action;
     let policy = hostile_policy(alloc, target, word)?;
-    let input = Input {
-        policy: policy.as_bytes(),
-        ..INPUT
-    };
-    let left = left_of(alloc, &input)?;
+    let left = left_of(alloc, NETWORKS, policy.as_bytes())?;
     match left.tree.file(path) {
         Some(text) => Ok(left.status == 0 && decides(alloc, kind, text, verdict)?),
         None => Ok(false),
