@@ -1,3 +1,5 @@
+mod failures;
+mod hostile;
 mod jobs;
 mod options;
 mod words;

@@ -17,7 +17,7 @@ const NAMES: &[u8] =
 // The words of a run, in two parts, and which call of the outside fails in it: of the tree the one of this kind and
 // number.
 #[derive(Clone, Copy)]
-struct Run {
+pub(crate) struct Run {
     words: &'static str,
     more: &'static str,
     clock: bool,
@@ -26,7 +26,7 @@ struct Run {
     err: bool,
 }
 
-const PLAIN: Run = Run {
+pub(crate) const PLAIN: Run = Run {
     words: " --policy_file pol/a.pol --definitions_directory def --output_directory out",
     more: " --date 2026-01-15",
     clock: true,
@@ -73,28 +73,28 @@ fn sink(alloc: Global, fails: bool) -> Result<MemSink, Memory> {
 
 // What a run left: its status, its files and what was written on the two streams.
 #[derive(Drop)]
-struct Left {
-    status: u8,
-    tree: MemTree,
-    out: MemSink,
-    err: MemSink,
+pub(crate) struct Left {
+    pub(crate) status: u8,
+    pub(crate) tree: MemTree,
+    pub(crate) out: MemSink,
+    pub(crate) err: MemSink,
 }
 
 // The program is called here alone: each function that calls it proves its whole contract again.
-fn status(
+pub(crate) fn status<C: Clock>(
     alloc: Global,
     words: &[String],
     tree: &mut MemTree,
     out: &mut MemSink,
     err: &mut MemSink,
-    clock: &mut FixedClock,
+    clock: &mut C,
 ) -> u8
     requires { (contents tree.old).begun ≡ None }
 {
     status_of(&aclgen(alloc, words, tree, out, err, clock))
 }
 
-fn left_by(alloc: Global, tree: MemTree, run: &Run) -> Result<Left, Memory>
+pub(crate) fn left_by(alloc: Global, tree: MemTree, run: &Run) -> Result<Left, Memory>
     requires { (contents tree).begun ≡ None }
 {
     let line = format!(in alloc; "{}{}", run.words, run.more)?;

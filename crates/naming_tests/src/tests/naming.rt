@@ -357,35 +357,69 @@ fn many(alloc: Global, count: usize, front: &[u8], each: &[u8]) -> Result<Vec<u8
 }
 
 // Each name stands twice for the next one, and the last one for the word.
-fn chain(alloc: Global, count: u32, word: &str) -> Result<Vec<u8>, Fail> {
+fn falling(alloc: Global, word: &str) -> Result<Vec<u8>, Fail> {
     let mut text = Vec::new(alloc);
-    for i in 0..count {
+    for i in 0..8000u32 {
         let next = i + 1;
         text.extend_from_slice(format!(in alloc; "N{i} = N{next} N{next}\n")?.as_bytes())?;
     }
-    text.extend_from_slice(format!(in alloc; "N{count} = {word}\n")?.as_bytes())?;
+    text.extend_from_slice(format!(in alloc; "N8000 = {word}\n")?.as_bytes())?;
     Ok(text)
 }
 
+// The first name stands for the word, and each other one twice for the one before it.
+fn rising(alloc: Global, word: &str) -> Result<Vec<u8>, Fail> {
+    let mut text = Vec::new(alloc);
+    text.extend_from_slice(format!(in alloc; "N0 = {word}\n")?.as_bytes())?;
+    for before in 0..8000u32 {
+        let i = before + 1;
+        text.extend_from_slice(format!(in alloc; "N{i} = N{before} N{before}\n")?.as_bytes())?;
+    }
+    Ok(text)
+}
+
+// The chain and the name at its far end, whichever way it goes.
 #[test]
 fn a_long_chain_is_followed_to_its_end(rt: HostRuntime) -> Result<(), Fail> {
     let alloc = rt.alloc();
-    let base = example(&rt, alloc, &chain(alloc, 8000, "192.0.2.1")?, b"")?;
     let last = [Range {
         low: 0xc000_0201,
         high: 0xc000_0201,
     }];
-    expect_ranges(&rt, networks_of(alloc, &base, Family::V4, b"N0"), &last);
+    let up = example(&rt, alloc, &rising(alloc, "192.0.2.1")?, b"")?;
+    expect_ranges(&rt, networks_of(alloc, &up, Family::V4, b"N8000"), &last);
+    let down = example(&rt, alloc, &falling(alloc, "192.0.2.1")?, b"")?;
+    expect_ranges(&rt, networks_of(alloc, &down, Family::V4, b"N0"), &last);
+    Ok(())
+}
+
+// A text of many names, and the slip that is told of it.
+fn expect_long_slip(
+    rt: &impl Abort,
+    alloc: Global,
+    text: &[u8],
+    code: Code,
+    line: u32,
+    word: &[u8],
+) -> Result<(), Fail> {
+    let base = networks(rt, Base::new(alloc), 0, text)?;
+    expect_slip(rt, check(base), 0, code, line, word);
     Ok(())
 }
 
 #[test]
 fn a_ring_behind_a_long_chain_is_found(rt: HostRuntime) -> Result<(), Fail> {
-    let alloc = rt.alloc();
-    let text = chain(alloc, 8000, "N7999")?;
-    let base = networks(&rt, Base::new(alloc), 0, &text)?;
-    expect_slip(&rt, check(base), 0, Code::Cycle, 8000, b"N7999");
-    Ok(())
+    let text = falling(rt.alloc(), "N7999")?;
+    expect_long_slip(&rt, rt.alloc(), &text, Code::Cycle, 8000, b"N7999")
+}
+
+// All names are one ring, and a name behind it is defined nowhere.
+#[test]
+fn a_ring_of_all_names_is_found(rt: HostRuntime) -> Result<(), Fail> {
+    let mut text = rising(rt.alloc(), "N8000")?;
+    expect_long_slip(&rt, rt.alloc(), &text, Code::Cycle, 1, b"N0")?;
+    text.extend_from_slice(b"Z = Z0\n")?;
+    expect_long_slip(&rt, rt.alloc(), &text, Code::Undefined, 8002, b"Z0")
 }
 
 #[test]

@@ -96,7 +96,13 @@ pub(crate) fn expect_written<P: Platform>(
     Ok(())
 }
 
-// Whether the text is what becomes of filters that the platform takes, and is read back as a section for each.
+// How many line feeds the text has.
+fn count_lines(text: &str) -> u64 {
+    text.as_bytes().iter().filter(|byte| **byte == b'\n').count() as u64
+}
+
+// Whether the text is what becomes of filters that the platform takes, also where each has no rules: it is put line by
+// line, and is read back as a section for each.
 pub(crate) fn are_written<P: Platform>(
     alloc: Global,
     platform: &P,
@@ -109,8 +115,11 @@ pub(crate) fn are_written<P: Platform>(
 {
     let mut out = Whole::new(alloc);
     write_all(platform, filters, &mut out)?;
+    let mut lines = Lines::new();
+    write_all(platform, filters, &mut lines)?;
     Ok(
-        out.as_slice() == text.as_bytes()
+        lines.is_of(count_lines(text))
+            && out.as_slice() == text.as_bytes()
             && sections_of::<P>(alloc, out.as_slice())? == Some(filters.len()),
     )
 }
