@@ -1,4 +1,4 @@
--- The rules of a chain that a sound rule gives are valid: proved here, and need not be believed.
+-- The rules of a chain that a sound rule gives are valid.
 use Rattle.std.proofs.Common.{add-zero, zero-add, lit≤, ◌≡◌, ℕ, zero, suc, ◌+◌, ◌-◌, ◌<◌, ◌≤◌, Bool, true, false, ◌&&◌, ◌||◌, ◌==◌, cond, nat_eq, nat_le, nat_lt, List, [], ◌∷◌, ◌++◌, map, Option, is_none, refl, ap, sym, subst, ◌∙◌}
 use Rattle.std.specs.List.{AllByRecursion, IsDistinct, list_any, range_with_len}
 use Rattle.std.proofs.lemmas.Bool.{and_from, eqb-true, false_from_ne_true, false≢true, le-ltb, lt-leb, or_right}
@@ -27,8 +27,8 @@ use Rattle.acl_platform.proofs.ElementLaws.{addresses-are, numbers-are, ports-ar
 use Rattle.acl_platform.proofs.NamedNumbers.{named, no-icmp, protocol-is}
 use Rattle.acl_platform.proofs.RuleNumbers.{type-most}
 use Rattle.acl_grammar.specs.PortRanges.{IsPortRange}
-use Rattle.acl_grammar.specs.RuleParts.{has_port_proto, is_empty, is_proto}
-use Rattle.nft_lang.specs.Documents.{flags_fit, IsAddresses, IsRule, IsSet, IsType, ports_fit, ports_overlap, prefixes_overlap, types_fit, verdict_fits}
+use Rattle.acl_grammar.specs.RuleParts.{IsAddresses, has_port_proto, is_empty, is_proto}
+use Rattle.nft_lang.specs.Documents.{flags_fit, IsRule, IsSet, IsType, ports_fit, ports_overlap, prefixes_overlap, types_fit, verdict_fits}
 use Rattle.gen_nftables.specs.Sections.{chain_rule, flags_of}
 
 -- ---- addresses
@@ -70,7 +70,7 @@ addresses-apart ps false h = in-order-apart 0 ps h
 
 addresses-set : (f : Family) (ps : List Prefix) → IsFullList f ps → IsSet (IsAddresses f) prefixes_overlap (address_elements ps)
 addresses-set f ps h = record {
-  each = all-weaker (λ p k. record { of_family = k.0; some_bits = k.1 }) (address_elements ps) (addresses-are f ps h);
+  each = addresses-are f ps h;
   apart = addresses-apart ps (list_any (λ p. p.len == 0) ps) h.least.in_order;
 }
 

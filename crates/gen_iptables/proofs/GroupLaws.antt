@@ -1,5 +1,4 @@
--- Groups of ports hold what their set holds, and each is within the weight: proved here, and need not
--- be believed.
+-- Groups of ports hold what their set holds, and each is within the weight.
 use Rattle.std.proofs.Common.{◌≡◌, ℕ, zero, suc, ◌+◌, ◌-◌, ◌≤◌, Bool, true, false, ◌||◌, ◌==◌, cond, nat_le, List, [], ◌∷◌, length, take, drop, map, refl, ap, sym, subst, ◌∙◌, arith}
 use Rattle.std.specs.List.{AllByRecursion, list_any}
 use Rattle.std.proofs.lemmas.Bool.{true≢false}

@@ -1,5 +1,4 @@
--- The section of an accepted filter decides packets as the filter does: proved here, and need not
--- be believed.
+-- The section of an accepted filter decides packets as the filter does.
 use Rattle.std.proofs.Common.{◌≡◌, ℕ, ◌^◌, ◌<◌, ◌≤◌, Bool, true, false, ◌&&◌, ◌||◌, ◌==◌, cond, List, [], ◌∷◌, ◌++◌, map, Option, None, Some, refl, ap, sym, subst, ◌∙◌, append-nil}
 use Rattle.std.specs.List.{AllByRecursion, list_any}
 use Rattle.std.proofs.lemmas.Bool.{false≢true, or_parts, or_right}
@@ -40,9 +39,9 @@ use Rattle.ipt_lang.specs.declared.documents.Act.TheVariants.{Log, Decide}
 use Rattle.ipt_lang.specs.declared.documents.Flags.{Flags}
 use Rattle.ipt_lang.specs.declared.documents.Rule.{Rule as ChainRule}
 use Rattle.ipt_lang.specs.Walks.{address_holds, chains_walk, flags_hold, go_on, is_left, met, policy_verdict, rules_walk, section_outcome, walk}
-use Rattle.gen_iptables.specs.GroupLaws.{any-group, group_holds}
+use Rattle.gen_iptables.proofs.GroupLaws.{any-group, group_holds}
 use Rattle.gen_iptables.specs.Groups.{group_choices}
-use Rattle.gen_iptables.specs.SectionLaws.{chain-target, IsTaken, one-family, sound-rules}
+use Rattle.gen_iptables.proofs.SectionLaws.{chain-target, IsTaken, one-family, sound-rules}
 use Rattle.acl_platform.specs.Families.{family_of}
 use Rattle.gen_iptables.specs.Sections.{address_of, asks_state, Back, backs, chain_of, chain_rule, chain_rules, combinations, flag_choices, Front, fronts, Parts, policy_of, rules_for, section_of}
 

@@ -1,4 +1,4 @@
--- The section of an accepted filter is a document: proved here, and need not be believed.
+-- The section of an accepted filter is a document.
 use Rattle.std.proofs.Common.{◌≡◌, ◌≤◌, false, cond, nat_lt, List, [], ◌∷◌, length, map, None, Some, refl, ap, subst}
 use Rattle.std.specs.List.{AllByRecursion, IsDistinct}
 use Rattle.std.specs.Str.{bytes_eq}
@@ -17,11 +17,11 @@ use Rattle.acl_platform.proofs.AcceptedFilters.{names-differ, not-limited, rules
 use Rattle.acl_grammar.specs.RuleParts.{is_empty}
 use Rattle.junos_lang.specs.Documents.{IsTerm}
 use Rattle.junos_lang.specs.Texts.{Spells, text_of}
-use Rattle.gen_junos.specs.DecisionLaws.{one-family}
+use Rattle.gen_junos.proofs.DecisionLaws.{one-family}
 use Rattle.gen_junos.specs.Limits.{is_for_junos, limit_of, rule_limit}
 use Rattle.acl_platform.specs.Families.{family_of}
 use Rattle.gen_junos.specs.Sections.{default_term, entry_count, section_of, term_of, terms_of}
-use Rattle.gen_junos.specs.TermLaws.{term-is}
+use Rattle.gen_junos.proofs.TermLaws.{term-is}
 
 -- ---- a rule without a limit
 

@@ -1,5 +1,4 @@
--- The term of a rule that has no limit is one of a valid document: proved here, and need not be
--- believed.
+-- The term of a rule that has no limit is one of a valid document.
 use Rattle.std.proofs.Common.{lit≤, ◌≡◌, ◌≢◌, ℕ, ◌≤◌, Bool, true, false, ◌&&◌, ◌||◌, ◌==◌, cond, List, [], ◌∷◌, length, map, IfSome, is_none, refl, ap, sym, ◌∙◌}
 use Rattle.std.specs.List.{AllByRecursion, list_all}
 use Rattle.std.proofs.Math.Nat.{le_trans}

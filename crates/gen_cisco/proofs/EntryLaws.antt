@@ -1,5 +1,4 @@
--- The entries of a rule that has no limit are entries of a list: proved here, and need not be
--- believed.
+-- The entries of a rule that has no limit are entries of a list.
 use Rattle.std.proofs.Common.{subst, ◌≡◌, ℕ, ◌≤◌, true, false, ◌&&◌, ◌||◌, Option, None, Some, IfSome, is_none, refl, ap, sym, ◌∙◌}
 use Rattle.std.proofs.lemmas.Bool.{and_from, false≢true}
 use Rattle.std.proofs.Math.Nat.{suc-le-suc_iff}

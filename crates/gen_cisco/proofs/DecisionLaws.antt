@@ -1,5 +1,4 @@
--- The section of an accepted filter decides packets as the filter does: proved here, and need not
--- be believed.
+-- The section of an accepted filter decides packets as the filter does.
 use Rattle.std.proofs.Common.{zero-le, ◌≡◌, ◌≢◌, ℕ, ◌^◌, ◌<◌, Bool, true, false, ◌&&◌, ◌||◌, ◌==◌, cond, nat_le, nat_lt, unwrap_or, List, [], ◌∷◌, ◌++◌, ◌⊎◌, map, flat_map, Option, None, Some, inl, inr, refl, ap, sym, subst, ◌∙◌, append_assoc}
 use Rattle.std.specs.List.{AllByRecursion, list_any}
 use Rattle.std.proofs.lemmas.Bool.{and_from, false≢true, lt-ltb}
@@ -39,7 +38,7 @@ use Rattle.cisco_lang.specs.declared.documents.Item.TheVariants.{Remark, Entry a
 use Rattle.cisco_lang.specs.Documents.{heads_of}
 use Rattle.cisco_lang.specs.Walks.{ending, entry_holds, first_holding, flags_hold, has_entries, is_entry, items_of, port_holds, section_outcome, verdict_of, walk}
 use Rattle.gen_cisco.specs.Limits.{is_for_cisco, limit_of}
-use Rattle.gen_cisco.specs.SectionLaws.{device-is, rules-are}
+use Rattle.gen_cisco.proofs.SectionLaws.{device-is, rules-are}
 use Rattle.gen_cisco.specs.Sections.{closed, closing_entries, entry_of, flags_of, items_in, list_items, list_of, permits, rule_items, section_of, wide_entry}
 
 -- ---- one entry

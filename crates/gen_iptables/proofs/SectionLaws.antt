@@ -1,4 +1,4 @@
--- The section of an accepted filter is a document: proved here, and need not be believed.
+-- The section of an accepted filter is a document.
 use Rattle.std.proofs.Common.{lit≤, ◌≡◌, ℕ, ◌≤◌, Bool, true, false, cond, nat_le, nat_lt, List, [], ◌∷◌, length, map, None, Some, refl, ap, sym, subst}
 use Rattle.std.specs.List.{AllByRecursion, IsDistinct}
 use Rattle.std.specs.Str.{bytes_eq}
@@ -25,7 +25,7 @@ use Rattle.acl_platform.proofs.RuleNames.{name-safe, notes-safe, rule-name}
 use Rattle.ipt_lang.specs.Documents.{chain_names, IsChain}
 use Rattle.ipt_lang.specs.Texts.{Spells, text_of}
 use Rattle.gen_iptables.specs.Limits.{is_for_iptables, limit_of, rule_limit}
-use Rattle.gen_iptables.specs.RuleLaws.{rules-are-valid}
+use Rattle.gen_iptables.proofs.RuleLaws.{rules-are-valid}
 use Rattle.acl_platform.specs.Families.{family_of}
 use Rattle.gen_iptables.specs.Sections.{chain_of, entry_count, section_of}
 

@@ -1,4 +1,4 @@
--- The rules of a chain that a sound rule gives are valid: proved here, and need not be believed.
+-- The rules of a chain that a sound rule gives are valid.
 use Rattle.std.proofs.Common.{zero-le, ◌≡◌, ℕ, zero, suc, ◌≤◌, Bool, true, false, ◌&&◌, ◌||◌, ◌==◌, cond, List, [], ◌∷◌, map, Option, None, Some, IfSome, is_none, refl, ap, sym, ◌∙◌}
 use Rattle.std.specs.List.{AllByRecursion}
 use Rattle.std.proofs.lemmas.Bool.{and_from, false≢true, or_right}
@@ -23,12 +23,12 @@ use Rattle.acl_platform.proofs.CombinationFacts.{all-numbers, all-prefixes, OfNu
 use Rattle.acl_platform.proofs.PairLaws.{all-pairs}
 use Rattle.acl_platform.proofs.NamedNumbers.{named, no-icmp, protocol-is, type-is}
 use Rattle.acl_grammar.proofs.ListLaws.{all_flat}
-use Rattle.acl_grammar.specs.RuleParts.{has_port_proto, is_empty, is_proto}
+use Rattle.acl_grammar.specs.RuleParts.{IsAddresses, has_port_proto, is_empty, is_proto}
 use Rattle.ipt_lang.specs.declared.documents.Act.{Act}
 use Rattle.ipt_lang.specs.declared.documents.Act.TheVariants.{Log, Decide}
 use Rattle.ipt_lang.specs.declared.documents.Flags.{Flags}
-use Rattle.ipt_lang.specs.Documents.{act_fits, flags_fit, IsAddresses, IsRule, ports_fit, type_fits}
-use Rattle.gen_iptables.specs.GroupLaws.{all-groups, IsGroupOf}
+use Rattle.ipt_lang.specs.Documents.{act_fits, flags_fit, IsRule, ports_fit, type_fits}
+use Rattle.gen_iptables.proofs.GroupLaws.{all-groups, IsGroupOf}
 use Rattle.gen_iptables.specs.Groups.{group_choices}
 use Rattle.gen_iptables.specs.Sections.{address_of, Back, backs, chain_rule, chain_rules, combinations, ends_of, flag_choices, Front, fronts, Parts, rules_for}
 
@@ -75,7 +75,7 @@ some-bits (suc n) h = suc-le-suc_iff.1 zero-le
 
 address-by : (f : Family) (p : Prefix) (b : Bool) → (p.len == 0) ≡ b → IsPrefixOf f p → IfSome (cond b None (Some p)) (IsAddresses f)
 address-by f p true e h = tt
-address-by f p false e h = record { of_family = h; some_bits = some-bits p.len e }
+address-by f p false e h = (h, some-bits p.len e)
 
 address-is : (f : Family) (p : Prefix) → IsPrefixOf f p → IfSome (address_of p) (IsAddresses f)
 address-is f p h = address-by f p (p.len == 0) refl h

@@ -1,4 +1,4 @@
--- The section of an accepted filter is a document: proved here, and need not be believed.
+-- The section of an accepted filter is a document.
 use Rattle.std.proofs.Common.{lit≤, ◌≡◌, ℕ, ◌^◌, Bool, true, false, nat_le, nat_lt, T, ℤ, pos, negsuc, [], ◌∷◌, map, refl}
 use Rattle.std.specs.List.{AllByRecursion, IsDistinct}
 use Rattle.std.proofs.lemmas.Bool.{lt-ltb}
@@ -22,7 +22,7 @@ use Rattle.nft_lang.specs.declared.documents.Item.TheVariants.{Remark, Rule as A
 use Rattle.nft_lang.specs.Documents.{fits_i32, IsItem}
 use Rattle.nft_lang.specs.Texts.{Spells, text_of}
 use Rattle.gen_nftables.specs.Limits.{is_for_nftables, limit_of}
-use Rattle.gen_nftables.specs.RuleLaws.{rule-is}
+use Rattle.gen_nftables.proofs.RuleLaws.{rule-is}
 use Rattle.gen_nftables.specs.Sections.{chain_rule, remarks_in, rule_items, section_of}
 
 abbrev pub IsTaken : Filter → Type 0

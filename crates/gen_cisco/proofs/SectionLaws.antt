@@ -1,4 +1,4 @@
--- The section of an accepted filter is a document: proved here, and need not be believed.
+-- The section of an accepted filter is a document.
 use Rattle.std.proofs.Common.{◌≡◌, ℕ, suc, lit≤, ◌≤◌, Bool, true, false, cond, nat_lt, List, [], ◌∷◌, ◌++◌, length, map, flat_map, codes, None, Some, refl, ap, sym, subst, append-nil}
 use Rattle.std.specs.List.{AllByRecursion, IsDistinct}
 use Rattle.std.specs.Str.{bytes_eq}
@@ -34,7 +34,7 @@ use Rattle.cisco_lang.specs.declared.documents.Item.{Item}
 use Rattle.cisco_lang.specs.declared.documents.Item.TheVariants.{Remark, Entry as AnEntry}
 use Rattle.cisco_lang.specs.Documents.{heads_of, IsEntry, IsItem, IsList, match_all_fits}
 use Rattle.cisco_lang.specs.Texts.{Spells, text_of}
-use Rattle.gen_cisco.specs.EntryLaws.{entry-is, IsSayable}
+use Rattle.gen_cisco.proofs.EntryLaws.{entry-is, IsSayable}
 use Rattle.gen_cisco.specs.Limits.{asks_initial_in_ipv6, is_for_cisco, limit_of, rule_limit}
 use Rattle.gen_cisco.specs.Sections.{closed, entry_of, entry_count, items_in, list_of, rule_items, section_of, wide_entry}
 

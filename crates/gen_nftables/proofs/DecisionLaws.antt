@@ -1,5 +1,4 @@
--- The section of an accepted filter decides packets as the filter does: proved here, and need not
--- be believed.
+-- The section of an accepted filter decides packets as the filter does.
 use Rattle.std.proofs.Common.{zero-le, ◌≡◌, ◌≢◌, ℕ, suc, ◌^◌, ◌<◌, ◌≤◌, Bool, true, false, ◌&&◌, ◌||◌, ◌==◌, cond, unwrap_or, List, [], ◌∷◌, ◌++◌, map, flat_map, Option, None, Some, refl, ap, sym, subst, ◌∙◌, append_assoc}
 use Rattle.std.specs.List.{AllByRecursion, list_any}
 use Rattle.std.proofs.lemmas.Bool.{false≢true}
@@ -38,7 +37,7 @@ use Rattle.acl_grammar.specs.RuleParts.{addresses_hold, has_port, number_holds, 
 use Rattle.nft_lang.specs.declared.documents.Item.{Item}
 use Rattle.nft_lang.specs.declared.documents.Item.TheVariants.{Remark, Rule as ARule}
 use Rattle.nft_lang.specs.Walks.{first_holding, flags_hold, policy_verdict, rule_holds as chain_rule_holds, section_outcome, walk}
-use Rattle.gen_nftables.specs.SectionLaws.{hooked-is, IsTaken, sound-rules}
+use Rattle.gen_nftables.proofs.SectionLaws.{hooked-is, IsTaken, sound-rules}
 use Rattle.gen_nftables.specs.Sections.{accepts, asks_state, chain_rule, flags_of, remarks_in, rule_items, section_of}
 
 -- ---- the sets of a rule

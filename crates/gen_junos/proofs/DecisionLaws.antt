@@ -1,5 +1,4 @@
--- The section of an accepted filter decides packets as the filter does: proved here, and need not
--- be believed.
+-- The section of an accepted filter decides packets as the filter does.
 use Rattle.std.proofs.Common.{◌≡◌, ◌^◌, ◌<◌, Bool, true, false, ◌&&◌, cond, List, [], ◌∷◌, map, None, Some, refl, ap, sym, subst, ◌∙◌}
 use Rattle.std.specs.List.{AllByRecursion}
 use Rattle.std.proofs.lemmas.Bool.{false≢true}
