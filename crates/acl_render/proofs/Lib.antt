@@ -1,4 +1,5 @@
 pub mod TakenFilters
 pub mod LeftLaws
 pub mod FewerRulesLaws
+pub mod MeantTextsLaws
 pub mod ShortListsLaws
