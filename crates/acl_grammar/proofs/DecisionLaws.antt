@@ -10,8 +10,8 @@ use Rattle.acl_packet.specs.declared.addresses.Family.{Family}
 use Rattle.acl_packet.specs.declared.addresses.Family.TheVariants.{V4, V6}
 use Rattle.acl_packet.specs.declared.addresses.Prefix.{Prefix}
 use Rattle.acl_packet.specs.Addresses.{same_family, size_of, top_address, width_of, IsPrefixOf}
-use Rattle.acl_grammar.specs.PrefixCheckSteps.{is_aligned, is_prefix_of}
-use Rattle.acl_grammar.specs.RuleParts.{number_fits}
+use Rattle.acl_grammar.specs.PrefixCheckSteps.{is_addresses, is_aligned, is_prefix_of}
+use Rattle.acl_grammar.specs.RuleParts.{IsAddresses, number_fits}
 
 pub le_decides : (m n : ℕ) → Decides (nat_le m n) (m ≤ n)
 le_decides m n = (leb-true m n, le-leb m n)
@@ -52,6 +52,9 @@ prefix_decides f p =
     (Decides-and (same_family p.family f && nat_le p.len (width_of p.family)) (nat_le p.first (top_address p.family) && is_aligned p)
     (Decides-and (same_family p.family f) (nat_le p.len (width_of p.family)) (family_decides p.family f) len)
     (Decides-and (nat_le p.first (top_address p.family)) (is_aligned p) first (aligned_decides p)))
+
+pub addresses_decide : (f : Family) (p : Prefix) → Decides (is_addresses f p) (IsAddresses f p)
+addresses_decide f p = Decides-and (is_prefix_of f p) (nat_le 1 p.len) (prefix_decides f p) (le_decides 1 p.len)
 
 pub all_decides : {A : Type 0} (test : A → Bool) (P : A → Type 0) → ((x : A) → Decides (test x) (P x))
     → (xs : List A) → Decides (list_all test xs) (AllByRecursion P xs)

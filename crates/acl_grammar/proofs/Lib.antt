@@ -3,6 +3,7 @@ pub mod EachWordLaws
 pub mod JoinLaws
 pub mod ListLaws
 pub mod NamingLaws
+pub mod OutcomeLaws
 pub mod PortRangeLaws
 pub mod PutLaws
 pub mod RowLaws

@@ -1,7 +1,8 @@
 -- Documents of sections, the bytes that spell one, and what its sections do to a packet.
-use Rattle.std.specs.Prelude.{◌≡◌, ℕ, List, Option, flat_map, slice_get, option_and_then}
+use Rattle.std.specs.Prelude.{◌≡◌, ℕ, Bool, false, List, Option, flat_map, slice_get, option_and_then, option_map, unwrap_or}
 use Rattle.std.specs.List.{AllByRecursion, IsDistinct}
 use Rattle.std.specs.Str.{bytes_eq}
+use Rattle.acl_packet.specs.declared.addresses.Family.{Family}
 use Rattle.acl_packet.specs.declared.filtering.Outcome.{Outcome}
 use Rattle.acl_packet.specs.declared.packets.Packet.{Packet}
 use Rattle.acl_grammar.specs.Rows.{Row, text_of_rows}
@@ -30,3 +31,8 @@ abbrev pub outcome_at : {S : Type 0} → (S → Packet → Option Outcome) → L
     → Option Outcome
 outcome_at section_outcome doc which p =
     option_and_then (λ s. section_outcome s p) (slice_get doc which)
+
+-- The document has a section at that place, and that is one of the family.
+abbrev pub has_family_at : {S : Type 0} → (S → Family → Bool) → List S → ℕ → Family → Bool
+has_family_at has_family doc which family =
+    unwrap_or (option_map (λ s. has_family s family) (slice_get doc which)) false

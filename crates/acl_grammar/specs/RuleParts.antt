@@ -1,10 +1,11 @@
 -- Parts of rules that several languages have, and which packets they hold.
-use Rattle.std.specs.Prelude.{ℕ, Bool, true, false, ◌&&◌, ◌||◌, ◌==◌, nat_le, List, [], ◌∷◌, Option, None, Some, codes}
+use Rattle.std.specs.Prelude.{ℕ, ◌≤◌, Bool, true, false, ◌&&◌, ◌||◌, ◌==◌, nat_le, List, [], ◌∷◌, Option, None, Some, codes}
 use Rattle.std.specs.List.{list_any}
+use Rattle.acl_packet.specs.declared.addresses.Family.{Family}
 use Rattle.acl_packet.specs.declared.addresses.Prefix.{Prefix}
 use Rattle.acl_packet.specs.declared.packets.Conn.{Conn}
 use Rattle.acl_packet.specs.declared.packets.Packet.{Packet}
-use Rattle.acl_packet.specs.Addresses.{has_address}
+use Rattle.acl_packet.specs.Addresses.{IsPrefixOf, has_address}
 use Rattle.acl_packet.specs.Packets.{has_ports, is_tracked}
 
 abbrev pub is_empty : {A : Type 0} → List A → Bool
@@ -20,6 +21,10 @@ is_proto (Some proto) number = proto == number
 abbrev pub has_port_proto : Option ℕ → Bool
 has_port_proto None = false
 has_port_proto (Some proto) = has_ports proto
+
+-- A prefix of the family that is written: one of length 0 holds all addresses, and is no condition.
+abbrev pub IsAddresses : Family → Prefix → Type 0
+IsAddresses family p = IsPrefixOf family p × (1 ≤ p.len)
 
 -- A part that is not written holds every packet.
 abbrev pub number_holds : Option ℕ → ℕ → Bool

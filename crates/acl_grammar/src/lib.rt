@@ -4,10 +4,11 @@
 #![tactic(auto)]
 
 mod comparing;
-mod document_sections;
 mod drafts;
 mod each_word;
 mod family_words;
+mod item_lists;
+mod languages;
 mod laws;
 mod named;
 mod naming;
@@ -19,10 +20,11 @@ mod rule_parts;
 mod splitting;
 
 pub use comparing::is_text_of;
-pub use document_sections::{DocumentSection, outcome, read_document, sections};
 pub use drafts::{DocumentDraft, Draft};
 pub use each_word::{EachWord, WordForm};
 pub use family_words::{families_of, family_of};
+pub use item_lists::{ItemsBehind, OneItem};
+pub use languages::{Language, outcome, read_document, sections};
 pub use laws::{
     a_document_has_one_text, a_text_has_one_document, joined_documents_keep_outcomes,
     joined_texts_spell_joined_documents, the_empty_text_has_no_section,
@@ -31,7 +33,7 @@ pub use named::{Named, have_distinct_names};
 pub use naming::are_distinct;
 pub use pieces::{Address, FreeText, Number, Piece, Wildcard, Word, Words, put_words};
 pub use port_ranges::{PortRange, RangeWords, are_port_ranges, is_port_range};
-pub use prefix_checks::is_prefix_of;
+pub use prefix_checks::{is_addresses, is_prefix_of};
 pub use rows::{AsRows, Each, Form, Row, Rows};
 pub use rule_parts::{
     ACK, End, LogWord, RST, SYN, admit_addresses, admit_ports, has_port_proto, is_empty, is_proto,

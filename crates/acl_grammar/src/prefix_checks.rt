@@ -1,6 +1,7 @@
 ghost use Rattle.std.specs.Prelude.{◌≡◌, ◌≤◌, ◌↔◌, IsTrue};
 ghost use Rattle.acl_packet.specs.Addresses.{IsPrefixOf, width_of};
-ghost use Rattle.acl_grammar.specs.PrefixCheckSteps.{is_aligned, is_prefix_of};
+ghost use Rattle.acl_grammar.specs.PrefixCheckSteps.{is_addresses, is_aligned, is_prefix_of};
+ghost use Rattle.acl_grammar.specs.RuleParts.{IsAddresses};
 
 use acl_packet::{Family, Prefix};
 
@@ -12,6 +13,21 @@ pub fn is_prefix_of(family: Family, prefix: &Prefix) -> bool
     ensures exact { result ≡ is_prefix_of family prefix.now }
 {
     is_prefix(family, prefix)
+}
+
+/// Whether it is a prefix of the family, and not the one that holds all addresses.
+#[tactic(auto, using(crate::proofs::DecisionLaws::addresses_decide))]
+pub fn is_addresses(family: Family, prefix: &Prefix) -> bool
+    ensures is { IsTrue result ↔ IsAddresses family prefix.now }
+    ensures exact { result ≡ is_addresses family prefix.now }
+{
+    is_not_all(family, prefix)
+}
+
+fn is_not_all(family: Family, prefix: &Prefix) -> bool
+    ensures { result ≡ is_addresses family prefix.now }
+{
+    is_prefix_of(family, prefix) && 1 <= prefix.len
 }
 
 fn is_prefix(family: Family, prefix: &Prefix) -> bool

@@ -12,20 +12,19 @@ ghost use Rattle.acl_platform.specs.SoundFilters.{IsSound};
 
 use crate::filters::{Filter, Limit};
 use crate::limits::{RuleLimits, count_in_limit, first_limit};
-use acl_grammar::DocumentSection;
+use acl_grammar::Language;
 use acl_text::{Out, PutFault};
 
 /// A platform: a language of documents, and the section of it that a filter becomes.
 ///
-/// `Section` is what a document has for one filter. For the filters that the platform `handles`,
-/// `section` is the one that a filter becomes, and `count` the number of its entries. Why a rule is not
-/// taken, `RuleLimits` says.
+/// For the filters that the platform `handles`, `section` is what a document of its language has for
+/// the filter, and `count` the number of its entries. Why a rule is not taken, `RuleLimits` says.
 pub trait Platform: RuleLimits {
-    type Section: DocumentSection;
+    type Language: Language;
 
     ghost handles: { Filter → Bool };
 
-    ghost section: { Filter → Self.Section };
+    ghost section: { Filter → Self.Language.Section };
 
     ghost count: { Filter → ℕ };
 
@@ -43,16 +42,20 @@ pub trait Platform: RuleLimits {
         requires handled { handles filter.now ≡ true }
         requires sound { IsSound filter.now }
         ensures { Puts O.Out out.old out.new
-            (text_of_rows (flat_map Self.Section.rows (section filter.now ∷ []))) result };
+            (text_of_rows (flat_map Self.Language.rows (section filter.now ∷ []))) result };
 
-    ghost section_is_spelled: { (f : Filter)
-        → IsAccepted handles (λ g. filter_limit Self.limit (count g) g) f
-        → SpellsRows Self.Section.is_section Self.Section.names Self.Section.rows
-        (text_of_rows (flat_map Self.Section.rows (section f ∷ []))) (section f ∷ []) };
+    /// A law: the text of the section of a filter that is taken spells the document of that section.
+    fn a_section_is_spelled()
+        ensures { (f : Filter)
+            → IsAccepted handles (λ g. filter_limit Self.limit (count g) g) f
+            → SpellsRows Self.Language.is_section Self.Language.names Self.Language.rows
+            (text_of_rows (flat_map Self.Language.rows (section f ∷ []))) (section f ∷ []) };
 
-    ghost section_decides: { (f : Filter)
-        → IsAccepted handles (λ g. filter_limit Self.limit (count g) g) f
-        → DecidesAs f (Self.Section.outcome (section f)) };
+    /// A law: the section of a filter that is taken decides packets as the filter does.
+    fn a_section_decides()
+        ensures { (f : Filter)
+            → IsAccepted handles (λ g. filter_limit Self.limit (count g) g) f
+            → DecidesAs f (Self.Language.outcome (section f)) };
 }
 
 /// The number of entries of the filter's section, or the first limit that the filter meets. The filter

@@ -2,4 +2,5 @@ pub mod AcceptedTextLaws
 pub mod TakenFilters
 pub mod LeftLaws
 pub mod FewerRulesLaws
+pub mod MeantTextsLaws
 pub mod ShortListsLaws

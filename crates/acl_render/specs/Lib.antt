@@ -1,3 +1,4 @@
 pub mod PlatformFiles
 pub mod FewerRules
+pub mod MeantTexts
 pub mod ShortLists

@@ -10,6 +10,7 @@ use Rattle.acl_target.specs.Clashes.{clash}
 use Rattle.acl_platform.specs.declared.filters.Filter.{Filter}
 use Rattle.acl_platform.specs.declared.filters.Limit.{Limit}
 use Rattle.acl_platform.specs.SoundFilters.{IsSound, target_of}
+use Rattle.acl_languages.specs.PlatformLanguages.{SectionOn}
 use Rattle.cisco_lang.specs.Texts as cisco
 use Rattle.cisco_lang.specs.Walks as cisco_walks
 use Rattle.junos_lang.specs.Texts as junos
@@ -51,7 +52,14 @@ count_of f = count_on f.kind f
 
 -- ---- several filters of a platform
 
--- The text of the filters' sections, in order.
+-- The sections of the filters, in order.
+abbrev pub sections_on : (kind : Kind) → List Filter → List (SectionOn kind)
+sections_on Cisco filters = map cisco_sections.section_of filters
+sections_on Juniper filters = map junos_sections.section_of filters
+sections_on Iptables filters = map ipt_sections.section_of filters
+sections_on Nftables filters = map nft_sections.section_of filters
+
+-- The text of the filters' sections.
 abbrev pub text_on : Kind → List Filter → List ℕ
 text_on Cisco filters = cisco.text_of (map cisco_sections.section_of filters)
 text_on Juniper filters = junos.text_of (map junos_sections.section_of filters)

@@ -1,5 +1,8 @@
 ghost use Rattle.acl_render.specs.FewerRules.{FewerRulesFit};
+ghost use Rattle.acl_render.specs.MeantTexts.{MeantTextsAreFiles};
 ghost use Rattle.acl_render.specs.ShortLists.{TakenFiltersAreShort};
+
+use acl_languages::a_text_has_one_document;
 
 /// A law: where a platform takes a filter, it takes the filter with some of its rules taken out, as
 /// long as a rule of each family stays that had one.
@@ -12,3 +15,11 @@ pub fn fewer_rules_fit()
 pub fn taken_filters_are_short()
     ensures { TakenFiltersAreShort }
 {}
+
+/// A law: a platform's language accepts the text that is put for filters as a document that decides as
+/// is asked, exactly where it accepts it as the sections of the filters and these decide so.
+pub fn a_meant_text_is_that_of_the_sections()
+    ensures { MeantTextsAreFiles }
+{
+    a_text_has_one_document();
+}

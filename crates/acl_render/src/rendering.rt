@@ -2,6 +2,7 @@ ghost use Rattle.std.specs.Prelude.{IsTrue};
 ghost use Rattle.std.specs.List.{All};
 ghost use Rattle.acl_text.specs.Puts.{Puts};
 ghost use Rattle.acl_platform.specs.Platforms.{DecidesAs};
+ghost use Rattle.acl_languages.specs.PlatformLanguages.{IsTextFor};
 ghost use Rattle.acl_render.specs.PlatformFiles.{AreApart, IsFileText, IsTaken, text_on};
 
 use acl_platform::{Filter, write_all};
@@ -14,12 +15,14 @@ use gen_nftables::Nftables;
 
 /// Puts the text of the platform's file: the one document whose sections are those of the filters, in order.
 ///
-/// The section at a place decides the packets of its filter's families as that filter does.
+/// The platform's language accepts the text as one document with a section for each filter, in order, and
+/// the section at a place decides the packets of its filter's families as that filter does.
 pub fn render<O: Out>(kind: Kind, filters: &[Filter], out: &mut O) -> Result<(), PutFault>
     requires open { IsTrue (O.is_open out.old) }
     requires taken { All (IsTaken kind) filters.now }
     requires apart { AreApart filters.now }
     ensures puts { Puts O.Out out.old out.new (text_on kind filters.now) result }
+    ensures meant { IsTextFor kind DecidesAs filters.now (text_on kind filters.now) }
     ensures accepted { IsFileText kind DecidesAs filters.now filters.now }
 {
     match kind {

@@ -2,15 +2,15 @@
 //! does to a packet.
 #![tactic(auto)]
 
+mod cisco;
 mod documents;
 mod entry_drafts;
 mod list_rows;
 mod lists_drafts;
-mod reading;
 mod validity;
 mod walking;
 
-pub use acl_grammar::{outcome, sections};
+pub use acl_grammar::{outcome, read_document, sections};
+pub use cisco::Cisco;
 pub use documents::{AccessList, Doc, Entry, Flags, Item, Section};
 pub use list_rows::{EntryRow, ListEnd, ListHead, RemarkRow, SectionHead};
-pub use reading::read;

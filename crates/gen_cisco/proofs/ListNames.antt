@@ -21,7 +21,7 @@ use Rattle.acl_platform.specs.SoundFilters.{target_of}
 use Rattle.acl_platform.proofs.OneName.{clash-of}
 use Rattle.cisco_lang.specs.Documents.{heads_of, list_names}
 use Rattle.cisco_lang.specs.Texts.{list_rows, section_row, section_rows}
-use Rattle.gen_cisco.specs.SectionLaws.{lists-differ}
+use Rattle.gen_cisco.proofs.SectionLaws.{lists-differ}
 use Rattle.gen_cisco.specs.SectionNames.{FirstLine, ListsDiffer}
 use Rattle.gen_cisco.specs.Sections.{list_of, section_of}
 

@@ -1,6 +1,4 @@
-ghost use Rattle.gen_cisco.specs.DecisionLaws.{section_decides};
 ghost use Rattle.gen_cisco.specs.Limits.{is_for_cisco};
-ghost use Rattle.gen_cisco.specs.SectionLaws.{section_is_spelled};
 ghost use Rattle.gen_cisco.specs.Sections.{entry_count, section_of};
 
 use crate::counts::list_count;
@@ -8,13 +6,12 @@ use crate::section_rows::put_section;
 use acl_packet::{Families, Family};
 use acl_platform::{Filter, Platform};
 use acl_text::{Out, PutFault};
-use cisco_lang::Section;
 
 /// The platform of Cisco IOS extended access lists, of IPv4 and of IPv6.
 pub struct Cisco;
 
 impl Platform for Cisco {
-    type Section = Section;
+    type Language = cisco_lang::Cisco;
 
     ghost handles = { is_for_cisco };
 
@@ -38,7 +35,9 @@ impl Platform for Cisco {
         put_section(filter, out)
     }
 
-    ghost section_is_spelled = { section_is_spelled };
+    #[tactic(auto, using(crate::proofs::SectionLaws::section_is_spelled))]
+    fn a_section_is_spelled() {}
 
-    ghost section_decides = { section_decides };
+    #[tactic(auto, using(crate::proofs::DecisionLaws::section_decides))]
+    fn a_section_decides() {}
 }

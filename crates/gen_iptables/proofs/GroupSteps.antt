@@ -9,7 +9,7 @@ use Rattle.acl_sets.specs.declared.sets.Range.{Range}
 use Rattle.acl_sets.specs.ComputableSets.{is_all}
 use Rattle.acl_sets.specs.Groups.{group_length}
 use Rattle.acl_sets.specs.Ranges.{Numbers}
-use Rattle.gen_iptables.specs.GroupLaws.{groups-step}
+use Rattle.gen_iptables.proofs.GroupLaws.{groups-step}
 use Rattle.gen_iptables.specs.Groups.{behind_group, first_group, group_choices, groups, groups_up_to}
 
 first-of : (rs : List Range) → 0 < length rs → groups rs ≡ first_group rs ∷ groups (behind_group rs)

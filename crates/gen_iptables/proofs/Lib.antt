@@ -1,5 +1,9 @@
 pub mod AppendRows
+pub mod DecisionLaws
 pub mod EntryCounts
+pub mod GroupLaws
 pub mod GroupSteps
 pub mod NameLaws
 pub mod Rows
+pub mod RuleLaws
+pub mod SectionLaws

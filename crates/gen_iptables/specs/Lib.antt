@@ -1,11 +1,7 @@
 pub mod ChainRowSteps
 pub mod CountSteps
-pub mod DecisionLaws
 pub mod EntryRows
-pub mod GroupLaws
 pub mod Groups
 pub mod Limits
-pub mod RuleLaws
-pub mod SectionLaws
 pub mod SectionNames
 pub mod Sections

@@ -1,18 +1,15 @@
-ghost use Rattle.gen_iptables.specs.DecisionLaws.{section_decides};
 ghost use Rattle.gen_iptables.specs.Limits.{is_for_iptables};
-ghost use Rattle.gen_iptables.specs.SectionLaws.{section_is_spelled};
 ghost use Rattle.gen_iptables.specs.Sections.{entry_count, section_of};
 
 use crate::section_rows::put_section;
 use acl_platform::{Filter, Platform, count_rules};
 use acl_text::{Out, PutFault};
-use ipt_lang::Section;
 
 /// The platform of iptables and ip6tables: a chain for each rule, to which the hook's chain jumps.
 pub struct Iptables;
 
 impl Platform for Iptables {
-    type Section = Section;
+    type Language = ipt_lang::Iptables;
 
     ghost handles = { is_for_iptables };
 
@@ -29,7 +26,9 @@ impl Platform for Iptables {
         put_section(filter, out)
     }
 
-    ghost section_is_spelled = { section_is_spelled };
+    #[tactic(auto, using(crate::proofs::SectionLaws::section_is_spelled))]
+    fn a_section_is_spelled() {}
 
-    ghost section_decides = { section_decides };
+    #[tactic(auto, using(crate::proofs::DecisionLaws::section_decides))]
+    fn a_section_decides() {}
 }

@@ -1,18 +1,15 @@
-ghost use Rattle.gen_junos.specs.DecisionLaws.{section_decides};
 ghost use Rattle.gen_junos.specs.Limits.{is_for_junos};
-ghost use Rattle.gen_junos.specs.SectionLaws.{section_is_spelled};
 ghost use Rattle.gen_junos.specs.Sections.{entry_count, section_of};
 
 use crate::section_rows::put_section;
 use acl_platform::{Filter, Platform, count_rules};
 use acl_text::{Out, PutFault};
-use junos_lang::Section;
 
 /// The platform of Junos firewall filters, of IPv4 or of IPv6.
 pub struct Junos;
 
 impl Platform for Junos {
-    type Section = Section;
+    type Language = junos_lang::Junos;
 
     ghost handles = { is_for_junos };
 
@@ -34,7 +31,9 @@ impl Platform for Junos {
         put_section(filter, out)
     }
 
-    ghost section_is_spelled = { section_is_spelled };
+    #[tactic(auto, using(crate::proofs::SectionLaws::section_is_spelled))]
+    fn a_section_is_spelled() {}
 
-    ghost section_decides = { section_decides };
+    #[tactic(auto, using(crate::proofs::DecisionLaws::section_decides))]
+    fn a_section_decides() {}
 }

@@ -1,19 +1,17 @@
-ghost use Rattle.gen_nftables.specs.DecisionLaws.{section_decides};
 ghost use Rattle.gen_nftables.specs.Limits.{is_for_nftables};
-ghost use Rattle.gen_nftables.specs.SectionLaws.{section_is_spelled};
 ghost use Rattle.gen_nftables.specs.Sections.{entry_count, section_of};
 
 use crate::section_rows::{ChainItems, head_of};
 use acl_grammar::Rows;
 use acl_platform::{Filter, Platform, count_rules};
 use acl_text::{Out, PutFault};
-use nft_lang::{Section, SectionEnd};
+use nft_lang::SectionEnd;
 
 /// The platform of nftables: a table with one base chain for each target.
 pub struct Nftables;
 
 impl Platform for Nftables {
-    type Section = Section;
+    type Language = nft_lang::Nftables;
 
     ghost handles = { is_for_nftables };
 
@@ -35,7 +33,9 @@ impl Platform for Nftables {
         (head_of(filter), (items, SectionEnd)).put_rows(out)
     }
 
-    ghost section_is_spelled = { section_is_spelled };
+    #[tactic(auto, using(crate::proofs::SectionLaws::section_is_spelled))]
+    fn a_section_is_spelled() {}
 
-    ghost section_decides = { section_decides };
+    #[tactic(auto, using(crate::proofs::DecisionLaws::section_decides))]
+    fn a_section_decides() {}
 }

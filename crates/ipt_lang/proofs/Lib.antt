@@ -3,3 +3,4 @@ pub mod PortWords
 pub mod RuleReadingLaws
 pub mod SafeRows
 pub mod ValidityLaws
+pub mod WalkLaws

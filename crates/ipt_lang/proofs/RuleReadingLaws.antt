@@ -18,6 +18,7 @@ use Rattle.acl_grammar.specs.PortRanges.{IsPortRange}
 use Rattle.acl_grammar.proofs.ListLaws.{all_map}
 use Rattle.acl_grammar.proofs.PortRangeLaws.{range-again, range-lacks}
 use Rattle.acl_grammar.proofs.RowLaws.{cut_none, cut_there}
+use Rattle.acl_grammar.specs.RuleParts.{IsAddresses}
 use Rattle.ipt_lang.specs.declared.documents.Rule.{Rule}
 use Rattle.ipt_lang.specs.declared.documents.Act.{Act}
 use Rattle.ipt_lang.specs.declared.documents.Act.TheVariants.{Log, Decide}
@@ -25,7 +26,7 @@ use Rattle.ipt_lang.specs.declared.documents.Flags.{Flags}
 use Rattle.ipt_lang.specs.declared.documents.Flags.TheVariants.{Ack, Rst, SynNotAck}
 use Rattle.ipt_lang.specs.declared.rule_drafts.Next.TheVariants.{Keyword}
 use Rattle.ipt_lang.specs.declared.rule_drafts.RuleDraft.{RuleDraft}
-use Rattle.ipt_lang.specs.Documents.{IsAddresses, IsRule, ports_fit, type_fits, flags_fit, act_fits}
+use Rattle.ipt_lang.specs.Documents.{IsRule, ports_fit, type_fits, flags_fit, act_fits}
 use Rattle.ipt_lang.specs.Texts.{proto_word, proto_words, address_words, range_word, is_single, key_words, port_list_words, ports_words, type_words, flags_words, state_words, reset_words, act_words, front_words, back_words, rule_words}
 use Rattle.ipt_lang.specs.ReadingSteps.{draft, no_rule, named_proto_in, proto_in, one_or_none, ranges_among, ranges_in, act_in, next_in, with_word, with_value, take_word, rule_in}
 
@@ -80,13 +81,13 @@ source_read : (f : Family) (r : Rule) (o : Option Prefix) → r.src ≡ None →
     → read (at f r) (address_words (codes "-s") o) ≡ at f (record r { src = o })
 unfolding address_words with_value with_word next_in
 source_read f r None e h = ap (λ o. at f (record r { src = o })) e
-source_read f r (Some p) e h = ap (λ o. at f (record r { src = o })) (spelled-again f p h.of_family.1 h.of_family.0)
+source_read f r (Some p) e h = ap (λ o. at f (record r { src = o })) (spelled-again f p h.0.1 h.0.0)
 
 destination_read : (f : Family) (r : Rule) (o : Option Prefix) → r.dst ≡ None → IfSome o (IsAddresses f)
     → read (at f r) (address_words (codes "-d") o) ≡ at f (record r { dst = o })
 unfolding address_words with_value with_word next_in
 destination_read f r None e h = ap (λ o. at f (record r { dst = o })) e
-destination_read f r (Some p) e h = ap (λ o. at f (record r { dst = o })) (spelled-again f p h.of_family.1 h.of_family.0)
+destination_read f r (Some p) e h = ap (λ o. at f (record r { dst = o })) (spelled-again f p h.0.1 h.0.0)
 
 -- ---- ports
 

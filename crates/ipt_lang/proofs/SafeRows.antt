@@ -18,6 +18,7 @@ use Rattle.acl_grammar.specs.RowSteps.{IsWord, AreWords, IsRow, AreRows}
 use Rattle.acl_grammar.proofs.ListLaws.{all_flat, all_map}
 use Rattle.acl_grammar.proofs.PortRangeLaws.{range_word as range_is_word}
 use Rattle.acl_grammar.proofs.WordLaws.{word, decimal_word, prefix_word, plain_word, text_words}
+use Rattle.acl_grammar.specs.RuleParts.{IsAddresses}
 use Rattle.ipt_lang.specs.declared.documents.Section.{Section}
 use Rattle.ipt_lang.specs.declared.documents.Chain.{Chain}
 use Rattle.ipt_lang.specs.declared.documents.Rule.{Rule}
@@ -25,7 +26,7 @@ use Rattle.ipt_lang.specs.declared.documents.Act.{Act}
 use Rattle.ipt_lang.specs.declared.documents.Act.TheVariants.{Log, Decide}
 use Rattle.ipt_lang.specs.declared.documents.Flags.{Flags}
 use Rattle.ipt_lang.specs.declared.documents.Flags.TheVariants.{Ack, Rst, SynNotAck}
-use Rattle.ipt_lang.specs.Documents.{IsAddresses, IsRule, is_chain_name, IsRemark, IsChain, IsSection, hook_word, family_word}
+use Rattle.ipt_lang.specs.Documents.{IsRule, is_chain_name, IsRemark, IsChain, IsSection, hook_word, family_word}
 use Rattle.ipt_lang.specs.Texts.{proto_word, proto_words, address_words, range_word, is_single, key_words, port_list_words, ports_words, type_words, flags_words, state_words, reset_words, act_words, front_words, back_words, rule_words, chain_name, remark_rows, rule_rows, chain_row, jump_row, chain_rows, default_word, default_rows, head_rows, section_rows}
 
 -- ---- words of a rule
@@ -55,7 +56,7 @@ proto_safe f (Some n) h = (word (codes "-p") refl refl, (proto_word_safe f n h.1
 address_safe : (key : List ℕ) (f : Family) (o : Option Prefix) → IsWord key → IfSome o (IsAddresses f) → AreWords (address_words key o)
 unfolding address_words
 address_safe key f None k h = tt
-address_safe key f (Some p) k h = (k, (prefix_word p h.of_family.1, tt))
+address_safe key f (Some p) k h = (k, (prefix_word p h.0.1, tt))
 
 range_safe : (ports : ℕ × ℕ) → IsPortRange ports → IsWord (range_word ports)
 range_safe ports h = range_is_word 58 ports h refl refl

@@ -11,14 +11,14 @@ use Rattle.acl_text.specs.Names.{is_safe_text}
 use Rattle.acl_grammar.specs.NamingSteps.{are_distinct}
 use Rattle.acl_grammar.specs.PortRangeSteps.{is_port_range}
 use Rattle.acl_grammar.specs.PrefixCheckSteps.{is_prefix_of}
-use Rattle.acl_grammar.specs.RuleParts.{number_fits}
-use Rattle.acl_grammar.proofs.DecisionLaws.{le_decides, number_decides, type_decides, prefix_decides, all_decides}
+use Rattle.acl_grammar.specs.RuleParts.{IsAddresses, number_fits}
+use Rattle.acl_grammar.proofs.DecisionLaws.{addresses_decide, le_decides, number_decides, type_decides, all_decides}
 use Rattle.acl_grammar.proofs.NamingLaws.{distinct_decides}
 use Rattle.acl_grammar.proofs.PortRangeLaws.{ranges_decide}
 use Rattle.ipt_lang.specs.declared.documents.Section.{Section}
 use Rattle.ipt_lang.specs.declared.documents.Chain.{Chain}
 use Rattle.ipt_lang.specs.declared.documents.Rule.{Rule}
-use Rattle.ipt_lang.specs.Documents.{weight_of, weight, IsPortList, IsAddresses, parts_fit, IsRule, is_chain_name, IsRemark, IsChain, chain_names, IsSection, name_of, hook_names}
+use Rattle.ipt_lang.specs.Documents.{weight_of, weight, IsPortList, parts_fit, IsRule, is_chain_name, IsRemark, IsChain, chain_names, IsSection, name_of, hook_names}
 use Rattle.ipt_lang.specs.ValiditySteps.{has_room, is_port_list, is_address, are_numbers, are_addresses, are_ports, is_rule, are_remarks, is_chain, is_section}
 
 is_itself : (b : Bool) → Decides b (b ≡ true)
@@ -45,9 +45,7 @@ list_decides ranges =
 
 address_decides : (f : Family) (o : Option Prefix) → Decides (is_address f o) (IfSome o (IsAddresses f))
 address_decides f None = (λ h. tt, λ h. refl)
-address_decides f (Some p) =
-    Decides-like (is_address f (Some p)) (λ h. record { of_family = h.0; some_bits = h.1 }) (λ h. (h.of_family, h.some_bits))
-    (Decides-and (is_prefix_of f p) (nat_le 1 p.len) (prefix_decides f p) (le_decides 1 p.len))
+address_decides f (Some p) = addresses_decide f p
 
 rule_decides : (f : Family) (r : Rule) → Decides (is_rule f r) (IsRule f r)
 rule_decides f r =

@@ -6,16 +6,14 @@ use Rattle.std.specs.List.{AllByRecursion, IsDistinct, sum_by}
 use Rattle.std.specs.Str.{bytes_eq}
 use Rattle.acl_packet.specs.declared.addresses.Family.{Family}
 use Rattle.acl_packet.specs.declared.addresses.Family.TheVariants.{V4, V6}
-use Rattle.acl_packet.specs.declared.addresses.Prefix.{Prefix}
 use Rattle.acl_packet.specs.declared.filtering.Hook.{Hook}
 use Rattle.acl_packet.specs.declared.filtering.Hook.TheVariants.{Input, Output, Forward}
 use Rattle.acl_packet.specs.declared.filtering.Verdict.TheVariants.{Reset, Left}
-use Rattle.acl_packet.specs.Addresses.{IsPrefixOf}
 use Rattle.acl_packet.specs.Packets.{icmp_of}
 use Rattle.acl_text.specs.Names.{is_name, is_safe_text}
 use Rattle.acl_grammar.specs.Documents.{IsDocumentOf}
 use Rattle.acl_grammar.specs.PortRanges.{IsPortRange}
-use Rattle.acl_grammar.specs.RuleParts.{has_port_proto, is_empty, is_proto}
+use Rattle.acl_grammar.specs.RuleParts.{IsAddresses, has_port_proto, is_empty, is_proto}
 use Rattle.ipt_lang.specs.declared.documents.Section.{Section}
 use Rattle.ipt_lang.specs.declared.documents.Chain.{Chain}
 use Rattle.ipt_lang.specs.declared.documents.Rule.{Rule}
@@ -34,11 +32,6 @@ weight ranges = sum_by weight_of ranges
 pub record IsPortList (ranges : List (ℕ × ℕ)) : Type 0 where
   pub each : AllByRecursion IsPortRange ranges
   pub light : weight ranges ≤ 15
-
--- Not all addresses: a prefix of length 0 holds all, and is not written.
-pub record IsAddresses (family : Family) (prefix : Prefix) : Type 0 where
-  pub of_family : IsPrefixOf family prefix
-  pub some_bits : 1 ≤ prefix.len
 
 -- Ports belong to TCP, UDP or SCTP, a type to the family's ICMP, flags and a reset to TCP.
 abbrev pub ports_fit : Rule → Bool

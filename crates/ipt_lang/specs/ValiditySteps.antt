@@ -6,7 +6,7 @@ use Rattle.acl_packet.specs.declared.addresses.Prefix.{Prefix}
 use Rattle.acl_text.specs.Names.{is_safe_text}
 use Rattle.acl_grammar.specs.NamingSteps.{are_distinct}
 use Rattle.acl_grammar.specs.PortRangeSteps.{is_port_range}
-use Rattle.acl_grammar.specs.PrefixCheckSteps.{is_prefix_of}
+use Rattle.acl_grammar.specs.PrefixCheckSteps.{is_addresses}
 use Rattle.acl_grammar.specs.RuleParts.{number_fits}
 use Rattle.ipt_lang.specs.declared.documents.Section.{Section}
 use Rattle.ipt_lang.specs.declared.documents.Chain.{Chain}
@@ -23,7 +23,7 @@ is_port_list ranges = list_all is_port_range ranges && has_room 15 ranges
 
 abbrev pub is_address : Family → Option Prefix → Bool
 is_address family None = true
-is_address family (Some p) = is_prefix_of family p && nat_le 1 p.len
+is_address family (Some p) = is_addresses family p
 
 abbrev pub are_numbers : Rule → Bool
 are_numbers r = number_fits 1 255 r.proto && number_fits 0 254 r.itype

@@ -5,15 +5,15 @@
 mod chain_rows;
 mod chains_drafts;
 mod documents;
+mod iptables;
 mod ports;
-mod reading;
 mod rule_drafts;
 mod rule_words;
 mod validity;
 mod walking;
 
-pub use acl_grammar::{outcome, sections};
+pub use acl_grammar::{outcome, read_document, sections};
 pub use chain_rows::{ChainHead, JumpRow, RemarkRow, RuleRow, SectionHead};
 pub use documents::{Act, Chain, Doc, Flags, Rule, Section};
+pub use iptables::Iptables;
 pub use ports::PortLists;
-pub use reading::read;

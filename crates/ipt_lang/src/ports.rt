@@ -1,9 +1,8 @@
-ghost use Rattle.std.specs.Prelude.{◌≡◌, ◌∷◌, ◌&&◌, IsTrue, List, ℕ, flat_map, map};
+ghost use Rattle.std.specs.Prelude.{◌≡◌, ◌&&◌, List, ℕ, map};
 ghost use Rattle.std.specs.List.{join_with_byte};
-ghost use Rattle.acl_text.specs.Puts.{Puts};
 ghost use Rattle.ipt_lang.specs.Texts.{is_single, key_words, port_list_words, ports_words, range_word};
 
-use acl_grammar::{Piece, PortRange, Word, WordForm, Words, put_words};
+use acl_grammar::{ItemsBehind, OneItem, Piece, PortRange, Word, WordForm, Words, put_words};
 use acl_text::{Out, PutFault};
 
 /// The words of a rule's source and destination ports, each range in a form. The plain form is written
@@ -119,56 +118,14 @@ impl<'a, T, F: WordForm<T>> Piece for Listing<'a, T, F> {
         match self.items {
             [] => Ok(()),
             [first, others @ ..] => {
-                (
-                    One { item: first, form },
-                    Others {
-                        items: others,
-                        form,
-                    },
-                )
-                    .put_into(out)
+                let comma: &[u8] = b",";
+                let rest = ItemsBehind {
+                    separator: comma,
+                    items: others,
+                    form,
+                };
+                (OneItem { item: first, form }, rest).put_into(out)
             }
         }
     }
-}
-
-#[derive(Drop)]
-struct One<'a, T, F> {
-    item: &'a T,
-    form: &'a F,
-}
-
-impl<'a, T, F: WordForm<T>> Piece for One<'a, T, F> {
-    ghost text = { λ o. F.item_text o.form.now o.item.now };
-
-    fn put_into<O: Out>(&self, out: &mut O) -> Result<(), PutFault> {
-        self.form.put_item_into(self.item, out)
-    }
-}
-
-// Items, each behind a comma.
-#[derive(Drop)]
-struct Others<'a, T, F> {
-    items: &'a [T],
-    form: &'a F,
-}
-
-impl<'a, T, F: WordForm<T>> Piece for Others<'a, T, F> {
-    ghost text = { λ o. flat_map (λ x. 44 ∷ F.item_text o.form.now x) o.items.now };
-
-    fn put_into<O: Out>(&self, out: &mut O) -> Result<(), PutFault> {
-        put_others(self.items, self.form, out)
-    }
-}
-
-fn put_others<T, F: WordForm<T>, O: Out>(items: &[T], form: &F, out: &mut O) -> Result<(), PutFault>
-    requires { IsTrue (O.is_open out.old) }
-    ensures { Puts O.Out out.old out.new
-        (flat_map (λ x. 44 ∷ F.item_text form.now x) items.now) result }
-{
-    let comma: &[u8] = b",";
-    for item in items {
-        (comma, One { item, form }).put_into(out)?;
-    }
-    Ok(())
 }

@@ -7,7 +7,7 @@ ghost use Rattle.ipt_lang.specs.ValiditySteps.{are_addresses, are_numbers, are_p
 
 use crate::documents::{Act, Chain, Rule, Section};
 use acl_grammar::{
-    Named, are_port_ranges, has_port_proto, have_distinct_names, is_prefix_of, is_proto,
+    Named, are_port_ranges, has_port_proto, have_distinct_names, is_addresses, is_proto,
     number_fits,
 };
 use acl_packet::{Family, Hook, Prefix, Verdict};
@@ -107,7 +107,7 @@ fn is_address(family: Family, address: &Option<Prefix>) -> bool
     ensures { result ≡ is_address family address.now }
 {
     match address {
-        Some(prefix) => is_prefix_of(family, prefix) && 1 <= prefix.len,
+        Some(prefix) => is_addresses(family, prefix),
         None => true,
     }
 }

@@ -32,9 +32,10 @@ use Rattle.junos_lang.specs.declared.documents.JTest.{JTest}
 use Rattle.junos_lang.specs.declared.documents.JTest.TheVariants.{Established, Initial, Rst}
 use Rattle.acl_grammar.specs.declared.rule_parts.End.{End}
 use Rattle.acl_grammar.specs.declared.rule_parts.End.TheVariants.{Source, Destination}
+use Rattle.acl_grammar.specs.RuleParts.{IsAddresses}
 use Rattle.junos_lang.specs.declared.conditions.Condition.TheVariants.{SourcePort, DestinationPort, IcmpType}
 use Rattle.junos_lang.specs.declared.filters_drafts.FiltersDraft.{FiltersDraft}
-use Rattle.junos_lang.specs.Documents.{IsListed, IsTerm, IsSection, ports_fit, types_fit, test_fits, verdict_fits, family_word}
+use Rattle.junos_lang.specs.Documents.{IsTerm, IsSection, ports_fit, types_fit, test_fits, verdict_fits, family_word}
 use Rattle.junos_lang.specs.Texts.{closing, prefix_row, address_rows, protocol_of, list_row, list_rows, range_word, test_rows, condition_rows, from_rows, then_rows, note_row, note_rows, term_row, term_rows, head_rows, end_rows, section_rows, text_of}
 use Rattle.junos_lang.specs.ReadingSteps.{one_or_none, numbers_in, ranges_in, listed_prefix_in, note_in, no_term, with_prefix, with_list, with_word, with_pair, end_in, no_section, no_draft, take_outer, take_head, take_row}
 use Rattle.junos_lang.proofs.SafeRows.{sections_safe}
@@ -57,7 +58,7 @@ then d m e xs ys h k = fold-append take_row d xs ys ∙ ap (λ s. read s ys) h �
 semicolon_foreign : IsForeign 59
 semicolon_foreign = record { hex = refl; digit = refl; dot = refl; colon = refl }
 
-prefix_again : (f : Family) (p : Prefix) → IsListed f p → listed_prefix_in f (prefix_text p ++ codes ";") ≡ Some p
+prefix_again : (f : Family) (p : Prefix) → IsAddresses f p → listed_prefix_in f (prefix_text p ++ codes ";") ≡ Some p
 unfolding listed_prefix_in
 prefix_again f p h =
     ap (λ o. o >>= (λ q. spelled_prefix_in f q.0)) (cut-again 59 (prefix_text p) [] (prefix-lacks 59 p h.0.1 semicolon_foreign refl))
@@ -75,7 +76,7 @@ more_prefixes : (end : End) (p : Prefix) (ps : List Prefix) (t : JTerm) → with
 more_prefixes Source p ps t = ap (λ l. record t { src = l }) (append_assoc t.src (p ∷ []) ps)
 more_prefixes Destination p ps t = ap (λ l. record t { dst = l }) (append_assoc t.dst (p ∷ []) ps)
 
-prefixes_read : (ss : List Section) (s : Section) (t : JTerm) (end : End) (ps : List Prefix) → AllByRecursion (IsListed s.family) ps
+prefixes_read : (ss : List Section) (s : Section) (t : JTerm) (end : End) (ps : List Prefix) → AllByRecursion (IsAddresses s.family) ps
     → read (draft ss s t end) (map prefix_row ps) ≡ draft ss s (with_prefixes end ps t) end
 unfolding take_row
 prefixes_read ss s t end [] h = ap (λ u. draft ss s u end) (no_prefixes end t)
@@ -83,7 +84,7 @@ prefixes_read ss s t end (p ∷ ps) h =
     ap (λ o. read (draft ss s (with_prefix t end o) end) (map prefix_row ps)) (prefix_again s.family p h.0)
     ∙ prefixes_read ss s (with_prefix t end (Some p)) end ps h.1 ∙ ap (λ u. draft ss s u end) (more_prefixes end p ps t)
 
-address_read : (ss : List Section) (s : Section) (t : JTerm) (end : End) (ps : List Prefix) → AllByRecursion (IsListed s.family) ps
+address_read : (ss : List Section) (s : Section) (t : JTerm) (end : End) (ps : List Prefix) → AllByRecursion (IsAddresses s.family) ps
     → read (at ss s t) (address_rows end ps) ≡ at ss s (with_prefixes end ps t)
 unfolding address_rows take_row with_pair with_word end_in
 address_read ss s t end [] h = ap (at ss s) (no_prefixes end t)

@@ -2,3 +2,4 @@ pub mod ConditionLaws
 pub mod DocumentLaws
 pub mod SafeRows
 pub mod ValidityLaws
+pub mod WalkLaws

@@ -23,9 +23,10 @@ use Rattle.junos_lang.specs.declared.documents.JTest.{JTest}
 use Rattle.junos_lang.specs.declared.documents.JTest.TheVariants.{Established, Initial, Rst}
 use Rattle.acl_grammar.specs.declared.rule_parts.End.{End}
 use Rattle.acl_grammar.specs.declared.rule_parts.End.TheVariants.{Source, Destination}
+use Rattle.acl_grammar.specs.RuleParts.{IsAddresses}
 use Rattle.junos_lang.specs.declared.conditions.Condition.{Condition}
 use Rattle.junos_lang.specs.declared.conditions.Condition.TheVariants.{Protocol, NextHeader, SourcePort, DestinationPort, IcmpType}
-use Rattle.junos_lang.specs.Documents.{IsListed, IsTerm, IsSection, family_word}
+use Rattle.junos_lang.specs.Documents.{IsTerm, IsSection, family_word}
 use Rattle.junos_lang.specs.Texts.{closing, end_word, prefix_row, address_rows, condition_word, protocol_of, list_row, list_rows, range_word, test_rows, condition_rows, from_rows, verdict_words, syslog_rows, then_rows, note_row, note_rows, term_row, term_rows, head_rows, end_rows, section_rows}
 
 brace : IsWord (codes "{")
@@ -44,7 +45,7 @@ begins-append : (w v : List ℕ) (words : List (List ℕ)) → begins (v ∷ wor
 begins-append [] v words h = h
 begins-append (b ∷ bs) v words h = refl
 
-prefix_safe : (f : Family) (p : Prefix) → IsListed f p → IsRow (prefix_row p)
+prefix_safe : (f : Family) (p : Prefix) → IsAddresses f p → IsRow (prefix_row p)
 prefix_safe f p h =
     let w = prefix_word p h.0.1 in
     record {
@@ -52,12 +53,12 @@ prefix_safe f p h =
       words = (word (prefix_text p ++ codes ";") (has-append 32 (prefix_text p) (codes ";") w.no_space refl) (has-append 10 (prefix_text p) (codes ";") w.no_feed refl), tt);
     }
 
-addresses_safe : (f : Family) (s : End) (ps : List Prefix) → AllByRecursion (IsListed f) ps → AreRows (address_rows s ps)
+addresses_safe : (f : Family) (s : End) (ps : List Prefix) → AllByRecursion (IsAddresses f) ps → AreRows (address_rows s ps)
 unfolding address_rows
 addresses_safe f s [] h = tt
 addresses_safe f s (p ∷ ps) h = (
   record { start = (end_safe s).1; words = ((end_safe s).0, (brace, tt)) },
-  all_append IsRow (map prefix_row (p ∷ ps)) (closing 20 ∷ []) (all_map (IsListed f) IsRow prefix_row (prefix_safe f) (p ∷ ps) h) (closing_safe 20, tt),
+  all_append IsRow (map prefix_row (p ∷ ps)) (closing 20 ∷ []) (all_map (IsAddresses f) IsRow prefix_row (prefix_safe f) (p ∷ ps) h) (closing_safe 20, tt),
 )
 
 condition_safe : (c : Condition) (words : List (List ℕ)) → IsWord (condition_word c) × (begins (condition_word c ∷ words) ≡ true)

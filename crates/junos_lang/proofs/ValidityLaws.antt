@@ -12,15 +12,15 @@ use Rattle.acl_packet.specs.Addresses.{same_family}
 use Rattle.acl_text.specs.Names.{is_name, is_filter_name, is_safe_text}
 use Rattle.acl_grammar.specs.NamingSteps.{are_distinct}
 use Rattle.acl_grammar.specs.PortRangeSteps.{is_port_range}
-use Rattle.acl_grammar.specs.PrefixCheckSteps.{is_prefix_of}
-use Rattle.acl_grammar.proofs.DecisionLaws.{le_decides, prefix_decides, all_decides}
+use Rattle.acl_grammar.specs.PrefixCheckSteps.{is_addresses, is_prefix_of}
+use Rattle.acl_grammar.proofs.DecisionLaws.{addresses_decide, le_decides, all_decides}
 use Rattle.acl_grammar.proofs.NamingLaws.{distinct_decides}
 use Rattle.acl_grammar.proofs.PortRangeLaws.{ranges_decide}
-use Rattle.acl_grammar.specs.RuleParts.{is_empty}
+use Rattle.acl_grammar.specs.RuleParts.{IsAddresses, is_empty}
 use Rattle.junos_lang.specs.declared.documents.Section.{Section}
 use Rattle.junos_lang.specs.declared.documents.JTerm.{JTerm}
-use Rattle.junos_lang.specs.Documents.{parts_fit, IsListed, IsTerm, term_names, IsSection, family_word, name_of, filter_names}
-use Rattle.junos_lang.specs.ValiditySteps.{is_note, is_listed, are_named, are_addresses, are_ports, are_numbers, is_term, is_section}
+use Rattle.junos_lang.specs.Documents.{parts_fit, IsTerm, term_names, IsSection, family_word, name_of, filter_names}
+use Rattle.junos_lang.specs.ValiditySteps.{is_note, are_named, are_addresses, are_ports, are_numbers, is_term, is_section}
 
 -- two names are the same where family and filter's name are
 pub same_names : (f g : Family) (a b : List ℕ) → (same_family f g && bytes_eq a b) ≡ bytes_eq (family_word f ++ 32 ∷ a) (family_word g ++ 32 ∷ b)
@@ -38,14 +38,11 @@ note_decides : (o : Option (List ℕ)) → Decides (is_note o) (IfSome o (λ tex
 note_decides None = (λ h. tt, λ h. refl)
 note_decides (Some text) = holds (is_safe_text text)
 
-listed_decides : (f : Family) (p : Prefix) → Decides (is_listed f p) (IsListed f p)
-listed_decides f p = Decides-and (is_prefix_of f p) (nat_le 1 p.len) (prefix_decides f p) (le_decides 1 p.len)
-
 term_decides : (f : Family) (t : JTerm) → Decides (is_term f t) (IsTerm f t)
 term_decides f t =
     let names = Decides-and (is_note t.note) (is_name t.name) (note_decides t.note) (holds (is_name t.name)) in
-    let listed = all_decides (is_listed f) (IsListed f) (listed_decides f) in
-    let addresses = Decides-and (list_all (is_listed f) t.src) (list_all (is_listed f) t.dst) (listed t.src) (listed t.dst) in
+    let listed = all_decides (is_addresses f) (IsAddresses f) (addresses_decide f) in
+    let addresses = Decides-and (list_all (is_addresses f) t.src) (list_all (is_addresses f) t.dst) (listed t.src) (listed t.dst) in
     let ports = Decides-and (list_all is_port_range t.sports) (list_all is_port_range t.dports) (ranges_decide t.sports) (ranges_decide t.dports) in
     let byte : ℕ → Bool = λ n. nat_lt n 256 in
     let type : ℕ → Bool = λ n. nat_le n 254 in

@@ -7,15 +7,13 @@ use Rattle.std.specs.List.{list_all, AllByRecursion, IsDistinct}
 use Rattle.std.specs.Str.{bytes_eq}
 use Rattle.acl_packet.specs.declared.addresses.Family.{Family}
 use Rattle.acl_packet.specs.declared.addresses.Family.TheVariants.{V4, V6}
-use Rattle.acl_packet.specs.declared.addresses.Prefix.{Prefix}
 use Rattle.acl_packet.specs.declared.filtering.Verdict.{Verdict}
 use Rattle.acl_packet.specs.declared.filtering.Verdict.TheVariants.{Reset, Left}
-use Rattle.acl_packet.specs.Addresses.{IsPrefixOf}
 use Rattle.acl_packet.specs.Packets.{icmp_of}
 use Rattle.acl_text.specs.Names.{is_name, is_filter_name, is_safe_text}
 use Rattle.acl_grammar.specs.Documents.{IsDocumentOf}
 use Rattle.acl_grammar.specs.PortRanges.{IsPortRange}
-use Rattle.acl_grammar.specs.RuleParts.{is_empty}
+use Rattle.acl_grammar.specs.RuleParts.{IsAddresses, is_empty}
 use Rattle.junos_lang.specs.declared.documents.Section.{Section}
 use Rattle.junos_lang.specs.declared.documents.JTerm.{JTerm}
 
@@ -65,16 +63,12 @@ abbrev pub parts_fit : Family → JTerm → Bool
 parts_fit family t =
     ports_fit t && (types_fit family t && (test_fits t && verdict_fits t.verdict t.protos))
 
--- A prefix that a term lists is one of the family; all addresses are no condition.
-abbrev pub IsListed : Family → Prefix → Type 0
-IsListed family p = IsPrefixOf family p × (1 ≤ p.len)
-
 -- A term of a filter of the family. The type 255 has no number here.
 pub record IsTerm (family : Family) (t : JTerm) : Type 0 where
   pub noted : IfSome t.note (λ text. is_safe_text text ≡ true)
   pub named : is_name t.name ≡ true
-  pub sources : AllByRecursion (IsListed family) t.src
-  pub destinations : AllByRecursion (IsListed family) t.dst
+  pub sources : AllByRecursion (IsAddresses family) t.src
+  pub destinations : AllByRecursion (IsAddresses family) t.dst
   pub protocols : AllByRecursion (λ n. n < 256) t.protos
   pub source_ports : AllByRecursion IsPortRange t.sports
   pub destination_ports : AllByRecursion IsPortRange t.dports

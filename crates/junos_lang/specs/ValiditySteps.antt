@@ -6,7 +6,7 @@ use Rattle.acl_packet.specs.declared.addresses.Prefix.{Prefix}
 use Rattle.acl_text.specs.Names.{is_name, is_filter_name, is_safe_text}
 use Rattle.acl_grammar.specs.NamingSteps.{are_distinct}
 use Rattle.acl_grammar.specs.PortRangeSteps.{is_port_range}
-use Rattle.acl_grammar.specs.PrefixCheckSteps.{is_prefix_of}
+use Rattle.acl_grammar.specs.PrefixCheckSteps.{is_addresses}
 use Rattle.acl_grammar.specs.RuleParts.{is_empty}
 use Rattle.junos_lang.specs.declared.documents.Section.{Section}
 use Rattle.junos_lang.specs.declared.documents.JTerm.{JTerm}
@@ -16,14 +16,11 @@ abbrev pub is_note : Option (List ℕ) → Bool
 is_note None = true
 is_note (Some text) = is_safe_text text
 
-abbrev pub is_listed : Family → Prefix → Bool
-is_listed family p = is_prefix_of family p && nat_le 1 p.len
-
 abbrev pub are_named : JTerm → Bool
 are_named t = is_note t.note && is_name t.name
 
 abbrev pub are_addresses : Family → JTerm → Bool
-are_addresses family t = list_all (is_listed family) t.src && list_all (is_listed family) t.dst
+are_addresses family t = list_all (is_addresses family) t.src && list_all (is_addresses family) t.dst
 
 abbrev pub are_ports : JTerm → Bool
 are_ports t = list_all is_port_range t.sports && list_all is_port_range t.dports

@@ -8,12 +8,12 @@ mod document_rows;
 mod documents;
 mod filter_rows;
 mod filters_drafts;
-mod reading;
+mod junos;
 mod validity;
 mod walking;
 
-pub use acl_grammar::{outcome, sections};
+pub use acl_grammar::{outcome, read_document, sections};
 pub use condition_rows::{FromPart, PortRange, Values};
 pub use documents::{Doc, JTerm, JTest, Section};
 pub use filter_rows::{NoteRow, SectionEnd, SectionHead, TermEnd, TermHead, ThenRows};
-pub use reading::read;
+pub use junos::Junos;

@@ -1,10 +1,11 @@
 ghost use Rattle.std.specs.Prelude.{◌≡◌, ◌==◌, ◌||◌, nat_le, nat_lt};
 ghost use Rattle.std.specs.List.{list_all};
+ghost use Rattle.acl_grammar.specs.PrefixCheckSteps.{is_addresses};
 ghost use Rattle.junos_lang.specs.Documents.{are_tcp_or_udp, is_alone, name_of, parts_fit, ports_fit, test_fits, types_fit, verdict_fits};
-ghost use Rattle.junos_lang.specs.ValiditySteps.{are_addresses, are_named, are_numbers, are_ports, is_listed, is_note, is_section, is_term};
+ghost use Rattle.junos_lang.specs.ValiditySteps.{are_addresses, are_named, are_numbers, are_ports, is_note, is_section, is_term};
 
 use crate::documents::{JTerm, Section};
-use acl_grammar::{Named, are_port_ranges, have_distinct_names, is_prefix_of};
+use acl_grammar::{Named, are_port_ranges, have_distinct_names, is_addresses};
 use acl_packet::{Family, Prefix, Verdict};
 use acl_text::{Bytes, is_filter_name, is_name, is_safe_text};
 
@@ -73,15 +74,9 @@ fn are_addresses(family: Family, term: &JTerm) -> bool
 }
 
 fn are_listed(family: Family, prefixes: &[Prefix]) -> bool
-    ensures { result ≡ list_all (is_listed family) prefixes.now }
+    ensures { result ≡ list_all (is_addresses family) prefixes.now }
 {
-    prefixes.iter().all(|prefix| is_listed(family, prefix))
-}
-
-fn is_listed(family: Family, prefix: &Prefix) -> bool
-    ensures { result ≡ is_listed family prefix.now }
-{
-    is_prefix_of(family, prefix) && 1 <= prefix.len
+    prefixes.iter().all(|prefix| is_addresses(family, prefix))
 }
 
 fn are_ports(term: &JTerm) -> bool

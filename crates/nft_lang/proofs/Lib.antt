@@ -4,3 +4,4 @@ pub mod RuleReadingLaws
 pub mod SafeRows
 pub mod SetLaws
 pub mod ValidityLaws
+pub mod WalkLaws

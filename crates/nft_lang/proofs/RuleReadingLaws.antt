@@ -26,7 +26,7 @@ use Rattle.acl_text.proofs.DigitLaws.{decimal-lacks}
 use Rattle.acl_text.proofs.Printed.{IsForeign}
 use Rattle.acl_grammar.specs.PortRanges.{IsPortRange}
 use Rattle.acl_grammar.proofs.PortRangeLaws.{range-again, range-lacks}
-use Rattle.acl_grammar.specs.RuleParts.{log_words}
+use Rattle.acl_grammar.specs.RuleParts.{IsAddresses, log_words}
 use Rattle.nft_lang.specs.declared.documents.Rule.{Rule}
 use Rattle.nft_lang.specs.declared.documents.Flags.{Flags}
 use Rattle.nft_lang.specs.declared.documents.Flags.TheVariants.{Rst, SynNotAck}
@@ -34,7 +34,7 @@ use Rattle.acl_grammar.specs.declared.rule_parts.End.TheVariants.{Source, Destin
 use Rattle.nft_lang.specs.declared.rule_drafts.Next.{Next}
 use Rattle.nft_lang.specs.declared.rule_drafts.Next.TheVariants.{Keyword, Addresses, Ports, Types}
 use Rattle.nft_lang.specs.declared.rule_drafts.RuleDraft.{RuleDraft}
-use Rattle.nft_lang.specs.Documents.{IsAddresses, IsType, IsRule, ports_fit, types_fit, flags_fit, verdict_fits}
+use Rattle.nft_lang.specs.Documents.{IsType, IsRule, ports_fit, types_fit, flags_fit, verdict_fits}
 use Rattle.nft_lang.specs.Texts.{with_commas, set_words, ports_word, family_words, proto_words, address_word, icmp_word, port_word, flags_words, state_words, verdict_words, addresses_words, ports_words, types_words, ending_words, rule_words}
 use Rattle.nft_lang.specs.ReadingSteps.{draft, no_rule, up_to, next_in, with_test, with_verdict, with_address, with_ports, with_type, in_set, take_address, take_ports, take_type, take_as, take_word, first_family, rule_in}
 
@@ -88,13 +88,13 @@ unfolding up_to spelled_prefix_in prefix_in full_in block_in ipv4_in ipv6_in sid
 no_prefix f = (refl, refl)
 
 address_taken : (r : Rule) (w : List ℕ) (p : Prefix) → IsAddresses r.family p → up_to 44 w ≡ prefix_text p → spelled_prefix_in r.family (up_to 44 w) ≡ Some p
-address_taken r w p h e = ap (spelled_prefix_in r.family) e ∙ spelled-again r.family p h.of_family.1 h.of_family.0
+address_taken r w p h e = ap (spelled_prefix_in r.family) e ∙ spelled-again r.family p h.0.1 h.0.0
 
 comma_foreign : IsForeign 44
 comma_foreign = record { hex = refl; digit = refl; dot = refl; colon = refl }
 
 address_lacks : (f : Family) (p : Prefix) → IsAddresses f p → has_byte 44 (prefix_text p) ≡ false
-address_lacks f p h = prefix-lacks 44 p h.of_family.1 comma_foreign refl
+address_lacks f p h = prefix-lacks 44 p h.0.1 comma_foreign refl
 
 source_opened : (r : Rule) → read (draft r Keyword) (address_word r.family ∷ codes "saddr" ∷ codes "{" ∷ []) ≡ draft r (Addresses Source)
 unfolding take_as take_address with_test with_verdict next_in

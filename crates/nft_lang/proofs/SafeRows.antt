@@ -25,14 +25,14 @@ use Rattle.acl_grammar.specs.RowSteps.{begins, IsRow, IsWord, AreWords, AreRows}
 use Rattle.acl_grammar.proofs.ListLaws.{all_flat, all_map}
 use Rattle.acl_grammar.proofs.PortRangeLaws.{range_word}
 use Rattle.acl_grammar.proofs.WordLaws.{word, decimal_word, prefix_word, text_words}
-use Rattle.acl_grammar.specs.RuleParts.{log_words}
+use Rattle.acl_grammar.specs.RuleParts.{IsAddresses, log_words}
 use Rattle.nft_lang.specs.declared.documents.Section.{Section}
 use Rattle.nft_lang.specs.declared.documents.Item.{Item}
 use Rattle.nft_lang.specs.declared.documents.Item.TheVariants.{Remark, Rule as ARule}
 use Rattle.nft_lang.specs.declared.documents.Rule.{Rule}
 use Rattle.nft_lang.specs.declared.documents.Flags.{Flags}
 use Rattle.nft_lang.specs.declared.documents.Flags.TheVariants.{Rst, SynNotAck}
-use Rattle.nft_lang.specs.Documents.{IsAddresses, IsType, IsRule, IsItem, IsSection, fits_i32, table_name}
+use Rattle.nft_lang.specs.Documents.{IsType, IsRule, IsItem, IsSection, fits_i32, table_name}
 use Rattle.nft_lang.specs.Texts.{with_commas, set_words, ports_word, family_words, proto_words, address_word, icmp_word, port_word, flags_words, state_words, verdict_words, addresses_words, ports_words, types_words, ending_words, rule_words, item_rows, hook_word, families_word, table_word, default_word, priority_word, head_rows, end_rows, section_rows}
 
 -- ---- words that begin a rule, and no remark and no chain
@@ -225,7 +225,7 @@ verdict_safe Left = (word (codes "drop") refl refl, tt)
 addresses_safe : (fs : Families) (r : Rule) → IsRule fs r → AreWords (addresses_words r.family r.src r.dst)
 unfolding addresses_words
 addresses_safe fs r h =
-    let each : (p : Prefix) → IsAddresses r.family p → IsWord (prefix_text p) = λ p k. prefix_word p k.of_family.1 in
+    let each : (p : Prefix) → IsAddresses r.family p → IsWord (prefix_text p) = λ p k. prefix_word p k.0.1 in
     let front = address_safe r.family in
     all_append IsWord (set_words (address_word r.family) (codes "saddr") (map prefix_text r.src)) (set_words (address_word r.family) (codes "daddr") (map prefix_text r.dst))
     (set_safe (IsAddresses r.family) (address_word r.family) (codes "saddr") prefix_text front (word (codes "saddr") refl refl) each r.src h.sources.each)

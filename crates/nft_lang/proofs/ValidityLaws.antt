@@ -15,16 +15,16 @@ use Rattle.acl_packet.specs.declared.addresses.Prefix.{Prefix}
 use Rattle.acl_packet.specs.Addresses.{covers}
 use Rattle.acl_grammar.specs.PortRangeSteps.{is_port_range}
 use Rattle.acl_grammar.specs.PortRanges.{IsPortRange}
-use Rattle.acl_grammar.specs.PrefixCheckSteps.{is_prefix_of}
-use Rattle.acl_grammar.specs.RuleParts.{number_fits}
-use Rattle.acl_grammar.proofs.DecisionLaws.{le_decides, number_decides, prefix_decides, all_decides}
+use Rattle.acl_grammar.specs.PrefixCheckSteps.{is_addresses, is_prefix_of}
+use Rattle.acl_grammar.specs.RuleParts.{IsAddresses, number_fits}
+use Rattle.acl_grammar.proofs.DecisionLaws.{addresses_decide, le_decides, number_decides, all_decides}
 use Rattle.acl_grammar.proofs.PortRangeLaws.{range_decides}
 use Rattle.nft_lang.specs.declared.documents.Section.{Section}
 use Rattle.nft_lang.specs.declared.documents.Item.{Item}
 use Rattle.nft_lang.specs.declared.documents.Item.TheVariants.{Remark, Rule as ARule}
 use Rattle.nft_lang.specs.declared.documents.Rule.{Rule}
-use Rattle.nft_lang.specs.Documents.{IsSet, IsAddresses, IsType, IsRule, IsItem, IsSection, prefixes_overlap, ports_overlap, parts_fit, fits_i32, table_name, table_names}
-use Rattle.nft_lang.specs.ValiditySteps.{are_apart, is_addresses, are_addresses, are_ports, are_types, has_sets, is_rule, is_item, is_section, same_table}
+use Rattle.nft_lang.specs.Documents.{IsSet, IsType, IsRule, IsItem, IsSection, prefixes_overlap, ports_overlap, parts_fit, fits_i32, table_name, table_names}
+use Rattle.nft_lang.specs.ValiditySteps.{are_apart, are_addresses, are_ports, are_types, has_sets, is_rule, is_item, is_section, same_table}
 
 -- ---- sets
 
@@ -56,11 +56,6 @@ set_decides : {A : Type 0} (test : A → Bool) (P : A → Type 0) (overlap : A �
 set_decides test P overlap each xs =
     Decides-like (list_all test xs && are_apart overlap xs) (λ h. record { each = h.0; apart = h.1 }) (λ h. (h.each, h.apart))
     (Decides-and (list_all test xs) (are_apart overlap xs) (all_decides test P each xs) (apart_decides overlap xs))
-
-addresses_decide : (f : Family) (p : Prefix) → Decides (is_addresses f p) (IsAddresses f p)
-addresses_decide f p =
-    Decides-like (is_addresses f p) (λ h. record { of_family = h.0; some_bits = h.1 }) (λ h. (h.of_family, h.some_bits))
-    (Decides-and (is_prefix_of f p) (nat_le 1 p.len) (prefix_decides f p) (le_decides 1 p.len))
 
 -- ---- rules
 

@@ -8,12 +8,12 @@ use Rattle.acl_packet.specs.declared.addresses.Families.{Families}
 use Rattle.acl_packet.specs.declared.addresses.Prefix.{Prefix}
 use Rattle.acl_packet.specs.declared.filtering.Verdict.{Verdict}
 use Rattle.acl_packet.specs.declared.filtering.Verdict.TheVariants.{Reset, Left}
-use Rattle.acl_packet.specs.Addresses.{IsPrefixOf, covers, has_address}
+use Rattle.acl_packet.specs.Addresses.{covers, has_address}
 use Rattle.acl_packet.specs.Packets.{icmp_of}
 use Rattle.acl_text.specs.Names.{is_safe_text}
 use Rattle.acl_grammar.specs.Documents.{IsDocumentOf}
 use Rattle.acl_grammar.specs.PortRanges.{IsPortRange}
-use Rattle.acl_grammar.specs.RuleParts.{has_port_proto, is_empty, is_proto}
+use Rattle.acl_grammar.specs.RuleParts.{IsAddresses, has_port_proto, is_empty, is_proto}
 use Rattle.nft_lang.specs.declared.documents.Section.{Section}
 use Rattle.nft_lang.specs.declared.documents.Item.{Item}
 use Rattle.nft_lang.specs.declared.documents.Item.TheVariants.{Remark, Rule as ARule}
@@ -35,11 +35,6 @@ pub record IsSet {A : Type 0} (IsElement : A → Type 0) (overlap : A → A → 
     : Type 0 where
   pub each : AllByRecursion IsElement elements
   pub apart : IsDistinct overlap elements
-
--- Not all addresses: a prefix of length 0 holds all, and is not written.
-pub record IsAddresses (family : Family) (prefix : Prefix) : Type 0 where
-  pub of_family : IsPrefixOf family prefix
-  pub some_bits : 1 ≤ prefix.len
 
 -- Type 255 has no number here.
 abbrev pub IsType : ℕ → Type 0

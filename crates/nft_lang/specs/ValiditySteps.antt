@@ -7,7 +7,7 @@ use Rattle.acl_packet.specs.declared.addresses.Prefix.{Prefix}
 use Rattle.acl_packet.specs.Addresses.{covers, has_address}
 use Rattle.acl_text.specs.Names.{is_safe_text}
 use Rattle.acl_grammar.specs.PortRangeSteps.{is_port_range}
-use Rattle.acl_grammar.specs.PrefixCheckSteps.{is_prefix_of}
+use Rattle.acl_grammar.specs.PrefixCheckSteps.{is_addresses}
 use Rattle.acl_grammar.specs.RuleParts.{number_fits}
 use Rattle.nft_lang.specs.declared.documents.Section.{Section}
 use Rattle.nft_lang.specs.declared.documents.Item.{Item}
@@ -36,9 +36,6 @@ is_below_first below x (y ∷ xs) = below x y
 unfoldable pub are_rising : {A : Type 0} → (A → A → Bool) → List A → Bool
 are_rising below [] = true
 are_rising below (x ∷ xs) = is_below_first below x xs && are_rising below xs
-
-abbrev pub is_addresses : Family → Prefix → Bool
-is_addresses family p = is_prefix_of family p && nat_le 1 p.len
 
 abbrev pub are_addresses : Family → List Prefix → Bool
 are_addresses family ps = list_all (is_addresses family) ps && are_apart prefixes_overlap ps

@@ -4,8 +4,8 @@
 
 mod chain_rows;
 mod documents;
+mod nftables;
 mod overlaps;
-mod reading;
 mod rule_drafts;
 mod rule_words;
 mod sets;
@@ -13,10 +13,10 @@ mod tables_drafts;
 mod validity;
 mod walking;
 
-pub use acl_grammar::{outcome, sections};
+pub use acl_grammar::{outcome, read_document, sections};
 pub use chain_rows::{CommentRow, RuleRow, SectionEnd, TableHead};
 pub use documents::{Doc, Flags, Item, Rule, Section};
-pub use reading::read;
+pub use nftables::Nftables;
 pub use rule_words::{
     Ending, FlagTest, PacketFamily, Protocol, address_word, icmp_word, port_word,
 };

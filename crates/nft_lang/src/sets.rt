@@ -1,9 +1,8 @@
-ghost use Rattle.std.specs.Prelude.{◌++◌, IsTrue, codes, decimal, map, flat_map};
+ghost use Rattle.std.specs.Prelude.{decimal, map};
 ghost use Rattle.acl_text.specs.AddressTexts.{prefix_text};
-ghost use Rattle.acl_text.specs.Puts.{Puts};
 ghost use Rattle.nft_lang.specs.Texts.{set_words, with_commas};
 
-use acl_grammar::{Number, Piece, WordForm, Words};
+use acl_grammar::{ItemsBehind, Number, OneItem, Piece, WordForm, Words};
 use acl_packet::Prefix;
 use acl_text::{Out, PutFault, put_prefix};
 
@@ -78,53 +77,18 @@ impl<'a, T, F: WordForm<T>> Words for Listing<'a, T, F> {
             [element, elements @ ..] => {
                 let form = self.form;
                 let space: &[u8] = b" ";
-                (space, (One { element, form }, Others { elements, form })).put_into(out)
+                let comma: &[u8] = b", ";
+                let first = OneItem {
+                    item: element,
+                    form,
+                };
+                let rest = ItemsBehind {
+                    separator: comma,
+                    items: elements,
+                    form,
+                };
+                (space, (first, rest)).put_into(out)
             }
         }
     }
-}
-
-#[derive(Drop)]
-struct One<'a, T, F> {
-    element: &'a T,
-    form: &'a F,
-}
-
-impl<'a, T, F: WordForm<T>> Piece for One<'a, T, F> {
-    ghost text = { λ o. F.item_text o.form.now o.element.now };
-
-    fn put_into<O: Out>(&self, out: &mut O) -> Result<(), PutFault> {
-        self.form.put_item_into(self.element, out)
-    }
-}
-
-// The elements, each behind a comma and a space.
-#[derive(Drop)]
-struct Others<'a, T, F> {
-    elements: &'a [T],
-    form: &'a F,
-}
-
-impl<'a, T, F: WordForm<T>> Piece for Others<'a, T, F> {
-    ghost text = { λ o. flat_map (λ e. codes ", " ++ F.item_text o.form.now e) o.elements.now };
-
-    fn put_into<O: Out>(&self, out: &mut O) -> Result<(), PutFault> {
-        put_others(self.elements, self.form, out)
-    }
-}
-
-fn put_others<T, F: WordForm<T>, O: Out>(
-    elements: &[T],
-    form: &F,
-    out: &mut O,
-) -> Result<(), PutFault>
-    requires { IsTrue (O.is_open out.old) }
-    ensures { Puts O.Out out.old out.new
-        (flat_map (λ e. codes ", " ++ F.item_text form.now e) elements.now) result }
-{
-    let comma: &[u8] = b", ";
-    for element in elements {
-        (comma, One { element, form }).put_into(out)?;
-    }
-    Ok(())
 }

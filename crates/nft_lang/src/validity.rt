@@ -1,12 +1,13 @@
 ghost use Rattle.std.specs.Prelude.{◌≡◌, ◌&&◌, ◌^◌, nat_le, nat_lt};
 ghost use Rattle.std.specs.List.{list_all};
+ghost use Rattle.acl_grammar.specs.PrefixCheckSteps.{is_addresses};
 ghost use Rattle.acl_grammar.specs.RuleParts.{has_port_proto, is_empty, is_proto};
 ghost use Rattle.nft_lang.specs.Documents.{fits_i32, flags_fit, parts_fit, ports_fit, types_fit, verdict_fits};
-ghost use Rattle.nft_lang.specs.ValiditySteps.{are_addresses, are_ports, are_types, has_sets, is_addresses, is_item, is_rule, is_section};
+ghost use Rattle.nft_lang.specs.ValiditySteps.{are_addresses, are_ports, are_types, has_sets, is_item, is_rule, is_section};
 
 use crate::documents::{Item, Rule, Section};
 use crate::overlaps::{are_apart, are_ports_apart, are_prefixes_apart};
-use acl_grammar::{are_port_ranges, has_port_proto, is_empty, is_prefix_of, is_proto, number_fits};
+use acl_grammar::{are_port_ranges, has_port_proto, is_addresses, is_empty, is_proto, number_fits};
 use acl_packet::{Families, Family, Prefix, Verdict};
 use acl_text::is_safe_text;
 
@@ -69,12 +70,6 @@ fn all_addresses(family: Family, prefixes: &[Prefix]) -> bool
     ensures { result ≡ list_all (is_addresses family) prefixes.now }
 {
     prefixes.iter().all(|prefix| is_addresses(family, prefix))
-}
-
-fn is_addresses(family: Family, prefix: &Prefix) -> bool
-    ensures { result ≡ is_addresses family prefix.now }
-{
-    is_prefix_of(family, prefix) && 1 <= prefix.len
 }
 
 fn are_ports(ranges: &[(u16, u16)]) -> bool

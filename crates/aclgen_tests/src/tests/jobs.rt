@@ -3,6 +3,7 @@ ghost use Rattle.acl_memory.specs.MemoryTrees.{contents};
 
 use crate::tests::words::words_of;
 use acl_days::Day;
+use acl_grammar::{read_document, sections};
 use acl_host::{Clock, Sink, Tree};
 use acl_memory::{FixedClock, MemSink, MemTree, Op};
 use acl_text::Memory;
@@ -443,15 +444,27 @@ const EDGE_RUN: Run = Run {
 };
 
 fn is_read_back(alloc: Global, tree: &MemTree) -> Result<bool, Memory> {
-    let lists = cisco_lang::read(alloc, tree.file("out/edge.acl").unwrap_or(b""))?;
-    let filters = junos_lang::read(alloc, tree.file("out/edge.jcl").unwrap_or(b""))?;
-    let chains = ipt_lang::read(alloc, tree.file("out/edge.ipt").unwrap_or(b""))?;
-    let tables = nft_lang::read(alloc, tree.file("out/edge.nft").unwrap_or(b""))?;
+    let lists = read_document::<cisco_lang::Cisco>(
+        alloc,
+        tree.file("out/edge.acl").unwrap_or(b""),
+    )?;
+    let filters = read_document::<junos_lang::Junos>(
+        alloc,
+        tree.file("out/edge.jcl").unwrap_or(b""),
+    )?;
+    let chains = read_document::<ipt_lang::Iptables>(
+        alloc,
+        tree.file("out/edge.ipt").unwrap_or(b""),
+    )?;
+    let tables = read_document::<nft_lang::Nftables>(
+        alloc,
+        tree.file("out/edge.nft").unwrap_or(b""),
+    )?;
     Ok(
-        lists.map(|doc| cisco_lang::sections(&doc)) == Some(1)
-            && filters.map(|doc| junos_lang::sections(&doc)) == Some(1)
-            && chains.map(|doc| ipt_lang::sections(&doc)) == Some(1)
-            && tables.map(|doc| nft_lang::sections(&doc)) == Some(1),
+        lists.map(|doc| sections(&doc)) == Some(1)
+            && filters.map(|doc| sections(&doc)) == Some(1)
+            && chains.map(|doc| sections(&doc)) == Some(1)
+            && tables.map(|doc| sections(&doc)) == Some(1),
     )
 }
 

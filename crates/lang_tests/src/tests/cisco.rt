@@ -1,8 +1,10 @@
-use crate::tests::languages::{Cisco, is_read, outcome_in};
+use crate::tests::languages::{is_read, outcome_in};
 use crate::tests::packets::{ACCEPTED, DENIED, packet};
 use acl_packet::{Families, Family, Outcome, Packet, Prefix, is_packet};
 use acl_text::{Bytes, Items};
-use cisco_lang::{AccessList, Doc, Entry, Flags, Item, Section, outcome, read, sections};
+use cisco_lang::{
+    AccessList, Cisco, Doc, Entry, Flags, Item, Section, outcome, read_document, sections,
+};
 use std::test::Fail;
 
 const EDGE: &str = "! cisco edge-in extended
@@ -36,7 +38,7 @@ fn any_of(family: Family) -> Prefix {
 
 #[test]
 fn reads_a_section_of_one_entry(rt: HostRuntime) -> Result<(), Fail> {
-    let doc = read(rt.alloc(), EDGE.as_bytes())?.expect(&rt, "a text");
+    let doc = read_document::<Cisco>(rt.alloc(), EDGE.as_bytes())?.expect(&rt, "a text");
     assert_eq!(rt; sections(&doc), 1);
     let section = doc.as_slice().first().expect(&rt, "a section");
     assert_eq!(rt; section.families, Families::Inet);
@@ -179,7 +181,7 @@ fn makes_a_document(rt: HostRuntime) -> Result<(), Fail> {
         ..packet(Family::V4, 6)
     };
     let found = if is_packet(&syn) {
-        outcome(&doc, 0, &syn)
+        outcome::<Cisco>(&doc, 0, &syn)
     } else {
         None
     };

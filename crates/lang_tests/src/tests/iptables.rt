@@ -1,8 +1,8 @@
-use crate::tests::languages::{Iptables, is_read, outcome_in};
+use crate::tests::languages::{is_read, outcome_in};
 use crate::tests::packets::{outcome_of, packet};
 use acl_packet::{Conn, Family, Hook, Packet, Verdict, is_packet};
 use acl_text::{Bytes, Items};
-use ipt_lang::{Act, Chain, Doc, Flags, Rule, Section, outcome, read, sections};
+use ipt_lang::{Act, Chain, Doc, Flags, Iptables, Rule, Section, outcome, read_document, sections};
 use std::test::Fail;
 
 const WEB: &str = "## iptables INPUT inet
@@ -27,7 +27,7 @@ const MANY: &str = "## iptables FORWARD inet6
 
 #[test]
 fn reads_a_section_of_one_chain(rt: HostRuntime) -> Result<(), Fail> {
-    let doc = read(rt.alloc(), WEB.as_bytes())?.expect(&rt, "a text");
+    let doc = read_document::<Iptables>(rt.alloc(), WEB.as_bytes())?.expect(&rt, "a text");
     assert_eq!(rt; sections(&doc), 1);
     let section = doc.as_slice().first().expect(&rt, "a section");
     assert_eq!(rt; section.hook, Hook::Input);
@@ -262,7 +262,7 @@ fn makes_a_document(rt: HostRuntime) -> Result<(), Fail> {
         ..packet(Family::V4, 6)
     };
     let found = if is_packet(&rst) {
-        outcome(&doc, 0, &rst)
+        outcome::<Iptables>(&doc, 0, &rst)
     } else {
         None
     };

@@ -1,8 +1,8 @@
-use crate::tests::languages::{Junos, is_read, outcome_in};
+use crate::tests::languages::{is_read, outcome_in};
 use crate::tests::packets::{outcome_of, packet};
 use acl_packet::{Family, Packet, Prefix, Verdict, is_packet};
 use acl_text::{Bytes, Items, Memory};
-use junos_lang::{Doc, JTerm, JTest, Section, outcome, read, sections};
+use junos_lang::{Doc, JTerm, JTest, Junos, Section, outcome, sections};
 use std::alloc::Global;
 use std::test::Fail;
 
@@ -424,7 +424,7 @@ fn makes_a_document(rt: HostRuntime) -> Result<(), Fail> {
         ..web_packet(6, 0x0a00_0001, 80)
     };
     let found = if is_packet(&syn) {
-        outcome(&doc, 0, &syn)
+        outcome::<Junos>(&doc, 0, &syn)
     } else {
         None
     };

@@ -1,8 +1,8 @@
-use crate::tests::languages::{Nftables, is_read, outcome_in};
+use crate::tests::languages::{is_read, outcome_in};
 use crate::tests::packets::{ACCEPTED, DENIED, packet};
 use acl_packet::{Conn, Families, Family, Hook, Outcome, Packet, Prefix, Verdict, is_packet};
 use acl_text::{Bytes, Items, Memory};
-use nft_lang::{Doc, Flags, Item, Rule, Section, outcome, read, sections};
+use nft_lang::{Doc, Flags, Item, Nftables, Rule, Section, outcome, read_document, sections};
 use std::alloc::Global;
 use std::test::Fail;
 
@@ -45,7 +45,7 @@ table ip6 aclgen_1 {
 
 #[test]
 fn reads_a_section_of_one_rule(rt: HostRuntime) -> Result<(), Fail> {
-    let doc = read(rt.alloc(), WEB.as_bytes())?.expect(&rt, "a text");
+    let doc = read_document::<Nftables>(rt.alloc(), WEB.as_bytes())?.expect(&rt, "a text");
     assert_eq!(rt; sections(&doc), 1);
     let section = doc.as_slice().first().expect(&rt, "a section");
     assert_eq!(rt; section.hook, Hook::Input);
@@ -299,7 +299,7 @@ fn makes_a_document(rt: HostRuntime) -> Result<(), Fail> {
         ..packet(Family::V4, 6)
     };
     let found = if is_packet(&rst) {
-        outcome(&doc, 0, &rst)
+        outcome::<Nftables>(&doc, 0, &rst)
     } else {
         None
     };

@@ -18,7 +18,7 @@ use std::test::Fail;
 
 // How many sections the text has, where it is one of the platform's language.
 fn sections_of<P: Platform>(alloc: Global, text: &[u8]) -> Result<Option<usize>, Memory> {
-    match read_document::<P::Section>(alloc, text)? {
+    match read_document::<P::Language>(alloc, text)? {
         Some(doc) => Ok(Some(sections(&doc))),
         None => Ok(None),
     }
@@ -111,7 +111,7 @@ pub(crate) fn are_written<P: Platform>(
 ) -> Result<bool, Fail>
     requires accepted { All (IsAccepted P.handles (λ f. filter_limit P.limit (P.count f) f))
         filters.now }
-    requires differ { IsDistinct bytes_eq (flat_map P.Section.names (map P.section filters.now)) }
+    requires differ { IsDistinct bytes_eq (flat_map P.Language.names (map P.section filters.now)) }
 {
     let mut out = Whole::new(alloc);
     write_all(platform, filters, &mut out)?;

@@ -3,5 +3,5 @@ use Rattle.acl_grammar.proofs.laws.joined_texts_spell_joined_documents.Goals as 
 
 pub returns : goal.returns
 returns g c =
-    let s = g.S.DocumentSection in
-    joined_documents s.is_section s.names g.S.Rows.rows
+    let l = g.L.Language in
+    joined_documents l.is_section l.names l.rows

@@ -3,5 +3,5 @@ use Rattle.acl_grammar.proofs.laws.the_empty_text_has_no_section.Goals as goal
 
 pub returns : goal.returns
 returns g c =
-    let s = g.S.DocumentSection in
-    nothing_is_spelled s.is_section s.names g.S.Rows.rows
+    let l = g.L.Language in
+    nothing_is_spelled l.is_section l.names l.rows

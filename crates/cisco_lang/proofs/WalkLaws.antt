@@ -1,0 +1,11 @@
+-- A section does something to the packets of its families, and to no others.
+use Rattle.std.proofs.Common.{◌≡◌, is_some}
+use Rattle.acl_packet.specs.declared.packets.Packet.{Packet}
+use Rattle.acl_packet.specs.Addresses.{covers}
+use Rattle.acl_grammar.proofs.OutcomeLaws.{some-where}
+use Rattle.cisco_lang.specs.declared.documents.Section.{Section}
+use Rattle.cisco_lang.specs.Walks.{items_of, section_outcome, walk}
+
+pub decides_its_families : (s : Section) (p : Packet) → is_some (section_outcome s p) ≡ covers s.families p.family
+unfolding section_outcome
+decides_its_families s p = some-where (covers s.families p.family) (walk p.family (items_of p.family s.lists) p)

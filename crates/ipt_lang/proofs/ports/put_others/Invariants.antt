@@ -1,9 +1,0 @@
-use Rattle.std.proofs.Common.{take, flat_map, ◌∷◌}
-use Rattle.acl_text.specs.Puts.{Puts}
-use Rattle.acl_text.proofs.Putting.{done}
-use Rattle.ipt_lang.proofs.ports.put_others.Given as goal
-
-abbrev pub invariant-loop-item : goal.invariant-loop-item
-invariant-loop-item g l =
-    Puts g.O.Out l.initial.out l.out
-    (flat_map (λ x. 44 ∷ g.F.WordForm.item_text l.form x) (take l.item-index l.items)) done
