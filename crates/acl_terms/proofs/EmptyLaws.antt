@@ -1,7 +1,7 @@
 -- When a resolved term is empty in a family.
 use Rattle.std.proofs.Common.{◌≡◌, ◌↔◌, ℕ, ◌+◌, Bool, true, false, not, ◌&&◌, ◌||◌, ◌==◌, List, [], ◌∷◌, get_or, inl, inr, refl, arith}
 use Rattle.std.specs.Prelude.{Contains}
-use Rattle.std.specs.List.{AllByRecursion, list_all, list_any}
+use Rattle.std.specs.List.{list_all, list_any}
 use Rattle.std.proofs.lemmas.Bool.{and_from, and_parts, or_cases, or_left, or_right, both_ways, false_from_ne_true, eqb-true, eq-eqb}
 use Rattle.std.proofs.lemmas.List.Elements.{All-contains, Contains-get_or}
 use Rattle.std.proofs.lemmas.List.Sums.{AllPass-from_list_all, list_all-from_AllPass}
@@ -79,17 +79,29 @@ no-protocol k s normal = (
 
 -- ---- lists of tests
 
-any-law : {A : Type 0} (test : A → Bool) (P : A → Type 0) (xs : List A)
-    → AllByRecursion (λ x. (test x ≡ true) ↔ P x) xs → (list_any test xs ≡ true) ↔ AnyOf P xs
-any-law test P [] h = (λ e. absurd (both_ways false refl e), λ a. absurd a)
-any-law test P (x ∷ xs) h =
-    let rest = any-law test P xs h.1 in (
-      λ e. elim (or_cases (test x) (list_any test xs) e) [ inl l ↦ inl (h.0.0 l) | inr r ↦ inr (rest.0 r) ],
-      λ a. elim a [
-        | inl p ↦ or_left (test x) (list_any test xs) (h.0.1 p)
-        | inr r ↦ or_right (test x) (list_any test xs) (rest.1 r)
-      ],
-    )
+none-of : {A : Type 0} (test : A → Bool) (P : A → Type 0) → (list_any test [] ≡ true) ↔ AnyOf P []
+none-of test P = (λ e. absurd (both_ways false refl e), λ a. absurd a)
+
+one-more : {A : Type 0} (test : A → Bool) (P : A → Type 0) (x : A) (xs : List A) → (test x ≡ true) ↔ P x
+    → (list_any test xs ≡ true) ↔ AnyOf P xs → (list_any test (x ∷ xs) ≡ true) ↔ AnyOf P (x ∷ xs)
+one-more test P x xs here rest = (
+  λ e. elim (or_cases (test x) (list_any test xs) e) [ inl l ↦ inl (here.0 l) | inr r ↦ inr (rest.0 r) ],
+  λ a. elim a [
+    | inl p ↦ or_left (test x) (list_any test xs) (here.1 p)
+    | inr r ↦ or_right (test x) (list_any test xs) (rest.1 r)
+  ],
+)
+
+-- One of four sets has no number.
+none-of-four : (a b c d : Numbers) → IsNormal 0 a.top a.ranges → IsNormal 0 b.top b.ranges
+    → IsNormal 0 c.top c.ranges → IsNormal 0 d.top d.ranges
+    → (list_any has_none (a ∷ b ∷ c ∷ d ∷ []) ≡ true) ↔ AnyOf HasNone (a ∷ b ∷ c ∷ d ∷ [])
+none-of-four a b c d n m k l =
+    let none : Numbers → Type 0 = λ s. HasNone s in
+    let last = one-more has_none none d [] (none-held d l) (none-of has_none none) in
+    let three = one-more has_none none c (d ∷ []) (none-held c k) last in
+    let two = one-more has_none none b (c ∷ d ∷ []) (none-held b m) three in
+    one-more has_none none a (b ∷ c ∷ d ∷ []) (none-held a n) two
 
 all-law : {A : Type 0} (test : A → Bool) (P : A → Type 0) (xs : List A) → ((x : A) → (test x ≡ true) ↔ P x)
     → (list_all test xs ≡ true) ↔ ((x : A) → Contains xs x → P x)
@@ -106,17 +118,12 @@ pair-empty-law f t pair =
     let a = pair.addresses in
     let p = pair.ports in
     let either = either_in f t in
-    let sets = any-law has_none HasNone (pair_sets f t pair) (
-      none-held (sources_on a f t) (source-cut-normal a (source_in f t) either (source_tops f t) (source-normal f t)
-          (either-normal f t)),
-      (none-held (destinations_on a f t) (destination-cut-normal a (destination_in f t) either (destination_tops f t)
-          (destination-normal f t) (either-normal f t)),
-      (none-held (sports_on p t) (source-cut-normal p t.sports t.ports (sport_tops t) t.sound.sports_normal
-          t.sound.ports_normal),
-      (none-held (dports_on p t) (destination-cut-normal p t.dports t.ports (dport_tops t) t.sound.dports_normal
-          t.sound.ports_normal),
-      tt))),
-    ) in
+    let sets = none-of-four (sources_on a f t) (destinations_on a f t) (sports_on p t) (dports_on p t)
+    (source-cut-normal a (source_in f t) either (source_tops f t) (source-normal f t) (either-normal f t))
+    (destination-cut-normal a (destination_in f t) either (destination_tops f t) (destination-normal f t)
+    (either-normal f t))
+    (source-cut-normal p t.sports t.ports (sport_tops t) t.sound.sports_normal t.sound.ports_normal)
+    (destination-cut-normal p t.dports t.ports (dport_tops t) t.sound.dports_normal t.sound.ports_normal) in
     let c = no-protocol (foreign_of f) t.protos t.sound.protos_normal in
     let none : Bool = list_any has_none (pair_sets f t pair) in (
       λ h. elim (or_cases none (has_no_protocol f t) h) [ inl l ↦ inl (sets.0 l) | inr r ↦ inr (c.0 r) ],
