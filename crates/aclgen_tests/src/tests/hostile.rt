@@ -123,7 +123,7 @@ fn long_hostile_inputs_are_refused(rt: HostRuntime) -> Result<(), Fail> {
     let includes = many(alloc, 1025, b"#include 'e.inc'\n")?;
     let line = b"pol/a.pol:1025: F39 IncludeCount e.inc\n";
     assert!(rt; is_refused(alloc, NETWORKS, &includes, line)?);
-    let spaces = many(alloc, 4_194_305, b" ")?;
+    let spaces = vec![in alloc; b' '; 4_194_305]?;
     assert!(rt; is_refused(alloc, NETWORKS, &spaces, b"pol/a.pol: F10 TooLong\n")?);
     let names = many_names(alloc, 16_385)?;
     let line = b"def/n.net:16385: F16 TooMany N16384\n";
