@@ -98,7 +98,10 @@ pub(crate) fn expect_written<P: Platform>(
 
 // How many line feeds the text has.
 fn count_lines(text: &str) -> u64 {
-    text.as_bytes().iter().filter(|byte| **byte == b'\n').count() as u64
+    text.as_bytes()
+        .iter()
+        .filter(|byte| **byte == b'\n')
+        .count() as u64
 }
 
 // Whether the text is what becomes of filters that the platform takes, also where each has no rules: it is put line by
