@@ -190,54 +190,8 @@ fn outcome_of(
 ) -> Result<Option<Outcome>, Memory>
     requires { IsPacket packet.now }
 {
-    match kind {
-        Kind::Cisco => outcome_on_cisco(alloc, text, packet),
-        Kind::Juniper => outcome_on_junos(alloc, text, packet),
-        Kind::Iptables => outcome_on_iptables(alloc, text, packet),
-        Kind::Nftables => outcome_on_nftables(alloc, text, packet),
-    }
-}
-
-fn outcome_on_cisco(alloc: Global, text: &[u8], packet: &Packet) -> Result<Option<Outcome>, Memory>
-    requires { IsPacket packet.now }
-{
-    match cisco_lang::read(alloc, text)? {
-        Some(doc) if cisco_lang::sections(&doc) == 1 => Ok(cisco_lang::outcome(&doc, 0, packet)),
-        _ => Ok(None),
-    }
-}
-
-fn outcome_on_junos(alloc: Global, text: &[u8], packet: &Packet) -> Result<Option<Outcome>, Memory>
-    requires { IsPacket packet.now }
-{
-    match junos_lang::read(alloc, text)? {
-        Some(doc) if junos_lang::sections(&doc) == 1 => Ok(junos_lang::outcome(&doc, 0, packet)),
-        _ => Ok(None),
-    }
-}
-
-fn outcome_on_iptables(
-    alloc: Global,
-    text: &[u8],
-    packet: &Packet,
-) -> Result<Option<Outcome>, Memory>
-    requires { IsPacket packet.now }
-{
-    match ipt_lang::read(alloc, text)? {
-        Some(doc) if ipt_lang::sections(&doc) == 1 => Ok(ipt_lang::outcome(&doc, 0, packet)),
-        _ => Ok(None),
-    }
-}
-
-fn outcome_on_nftables(
-    alloc: Global,
-    text: &[u8],
-    packet: &Packet,
-) -> Result<Option<Outcome>, Memory>
-    requires { IsPacket packet.now }
-{
-    match nft_lang::read(alloc, text)? {
-        Some(doc) if nft_lang::sections(&doc) == 1 => Ok(nft_lang::outcome(&doc, 0, packet)),
+    match acl_languages::sections(alloc, kind, text)? {
+        Some(1) => acl_languages::outcome(alloc, kind, text, 0, packet),
         _ => Ok(None),
     }
 }
