@@ -33,7 +33,6 @@ impl Platform for Nftables {
         (head_of(filter), (items, SectionEnd)).put_rows(out)
     }
 
-    #[tactic(auto, using(crate::proofs::SectionLaws::section_is_spelled))]
     fn a_section_is_spelled() {}
 
     #[tactic(auto, using(crate::proofs::DecisionLaws::section_decides))]
