@@ -1,1 +1,2 @@
 pub mod DocumentLaws
+pub mod ReadingForms
