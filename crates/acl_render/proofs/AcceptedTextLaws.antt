@@ -29,20 +29,20 @@ use Rattle.ipt_lang.specs.Walks as ipt_walks
 use Rattle.nft_lang.specs.Documents as nft
 use Rattle.nft_lang.specs.Texts as nft_texts
 use Rattle.nft_lang.specs.Walks as nft_walks
-use Rattle.gen_cisco.specs.DecisionLaws as cisco_decisions
-use Rattle.gen_cisco.specs.SectionLaws as cisco_laws
+use Rattle.gen_cisco.proofs.DecisionLaws as cisco_decisions
+use Rattle.gen_cisco.proofs.SectionLaws as cisco_laws
 use Rattle.gen_cisco.specs.Sections as cisco_sections
 use Rattle.gen_cisco.proofs.ListNames as cisco_names
-use Rattle.gen_junos.specs.DecisionLaws as junos_decisions
-use Rattle.gen_junos.specs.SectionLaws as junos_laws
+use Rattle.gen_junos.proofs.DecisionLaws as junos_decisions
+use Rattle.gen_junos.proofs.SectionLaws as junos_laws
 use Rattle.gen_junos.specs.Sections as junos_sections
 use Rattle.gen_junos.proofs.NameLaws as junos_names
-use Rattle.gen_iptables.specs.DecisionLaws as ipt_decisions
-use Rattle.gen_iptables.specs.SectionLaws as ipt_laws
+use Rattle.gen_iptables.proofs.DecisionLaws as ipt_decisions
+use Rattle.gen_iptables.proofs.SectionLaws as ipt_laws
 use Rattle.gen_iptables.specs.Sections as ipt_sections
 use Rattle.gen_iptables.proofs.NameLaws as ipt_names
-use Rattle.gen_nftables.specs.DecisionLaws as nft_decisions
-use Rattle.gen_nftables.specs.SectionLaws as nft_laws
+use Rattle.gen_nftables.proofs.DecisionLaws as nft_decisions
+use Rattle.gen_nftables.proofs.SectionLaws as nft_laws
 use Rattle.gen_nftables.specs.Sections as nft_sections
 use Rattle.gen_nftables.proofs.TableNames as nft_names
 use Rattle.acl_render.specs.PlatformFiles.{AreApart, IsFileText, IsTaken, limit_on}
@@ -69,7 +69,7 @@ distinct-right [] ys h = h
 distinct-right (x ∷ xs) ys h = distinct-right xs ys h.1
 
 -- the joined texts of the sections spell the document of the sections
-all-spelled : {S : Type 0} (accepted : Filter → Type 0) (valid : S → Type 0) (names : S → List (List ℕ)) (rows : S → List Row) (section : Filter → S)
+pub all-spelled : {S : Type 0} (accepted : Filter → Type 0) (valid : S → Type 0) (names : S → List (List ℕ)) (rows : S → List Row) (section : Filter → S)
     → ((f : Filter) → accepted f → SpellsRows valid names rows (text_of_rows (flat_map rows (section f ∷ []))) (section f ∷ []))
     → (fs : List Filter) → AllByRecursion accepted fs → IsDistinct bytes_eq (flat_map names (map section fs))
     → SpellsRows valid names rows (text_of_rows (flat_map rows (map section fs))) (map section fs)
