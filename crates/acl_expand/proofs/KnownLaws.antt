@@ -14,15 +14,16 @@ use Rattle.acl_days.specs.declared.days.Day.{Day}
 use Rattle.acl_target.specs.declared.targets.Target.{Target}
 use Rattle.acl_target.specs.Clashes.{same_families, same_kind}
 use Rattle.acl_terms.specs.declared.options.Mode.TheVariants.{Stateful, Stateless}
+use Rattle.acl_terms.specs.declared.sides.SidePair.{SidePair}
 use Rattle.acl_terms.specs.declared.terms.Term.{Term}
 use Rattle.acl_terms.specs.Outcomes.{mode_of}
-use Rattle.acl_terms.specs.Resolved.{is_empty_in, is_term_live}
+use Rattle.acl_terms.specs.Resolved.{is_empty_in, is_pair_empty, is_term_live, pairs_of}
 use Rattle.acl_platform.specs.declared.rules.Rule.{Rule}
 use Rattle.acl_platform.proofs.AcceptedFilters.{same-kind-is}
 use Rattle.acl_expand.specs.ExpansionSlips.{first_slip, header_at, header_named, header_slip, prefix_slip, prefixes_of, prefixes_with, slip_behind, term_slip}
 use Rattle.acl_expand.specs.KnownRules.{AlikeHaveTheSameRules, AreAlike, IsKnown, fits, same_answer}
 use Rattle.acl_expand.specs.KnownRuleSteps.{rules_for, target_rules}
-use Rattle.acl_expand.specs.TermRules.{conditions_by, family_rules, members, rule_of, rules_of, term_rules}
+use Rattle.acl_expand.specs.TermRules.{conditions_by, family_rules, members, pair_rules, rule_of, rules_of, term_rules}
 use Rattle.acl_expand.specs.declared.known_rules.TargetRules.{TargetRules}
 
 flat-same : {A B : Type 0} (f g : A → List B) → ((x : A) → f x ≡ g x) → (xs : List A) → flat_map f xs ≡ flat_map g xs
@@ -31,11 +32,15 @@ flat-same f g h (x ∷ xs) = ap (λ ys. ys ++ flat_map f xs) (h x) ∙ ap (λ ys
 
 -- ---- rules
 
+pair-same : (a b : Target) → AreAlike a b → (t : Term) (f : Family) (pair : SidePair) → pair_rules a t f pair ≡ pair_rules b t f pair
+unfolding pair_rules
+pair-same a b h t f pair =
+    ap (λ k. cond (is_pair_empty f t pair) [] (map (rule_of k f t pair) (conditions_by t.option (mode_of a) f t pair.ports))) h.kind_is
+    ∙ ap (λ (s : Bool). cond (is_pair_empty f t pair) [] (map (rule_of b.kind f t pair) (conditions_by t.option (cond s Stateful Stateless) f t pair.ports))) h.stateful_is
+
 family-same : (a b : Target) → AreAlike a b → (t : Term) (f : Family) → family_rules a t f ≡ family_rules b t f
 unfolding family_rules
-family-same a b h t f =
-    ap (λ k. cond (is_empty_in f t) [] (map (rule_of k f t) (conditions_by t.option (mode_of a) f t))) h.kind_is
-    ∙ ap (λ (s : Bool). cond (is_empty_in f t) [] (map (rule_of b.kind f t) (conditions_by t.option (cond s Stateful Stateless) f t))) h.stateful_is
+family-same a b h t f = flat-same (pair_rules a t f) (pair_rules b t f) (pair-same a b h t f) (pairs_of t)
 
 term-same : (a b : Target) → AreAlike a b → (today : Day) (t : Term) → term_rules a today t ≡ term_rules b today t
 unfolding term_rules
