@@ -12,7 +12,7 @@ use Rattle.acl_options.specs.ComputableOptions.{asks_clock, options_of}
 use Rattle.aclgen_core.specs.FaultLines.{outside_line, usage_line}
 use Rattle.aclgen_core.specs.FileLists.{HoldsTexts, Interrupted}
 use Rattle.aclgen_core.specs.Job.{Plan, IsJob, IsJobOf, or_day, report_of, texts_of}
-use Rattle.aclgen_core.specs.Endings.{WhereDay, WhereTold, Got, Untouched, IsWritten, Headline, EndsDone, EndsUsage, EndsRejected, RoseAt, EndsLooking, LeavesFiles, EndsWriting, LeavesReport, EndsReporting, IsRefusalLine, EndsTelling, EndsOutside, LeavesPart, EndsWanting, EndsSo, NoneRose, IsEnding, EndsAsAsked, Keeps}
+use Rattle.aclgen_core.specs.Endings.{OnDay, OnItsDay, WhereDay, WhereTold, Got, Untouched, IsWritten, Headline, EndsDone, EndsUsage, EndsRejected, RoseAt, EndsLooking, LeavesFiles, EndsWriting, LeavesReport, EndsReporting, IsRefusalLine, EndsTelling, EndsOutside, LeavesPart, EndsWanting, EndsSo, NoneRose, IsEnding, EndsAsAsked, Keeps}
 use Rattle.aclgen_core.specs.Removals.{ShadedCanGo}
 use Rattle.aclgen_core.specs.Worlds.{Disk, DiskCountsGrow, Stream, StreamCountsGrow, Watch, World, world}
 use Rattle.aclgen_core.specs.DecidingSteps.{Asks, IsReady, OnlySeen, RoseLooking, DecidesRefused, DecidesPlanned, RefusesSo, Refuses, ActsDone, ActsWrite, ActsOut, ActsMemory, ActsSo, Acts, TriesLine, texts_in}
@@ -28,10 +28,16 @@ use Rattle.aclgen_core.proofs.Telling.{no-front}
 
 -- ---- what is told
 
-day-goes-on : (asked : Bool) (told : Option ℤ) (P Q : Day → Type 0) → ((day : Day) → P day → Q day) → WhereDay asked told P → WhereDay asked told Q
-day-goes-on true None P Q f h = tt
+day-goes-on : (asked : Bool) (told : Option ℤ) (P Q : Day → Type 0) → ((day : Day) → P day → Q day) → OnDay asked told P → OnDay asked told Q
+day-goes-on true None P Q f h = (h.0, f h.0 h.1)
 day-goes-on true (Some n) P Q f h = λ day e. f day (h day e)
 day-goes-on false told P Q f h = λ day. f day (h day)
+
+-- What is so on the day of the run is so where a day is told.
+day-told : (asked : Bool) (told : Option ℤ) (P : Day → Type 0) → OnDay asked told P → WhereDay asked told P
+day-told true None P h = tt
+day-told true (Some n) P h = h
+day-told false told P h = h
 
 day-given : (asked : Bool) (told : Option ℤ) (Q : Day → Type 0) → ((day : Day) → Q day) → WhereDay asked told Q
 day-given true None Q f = tt
@@ -40,9 +46,14 @@ day-given false told Q f = f
 
 told-goes-on : (words : List (List ℕ)) (c : Watch) (told : Option (List File)) (P Q : Day → List File → Type 0)
     → ((day : Day) (files : List File) → told ≡ Some files → P day files → Q day files)
-    → IfSome told (λ files. WhereDay (asks_clock words) c.day (λ day. P day files)) → IfSome told (λ files. WhereDay (asks_clock words) c.day (λ day. Q day files))
+    → IfSome told (λ files. OnDay (asks_clock words) c.day (λ day. P day files)) → IfSome told (λ files. OnDay (asks_clock words) c.day (λ day. Q day files))
 told-goes-on words c None P Q f h = tt
 told-goes-on words c (Some files) P Q f h = day-goes-on (asks_clock words) c.day (λ day. P day files) (λ day. Q day files) (λ day. f day files refl) h
+
+where-told : (words : List (List ℕ)) (c : Watch) (told : Option (List File)) (P : Day → List File → Type 0)
+    → IfSome told (λ files. OnDay (asks_clock words) c.day (λ day. P day files)) → IfSome told (λ files. WhereDay (asks_clock words) c.day (λ day. P day files))
+where-told words c None P h = tt
+where-told words c (Some files) P h = day-told (asks_clock words) c.day (λ day. P day files) h
 
 told-given : (words : List (List ℕ)) (c : Watch) (told : Option (List File)) (Q : Day → List File → Type 0)
     → ((day : Day) (files : List File) → told ≡ Some files → Q day files) → IfSome told (λ files. WhereDay (asks_clock words) c.day (λ day. Q day files))
@@ -71,8 +82,10 @@ job-fits words day files job other result is ends h =
 complete-done : (words : List (List ℕ)) (old new : World) → EndsDone words old new → EndsAsAsked words old ended.Done
 complete-done words old new e = record {
   usage = λ none. absurd (no-options (options_of words) none e.accepted);
-  job = told-goes-on words old.clock old.disk.files (Headline words old new) (λ day files. (job : Option (Result Plan Fault)) → IsJob words day files job → IsEnding job ended.Done)
-      (λ day files _ h job is. job-fits words day files (Some (Ok h.0)) job ended.Done h.1.job (inl refl) is) e.written;
+  job = let Asked : Day → List File → Type 0 = λ day files. (job : Option (Result Plan Fault)) → IsJob words day files job → IsEnding job ended.Done in
+      where-told words old.clock old.disk.files Asked
+      (told-goes-on words old.clock old.disk.files (Headline words old new) Asked
+      (λ day files _ h job is. job-fits words day files (Some (Ok h.0)) job ended.Done h.1.job (inl refl) is) e.written);
 }
 
 complete-usage : (words : List (List ℕ)) (old new : World) → EndsUsage words old new → EndsAsAsked words old ended.Usage
@@ -85,9 +98,10 @@ complete-usage words old new e = record {
 complete-rejected : (words : List (List ℕ)) (fault : Fault) (old new : World) → EndsRejected words fault old new → EndsAsAsked words old (ended.Rejected fault)
 complete-rejected words fault old new e = record {
   usage = λ none. absurd (no-options (options_of words) none e.accepted);
-  job = told-goes-on words old.clock old.disk.files (λ day files. IsJob words day files (Some (Err fault)))
-      (λ day files. (job : Option (Result Plan Fault)) → IsJob words day files job → IsEnding job (ended.Rejected fault))
-      (λ day files _ h job is. job-fits words day files (Some (Err fault)) job (ended.Rejected fault) h (inl refl) is) e.first;
+  job = let Asked : Day → List File → Type 0 = λ day files. (job : Option (Result Plan Fault)) → IsJob words day files job → IsEnding job (ended.Rejected fault) in
+      where-told words old.clock old.disk.files Asked
+      (told-goes-on words old.clock old.disk.files (λ day files. IsJob words day files (Some (Err fault))) Asked
+      (λ day files _ h job is. job-fits words day files (Some (Err fault)) job (ended.Rejected fault) h (inl refl) is) e.first);
 }
 
 complete-memory : (words : List (List ℕ)) (old : World) → EndsAsAsked words old ended.Memory
@@ -175,12 +189,17 @@ leaves-none words day files known job old new is h other =
     subst (λ (j : Option (Result Plan Fault)). LeavesPart j old new files) (one-job words day files known job is other) h
 
 pub usage-keeps : (words : List (List ℕ)) (line : List ℕ) (result : Ended) (d d' : Disk) (o e e' : Stream) (c c' : Watch) → d.begun ≡ None → OnlySeen d d'
-    → Asks words c c' → options_of words ≡ None → line ≡ usage_line → Refuses line ended.Usage e e' result → Keeps words (world d o e c) (world d' o e' c') result
+    → Asks words c c' → (options_of words ≡ None) × (d' ≡ d) → line ≡ usage_line → Refuses line ended.Usage e e' result → Keeps words (world d o e c) (world d' o e' c') result
 usage-keeps words line result d d' o e e' c c' none seen asked refused is h =
-    refused-so words line ended.Usage result d d' o e e' c c' none seen asked h.counts (inl (refused, is))
+    refused-so words line ended.Usage result d d' o e e' c c' none seen asked h.counts (inl (refused.0, is))
     (told-given words c d.files (LeavesSo words (world d o e c) (world d' o e' c'))
-    (λ day files _ job. leaves-none words day files None job (world d o e c) (world d' o e' c') (no-job words day files refused) (untouched d d' o e e' c c' seen)))
-    (λ got. record { refused = refused; untouched = untouched d d' o e e' c c' seen; line = subst (λ t. Got t e.told e'.told) is got })
+    (λ day files _ job. leaves-none words day files None job (world d o e c) (world d' o e' c') (no-job words day files refused.0) (untouched d d' o e e' c c' seen)))
+    (λ got. record {
+      refused = refused.0;
+      untouched = untouched d d' o e e' c c' seen;
+      same_disk = refused.1;
+      line = subst (λ t. Got t e.told e'.told) is got;
+    })
     h.so
 
 pub fault-keeps : (words : List (List ℕ)) (fault : Fault) (line : List ℕ) (result : Ended) (d d' : Disk) (o e e' : Stream) (c c' : Watch) → d.begun ≡ None → OnlySeen d d'
@@ -189,8 +208,9 @@ fault-keeps words fault line result d d' o e e' c c' none seen asked refused h =
     let same = untouched d d' o e e' c c' seen in
     refused-so words line (ended.Rejected fault) result d d' o e e' c c' none seen asked h.counts
     (inr (refused.accepted, (fault, refused.line_is, refused.first)))
+    (where-told words c d.files (LeavesSo words (world d o e c) (world d' o e' c'))
     (told-goes-on words c d.files (λ day files. IsJob words day files (Some (Err fault))) (LeavesSo words (world d o e c) (world d' o e' c'))
-    (λ day files _ is job. leaves-none words day files (Some (Err fault)) job (world d o e c) (world d' o e' c') is same) refused.first)
+    (λ day files _ is job. leaves-none words day files (Some (Err fault)) job (world d o e c) (world d' o e' c') is same) refused.first))
     (λ got. record { accepted = refused.accepted; first = refused.first; untouched = same; line = subst (λ t. Got t e.told e'.told) refused.line_is got })
     h.so
 
@@ -213,7 +233,7 @@ looking-so words which.Write d d' o e e' c c' seen accepted rose told = absurd r
 looking-so words which.Out d d' o e e' c c' seen accepted rose told = absurd rose
 looking-so words which.Err d d' o e e' c c' seen accepted rose told = absurd rose
 looking-so words which.Clock d d' o e e' c c' seen accepted rose told =
-    record { asked = rose.0; looking = looking-keeps words which.Clock d d' o e e' c c' seen accepted rose.1 told }
+    record { asked = rose.0; same_disk = rose.2; looking = looking-keeps words which.Clock d d' o e e' c c' seen accepted rose.1 told }
 
 pub outside-keeps : (words : List (List ℕ)) (w : Which) (result : Ended) (d d' : Disk) (o e e' : Stream) (c c' : Watch) → d.begun ≡ None → OnlySeen d d'
     → Asks words c c' → IsSome (options_of words) → RoseLooking words w d d' c c' → TriesLine (outside_line w) e e' → result ≡ ended.Outside w
@@ -253,7 +273,7 @@ both-some P told (Some new) files is h = subst (λ t. BothTell t (Some new) P) i
 
 planned-leaves : (words : List (List ℕ)) (work : Work) (d : Disk) (c : Watch) (R : Day → List File → Type 0)
     → ((day : Day) (files : List File) → d.files ≡ Some files → (plan : Plan) → IsJob words day files (Some (Ok plan)) → IsReady plan work → R day files)
-    → DecidesPlanned words work d c → WhereTold words d c R
+    → DecidesPlanned words work d c → OnItsDay words d c R
 planned-leaves words work d c R f h =
     told-goes-on words c d.files (λ day files. (plan : Plan) × IsJob words day files (Some (Ok plan)) × IsReady plan work) R
     (λ day files is p. f day files is p.0 p.1 p.2) h.planned
@@ -329,10 +349,10 @@ memory-row : (words : List (List ℕ)) (work : Work) (d d' : Disk) (o o' e e' : 
     → EndsWanting words (world d o e c) (world d' o' e' c')
 memory-row words work d d' o o' e e' c c' planned acts = record {
   words_untouched = λ none. absurd (no-options (options_of words) none planned.accepted);
-  leaves = planned-leaves words work d c
-      (LeavesSo words (world d o e c) (world d' o' e' c'))
+  leaves = where-told words c d.files (LeavesSo words (world d o e c) (world d' o' e' c'))
+      (planned-leaves words work d c (LeavesSo words (world d o e c) (world d' o' e' c'))
       (λ day files is plan known ready job. leaves-none words day files (Some (Ok plan)) job (world d o e c) (world d' o' e' c') known
-      (left-plan plan work d d' files is ready acts.left, subst (λ t. BothTell o.told o'.told (AddsFront t)) ready.report_is acts.report_front)) planned;
+      (left-plan plan work d d' files is ready acts.left, subst (λ t. BothTell o.told o'.told (AddsFront t)) ready.report_is acts.report_front)) planned);
   line = inl acts.err_rests;
 }
 

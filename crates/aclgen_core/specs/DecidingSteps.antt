@@ -14,7 +14,7 @@ use Rattle.aclgen_core.specs.Job.{Plan, IsJob, filters_of, report_of, texts_of}
 use Rattle.acl_load.specs.declared.load_faults.LoadFault.{LoadFault}
 use Rattle.acl_load.specs.declared.load_faults.LoadFault.TheVariants as loads
 use Rattle.acl_load.specs.FaultLines.{fault_line}
-use Rattle.aclgen_core.specs.Endings.{Got, IsFileOf, IsShort, OnlyAsked, Tried, WhereTold}
+use Rattle.aclgen_core.specs.Endings.{Got, IsFileOf, IsShort, OnItsDay, OnlyAsked, Tried}
 use Rattle.aclgen_core.specs.FaultLines.{outside_line}
 use Rattle.aclgen_core.specs.WorkloadRuns.{Reports}
 use Rattle.aclgen_core.specs.Worlds.{Disk, DiskCountsGrow, Stream, StreamCountsGrow, Watch}
@@ -60,23 +60,23 @@ RoseLooking words which.Write old new c c' = ⊥
 RoseLooking words which.Out old new c c' = ⊥
 RoseLooking words which.Err old new c c' = ⊥
 RoseLooking words which.Clock old new c c' =
-    (asks_clock words ≡ true) × Rose c.faults c'.faults
+    (asks_clock words ≡ true) × Rose c.faults c'.faults × (new ≡ old)
 
 pub record DecidesRefused (words : List (List ℕ)) (fault : Fault) (line : List ℕ) (old : Disk)
     (c : Watch) : Type 0 where
   pub accepted : IsSome (options_of words)
-  pub first : WhereTold words old c (λ day files. IsJob words day files (Some (Err fault)))
+  pub first : OnItsDay words old c (λ day files. IsJob words day files (Some (Err fault)))
   pub line_is : line ≡ fault_line fault
 
 pub record DecidesPlanned (words : List (List ℕ)) (work : Work) (old : Disk) (c : Watch)
     : Type 0 where
   pub accepted : IsSome (options_of words)
-  pub planned : WhereTold words old c (λ day files. (plan : Plan)
+  pub planned : OnItsDay words old c (λ day files. (plan : Plan)
       × IsJob words day files (Some (Ok plan)) × IsReady plan work)
   pub differ : PathsDiffer (texts_in work)
 
 abbrev pub DecidesSo : List (List ℕ) → Disk → Disk → Watch → Watch → Decision → Type 0
-DecidesSo words old new c c' decided.Usage = options_of words ≡ None
+DecidesSo words old new c c' decided.Usage = (options_of words ≡ None) × (new ≡ old)
 DecidesSo words old new c c' (decided.Refused fault line) =
     DecidesRefused words fault line.bytes old c
 DecidesSo words old new c c' (decided.Planned work) = DecidesPlanned words work old c

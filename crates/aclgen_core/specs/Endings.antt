@@ -40,6 +40,18 @@ abbrev pub WhereTold : List (List ℕ) → Disk → Watch → (Day → List File
 WhereTold words d c P =
     IfSome d.files (λ files. WhereDay (asks_clock words) c.day (λ day. P day files))
 
+-- The day of the run: where the clock is asked, the one that it tells, or some one day where it tells none; else
+-- whichever day.
+abbrev pub OnDay : Bool → Option ℤ → (Day → Type 0) → Type 0
+OnDay true (Some n) P = (day : Day) → day.number ≡ n → P day
+OnDay true None P = (day : Day) × P day
+OnDay false told P = (day : Day) → P day
+
+-- The tree tells its files: then this is so of them and of the day of the run.
+abbrev pub OnItsDay : List (List ℕ) → Disk → Watch → (Day → List File → Type 0) → Type 0
+OnItsDay words d c P =
+    IfSome d.files (λ files. OnDay (asks_clock words) c.day (λ day. P day files))
+
 -- A stream got the text, and nothing else.
 abbrev pub Got : List ℕ → Option (List ℕ) → Option (List ℕ) → Type 0
 Got text old new = new ≡ option_map (λ (b : List ℕ). b ++ text) old
@@ -98,18 +110,19 @@ Headline words old new day files = (plan : Plan) × IsCompiled words old new day
 
 pub record EndsDone (words : List (List ℕ)) (old new : World) : Type 0 where
   pub accepted : IsSome (options_of words)
-  pub written : WhereTold words old.disk old.clock (Headline words old new)
+  pub written : OnItsDay words old.disk old.clock (Headline words old new)
   pub report : (text : List ℕ) × Got text old.out.told new.out.told
   pub nothing_on_err : new.err.told ≡ old.err.told
 
 pub record EndsUsage (words : List (List ℕ)) (old new : World) : Type 0 where
   pub refused : options_of words ≡ None
   pub untouched : Untouched old new
+  pub same_disk : new.disk ≡ old.disk
   pub line : Got usage_line old.err.told new.err.told
 
 pub record EndsRejected (words : List (List ℕ)) (fault : Fault) (old new : World) : Type 0 where
   pub accepted : IsSome (options_of words)
-  pub first : WhereTold words old.disk old.clock (λ day files. IsJob words day files (Some (Err fault)))
+  pub first : OnItsDay words old.disk old.clock (λ day files. IsJob words day files (Some (Err fault)))
   pub untouched : Untouched old new
   pub line : Got (fault_line fault) old.err.told new.err.told
 
@@ -129,9 +142,10 @@ pub record EndsLooking (words : List (List ℕ)) (w : Which) (old new : World) :
   pub untouched : Untouched old new
   pub line : Tried (outside_line w) old.err new.err
 
--- Only a clock that is asked can fail.
+-- Only a clock that is asked can fail. It is asked before the tree is looked at.
 pub record EndsAsking (words : List (List ℕ)) (old new : World) : Type 0 where
   pub asked : asks_clock words ≡ true
+  pub same_disk : new.disk ≡ old.disk
   pub looking : EndsLooking words which.Clock old new
 
 -- What an interrupted writing leaves: the files before one are whole, that one holds anything, and every other file is
@@ -143,7 +157,7 @@ LeavesFiles words old new day files = (plan : Plan) × IsJob words day files (So
 pub record EndsWriting (words : List (List ℕ)) (old new : World) : Type 0 where
   pub cause : RoseAt which.Write old new
   pub accepted : IsSome (options_of words)
-  pub left : WhereTold words old.disk old.clock (LeavesFiles words old new)
+  pub left : OnItsDay words old.disk old.clock (LeavesFiles words old new)
   pub same_out : new.out.told ≡ old.out.told
   pub line : Tried (outside_line which.Write) old.err new.err
 
@@ -156,7 +170,7 @@ LeavesReport words old new day files = (plan : Plan) × IsJob words day files (S
 pub record EndsReporting (words : List (List ℕ)) (old new : World) : Type 0 where
   pub cause : RoseAt which.Out old new
   pub accepted : IsSome (options_of words)
-  pub written : WhereTold words old.disk old.clock (LeavesReport words old new)
+  pub written : OnItsDay words old.disk old.clock (LeavesReport words old new)
   pub report : (text : List ℕ) × BothTell old.out.told new.out.told (AddsFront text)
   pub line : Tried (outside_line which.Out) old.err new.err
 
@@ -164,7 +178,7 @@ pub record EndsReporting (words : List (List ℕ)) (old new : World) : Type 0 wh
 abbrev pub IsRefusalLine : List (List ℕ) → World → List ℕ → Type 0
 IsRefusalLine words old line = ((options_of words ≡ None) × (line ≡ usage_line))
     ⊎ (IsSome (options_of words) × ((fault : Fault) × (line ≡ fault_line fault)
-    × WhereTold words old.disk old.clock (λ day files. IsJob words day files (Some (Err fault)))))
+    × OnItsDay words old.disk old.clock (λ day files. IsJob words day files (Some (Err fault)))))
 
 -- The line of a refusal was not written whole.
 pub record EndsTelling (words : List (List ℕ)) (old new : World) : Type 0 where

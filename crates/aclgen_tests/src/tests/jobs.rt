@@ -534,6 +534,69 @@ fn the_clock_and_each_stream_fail_once(rt: HostRuntime) -> Result<(), Fail> {
     expect(&rt, rt.alloc(), &FAILURES)
 }
 
+// Two calls fail, or one and the words or the policy: the first in the order of the work is told.
+static ORDER: [Case; 5] = [
+    // the words before the folder
+    Case {
+        run: Run {
+            more: " --date ",
+            tree: Some((Op::List, 1)),
+            ..PLAIN
+        },
+        status: 2,
+        line: USAGE,
+        ..CASE
+    },
+    // the words before the clock
+    Case {
+        run: Run {
+            more: " --exp_info x",
+            ..PLAIN
+        },
+        status: 2,
+        line: USAGE,
+        ..CASE
+    },
+    // the clock before the folder
+    Case {
+        run: Run {
+            tree: Some((Op::List, 1)),
+            ..UNDATED
+        },
+        status: 3,
+        line: b"aclgen: clock failed\n",
+        ..CASE
+    },
+    // the reading of the policy before what it says
+    Case {
+        policy: b"header { target:: cisco edge extended }\nterm t { source-address:: NOWHERE action:: accept }",
+        run: Run {
+            tree: Some((Op::Read, 2)),
+            ..PLAIN
+        },
+        status: 3,
+        line: b"aclgen: read failed\n",
+        ..CASE
+    },
+    // the files before the report
+    Case {
+        run: Run {
+            tree: Some((Op::Finish, 1)),
+            out: true,
+            ..PLAIN
+        },
+        status: 3,
+        file: Some(LIST),
+        line: b"aclgen: write failed\n",
+        ..CASE
+    },
+];
+
+#[test]
+fn the_first_failure_is_told(rt: HostRuntime) -> Result<(), Fail> {
+    expect(&rt, rt.alloc(), &ORDER)
+}
+
 // The beginning of the second file fails.
 const INTERRUPTED: Run = Run {
     tree: Some((Op::Begin, 2)),
