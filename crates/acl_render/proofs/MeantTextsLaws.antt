@@ -3,15 +3,13 @@ use Rattle.std.proofs.Common.{◌≡◌, ◌↔◌, ℕ, false, List, length, ma
 use Rattle.std.specs.List.{All, AllByRecursion}
 use Rattle.std.proofs.lemmas.List.{length-map}
 use Rattle.std.proofs.lemmas.List.Elements.{recursion_from_All}
-use Rattle.acl_packet.specs.declared.filtering.Outcome.{Outcome}
-use Rattle.acl_packet.specs.declared.packets.Packet.{Packet}
 use Rattle.acl_target.specs.declared.targets.Kind.{Kind}
 use Rattle.acl_target.specs.declared.targets.Kind.TheVariants.{Cisco, Juniper, Iptables, Nftables}
 use Rattle.acl_platform.specs.declared.filters.Filter.{Filter}
 use Rattle.acl_platform.specs.Limits.{is_for}
 use Rattle.acl_platform.specs.Platforms.{DecidesAs, IsAccepted}
 use Rattle.acl_platform.proofs.Sections.{all-spelled}
-use Rattle.acl_languages.specs.PlatformLanguages.{IsDocumentFor, IsTextFor, OneDocument, outcome_on, SectionOn, SpellsOn}
+use Rattle.acl_languages.specs.PlatformLanguages.{IsTextFor, OneDocument, outcome_on, SpellsOn}
 use Rattle.cisco_lang.specs.Documents as cisco_documents
 use Rattle.cisco_lang.specs.Texts as cisco_texts
 use Rattle.junos_lang.specs.Documents as junos_documents
@@ -32,8 +30,8 @@ use Rattle.gen_iptables.proofs.NameLaws as ipt_names
 use Rattle.gen_nftables.specs.Sections as nft_sections
 use Rattle.gen_nftables.proofs.SectionLaws as nft_laws
 use Rattle.gen_nftables.proofs.TableNames as nft_names
-use Rattle.acl_render.specs.MeantTexts.{MeantTextsAreFiles}
-use Rattle.acl_render.specs.PlatformFiles.{AreApart, IsFileText, IsTaken, limit_on, sections_on, text_on}
+use Rattle.acl_render.specs.MeantTexts.{TextsAreOfSections}
+use Rattle.acl_render.specs.PlatformFiles.{AreApart, IsTaken, limit_on, sections_on, text_on}
 use Rattle.acl_render.proofs.TakenFilters.{accepted, kinds, numbers-differ, of-iptables, of-junos, of-nftables}
 
 all-accepted : (kind : Kind) (filters : List Filter) → All (IsTaken kind) filters
@@ -61,43 +59,20 @@ sections-spelled Nftables filters taken apart =
     nft_laws.section_is_spelled filters (all-accepted Nftables filters taken)
     (nft_names.all-differ filters false (of-nftables filters taken) (numbers-differ filters apart.numbers_differ))
 
--- ---- for whatever is asked
+pub texts-are-of-sections : OneDocument → TextsAreOfSections
+texts-are-of-sections one kind filters taken apart doc spelled =
+    one kind (text_on kind filters) doc (sections_on kind filters) spelled (sections-spelled kind filters taken apart)
 
-module _ {A : Type 0} (DecidesFor : A → (Packet → Option Outcome) → Type 0) where
-  -- The text of the sections, which decide as is asked.
-  pub text-for : (kind : Kind) (filters : List Filter) (asked : List A) → length filters ≡ length asked
-      → IsFileText kind DecidesFor filters asked → IsTextFor kind DecidesFor asked (text_on kind filters)
-  text-for Cisco filters asked e h =
-      (sections_on Cisco filters, record { spelled = h.spelled; one_each = length-map filters cisco_sections.section_of ∙ e; decides = h.decides })
-  text-for Juniper filters asked e h =
-      (sections_on Juniper filters, record { spelled = h.spelled; one_each = length-map filters junos_sections.section_of ∙ e; decides = h.decides })
-  text-for Iptables filters asked e h =
-      (sections_on Iptables filters, record { spelled = h.spelled; one_each = length-map filters ipt_sections.section_of ∙ e; decides = h.decides })
-  text-for Nftables filters asked e h =
-      (sections_on Nftables filters, record { spelled = h.spelled; one_each = length-map filters nft_sections.section_of ∙ e; decides = h.decides })
+-- ---- what the text means
 
-  -- What decides of one document decides of the same.
-  moved : (kind : Kind) (asked : List A) (a b : List (SectionOn kind)) → a ≡ b
-      → ((k : ℕ) → IfSome (slice_get asked k) (λ x. DecidesFor x (outcome_on kind a k)))
-      → (k : ℕ) → IfSome (slice_get asked k) (λ x. DecidesFor x (outcome_on kind b k))
-  moved kind asked a b e h k = subst (λ doc. IfSome (slice_get asked k) (λ x. DecidesFor x (outcome_on kind doc k))) e (h k)
+sections-count : (kind : Kind) (filters : List Filter) → length (sections_on kind filters) ≡ length filters
+sections-count Cisco filters = length-map filters cisco_sections.section_of
+sections-count Juniper filters = length-map filters junos_sections.section_of
+sections-count Iptables filters = length-map filters ipt_sections.section_of
+sections-count Nftables filters = length-map filters nft_sections.section_of
 
-  -- The document of the text is that of the sections.
-  pub file-text : OneDocument → (kind : Kind) (filters : List Filter) (asked : List A) → All (IsTaken kind) filters → AreApart filters
-      → IsTextFor kind DecidesFor asked (text_on kind filters) → IsFileText kind DecidesFor filters asked
-  file-text one Cisco filters asked taken apart h =
-      let s = sections-spelled Cisco filters taken apart in
-      record { spelled = s; decides = moved Cisco asked h.0 (sections_on Cisco filters) (one Cisco (text_on Cisco filters) h.0 (sections_on Cisco filters) h.1.spelled s) h.1.decides }
-  file-text one Juniper filters asked taken apart h =
-      let s = sections-spelled Juniper filters taken apart in
-      record { spelled = s; decides = moved Juniper asked h.0 (sections_on Juniper filters) (one Juniper (text_on Juniper filters) h.0 (sections_on Juniper filters) h.1.spelled s) h.1.decides }
-  file-text one Iptables filters asked taken apart h =
-      let s = sections-spelled Iptables filters taken apart in
-      record { spelled = s; decides = moved Iptables asked h.0 (sections_on Iptables filters) (one Iptables (text_on Iptables filters) h.0 (sections_on Iptables filters) h.1.spelled s) h.1.decides }
-  file-text one Nftables filters asked taken apart h =
-      let s = sections-spelled Nftables filters taken apart in
-      record { spelled = s; decides = moved Nftables asked h.0 (sections_on Nftables filters) (one Nftables (text_on Nftables filters) h.0 (sections_on Nftables filters) h.1.spelled s) h.1.decides }
-
-pub meant-texts-are-files : OneDocument → MeantTextsAreFiles
-meant-texts-are-files one kind filters asked taken apart e =
-    (file-text DecidesAs one kind filters asked taken apart, text-for DecidesAs kind filters asked e)
+pub text-for : (kind : Kind) (filters : List Filter) → SpellsOn kind (text_on kind filters) (sections_on kind filters)
+    → ((k : ℕ) → IfSome (slice_get filters k) (λ f. DecidesAs f (outcome_on kind (sections_on kind filters) k)))
+    → IsTextFor kind DecidesAs filters (text_on kind filters)
+text-for kind filters spelled decides =
+    (sections_on kind filters, record { spelled = spelled; one_each = sections-count kind filters; decides = decides })

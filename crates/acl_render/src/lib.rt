@@ -5,6 +5,6 @@ mod laws;
 mod platforms;
 mod rendering;
 
-pub use laws::{a_meant_text_is_that_of_the_sections, fewer_rules_fit, taken_filters_are_short};
+pub use laws::{a_text_is_that_of_its_sections, fewer_rules_fit, taken_filters_are_short};
 pub use platforms::check;
 pub use rendering::render;

@@ -17,7 +17,8 @@ use Rattle.acl_report.specs.Reports.{count_line, terms_report}
 use Rattle.acl_options.specs.CommandLines.{Options}
 use Rattle.acl_options.specs.ComputableOptions.{options_of}
 use Rattle.aclgen_core.specs.FilterPaths.{path_of}
-use Rattle.aclgen_core.specs.FilterRequests.{FilterRequest, filter_for, loaded_slip, requests_of, requests_on}
+use Rattle.aclgen_core.specs.AskedFilters.{FilterRequest}
+use Rattle.aclgen_core.specs.FilterRequests.{filter_for, loaded_slip, requests_of, requests_on}
 use Rattle.aclgen_core.specs.Removals.{PlanBlock, blocks_of}
 use Rattle.aclgen_core.specs.ShadedSlips.{asked_shaded}
 

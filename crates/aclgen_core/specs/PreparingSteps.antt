@@ -16,13 +16,15 @@ use Rattle.acl_platform.specs.Platforms.{DecidesAs}
 use Rattle.acl_load.specs.declared.load_faults.LoadFault.{LoadFault}
 use Rattle.acl_load.specs.declared.policy_loading.Loaded.{Loaded}
 use Rattle.acl_load.specs.LoadFaults.{load_told}
-use Rattle.acl_render.specs.PlatformFiles.{AreApart, IsFileText, IsTaken, count_of, text_on}
+use Rattle.acl_languages.specs.PlatformLanguages.{IsTextFor}
+use Rattle.acl_render.specs.PlatformFiles.{AreApart, IsTaken, count_of, text_on}
 use Rattle.acl_options.specs.CommandLines.{Options}
 use Rattle.acl_report.specs.Reports.{count_line}
 use Rattle.aclgen_core.specs.DecidingSteps.{IsReady, texts_in}
 use Rattle.aclgen_core.specs.FileLists.{PathsDiffer}
 use Rattle.aclgen_core.specs.FilterPaths.{path_of}
-use Rattle.aclgen_core.specs.FilterRequests.{FilterRequest, filter_for, loaded_slip, request_slip, requests_of, requests_on, requests_slip}
+use Rattle.aclgen_core.specs.AskedFilters.{FilterRequest}
+use Rattle.aclgen_core.specs.FilterRequests.{filter_for, loaded_slip, request_slip, requests_of, requests_on, requests_slip}
 use Rattle.aclgen_core.specs.Job.{Plan, Plans, job_slip, plan_of, planned, platforms, report_line}
 use Rattle.aclgen_core.specs.ShadedSlips.{asked_shaded}
 use Rattle.aclgen_core.specs.WorkloadRuns.{PlansWorkload}
@@ -159,15 +161,17 @@ pub record AddsFile (kind : Kind) (draft : FileDraft) (old new : Work) : Type 0 
       ≡ texts_in old ++ text_with kind (string_bytes draft.path) draft.filters
   pub report_is : new.report.bytes ≡ old.report.bytes ++ draft.report.bytes
   pub opened : new.report.is_open ≡ true
-  pub accepted : draft.filters ≢ [] → IsFileText kind DecidesAs draft.filters draft.filters
+  pub meant : draft.filters ≢ []
+      → IsTextFor kind DecidesAs draft.filters (text_on kind draft.filters)
 
 -- The work has the text of each platform's file and, behind these lines, its report, in the order of the platforms.
 pub record IsWorkOf (lines : List ℕ) (drafts : FileDrafts) (work : Work) : Type 0 where
   pub texts_are : texts_in work ≡ flat_map (texts_on drafts) platforms
   pub report_is : work.report.bytes
       ≡ lines ++ flat_map (λ kind. (draft_on kind drafts).report.bytes) platforms
-  pub accepted : (kind : Kind) → (draft_on kind drafts).filters ≢ []
-      → IsFileText kind DecidesAs (draft_on kind drafts).filters (draft_on kind drafts).filters
+  pub meant : (kind : Kind) → (draft_on kind drafts).filters ≢ []
+      → IsTextFor kind DecidesAs (draft_on kind drafts).filters
+      (text_on kind (draft_on kind drafts).filters)
 
 -- What is to be written of a loaded policy.
 pub record IsPlanned (o : Options) (today : Day) (loaded : Loaded) (work : Work) : Type 0 where

@@ -1,10 +1,11 @@
 ghost use Rattle.std.specs.Prelude.{◌≡◌, true, IfOk, OnOk};
 ghost use Rattle.std.specs.List.{All};
 ghost use Rattle.acl_platform.specs.Platforms.{DecidesAs};
+ghost use Rattle.acl_languages.specs.PlatformLanguages.{IsTextFor};
 ghost use Rattle.acl_policy.specs.Conditions.{IsBlock, IsPolicy};
 ghost use Rattle.acl_load.specs.LoadedPolicies.{AreResolvedIn};
 ghost use Rattle.acl_load.specs.LoadFaults.{LoadsFiles};
-ghost use Rattle.acl_render.specs.PlatformFiles.{AreApart, IsFileText, IsTaken, text_on};
+ghost use Rattle.acl_render.specs.PlatformFiles.{AreApart, IsTaken, text_on};
 ghost use Rattle.acl_options.specs.CodeViews.{options_view};
 ghost use Rattle.aclgen_core.specs.PreparingSteps.{
   AddsFile,
@@ -41,7 +42,8 @@ fn text_of(alloc: Global, kind: Kind, filters: &[Filter]) -> Result<Whole, Memor
     requires taken { All (IsTaken kind) filters.now }
     requires apart { AreApart filters.now }
     ensures text { IfOk result (λ text. text.bytes ≡ text_on kind filters.now) }
-    ensures accepted { IfOk result (λ _. IsFileText kind DecidesAs filters.now filters.now) }
+    ensures meant { IfOk result (λ _.
+        IsTextFor kind DecidesAs filters.now (text_on kind filters.now)) }
 {
     let mut text = Whole::new(alloc);
     match render(kind, filters, &mut text) {

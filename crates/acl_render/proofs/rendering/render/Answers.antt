@@ -57,22 +57,22 @@ pub returns-in-Cisco-clause-meant : goal.returns-in-Cisco-clause-meant
 returns-in-Cisco-clause-meant g c =
     let fs = c.args.filters.now in
     subst (λ (k : Kind). IsTextFor k DecidesAs fs (text_on k fs)) (sym c.in-Cisco.is)
-    (text-for DecidesAs Cisco fs fs refl (record { spelled = c.write_all.ensures.spelled; decides = c.write_all.ensures.decides }))
+    (text-for Cisco fs c.write_all.ensures.spelled c.write_all.ensures.decides)
 
 pub returns-in-Juniper-clause-meant : goal.returns-in-Juniper-clause-meant
 returns-in-Juniper-clause-meant g c =
     let fs = c.args.filters.now in
     subst (λ (k : Kind). IsTextFor k DecidesAs fs (text_on k fs)) (sym c.in-Juniper.is)
-    (text-for DecidesAs Juniper fs fs refl (record { spelled = c.write_all-in-Juniper.ensures.spelled; decides = c.write_all-in-Juniper.ensures.decides }))
+    (text-for Juniper fs c.write_all-in-Juniper.ensures.spelled c.write_all-in-Juniper.ensures.decides)
 
 pub returns-in-Iptables-clause-meant : goal.returns-in-Iptables-clause-meant
 returns-in-Iptables-clause-meant g c =
     let fs = c.args.filters.now in
     subst (λ (k : Kind). IsTextFor k DecidesAs fs (text_on k fs)) (sym c.in-Iptables.is)
-    (text-for DecidesAs Iptables fs fs refl (record { spelled = c.write_all-in-Iptables.ensures.spelled; decides = c.write_all-in-Iptables.ensures.decides }))
+    (text-for Iptables fs c.write_all-in-Iptables.ensures.spelled c.write_all-in-Iptables.ensures.decides)
 
 pub returns-in-Nftables-clause-meant : goal.returns-in-Nftables-clause-meant
 returns-in-Nftables-clause-meant g c =
     let fs = c.args.filters.now in
     subst (λ (k : Kind). IsTextFor k DecidesAs fs (text_on k fs)) (sym c.in-Nftables.is)
-    (text-for DecidesAs Nftables fs fs refl (record { spelled = c.write_all-in-Nftables.ensures.spelled; decides = c.write_all-in-Nftables.ensures.decides }))
+    (text-for Nftables fs c.write_all-in-Nftables.ensures.spelled c.write_all-in-Nftables.ensures.decides)
