@@ -1,20 +1,21 @@
 -- The rules of terms decide as the terms do.
-use Rattle.std.proofs.Common.{◌≡◌, Bool, true, false, cond, ◌||◌, List, [], ◌∷◌, ◌++◌, map, flat_map, refl, ap, ◌∙◌}
+use Rattle.std.proofs.Common.{◌≡◌, Bool, true, false, cond, ◌&&◌, ◌||◌, List, [], ◌∷◌, ◌++◌, map, flat_map, refl, ap, ◌∙◌}
 use Rattle.std.specs.List.{AllByRecursion, list_any}
 use Rattle.acl_packet.specs.declared.addresses.Family.{Family}
+use Rattle.acl_packet.specs.declared.addresses.Family.TheVariants.{V6}
 use Rattle.acl_packet.specs.declared.filtering.Outcome.{Outcome}
 use Rattle.acl_packet.specs.declared.filtering.Verdict.TheVariants as verdicts
 use Rattle.acl_packet.specs.declared.packets.Packet.{Packet}
-use Rattle.acl_packet.specs.Addresses.{covers}
+use Rattle.acl_packet.specs.Addresses.{covers, same_family}
 use Rattle.acl_packet.specs.Outcomes.{unlogged}
-use Rattle.acl_packet.specs.Packets.{IsPacket}
+use Rattle.acl_packet.specs.Packets.{IsPacket, is_neighbour_discovery}
 use Rattle.acl_days.specs.declared.days.Day.{Day}
 use Rattle.acl_target.specs.declared.targets.Ending.{Ending}
 use Rattle.acl_target.specs.declared.targets.Ending.TheVariants as endings
 use Rattle.acl_target.specs.declared.targets.Kind.{Kind}
 use Rattle.acl_target.specs.declared.targets.Kind.TheVariants.{Cisco, Juniper, Iptables, Nftables}
 use Rattle.acl_target.specs.declared.targets.Target.{Target}
-use Rattle.acl_target.specs.FilterEndings.{ending_outcome, is_neighbour_discovery}
+use Rattle.acl_target.specs.FilterEndings.{ending_outcome}
 use Rattle.acl_terms.specs.declared.sides.SidePair.{SidePair}
 use Rattle.acl_terms.specs.declared.terms.Term.{Term}
 use Rattle.acl_terms.specs.Outcomes.{decides, denied, mode_of, outcome_of, policy_outcome, shown}
@@ -104,7 +105,7 @@ unfolding ending_outcome
 ending-seen endings.Accept p = refl
 ending-seen endings.Deny p = refl
 ending-seen endings.Left p = refl
-ending-seen endings.Neighbours p = denied-same (is_neighbour_discovery p)
+ending-seen endings.Neighbours p = denied-same (same_family V6 p.family && is_neighbour_discovery p)
 
 ending-shown : (kind : Kind) (ending : Ending) (p : Packet) → ending_outcome ending p ≡ shown kind (ending_outcome ending p)
 ending-shown Cisco ending p = ending-seen ending p

@@ -7,7 +7,7 @@ use Rattle.acl_packet.specs.declared.packets.Packet.{Packet}
 use Rattle.std.proofs.lemmas.Grind.{flat_map-append}
 use Rattle.acl_text.proofs.ListLaws.{all_append}
 use Rattle.acl_grammar.specs.Documents.{SpellsRows, outcome_at}
-use Rattle.acl_grammar.specs.Naming.{in_common}
+use Rattle.acl_text.specs.Names.{in_common}
 use Rattle.acl_grammar.specs.Rows.{Row, text_of_rows}
 use Rattle.acl_grammar.proofs.NamingLaws.{distinct-append}
 use Rattle.acl_grammar.proofs.ListLaws.{get_left, get_right, joined_text}

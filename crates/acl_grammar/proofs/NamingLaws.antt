@@ -6,7 +6,7 @@ use Rattle.std.specs.Set.{is_member}
 use Rattle.std.specs.Str.{bytes_eq}
 use Rattle.std.proofs.lemmas.Bool.{or_parts, or_from, false≢true}
 use Rattle.std.proofs.lemmas.Bool.Decides.{Decides-and}
-use Rattle.acl_grammar.specs.Naming.{in_common}
+use Rattle.acl_text.specs.Names.{in_common}
 use Rattle.acl_grammar.specs.NamingSteps.{are_distinct}
 
 not_false : (a : Bool) → not a ≡ true → a ≡ false

@@ -1,7 +1,6 @@
 pub mod ComparingSteps
 pub mod Documents
 pub mod FamilyWords
-pub mod Naming
 pub mod NamingSteps
 pub mod PortRangeSteps
 pub mod PortRanges

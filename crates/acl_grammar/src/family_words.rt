@@ -5,7 +5,7 @@ use acl_packet::{Families, Family};
 
 /// The family of a header's word. Any word but `inet6` is read as IPv4's.
 #[tactic(auto, unfolding(crate::specs::FamilyWords::family_in))]
-pub fn family_of(word: &[u8]) -> Family
+pub fn family_named(word: &[u8]) -> Family
     ensures { result ≡ family_in word.now }
 {
     if word == b"inet6".as_slice() {

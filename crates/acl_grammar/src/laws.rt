@@ -1,7 +1,7 @@
 ghost use Rattle.std.specs.Prelude.{◌≡◌, ◌+◌, ◌<◌, ◌++◌, [], ℕ, List, false, flat_map, length};
 ghost use Rattle.acl_packet.specs.declared.packets.Packet.{Packet};
 ghost use Rattle.acl_grammar.specs.Documents.{SpellsRows, outcome_at};
-ghost use Rattle.acl_grammar.specs.Naming.{in_common};
+ghost use Rattle.acl_text.specs.Names.{in_common};
 
 use crate::languages::Language;
 

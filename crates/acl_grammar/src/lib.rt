@@ -22,7 +22,7 @@ mod splitting;
 pub use comparing::is_text_of;
 pub use drafts::{DocumentDraft, Draft};
 pub use each_word::{EachWord, WordForm};
-pub use family_words::{families_of, family_of};
+pub use family_words::{families_of, family_named};
 pub use item_lists::{ItemsBehind, OneItem};
 pub use languages::{Language, outcome, read_document, sections};
 pub use laws::{

@@ -28,6 +28,12 @@ covers Inet family = same_family V4 family
 covers Inet6 family = same_family V6 family
 covers Mixed family = true
 
+-- The family of a filter that has one; IPv4 for a filter of both.
+abbrev pub first_family : Families → Family
+first_family Inet = V4
+first_family Inet6 = V6
+first_family Mixed = V4
+
 -- How many addresses a prefix has: one for each value of the bits behind its length.
 abbrev pub size_of : Prefix → ℕ
 size_of p = 2 ^ (width_of p.family - p.len)

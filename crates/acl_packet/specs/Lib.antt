@@ -5,3 +5,4 @@ pub mod NumberWordSteps
 pub mod NumberWords
 pub mod Outcomes
 pub mod Packets
+pub mod PortWeights

@@ -36,6 +36,10 @@ has_ack_or_rst p = has_flag p.flags 16 || has_flag p.flags 4
 abbrev pub is_initial : Packet → Bool
 is_initial p = has_flag p.flags 2 && not (has_flag p.flags 16)
 
+-- A neighbour solicitation, 135, or advertisement, 136, where the packet is one of IPv6 (RFC 4861 sections 4.3 and 4.4).
+abbrev pub is_neighbour_discovery : Packet → Bool
+is_neighbour_discovery p = p.proto == 58 && (p.itype == 136 || p.itype == 135)
+
 -- The connection is known already, or such a one asked for it (nftables(8), "ct state";
 -- iptables-extensions(8), "conntrack").
 abbrev pub is_tracked : Conn → Bool

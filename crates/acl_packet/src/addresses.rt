@@ -62,7 +62,7 @@ pub enum Families {
 }
 
 impl Families {
-    ghost use Rattle.acl_packet.specs.Addresses.{covers};
+    ghost use Rattle.acl_packet.specs.Addresses.{covers, first_family};
 
     /// Whether the family is one of them.
     pub fn covers(self, family: Family) -> bool
@@ -72,6 +72,16 @@ impl Families {
             Families::Inet => family == Family::V4,
             Families::Inet6 => family == Family::V6,
             Families::Mixed => true,
+        }
+    }
+
+    /// The family of a filter that has one; IPv4 for a filter of both.
+    pub fn first_family(self) -> Family
+        ensures { result ≡ first_family self }
+    {
+        match self {
+            Families::Inet | Families::Mixed => Family::V4,
+            Families::Inet6 => Family::V6,
         }
     }
 }

@@ -48,7 +48,7 @@ pub struct Packet {
 }
 
 impl Packet {
-    ghost use Rattle.acl_packet.specs.Packets.{has_ack_or_rst, is_initial};
+    ghost use Rattle.acl_packet.specs.Packets.{has_ack_or_rst, is_initial, is_neighbour_discovery};
 
     /// Whether ACK or RST is set: the packet does not open a connection of TCP (RFC 9293 section 3.5).
     pub fn has_ack_or_rst(&self) -> bool
@@ -62,6 +62,13 @@ impl Packet {
         ensures { result ≡ is_initial self.now }
     {
         has_flag(self.flags, 2) && !has_flag(self.flags, 16)
+    }
+
+    /// Whether a packet of IPv6 is a neighbour solicitation or advertisement (RFC 4861 sections 4.3 and 4.4).
+    pub fn is_neighbour_discovery(&self) -> bool
+        ensures { result ≡ is_neighbour_discovery self.now }
+    {
+        self.proto == 58 && (self.itype == 136 || self.itype == 135)
     }
 }
 

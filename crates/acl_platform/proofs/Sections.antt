@@ -8,7 +8,7 @@ use Rattle.std.proofs.lemmas.List.{drop_more, map-append, take-append-drop}
 use Rattle.acl_packet.specs.declared.packets.Packet.{Packet}
 use Rattle.acl_packet.specs.declared.filtering.Outcome.{Outcome}
 use Rattle.acl_grammar.specs.Documents.{SpellsRows, outcome_at}
-use Rattle.acl_grammar.specs.Naming.{in_common}
+use Rattle.acl_text.specs.Names.{in_common}
 use Rattle.acl_grammar.specs.Rows.{Row, text_of_rows}
 use Rattle.acl_grammar.proofs.JoinLaws.{joined_documents, nothing_is_spelled}
 use Rattle.acl_grammar.proofs.ListLaws.{joined_text}

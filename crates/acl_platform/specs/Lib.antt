@@ -2,7 +2,6 @@ pub mod ChoiceSteps
 pub mod Choices
 pub mod Combinations
 pub mod Elements
-pub mod Families
 pub mod Features
 pub mod Limits
 pub mod NameSlotSteps

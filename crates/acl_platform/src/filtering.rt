@@ -1,6 +1,6 @@
 ghost use Rattle.std.specs.Prelude.{◌≡◌};
 ghost use Rattle.acl_packet.specs.Outcomes.{unlogged};
-ghost use Rattle.acl_target.specs.FilterEndings.{ending_verdict, is_neighbour_discovery};
+ghost use Rattle.acl_target.specs.FilterEndings.{ending_verdict};
 ghost use Rattle.acl_platform.specs.Rules.{
   decided_by,
   filter_outcome,
@@ -72,15 +72,9 @@ fn ending_verdict(ending: Ending, packet: &Packet) -> Verdict
         Ending::Accept => Verdict::Accept,
         Ending::Deny => Verdict::Deny,
         Ending::Left => Verdict::Left,
-        Ending::Neighbours if is_neighbour_discovery(packet) => Verdict::Accept,
+        Ending::Neighbours if packet.family == Family::V6 && packet.is_neighbour_discovery() => {
+            Verdict::Accept
+        }
         Ending::Neighbours => Verdict::Deny,
     }
-}
-
-fn is_neighbour_discovery(packet: &Packet) -> bool
-    ensures { result ≡ is_neighbour_discovery packet.now }
-{
-    packet.family == Family::V6
-        && packet.proto == 58
-        && (packet.itype == 135 || packet.itype == 136)
 }

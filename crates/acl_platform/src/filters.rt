@@ -1,5 +1,4 @@
 ghost use Rattle.std.specs.Prelude.{◌≡◌};
-ghost use Rattle.acl_platform.specs.Families.{family_of};
 ghost use Rattle.acl_platform.specs.Features.{feature_word};
 
 use crate::shared_rules::SharedRules;
@@ -59,13 +58,3 @@ pub enum Limit {
     TooManyEntries,
 }
 
-/// The family of a filter that has one; IPv4 for a filter of both.
-pub fn family_of(families: Families) -> Family
-    ensures { result ≡ family_of families }
-{
-    match families {
-        Families::Inet => Family::V4,
-        Families::Inet6 => Family::V6,
-        Families::Mixed => Family::V4,
-    }
-}

@@ -23,7 +23,7 @@ pub use choices::{Choices, NumberChoices, RangeChoices};
 pub use combinations::{Combination, count_combinations, put_combinations};
 pub use elements::{address_elements, range_elements};
 pub use filtering::filter_outcome;
-pub use filters::{Feature, Filter, Limit, family_of};
+pub use filters::{Feature, Filter, Limit};
 pub use laws::{combinations_hold_what_the_sets_hold, sound_rules_have_combinations};
 pub use limits::{Earlier, RuleLimits, count_in_limit, first_limit, names_sctp_ports};
 pub use numbers::{NumberForm, count_numbers, put_numbers, put_numbers_from};

@@ -1,11 +1,11 @@
 -- Groups of ranges with a limit to their weight, as the ports of one multiport match of iptables
 -- (iptables-extensions(8), "multiport": up to 15 ports, where a range counts as two).
-use Rattle.std.specs.Prelude.{ℕ, suc, ◌+◌, ◌-◌, ◌≤◌, ◌==◌, nat_le, if◌then◌else◌, List, [], ◌∷◌, length, take, drop}
+use Rattle.std.specs.Prelude.{ℕ, suc, ◌+◌, ◌-◌, ◌≤◌, nat_le, if◌then◌else◌, List, [], ◌∷◌, length, take, drop}
+use Rattle.acl_packet.specs.PortWeights.{port_weight}
 use Rattle.acl_sets.specs.declared.sets.Range.{Range}
 
--- A single number weighs 1, a longer range 2.
 abbrev pub weight_of : Range → ℕ
-weight_of r = if r.low == r.high then 1 else 2
+weight_of r = port_weight r.low r.high
 
 -- What the ranges of a list weigh together.
 abbrev pub weight : List Range → ℕ

@@ -3,7 +3,8 @@ use Rattle.std.proofs.Common.{◌≡◌, ℕ, Bool, true, false, ◌||◌, List,
 use Rattle.std.specs.Str.{bytes_eq}
 use Rattle.std.proofs.lemmas.Cmp.{nat_list_eq_equiv}
 use Rattle.acl_target.specs.ClashSteps.{names_shared}
-use Rattle.acl_target.specs.Clashes.{ipv6_list, list_names, in_common}
+use Rattle.acl_text.specs.Names.{in_common}
+use Rattle.acl_target.specs.Clashes.{ipv6_list, list_names}
 
 second-only : (p q : Bool) → ((p || (q || false)) || false) ≡ ((p || q) || false)
 second-only true q = refl

@@ -1,7 +1,7 @@
 -- Targets that would have the same name on their platform.
 use Rattle.std.specs.Prelude.{ℕ, Bool, true, false, ◌&&◌, if◌then◌else◌, List, [], ◌∷◌, ◌++◌, codes}
-use Rattle.std.specs.List.{list_any}
 use Rattle.std.specs.Str.{bytes_eq}
+use Rattle.acl_text.specs.Names.{in_common}
 use Rattle.acl_packet.specs.declared.addresses.Families.{Families}
 use Rattle.acl_packet.specs.declared.addresses.Families.TheVariants.{Inet, Inet6, Mixed}
 use Rattle.acl_packet.specs.declared.filtering.Hook.{Hook}
@@ -22,9 +22,6 @@ ipv6_list name = codes "ipv6-" ++ name
 -- (Cisco IOS command reference, ipv6 access-list).
 abbrev pub list_names : Bool → List ℕ → List (List ℕ)
 list_names mixed name = if mixed then name ∷ ipv6_list name ∷ [] else name ∷ []
-
-abbrev pub in_common : List (List ℕ) → List (List ℕ) → Bool
-in_common xs ys = list_any (λ x. list_any (λ y. bytes_eq x y) ys) xs
 
 unfoldable pub share_lists : Target → Target → Bool
 share_lists a b =

@@ -1,6 +1,8 @@
 -- Names of lists, filters and terms, and free texts.
 use Rattle.std.specs.Prelude.{ℕ, Bool, true, false, not, ◌&&◌, ◌||◌, ◌==◌, nat_le, List, [], ◌∷◌, length}
-use Rattle.std.specs.List.{list_all}
+use Rattle.std.specs.List.{list_all, list_any}
+use Rattle.std.specs.Set.{is_member}
+use Rattle.std.specs.Str.{bytes_eq}
 
 -- Bytes of ASCII (RFC 20).
 abbrev pub is_letter : ℕ → Bool
@@ -38,3 +40,7 @@ single_spaced after (b ∷ bs) = not (after && b == 32) && single_spaced (b == 3
 abbrev pub is_safe_text : List ℕ → Bool
 is_safe_text text =
     nat_le (length text) 128 && (list_all is_safe_byte text && single_spaced true text)
+
+-- A name of the one list is a name of the other.
+abbrev pub in_common : List (List ℕ) → List (List ℕ) → Bool
+in_common names others = list_any (λ name. is_member bytes_eq others name) names

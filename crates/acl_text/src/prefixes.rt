@@ -30,12 +30,12 @@ fn prefix_of(word: &[u8]) -> Option<Prefix>
     ensures { result ≡ prefix_in word.now }
 {
     match split_at_byte(word, b'/') {
-        Some((address, len)) => read_block(family_of(address), address, len),
-        None => read_full(family_of(word), word),
+        Some((address, len)) => read_block(address_family(address), address, len),
+        None => read_full(address_family(word), word),
     }
 }
 
-fn family_of(word: &[u8]) -> Family
+fn address_family(word: &[u8]) -> Family
     ensures { result ≡ family_in word.now }
 {
     if contains_byte(word, b':') {

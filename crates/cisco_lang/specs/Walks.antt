@@ -13,7 +13,7 @@ use Rattle.acl_packet.specs.declared.filtering.Verdict.{Verdict}
 use Rattle.acl_packet.specs.declared.filtering.Verdict.TheVariants.{Accept, Deny}
 use Rattle.acl_packet.specs.Addresses.{covers, has_address, same_family}
 use Rattle.acl_packet.specs.Outcomes.{unlogged}
-use Rattle.acl_packet.specs.Packets.{has_flag}
+use Rattle.acl_packet.specs.Packets.{has_flag, is_neighbour_discovery}
 use Rattle.acl_grammar.specs.Documents.{outcome_at}
 use Rattle.acl_grammar.specs.RuleParts.{number_holds}
 use Rattle.cisco_lang.specs.declared.documents.Section.{Section}
@@ -61,14 +61,10 @@ verdict_of permit = if permit then Accept else Deny
 abbrev pub decided_by : Entry → Outcome
 decided_by e = record { verdict = verdict_of e.permit; logged = e.log }
 
--- Neighbour advertisements, 136, and solicitations, 135, pass at the end of an IPv6 list; all else
--- is denied.
-abbrev pub is_neighbour : Packet → Bool
-is_neighbour p = p.proto == 58 && (p.itype == 136 || p.itype == 135)
-
+-- Neighbour discovery passes at the end of an IPv6 list; all else is denied.
 abbrev pub ending : Family → Packet → Outcome
 ending V4 p = unlogged Deny
-ending V6 p = unlogged (verdict_of (is_neighbour p))
+ending V6 p = unlogged (verdict_of (is_neighbour_discovery p))
 
 -- The first entry that holds the packet decides, else the end of the list.
 unfoldable pub first_holding : List Item → Packet → Option Outcome

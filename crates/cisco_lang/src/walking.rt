@@ -1,7 +1,7 @@
 ghost use Rattle.std.specs.Prelude.{◌≡◌, length};
 ghost use Rattle.acl_packet.specs.Packets.{IsPacket};
 ghost use Rattle.acl_grammar.specs.RuleParts.{number_holds};
-ghost use Rattle.cisco_lang.specs.Walks.{port_holds, flags_hold, entry_holds, ends_hold, ports_hold, tests_hold, is_entry, verdict_of, decided_by, is_neighbour, ending, first_holding, has_entries, walk, items_of, section_outcome, outcome_of};
+ghost use Rattle.cisco_lang.specs.Walks.{port_holds, flags_hold, entry_holds, ends_hold, ports_hold, tests_hold, is_entry, verdict_of, decided_by, ending, first_holding, has_entries, walk, items_of, section_outcome, outcome_of};
 
 use crate::documents::{AccessList, Doc, Entry, Flags, Item, Section};
 use acl_grammar::{ACK, RST, SYN, number_holds};
@@ -85,14 +85,8 @@ fn ending(family: Family, packet: &Packet) -> Outcome
 {
     match family {
         Family::V4 => Outcome::unlogged(Verdict::Deny),
-        Family::V6 => Outcome::unlogged(verdict_of(is_neighbour(packet))),
+        Family::V6 => Outcome::unlogged(verdict_of(packet.is_neighbour_discovery())),
     }
-}
-
-fn is_neighbour(packet: &Packet) -> bool
-    ensures { result ≡ is_neighbour packet.now }
-{
-    packet.proto == 58 && (packet.itype == 136 || packet.itype == 135)
 }
 
 fn entry_holds(entry: &Entry, packet: &Packet) -> bool

@@ -13,7 +13,7 @@ use Rattle.acl_packet.specs.declared.filtering.Verdict.TheVariants.{Accept, Deny
 use Rattle.acl_packet.specs.declared.packets.Packet.{Packet}
 use Rattle.acl_packet.specs.Addresses.{covers, has_address, same_family, width_of, everywhere}
 use Rattle.acl_packet.specs.Outcomes.{unlogged}
-use Rattle.acl_packet.specs.Packets.{IsPacket}
+use Rattle.acl_packet.specs.Packets.{IsPacket, is_neighbour_discovery}
 use Rattle.acl_grammar.proofs.DecisionLaws.{le_decides}
 use Rattle.acl_target.specs.declared.targets.Ending.{Ending}
 use Rattle.acl_target.specs.declared.targets.Ending.TheVariants.{Neighbours}
@@ -149,21 +149,14 @@ unwrapped : (b : Bool) (x z : Outcome) (o : Option Outcome) → unwrap_or (cond 
 unwrapped true x z o = refl
 unwrapped false x z o = refl
 
-turned : (proto a b : Bool) → verdict_of (proto && (b || a)) ≡ cond (proto && (a || b)) Accept Deny
-turned false a b = refl
-turned true true true = refl
-turned true true false = refl
-turned true false true = refl
-turned true false false = refl
-
 ending-same : (f : Family) (p : Packet) → p.family ≡ f → ending f p ≡ ending_outcome Neighbours p
 unfolding ending_outcome
 ending-same V4 p e =
-    let out : Family → Outcome = λ g. unlogged (cond (same_family V6 g && p.proto == 58 && (p.itype == 135 || p.itype == 136)) Accept Deny) in
+    let out : Family → Outcome = λ g. unlogged (cond (same_family V6 g && is_neighbour_discovery p) Accept Deny) in
     ap out (sym e)
 ending-same V6 p e =
-    let out : Family → Outcome = λ g. unlogged (cond (same_family V6 g && p.proto == 58 && (p.itype == 135 || p.itype == 136)) Accept Deny) in
-    ap (λ v. unlogged v) (turned (p.proto == 58) (p.itype == 135) (p.itype == 136)) ∙ ap out (sym e)
+    let out : Family → Outcome = λ g. unlogged (cond (same_family V6 g && is_neighbour_discovery p) Accept Deny) in
+    ap out (sym e)
 
 over-rules : (families : Families) (rules : List Rule) (p : Packet) → AllByRecursion (IsSoundRule Cisco families) rules → IsPacket p
     → unwrap_or (first_holding (flat_map (items_in p.family) rules) p) (ending p.family p) ≡ rules_outcome Neighbours rules p

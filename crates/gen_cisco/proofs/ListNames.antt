@@ -8,7 +8,7 @@ use Rattle.std.proofs.lemmas.List.Folds.{list_any-append}
 use Rattle.acl_packet.specs.declared.addresses.Families.{Families}
 use Rattle.acl_packet.specs.declared.addresses.Families.TheVariants.{Inet, Inet6, Mixed}
 use Rattle.acl_text.specs.Output.{joined}
-use Rattle.acl_grammar.specs.Naming.{in_common}
+use Rattle.acl_text.specs.Names.{in_common}
 use Rattle.acl_grammar.specs.Rows.{Row, row_text, text_of_rows}
 use Rattle.acl_grammar.proofs.NamingLaws.{distinct-append}
 use Rattle.acl_target.specs.declared.targets.Kind.{Kind}

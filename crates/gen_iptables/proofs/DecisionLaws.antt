@@ -9,7 +9,7 @@ use Rattle.acl_packet.specs.declared.filtering.Outcome.{Outcome}
 use Rattle.acl_packet.specs.declared.filtering.Verdict.{Verdict}
 use Rattle.acl_packet.specs.declared.filtering.Verdict.TheVariants.{Accept, Deny, Reject, Reset, Left}
 use Rattle.acl_packet.specs.declared.packets.Packet.{Packet}
-use Rattle.acl_packet.specs.Addresses.{has_address, width_of}
+use Rattle.acl_packet.specs.Addresses.{first_family, has_address, width_of}
 use Rattle.acl_packet.specs.Packets.{has_flag, is_initial, IsPacket}
 use Rattle.acl_grammar.proofs.DecisionLaws.{family_decides}
 use Rattle.acl_sets.specs.declared.sets.Range.{Range}
@@ -42,7 +42,6 @@ use Rattle.ipt_lang.specs.Walks.{address_holds, chains_walk, flags_hold, go_on, 
 use Rattle.gen_iptables.proofs.GroupLaws.{any-group, group_holds}
 use Rattle.gen_iptables.specs.Groups.{group_choices}
 use Rattle.gen_iptables.proofs.SectionLaws.{chain-target, IsTaken, one-family, sound-rules}
-use Rattle.acl_platform.specs.Families.{family_of}
 use Rattle.gen_iptables.specs.Sections.{address_of, asks_state, Back, backs, chain_of, chain_rule, chain_rules, combinations, flag_choices, Front, fronts, Parts, policy_of, rules_for, section_of}
 
 -- ---- addresses
@@ -248,7 +247,7 @@ ending-same endings.Left p h = refl
 ending-same endings.Neighbours p h = absurd (false≢true (sym h))
 
 over-rules : (families : Families) (ending : Ending) (rules : List Rule) (p : Packet) → is_mixed families ≡ false → is_neighbours ending ≡ false
-    → AllByRecursion (IsSoundRule Iptables families) rules → IsPacket p → p.family ≡ family_of families
+    → AllByRecursion (IsSoundRule Iptables families) rules → IsPacket p → p.family ≡ first_family families
     → walk (policy_of ending) (map chain_of rules) p ≡ rules_outcome ending rules p
 unfolding chains_walk rules_outcome
 over-rules families ending [] p m n h k e = ending-same ending p n
@@ -265,5 +264,5 @@ section_decides f h = λ p packet family.
     let target = (chain-target f h).1 in
     let own = one-family f.families p.family target.one_family family in
     let chains = map chain_of f.rules in
-    ap (λ b. cond b (Some (walk (policy_of f.ending) chains p)) None) ((family_decides (family_of f.families) p.family).1 (sym own))
+    ap (λ b. cond b (Some (walk (policy_of f.ending) chains p)) None) ((family_decides (first_family f.families) p.family).1 (sym own))
     ∙ ap Some (over-rules f.families f.ending f.rules p target.one_family target.ending_is (sound-rules f h) packet own)

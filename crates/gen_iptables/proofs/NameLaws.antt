@@ -19,7 +19,7 @@ use Rattle.acl_platform.proofs.OneName
 use Rattle.ipt_lang.specs.Documents.{family_word, hook_word, name_of}
 use Rattle.ipt_lang.specs.Texts.{head_rows, section_rows, target_row}
 use Rattle.gen_iptables.specs.SectionNames.{FirstLine, IsOfIptables, section_body, SectionsDiffer}
-use Rattle.acl_platform.specs.Families.{family_of}
+use Rattle.acl_packet.specs.Addresses.{first_family}
 use Rattle.gen_iptables.specs.Sections.{section_of}
 
 -- ---- the first line
@@ -28,7 +28,7 @@ abbrev text_for : Kind → List ℕ → Families → List ℕ
 text_for kind name fs = joined (kind_text kind ∷ codes " " ∷ name ∷ codes " " ∷ families_text kind fs ∷ [])
 
 first-row : (hook : Hook) (fs : Families) (rows : List Row) → is_mixed fs ≡ false
-    → text_of_rows (target_row hook (family_of fs) ∷ rows)
+    → text_of_rows (target_row hook (first_family fs) ∷ rows)
     ≡ (codes "## " ++ text_for Iptables (chain_text hook) fs) ++ 10 ∷ text_of_rows rows
 unfolding row_text
 first-row Input Inet rows m = refl
@@ -46,13 +46,13 @@ first-line f stateful kind h =
     let target : IsChain (target_of stateful f) = subst P kind h.platform in
     let rows = section_body (section_of f) in
     let text : Kind → List ℕ → List ℕ = λ k name. (codes "## " ++ text_for k name f.families) ++ 10 ∷ text_of_rows rows in
-    ap text_of_rows (append-nil (target_row f.hook (family_of f.families) ∷ rows)) ∙ first-row f.hook f.families rows target.one_family
+    ap text_of_rows (append-nil (target_row f.hook (first_family f.families) ∷ rows)) ∙ first-row f.hook f.families rows target.one_family
     ∙ ap (text Iptables) (sym target.name_is) ∙ ap (λ k. text k f.name) (sym kind)
 
 -- ---- names
 
 abbrev name_for : Hook → Families → List ℕ
-name_for hook fs = hook_word hook ++ 32 ∷ family_word (family_of fs)
+name_for hook fs = hook_word hook ++ 32 ∷ family_word (first_family fs)
 
 names-same : (i j : Hook) (fs gs : Families) → is_mixed fs ≡ false → is_mixed gs ≡ false
     → bytes_eq (name_for i fs) (name_for j gs) ≡ same_hook i j && same_families fs gs

@@ -18,7 +18,7 @@ use Rattle.ipt_lang.specs.declared.documents.Act.{Act}
 use Rattle.ipt_lang.specs.Texts.{back_words, chain_row, chain_rows, front_words, head_rows, jump_row, ports_words, range_word, remark_rows, rule_row, rule_rows, rule_words, section_rows, text_of}
 use Rattle.gen_iptables.specs.Groups.{group_choices}
 use Rattle.gen_iptables.specs.ChainRowSteps.{combination_rows, head_of, rows_behind_front, rows_behind_sources}
-use Rattle.acl_platform.specs.Families.{family_of}
+use Rattle.acl_packet.specs.Addresses.{first_family}
 use Rattle.gen_iptables.specs.Sections.{address_of, asks_state, Back, backs, chain_of, chain_rule, combinations, ends_of, Front, fronts, Parts, rules_for, section_of}
 
 -- ---- a rule of a chain
@@ -79,14 +79,14 @@ chain-text hook family r {name = name} e =
     let rules = flat_map (combination_rows hook family r) (combinations r) in
     ap (λ n. text n rules) e ∙ ap (text r.name) (flat_twice (rule_rows hook family r.name) (rules_for r) (combinations r))
 
-pub section-text : (f : Filter) {head : SectionHead} {family : Family} {rules : List Rule} → head ≡ head_of f → family ≡ family_of f.families → rules ≡ f.rules
+pub section-text : (f : Filter) {head : SectionHead} {family : Family} {rules : List Rule} → head ≡ head_of f → family ≡ first_family f.families → rules ≡ f.rules
     → text_of_rows (head_rows head.hook head.family head.accept ++ flat_map (λ r. chain_rows f.hook family (chain_of r)) rules)
     ≡ text_of (section_of f ∷ [])
 unfolding section_rows
 section-text f {head = head} {family = family} {rules = rules} e h k =
     let front : SectionHead → List Row = λ s. head_rows s.hook s.family s.accept in
     let chains : Family → List Rule → List Row = λ g rs. flat_map (λ r. chain_rows f.hook g (chain_of r)) rs in
-    let own = family_of f.families in
+    let own = first_family f.families in
     ap (λ s. text_of_rows (front s ++ chains family rules)) e ∙ ap (λ g. text_of_rows (front (head_of f) ++ chains g rules)) h
     ∙ ap (λ rs. text_of_rows (front (head_of f) ++ chains own rs)) k
     ∙ ap (λ rows. text_of_rows (front (head_of f) ++ rows)) (sym (flat_map-map (chain_rows f.hook own) chain_of f.rules))

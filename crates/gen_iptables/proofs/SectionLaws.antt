@@ -8,7 +8,7 @@ use Rattle.acl_packet.specs.declared.addresses.Families.{Families}
 use Rattle.acl_packet.specs.declared.addresses.Families.TheVariants.{Inet, Inet6, Mixed}
 use Rattle.acl_packet.specs.declared.addresses.Family.{Family}
 use Rattle.acl_packet.specs.declared.addresses.Family.TheVariants.{V4, V6}
-use Rattle.acl_packet.specs.Addresses.{covers}
+use Rattle.acl_packet.specs.Addresses.{covers, first_family}
 use Rattle.acl_text.specs.Names.{is_name}
 use Rattle.acl_grammar.proofs.DecisionLaws.{le_decides}
 use Rattle.acl_target.specs.declared.targets.Kind.TheVariants.{Iptables}
@@ -26,7 +26,6 @@ use Rattle.ipt_lang.specs.Documents.{chain_names, IsChain}
 use Rattle.ipt_lang.specs.Texts.{Spells, text_of}
 use Rattle.gen_iptables.specs.Limits.{is_for_iptables, limit_of, rule_limit}
 use Rattle.gen_iptables.proofs.RuleLaws.{rules-are-valid}
-use Rattle.acl_platform.specs.Families.{family_of}
 use Rattle.gen_iptables.specs.Sections.{chain_of, entry_count, section_of}
 
 -- ---- an accepted filter
@@ -40,7 +39,7 @@ chain-target f h = target-fits Iptables limit_of f h
 pub sound-rules : (f : Filter) → IsTaken f → AllByRecursion (IsSoundRule Iptables f.families) f.rules
 sound-rules f h = rules-are Iptables limit_of f h
 
-pub one-family : (fs : Families) (f : Family) → is_mixed fs ≡ false → covers fs f ≡ true → f ≡ family_of fs
+pub one-family : (fs : Families) (f : Family) → is_mixed fs ≡ false → covers fs f ≡ true → f ≡ first_family fs
 one-family Inet V4 m h = refl
 one-family Inet V6 m h = absurd (false≢true h)
 one-family Inet6 V4 m h = absurd (false≢true h)
@@ -83,7 +82,7 @@ chain-is families r h short =
     }
 
 chains-are : (families : Families) (rules : List Rule) → is_mixed families ≡ false → AllByRecursion (IsSoundRule Iptables families) rules
-    → AllByRecursion IsShort rules → AllByRecursion (IsChain (family_of families)) (map chain_of rules)
+    → AllByRecursion IsShort rules → AllByRecursion (IsChain (first_family families)) (map chain_of rules)
 chains-are families [] m h w = tt
 chains-are families (r ∷ rules) m h w = (
   subst (λ f. IsChain f (chain_of r)) (one-family families r.family m h.0.family) (chain-is families r h.0 w.0),

@@ -9,13 +9,13 @@ use Rattle.acl_platform.specs.declared.rules.Rule.{Rule}
 use Rattle.ipt_lang.specs.declared.chain_rows.SectionHead.{SectionHead}
 use Rattle.ipt_lang.specs.Texts.{rule_rows}
 use Rattle.gen_iptables.specs.Groups.{group_choices}
-use Rattle.acl_platform.specs.Families.{family_of}
+use Rattle.acl_packet.specs.Addresses.{first_family}
 use Rattle.gen_iptables.specs.Sections.{Back, backs, Front, Parts, policy_of, rules_for}
 
 abbrev pub head_of : Filter → SectionHead
 head_of f = record {
   hook = f.hook;
-  family = family_of f.families;
+  family = first_family f.families;
   accept = policy_of f.ending;
 }
 

@@ -10,7 +10,7 @@ use Rattle.acl_platform.specs.declared.rules.Rule.{Rule}
 use Rattle.acl_platform.specs.declared.rules.Test.{Test}
 use Rattle.acl_platform.specs.declared.rules.Test.TheVariants.{Plain, AckOrRst, SynNotAck, Rst, State}
 use Rattle.acl_platform.specs.Choices.{number_choices, pairs}
-use Rattle.acl_platform.specs.Families.{family_of}
+use Rattle.acl_packet.specs.Addresses.{first_family}
 use Rattle.acl_platform.specs.Remarks.{remarks}
 use Rattle.ipt_lang.specs.declared.documents.Section.{Section}
 use Rattle.ipt_lang.specs.declared.documents.Chain.{Chain}
@@ -107,7 +107,7 @@ policy_of endings.Neighbours = None
 abbrev pub section_of : Filter → Section
 section_of f = record {
   hook = f.hook;
-  family = family_of f.families;
+  family = first_family f.families;
   accept = policy_of f.ending;
   chains = map chain_of f.rules;
 }

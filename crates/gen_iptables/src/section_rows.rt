@@ -2,7 +2,7 @@ ghost use Rattle.std.specs.Prelude.{◌≡◌, ◌∷◌, [], IsTrue, flat_map};
 ghost use Rattle.std.specs.List.{All};
 ghost use Rattle.acl_text.specs.Puts.{Puts};
 ghost use Rattle.acl_platform.specs.Combinations.{IsSized};
-ghost use Rattle.acl_platform.specs.Families.{family_of};
+ghost use Rattle.acl_packet.specs.Addresses.{first_family};
 ghost use Rattle.ipt_lang.specs.Texts.{chain_rows, remark_rows, text_of};
 ghost use Rattle.gen_iptables.specs.ChainRowSteps.{head_of};
 ghost use Rattle.gen_iptables.specs.Sections.{chain_of, policy_of, section_of};
@@ -10,7 +10,7 @@ ghost use Rattle.gen_iptables.specs.Sections.{chain_of, policy_of, section_of};
 use crate::rule_rows::ChainRules;
 use acl_grammar::Rows;
 use acl_packet::{Family, Hook};
-use acl_platform::{Filter, RemarkForm, RemarkRows, Rule, RuleForm, family_of, put_rules};
+use acl_platform::{Filter, RemarkForm, RemarkRows, Rule, RuleForm, put_rules};
 use acl_target::Ending;
 use acl_text::{Out, PutFault};
 use ipt_lang::{ChainHead, JumpRow, RemarkRow, SectionHead};
@@ -23,7 +23,7 @@ pub(crate) fn put_section<O: Out>(filter: &Filter, out: &mut O) -> Result<(), Pu
 {
     let chains = ChainsRows {
         hook: filter.hook,
-        family: family_of(filter.families),
+        family: filter.families.first_family(),
         rules: filter.rules.as_slice(),
     };
     (head_of(filter), chains).put_rows(out)
@@ -34,7 +34,7 @@ fn head_of(filter: &Filter) -> SectionHead
 {
     SectionHead {
         hook: filter.hook,
-        family: family_of(filter.families),
+        family: filter.families.first_family(),
         accept: policy_of(filter.ending),
     }
 }

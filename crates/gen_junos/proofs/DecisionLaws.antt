@@ -9,7 +9,7 @@ use Rattle.acl_packet.specs.declared.addresses.Family.TheVariants.{V4, V6}
 use Rattle.acl_packet.specs.declared.filtering.Outcome.{Outcome}
 use Rattle.acl_packet.specs.declared.filtering.Verdict.TheVariants as verdicts
 use Rattle.acl_packet.specs.declared.packets.Packet.{Packet}
-use Rattle.acl_packet.specs.Addresses.{covers, same_family, width_of}
+use Rattle.acl_packet.specs.Addresses.{covers, first_family, same_family, width_of}
 use Rattle.acl_packet.specs.Outcomes.{unlogged}
 use Rattle.acl_packet.specs.Packets.{IsPacket}
 use Rattle.acl_packet.specs.AddressLists.{any_has}
@@ -31,7 +31,6 @@ use Rattle.acl_platform.proofs.ElementLaws.{addresses-hold, numbers-hold, ports-
 use Rattle.acl_platform.proofs.SoundRules.{in-tops}
 use Rattle.junos_lang.specs.Walks.{section_outcome, term_holds, test_holds, walk}
 use Rattle.gen_junos.specs.Limits.{is_for_junos, limit_of}
-use Rattle.acl_platform.specs.Families.{family_of}
 use Rattle.gen_junos.specs.Sections.{default_term, section_of, term_of, terms_of, test_of}
 
 -- ---- a rule
@@ -84,7 +83,7 @@ term-same families r p h k e =
 -- ---- families
 
 -- a filter of one family covers that family alone
-pub one-family : (fs : Families) (f : Family) → is_mixed fs ≡ false → covers fs f ≡ true → f ≡ family_of fs
+pub one-family : (fs : Families) (f : Family) → is_mixed fs ≡ false → covers fs f ≡ true → f ≡ first_family fs
 one-family Inet V4 h k = refl
 one-family Inet V6 h k = absurd (false≢true k)
 one-family Inet6 V4 h k = absurd (false≢true k)
@@ -100,14 +99,14 @@ same f g e = ap (same_family f) (sym e) ∙ itself f
 
 -- ---- all rules
 
-rule-same : (fs : Families) (r : Rule) (p : Packet) → is_mixed fs ≡ false → p.family ≡ family_of fs → IsSoundRule Juniper fs r → IsPacket p
+rule-same : (fs : Families) (r : Rule) (p : Packet) → is_mixed fs ≡ false → p.family ≡ first_family fs → IsSoundRule Juniper fs r → IsPacket p
     → term_holds (term_of r) p ≡ rule_holds r p
 rule-same fs r p m e h k =
     let families : p.family ≡ r.family = e ∙ sym (one-family fs r.family m h.family) in
     let both = sets_hold r p && passes r.test p in
     term-same fs r p h k families ∙ ap (λ b. b && both) (sym (same r.family p.family (sym families)))
 
-over-rules : (fs : Families) (rules : List Rule) (p : Packet) → is_mixed fs ≡ false → p.family ≡ family_of fs
+over-rules : (fs : Families) (rules : List Rule) (p : Packet) → is_mixed fs ≡ false → p.family ≡ first_family fs
     → AllByRecursion (IsSoundRule Juniper fs) rules → IsPacket p → walk (map term_of rules) p ≡ rules_outcome Deny rules p
 unfolding walk rules_outcome ending_outcome
 over-rules fs [] p m e h k = refl
@@ -120,7 +119,7 @@ denied : (b : Bool) → cond b (unlogged verdicts.Deny) (unlogged verdicts.Deny)
 denied true = refl
 denied false = refl
 
-over-terms : (fs : Families) (rules : List Rule) (p : Packet) → is_mixed fs ≡ false → p.family ≡ family_of fs
+over-terms : (fs : Families) (rules : List Rule) (p : Packet) → is_mixed fs ≡ false → p.family ≡ first_family fs
     → AllByRecursion (IsSoundRule Juniper fs) rules → IsPacket p → walk (terms_of rules) p ≡ rules_outcome Deny rules p
 unfolding walk rules_outcome ending_outcome
 over-terms fs [] p m e h k = denied (term_holds default_term p)
@@ -134,8 +133,8 @@ pub section_decides : (f : Filter) → IsAccepted is_for_junos limit_of f → De
 section_decides f h = λ p packet family.
     let target = (target-fits Juniper limit_of f h).1 in
     let mixed = target.1 in
-    let e : p.family ≡ family_of f.families = one-family f.families p.family mixed family in
+    let e : p.family ≡ first_family f.families = one-family f.families p.family mixed family in
     let end : f.ending ≡ Deny = target.0.ending_is in
-    in-family (same_family (family_of f.families) p.family) (walk (terms_of f.rules) p) (same (family_of f.families) p.family (sym e))
+    in-family (same_family (first_family f.families) p.family) (walk (terms_of f.rules) p) (same (first_family f.families) p.family (sym e))
     ∙ ap Some (over-terms f.families f.rules p mixed e (rules-are Juniper limit_of f h) packet
     ∙ ap (λ (x : Ending). rules_outcome x f.rules p) (sym end))

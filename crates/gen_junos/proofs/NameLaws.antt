@@ -4,7 +4,7 @@ use Rattle.std.specs.Str.{bytes_eq}
 use Rattle.std.proofs.lemmas.Bool.{false≢true}
 use Rattle.acl_packet.specs.declared.addresses.Families.{Families}
 use Rattle.acl_packet.specs.declared.addresses.Families.TheVariants.{Inet, Inet6, Mixed}
-use Rattle.acl_packet.specs.Addresses.{same_family}
+use Rattle.acl_packet.specs.Addresses.{first_family, same_family}
 use Rattle.acl_text.specs.Output.{joined}
 use Rattle.acl_grammar.specs.Rows.{Row, row, row_text, text_of_rows}
 use Rattle.acl_target.specs.declared.targets.Kind.{Kind}
@@ -18,7 +18,6 @@ use Rattle.junos_lang.specs.Documents.{family_word, name_of}
 use Rattle.junos_lang.specs.Texts.{end_rows, head_rows, section_rows, term_rows}
 use Rattle.junos_lang.proofs.ValidityLaws.{same_names}
 use Rattle.gen_junos.specs.SectionNames.{FirstLine, IsOfJunos, NamesDiffer}
-use Rattle.acl_platform.specs.Families.{family_of}
 use Rattle.gen_junos.specs.Sections.{section_of, terms_of}
 
 -- ---- the first line
@@ -27,7 +26,7 @@ abbrev comment : List ℕ → List ℕ → Row
 comment name family = row 0 (codes "/*" ∷ codes "juniper" ∷ name ∷ family ∷ codes "*/" ∷ [])
 
 first-row : (name : List ℕ) (fs : Families) (rows : List Row) → is_mixed fs ≡ false
-    → text_of_rows (comment name (family_word (family_of fs)) ∷ rows)
+    → text_of_rows (comment name (family_word (first_family fs)) ∷ rows)
     ≡ (codes "/* " ++ joined (kind_text Juniper ∷ codes " " ∷ name ∷ codes " " ∷ families_text Juniper fs ∷ []) ++ codes " */") ++ 10 ∷ text_of_rows rows
 unfolding row_text
 first-row name Inet rows m =
@@ -41,7 +40,7 @@ first-row name Mixed rows m = absurd (false≢true (sym m))
 pub first-line : FirstLine
 unfolding section_rows head_rows target_text
 first-line f stateful h =
-    let family = family_of f.families in
+    let family = first_family f.families in
     let word = family_word family in
     let rows = row 0 (codes "firewall" ∷ codes "{" ∷ []) ∷ row 4 (codes "family" ∷ word ∷ codes "{" ∷ [])
     ∷ row 8 (codes "replace:" ∷ codes "filter" ∷ f.name ∷ codes "{" ∷ []) ∷ (flat_map (term_rows family) (terms_of f.rules) ++ end_rows) in
@@ -52,7 +51,7 @@ first-line f stateful h =
 -- ---- names
 
 families-same : (fs gs : Families) → is_mixed fs ≡ false → is_mixed gs ≡ false
-    → same_family (family_of fs) (family_of gs) ≡ same_families fs gs
+    → same_family (first_family fs) (first_family gs) ≡ same_families fs gs
 families-same Inet Inet m n = refl
 families-same Inet Inet6 m n = refl
 families-same Inet Mixed m n = absurd (false≢true (sym n))
@@ -64,7 +63,7 @@ families-same Mixed gs m n = absurd (false≢true (sym m))
 not-same : (f g : Filter) (stateful : Bool) → IsOfJunos f → IsOfJunos g → clash (target_of stateful f) (target_of stateful g) ≡ false
     → bytes_eq (name_of (section_of f)) (name_of (section_of g)) ≡ false
 not-same f g stateful h k e =
-    sym (same_names (family_of f.families) (family_of g.families) f.name g.name)
+    sym (same_names (first_family f.families) (first_family g.families) f.name g.name)
     ∙ ap (λ b. b && bytes_eq f.name g.name) (families-same f.families g.families h.1 k.1)
     ∙ sym (OneName.clash-of Juniper f g stateful h.0 k.0) ∙ e
 

@@ -22,7 +22,7 @@ use Rattle.junos_lang.specs.Documents.{family_word}
 use Rattle.junos_lang.specs.Texts.{address_rows, closing, condition_rows, end_rows, from_rows, head_rows, list_rows, note_row, note_rows, range_word, section_rows, term_row, term_rows, test_rows, text_of, then_rows}
 use Rattle.junos_lang.specs.ConditionSteps.{value_rows}
 use Rattle.junos_lang.proofs.ConditionLaws.{conditions_are}
-use Rattle.acl_platform.specs.Families.{family_of}
+use Rattle.acl_packet.specs.Addresses.{first_family}
 use Rattle.gen_junos.specs.Sections.{default_term, note_of, section_of, term_of, terms_of, test_of}
 
 -- ---- terms
@@ -55,7 +55,7 @@ term-text family r {note = note} {name = name} e h =
     ∙ ap (λ rows. text rows r.name) (note-text r.note)
 
 pub section-text : (f : Filter)
-    → text_of_rows (head_rows (family_word (family_of f.families)) f.name ++ (flat_map (term_rows (family_of f.families)) (terms_of f.rules) ++ end_rows))
+    → text_of_rows (head_rows (family_word (first_family f.families)) f.name ++ (flat_map (term_rows (first_family f.families)) (terms_of f.rules) ++ end_rows))
     ≡ text_of (section_of f ∷ [])
 unfolding section_rows
 section-text f =

@@ -19,7 +19,7 @@ use Rattle.junos_lang.specs.Documents.{IsTerm}
 use Rattle.junos_lang.specs.Texts.{Spells, text_of}
 use Rattle.gen_junos.proofs.DecisionLaws.{one-family}
 use Rattle.gen_junos.specs.Limits.{is_for_junos, limit_of, rule_limit}
-use Rattle.acl_platform.specs.Families.{family_of}
+use Rattle.acl_packet.specs.Addresses.{first_family}
 use Rattle.gen_junos.specs.Sections.{default_term, entry_count, section_of, term_of, terms_of}
 use Rattle.gen_junos.proofs.TermLaws.{term-is}
 
@@ -52,7 +52,7 @@ rules-sayable f h =
 -- ---- terms
 
 terms-valid : (fs : Families) (rules : List Rule) → is_mixed fs ≡ false → AllByRecursion (IsSoundRule Juniper fs) rules → AllByRecursion IsSayable rules
-    → AllByRecursion (IsTerm (family_of fs)) (map term_of rules)
+    → AllByRecursion (IsTerm (first_family fs)) (map term_of rules)
 terms-valid fs [] m h w = tt
 terms-valid fs (r ∷ rules) m h w =
     (subst (λ f. IsTerm f (term_of r)) (one-family fs r.family m h.0.family) (term-is fs r h.0 w.0.0 w.0.1), terms-valid fs rules m h.1 w.1)
@@ -71,8 +71,8 @@ default-is f = record {
 }
 
 all-valid : (fs : Families) (rules : List Rule) → is_mixed fs ≡ false → AllByRecursion (IsSoundRule Juniper fs) rules → AllByRecursion IsSayable rules
-    → AllByRecursion (IsTerm (family_of fs)) (terms_of rules)
-all-valid fs [] m h w = (default-is (family_of fs), tt)
+    → AllByRecursion (IsTerm (first_family fs)) (terms_of rules)
+all-valid fs [] m h w = (default-is (first_family fs), tt)
 all-valid fs (r ∷ rules) m h w = terms-valid fs (r ∷ rules) m h w
 
 some-term : (rules : List Rule) → is_empty (terms_of rules) ≡ false

@@ -7,7 +7,7 @@ use Rattle.acl_platform.specs.declared.filters.Filter.{Filter}
 use Rattle.acl_platform.specs.declared.rules.Rule.{Rule}
 use Rattle.acl_platform.specs.declared.rules.Test.{Test}
 use Rattle.acl_platform.specs.declared.rules.Test.TheVariants.{Plain, AckOrRst, SynNotAck, Rst, State}
-use Rattle.acl_platform.specs.Families.{family_of}
+use Rattle.acl_packet.specs.Addresses.{first_family}
 use Rattle.acl_platform.specs.Elements.{address_elements, number_elements, port_elements}
 use Rattle.junos_lang.specs.declared.documents.JTerm.{JTerm}
 use Rattle.junos_lang.specs.declared.documents.JTest.{JTest}
@@ -55,7 +55,7 @@ terms_of (r ∷ rules) = map term_of (r ∷ rules)
 -- A filter for Junos has one family.
 abbrev pub section_of : Filter → Section
 section_of f =
-    record { family = family_of f.families; name = f.name; terms = terms_of f.rules }
+    record { family = first_family f.families; name = f.name; terms = terms_of f.rules }
 
 -- A term counts as one entry, and so does each element of its lists.
 abbrev pub term_count : JTerm → ℕ

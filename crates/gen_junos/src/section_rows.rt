@@ -2,7 +2,7 @@ ghost use Rattle.std.specs.Prelude.{◌∷◌, [], flat_map, IsTrue};
 ghost use Rattle.std.specs.List.{All};
 ghost use Rattle.acl_text.specs.Puts.{Puts};
 ghost use Rattle.acl_platform.specs.Combinations.{IsSized};
-ghost use Rattle.acl_platform.specs.Families.{family_of};
+ghost use Rattle.acl_packet.specs.Addresses.{first_family};
 ghost use Rattle.junos_lang.specs.Texts.{note_row, term_rows, text_of};
 ghost use Rattle.gen_junos.specs.Sections.{
   default_term,
@@ -14,7 +14,7 @@ ghost use Rattle.gen_junos.specs.Sections.{
 use crate::condition_rows::RuleConditions;
 use acl_grammar::Rows;
 use acl_packet::{Family, Verdict};
-use acl_platform::{Filter, NoteRows, RemarkForm, Rule, RuleForm, family_of, put_rules};
+use acl_platform::{Filter, NoteRows, RemarkForm, Rule, RuleForm, put_rules};
 use acl_text::{Out, PutFault};
 use junos_lang::{NoteRow, SectionEnd, SectionHead, TermEnd, TermHead, ThenRows};
 
@@ -24,7 +24,7 @@ pub(crate) fn put_section<O: Out>(filter: &Filter, out: &mut O) -> Result<(), Pu
     requires sized { All IsSized filter.now.rules }
     ensures { Puts O.Out out.old out.new (text_of (section_of filter.now ∷ [])) result }
 {
-    let family = family_of(filter.families);
+    let family = filter.families.first_family();
     let head = SectionHead {
         family,
         name: filter.name.as_slice(),

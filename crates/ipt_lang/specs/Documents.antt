@@ -1,7 +1,7 @@
 -- Documents of iptables rules, and which of them are valid.
 -- Sources: iptables(8), "COMMANDS" and "PARAMETERS"; iptables-extensions(8), "multiport" (up to 15
 -- ports, a range counts as two), "tcp", "udp", "sctp", "icmp", "icmp6", "state", "REJECT" and "LOG".
-use Rattle.std.specs.Prelude.{◌≡◌, ℕ, ◌≤◌, Bool, true, false, ◌&&◌, ◌||◌, ◌==◌, nat_le, if◌then◌else◌, List, [], ◌∷◌, ◌++◌, length, map, codes, Option, IfSome, is_none}
+use Rattle.std.specs.Prelude.{◌≡◌, ℕ, ◌≤◌, Bool, true, false, ◌&&◌, ◌||◌, nat_le, List, [], ◌∷◌, ◌++◌, length, map, codes, Option, IfSome, is_none}
 use Rattle.std.specs.List.{AllByRecursion, IsDistinct, sum_by}
 use Rattle.std.specs.Str.{bytes_eq}
 use Rattle.acl_packet.specs.declared.addresses.Family.{Family}
@@ -10,6 +10,7 @@ use Rattle.acl_packet.specs.declared.filtering.Hook.{Hook}
 use Rattle.acl_packet.specs.declared.filtering.Hook.TheVariants.{Input, Output, Forward}
 use Rattle.acl_packet.specs.declared.filtering.Verdict.TheVariants.{Reset, Left}
 use Rattle.acl_packet.specs.Packets.{icmp_of}
+use Rattle.acl_packet.specs.PortWeights.{port_weight}
 use Rattle.acl_text.specs.Names.{is_name, is_safe_text}
 use Rattle.acl_grammar.specs.Documents.{IsDocumentOf}
 use Rattle.acl_grammar.specs.PortRanges.{IsPortRange}
@@ -22,9 +23,9 @@ use Rattle.ipt_lang.specs.declared.documents.Act.TheVariants.{Decide}
 
 -- ---- rules
 
--- A list of ports has a weight of at most 15, where one port weighs 1 and a longer range 2.
+-- A list of ports weighs at most 15.
 abbrev pub weight_of : ℕ × ℕ → ℕ
-weight_of ports = if ports.0 == ports.1 then 1 else 2
+weight_of ports = port_weight ports.0 ports.1
 
 abbrev pub weight : List (ℕ × ℕ) → ℕ
 weight ranges = sum_by weight_of ranges

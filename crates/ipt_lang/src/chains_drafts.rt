@@ -6,7 +6,7 @@ ghost use Rattle.ipt_lang.specs.ReadingSteps.{begin_section, end_chain, ended, h
 use crate::chain_rows::hook_word;
 use crate::documents::{Chain, Doc, Section};
 use crate::rule_drafts::rule_of;
-use acl_grammar::{DocumentDraft, Draft, family_of, join_words};
+use acl_grammar::{DocumentDraft, Draft, family_named, join_words};
 use acl_packet::{Family, Hook};
 use acl_text::{Bytes, Items, Memory};
 use std::alloc::Global;
@@ -141,7 +141,7 @@ impl ChainsDraft {
     {
         let section = Section {
             hook: hook_of(hook),
-            family: family_of(family),
+            family: family_named(family),
             ..no_section(alloc)
         };
         let last = mem::replace(&mut self.section, section);

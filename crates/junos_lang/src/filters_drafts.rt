@@ -4,7 +4,7 @@ ghost use Rattle.acl_grammar.specs.FamilyWords.{family_in};
 ghost use Rattle.junos_lang.specs.ReadingSteps.{no_term, no_section, no_draft, numbers_in, ranges_in, listed_prefix_in, note_in, with_prefix, with_list, with_word, with_pair, end_in, end_term, end_section, take_outer, take_family, take_filter, take_head, take_term, take_part, take_address, take_row};
 
 use crate::documents::{Doc, JTerm, JTest, Section};
-use acl_grammar::{DocumentDraft, Draft, End, family_of, join_words};
+use acl_grammar::{DocumentDraft, Draft, End, family_named, join_words};
 use acl_packet::{Family, Prefix, Verdict};
 use acl_text::{Bytes, Items, Memory, read_ports, read_spelled_prefix, read_u8, split_at_byte};
 use std::alloc::Global;
@@ -81,7 +81,7 @@ impl FiltersDraft {
         ensures { self.new ≡ take_family self.old (views words.now) }
     {
         if let [_, family, _] = words {
-            self.section.family = family_of(family);
+            self.section.family = family_named(family);
         }
     }
 

@@ -12,7 +12,7 @@ use Rattle.acl_packet.specs.declared.addresses.Families.TheVariants.{Inet, Inet6
 use Rattle.acl_packet.specs.declared.addresses.Prefix.{Prefix}
 use Rattle.acl_packet.specs.declared.filtering.Verdict.{Verdict}
 use Rattle.acl_packet.specs.declared.filtering.Verdict.TheVariants.{Accept, Deny, Reject, Reset, Left}
-use Rattle.acl_packet.specs.Addresses.{covers}
+use Rattle.acl_packet.specs.Addresses.{covers, first_family}
 use Rattle.acl_packet.specs.Decimals.{number_in, digits_in}
 use Rattle.acl_packet.proofs.DecimalLaws.{number-again}
 use Rattle.acl_text.specs.Ipv4.{ipv4_in}
@@ -36,7 +36,7 @@ use Rattle.nft_lang.specs.declared.rule_drafts.Next.TheVariants.{Keyword, Addres
 use Rattle.nft_lang.specs.declared.rule_drafts.RuleDraft.{RuleDraft}
 use Rattle.nft_lang.specs.Documents.{IsType, IsRule, ports_fit, types_fit, flags_fit, verdict_fits}
 use Rattle.nft_lang.specs.Texts.{with_commas, set_words, ports_word, family_words, proto_words, address_word, icmp_word, port_word, flags_words, state_words, verdict_words, addresses_words, ports_words, types_words, ending_words, rule_words}
-use Rattle.nft_lang.specs.ReadingSteps.{draft, no_rule, up_to, next_in, with_test, with_verdict, with_address, with_ports, with_type, in_set, take_address, take_ports, take_type, take_as, take_word, first_family, rule_in}
+use Rattle.nft_lang.specs.ReadingSteps.{draft, no_rule, up_to, next_in, with_test, with_verdict, with_address, with_ports, with_type, in_set, take_address, take_ports, take_type, take_as, take_word, rule_in}
 
 abbrev read : RuleDraft → List (List ℕ) → RuleDraft
 read d words = fold take_word d words

@@ -11,6 +11,7 @@ use Rattle.acl_packet.specs.declared.addresses.Prefix.{Prefix}
 use Rattle.acl_packet.specs.declared.filtering.Hook.{Hook}
 use Rattle.acl_packet.specs.declared.filtering.Hook.TheVariants.{Input, Output, Forward}
 use Rattle.acl_packet.specs.declared.filtering.Verdict.TheVariants.{Accept, Deny, Reject, Reset}
+use Rattle.acl_packet.specs.Addresses.{first_family}
 use Rattle.acl_packet.specs.Decimals.{number_in}
 use Rattle.acl_text.specs.AddressTexts.{spelled_prefix_in}
 use Rattle.acl_text.specs.Cuts.{behind, cut_at}
@@ -54,8 +55,8 @@ no_rule family = record {
 unfoldable pub up_to : ℕ → List ℕ → List ℕ
 up_to c w = option_map_or {U = List ℕ} (λ p. p.0) (cut_at c w) w
 
-abbrev pub family_in : List ℕ → Family
-family_in w = if bytes_eq w (codes "ipv6") then V6 else V4
+abbrev pub nfproto_in : List ℕ → Family
+nfproto_in w = if bytes_eq w (codes "ipv6") then V6 else V4
 
 -- What a word says that the next one is.
 unfoldable pub next_in : List ℕ → Next
@@ -117,7 +118,7 @@ take_type r w =
 
 unfoldable pub take_as : Rule → Next → List ℕ → RuleDraft
 take_as r Keyword w = draft (with_verdict w (with_test w r)) (next_in w)
-take_as r PacketFamily w = draft (record r { family = family_in w }) Keyword
+take_as r PacketFamily w = draft (record r { family = nfproto_in w }) Keyword
 take_as r Protocol w = draft (record r { proto = number_in 255 w }) Keyword
 take_as r (Addresses end) w = take_address r end w
 take_as r (Ports end) w = take_ports r end w
@@ -125,12 +126,6 @@ take_as r Types w = take_type r w
 
 abbrev pub take_word : RuleDraft → List ℕ → RuleDraft
 take_word d w = take_as d.rule d.next w
-
--- The family of the packets, where no word says it.
-abbrev pub first_family : Families → Family
-first_family Inet = V4
-first_family Inet6 = V6
-first_family Mixed = V4
 
 unfoldable pub rule_in : Families → List (List ℕ) → Rule
 rule_in families words =

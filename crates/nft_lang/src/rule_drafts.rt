@@ -1,6 +1,6 @@
 ghost use Rattle.std.specs.Prelude.{◌≡◌, IfOk, OnOk};
 ghost use Rattle.acl_text.specs.Cuts.{views};
-ghost use Rattle.nft_lang.specs.ReadingSteps.{draft, no_rule, up_to, family_in, next_in, with_test, with_verdict, with_address, with_ports, with_type, in_set, take_address, take_ports, take_type, take_as, take_word, first_family, rule_in};
+ghost use Rattle.nft_lang.specs.ReadingSteps.{draft, no_rule, up_to, nfproto_in, next_in, with_test, with_verdict, with_address, with_ports, with_type, in_set, take_address, take_ports, take_type, take_as, take_word, rule_in};
 
 use crate::documents::{Flags, Rule};
 use acl_grammar::End;
@@ -32,20 +32,11 @@ struct RuleDraft {
 pub(crate) fn rule_of(alloc: Global, families: Families, words: &[&[u8]]) -> Result<Rule, Memory>
     ensures { IfOk result (λ r. r ≡ rule_in families (views words.now)) }
 {
-    let mut draft = RuleDraft::new(alloc, first_family(families));
+    let mut draft = RuleDraft::new(alloc, families.first_family());
     for word in words {
         draft.take_word(word)?;
     }
     Ok(draft.rule)
-}
-
-fn first_family(families: Families) -> Family
-    ensures { result ≡ first_family families }
-{
-    match families {
-        Families::Inet | Families::Mixed => Family::V4,
-        Families::Inet6 => Family::V6,
-    }
 }
 
 impl RuleDraft {
@@ -137,7 +128,7 @@ impl RuleDraft {
     fn take_family(&mut self, word: &[u8])
         ensures { self.new ≡ take_as self.old.rule Next.PacketFamily word.now }
     {
-        self.rule.family = family_of(word);
+        self.rule.family = nfproto_of(word);
         self.next = Next::Keyword;
     }
 
@@ -229,8 +220,8 @@ pub(crate) fn up_to(word: &[u8], end: u8) -> &[u8]
     }
 }
 
-fn family_of(word: &[u8]) -> Family
-    ensures { result ≡ family_in word.now }
+fn nfproto_of(word: &[u8]) -> Family
+    ensures { result ≡ nfproto_in word.now }
 {
     if word == b"ipv6".as_slice() {
         Family::V6
