@@ -46,18 +46,24 @@ abbrev pub read_rejected : Rejection → ReadFault
 read_rejected (rejections.Fault fault) = reads.Fault fault
 read_rejected rejections.Memory = reads.Memory
 
--- The call failed outside the input.
+-- What failed is a call outside.
+abbrev pub is_no_listing : ListFault → Bool
+is_no_listing (lists.Fault fault) = false
+is_no_listing lists.Outside = true
+is_no_listing lists.Memory = false
+
+abbrev pub is_no_reading : ReadFault → Bool
+is_no_reading (reads.Fault fault) = false
+is_no_reading reads.Outside = true
+is_no_reading reads.Memory = false
+
 abbrev pub lists_outside : {X : Type 0} → Result X ListFault → Bool
 lists_outside (Ok given) = false
-lists_outside (Err (lists.Fault fault)) = false
-lists_outside (Err lists.Outside) = true
-lists_outside (Err lists.Memory) = false
+lists_outside (Err fault) = is_no_listing fault
 
 abbrev pub reads_outside : {X : Type 0} → Result X ReadFault → Bool
 reads_outside (Ok given) = false
-reads_outside (Err (reads.Fault fault)) = false
-reads_outside (Err reads.Outside) = true
-reads_outside (Err reads.Memory) = false
+reads_outside (Err fault) = is_no_reading fault
 
 -- A call that lists a folder does nothing else; it fails outside only where the count of failed listings
 -- rose, and else that count stays.

@@ -34,20 +34,26 @@ of_rejection (rejections.Fault fault) = loads.Fault fault
 of_rejection rejections.Memory = loads.Memory
 
 -- The folder was not listed.
-abbrev pub fails_to_list : {X : Type 0} → Result X LoadFault → Bool
-fails_to_list (Ok given) = false
-fails_to_list (Err (loads.Fault fault)) = false
-fails_to_list (Err loads.List) = true
-fails_to_list (Err loads.Read) = false
-fails_to_list (Err loads.Memory) = false
+abbrev pub is_unlisted : LoadFault → Bool
+is_unlisted (loads.Fault fault) = false
+is_unlisted loads.List = true
+is_unlisted loads.Read = false
+is_unlisted loads.Memory = false
 
 -- A file was not read.
+abbrev pub is_unread : LoadFault → Bool
+is_unread (loads.Fault fault) = false
+is_unread loads.List = false
+is_unread loads.Read = true
+is_unread loads.Memory = false
+
+abbrev pub fails_to_list : {X : Type 0} → Result X LoadFault → Bool
+fails_to_list (Ok given) = false
+fails_to_list (Err fault) = is_unlisted fault
+
 abbrev pub fails_to_read : {X : Type 0} → Result X LoadFault → Bool
 fails_to_read (Ok given) = false
-fails_to_read (Err (loads.Fault fault)) = false
-fails_to_read (Err loads.List) = false
-fails_to_read (Err loads.Read) = true
-fails_to_read (Err loads.Memory) = false
+fails_to_read (Err fault) = is_unread fault
 
 -- A call that lists a folder and reads files does nothing else; it fails outside only where the count of
 -- that kind rose, and else that count stays.

@@ -5,9 +5,9 @@ use crate::tests::words::words_of;
 use acl_days::Day;
 use acl_grammar::{read_document, sections};
 use acl_host::{Clock, Sink, Tree};
-use acl_memory::{FixedClock, MemSink, MemTree, Op, SureClock, SureSink, SureTree};
+use acl_memory::{FixedClock, MemSink, MemTree, Op};
 use acl_text::Memory;
-use aclgen_core::{aclgen, status_of};
+use aclgen_core::run_status;
 use std::alloc::Global;
 use std::process::Abort;
 use std::test::Fail;
@@ -82,17 +82,17 @@ pub(crate) struct Left {
 }
 
 // The program is called here alone: each function that calls it proves its whole contract again.
-pub(crate) fn status<C: Clock>(
+pub(crate) fn status<T: Tree, O: Sink, E: Sink, C: Clock>(
     alloc: Global,
     words: &[String],
-    tree: &mut MemTree,
-    out: &mut MemSink,
-    err: &mut MemSink,
+    tree: &mut T,
+    out: &mut O,
+    err: &mut E,
     clock: &mut C,
 ) -> u8
-    requires { (contents tree.old).begun ≡ None }
+    requires { T.begun tree.old ≡ None }
 {
-    status_of(&aclgen(alloc, words, tree, out, err, clock))
+    run_status(alloc, words, tree, out, err, clock)
 }
 
 pub(crate) fn left_by(alloc: Global, tree: MemTree, run: &Run) -> Result<Left, Memory>
@@ -482,7 +482,7 @@ fn an_edge_policy_is_read_back(rt: HostRuntime) -> Result<(), Fail> {
 const PLAIN_POLICY: &[u8] =
     b"header { target:: cisco edge extended }\nterm t { action:: accept }\n";
 
-const USAGE: &[u8] =
+pub(crate) const USAGE: &[u8] =
     b"usage: aclgen --policy_file P --definitions_directory D --output_directory O [--date YYYY-MM-DD] [--exp_info N] [--shade_check]\n";
 
 static REFUSALS: [Case; 7] = [
@@ -610,69 +610,6 @@ static FAILURES: [Case; 4] = [
 #[test]
 fn the_clock_and_each_stream_fail_once(rt: HostRuntime) -> Result<(), Fail> {
     expect(&rt, rt.alloc(), &FAILURES)
-}
-
-// Two calls fail, or one and the words or the policy: the first in the order of the work is told.
-static ORDER: [Case; 5] = [
-    // the words before the folder
-    Case {
-        run: Run {
-            more: " --date ",
-            tree: Some((Op::List, 1)),
-            ..PLAIN
-        },
-        status: 2,
-        line: USAGE,
-        ..CASE
-    },
-    // the words before the clock
-    Case {
-        run: Run {
-            more: " --exp_info x",
-            ..PLAIN
-        },
-        status: 2,
-        line: USAGE,
-        ..CASE
-    },
-    // the clock before the folder
-    Case {
-        run: Run {
-            tree: Some((Op::List, 1)),
-            ..UNDATED
-        },
-        status: 3,
-        line: b"aclgen: clock failed\n",
-        ..CASE
-    },
-    // the reading of the policy before what it says
-    Case {
-        policy: b"header { target:: cisco edge extended }\nterm t { source-address:: NOWHERE action:: accept }",
-        run: Run {
-            tree: Some((Op::Read, 2)),
-            ..PLAIN
-        },
-        status: 3,
-        line: b"aclgen: read failed\n",
-        ..CASE
-    },
-    // the files before the report
-    Case {
-        run: Run {
-            tree: Some((Op::Finish, 1)),
-            out: true,
-            ..PLAIN
-        },
-        status: 3,
-        file: Some(LIST),
-        line: b"aclgen: write failed\n",
-        ..CASE
-    },
-];
-
-#[test]
-fn the_first_failure_is_told(rt: HostRuntime) -> Result<(), Fail> {
-    expect(&rt, rt.alloc(), &ORDER)
 }
 
 // The beginning of the second file fails.
@@ -811,31 +748,4 @@ static WORKLOADS: [Case; 2] = [
 #[test]
 fn the_workload_is_compiled_in_memory(rt: HostRuntime) -> Result<(), Fail> {
     expect(&rt, rt.alloc(), &WORKLOADS)
-}
-
-// The files of the run on four platforms, in a tree of which no call fails.
-fn sure_tree(alloc: Global) -> Result<SureTree, Memory>
-    ensures { IfOk result (λ t. (contents t.tree).begun ≡ None) }
-{
-    let mut tree = SureTree::new(alloc);
-    tree.put_file("def/n.net", NAMES)?;
-    tree.put_file("pol/a.pol", FOUR_PLATFORMS)?;
-    Ok(tree)
-}
-
-#[test]
-fn a_run_over_sure_objects_is_done(rt: HostRuntime) -> Result<(), Fail> {
-    let alloc = rt.alloc();
-    let words = words_of(alloc, UNDATED.words)?;
-    let mut tree = sure_tree(alloc)?;
-    let mut out = SureSink::new(alloc);
-    let mut err = SureSink::new(alloc);
-    let mut clock = SureClock::new(Day { number: 20468 });
-    let words = words.as_slice();
-    let ended = aclgen(alloc, words, &mut tree, &mut out, &mut err, &mut clock);
-    assert_eq!(rt; status_of(&ended), 0);
-    assert_eq!(rt; out.as_slice(), ALL_REPORTS);
-    assert!(rt; err.as_slice().is_empty());
-    assert!(rt; tree.file("out/a.nft") == Some(TABLE));
-    Ok(())
 }
