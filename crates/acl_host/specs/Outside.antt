@@ -67,6 +67,19 @@ pub record OnlyListsAndReads {S : Type 0} (t : TreeMembers S) (old new : S) : Ty
   pub lists_grow : t.list_faults old ≤ t.list_faults new
   pub reads_grow : t.read_faults old ≤ t.read_faults new
 
+-- The call failed: it was refused, and neither for want of memory nor as what it looks for is not there.
+abbrev pub look_failed : {T : Type 0} → Result T TreeFault → Bool
+look_failed (Ok given) = false
+look_failed (Err tree.Absent) = false
+look_failed (Err tree.Failed) = true
+look_failed (Err tree.Memory) = false
+
+-- The call was refused, and not for want of memory.
+abbrev pub write_failed : {T : Type 0} → Result T WriteFault → Bool
+write_failed (Ok done) = false
+write_failed (Err write.Failed) = true
+write_failed (Err write.Memory) = false
+
 -- The answer of a listing: absent exactly where nothing lies under the folder.
 abbrev pub IsListing : List ℕ → Result (List (List ℕ)) TreeFault → List File → Type 0
 IsListing folder (Ok names) files =
@@ -80,6 +93,8 @@ pub record Lists {S : Type 0} (t : TreeMembers S) (old new : S) (folder : List �
   pub lists : OnlyLists t old new
   pub answer : IfSome (t.files old) (IsListing folder result)
   pub failed : IsErrOf result tree.Failed → Rose (t.list_faults old) (t.list_faults new)
+  -- a call that did not fail counts no fault: so it is with each
+  pub faults_stay : look_failed result ≡ false → t.list_faults new ≡ t.list_faults old
 
 -- The answer of a reading: absent exactly where the path is not held.
 abbrev pub IsReading : List ℕ → ℕ → Result (List ℕ) TreeFault → List File → Type 0
@@ -94,9 +109,10 @@ pub record Reads {S : Type 0} (t : TreeMembers S) (old new : S) (path : List ℕ
   pub reads : OnlyReads t old new
   pub answer : IfSome (t.files old) (IsReading path most result)
   pub failed : IsErrOf result tree.Failed → Rose (t.read_faults old) (t.read_faults new)
+  pub faults_stay : look_failed result ≡ false → t.read_faults new ≡ t.read_faults old
 
--- What a writing call leaves of a tree's counts: those of looking stay, those of writing do not fall, and a
--- refusal has its cause.
+-- What a writing call leaves of a tree's counts: those of looking stay, those of writing do not fall, a
+-- refusal has its cause, and that of the faults stays where the call did not fail.
 pub record CountsWriting {S T : Type 0} (t : TreeMembers S) (old new : S)
     (result : Result T WriteFault) : Type 0 where
   pub lists_stay : t.list_faults new ≡ t.list_faults old
@@ -104,6 +120,7 @@ pub record CountsWriting {S T : Type 0} (t : TreeMembers S) (old new : S)
   pub faults_grow : t.faults old ≤ t.faults new
   pub refusals_grow : t.refusals old ≤ t.refusals new
   pub failed : IsErrOf result write.Failed → Rose (t.faults old) (t.faults new)
+  pub faults_stay : write_failed result ≡ false → t.faults new ≡ t.faults old
   pub memory : IsErrOf result write.Memory → Rose (t.refusals old) (t.refusals new)
 
 -- The file at the path is empty, and every other file is as it was.
@@ -142,6 +159,7 @@ pub record Writes {S T : Type 0} (told : S → Option (List ℕ)) (faults refusa
   pub faults_grow : faults old ≤ faults new
   pub refusals_grow : refusals old ≤ refusals new
   pub failed : IsErrOf result write.Failed → Rose (faults old) (faults new)
+  pub faults_stay : write_failed result ≡ false → faults new ≡ faults old
   pub memory : IsErrOf result write.Memory → Rose (refusals old) (refusals new)
 
 pub record Tells {S : Type 0} (day : S → Option ℤ) (faults : S → ℕ) (old new : S)
@@ -150,3 +168,4 @@ pub record Tells {S : Type 0} (day : S → Option ℤ) (faults : S → ℕ) (old
   pub answer : IfSome (day old) (λ d. IfOk result (λ t. t.number ≡ d))
   pub faults_grow : faults old ≤ faults new
   pub failed : IsErrOf result clock.Failed → Rose (faults old) (faults new)
+  pub faults_stay : OnOk result (faults new ≡ faults old)

@@ -1,5 +1,5 @@
 -- Whole files and folders: what is read and listed, and the faults that have no line.
-use Rattle.std.specs.Prelude.{ℕ, nat_lt, if◌then◌else◌, List, length, Option, None, Some, Result, Ok, Err, IsErrOf}
+use Rattle.std.specs.Prelude.{◌≡◌, ℕ, nat_lt, Bool, true, false, if◌then◌else◌, List, length, Option, None, Some, Result, Ok, Err, IsErrOf}
 use Rattle.acl_text.specs.declared.faults.Code.{Code}
 use Rattle.acl_text.specs.declared.faults.Code.TheVariants.{NoFile}
 use Rattle.acl_text.specs.declared.faults.Fault.{Fault}
@@ -46,16 +46,37 @@ abbrev pub read_rejected : Rejection → ReadFault
 read_rejected (rejections.Fault fault) = reads.Fault fault
 read_rejected rejections.Memory = reads.Memory
 
--- A call that lists a folder does nothing else, and fails outside only where the count of failed
--- listings rose.
+-- What failed is a call outside.
+abbrev pub is_no_listing : ListFault → Bool
+is_no_listing (lists.Fault fault) = false
+is_no_listing lists.Outside = true
+is_no_listing lists.Memory = false
+
+abbrev pub is_no_reading : ReadFault → Bool
+is_no_reading (reads.Fault fault) = false
+is_no_reading reads.Outside = true
+is_no_reading reads.Memory = false
+
+abbrev pub lists_outside : {X : Type 0} → Result X ListFault → Bool
+lists_outside (Ok given) = false
+lists_outside (Err fault) = is_no_listing fault
+
+abbrev pub reads_outside : {X : Type 0} → Result X ReadFault → Bool
+reads_outside (Ok given) = false
+reads_outside (Err fault) = is_no_reading fault
+
+-- A call that lists a folder does nothing else; it fails outside only where the count of failed listings
+-- rose, and else that count stays.
 pub record ListsFolder {S X : Type 0} (tree : TreeMembers S) (old new : S)
     (result : Result X ListFault) : Type 0 where
   pub only : OnlyLists tree old new
   pub failed : IsErrOf result lists.Outside → Rose (tree.list_faults old) (tree.list_faults new)
+  pub faults_stay : lists_outside result ≡ false → tree.list_faults new ≡ tree.list_faults old
 
--- A call that reads files does nothing else, and fails outside only where the count of failed
--- readings rose.
+-- A call that reads files does nothing else; it fails outside only where the count of failed readings
+-- rose, and else that count stays.
 pub record ReadsFiles {S X : Type 0} (tree : TreeMembers S) (old new : S)
     (result : Result X ReadFault) : Type 0 where
   pub only : OnlyReads tree old new
   pub failed : IsErrOf result reads.Outside → Rose (tree.read_faults old) (tree.read_faults new)
+  pub faults_stay : reads_outside result ≡ false → tree.read_faults new ≡ tree.read_faults old

@@ -13,7 +13,7 @@ pub enum ClockFault {
 /// What tells the day.
 ///
 /// A clock tells its day, as a number of days since 1970-01-01, or does not. It counts its faults; the
-/// count never falls.
+/// count never falls, and stays where a day is given.
 pub trait Clock {
     ghost use Rattle.acl_host.specs.Outside.{Tells};
 

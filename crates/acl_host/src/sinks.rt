@@ -14,7 +14,7 @@ pub enum WriteFault {
 /// A stream that takes bytes, as standard output.
 ///
 /// A sink tells the bytes that it was given, or does not, and goes on as it began. It counts its faults and
-/// its refusals for memory; no count falls.
+/// its refusals for memory; no count falls, and that of the faults stays at a write that did not fail.
 pub trait Sink {
     ghost use Rattle.acl_host.specs.Outside.{Writes};
 

@@ -124,8 +124,8 @@ fn comes_first(name: &[u8], other: &[u8]) -> bool
 ///
 /// A tree tells its files as a list of paths and bytes, no path twice, or does not; and it tells the path
 /// that is begun, if one is. It counts the faults of `list`, those of `read`, and as an `Out` those of its
-/// writing calls: `begin`, `put` and `finish`. No count falls. As an `Out` it is open while a path is begun,
-/// and its bytes are those of the begun file.
+/// writing calls: `begin`, `put` and `finish`. No count falls, and a call that did not fail leaves its own as
+/// it was. As an `Out` it is open while a path is begun, and its bytes are those of the begun file.
 pub trait Tree: Out {
     ghost use Rattle.acl_host.specs.Outside.{Lists, Reads, Begins, Finishes, members};
 

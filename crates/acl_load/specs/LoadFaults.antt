@@ -1,5 +1,5 @@
 -- Why nothing was loaded, beside why a folder was not listed, a file not read, or what they say not taken.
-use Rattle.std.specs.Prelude.{ℕ, List, Option, None, Some, Result, IsErrOf}
+use Rattle.std.specs.Prelude.{◌≡◌, ℕ, Bool, true, false, List, Option, None, Some, Result, Ok, Err, IsErrOf}
 use Rattle.acl_text.specs.Output.{Rose}
 use Rattle.acl_text.specs.declared.faults.Fault.{Fault}
 use Rattle.acl_text.specs.declared.faults.Rejection.{Rejection}
@@ -33,10 +33,34 @@ abbrev pub of_rejection : Rejection → LoadFault
 of_rejection (rejections.Fault fault) = loads.Fault fault
 of_rejection rejections.Memory = loads.Memory
 
--- A call that lists a folder and reads files does nothing else, and fails outside only where the count
--- of that kind rose.
+-- The folder was not listed.
+abbrev pub is_unlisted : LoadFault → Bool
+is_unlisted (loads.Fault fault) = false
+is_unlisted loads.List = true
+is_unlisted loads.Read = false
+is_unlisted loads.Memory = false
+
+-- A file was not read.
+abbrev pub is_unread : LoadFault → Bool
+is_unread (loads.Fault fault) = false
+is_unread loads.List = false
+is_unread loads.Read = true
+is_unread loads.Memory = false
+
+abbrev pub fails_to_list : {X : Type 0} → Result X LoadFault → Bool
+fails_to_list (Ok given) = false
+fails_to_list (Err fault) = is_unlisted fault
+
+abbrev pub fails_to_read : {X : Type 0} → Result X LoadFault → Bool
+fails_to_read (Ok given) = false
+fails_to_read (Err fault) = is_unread fault
+
+-- A call that lists a folder and reads files does nothing else; it fails outside only where the count of
+-- that kind rose, and else that count stays.
 pub record LoadsFiles {S X : Type 0} (tree : TreeMembers S) (old new : S)
     (result : Result X LoadFault) : Type 0 where
   pub only : OnlyListsAndReads tree old new
   pub list_failed : IsErrOf result loads.List → Rose (tree.list_faults old) (tree.list_faults new)
   pub read_failed : IsErrOf result loads.Read → Rose (tree.read_faults old) (tree.read_faults new)
+  pub lists_stay : fails_to_list result ≡ false → tree.list_faults new ≡ tree.list_faults old
+  pub reads_stay : fails_to_read result ≡ false → tree.read_faults new ≡ tree.read_faults old

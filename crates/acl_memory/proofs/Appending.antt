@@ -74,6 +74,7 @@ puts-held old new b is files begun faults refusals lists reads = record {
   faults_grow = omega arith;
   refusals_grow = omega arith;
   failed = λ e. absurd (not-refused e);
+  faults_stay = λ e. faults;
   memory = λ e. absurd (not-refused e);
 }
 
@@ -101,6 +102,7 @@ begins-held old new p files is faults refusals lists reads = record {
     faults_grow = omega arith;
     refusals_grow = omega arith;
     failed = λ e. absurd (not-failed e);
+    faults_stay = λ e. faults;
     memory = λ e. absurd (not-failed e);
   };
 }

@@ -1,3 +1,4 @@
 mod Appending
 mod Prefixes
 mod Replacing
+mod SureLaws

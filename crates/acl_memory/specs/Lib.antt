@@ -3,3 +3,4 @@ pub mod Memory
 pub mod MemoryFiles
 pub mod MemorySinks
 pub mod MemoryTrees
+pub mod SureObjects

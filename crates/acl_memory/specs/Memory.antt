@@ -1,6 +1,7 @@
 -- What the objects in memory hold, and which of their calls fail.
-use Rattle.std.specs.Prelude.{ℕ, ◌+◌, ◌==◌, Bool, List, [], ◌∷◌, ◌++◌, if◌then◌else◌}
+use Rattle.std.specs.Prelude.{◌≡◌, ℕ, ◌+◌, ◌==◌, Bool, List, [], ◌∷◌, ◌++◌, if◌then◌else◌}
 use Rattle.std.specs.List.{list_any}
+use Rattle.std.specs.Coded.{Coded-set, coded_list, coded_ℕ}
 use Rattle.acl_text.specs.Output.{one_more}
 
 -- the count after a call, where it is raised at one that met the cause
@@ -26,3 +27,7 @@ after_one calls = record calls { made = one_more calls.made }
 -- the call of this number is to fail too
 abbrev pub with_failing : ℕ → CallsMade → CallsMade
 with_failing nth calls = record calls { failing = calls.failing ++ nth ∷ [] }
+
+-- that no call is to fail is shown in one way at most
+pub failing-prop : (failing : List ℕ) → IsProp (failing ≡ [])
+failing-prop failing = Coded-set (coded_list coded_ℕ) failing []

@@ -1,11 +1,11 @@
 -- What a tree in memory holds, and what each of its calls leaves.
-use Rattle.std.specs.Prelude.{ℕ, List, [], Option, None, Some, is_some, Result, Ok, Err}
+use Rattle.std.specs.Prelude.{◌≡◌, ℕ, List, [], Option, None, Some, is_some, Result, Ok, Err}
 use Rattle.acl_text.specs.Output.{PutsBy, one_more}
 use Rattle.acl_text.specs.declared.output.PutFault.{PutFault}
 use Rattle.acl_text.specs.declared.output.PutFault.TheVariants as puts
 use Rattle.acl_host.specs.Files.{File, RestStays, told_of}
 use Rattle.acl_host.specs.Outside.{TreeMembers, Lists, Reads, Begins, Finishes}
-use Rattle.acl_memory.specs.Memory.{CallsMade, no_calls, after_one, with_failing}
+use Rattle.acl_memory.specs.Memory.{CallsMade, no_calls, after_one, failing-prop, with_failing}
 use Rattle.acl_memory.specs.MemoryFiles.{put_at, path_at, append_begun}
 use Rattle.acl_memory.specs.declared.failing.Op.{Op}
 use Rattle.acl_memory.specs.declared.failing.Op.TheVariants as op
@@ -160,3 +160,15 @@ failing_too op.Read nth t = record t { reads = with_failing nth t.reads }
 failing_too op.Begin nth t = record t { begins = with_failing nth t.begins }
 failing_too op.Append nth t = record t { appends = with_failing nth t.appends }
 failing_too op.Finish nth t = record t { finishes = with_failing nth t.finishes }
+
+-- No call is to fail.
+pub record NeverFails (t : TreeContents) : Type 0 where
+  pub lists : t.lists.failing ≡ []
+  pub reads : t.reads.failing ≡ []
+  pub begins : t.begins.failing ≡ []
+  pub appends : t.appends.failing ≡ []
+  pub finishes : t.finishes.failing ≡ []
+
+-- that is shown in one way at most
+pub NeverFails-prop : (t : TreeContents) → IsProp (NeverFails t)
+NeverFails-prop t = hlevel (failing-prop)

@@ -61,6 +61,7 @@ goes_on {told = told} {old = old} {mid = mid} {new = new} {a = a} {b = b} {r = r
   faults_grow = omega (arith, p.faults_grow, q.faults_grow);
   refusals_grow = omega (arith, p.refusals_grow, q.refusals_grow);
   failed = λ e. omega (arith, p.faults_grow, q.failed e);
+  faults_stay = λ e. q.faults_stay e ∙ p.faults_stay refl;
   memory = λ e. omega (arith, p.refusals_grow, q.memory e);
 }
 
@@ -76,6 +77,7 @@ stops {told = told} {old = old} {new = new} {a = a} {r = r} b p refused = record
   faults_grow = p.faults_grow;
   refusals_grow = p.refusals_grow;
   failed = p.failed;
+  faults_stay = p.faults_stay;
   memory = p.memory;
 }
 
@@ -91,6 +93,7 @@ puts-nothing {told = told} s keeps is = record {
   faults_grow = omega arith;
   refusals_grow = omega arith;
   failed = λ e. absurd (ok-not-err e);
+  faults_stay = λ _. refl;
   memory = λ e. absurd (ok-not-err e);
 }
 

@@ -1,5 +1,5 @@
 -- What putting a text into an output means.
-use Rattle.std.specs.Prelude.{◌≡◌, ℕ, ◌+◌, ◌-◌, ◌^◌, min, ◌<◌, ◌≤◌, Bool, true, false, List, ◌++◌, take, flat_map, Option, None, Some, Result, option_map, OnOk, OnErr, IfSome, IsErrOf}
+use Rattle.std.specs.Prelude.{◌≡◌, ℕ, ◌+◌, ◌-◌, ◌^◌, min, ◌<◌, ◌≤◌, Bool, true, false, List, ◌++◌, take, flat_map, Option, None, Some, Result, Ok, Err, option_map, OnOk, OnErr, IfSome, IsErrOf}
 use Rattle.acl_text.specs.declared.output.PutFault.{PutFault}
 use Rattle.acl_text.specs.declared.output.PutFault.TheVariants.{Failed, Memory}
 
@@ -24,6 +24,12 @@ abbrev pub AppendsFront : List ℕ → Option (List ℕ) → List ℕ → Type 0
 AppendsFront text None new = ⊥
 AppendsFront text (Some old) new = (n : ℕ) × (new ≡ old ++ take n text)
 
+-- The call was refused, and not for want of memory.
+abbrev pub has_failed : {T : Type 0} → Result T PutFault → Bool
+has_failed (Ok done) = false
+has_failed (Err Failed) = true
+has_failed (Err Memory) = false
+
 -- A call that puts a text, from the output as it was to the output as it is then. It speaks of the members of
 -- the trait one by one, as the trait itself names them; `Puts` takes them as one record.
 pub record PutsBy {S T : Type 0} (told : S → Option (List ℕ)) (faults refusals : S → ℕ)
@@ -40,4 +46,6 @@ pub record PutsBy {S T : Type 0} (told : S → Option (List ℕ)) (faults refusa
   pub refusals_grow : refusals old ≤ refusals new
   -- each refusal has its cause
   pub failed : IsErrOf result Failed → Rose (faults old) (faults new)
+  -- a call that did not fail counts no fault
+  pub faults_stay : has_failed result ≡ false → faults new ≡ faults old
   pub memory : IsErrOf result Memory → Rose (refusals old) (refusals new)

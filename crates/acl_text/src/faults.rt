@@ -12,7 +12,7 @@ pub struct Place {
     pub line: u32,
 }
 
-/// What is wrong with the input. docs/LANGUAGE.md has each that `aclgen` answers, with an example.
+/// What is wrong with the input. docs/FAULTS.md has each that `aclgen` answers, with an example.
 #[derive(Clone, Copy, Debug, PartialEq, Eq)]
 pub enum Code {
     /// A file, or the policy with its includes, is too long.

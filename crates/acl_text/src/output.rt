@@ -15,9 +15,9 @@ pub enum PutFault {
 /// What takes text, piece by piece.
 ///
 /// An `Out` tells the bytes that it was given, or does not. It counts the faults and the refusals for
-/// memory that it met; a count never falls, and one that is at its end stays there. It is open or not:
-/// `put` needs an open one, and one that refused is not open. It may hold more than its bytes: `keeps_rest`
-/// relates an earlier and a later value whose rest is the same.
+/// memory that it met; a count never falls, one that is at its end stays there, and that of the faults stays
+/// at a call that did not fail. It is open or not: `put` needs an open one, and one that refused is not open.
+/// It may hold more than its bytes: `keeps_rest` relates an earlier and a later value whose rest is the same.
 pub trait Out {
     ghost told: { Self → Option (List ℕ) };
 

@@ -1,6 +1,6 @@
 -- One file, and the others behind it.
 use Prim.Native.Nat.{zero, suc}
-use Rattle.std.proofs.Common.{◌≡◌, ℕ, List, [], ◌∷◌, length, take, Option, None, Some, Result, Ok, Err, sym, subst, ◌∙◌, arith}
+use Rattle.std.proofs.Common.{◌≡◌, ℕ, List, [], ◌∷◌, length, take, Option, None, Some, Result, Ok, Err, refl, sym, subst, ◌∙◌, arith}
 use Rattle.std.proofs.lemmas.List.{take_all}
 use Rattle.acl_host.specs.Files.{File, BothTell}
 use Rattle.acl_host.specs.Outside.{CountsWriting, TreeMembers}
@@ -67,6 +67,7 @@ counts-go-on tree s0 s1 s2 x r p q = record {
   faults_grow = omega (arith, p.faults_grow, q.faults_grow);
   refusals_grow = omega (arith, p.refusals_grow, q.refusals_grow);
   failed = λ e h. omega (arith, p.faults_grow, q.failed e h);
+  faults_stay = λ e. q.faults_stay e ∙ p.faults_stay refl;
   memory = λ e h. omega (arith, p.refusals_grow, q.memory e h);
 }
 

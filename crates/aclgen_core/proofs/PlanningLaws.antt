@@ -19,7 +19,7 @@ use Rattle.acl_host.specs.declared.clocks.ClockFault.{ClockFault}
 use Rattle.acl_days.specs.declared.days.Day.{Day}
 use Rattle.acl_days.proofs.NamedDayLaws.{same-day}
 use Rattle.acl_host.specs.Files.{File, join_path}
-use Rattle.acl_host.specs.Outside.{OnlyListsAndReads, TreeMembers}
+use Rattle.acl_host.specs.Outside.{TreeMembers}
 use Rattle.acl_naming.specs.Definitions.{Naming}
 use Rattle.acl_target.specs.declared.targets.Kind.{Kind}
 use Rattle.acl_target.specs.declared.targets.Kind.TheVariants.{Cisco, Juniper, Iptables, Nftables}
@@ -49,8 +49,7 @@ use Rattle.acl_report.specs.Reports.{terms_report}
 use Rattle.aclgen_core.specs.DecidingSteps.{Asks, DecidesPlanned, DecidesSo, FindsDay, FollowsFrom, IsDayFor, IsReady, RoseLooking, texts_in}
 use Rattle.aclgen_core.specs.declared.deciding.Decision.{Decision}
 use Rattle.aclgen_core.specs.declared.deciding.Decision.TheVariants as decided
-use Rattle.aclgen_core.specs.Endings.{DecidesAsPolicy, IsFileOf, IsShort, WhereDay}
-use Rattle.aclgen_core.specs.declared.endings.Which.TheVariants as which
+use Rattle.aclgen_core.specs.Endings.{DecidesAsPolicy, IsFileOf, IsShort, OnDay}
 use Rattle.aclgen_core.specs.FileLists.{IsApart, PathsDiffer}
 use Rattle.aclgen_core.specs.WritingSteps.{IsWritable, file_view}
 use Rattle.aclgen_core.specs.FilterPaths.{ending_of, last_part, path_of, without_pol}
@@ -489,25 +488,27 @@ no-read (rejections.Fault fault) h = cc
 no-read rejections.Memory h = cc
 
 -- A fault of what is loaded is no failure of a folder or a file.
-pub rejected-looks : {S X : Type 0} (tree : TreeMembers S) (old new : S) (e : Rejection) (r : Result X LoadFault) → OnlyListsAndReads tree old new → IsErrAnd r (λ x. x ≡ of_rejection e)
-    → LoadsFiles tree old new r
-rejected-looks tree old new e (Ok x) only is = absurd is
-rejected-looks tree old new e (Err f) only is = record {
-  only = only;
+pub rejected-looks : {S X Y : Type 0} (tree : TreeMembers S) (old new : S) (loaded : Y) (e : Rejection) (r : Result X LoadFault) → LoadsFiles {X = Y} tree old new (Ok loaded)
+    → IsErrAnd r (λ x. x ≡ of_rejection e) → LoadsFiles tree old new r
+rejected-looks tree old new loaded e (Ok x) looks is = absurd is
+rejected-looks tree old new loaded e (Err f) looks is = record {
+  only = looks.only;
   list_failed = λ h. let same : f ≡ loads.List = cc in absurd (no-list e (sym is ∙ same));
   read_failed = λ h. let same : f ≡ loads.Read = cc in absurd (no-read e (sym is ∙ same));
+  lists_stay = λ _. looks.lists_stay refl;
+  reads_stay = λ _. looks.reads_stay refl;
 }
 
 -- ---- the day
 
 -- The day of the words, else the clock's, is the one for which the filters are made.
-day-is : (date : Option Day) (told : Option ℤ) (today : Day) → IsDayFor date told today → WhereDay (not (is_some date)) told (λ day. or_day date day ≡ today)
+day-is : (date : Option Day) (told : Option ℤ) (today : Day) → IsDayFor date told today → OnDay (not (is_some date)) told (λ day. or_day date day ≡ today)
 day-is (Some date) told today h = λ day. sym h
-day-is None None today h = tt
+day-is None None today h = (today, refl)
 day-is None (Some n) today h = λ day e. same-day day today (e ∙ sym h)
 
-day-carries : (asked : Bool) (told : Option ℤ) (P Q : Day → Type 0) → ((day : Day) → P day → Q day) → WhereDay asked told P → WhereDay asked told Q
-day-carries true None P Q f h = tt
+day-carries : (asked : Bool) (told : Option ℤ) (P Q : Day → Type 0) → ((day : Day) → P day → Q day) → OnDay asked told P → OnDay asked told Q
+day-carries true None P Q f h = (h.0, f h.0 h.1)
 day-carries true (Some n) P Q f h = λ day e. f day (h day e)
 day-carries false told P Q f h = λ day. f day (h day)
 
@@ -517,10 +518,10 @@ asks-as words o e = sym (ap asks_clock_for e)
 -- What is so of the options for the day is so of the words, where the files and the clock's day are told.
 for-words : (told : Option (List File)) (words : List (List ℕ)) (o : Options) (c : Watch) (today : Day) (R : List File → Type 0) (Q : Day → List File → Type 0)
     → options_of words ≡ Some o → IsDayFor o.date c.day today → ((day : Day) (files : List File) → or_day o.date day ≡ today → R files → Q day files)
-    → IfSome told R → IfSome told (λ files. WhereDay (asks_clock words) c.day (λ day. Q day files))
+    → IfSome told R → IfSome told (λ files. OnDay (asks_clock words) c.day (λ day. Q day files))
 for-words None words o c today R Q e d f h = tt
 for-words (Some files) words o c today R Q e d f h =
-    subst (λ b. WhereDay b c.day (λ day. Q day files)) (asks-as words o e)
+    subst (λ b. OnDay b c.day (λ day. Q day files)) (asks-as words o e)
     (day-carries (not (is_some o.date)) c.day (λ day. or_day o.date day ≡ today) (λ day. Q day files) (λ day is. f day files is h) (day-is o.date c.day today d))
 
 -- ---- the words
@@ -541,7 +542,7 @@ decides-planned words o today work d c e f h = record {
 
 seen-fault : (told : Option (List File)) (words : List (List ℕ)) (o : Options) (c : Watch) (today : Day) (fault other : Fault) → options_of words ≡ Some o → IsDayFor o.date c.day today
     → other ≡ fault → IfSome told (λ files. Plans o today files (Err fault))
-    → IfSome told (λ files. WhereDay (asks_clock words) c.day (λ day. IsJob words day files (Some (Err other))))
+    → IfSome told (λ files. OnDay (asks_clock words) c.day (λ day. IsJob words day files (Some (Err other))))
 seen-fault told words o c today fault other e f g h =
     for-words told words o c today (λ files. Plans o today files (Err fault)) (λ day files. IsJob words day files (Some (Err other))) e f
     (λ day files is p. subst (λ (w : Option Options). IsJobOf w day files (Some (Err other))) (sym e)
@@ -577,11 +578,6 @@ decides-fault words o today old new c c' loads.Memory decided.Usage e f m list r
 decides-fault words o today old new c c' loads.Memory (decided.Planned work) e f m list read h = absurd h
 decides-fault words o today old new c c' loads.Memory (decided.Refused told line) e f m list read h = absurd h
 decides-fault words o today old new c c' loads.Memory (decided.Outside w) e f m list read h = absurd h
-
--- The clock failed.
-pub decides-clock : (words : List (List ℕ)) (o : Options) (old new : Disk) (c c' : Watch) → options_of words ≡ Some o → o.date ≡ None → Rose c.faults c'.faults
-    → DecidesSo words old new c c' (decided.Outside which.Clock)
-decides-clock words o old new c c' e date rose = (ap is_some e, (sym (asks-as words o e) ∙ ap (λ (d : Option Day). not (is_some d)) date, rose))
 
 -- ---- the clock
 

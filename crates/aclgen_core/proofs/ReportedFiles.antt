@@ -1,5 +1,5 @@
 -- What is done where the files are written and the report is not yet.
-use Rattle.std.proofs.Common.{◌≡◌, None, inr}
+use Rattle.std.proofs.Common.{◌≡◌, None, ap, inr}
 use Rattle.acl_host.specs.Files.{BothTell}
 use Rattle.aclgen_core.specs.declared.endings.Ended.{Ended}
 use Rattle.aclgen_core.specs.declared.endings.Ended.TheVariants as ended
@@ -14,7 +14,7 @@ reported_so : (work : Work) (d d' : Disk) (o o' e e' : Stream) (result : Ended)
     → BothTell d.files d'.files (HoldsTexts (texts_in work))
     → ReportsOn work.report.bytes o o' e e' result → ActsSo work d d' o o' e e' result
 reported_so work d d' o o' e e' ended.Done held r =
-    record { written = held; report_got = r.so.0; err_rests = r.so.1 }
+    record { written = held; report_got = r.so.0; err_rests = ap (λ (s : Stream). s.told) r.so.2 }
 reported_so work d d' o o' e e' ended.Usage held r = absurd r.so
 reported_so work d d' o o' e e' (ended.Rejected fault) held r = absurd r.so
 reported_so work d d' o o' e e' (ended.Outside which.List) held r = absurd r.so
@@ -30,7 +30,7 @@ reported_so work d d' o o' e e' ended.Memory held r =
           (λ x y h. whole-stops (texts_in work) x y h) held;
       cause = inr r.so.0;
       report_front = r.so.1;
-      err_rests = r.so.2;
+      err_rests = ap (λ (s : Stream). s.told) r.so.3;
     }
 
 -- The files are whole, and the report was written behind them, or not.

@@ -12,15 +12,18 @@ use Rattle.acl_options.specs.ComputableOptions.{asks_clock, options_of}
 use Rattle.aclgen_core.specs.FaultLines.{outside_line, usage_line}
 use Rattle.aclgen_core.specs.FileLists.{HoldsTexts, Interrupted}
 use Rattle.aclgen_core.specs.Job.{Plan, IsJob, IsJobOf, or_day, report_of, texts_of}
-use Rattle.aclgen_core.specs.Endings.{WhereDay, WhereTold, Got, Untouched, IsWritten, Headline, EndsDone, EndsUsage, EndsRejected, RoseAt, EndsLooking, LeavesFiles, EndsWriting, LeavesReport, EndsReporting, IsRefusalLine, EndsTelling, EndsOutside, LeavesPart, EndsWanting, EndsSo, NoneRose, IsEnding, EndsAsAsked, Keeps}
+use Rattle.aclgen_core.specs.Endings.{FailedAlone, OnDay, OnItsDay, WhereDay, WhereTold, Got, Untouched, IsWritten, Headline, EndsDone, EndsUsage, EndsRejected, RoseAt, EndsLooking, LeavesFiles, EndsWriting, LeavesReport, EndsReporting, IsRefusalLine, EndsTelling, EndsOutside, LeavesPart, EndsWanting, EndsSo, NoneRose, IsEnding, EndsAsAsked, Keeps}
 use Rattle.aclgen_core.specs.Removals.{ShadedCanGo}
 use Rattle.aclgen_core.specs.Worlds.{Disk, DiskCountsGrow, Stream, StreamCountsGrow, Watch, World, world}
-use Rattle.aclgen_core.specs.DecidingSteps.{Asks, IsReady, OnlySeen, RoseLooking, DecidesRefused, DecidesPlanned, RefusesSo, Refuses, ActsDone, ActsWrite, ActsOut, ActsMemory, ActsSo, Acts, TriesLine, texts_in}
+use Rattle.aclgen_core.specs.DecidingSteps.{ActsAlone, Asks, IsReady, LooksAlone, OnlySeen, RoseLooking, DecidesRefused, DecidesPlanned, RefusesSo, Refuses, ActsDone, ActsWrite, ActsOut, ActsMemory, ActsSo, Acts, TriesLine, texts_in}
 use Rattle.aclgen_core.specs.declared.endings.Ended.{Ended}
 use Rattle.aclgen_core.specs.declared.endings.Ended.TheVariants as ended
 use Rattle.aclgen_core.specs.declared.endings.Which.{Which}
 use Rattle.aclgen_core.specs.declared.endings.Which.TheVariants as which
+use Rattle.aclgen_core.specs.declared.deciding.Decision.TheVariants as decided
 use Rattle.aclgen_core.specs.declared.planning.Work.{Work}
+use Rattle.acl_text.specs.declared.wholes.Whole.{Whole}
+use Rattle.aclgen_core.proofs.FaultCounts.{alone-behind, refused-alone, told-alone}
 use Rattle.aclgen_core.proofs.FileListLaws.{both-more}
 use Rattle.aclgen_core.proofs.OneAnswer.{one-job}
 use Rattle.aclgen_core.proofs.RemovalLaws.{shaded-can-go}
@@ -28,10 +31,16 @@ use Rattle.aclgen_core.proofs.Telling.{no-front}
 
 -- ---- what is told
 
-day-goes-on : (asked : Bool) (told : Option ℤ) (P Q : Day → Type 0) → ((day : Day) → P day → Q day) → WhereDay asked told P → WhereDay asked told Q
-day-goes-on true None P Q f h = tt
+day-goes-on : (asked : Bool) (told : Option ℤ) (P Q : Day → Type 0) → ((day : Day) → P day → Q day) → OnDay asked told P → OnDay asked told Q
+day-goes-on true None P Q f h = (h.0, f h.0 h.1)
 day-goes-on true (Some n) P Q f h = λ day e. f day (h day e)
 day-goes-on false told P Q f h = λ day. f day (h day)
+
+-- What is so on the day of the run is so where a day is told.
+day-told : (asked : Bool) (told : Option ℤ) (P : Day → Type 0) → OnDay asked told P → WhereDay asked told P
+day-told true None P h = tt
+day-told true (Some n) P h = h
+day-told false told P h = h
 
 day-given : (asked : Bool) (told : Option ℤ) (Q : Day → Type 0) → ((day : Day) → Q day) → WhereDay asked told Q
 day-given true None Q f = tt
@@ -40,9 +49,14 @@ day-given false told Q f = f
 
 told-goes-on : (words : List (List ℕ)) (c : Watch) (told : Option (List File)) (P Q : Day → List File → Type 0)
     → ((day : Day) (files : List File) → told ≡ Some files → P day files → Q day files)
-    → IfSome told (λ files. WhereDay (asks_clock words) c.day (λ day. P day files)) → IfSome told (λ files. WhereDay (asks_clock words) c.day (λ day. Q day files))
+    → IfSome told (λ files. OnDay (asks_clock words) c.day (λ day. P day files)) → IfSome told (λ files. OnDay (asks_clock words) c.day (λ day. Q day files))
 told-goes-on words c None P Q f h = tt
 told-goes-on words c (Some files) P Q f h = day-goes-on (asks_clock words) c.day (λ day. P day files) (λ day. Q day files) (λ day. f day files refl) h
+
+where-told : (words : List (List ℕ)) (c : Watch) (told : Option (List File)) (P : Day → List File → Type 0)
+    → IfSome told (λ files. OnDay (asks_clock words) c.day (λ day. P day files)) → IfSome told (λ files. WhereDay (asks_clock words) c.day (λ day. P day files))
+where-told words c None P h = tt
+where-told words c (Some files) P h = day-told (asks_clock words) c.day (λ day. P day files) h
 
 told-given : (words : List (List ℕ)) (c : Watch) (told : Option (List File)) (Q : Day → List File → Type 0)
     → ((day : Day) (files : List File) → told ≡ Some files → Q day files) → IfSome told (λ files. WhereDay (asks_clock words) c.day (λ day. Q day files))
@@ -71,8 +85,10 @@ job-fits words day files job other result is ends h =
 complete-done : (words : List (List ℕ)) (old new : World) → EndsDone words old new → EndsAsAsked words old ended.Done
 complete-done words old new e = record {
   usage = λ none. absurd (no-options (options_of words) none e.accepted);
-  job = told-goes-on words old.clock old.disk.files (Headline words old new) (λ day files. (job : Option (Result Plan Fault)) → IsJob words day files job → IsEnding job ended.Done)
-      (λ day files _ h job is. job-fits words day files (Some (Ok h.0)) job ended.Done h.1.job (inl refl) is) e.written;
+  job = let Asked : Day → List File → Type 0 = λ day files. (job : Option (Result Plan Fault)) → IsJob words day files job → IsEnding job ended.Done in
+      where-told words old.clock old.disk.files Asked
+      (told-goes-on words old.clock old.disk.files (Headline words old new) Asked
+      (λ day files _ h job is. job-fits words day files (Some (Ok h.0)) job ended.Done h.1.job (inl refl) is) e.written);
 }
 
 complete-usage : (words : List (List ℕ)) (old new : World) → EndsUsage words old new → EndsAsAsked words old ended.Usage
@@ -85,9 +101,10 @@ complete-usage words old new e = record {
 complete-rejected : (words : List (List ℕ)) (fault : Fault) (old new : World) → EndsRejected words fault old new → EndsAsAsked words old (ended.Rejected fault)
 complete-rejected words fault old new e = record {
   usage = λ none. absurd (no-options (options_of words) none e.accepted);
-  job = told-goes-on words old.clock old.disk.files (λ day files. IsJob words day files (Some (Err fault)))
-      (λ day files. (job : Option (Result Plan Fault)) → IsJob words day files job → IsEnding job (ended.Rejected fault))
-      (λ day files _ h job is. job-fits words day files (Some (Err fault)) job (ended.Rejected fault) h (inl refl) is) e.first;
+  job = let Asked : Day → List File → Type 0 = λ day files. (job : Option (Result Plan Fault)) → IsJob words day files job → IsEnding job (ended.Rejected fault) in
+      where-told words old.clock old.disk.files Asked
+      (told-goes-on words old.clock old.disk.files (λ day files. IsJob words day files (Some (Err fault))) Asked
+      (λ day files _ h job is. job-fits words day files (Some (Err fault)) job (ended.Rejected fault) h (inl refl) is) e.first);
 }
 
 complete-memory : (words : List (List ℕ)) (old : World) → EndsAsAsked words old ended.Memory
@@ -97,7 +114,7 @@ complete-memory words old = record {
       (λ day files _ job is. memory-fits job);
 }
 
-outside-cause : (words : List (List ℕ)) (w : Which) (old new : World) → EndsOutside words old new w → RoseAt w old new
+pub outside-cause : (words : List (List ℕ)) (w : Which) (old new : World) → EndsOutside words old new w → RoseAt w old new
 outside-cause words which.List old new e = e.cause
 outside-cause words which.Read old new e = e.cause
 outside-cause words which.Write old new e = e.cause
@@ -127,11 +144,13 @@ still s = record { faults_grow = le_refl s.faults; refusals_grow = le_refl s.ref
 
 -- A run that only looked.
 looked : (words : List (List ℕ)) (d d' : Disk) (o e e' : Stream) (c c' : Watch) (result : Ended) → d.begun ≡ None → OnlySeen d d' → Asks words c c'
-    → StreamCountsGrow e e' → EndsSo words (world d o e c) (world d' o e' c') result → Keeps words (world d o e c) (world d' o e' c') result
-looked words d d' o e e' c c' result none seen asked counts ends = record {
+    → StreamCountsGrow e e' → FailedAlone result (world d o e c) (world d' o e' c') → EndsSo words (world d o e c) (world d' o e' c') result
+    → Keeps words (world d o e c) (world d' o e' c') result
+looked words d d' o e e' c c' result none seen asked counts alone ends = record {
   none_begun = seen.begun_stays ∙ none;
   clock = asked.only;
   counts = record { disk_counts = seen-counts d d' seen; out_counts = still o; err_counts = counts; clock_count = asked.faults_grow };
+  alone = alone;
   ending = ends;
   complete = completes words (world d o e c) (world d' o e' c') result ends;
 }
@@ -157,19 +176,19 @@ refused-memory words line d d' o e e' c c' seen refusal leaves front = record {
 }
 
 refused-so : (words : List (List ℕ)) (line : List ℕ) (asked result : Ended) (d d' : Disk) (o e e' : Stream) (c c' : Watch) → d.begun ≡ None → OnlySeen d d'
-    → Asks words c c' → StreamCountsGrow e e' → IsRefusalLine words (world d o e c) line
+    → Asks words c c' → StreamCountsGrow e e' → FailedAlone result (world d o e c) (world d' o e' c') → IsRefusalLine words (world d o e c) line
     → WhereTold words d c (LeavesSo words (world d o e c) (world d' o e' c'))
     → (Got line e.told e'.told → EndsSo words (world d o e c) (world d' o e' c') asked)
     → RefusesSo line asked e e' result → Keeps words (world d o e c) (world d' o e' c') result
-refused-so words line asked result d d' o e e' c c' none seen asks counts refusal leaves row (inl h) =
-    looked words d d' o e e' c c' result none seen asks counts (subst (λ (r : Ended). EndsSo words (world d o e c) (world d' o e' c') r) (sym h.0) (row h.1))
-refused-so words line asked result d d' o e e' c c' none seen asks counts refusal leaves row (inr (inl h)) =
+refused-so words line asked result d d' o e e' c c' none seen asks counts alone refusal leaves row (inl h) =
+    looked words d d' o e e' c c' result none seen asks counts alone (subst (λ (r : Ended). EndsSo words (world d o e c) (world d' o e' c') r) (sym h.0) (row h.1))
+refused-so words line asked result d d' o e e' c c' none seen asks counts alone refusal leaves row (inr (inl h)) =
     let ends : EndsTelling words (world d o e c) (world d' o e' c') =
     record { cause = h.1; untouched = untouched d d' o e e' c c' seen; line = (line, refusal, h.2) } in
-    looked words d d' o e e' c c' result none seen asks counts (subst (λ (r : Ended). EndsSo words (world d o e c) (world d' o e' c') r) (sym h.0) ends)
-refused-so words line asked result d d' o e e' c c' none seen asks counts refusal leaves row (inr (inr h)) =
+    looked words d d' o e e' c c' result none seen asks counts alone (subst (λ (r : Ended). EndsSo words (world d o e c) (world d' o e' c') r) (sym h.0) ends)
+refused-so words line asked result d d' o e e' c c' none seen asks counts alone refusal leaves row (inr (inr h)) =
     let ends = refused-memory words line d d' o e e' c c' seen refusal leaves h.2 in
-    looked words d d' o e e' c c' result none seen asks counts (subst (λ (r : Ended). EndsSo words (world d o e c) (world d' o e' c') r) (sym h.0) ends)
+    looked words d d' o e e' c c' result none seen asks counts alone (subst (λ (r : Ended). EndsSo words (world d o e c) (world d' o e' c') r) (sym h.0) ends)
 
 leaves-none : (words : List (List ℕ)) (day : Day) (files : List File) (known job : Option (Result Plan Fault)) (old new : World)
     → IsJob words day files known → LeavesPart known old new files → IsJob words day files job → LeavesPart job old new files
@@ -177,22 +196,32 @@ leaves-none words day files known job old new is h other =
     subst (λ (j : Option (Result Plan Fault)). LeavesPart j old new files) (one-job words day files known job is other) h
 
 pub usage-keeps : (words : List (List ℕ)) (line : List ℕ) (result : Ended) (d d' : Disk) (o e e' : Stream) (c c' : Watch) → d.begun ≡ None → OnlySeen d d'
-    → Asks words c c' → options_of words ≡ None → line ≡ usage_line → Refuses line ended.Usage e e' result → Keeps words (world d o e c) (world d' o e' c') result
-usage-keeps words line result d d' o e e' c c' none seen asked refused is h =
-    refused-so words line ended.Usage result d d' o e e' c c' none seen asked h.counts (inl (refused, is))
+    → Asks words c c' → LooksAlone decided.Usage d d' c c' → (options_of words ≡ None) × (d' ≡ d) → line ≡ usage_line → Refuses line ended.Usage e e' result
+    → Keeps words (world d o e c) (world d' o e' c') result
+usage-keeps words line result d d' o e e' c c' none seen asked alone refused is h =
+    refused-so words line ended.Usage result d d' o e e' c c' none seen asked h.counts
+    (alone-behind result (world d o e c) (world d' o e c') (world d' o e' c') (alone o e) (refused-alone line ended.Usage result d' o e e' c' (λ n. n) h.so))
+    (inl (refused.0, is))
     (told-given words c d.files (LeavesSo words (world d o e c) (world d' o e' c'))
-    (λ day files _ job. leaves-none words day files None job (world d o e c) (world d' o e' c') (no-job words day files refused) (untouched d d' o e e' c c' seen)))
-    (λ got. record { refused = refused; untouched = untouched d d' o e e' c c' seen; line = subst (λ t. Got t e.told e'.told) is got })
-    h.so
+    (λ day files _ job. leaves-none words day files None job (world d o e c) (world d' o e' c') (no-job words day files refused.0) (untouched d d' o e e' c c' seen)))
+    (λ got. record {
+      refused = refused.0;
+      untouched = untouched d d' o e e' c c' seen;
+      same_disk = refused.1;
+      line = subst (λ t. Got t e.told e'.told) is got;
+    }) h.so
 
-pub fault-keeps : (words : List (List ℕ)) (fault : Fault) (line : List ℕ) (result : Ended) (d d' : Disk) (o e e' : Stream) (c c' : Watch) → d.begun ≡ None → OnlySeen d d'
-    → Asks words c c' → DecidesRefused words fault line d c → Refuses line (ended.Rejected fault) e e' result → Keeps words (world d o e c) (world d' o e' c') result
-fault-keeps words fault line result d d' o e e' c c' none seen asked refused h =
+pub fault-keeps : (words : List (List ℕ)) (fault : Fault) (text : Whole) (line : List ℕ) (result : Ended) (d d' : Disk) (o e e' : Stream) (c c' : Watch) → d.begun ≡ None → OnlySeen d d'
+    → Asks words c c' → LooksAlone (decided.Refused fault text) d d' c c' → DecidesRefused words fault line d c → Refuses line (ended.Rejected fault) e e' result
+    → Keeps words (world d o e c) (world d' o e' c') result
+fault-keeps words fault text line result d d' o e e' c c' none seen asked alone refused h =
     let same = untouched d d' o e e' c c' seen in
     refused-so words line (ended.Rejected fault) result d d' o e e' c c' none seen asked h.counts
+    (alone-behind result (world d o e c) (world d' o e c') (world d' o e' c') (alone o e) (refused-alone line (ended.Rejected fault) result d' o e e' c' (λ n. n) h.so))
     (inr (refused.accepted, (fault, refused.line_is, refused.first)))
+    (where-told words c d.files (LeavesSo words (world d o e c) (world d' o e' c'))
     (told-goes-on words c d.files (λ day files. IsJob words day files (Some (Err fault))) (LeavesSo words (world d o e c) (world d' o e' c'))
-    (λ day files _ is job. leaves-none words day files (Some (Err fault)) job (world d o e c) (world d' o e' c') is same) refused.first)
+    (λ day files _ is job. leaves-none words day files (Some (Err fault)) job (world d o e c) (world d' o e' c') is same) refused.first))
     (λ got. record { accepted = refused.accepted; first = refused.first; untouched = same; line = subst (λ t. Got t e.told e'.told) refused.line_is got })
     h.so
 
@@ -215,13 +244,13 @@ looking-so words which.Write d d' o e e' c c' seen accepted rose told = absurd r
 looking-so words which.Out d d' o e e' c c' seen accepted rose told = absurd rose
 looking-so words which.Err d d' o e e' c c' seen accepted rose told = absurd rose
 looking-so words which.Clock d d' o e e' c c' seen accepted rose told =
-    record { asked = rose.0; looking = looking-keeps words which.Clock d d' o e e' c c' seen accepted rose.1 told }
+    record { asked = rose.0; same_disk = rose.2; looking = looking-keeps words which.Clock d d' o e e' c c' seen accepted rose.1 told }
 
 pub outside-keeps : (words : List (List ℕ)) (w : Which) (result : Ended) (d d' : Disk) (o e e' : Stream) (c c' : Watch) → d.begun ≡ None → OnlySeen d d'
-    → Asks words c c' → IsSome (options_of words) → RoseLooking words w d d' c c' → TriesLine (outside_line w) e e' → result ≡ ended.Outside w
-    → Keeps words (world d o e c) (world d' o e' c') result
-outside-keeps words w result d d' o e e' c c' none seen asked accepted rose told is =
-    looked words d d' o e e' c c' result none seen asked told.counts
+    → Asks words c c' → LooksAlone (decided.Outside w) d d' c c' → IsSome (options_of words) → RoseLooking words w d d' c c' → TriesLine (outside_line w) e e'
+    → result ≡ ended.Outside w → Keeps words (world d o e c) (world d' o e' c') result
+outside-keeps words w result d d' o e e' c c' none seen asked alone accepted rose told is =
+    looked words d d' o e e' c c' result none seen asked told.counts (told-alone w result d d' o e e' c c' alone is)
     (subst (λ (r : Ended). EndsSo words (world d o e c) (world d' o e' c') r) (sym is) (looking-so words w d d' o e e' c c' seen accepted rose told))
 
 -- ---- want of memory before anything was written
@@ -237,8 +266,8 @@ leaves-nothing (Some (Ok plan)) d d' o e c c' files seen is =
     (subst (λ t. IsSomeAnd t (Interrupted (texts_of plan) files)) (sym (seen.files_stay ∙ is)) (none-left (texts_of plan) files), no-front (report_of plan) o.told)
 
 pub memory-keeps : (words : List (List ℕ)) (d d' : Disk) (o e : Stream) (c c' : Watch) → d.begun ≡ None → OnlySeen d d' → Asks words c c'
-    → Keeps words (world d o e c) (world d' o e c') ended.Memory
-memory-keeps words d d' o e c c' none seen asked =
+    → LooksAlone decided.Memory d d' c c' → Keeps words (world d o e c) (world d' o e c') ended.Memory
+memory-keeps words d d' o e c c' none seen asked alone =
     let ends : EndsWanting words (world d o e c) (world d' o e c') = record {
       cause = inl seen.files_stay;
       words_untouched = λ _. untouched d d' o e e c c' seen;
@@ -246,7 +275,7 @@ memory-keeps words d d' o e c c' none seen asked =
       report = ([], no-front [] o.told);
       line = inl refl;
     } in
-    looked words d d' o e e c c' ended.Memory none seen asked (still e) ends
+    looked words d d' o e e c c' ended.Memory none seen asked (still e) (alone o e) ends
 
 -- ---- writing
 
@@ -257,7 +286,7 @@ both-some P told (Some new) files is h = subst (λ t. BothTell t (Some new) P) i
 
 planned-leaves : (words : List (List ℕ)) (work : Work) (d : Disk) (c : Watch) (R : Day → List File → Type 0)
     → ((day : Day) (files : List File) → d.files ≡ Some files → (plan : Plan) → IsJob words day files (Some (Ok plan)) → IsReady plan work → R day files)
-    → DecidesPlanned words work d c → WhereTold words d c R
+    → DecidesPlanned words work d c → OnItsDay words d c R
 planned-leaves words work d c R f h =
     told-goes-on words c d.files (λ day files. (plan : Plan) × IsJob words day files (Some (Ok plan)) × IsReady plan work) R
     (λ day files is p. f day files is p.0 p.1 p.2) h.planned
@@ -334,10 +363,10 @@ memory-row : (words : List (List ℕ)) (work : Work) (d d' : Disk) (o o' e e' : 
 memory-row words work d d' o o' e e' c c' planned acts = record {
   cause = inr acts.cause;
   words_untouched = λ none. absurd (no-options (options_of words) none planned.accepted);
-  leaves = planned-leaves words work d c
-      (LeavesSo words (world d o e c) (world d' o' e' c'))
+  leaves = where-told words c d.files (LeavesSo words (world d o e c) (world d' o' e' c'))
+      (planned-leaves words work d c (LeavesSo words (world d o e c) (world d' o' e' c'))
       (λ day files is plan known ready job. leaves-none words day files (Some (Ok plan)) job (world d o e c) (world d' o' e' c') known
-      (left-plan plan work d d' files is ready acts.left, subst (λ t. BothTell o.told o'.told (AddsFront t)) ready.report_is acts.report_front)) planned;
+      (left-plan plan work d d' files is ready acts.left, subst (λ t. BothTell o.told o'.told (AddsFront t)) ready.report_is acts.report_front)) planned);
   report = (work.report.bytes, acts.report_front);
   line = inl acts.err_rests;
 }
@@ -402,8 +431,9 @@ counts-from d s d' seen h = record {
 }
 
 pub planned-keeps : (words : List (List ℕ)) (work : Work) (result : Ended) (d s d' : Disk) (o o' e e' : Stream) (c c' : Watch) → OnlySeen d s → Asks words c c'
-    → DecidesPlanned words work d c → Acts work s d' o o' e e' result → Keeps words (world d o e c) (world d' o' e' c') result
-planned-keeps words work result d s d' o o' e e' c c' seen asked planned acts =
+    → LooksAlone (decided.Planned work) d s c c' → DecidesPlanned words work d c → Acts work s d' o o' e e' result → ActsAlone s d' o o' e e' result
+    → Keeps words (world d o e c) (world d' o' e' c') result
+planned-keeps words work result d s d' o o' e e' c c' seen asked looks planned acts alone =
     let ends = acts-row words work d d' o o' e e' c c' result planned (acts-from work d s d' o o' e e' result seen acts.so) in
     record {
       none_begun = acts.none_begun;
@@ -414,6 +444,7 @@ planned-keeps words work result d s d' o o' e e' c c' seen asked planned acts =
         err_counts = acts.err_counts;
         clock_count = asked.faults_grow;
       };
+      alone = alone-behind result (world d o e c) (world s o e c') (world d' o' e' c') (looks o e) (alone c');
       ending = ends;
       complete = completes words (world d o e c) (world d' o' e' c') result ends;
     }

@@ -1,5 +1,5 @@
 -- What the private steps of a run give: deciding, which only looks, and acting.
-use Rattle.std.specs.Prelude.{◌≡◌, ℕ, ◌≤◌, ℤ, ◌⊎◌, true, List, Option, None, Some, Result, Ok, Err, map, IfSome, IsSome}
+use Rattle.std.specs.Prelude.{◌≡◌, ℕ, ◌≤◌, ℤ, ◌⊎◌, true, List, Option, None, Some, Result, Ok, Err, map, OnOk, IfSome, IsSome}
 use Rattle.std.specs.List.{AllByRecursion}
 use Rattle.acl_text.specs.Output.{Rose}
 use Rattle.acl_text.specs.declared.faults.Fault.{Fault}
@@ -14,10 +14,10 @@ use Rattle.aclgen_core.specs.Job.{Plan, IsJob, filters_of, report_of, texts_of}
 use Rattle.acl_load.specs.declared.load_faults.LoadFault.{LoadFault}
 use Rattle.acl_load.specs.declared.load_faults.LoadFault.TheVariants as loads
 use Rattle.acl_load.specs.FaultLines.{fault_line}
-use Rattle.aclgen_core.specs.Endings.{Got, IsFileOf, IsShort, OnlyAsked, Tried, WhereTold}
+use Rattle.aclgen_core.specs.Endings.{FailedAlone, Got, IsFileOf, IsShort, NoneFailed, OnItsDay, OnlyAsked, Tried}
 use Rattle.aclgen_core.specs.FaultLines.{outside_line}
 use Rattle.aclgen_core.specs.WorkloadRuns.{Reports}
-use Rattle.aclgen_core.specs.Worlds.{Disk, DiskCountsGrow, Stream, StreamCountsGrow, Watch}
+use Rattle.aclgen_core.specs.Worlds.{Disk, DiskCountsGrow, Stream, StreamCountsGrow, Watch, World, world}
 use Rattle.aclgen_core.specs.declared.deciding.Decision.{Decision}
 use Rattle.aclgen_core.specs.declared.deciding.Decision.TheVariants as decided
 use Rattle.aclgen_core.specs.declared.endings.Ended.{Ended}
@@ -56,23 +56,23 @@ RoseLooking words which.Write old new c c' = ⊥
 RoseLooking words which.Out old new c c' = ⊥
 RoseLooking words which.Err old new c c' = ⊥
 RoseLooking words which.Clock old new c c' =
-    (asks_clock words ≡ true) × Rose c.faults c'.faults
+    (asks_clock words ≡ true) × Rose c.faults c'.faults × (new ≡ old)
 
 pub record DecidesRefused (words : List (List ℕ)) (fault : Fault) (line : List ℕ) (old : Disk)
     (c : Watch) : Type 0 where
   pub accepted : IsSome (options_of words)
-  pub first : WhereTold words old c (λ day files. IsJob words day files (Some (Err fault)))
+  pub first : OnItsDay words old c (λ day files. IsJob words day files (Some (Err fault)))
   pub line_is : line ≡ fault_line fault
 
 pub record DecidesPlanned (words : List (List ℕ)) (work : Work) (old : Disk) (c : Watch)
     : Type 0 where
   pub accepted : IsSome (options_of words)
-  pub planned : WhereTold words old c (λ day files. (plan : Plan)
+  pub planned : OnItsDay words old c (λ day files. (plan : Plan)
       × IsJob words day files (Some (Ok plan)) × IsReady plan work)
   pub writable : AreWritable work.files.items
 
 abbrev pub DecidesSo : List (List ℕ) → Disk → Disk → Watch → Watch → Decision → Type 0
-DecidesSo words old new c c' decided.Usage = options_of words ≡ None
+DecidesSo words old new c c' decided.Usage = (options_of words ≡ None) × (new ≡ old)
 DecidesSo words old new c c' (decided.Refused fault line) =
     DecidesRefused words fault line.bytes old c
 DecidesSo words old new c c' (decided.Planned work) = DecidesPlanned words work old c
@@ -95,6 +95,16 @@ pub record Asks (words : List (List ℕ)) (c c' : Watch) : Type 0 where
   pub only : OnlyAsked words c c'
   pub faults_grow : c.faults ≤ c'.faults
 
+-- No call failed but the one that the decision tells of.
+abbrev pub DecidedAlone : Decision → World → World → Type 0
+DecidedAlone (decided.Outside w) old new = FailedAlone (ended.Outside w) old new
+DecidedAlone decision old new = NoneFailed old new
+
+-- The same of the tree and the clock, whatever the streams are.
+abbrev pub LooksAlone : Decision → Disk → Disk → Watch → Watch → Type 0
+LooksAlone decision d d' c c' =
+    (o e : Stream) → DecidedAlone decision (world d o e c) (world d' o e c')
+
 pub record Decides (words : List (List ℕ)) (old new : Disk) (c c' : Watch) (decision : Decision)
     : Type 0 where
   pub seen : OnlySeen old new
@@ -115,17 +125,19 @@ pub record FindsDay (date : Option Day) (c c' : Watch) (result : Result Day Cloc
   pub rests : IsSome date → c' ≡ c
   pub day_stays : c'.day ≡ c.day
   pub faults_grow : c.faults ≤ c'.faults
+  pub faults_stay : OnOk result (c'.faults ≡ c.faults)
   pub gives : GivesDay date c c' result
 
 -- ---- acting
 
 -- A line is written, and the ending is the one that is asked for; else what was written is a front of it.
 abbrev pub RefusesSo : List ℕ → Ended → Stream → Stream → Ended → Type 0
-RefusesSo line asked old new result = ((result ≡ asked) × Got line old.told new.told)
+RefusesSo line asked old new result =
+    ((result ≡ asked) × Got line old.told new.told × (new.faults ≡ old.faults))
     ⊎ (((result ≡ ended.Outside which.Err) × Rose old.faults new.faults
     × BothTell old.told new.told (AddsFront line))
     ⊎ ((result ≡ ended.Memory) × Rose old.refusals new.refusals
-    × BothTell old.told new.told (AddsFront line)))
+    × BothTell old.told new.told (AddsFront line) × (new.faults ≡ old.faults)))
 
 pub record Refuses (line : List ℕ) (asked : Ended) (old new : Stream) (result : Ended) : Type 0 where
   pub counts : StreamCountsGrow old new
@@ -172,6 +184,11 @@ pub record Acts (work : Work) (d d' : Disk) (o o' e e' : Stream) (result : Ended
   pub out_counts : StreamCountsGrow o o'
   pub err_counts : StreamCountsGrow e e'
   pub so : ActsSo work d d' o o' e e' result
+
+-- No call of acting failed but the one that the ending tells of, whatever the clock is.
+abbrev pub ActsAlone : Disk → Disk → Stream → Stream → Stream → Stream → Ended → Type 0
+ActsAlone d d' o o' e e' result =
+    (c : Watch) → FailedAlone result (world d o e c) (world d' o' e' c)
 
 -- The report is written, or a front of it.
 pub record ReportsOn (text : List ℕ) (o o' e e' : Stream) (result : Ended) : Type 0 where

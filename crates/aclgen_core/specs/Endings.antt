@@ -1,5 +1,5 @@
 -- What each ending of a run means: a record for each.
-use Rattle.std.specs.Prelude.{◌≡◌, ℕ, ◌≤◌, ℤ, ◌++◌, ◌⊎◌, Bool, true, false, List, Option, None, Some, Result, Ok, Err, option_map, IfSome, IsSome, IsSomeAnd}
+use Rattle.std.specs.Prelude.{◌≡◌, ◌≢◌, ℕ, ◌≤◌, ℤ, ◌++◌, ◌⊎◌, Bool, true, false, List, Option, None, Some, Result, Ok, Err, option_map, IfSome, IsSome, IsSomeAnd}
 use Rattle.std.specs.List.{AllByRecursion}
 use Rattle.acl_packet.specs.declared.filtering.Outcome.{Outcome}
 use Rattle.acl_packet.specs.declared.packets.Packet.{Packet}
@@ -39,6 +39,18 @@ WhereDay false told P = (day : Day) → P day
 abbrev pub WhereTold : List (List ℕ) → Disk → Watch → (Day → List File → Type 0) → Type 0
 WhereTold words d c P =
     IfSome d.files (λ files. WhereDay (asks_clock words) c.day (λ day. P day files))
+
+-- The day of the run: where the clock is asked, the one that it tells, or some one day where it tells none; else
+-- whichever day.
+abbrev pub OnDay : Bool → Option ℤ → (Day → Type 0) → Type 0
+OnDay true (Some n) P = (day : Day) → day.number ≡ n → P day
+OnDay true None P = (day : Day) × P day
+OnDay false told P = (day : Day) → P day
+
+-- The tree tells its files: then this is so of them and of the day of the run.
+abbrev pub OnItsDay : List (List ℕ) → Disk → Watch → (Day → List File → Type 0) → Type 0
+OnItsDay words d c P =
+    IfSome d.files (λ files. OnDay (asks_clock words) c.day (λ day. P day files))
 
 -- A stream got the text, and nothing else.
 abbrev pub Got : List ℕ → Option (List ℕ) → Option (List ℕ) → Type 0
@@ -98,29 +110,44 @@ Headline words old new day files = (plan : Plan) × IsCompiled words old new day
 
 pub record EndsDone (words : List (List ℕ)) (old new : World) : Type 0 where
   pub accepted : IsSome (options_of words)
-  pub written : WhereTold words old.disk old.clock (Headline words old new)
+  pub written : OnItsDay words old.disk old.clock (Headline words old new)
   pub report : (text : List ℕ) × Got text old.out.told new.out.told
   pub nothing_on_err : new.err.told ≡ old.err.told
 
 pub record EndsUsage (words : List (List ℕ)) (old new : World) : Type 0 where
   pub refused : options_of words ≡ None
   pub untouched : Untouched old new
+  pub same_disk : new.disk ≡ old.disk
   pub line : Got usage_line old.err.told new.err.told
 
 pub record EndsRejected (words : List (List ℕ)) (fault : Fault) (old new : World) : Type 0 where
   pub accepted : IsSome (options_of words)
-  pub first : WhereTold words old.disk old.clock (λ day files. IsJob words day files (Some (Err fault)))
+  pub first : OnItsDay words old.disk old.clock (λ day files. IsJob words day files (Some (Err fault)))
   pub untouched : Untouched old new
   pub line : Got (fault_line fault) old.err.told new.err.told
 
+-- How often the calls of a kind failed.
+abbrev pub faults_at : Which → World → ℕ
+faults_at which.List w = w.disk.list_faults
+faults_at which.Read w = w.disk.read_faults
+faults_at which.Write w = w.disk.write_faults
+faults_at which.Out w = w.out.faults
+faults_at which.Err w = w.err.faults
+faults_at which.Clock w = w.clock.faults
+
 -- A count of faults rose.
 abbrev pub RoseAt : Which → World → World → Type 0
-RoseAt which.List old new = Rose old.disk.list_faults new.disk.list_faults
-RoseAt which.Read old new = Rose old.disk.read_faults new.disk.read_faults
-RoseAt which.Write old new = Rose old.disk.write_faults new.disk.write_faults
-RoseAt which.Out old new = Rose old.out.faults new.out.faults
-RoseAt which.Err old new = Rose old.err.faults new.err.faults
-RoseAt which.Clock old new = Rose old.clock.faults new.clock.faults
+RoseAt w old new = Rose (faults_at w old) (faults_at w new)
+
+-- No call failed.
+abbrev pub NoneFailed : World → World → Type 0
+NoneFailed old new = (w : Which) → faults_at w new ≡ faults_at w old
+
+-- No call failed but those that the ending tells of; and standard error may have refused the line that told of it.
+abbrev pub FailedAlone : Ended → World → World → Type 0
+FailedAlone (ended.Outside w) old new =
+    (v : Which) → v ≢ w → v ≢ which.Err → faults_at v new ≡ faults_at v old
+FailedAlone result old new = NoneFailed old new
 
 -- A folder was not listed, a file not read, or the clock told no day.
 pub record EndsLooking (words : List (List ℕ)) (w : Which) (old new : World) : Type 0 where
@@ -129,9 +156,10 @@ pub record EndsLooking (words : List (List ℕ)) (w : Which) (old new : World) :
   pub untouched : Untouched old new
   pub line : Tried (outside_line w) old.err new.err
 
--- Only a clock that is asked can fail.
+-- Only a clock that is asked can fail. It is asked before the tree is looked at.
 pub record EndsAsking (words : List (List ℕ)) (old new : World) : Type 0 where
   pub asked : asks_clock words ≡ true
+  pub same_disk : new.disk ≡ old.disk
   pub looking : EndsLooking words which.Clock old new
 
 -- What an interrupted writing leaves: the files before one are whole, that one holds anything, and every other file is
@@ -143,7 +171,7 @@ LeavesFiles words old new day files = (plan : Plan) × IsJob words day files (So
 pub record EndsWriting (words : List (List ℕ)) (old new : World) : Type 0 where
   pub cause : RoseAt which.Write old new
   pub accepted : IsSome (options_of words)
-  pub left : WhereTold words old.disk old.clock (LeavesFiles words old new)
+  pub left : OnItsDay words old.disk old.clock (LeavesFiles words old new)
   pub same_out : new.out.told ≡ old.out.told
   pub line : Tried (outside_line which.Write) old.err new.err
 
@@ -156,7 +184,7 @@ LeavesReport words old new day files = (plan : Plan) × IsJob words day files (S
 pub record EndsReporting (words : List (List ℕ)) (old new : World) : Type 0 where
   pub cause : RoseAt which.Out old new
   pub accepted : IsSome (options_of words)
-  pub written : WhereTold words old.disk old.clock (LeavesReport words old new)
+  pub written : OnItsDay words old.disk old.clock (LeavesReport words old new)
   pub report : (text : List ℕ) × BothTell old.out.told new.out.told (AddsFront text)
   pub line : Tried (outside_line which.Out) old.err new.err
 
@@ -164,7 +192,7 @@ pub record EndsReporting (words : List (List ℕ)) (old new : World) : Type 0 wh
 abbrev pub IsRefusalLine : List (List ℕ) → World → List ℕ → Type 0
 IsRefusalLine words old line = ((options_of words ≡ None) × (line ≡ usage_line))
     ⊎ (IsSome (options_of words) × ((fault : Fault) × (line ≡ fault_line fault)
-    × WhereTold words old.disk old.clock (λ day files. IsJob words day files (Some (Err fault)))))
+    × OnItsDay words old.disk old.clock (λ day files. IsJob words day files (Some (Err fault)))))
 
 -- The line of a refusal was not written whole.
 pub record EndsTelling (words : List (List ℕ)) (old new : World) : Type 0 where
@@ -233,10 +261,12 @@ pub record OnlyAsked (words : List (List ℕ)) (old new : Watch) : Type 0 where
   pub day_stays : new.day ≡ old.day
 
 -- What a run keeps, whatever its ending: no path is begun when it returns, the clock is asked only where it has to be, no
--- count falls, the ending has its row, and where no count rose it is the one that is asked for.
+-- count falls, no call failed but those that the ending tells of, the ending has its row, and where no count rose it is
+-- the one that is asked for.
 pub record Keeps (words : List (List ℕ)) (old new : World) (result : Ended) : Type 0 where
   pub none_begun : new.disk.begun ≡ None
   pub clock : OnlyAsked words old.clock new.clock
   pub counts : CountsGrow old new
+  pub alone : FailedAlone result old new
   pub ending : EndsSo words old new result
   pub complete : NoneRose old new → EndsAsAsked words old result

@@ -6,10 +6,12 @@ pub mod FilterPaths
 pub mod FilterRequests
 pub mod Job
 pub mod PreparingSteps
+pub mod Programs
 pub mod Removals
 pub mod Runs
 pub mod ShadedSlips
 pub mod Statuses
+pub mod SureRuns
 pub mod WorkloadPlans
 pub mod WorkloadRuns
 pub mod Worlds

@@ -35,11 +35,12 @@ PlansWorkload n answer =
 
 -- The report, or a front of it where standard output failed or memory was wanted.
 abbrev pub Reports : List ℕ → Stream → Stream → Stream → Stream → Ended → Type 0
-Reports text o o' e e' ended.Done = Got text o.told o'.told × (e'.told ≡ e.told)
+Reports text o o' e e' ended.Done =
+    Got text o.told o'.told × (o'.faults ≡ o.faults) × (e' ≡ e)
 Reports text o o' e e' (ended.Outside which.Out) = Rose o.faults o'.faults
     × BothTell o.told o'.told (AddsFront text) × Tried (outside_line which.Out) e e'
 Reports text o o' e e' ended.Memory = Rose o.refusals o'.refusals
-    × BothTell o.told o'.told (AddsFront text) × (e'.told ≡ e.told)
+    × BothTell o.told o'.told (AddsFront text) × (o'.faults ≡ o.faults) × (e' ≡ e)
 Reports text o o' e e' result = ⊥
 
 -- The workload has a plan (`WorkloadsHaveNoFault`), and its report is on standard output.

@@ -2,7 +2,7 @@ ghost use Rattle.std.specs.Prelude.{◌≡◌, None};
 ghost use Rattle.aclgen_core.specs.FaultLines.{outside_line, usage_line};
 ghost use Rattle.aclgen_core.specs.WritingSteps.{AreWritable};
 ghost use Rattle.aclgen_core.specs.Worlds.{disk, stream};
-ghost use Rattle.aclgen_core.specs.DecidingSteps.{Acts, Refuses, ReportsOn, TriesLine};
+ghost use Rattle.aclgen_core.specs.DecidingSteps.{Acts, ActsAlone, Refuses, ReportsOn, TriesLine};
 
 use crate::endings::{Ended, Which};
 use crate::fault_lines::{outside_line, usage_line};
@@ -60,8 +60,11 @@ pub fn carry_out<T: Tree, O: Sink, E: Sink>(
 ) -> Ended
     requires begun { T.begun tree.old ≡ None }
     requires writable { AreWritable work.now.files.items }
-    ensures { Acts work.now
+    ensures acts { Acts work.now
         (disk T.Tree tree.old) (disk T.Tree tree.new)
+        (stream O.Sink out.old) (stream O.Sink out.new)
+        (stream E.Sink err.old) (stream E.Sink err.new) result }
+    ensures alone { ActsAlone (disk T.Tree tree.old) (disk T.Tree tree.new)
         (stream O.Sink out.old) (stream O.Sink out.new)
         (stream E.Sink err.old) (stream E.Sink err.new) result }
 {

@@ -1,7 +1,7 @@
 ghost use Rattle.std.specs.Prelude.{map};
 ghost use Rattle.std.specs.String.{string_bytes};
 ghost use Rattle.aclgen_core.specs.Worlds.{disk, watch};
-ghost use Rattle.aclgen_core.specs.DecidingSteps.{Decides, FindsDay, FollowsFrom};
+ghost use Rattle.aclgen_core.specs.DecidingSteps.{Decides, FindsDay, FollowsFrom, LooksAlone};
 
 use crate::endings::Which;
 use crate::fault_lines::fault_line;
@@ -60,9 +60,11 @@ pub fn decide<T: Tree, C: Clock>(
     tree: &mut T,
     clock: &mut C,
 ) -> Decision
-    ensures { Decides (map string_bytes words.now)
+    ensures decides { Decides (map string_bytes words.now)
         (disk T.Tree tree.old) (disk T.Tree tree.new)
         (watch C.Clock clock.old) (watch C.Clock clock.new) result }
+    ensures alone { LooksAlone result (disk T.Tree tree.old) (disk T.Tree tree.new)
+        (watch C.Clock clock.old) (watch C.Clock clock.new) }
 {
     let options = match read_options(alloc, words) {
         Ok(Some(options)) => options,

@@ -3,7 +3,14 @@ ghost use Rattle.acl_text.specs.AnsweredCodes.{IsAnswered};
 ghost use Rattle.acl_text.specs.declared.faults.Fault.{Fault};
 ghost use Rattle.acl_days.specs.declared.days.Day.{Day};
 ghost use Rattle.acl_host.specs.Files.{File};
+ghost use Rattle.acl_memory.specs.declared.sure_clocks.SureClock.{SureClock};
+ghost use Rattle.acl_memory.specs.declared.sure_sinks.SureSink.{SureSink};
+ghost use Rattle.acl_memory.specs.declared.sure_trees.SureTree.{SureTree};
 ghost use Rattle.aclgen_core.specs.Job.{IsJob, Plan};
+ghost use Rattle.aclgen_core.specs.Runs.{Runs};
+ghost use Rattle.aclgen_core.specs.SureRuns.{sure_world};
+ghost use Rattle.aclgen_core.specs.declared.endings.Ended.TheVariants as ended;
+ghost use Rattle.aclgen_core.specs.declared.endings.Which.{Which};
 ghost use Rattle.aclgen_core.specs.WorkloadPlans.{WorkloadsHaveNoFault};
 
 /// A law: a job has one answer.
@@ -30,4 +37,13 @@ pub fn faults_are_answered()
 #[tactic(auto, using(crate::proofs::WorkloadLaws::workloads_planned))]
 pub fn workloads_have_no_fault()
     ensures { WorkloadsHaveNoFault }
+{}
+
+/// A law: over the objects in memory that never fail no run ends with a failure of the outside.
+pub fn sure_runs_end_inside()
+    ensures { (words : List (List ℕ)) → (tree : SureTree) → (tree_then : SureTree) → (out : SureSink)
+        → (out_then : SureSink) → (err : SureSink) → (err_then : SureSink) → (clock : SureClock)
+        → (clock_then : SureClock) → (w : Which)
+        → Runs words (sure_world tree out err clock) (sure_world tree_then out_then err_then clock_then)
+        (ended.Outside w) → ⊥ }
 {}

@@ -10,12 +10,15 @@ mod filter_paths;
 mod laws;
 mod planning;
 mod preparing;
+mod programs;
 mod running;
 mod shading;
 mod slips;
 mod workload_runs;
 
-pub use acting::refuse_words;
 pub use endings::{Ended, Which, status_of};
-pub use laws::{faults_are_answered, jobs_are_one, jobs_are_there, workloads_have_no_fault};
+pub use laws::{
+    faults_are_answered, jobs_are_one, jobs_are_there, sure_runs_end_inside, workloads_have_no_fault,
+};
+pub use programs::{run_status, status_without_words};
 pub use running::aclgen;

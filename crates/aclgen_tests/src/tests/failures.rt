@@ -1,12 +1,13 @@
 ghost use Rattle.std.specs.Prelude.{◌≡◌, IfOk, None};
 ghost use Rattle.acl_memory.specs.MemoryTrees.{contents};
 
-use crate::tests::jobs::{Left, status};
+use crate::tests::jobs::{Left, USAGE, status};
 use crate::tests::words::words_of;
 use acl_days::Day;
 use acl_host::{Clock, ClockFault};
-use acl_memory::{MemSink, MemTree, Op};
+use acl_memory::{MemSink, MemTree, Op, SureClock, SureSink, SureTree};
 use acl_text::Memory;
+use aclgen_core::status_without_words;
 use std::alloc::Global;
 use std::test::Fail;
 
@@ -188,6 +189,9 @@ const UNDATED: &str = " --policy_file pol/a.pol --definitions_directory def --ou
 const WITHOUT_POLICY: &str =
     " --policy_file pol/b.pol --definitions_directory def --output_directory out --date 2026-01-15";
 
+const WRONG: &str =
+    " --policy_file pol/a.pol --definitions_directory def --output_directory out --exp_info x";
+
 // Whether so many files are whole, and of the others at most the next one is there, where one was begun.
 fn are_whole(tree: &MemTree, whole: usize, begun: bool) -> bool {
     for (place, (path, text)) in FILES.iter().enumerate() {
@@ -249,8 +253,9 @@ fn is_left(left: &Left, case: &Case) -> bool {
 }
 
 // Calls before the writing, with the line: no file is made. Then calls that a run does not make: nothing is called again,
-// neither behind a failure nor else, and the clock is asked only where the words name no day.
-static CASES: [Case; 17] = [
+// neither behind a failure nor else, and the clock is asked only where the words name no day. Where two calls would fail,
+// or a call and the words or the policy, the first in the order of the work is told.
+static CASES: [Case; 21] = [
     Case {
         calls: Calls {
             tree: Some((Op::List, 1)),
@@ -298,6 +303,46 @@ static CASES: [Case; 17] = [
             ..NONE
         },
         line: b"aclgen: clock failed\n",
+        ..FAILED
+    },
+    // the words are read before the clock is asked, and before the folder is listed
+    Case {
+        words: WRONG,
+        calls: Calls { clock: 1, ..NONE },
+        status: 2,
+        line: USAGE,
+        ..FAILED
+    },
+    Case {
+        words: WRONG,
+        calls: Calls {
+            tree: Some((Op::List, 1)),
+            ..NONE
+        },
+        status: 2,
+        line: USAGE,
+        ..FAILED
+    },
+    // a file whose reading fails may be one that is not there
+    Case {
+        words: WITHOUT_POLICY,
+        calls: Calls {
+            tree: Some((Op::Read, 3)),
+            ..NONE
+        },
+        line: b"aclgen: read failed\n",
+        ..FAILED
+    },
+    // the files are written before the report
+    Case {
+        calls: Calls {
+            tree: Some((Op::Finish, 4)),
+            out: 1,
+            ..NONE
+        },
+        whole: 3,
+        begun: true,
+        line: b"aclgen: write failed\n",
         ..FAILED
     },
     Case {
@@ -439,5 +484,62 @@ fn each_append_fails_once(rt: HostRuntime) -> Result<(), Fail> {
         }
     }
     assert!(rt; false, "each run failed");
+    Ok(())
+}
+
+// The same files, in a tree of which no call fails.
+fn sure_tree(alloc: Global) -> Result<SureTree, Memory>
+    ensures { IfOk result (λ t. (contents t.tree).begun ≡ None) }
+{
+    let mut tree = SureTree::new(alloc);
+    tree.put_file("def/n.net", NETWORKS)?;
+    tree.put_file("def/s.svc", SERVICES)?;
+    tree.put_file("pol/a.pol", POLICY)?;
+    Ok(tree)
+}
+
+#[test]
+fn a_run_over_objects_that_never_fail_is_done(rt: HostRuntime) -> Result<(), Fail> {
+    let alloc = rt.alloc();
+    let words = words_of(alloc, UNDATED)?;
+    let mut tree = sure_tree(alloc)?;
+    let mut out = SureSink::new(alloc);
+    let mut err = SureSink::new(alloc);
+    let mut clock = SureClock::new(Day { number: 20468 });
+    let status = status(
+        alloc,
+        words.as_slice(),
+        &mut tree,
+        &mut out,
+        &mut err,
+        &mut clock,
+    );
+    assert_eq!(rt; status, 0);
+    assert_eq!(rt; out.as_slice(), REPORT);
+    assert!(rt; err.as_slice().is_empty());
+    for (path, text) in &FILES {
+        assert!(rt; tree.file(path) == Some(*text), "{path}");
+    }
+    Ok(())
+}
+
+// The status and the line where the machine gives no words.
+fn without_words(alloc: Global, wanted_memory: bool, failing: u32) -> Result<(u8, MemSink), Memory> {
+    let mut err = sink_with(alloc, failing)?;
+    let status = status_without_words(wanted_memory, &mut err);
+    Ok((status, err))
+}
+
+#[test]
+fn words_that_are_no_text_are_no_command_line(rt: HostRuntime) -> Result<(), Fail> {
+    let (status, err) = without_words(rt.alloc(), false, 0)?;
+    assert_eq!(rt; status, 2);
+    assert_eq!(rt; err.as_slice(), USAGE);
+    let (status, err) = without_words(rt.alloc(), false, 1)?;
+    assert_eq!(rt; status, 3);
+    assert!(rt; err.as_slice().is_empty());
+    let (status, err) = without_words(rt.alloc(), true, 0)?;
+    assert_eq!(rt; status, 4);
+    assert!(rt; err.as_slice().is_empty());
     Ok(())
 }

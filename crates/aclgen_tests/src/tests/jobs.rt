@@ -7,7 +7,7 @@ use acl_grammar::{read_document, sections};
 use acl_host::{Clock, Sink, Tree};
 use acl_memory::{FixedClock, MemSink, MemTree, Op};
 use acl_text::Memory;
-use aclgen_core::{aclgen, status_of};
+use aclgen_core::run_status;
 use std::alloc::Global;
 use std::process::Abort;
 use std::test::Fail;
@@ -82,17 +82,17 @@ pub(crate) struct Left {
 }
 
 // The program is called here alone: each function that calls it proves its whole contract again.
-pub(crate) fn status<C: Clock>(
+pub(crate) fn status<T: Tree, O: Sink, E: Sink, C: Clock>(
     alloc: Global,
     words: &[String],
-    tree: &mut MemTree,
-    out: &mut MemSink,
-    err: &mut MemSink,
+    tree: &mut T,
+    out: &mut O,
+    err: &mut E,
     clock: &mut C,
 ) -> u8
-    requires { (contents tree.old).begun ≡ None }
+    requires { T.begun tree.old ≡ None }
 {
-    status_of(&aclgen(alloc, words, tree, out, err, clock))
+    run_status(alloc, words, tree, out, err, clock)
 }
 
 pub(crate) fn left_by(alloc: Global, tree: MemTree, run: &Run) -> Result<Left, Memory>
@@ -482,7 +482,7 @@ fn an_edge_policy_is_read_back(rt: HostRuntime) -> Result<(), Fail> {
 const PLAIN_POLICY: &[u8] =
     b"header { target:: cisco edge extended }\nterm t { action:: accept }\n";
 
-const USAGE: &[u8] =
+pub(crate) const USAGE: &[u8] =
     b"usage: aclgen --policy_file P --definitions_directory D --output_directory O [--date YYYY-MM-DD] [--exp_info N] [--shade_check]\n";
 
 static REFUSALS: [Case; 7] = [

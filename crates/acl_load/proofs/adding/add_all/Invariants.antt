@@ -14,4 +14,5 @@ invariant-loop-path g l = record {
       (map string_bytes l.files) held l.initial.so_far);
   reads : OnlyReads (members g.T.Out g.T.Tree.files g.T.Tree.begun
       g.T.Tree.list_faults g.T.Tree.read_faults) l.initial.tree l.tree;
+  none_failed : g.T.Tree.read_faults l.tree ≡ g.T.Tree.read_faults l.initial.tree;
 }

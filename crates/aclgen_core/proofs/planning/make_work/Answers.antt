@@ -13,5 +13,5 @@ returns-clause-makes g c =
 
 pub returns-in_err-plan-clause-looks : goal.returns-in_err-plan-clause-looks
 returns-in_err-plan-clause-looks g c =
-    rejected-looks _ c.args.tree.now c.load.new.tree
-    c.in_err-plan.field-0.0 c.from_residual-in_err-plan.result c.load.ensures.looks.only c.from_residual-in_err-plan.ensures.1
+    rejected-looks _ c.args.tree.now c.load.new.tree c.in_ok-loaded.loaded
+    c.in_err-plan.field-0.0 c.from_residual-in_err-plan.result c.in_ok-loaded.ensures.looks c.from_residual-in_err-plan.ensures.1

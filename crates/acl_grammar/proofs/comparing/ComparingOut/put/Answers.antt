@@ -1,4 +1,5 @@
-use Rattle.std.proofs.Common.{◌≡◌, ◌<◌, drop, length, refl, ap, ◌∙◌, arith}
+use Rattle.std.proofs.Common.{◌≡◌, ◌<◌, drop, length, refl, ap, sym, ◌∙◌, arith}
+use Rattle.std.proofs.lemmas.Bool.{false≢true}
 use Rattle.acl_grammar.proofs.TakenLaws.{common, takes_all, takes_front, compared_still, first_fault}
 use Rattle.acl_grammar.proofs.comparing.ComparingOut.put.Goals as goal
 
@@ -24,6 +25,7 @@ returns-then-same-bytes c =
       faults_grow = omega arith;
       refusals_grow = omega arith;
       failed = λ e. absurd cc;
+      faults_stay = λ e. refl;
       memory = λ e. absurd cc;
     }
 
@@ -43,5 +45,6 @@ returns-else-same-bytes c =
       faults_grow = omega (arith, first);
       refusals_grow = omega arith;
       failed = λ e. first;
+      faults_stay = λ e. absurd (false≢true (sym e));
       memory = λ e. absurd cc;
     }

@@ -21,6 +21,7 @@ abbrev pub invariant-add-loop-text : goal.invariant-add-loop-text
 invariant-add-loop-text g l = record {
   reads : OnlyReads (members g.T.Out g.T.Tree.files g.T.Tree.begun
       g.T.Tree.list_faults g.T.Tree.read_faults) l.fn.tree l.tree;
+  none_failed : g.T.Tree.read_faults l.tree ≡ g.T.Tree.read_faults l.fn.tree;
   read_on : GoesOn l.initial.sources l.sources;
   place : l.cursor.file ≡ l.file;
   no_feeds : AllByRecursion HasNoFeed l.cursor.lines;

@@ -1,0 +1,134 @@
+-- No call failed but those that an ending tells of.
+use Rattle.std.proofs.Common.{◌≡◌, ◌≢◌, ℕ, inl, inr, false, List, Result, Err, refl, ap, sym, subst, ◌∙◌}
+use Rattle.acl_load.specs.LoadFaults.{fails_to_list, fails_to_read}
+use Rattle.acl_load.specs.declared.load_faults.LoadFault.{LoadFault}
+use Rattle.acl_load.specs.declared.load_faults.LoadFault.TheVariants as loads
+use Rattle.aclgen_core.specs.DecidingSteps.{ActsAlone, FollowsFrom, LooksAlone, RefusesSo}
+use Rattle.aclgen_core.specs.Endings.{FailedAlone, NoneFailed, faults_at}
+use Rattle.aclgen_core.specs.WorkloadRuns.{Reports}
+use Rattle.aclgen_core.specs.Worlds.{Disk, Stream, Watch, World, world}
+use Rattle.aclgen_core.specs.declared.deciding.Decision.{Decision}
+use Rattle.aclgen_core.specs.declared.deciding.Decision.TheVariants as decided
+use Rattle.aclgen_core.specs.declared.endings.Ended.{Ended}
+use Rattle.aclgen_core.specs.declared.endings.Ended.TheVariants as ended
+use Rattle.aclgen_core.specs.declared.endings.Which.{Which}
+use Rattle.aclgen_core.specs.declared.endings.Which.TheVariants as which
+use Rattle.aclgen_core.specs.declared.planning.Work.{Work}
+
+-- What is so of each kind of call.
+by-kind : (P : Which → Type 0) → P which.List → P which.Read → P which.Write → P which.Out → P which.Err → P which.Clock → (v : Which) → P v
+by-kind P l r w o e c which.List = l
+by-kind P l r w o e c which.Read = r
+by-kind P l r w o e c which.Write = w
+by-kind P l r w o e c which.Out = o
+by-kind P l r w o e c which.Err = e
+by-kind P l r w o e c which.Clock = c
+
+none-failed : (d d' : Disk) (o o' e e' : Stream) (c c' : Watch) → d'.list_faults ≡ d.list_faults → d'.read_faults ≡ d.read_faults → d'.write_faults ≡ d.write_faults
+    → o'.faults ≡ o.faults → e'.faults ≡ e.faults → c'.faults ≡ c.faults → NoneFailed (world d o e c) (world d' o' e' c')
+none-failed d d' o o' e e' c c' = by-kind (λ v. faults_at v (world d' o' e' c') ≡ faults_at v (world d o e c))
+
+-- A line was tried on standard error.
+line-tried : (d : Disk) (o e e' : Stream) (c : Watch) → (v : Which) → v ≢ which.Err → faults_at v (world d o e' c) ≡ faults_at v (world d o e c)
+line-tried d o e e' c = by-kind (λ v. v ≢ which.Err → faults_at v (world d o e' c) ≡ faults_at v (world d o e c))
+    (λ _. refl) (λ _. refl) (λ _. refl) (λ _. refl) (λ n. absurd (n refl)) (λ _. refl)
+
+-- What failed behind calls of which none failed.
+pub alone-behind : (result : Ended) (first middle last : World) → NoneFailed first middle → FailedAlone result middle last → FailedAlone result first last
+alone-behind ended.Done first middle last none alone = λ v. alone v ∙ none v
+alone-behind ended.Usage first middle last none alone = λ v. alone v ∙ none v
+alone-behind (ended.Rejected fault) first middle last none alone = λ v. alone v ∙ none v
+alone-behind (ended.Outside w) first middle last none alone = λ v other silent. alone v other silent ∙ none v
+alone-behind ended.Memory first middle last none alone = λ v. alone v ∙ none v
+
+-- ---- deciding
+
+pub planned-alone : (work : Work) (d d' : Disk) (c c' : Watch) → d'.list_faults ≡ d.list_faults → d'.read_faults ≡ d.read_faults → d'.write_faults ≡ d.write_faults
+    → c'.faults ≡ c.faults → LooksAlone (decided.Planned work) d d' c c'
+planned-alone work d d' c c' l r w k = λ o e. none-failed d d' o o e e c c' l r w refl refl k
+
+pub clock-alone : (d : Disk) (c c' : Watch) → LooksAlone (decided.Outside which.Clock) d d c c'
+clock-alone d c c' = λ o e. by-kind (λ v. v ≢ which.Clock → v ≢ which.Err → faults_at v (world d o e c') ≡ faults_at v (world d o e c))
+    (λ _ _. refl) (λ _ _. refl) (λ _ _. refl) (λ _ _. refl) (λ _ _. refl) (λ n _. absurd (n refl))
+
+list-alone : (d d' : Disk) (c c' : Watch) → d'.read_faults ≡ d.read_faults → d'.write_faults ≡ d.write_faults → c'.faults ≡ c.faults
+    → LooksAlone (decided.Outside which.List) d d' c c'
+list-alone d d' c c' r w k = λ o e. by-kind (λ v. v ≢ which.List → v ≢ which.Err → faults_at v (world d' o e c') ≡ faults_at v (world d o e c))
+    (λ n _. absurd (n refl)) (λ _ _. r) (λ _ _. w) (λ _ _. refl) (λ _ _. refl) (λ _ _. k)
+
+read-alone : (d d' : Disk) (c c' : Watch) → d'.list_faults ≡ d.list_faults → d'.write_faults ≡ d.write_faults → c'.faults ≡ c.faults
+    → LooksAlone (decided.Outside which.Read) d d' c c'
+read-alone d d' c c' l w k = λ o e. by-kind (λ v. v ≢ which.Read → v ≢ which.Err → faults_at v (world d' o e c') ≡ faults_at v (world d o e c))
+    (λ _ _. l) (λ n _. absurd (n refl)) (λ _ _. w) (λ _ _. refl) (λ _ _. refl) (λ _ _. k)
+
+pub fault-alone : (d d' : Disk) (c c' : Watch) (e : LoadFault) (decision : Decision)
+    → (fails_to_list {X = Work} (Err e) ≡ false → d'.list_faults ≡ d.list_faults) → (fails_to_read {X = Work} (Err e) ≡ false → d'.read_faults ≡ d.read_faults)
+    → d'.write_faults ≡ d.write_faults → c'.faults ≡ c.faults → FollowsFrom e decision → LooksAlone decision d d' c c'
+fault-alone d d' c c' (loads.Fault fault) (decided.Refused told line) l r w k h = λ o e. none-failed d d' o o e e c c' (l refl) (r refl) w refl refl k
+fault-alone d d' c c' (loads.Fault fault) decided.Memory l r w k h = λ o e. none-failed d d' o o e e c c' (l refl) (r refl) w refl refl k
+fault-alone d d' c c' (loads.Fault fault) decided.Usage l r w k h = absurd h
+fault-alone d d' c c' (loads.Fault fault) (decided.Planned work) l r w k h = absurd h
+fault-alone d d' c c' (loads.Fault fault) (decided.Outside v) l r w k h = absurd h
+fault-alone d d' c c' loads.List (decided.Outside v) l r w k h =
+    subst (λ x. LooksAlone (decided.Outside x) d d' c c') (sym h) (list-alone d d' c c' (r refl) w k)
+fault-alone d d' c c' loads.List decided.Memory l r w k h = absurd h
+fault-alone d d' c c' loads.List decided.Usage l r w k h = absurd h
+fault-alone d d' c c' loads.List (decided.Planned work) l r w k h = absurd h
+fault-alone d d' c c' loads.List (decided.Refused told line) l r w k h = absurd h
+fault-alone d d' c c' loads.Read (decided.Outside v) l r w k h =
+    subst (λ x. LooksAlone (decided.Outside x) d d' c c') (sym h) (read-alone d d' c c' (l refl) w k)
+fault-alone d d' c c' loads.Read decided.Memory l r w k h = absurd h
+fault-alone d d' c c' loads.Read decided.Usage l r w k h = absurd h
+fault-alone d d' c c' loads.Read (decided.Planned work) l r w k h = absurd h
+fault-alone d d' c c' loads.Read (decided.Refused told line) l r w k h = absurd h
+fault-alone d d' c c' loads.Memory decided.Memory l r w k h = λ o e. none-failed d d' o o e e c c' (l refl) (r refl) w refl refl k
+fault-alone d d' c c' loads.Memory decided.Usage l r w k h = absurd h
+fault-alone d d' c c' loads.Memory (decided.Planned work) l r w k h = absurd h
+fault-alone d d' c c' loads.Memory (decided.Refused told line) l r w k h = absurd h
+fault-alone d d' c c' loads.Memory (decided.Outside v) l r w k h = absurd h
+
+-- ---- telling
+
+pub refused-alone : (line : List ℕ) (asked result : Ended) (d : Disk) (o e e' : Stream) (c : Watch)
+    → (NoneFailed (world d o e c) (world d o e' c) → FailedAlone asked (world d o e c) (world d o e' c))
+    → RefusesSo line asked e e' result → FailedAlone result (world d o e c) (world d o e' c)
+refused-alone line asked result d o e e' c f (inl h) =
+    subst (λ (r : Ended). FailedAlone r (world d o e c) (world d o e' c)) (sym h.0) (f (none-failed d d o o e e' c c refl refl refl refl h.2 refl))
+refused-alone line asked result d o e e' c f (inr (inl h)) =
+    subst (λ (r : Ended). FailedAlone r (world d o e c) (world d o e' c)) (sym h.0) (λ v _ silent. line-tried d o e e' c v silent)
+refused-alone line asked result d o e e' c f (inr (inr h)) =
+    subst (λ (r : Ended). FailedAlone r (world d o e c) (world d o e' c)) (sym h.0) (none-failed d d o o e e' c c refl refl refl refl h.3 refl)
+
+pub told-alone : (w : Which) (result : Ended) (d d' : Disk) (o e e' : Stream) (c c' : Watch) → LooksAlone (decided.Outside w) d d' c c' → result ≡ ended.Outside w
+    → FailedAlone result (world d o e c) (world d' o e' c')
+told-alone w result d d' o e e' c c' alone is =
+    subst (λ (r : Ended). FailedAlone r (world d o e c) (world d' o e' c')) (sym is)
+    (λ v other silent. line-tried d' o e e' c' v silent ∙ alone o e v other silent)
+
+-- ---- acting
+
+pub reported-alone : (text : List ℕ) (d d' : Disk) (o o' e e' : Stream) (result : Ended) → d'.list_faults ≡ d.list_faults → d'.read_faults ≡ d.read_faults
+    → d'.write_faults ≡ d.write_faults → Reports text o o' e e' result → ActsAlone d d' o o' e e' result
+reported-alone text d d' o o' e e' ended.Done l r w h = λ c. none-failed d d' o o' e e' c c l r w h.1 (ap (λ (s : Stream). s.faults) h.2) refl
+reported-alone text d d' o o' e e' ended.Usage l r w h = absurd h
+reported-alone text d d' o o' e e' (ended.Rejected fault) l r w h = absurd h
+reported-alone text d d' o o' e e' (ended.Outside which.List) l r w h = absurd h
+reported-alone text d d' o o' e e' (ended.Outside which.Read) l r w h = absurd h
+reported-alone text d d' o o' e e' (ended.Outside which.Write) l r w h = absurd h
+reported-alone text d d' o o' e e' (ended.Outside which.Out) l r w h =
+    λ c. by-kind (λ v. v ≢ which.Out → v ≢ which.Err → faults_at v (world d' o' e' c) ≡ faults_at v (world d o e c))
+    (λ _ _. l) (λ _ _. r) (λ _ _. w) (λ n _. absurd (n refl)) (λ _ n. absurd (n refl)) (λ _ _. refl)
+reported-alone text d d' o o' e e' (ended.Outside which.Err) l r w h = absurd h
+reported-alone text d d' o o' e e' (ended.Outside which.Clock) l r w h = absurd h
+reported-alone text d d' o o' e e' ended.Memory l r w h = λ c. none-failed d d' o o' e e' c c l r w h.2 (ap (λ (s : Stream). s.faults) h.3) refl
+
+pub writing-alone : (d d' : Disk) (o e e' : Stream) (result : Ended) → d'.list_faults ≡ d.list_faults → d'.read_faults ≡ d.read_faults → result ≡ ended.Outside which.Write
+    → ActsAlone d d' o o e e' result
+writing-alone d d' o e e' result l r is =
+    subst (λ (x : Ended). ActsAlone d d' o o e e' x) (sym is)
+    (λ c. by-kind (λ v. v ≢ which.Write → v ≢ which.Err → faults_at v (world d' o e' c) ≡ faults_at v (world d o e c))
+    (λ _ _. l) (λ _ _. r) (λ n _. absurd (n refl)) (λ _ _. refl) (λ _ n. absurd (n refl)) (λ _ _. refl))
+
+pub wanting-alone : (d d' : Disk) (o e : Stream) → d'.list_faults ≡ d.list_faults → d'.read_faults ≡ d.read_faults → d'.write_faults ≡ d.write_faults
+    → ActsAlone d d' o o e e ended.Memory
+wanting-alone d d' o e l r w = λ c. none-failed d d' o o e e c c l r w refl refl refl

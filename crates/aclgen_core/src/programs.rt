@@ -1,0 +1,45 @@
+ghost use Rattle.std.specs.Prelude.{◌≡◌, None, map};
+ghost use Rattle.std.specs.String.{string_bytes};
+ghost use Rattle.aclgen_core.specs.Programs.{EndsWithoutWords, RunsWithStatus, RunsWithoutWords};
+ghost use Rattle.aclgen_core.specs.Worlds.{stream, world_of};
+
+use crate::acting::refuse_words;
+use crate::endings::{Ended, status_of};
+use crate::running::aclgen;
+use acl_host::{Clock, Sink, Tree};
+use std::alloc::Global;
+
+/// The whole run, and the exit status of the program: that of the ending, as `aclgen` tells it.
+pub fn run_status<T: Tree, O: Sink, E: Sink, C: Clock>(
+    alloc: Global,
+    words: &[String],
+    tree: &mut T,
+    out: &mut O,
+    err: &mut E,
+    clock: &mut C,
+) -> u8
+    requires { T.begun tree.old ≡ None }
+    ensures { RunsWithStatus (map string_bytes words.now)
+        (world_of T.Tree O.Sink E.Sink C.Clock tree.old out.old err.old clock.old)
+        (world_of T.Tree O.Sink E.Sink C.Clock tree.new out.new err.new clock.new) result }
+{
+    status_of(&aclgen(alloc, words, tree, out, err, clock))
+}
+
+fn run_without_words<E: Sink>(wanted_memory: bool, err: &mut E) -> Ended
+    ensures { RunsWithoutWords wanted_memory (stream E.Sink err.old) (stream E.Sink err.new) result }
+{
+    if wanted_memory {
+        return Ended::Memory;
+    }
+    refuse_words(err)
+}
+
+/// The same where the machine gives no words: memory was wanted for them, or some are no text, and then they are no
+/// command line.
+pub fn status_without_words<E: Sink>(wanted_memory: bool, err: &mut E) -> u8
+    ensures { EndsWithoutWords wanted_memory
+        (stream E.Sink err.old) (stream E.Sink err.new) result }
+{
+    status_of(&run_without_words(wanted_memory, err))
+}
