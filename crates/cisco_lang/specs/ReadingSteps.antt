@@ -1,7 +1,7 @@
--- Reading leniently: a draft that rows and words change, and that nothing refuses.
-use Rattle.std.specs.Prelude.{ℕ, ◌-◌, Bool, true, false, ◌==◌, if◌then◌else◌, List, [], ◌∷◌, ◌++◌, codes, Option, None, Some, option_map, unwrap_or}
+-- Reading leniently: a draft that rows change, and that nothing refuses.
+use Rattle.std.specs.Prelude.{ℕ, ◌-◌, Bool, true, false, ◌==◌, if◌then◌else◌, List, [], ◌∷◌, ◌++◌, codes, Option, None, Some, unwrap_or}
 use Rattle.std.specs.Int.Count.{count_leading_zeros}
-use Rattle.std.specs.List.{fold, join_with_byte}
+use Rattle.std.specs.List.{join_with_byte}
 use Rattle.std.specs.Option.{option_map_or}
 use Rattle.std.specs.Str.{bytes_eq}
 use Rattle.acl_packet.specs.declared.addresses.Family.{Family}
@@ -22,143 +22,100 @@ use Rattle.cisco_lang.specs.declared.documents.Item.TheVariants.{Remark, Entry a
 use Rattle.cisco_lang.specs.declared.documents.Entry.{Entry}
 use Rattle.cisco_lang.specs.declared.documents.Flags.{Flags}
 use Rattle.cisco_lang.specs.declared.documents.Flags.TheVariants.{Established, Rst, SynNotAck}
-use Rattle.acl_grammar.specs.declared.rule_parts.End.{End}
-use Rattle.acl_grammar.specs.declared.rule_parts.End.TheVariants.{Source, Destination}
-use Rattle.cisco_lang.specs.declared.entry_drafts.Next.{Next}
-use Rattle.cisco_lang.specs.declared.entry_drafts.Next.TheVariants.{Action, Protocol, Place, Host, Wildcard, Port, Low, High, Tests}
-use Rattle.cisco_lang.specs.declared.entry_drafts.EntryDraft.{EntryDraft}
 use Rattle.cisco_lang.specs.declared.lists_drafts.ListsDraft.{ListsDraft}
 
--- ---- the words of an entry
+-- ---- the words of an entry, each told by its place
 
-abbrev pub draft : Family → Entry → Next → EntryDraft
-draft family e next = record { family = family; entry = e; next = next }
-
-abbrev pub no_entry : Family → Entry
-no_entry family = record {
-  permit = false;
-  proto = None;
-  src = everywhere family;
-  sport = None;
-  dst = everywhere family;
-  dport = None;
-  itype = None;
-  flags = None;
-  log = false;
-}
-
-abbrev pub with_place : End → Prefix → Entry → Entry
-with_place Source p e = record e { src = p }
-with_place Destination p e = record e { dst = p }
-
-abbrev pub with_ports : End → Option (ℕ × ℕ) → Entry → Entry
-with_ports Source ports e = record e { sport = ports }
-with_ports Destination ports e = record e { dport = ports }
-
-abbrev pub place_of : End → Entry → Prefix
-place_of Source e = e.src
-place_of Destination e = e.dst
-
-abbrev pub ports_of : End → Entry → Option (ℕ × ℕ)
-ports_of Source e = e.sport
-ports_of Destination e = e.dport
-
--- What follows an end: behind the source the destination, then the tests.
-abbrev pub after : End → Next
-after Source = Place Destination
-after Destination = Tests
-
-abbrev pub proto_named : Family → List ℕ → Option ℕ
-proto_named family w =
-    if bytes_eq w (codes "tcp") then Some 6
-    else if bytes_eq w (codes "udp") then Some 17
-    else if bytes_eq w (codes "icmp") then Some (icmp_of family)
-    else None
+-- The next word, which is empty where there is none, and the words behind it.
+unfoldable pub next_word : List (List ℕ) → List ℕ × List (List ℕ)
+next_word [] = ([], [])
+next_word (w ∷ words) = (w, words)
 
 unfoldable pub proto_in : Family → List ℕ → Option ℕ
 proto_in family w =
-    option_map_or {U = Option ℕ} (λ n. Some n) (number_in 255 w) (proto_named family w)
+    if bytes_eq w (codes "tcp") then Some 6
+    else if bytes_eq w (codes "udp") then Some 17
+    else if bytes_eq w (codes "icmp") then Some (icmp_of family)
+    else number_in 255 w
 
-unfoldable pub host_in : Family → List ℕ → Prefix
-host_in family w =
-    record { family = family; first = unwrap_or (address_in family w) 0; len = width_of family }
+unfoldable pub take_address : Family → List (List ℕ) → ℕ × List (List ℕ)
+take_address family words =
+    let word = next_word words in
+    (unwrap_or (address_in family word.0) 0, word.1)
 
--- The prefix that a word begins, in IPv4 that of the address alone.
-unfoldable pub place_in : Family → List ℕ → Option Prefix
-place_in V4 w =
-    option_map {U = Prefix} (λ a. record { family = V4; first = a; len = 32 }) (address_in V4 w)
-place_in V6 w = spelled_prefix_in V6 w
+-- As many bits as are not set before the first that is.
+abbrev pub wildcard_length : ℕ → ℕ
+wildcard_length wildcard = count_leading_zeros 128 wildcard - 96
 
--- The length that has the wildcard: as many bits as are not set before the first that is.
-unfoldable pub length_in : List ℕ → ℕ
-length_in w = count_leading_zeros 128 (unwrap_or (address_in V4 w) 0) - 96
+-- An address and its wildcard, or in IPv6 a prefix.
+unfoldable pub take_masked : Family → List (List ℕ) → Prefix × List (List ℕ)
+take_masked V4 words =
+    let first = take_address V4 words in
+    let wildcard = take_address V4 first.1 in
+    (record { family = V4; first = first.0; len = wildcard_length wildcard.0 }, wildcard.1)
+take_masked V6 words =
+    let word = next_word words in
+    (unwrap_or (spelled_prefix_in V6 word.0) (everywhere V6), word.1)
 
-unfoldable pub port_in : List ℕ → ℕ
-port_in w = unwrap_or (number_in 65535 w) 0
+unfoldable pub take_place : Family → List (List ℕ) → Prefix × List (List ℕ)
+take_place family words =
+    let word = next_word words in
+    let host = take_address family word.1 in
+    if bytes_eq word.0 (codes "any") then (everywhere family, word.1)
+    else if bytes_eq word.0 (codes "host")
+    then (record { family = family; first = host.0; len = width_of family }, host.1)
+    else take_masked family words
 
-abbrev pub port_pair : Option (ℕ × ℕ) → ℕ → ℕ × ℕ
-port_pair None high = (high, high)
-port_pair (Some ports) high = (ports.0, high)
+unfoldable pub take_port : List (List ℕ) → ℕ × List (List ℕ)
+take_port words =
+    let word = next_word words in
+    (unwrap_or (number_in 65535 word.0) 0, word.1)
 
--- An IPv4 address has its wildcard behind it.
-abbrev pub begun : Family → End → Prefix → Entry → EntryDraft
-begun V4 end p e = draft V4 (with_place end p e) (Wildcard end)
-begun V6 end p e = draft V6 (with_place end p e) (after end)
+unfoldable pub take_ports : List (List ℕ) → Option (ℕ × ℕ) × List (List ℕ)
+take_ports words =
+    let word = next_word words in
+    let low = take_port word.1 in
+    let high = take_port low.1 in
+    if bytes_eq word.0 (codes "eq") then (Some (low.0, low.0), low.1)
+    else if bytes_eq word.0 (codes "range") then (Some (low.0, high.0), high.1)
+    else (None, words)
 
-abbrev pub ports_begin : Family → Entry → Next → End → List ℕ → EntryDraft
-ports_begin family e next end w =
-    if bytes_eq w (codes "eq") then draft family e (Port end)
-    else if bytes_eq w (codes "range") then draft family e (Low end)
-    else draft family e next
+unfoldable pub take_type : List (List ℕ) → Option ℕ × List (List ℕ)
+take_type words =
+    let word = next_word words in
+    option_map_or {U = Option ℕ × List (List ℕ)} (λ n. (Some n, word.1)) (number_in 254 word.0)
+    (None, words)
 
-abbrev pub place_named : Family → Entry → End → List ℕ → EntryDraft
-place_named family e end w =
-    if bytes_eq w (codes "any") then draft family (with_place end (everywhere family) e) (after end)
-    else if bytes_eq w (codes "host") then draft family e (Host end)
-    else ports_begin family e (Place end) Source w
-
-unfoldable pub take_place : Family → Entry → End → List ℕ → EntryDraft
-take_place family e end w =
-    option_map_or {U = EntryDraft} (λ p. begun family end p e) (place_in family w)
-    (place_named family e end w)
-
-abbrev pub with_test : Family → Entry → Flags → EntryDraft
-with_test family e flags = draft family (record e { flags = Some flags }) Tests
-
-abbrev pub test_named : Family → Entry → List ℕ → EntryDraft
-test_named family e w =
-    if bytes_eq w (codes "established") then with_test family e Established
-    else if bytes_eq w (codes "rst") then with_test family e Rst
-    else if bytes_eq w (codes "match-all") then with_test family e SynNotAck
-    else if bytes_eq w (codes "log") then draft family (record e { log = true }) Tests
-    else ports_begin family e Tests Destination w
-
-unfoldable pub take_test : Family → Entry → List ℕ → EntryDraft
-take_test family e w =
-    option_map_or {U = EntryDraft} (λ n. draft family (record e { itype = Some n }) Tests)
-    (number_in 254 w) (test_named family e w)
-
-unfoldable pub take_as : Family → Entry → Next → List ℕ → EntryDraft
-take_as family e Action w =
-    draft family (record e { permit = bytes_eq w (codes "permit") }) Protocol
-take_as family e Protocol w = draft family (record e { proto = proto_in family w }) (Place Source)
-take_as family e (Place end) w = take_place family e end w
-take_as family e (Host end) w = draft family (with_place end (host_in family w) e) (after end)
-take_as family e (Wildcard end) w =
-    draft family (with_place end (record (place_of end e) { len = length_in w }) e) (after end)
-take_as family e (Port end) w =
-    draft family (with_ports end (Some (port_in w, port_in w)) e) (after end)
-take_as family e (Low end) w =
-    draft family (with_ports end (Some (port_in w, port_in w)) e) (High end)
-take_as family e (High end) w =
-    draft family (with_ports end (Some (port_pair (ports_of end e) (port_in w))) e) (after end)
-take_as family e Tests w = take_test family e w
-
-abbrev pub take_word : EntryDraft → List ℕ → EntryDraft
-take_word d w = take_as d.family d.entry d.next w
+unfoldable pub take_flags : List (List ℕ) → Option Flags × List (List ℕ)
+take_flags words =
+    let word = next_word words in
+    if bytes_eq word.0 (codes "established") then (Some Established, word.1)
+    else if bytes_eq word.0 (codes "rst") then (Some Rst, word.1)
+    else if bytes_eq word.0 (codes "match-all")
+    then (Some SynNotAck, (next_word (next_word word.1).1).1)
+    else (None, words)
 
 unfoldable pub entry_in : Family → List (List ℕ) → Entry
-entry_in family words = (fold take_word (draft family (no_entry family) Action) words).entry
+entry_in family words =
+    let action = next_word words in
+    let protocol = next_word action.1 in
+    let src = take_place family protocol.1 in
+    let sport = take_ports src.1 in
+    let dst = take_place family sport.1 in
+    let dport = take_ports dst.1 in
+    let itype = take_type dport.1 in
+    let flags = take_flags itype.1 in
+    record {
+      permit = bytes_eq action.0 (codes "permit");
+      proto = proto_in family protocol.0;
+      src = src.0;
+      sport = sport.0;
+      dst = dst.0;
+      dport = dport.0;
+      itype = itype.0;
+      flags = flags.0;
+      log = bytes_eq (next_word flags.1).0 (codes "log");
+    }
 
 -- ---- the rows of a document
 

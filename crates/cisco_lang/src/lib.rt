@@ -4,7 +4,7 @@
 
 mod cisco;
 mod documents;
-mod entry_drafts;
+mod entry_reading;
 mod list_rows;
 mod lists_drafts;
 mod validity;

@@ -4,7 +4,7 @@ ghost use Rattle.acl_grammar.specs.FamilyWords.{families_in};
 ghost use Rattle.cisco_lang.specs.ReadingSteps.{no_list, no_section, item_in, is_last, no_draft, end_section, end_list, begin_list, begin_section, take_four, take_outer, take_inner, take_row};
 
 use crate::documents::{AccessList, Doc, Item, Section};
-use crate::entry_drafts::entry_of;
+use crate::entry_reading::entry_of;
 use acl_grammar::{DocumentDraft, Draft, families_of, join_words};
 use acl_packet::{Families, Family};
 use acl_text::{Bytes, Items, Memory};

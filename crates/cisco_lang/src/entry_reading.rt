@@ -1,0 +1,170 @@
+ghost use Rattle.std.specs.Prelude.{◌≡◌};
+ghost use Rattle.std.specs.Str.{bytes_eq};
+ghost use Rattle.acl_text.specs.Cuts.{views};
+ghost use Rattle.cisco_lang.specs.ReadingSteps.{wildcard_length, proto_in, next_word, take_address, take_masked, take_place, take_port, take_ports, take_type, take_flags, entry_in};
+
+use crate::documents::{Entry, Flags};
+use acl_packet::{Family, Prefix};
+use acl_text::{read_address, read_spelled_prefix, read_u8, read_u16};
+
+/// The entry of the words, each of which is told by its place. No words are refused.
+#[tactic(auto, unfolding(crate::specs::ReadingSteps::entry_in))]
+pub(crate) fn entry_of(family: Family, words: &[&[u8]]) -> Entry
+    ensures { result ≡ entry_in family (views words.now) }
+{
+    let (action, words) = next_word(words);
+    let (protocol, words) = next_word(words);
+    let (src, words) = take_place(family, words);
+    let (sport, words) = take_ports(words);
+    let (dst, words) = take_place(family, words);
+    let (dport, words) = take_ports(words);
+    let (itype, words) = take_type(words);
+    let (flags, words) = take_flags(words);
+    let (last, _) = next_word(words);
+    Entry {
+        permit: is(action, "permit"),
+        proto: protocol_of(family, protocol),
+        src,
+        sport,
+        dst,
+        dport,
+        itype,
+        flags,
+        log: is(last, "log"),
+    }
+}
+
+/// The next word, which is empty where there is none, and the words behind it.
+#[tactic(auto, unfolding(crate::specs::ReadingSteps::next_word))]
+fn next_word<'a>(words: &'a [&'a [u8]]) -> (&'a [u8], &'a [&'a [u8]])
+    ensures { (result.0.now, views result.1.now) ≡ next_word (views words.now) }
+{
+    match words {
+        [word, rest @ ..] => (word, rest),
+        [] => (&[], words),
+    }
+}
+
+fn is(word: &[u8], text: &str) -> bool
+    ensures { result ≡ bytes_eq word.now text.now }
+{
+    word == text.as_bytes()
+}
+
+#[tactic(auto, unfolding(crate::specs::ReadingSteps::proto_in))]
+fn protocol_of(family: Family, word: &[u8]) -> Option<u8>
+    ensures { result ≡ proto_in family word.now }
+{
+    if is(word, "tcp") {
+        Some(6)
+    } else if is(word, "udp") {
+        Some(17)
+    } else if is(word, "icmp") {
+        Some(family.icmp_number())
+    } else {
+        read_u8(word, 255)
+    }
+}
+
+#[tactic(auto, unfolding(crate::specs::ReadingSteps::take_place))]
+fn take_place<'a>(family: Family, words: &'a [&'a [u8]]) -> (Prefix, &'a [&'a [u8]])
+    ensures { (result.0, views result.1.now) ≡ take_place family (views words.now) }
+{
+    let (word, rest) = next_word(words);
+    if is(word, "any") {
+        (Prefix::everywhere(family), rest)
+    } else if is(word, "host") {
+        let (first, rest) = take_address(family, rest);
+        let len = family.width();
+        (Prefix { family, first, len }, rest)
+    } else {
+        take_masked(family, words)
+    }
+}
+
+#[tactic(auto, unfolding(crate::specs::ReadingSteps::take_masked))]
+fn take_masked<'a>(family: Family, words: &'a [&'a [u8]]) -> (Prefix, &'a [&'a [u8]])
+    ensures { (result.0, views result.1.now) ≡ take_masked family (views words.now) }
+{
+    match family {
+        Family::V4 => {
+            let (first, rest) = take_address(family, words);
+            let (wildcard, rest) = take_address(family, rest);
+            let len = wildcard_length(wildcard);
+            (Prefix { family, first, len }, rest)
+        }
+        Family::V6 => {
+            let (word, rest) = next_word(words);
+            let place = read_spelled_prefix(family, word);
+            (place.unwrap_or(Prefix::everywhere(family)), rest)
+        }
+    }
+}
+
+#[tactic(auto, unfolding(crate::specs::ReadingSteps::take_address))]
+fn take_address<'a>(family: Family, words: &'a [&'a [u8]]) -> (u128, &'a [&'a [u8]])
+    ensures { (result.0, views result.1.now) ≡ take_address family (views words.now) }
+{
+    let (word, rest) = next_word(words);
+    (read_address(family, word).unwrap_or(0), rest)
+}
+
+fn wildcard_length(wildcard: u128) -> u8
+    ensures { result ≡ wildcard_length wildcard }
+{
+    wildcard.leading_zeros().saturating_sub(96) as u8
+}
+
+#[tactic(auto, unfolding(crate::specs::ReadingSteps::take_ports))]
+fn take_ports<'a>(words: &'a [&'a [u8]]) -> (Option<(u16, u16)>, &'a [&'a [u8]])
+    ensures { (result.0, views result.1.now) ≡ take_ports (views words.now) }
+{
+    let (word, rest) = next_word(words);
+    if is(word, "eq") {
+        let (port, rest) = take_port(rest);
+        (Some((port, port)), rest)
+    } else if is(word, "range") {
+        let (low, rest) = take_port(rest);
+        let (high, rest) = take_port(rest);
+        (Some((low, high)), rest)
+    } else {
+        (None, words)
+    }
+}
+
+#[tactic(auto, unfolding(crate::specs::ReadingSteps::take_port))]
+fn take_port<'a>(words: &'a [&'a [u8]]) -> (u16, &'a [&'a [u8]])
+    ensures { (result.0, views result.1.now) ≡ take_port (views words.now) }
+{
+    let (word, rest) = next_word(words);
+    (read_u16(word, 65535).unwrap_or(0), rest)
+}
+
+#[tactic(auto, unfolding(crate::specs::ReadingSteps::take_type))]
+fn take_type<'a>(words: &'a [&'a [u8]]) -> (Option<u8>, &'a [&'a [u8]])
+    ensures { (result.0, views result.1.now) ≡ take_type (views words.now) }
+{
+    let (word, rest) = next_word(words);
+    match read_u8(word, 254) {
+        Some(number) => (Some(number), rest),
+        None => (None, words),
+    }
+}
+
+#[tactic(auto, unfolding(crate::specs::ReadingSteps::take_flags))]
+fn take_flags<'a>(words: &'a [&'a [u8]]) -> (Option<Flags>, &'a [&'a [u8]])
+    ensures { (result.0, views result.1.now) ≡ take_flags (views words.now) }
+{
+    let (word, rest) = next_word(words);
+    if is(word, "established") {
+        (Some(Flags::Established), rest)
+    } else if is(word, "rst") {
+        (Some(Flags::Rst), rest)
+    } else if is(word, "match-all") {
+        let (_, rest) = next_word(rest);
+        let (_, rest) = next_word(rest);
+        (Some(Flags::SynNotAck), rest)
+    } else {
+        (None, words)
+    }
+}
