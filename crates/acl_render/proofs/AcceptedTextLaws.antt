@@ -1,22 +1,13 @@
 -- The text of filters that a platform takes, no two of which are for one name: its language accepts it.
-use Rattle.std.proofs.Common.{◌≡◌, ℕ, zero, suc, false, List, [], ◌∷◌, ◌++◌, IfSome, Option, map, flat_map, slice_get, refl, ap, subst, ◌∙◌, append-nil}
-use Rattle.std.specs.List.{All, AllByRecursion, IsDistinct}
-use Rattle.std.specs.Set.{is_member}
-use Rattle.std.specs.Str.{bytes_eq}
-use Rattle.std.proofs.lemmas.Bool.{or_from}
+use Rattle.std.proofs.Common.{false, List}
+use Rattle.std.specs.List.{All, AllByRecursion}
 use Rattle.std.proofs.lemmas.List.Elements.{recursion_from_All}
-use Rattle.acl_packet.specs.declared.packets.Packet.{Packet}
-use Rattle.acl_packet.specs.declared.filtering.Outcome.{Outcome}
-use Rattle.acl_grammar.specs.Documents.{SpellsRows, outcome_at}
-use Rattle.acl_grammar.specs.Naming.{in_common}
-use Rattle.acl_grammar.specs.Rows.{Row, text_of_rows}
-use Rattle.acl_grammar.proofs.JoinLaws.{joined_documents, nothing_is_spelled}
-use Rattle.acl_grammar.proofs.ListLaws.{joined_text}
 use Rattle.acl_target.specs.declared.targets.Kind.{Kind}
 use Rattle.acl_target.specs.declared.targets.Kind.TheVariants.{Cisco, Juniper, Iptables, Nftables}
 use Rattle.acl_platform.specs.declared.filters.Filter.{Filter}
 use Rattle.acl_platform.specs.Limits.{is_for}
 use Rattle.acl_platform.specs.Platforms.{DecidesAs, IsAccepted}
+use Rattle.acl_platform.proofs.Sections.{all-decide, all-spelled}
 use Rattle.cisco_lang.specs.Documents as cisco
 use Rattle.cisco_lang.specs.Texts as cisco_texts
 use Rattle.cisco_lang.specs.Walks as cisco_walks
@@ -47,52 +38,6 @@ use Rattle.gen_nftables.specs.Sections as nft_sections
 use Rattle.gen_nftables.proofs.TableNames as nft_names
 use Rattle.acl_render.specs.PlatformFiles.{AreApart, IsFileText, IsTaken, limit_on}
 use Rattle.acl_render.proofs.TakenFilters.{accepted, kinds, numbers-differ, of-iptables, of-junos, of-nftables}
-
--- ---- documents of sections
-
--- names of which no two are the same: a front of them has none in common with the rest
-apart-right : (name : List ℕ) (xs ys : List (List ℕ)) → AllByRecursion (λ other. bytes_eq name other ≡ false) (xs ++ ys)
-    → is_member bytes_eq ys name ≡ false
-apart-right name [] [] h = refl
-apart-right name [] (y ∷ ys) h = or_from (bytes_eq name y) (is_member bytes_eq ys name) h.0 (apart-right name [] ys h.1)
-apart-right name (x ∷ xs) ys h = apart-right name xs ys h.1
-
-none-in-common : (xs ys : List (List ℕ)) → IsDistinct bytes_eq (xs ++ ys) → in_common xs ys ≡ false
-unfolding IsDistinct
-none-in-common [] ys h = refl
-none-in-common (x ∷ xs) ys h =
-    or_from (is_member bytes_eq ys x) (in_common xs ys) (apart-right x xs ys h.0) (none-in-common xs ys h.1)
-
-distinct-right : (xs ys : List (List ℕ)) → IsDistinct bytes_eq (xs ++ ys) → IsDistinct bytes_eq ys
-unfolding IsDistinct
-distinct-right [] ys h = h
-distinct-right (x ∷ xs) ys h = distinct-right xs ys h.1
-
--- the joined texts of the sections spell the document of the sections
-pub all-spelled : {S : Type 0} (accepted : Filter → Type 0) (valid : S → Type 0) (names : S → List (List ℕ)) (rows : S → List Row) (section : Filter → S)
-    → ((f : Filter) → accepted f → SpellsRows valid names rows (text_of_rows (flat_map rows (section f ∷ []))) (section f ∷ []))
-    → (fs : List Filter) → AllByRecursion accepted fs → IsDistinct bytes_eq (flat_map names (map section fs))
-    → SpellsRows valid names rows (text_of_rows (flat_map rows (map section fs))) (map section fs)
-all-spelled accepted valid names rows section one [] h d = nothing_is_spelled valid names rows
-all-spelled {S = S} accepted valid names rows section one (f ∷ fs) h d =
-    let here = names (section f) in
-    let sections = map section fs in
-    let later = flat_map names sections in
-    let rest = all-spelled accepted valid names rows section one fs h.1 (distinct-right here later d) in
-    let apart = ap (λ xs. in_common xs later) (append-nil here) ∙ none-in-common here later d in
-    let texts = joined_text rows (section f ∷ []) sections in
-    subst (λ bytes. SpellsRows valid names rows bytes (section f ∷ sections)) texts
-    (joined_documents valid names rows (text_of_rows (flat_map rows (section f ∷ []))) (text_of_rows (flat_map rows sections))
-    (section f ∷ []) sections (one f h.0) rest apart)
-
--- the section at a place decides as the filter there
-all-decide : {S : Type 0} (accepted : Filter → Type 0) (outcome : S → Packet → Option Outcome) (section : Filter → S)
-    → ((f : Filter) → accepted f → DecidesAs f (outcome (section f)))
-    → (fs : List Filter) → AllByRecursion accepted fs
-    → (k : ℕ) → IfSome (slice_get fs k) (λ f. DecidesAs f (outcome_at outcome (map section fs) k))
-all-decide accepted outcome section one [] h k = tt
-all-decide accepted outcome section one (f ∷ fs) h zero = one f h.0
-all-decide accepted outcome section one (f ∷ fs) h (suc k) = all-decide accepted outcome section one fs h.1 k
 
 -- ---- the platforms
 
