@@ -25,7 +25,8 @@ use Rattle.acl_platform.specs.Features.{feature_word}
 use Rattle.acl_render.specs.PlatformFiles.{limit_of}
 use Rattle.acl_options.specs.CommandLines.{Options}
 use Rattle.acl_options.specs.ComputableOptions.{options_of}
-use Rattle.aclgen_core.specs.FilterRequests.{FilterRequest, check_slip, filter_for, limit_slip, loaded_slip, name_word, request_slip, requests_of, rule_slip}
+use Rattle.aclgen_core.specs.AskedFilters.{FilterRequest}
+use Rattle.aclgen_core.specs.FilterRequests.{check_slip, filter_for, limit_slip, loaded_slip, name_word, request_slip, requests_of, rule_slip}
 use Rattle.aclgen_core.specs.Job.{IsJob, IsJobOf, Plan, Plans, job_slip, or_day, or_slip, plan_of, planned}
 use Rattle.aclgen_core.specs.ShadedSlips.{asked_shaded, block_shaded, loaded_shaded, shaded_slip, slip_at, terms_shaded}
 

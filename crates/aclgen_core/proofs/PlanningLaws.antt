@@ -7,7 +7,7 @@ use Rattle.std.specs.Result.{IsErrOf}
 use Rattle.std.specs.String.{string_bytes}
 use Rattle.std.specs.Str.{bytes_eq}
 use Rattle.std.proofs.lemmas.Bool.{and_parts, eqb-true, false_from_ne_true, false≢true}
-use Rattle.std.proofs.lemmas.List.{append_cancel_left, map-append}
+use Rattle.std.proofs.lemmas.List.{append_cancel_left, length-map, map-append}
 use Rattle.std.proofs.lemmas.List.Elements.{All-cons, All-from_recursion, All-nil}
 use Rattle.std.proofs.lemmas.Slice.Eq.{bytes_eq-Decides}
 use Rattle.acl_grammar.proofs.ListLaws.{flat_twice}
@@ -40,21 +40,24 @@ use Rattle.acl_load.specs.FaultLines.{fault_line}
 use Rattle.acl_load.specs.LoadFaults.{LoadsFiles, of_rejection}
 use Rattle.acl_text.specs.Output.{Rose}
 use Rattle.acl_load.specs.LoadedPolicies.{AreResolved, AreResolvedIn, LoadsPolicy}
-use Rattle.acl_render.specs.PlatformFiles.{AreApart, IsFileText, IsTaken, limit_of, text_on}
-use Rattle.acl_render.proofs.AcceptedTextLaws.{text-accepted}
+use Rattle.acl_languages.specs.PlatformLanguages.{IsTextFor, outcome_on}
+use Rattle.acl_render.specs.PlatformFiles.{AreApart, IsTaken, limit_of, text_on}
+use Rattle.acl_render.proofs.MeantTextsLaws.{text-meant}
 use Rattle.acl_render.proofs.ShortListsLaws.{taken-short}
 use Rattle.acl_options.specs.CommandLines.{Options}
 use Rattle.acl_options.specs.ComputableOptions.{asks_clock, asks_clock_for, options_of}
 use Rattle.acl_report.specs.Reports.{terms_report}
-use Rattle.aclgen_core.specs.DecidingSteps.{Asks, DecidesPlanned, DecidesSo, FindsDay, FollowsFrom, IsDayFor, IsReady, RoseLooking, texts_in}
+use Rattle.aclgen_core.specs.DecidingSteps.{Asks, DecidesPlanned, DecidesSo, FindsDay, FollowsFrom, IsDayFor, IsReady, RoseLooking, TextMeans, texts_in}
 use Rattle.aclgen_core.specs.declared.deciding.Decision.{Decision}
 use Rattle.aclgen_core.specs.declared.deciding.Decision.TheVariants as decided
-use Rattle.aclgen_core.specs.Endings.{DecidesAsPolicy, IsFileOf, IsShort, WhereDay}
+use Rattle.aclgen_core.specs.Endings.{IsShort, WhereDay}
+use Rattle.aclgen_core.specs.FileMeanings.{Means}
 use Rattle.aclgen_core.specs.declared.endings.Which.TheVariants as which
 use Rattle.aclgen_core.specs.FileLists.{IsApart, PathsDiffer}
 use Rattle.aclgen_core.specs.WritingSteps.{IsWritable, file_view}
 use Rattle.aclgen_core.specs.FilterPaths.{ending_of, last_part, path_of, without_pol}
-use Rattle.aclgen_core.specs.FilterRequests.{FilterRequest, block_requests, filter_for, request_of, loaded_slip, requests_in, requests_of, requests_on}
+use Rattle.aclgen_core.specs.AskedFilters.{FilterRequest}
+use Rattle.aclgen_core.specs.FilterRequests.{block_requests, filter_for, request_of, loaded_slip, requests_in, requests_of, requests_on}
 use Rattle.aclgen_core.specs.Job.{Plan, Plans, IsJob, IsJobOf, file_of, file_report, file_with, files_on, filters_of, or_day, or_slip, plan_of, platforms, report_line}
 use Rattle.aclgen_core.specs.PreparingSteps.{IsPlanned, IsTakenFor, IsWorkOf, MakesWork, PlansLoaded, JudgesAll, PreparesAll, draft_on, filter_file_on, filter_file_with}
 use Rattle.aclgen_core.specs.ShadedSlips.{asked_shaded}
@@ -397,18 +400,17 @@ paths-differ output policy drafts paths =
 -- ---- a loaded policy
 
 -- What is asked of the filters is what the policy asks of their sections.
-as-policy : (n : Naming) (today : Day) (kind : Kind) (rs : List FilterRequest) → AllByRecursion (λ (r : FilterRequest). AreResolved n r.written r.terms) rs
-    → IsFileText kind DecidesAs (map (filter_for today) rs) (map (filter_for today) rs) → IsFileText kind (DecidesAsPolicy n today) (map (filter_for today) rs) rs
-as-policy n today Cisco rs resolved h = record { spelled = h.spelled; decides = λ k. decides-at n today rs k _ resolved (h.decides k) }
-as-policy n today Juniper rs resolved h = record { spelled = h.spelled; decides = λ k. decides-at n today rs k _ resolved (h.decides k) }
-as-policy n today Iptables rs resolved h = record { spelled = h.spelled; decides = λ k. decides-at n today rs k _ resolved (h.decides k) }
-as-policy n today Nftables rs resolved h = record { spelled = h.spelled; decides = λ k. decides-at n today rs k _ resolved (h.decides k) }
+as-policy : (n : Naming) (today : Day) (kind : Kind) (rs : List FilterRequest) (text : List ℕ) → AllByRecursion (λ (r : FilterRequest). AreResolved n r.written r.terms) rs
+    → IsTextFor kind DecidesAs (map (filter_for today) rs) text → Means n today kind rs text
+as-policy n today kind rs text resolved h =
+    (h.0, record { spelled = h.1.spelled; one_each = h.1.one_each ∙ length-map rs (filter_for today); decides = λ k. decides-at n today rs k (outcome_on kind h.0 k) resolved (h.1.decides k) })
 
 file-is : (n : Naming) (today : Day) (kind : Kind) (path : List ℕ) (rs : List FilterRequest) → AllByRecursion (λ (r : FilterRequest). AreResolved n r.written r.terms) rs
-    → IsFileText kind DecidesAs (map (filter_for today) rs) (map (filter_for today) rs)
-    → AllByRecursion (IsFileOf n today) (file_with kind path rs)
+    → IsTextFor kind DecidesAs (map (filter_for today) rs) (text_on kind (map (filter_for today) rs))
+    → AllByRecursion (TextMeans n today) (file_with kind path rs)
 file-is n today kind path [] resolved h = tt
-file-is n today kind path (r ∷ rs) resolved h = (as-policy n today kind (r ∷ rs) resolved h, tt)
+file-is n today kind path (r ∷ rs) resolved h =
+    (as-policy n today kind (r ∷ rs) (text_on kind (map (filter_for today) (r ∷ rs))) resolved h, tt)
 
 short-one : (today : Day) (r : FilterRequest) → IsTakenFor today r → IsShort (filter_for today r)
 unfolding limit_of
@@ -445,11 +447,11 @@ is-planned o today loaded drafts work judged w fits resolved =
         report_is = w.report_is ∙ ap (λ t. terms_report today o.exp_info loaded ++ t)
             (flat-same (λ k. (draft_on k drafts).report.bytes) (λ k. flat_map (file_report today) (files_on o all k)) line platforms
             ∙ flat_twice (file_report today) (files_on o all) platforms);
-        each = all-flat (IsFileOf loaded.definitions today) (files_on o all)
+        each = all-flat (TextMeans loaded.definitions today) (files_on o all)
             (λ k. file-is loaded.definitions today k (path k) (requests_on k all)
             (all-on k (λ r. AreResolved loaded.definitions r.written r.terms) (λ r. AreResolved loaded.definitions r.written r.terms) (λ r _ x. x) all resolved-all)
-            (subst (λ (fs : List Filter). IsFileText k DecidesAs fs fs) (p.each k).filters_are
-            (text-accepted k (draft_on k drafts).filters (fit k).taken (fit k).apart))) platforms;
+            (subst (λ (fs : List Filter). IsTextFor k DecidesAs fs (text_on k fs)) (p.each k).filters_are
+            (text-meant k (draft_on k drafts).filters (fit k).taken (fit k).apart))) platforms;
         short = all-flat (λ f. AllByRecursion IsShort (filters_of today f)) (files_on o all)
             (λ k. short-with today k (path k) (requests_on k all)
             (all-on k (IsTakenFor today) (IsTakenFor today) (λ r _ x. x) all p.taken)) platforms;

@@ -1,5 +1,5 @@
 -- The rows of the endings, from what deciding and acting give.
-use Rattle.std.proofs.Common.{◌≡◌, ◌⊎◌, ℕ, ℤ, inl, inr, Bool, true, false, List, [], Option, None, Some, Result, Ok, Err, IfSome, IsSome, IsSomeAnd, refl, sym, subst, ◌∙◌, le_refl, arith}
+use Rattle.std.proofs.Common.{◌≡◌, ◌⊎◌, ℕ, ℤ, inl, inr, Bool, true, false, List, [], ◌∷◌, map, Option, None, Some, Result, Ok, Err, IfSome, IsSome, IsSomeAnd, refl, sym, subst, ◌∙◌, le_refl, arith}
 use Rattle.std.proofs.lemmas.Bool.{false≢true}
 use Rattle.std.specs.List.{AllByRecursion}
 use Rattle.acl_text.specs.declared.faults.Fault.{Fault}
@@ -7,15 +7,18 @@ use Rattle.acl_text.specs.Output.{Rose}
 use Rattle.acl_days.specs.declared.days.Day.{Day}
 use Rattle.acl_host.specs.Files.{File, BothTell}
 use Rattle.acl_host.specs.Outside.{AddsFront}
+use Rattle.acl_naming.specs.Definitions.{Naming}
 use Rattle.acl_options.specs.CommandLines.{Options}
 use Rattle.acl_options.specs.ComputableOptions.{asks_clock, options_of}
+use Rattle.aclgen_core.specs.AskedFilters.{PlanFile}
 use Rattle.aclgen_core.specs.FaultLines.{outside_line, usage_line}
-use Rattle.aclgen_core.specs.FileLists.{HoldsTexts, Interrupted}
-use Rattle.aclgen_core.specs.Job.{Plan, IsJob, IsJobOf, or_day, report_of, texts_of}
+use Rattle.aclgen_core.specs.FileLists.{HoldsAll, HoldsTexts, Interrupted}
+use Rattle.aclgen_core.specs.FileMeanings.{HoldsMeaning, Means}
+use Rattle.aclgen_core.specs.Job.{Plan, IsJob, IsJobOf, file_of, or_day, report_of, texts_of}
 use Rattle.aclgen_core.specs.Endings.{WhereDay, WhereTold, Got, Untouched, IsWritten, Headline, EndsDone, EndsUsage, EndsRejected, RoseAt, EndsLooking, LeavesFiles, EndsWriting, LeavesReport, EndsReporting, IsRefusalLine, EndsTelling, EndsOutside, LeavesPart, EndsWanting, EndsSo, NoneRose, IsEnding, EndsAsAsked, Keeps}
 use Rattle.aclgen_core.specs.Removals.{ShadedCanGo}
 use Rattle.aclgen_core.specs.Worlds.{Disk, DiskCountsGrow, Stream, StreamCountsGrow, Watch, World, world}
-use Rattle.aclgen_core.specs.DecidingSteps.{Asks, IsReady, OnlySeen, RoseLooking, DecidesRefused, DecidesPlanned, RefusesSo, Refuses, ActsDone, ActsWrite, ActsOut, ActsMemory, ActsSo, Acts, TriesLine, texts_in}
+use Rattle.aclgen_core.specs.DecidingSteps.{Asks, IsReady, OnlySeen, RoseLooking, DecidesRefused, DecidesPlanned, TextMeans, RefusesSo, Refuses, ActsDone, ActsWrite, ActsOut, ActsMemory, ActsSo, Acts, TriesLine, texts_in}
 use Rattle.aclgen_core.specs.declared.endings.Ended.{Ended}
 use Rattle.aclgen_core.specs.declared.endings.Ended.TheVariants as ended
 use Rattle.aclgen_core.specs.declared.endings.Which.{Which}
@@ -262,12 +265,21 @@ planned-leaves words work d c R f h =
     told-goes-on words c d.files (λ day files. (plan : Plan) × IsJob words day files (Some (Ok plan)) × IsReady plan work) R
     (λ day files is p. f day files is p.0 p.1 p.2) h.planned
 
+-- A text that stands at its path, and means what is asked, is one that the file holds.
+held-texts : (n : Naming) (today : Day) (new : List File) (fs : List PlanFile) → AllByRecursion (TextMeans n today) fs → HoldsAll (map (file_of today) fs) new
+    → AllByRecursion (HoldsMeaning n today new) fs
+held-texts n today new [] means held = tt
+held-texts n today new (f ∷ fs) means held =
+    (subst (λ t. IsSomeAnd t (Means n today f.kind f.requests)) (sym held.0) means.0, held-texts n today new fs means.1 held.1)
+
 written-plan : (plan : Plan) (work : Work) (d d' : Disk) (files : List File) → d.files ≡ Some files → IsReady plan work → BothTell d.files d'.files (HoldsTexts (texts_in work))
     → IsSomeAnd d'.files (IsWritten plan files)
 written-plan plan work d d' files is ready h =
     both-some (IsWritten plan) d.files d'.files files is
     (both-more (HoldsTexts (texts_in work)) (IsWritten plan) d.files d'.files
-    (λ a b p. record { each = ready.each; holds = subst (λ ts. HoldsTexts ts a b) ready.texts_are p }) h)
+    (λ a b p.
+    let holds = subst (λ ts. HoldsTexts ts a b) ready.texts_are p in
+    record { each = held-texts plan.naming plan.today b plan.files ready.each holds.held; holds = holds }) h)
 
 left-plan : (plan : Plan) (work : Work) (d d' : Disk) (files : List File) → d.files ≡ Some files → IsReady plan work → BothTell d.files d'.files (Interrupted (texts_in work))
     → IsSomeAnd d'.files (Interrupted (texts_of plan) files)

@@ -1,7 +1,9 @@
+pub mod AskedFilters
 pub mod DecidingSteps
 pub mod Endings
 pub mod FaultLines
 pub mod FileLists
+pub mod FileMeanings
 pub mod FilterPaths
 pub mod FilterRequests
 pub mod Job
