@@ -10,7 +10,7 @@ use Rattle.acl_platform.specs.declared.filters.Filter.{Filter}
 use Rattle.acl_platform.specs.Limits.{is_for}
 use Rattle.acl_platform.specs.Platforms.{DecidesAs, IsAccepted}
 use Rattle.acl_platform.proofs.Sections.{all-decide, all-spelled}
-use Rattle.acl_languages.specs.PlatformLanguages.{IsTextFor, OneDocument, outcome_on, SpellsOn}
+use Rattle.acl_languages.specs.PlatformLanguages.{IsDocumentFor, IsTextFor, OneDocument, outcome_on, SpellsOn}
 use Rattle.cisco_lang.specs.Documents as cisco_documents
 use Rattle.cisco_lang.specs.Texts as cisco_texts
 use Rattle.cisco_lang.specs.Walks as cisco_walks
@@ -92,16 +92,18 @@ sections-count Nftables filters = length-map filters nft_sections.section_of
 
 -- ---- what the text means
 
+-- It spells the sections, of which each decides as its filter.
+pub sections-meant : (kind : Kind) (filters : List Filter) → All (IsTaken kind) filters → AreApart filters
+    → IsDocumentFor kind DecidesAs filters (text_on kind filters) (sections_on kind filters)
+sections-meant kind filters taken apart = record {
+  spelled = sections-spelled kind filters taken apart;
+  one_each = sections-count kind filters;
+  decides = sections-decide kind filters taken;
+}
+
 pub text-meant : (kind : Kind) (filters : List Filter) → All (IsTaken kind) filters → AreApart filters
     → IsTextFor kind DecidesAs filters (text_on kind filters)
-text-meant kind filters taken apart = (
-  sections_on kind filters,
-  record {
-    spelled = sections-spelled kind filters taken apart;
-    one_each = sections-count kind filters;
-    decides = sections-decide kind filters taken;
-  },
-)
+text-meant kind filters taken apart = (sections_on kind filters, sections-meant kind filters taken apart)
 
 pub meant-texts-are-of-sections : OneDocument → MeantTextsAreOfSections
 meant-texts-are-of-sections one kind filters taken apart doc =

@@ -7,7 +7,7 @@ use Rattle.std.specs.Result.{IsErrOf}
 use Rattle.std.specs.String.{string_bytes}
 use Rattle.std.specs.Str.{bytes_eq}
 use Rattle.std.proofs.lemmas.Bool.{and_parts, eqb-true, false_from_ne_true, false≢true}
-use Rattle.std.proofs.lemmas.List.{append_cancel_left, length-map, map-append}
+use Rattle.std.proofs.lemmas.List.{append_cancel_left, map-append}
 use Rattle.std.proofs.lemmas.List.Elements.{All-cons, All-from_recursion, All-nil}
 use Rattle.std.proofs.lemmas.Slice.Eq.{bytes_eq-Decides}
 use Rattle.acl_grammar.proofs.ListLaws.{flat_twice}
@@ -31,7 +31,6 @@ use Rattle.acl_policy.specs.declared.raw_terms.RawTerm.{RawTerm}
 use Rattle.acl_policy.specs.Conditions.{Each, IsPolicy, NumbersDiffer, StandsBehind, targets_of}
 use Rattle.acl_terms.specs.declared.terms.Term.{Term}
 use Rattle.acl_platform.specs.declared.filters.Filter.{Filter}
-use Rattle.acl_platform.specs.Platforms.{DecidesAs}
 use Rattle.acl_platform.specs.SoundFilters.{target_of}
 use Rattle.acl_load.specs.declared.load_faults.LoadFault.{LoadFault}
 use Rattle.acl_load.specs.declared.policy_loading.Loaded.{Loaded}
@@ -39,19 +38,16 @@ use Rattle.acl_load.specs.declared.load_faults.LoadFault.TheVariants as loads
 use Rattle.acl_load.specs.FaultLines.{fault_line}
 use Rattle.acl_load.specs.LoadFaults.{LoadsFiles, of_rejection}
 use Rattle.acl_text.specs.Output.{Rose}
-use Rattle.acl_load.specs.LoadedPolicies.{AreResolved, AreResolvedIn, LoadsPolicy}
-use Rattle.acl_languages.specs.PlatformLanguages.{IsTextFor, outcome_on}
+use Rattle.acl_load.specs.LoadedPolicies.{AreResolvedIn, LoadsPolicy}
 use Rattle.acl_render.specs.PlatformFiles.{AreApart, IsTaken, limit_of, text_on}
-use Rattle.acl_render.proofs.MeantTextsLaws.{text-meant}
 use Rattle.acl_render.proofs.ShortListsLaws.{taken-short}
 use Rattle.acl_options.specs.CommandLines.{Options}
 use Rattle.acl_options.specs.ComputableOptions.{asks_clock, asks_clock_for, options_of}
 use Rattle.acl_report.specs.Reports.{terms_report}
-use Rattle.aclgen_core.specs.DecidingSteps.{Asks, DecidesPlanned, DecidesSo, FindsDay, FollowsFrom, IsDayFor, IsReady, RoseLooking, TextMeans, texts_in}
+use Rattle.aclgen_core.specs.DecidingSteps.{Asks, DecidesPlanned, DecidesSo, FindsDay, FollowsFrom, IsDayFor, IsReady, RoseLooking, texts_in}
 use Rattle.aclgen_core.specs.declared.deciding.Decision.{Decision}
 use Rattle.aclgen_core.specs.declared.deciding.Decision.TheVariants as decided
 use Rattle.aclgen_core.specs.Endings.{IsShort, WhereDay}
-use Rattle.aclgen_core.specs.FileMeanings.{Means}
 use Rattle.aclgen_core.specs.declared.endings.Which.TheVariants as which
 use Rattle.aclgen_core.specs.FileLists.{IsApart, PathsDiffer}
 use Rattle.aclgen_core.specs.WritingSteps.{IsWritable, file_view}
@@ -65,7 +61,7 @@ use Rattle.aclgen_core.specs.Worlds.{Disk, Watch}
 use Rattle.aclgen_core.specs.declared.planning.Work.{Work}
 use Rattle.aclgen_core.specs.declared.preparing.FileDraft.{FileDraft}
 use Rattle.aclgen_core.specs.declared.preparing.FileDrafts.{FileDrafts}
-use Rattle.aclgen_core.proofs.PreparingLaws.{both-none, decides-at, resolved-requests}
+use Rattle.aclgen_core.proofs.PreparingLaws.{both-none}
 
 -- ---- targets that do not clash
 
@@ -129,7 +125,7 @@ same-kinds Nftables Iptables e = absurd (false≢true e)
 same-kinds Nftables Nftables e = refl
 
 -- What holds of each request that is of the platform holds of each of the platform's requests.
-all-on : (kind : Kind) (P : FilterRequest → Type 0) (Q : FilterRequest → Type 0) → ((r : FilterRequest) → r.target.kind ≡ kind → P r → Q r)
+pub all-on : (kind : Kind) (P : FilterRequest → Type 0) (Q : FilterRequest → Type 0) → ((r : FilterRequest) → r.target.kind ≡ kind → P r → Q r)
     → (rs : List FilterRequest) → AllByRecursion P rs → AllByRecursion Q (requests_on kind rs)
 all-on kind P Q f [] h = tt
 all-on kind P Q f (r ∷ rs) h = by (all-on kind P Q f rs h.1) (same_kind r.target.kind kind) refl
@@ -148,7 +144,7 @@ distinct-on kind eq (r ∷ rs) h = by (distinct-on kind eq rs h.1) (same_kind r.
     by more true = (all-on kind (λ s. eq r s ≡ false) (λ s. eq r s ≡ false) (λ s _ e. e) rs h.0, more)
     by more false = more
 
-all-by : {A B : Type 0} (f : A → B) (P : A → Type 0) (Q : B → Type 0) → ((x : A) → P x → Q (f x)) → (xs : List A) → AllByRecursion P xs → AllByRecursion Q (map f xs)
+pub all-by : {A B : Type 0} (f : A → B) (P : A → Type 0) (Q : B → Type 0) → ((x : A) → P x → Q (f x)) → (xs : List A) → AllByRecursion P xs → AllByRecursion Q (map f xs)
 all-by f P Q g [] h = tt
 all-by f P Q g (x ∷ xs) h = (g x h.0, all-by f P Q g xs h.1)
 
@@ -240,7 +236,7 @@ numbers-differ today kind (r ∷ rs) k h = (
 
 -- ---- what a platform's text wants
 
-apart-on : (today : Day) (n : Naming) (policy : Policy) (lists : List (List Term)) (kind : Kind) → IsPolicy policy → AreResolvedIn n policy.blocks lists
+pub apart-on : (today : Day) (n : Naming) (policy : Policy) (lists : List (List Term)) (kind : Kind) → IsPolicy policy → AreResolvedIn n policy.blocks lists
     → AreApart (map (filter_for today) (requests_on kind (requests_in policy.blocks lists)))
 apart-on today n policy lists kind is resolved =
     let rs = requests_in policy.blocks lists in
@@ -258,7 +254,7 @@ apart-on today n policy lists kind is resolved =
     any [] = tt
     any (x ∷ xs) = (tt, any xs)
 
-all-taken : (today : Day) (kind : Kind) (rs : List FilterRequest) → AllByRecursion (λ (r : FilterRequest). IsTaken kind (filter_for today r)) rs
+pub all-taken : (today : Day) (kind : Kind) (rs : List FilterRequest) → AllByRecursion (λ (r : FilterRequest). IsTaken kind (filter_for today r)) rs
     → All (IsTaken kind) (map (filter_for today) rs)
 all-taken today kind [] h = All-nil (IsTaken kind)
 all-taken today kind (r ∷ rs) h = All-cons (IsTaken kind) (filter_for today r) (map (filter_for today) rs) h.0 (all-taken today kind rs h.1)
@@ -292,7 +288,7 @@ map-flat : {A B C : Type 0} (g : B → C) (f : A → List B) (xs : List A) → m
 map-flat g f [] = refl
 map-flat g f (x ∷ xs) = map-append g (f x) (flat_map f xs) ∙ ap (λ ys. map g (f x) ++ ys) (map-flat g f xs)
 
-all-flat : {A B : Type 0} (Q : B → Type 0) (f : A → List B) → ((x : A) → AllByRecursion Q (f x)) → (xs : List A) → AllByRecursion Q (flat_map f xs)
+pub all-flat : {A B : Type 0} (Q : B → Type 0) (f : A → List B) → ((x : A) → AllByRecursion Q (f x)) → (xs : List A) → AllByRecursion Q (flat_map f xs)
 all-flat Q f each [] = tt
 all-flat Q f each (x ∷ xs) = all_append Q (f x) (flat_map f xs) (each x) (all-flat Q f each xs)
 
@@ -399,19 +395,6 @@ paths-differ output policy drafts paths =
 
 -- ---- a loaded policy
 
--- What is asked of the filters is what the policy asks of their sections.
-as-policy : (n : Naming) (today : Day) (kind : Kind) (rs : List FilterRequest) (text : List ℕ) → AllByRecursion (λ (r : FilterRequest). AreResolved n r.written r.terms) rs
-    → IsTextFor kind DecidesAs (map (filter_for today) rs) text → Means n today kind rs text
-as-policy n today kind rs text resolved h =
-    (h.0, record { spelled = h.1.spelled; one_each = h.1.one_each ∙ length-map rs (filter_for today); decides = λ k. decides-at n today rs k (outcome_on kind h.0 k) resolved (h.1.decides k) })
-
-file-is : (n : Naming) (today : Day) (kind : Kind) (path : List ℕ) (rs : List FilterRequest) → AllByRecursion (λ (r : FilterRequest). AreResolved n r.written r.terms) rs
-    → IsTextFor kind DecidesAs (map (filter_for today) rs) (text_on kind (map (filter_for today) rs))
-    → AllByRecursion (TextMeans n today) (file_with kind path rs)
-file-is n today kind path [] resolved h = tt
-file-is n today kind path (r ∷ rs) resolved h =
-    (as-policy n today kind (r ∷ rs) (text_on kind (map (filter_for today) (r ∷ rs))) resolved h, tt)
-
 short-one : (today : Day) (r : FilterRequest) → IsTakenFor today r → IsShort (filter_for today r)
 unfolding limit_of
 short-one today r t =
@@ -438,7 +421,6 @@ is-planned o today loaded drafts work judged w fits resolved =
     (p.each k).report_is ∙ one-report k (path k) today (requests_on k all) in
     let fit = fit-on o.output o.policy today loaded drafts fits resolved p in
     let texts = texts-from drafts work w.files_are in
-    let resolved-all = resolved-requests loaded.definitions loaded.policy.blocks loaded.terms resolved in
     record {
       plan_is = ap (λ s. or_slip loaded.sources.labels s (plan_of o today loaded)) clean;
       ready = record {
@@ -447,11 +429,6 @@ is-planned o today loaded drafts work judged w fits resolved =
         report_is = w.report_is ∙ ap (λ t. terms_report today o.exp_info loaded ++ t)
             (flat-same (λ k. (draft_on k drafts).report.bytes) (λ k. flat_map (file_report today) (files_on o all k)) line platforms
             ∙ flat_twice (file_report today) (files_on o all) platforms);
-        each = all-flat (TextMeans loaded.definitions today) (files_on o all)
-            (λ k. file-is loaded.definitions today k (path k) (requests_on k all)
-            (all-on k (λ r. AreResolved loaded.definitions r.written r.terms) (λ r. AreResolved loaded.definitions r.written r.terms) (λ r _ x. x) all resolved-all)
-            (subst (λ (fs : List Filter). IsTextFor k DecidesAs fs (text_on k fs)) (p.each k).filters_are
-            (text-meant k (draft_on k drafts).filters (fit k).taken (fit k).apart))) platforms;
         short = all-flat (λ f. AllByRecursion IsShort (filters_of today f)) (files_on o all)
             (λ k. short-with today k (path k) (requests_on k all)
             (all-on k (IsTakenFor today) (IsTakenFor today) (λ r _ x. x) all p.taken)) platforms;

@@ -304,7 +304,7 @@ blocks-can-go n today (b ∷ bs) (ts ∷ tss) fits clean resolved none =
 
 -- ---- the plan of a job
 
-planned-none : (labels : List (List ℕ)) (slip : Option Slip) (made plan : Plan) → or_slip labels slip made ≡ Ok plan → (slip ≡ None) × (plan ≡ made)
+pub planned-none : (labels : List (List ℕ)) (slip : Option Slip) (made plan : Plan) → or_slip labels slip made ≡ Ok plan → (slip ≡ None) × (plan ≡ made)
 planned-none labels None made plan e = (refl, cc)
 planned-none labels (Some slip) made plan e = absurd cc
 

@@ -7,12 +7,8 @@ use Rattle.acl_host.specs.declared.clocks.ClockFault.{ClockFault}
 use Rattle.acl_days.specs.declared.days.Day.{Day}
 use Rattle.acl_host.specs.Files.{File, BothTell}
 use Rattle.acl_host.specs.Outside.{AddsFront}
-use Rattle.acl_naming.specs.Definitions.{Naming}
-use Rattle.acl_render.specs.PlatformFiles.{text_on}
 use Rattle.acl_options.specs.ComputableOptions.{asks_clock, options_of}
-use Rattle.aclgen_core.specs.AskedFilters.{PlanFile}
 use Rattle.aclgen_core.specs.FileLists.{HoldsTexts, Interrupted}
-use Rattle.aclgen_core.specs.FileMeanings.{Means}
 use Rattle.aclgen_core.specs.WritingSteps.{AreWritable, file_view}
 use Rattle.aclgen_core.specs.Job.{Plan, IsJob, filters_of, report_of, texts_of}
 use Rattle.acl_load.specs.declared.load_faults.LoadFault.{LoadFault}
@@ -35,16 +31,10 @@ use Rattle.aclgen_core.specs.declared.planning.Work.{Work}
 abbrev pub texts_in : Work → List File
 texts_in work = map file_view work.files.items
 
--- The text that is put for the file's filters means what the policy asks for.
-abbrev pub TextMeans : Naming → Day → PlanFile → Type 0
-TextMeans naming today f =
-    Means naming today f.kind f.requests (text_on f.kind (filters_of today f))
-
--- The texts and the report are those of the plan, each text means what the policy asks for, and the filters are short.
+-- The texts and the report are those of the plan, and the filters are short.
 pub record IsReady (plan : Plan) (work : Work) : Type 0 where
   pub texts_are : texts_in work ≡ texts_of plan
   pub report_is : work.report.bytes ≡ report_of plan
-  pub each : AllByRecursion (TextMeans plan.naming plan.today) plan.files
   pub short : AllByRecursion (λ f. AllByRecursion IsShort (filters_of plan.today f)) plan.files
 
 -- Nothing but the counts of looking changed, and they did not fall.

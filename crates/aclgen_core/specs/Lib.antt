@@ -7,6 +7,7 @@ pub mod FileMeanings
 pub mod FilterPaths
 pub mod FilterRequests
 pub mod Job
+pub mod PlannedTexts
 pub mod PreparingSteps
 pub mod Removals
 pub mod Runs

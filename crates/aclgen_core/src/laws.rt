@@ -4,6 +4,7 @@ ghost use Rattle.acl_text.specs.declared.faults.Fault.{Fault};
 ghost use Rattle.acl_days.specs.declared.days.Day.{Day};
 ghost use Rattle.acl_host.specs.Files.{File};
 ghost use Rattle.aclgen_core.specs.Job.{IsJob, Plan};
+ghost use Rattle.aclgen_core.specs.PlannedTexts.{PlannedTextsAreOfSections};
 ghost use Rattle.aclgen_core.specs.WorkloadPlans.{WorkloadsHaveNoFault};
 
 /// A law: a job has one answer.
@@ -17,6 +18,12 @@ pub fn jobs_are_one()
 pub fn jobs_are_there()
     ensures { (words : List (List ℕ)) → (day : Day) → (files : List File)
         → (job : Option (Result Plan Fault)) × IsJob words day files job }
+{}
+
+/// A law: the text of each file of a job's plan spells the sections that the file's filters become, one for
+/// each target, in order, which decide as the policy does.
+pub fn planned_texts_are_of_sections()
+    ensures { PlannedTextsAreOfSections }
 {}
 
 /// A law: the fault of a job has one of the codes that `aclgen` answers, which are all but five.

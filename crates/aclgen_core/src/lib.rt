@@ -17,5 +17,8 @@ mod workload_runs;
 
 pub use acting::refuse_words;
 pub use endings::{Ended, Which, status_of};
-pub use laws::{faults_are_answered, jobs_are_one, jobs_are_there, workloads_have_no_fault};
+pub use laws::{
+    faults_are_answered, jobs_are_one, jobs_are_there, planned_texts_are_of_sections,
+    workloads_have_no_fault,
+};
 pub use running::aclgen;
