@@ -12,6 +12,6 @@ pub mod PairLaws
 mod RuleOutcomes
 pub mod RuleNames
 pub mod RuleNumbers
-mod Sections
+pub mod Sections
 pub mod SoundRules
 pub mod TextFronts

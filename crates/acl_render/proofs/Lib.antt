@@ -1,4 +1,3 @@
-pub mod AcceptedTextLaws
 pub mod TakenFilters
 pub mod LeftLaws
 pub mod FewerRulesLaws

@@ -1,9 +1,6 @@
--- The file of a platform: what each filter counts and why one is not taken, the text of all of them, and what the
--- platform's language makes of a text.
-use Rattle.std.specs.Prelude.{◌≡◌, ℕ, false, ◌==◌, List, map, slice_get, Option, None, IfSome}
+-- The file of a platform: what each filter counts and why one is not taken, and the text of all of them.
+use Rattle.std.specs.Prelude.{◌≡◌, ℕ, false, ◌==◌, List, map, Option, None}
 use Rattle.std.specs.List.{IsDistinct}
-use Rattle.acl_packet.specs.declared.filtering.Outcome.{Outcome}
-use Rattle.acl_packet.specs.declared.packets.Packet.{Packet}
 use Rattle.acl_target.specs.declared.targets.Kind.{Kind}
 use Rattle.acl_target.specs.declared.targets.Kind.TheVariants.{Cisco, Juniper, Iptables, Nftables}
 use Rattle.acl_target.specs.Clashes.{clash}
@@ -12,13 +9,9 @@ use Rattle.acl_platform.specs.declared.filters.Limit.{Limit}
 use Rattle.acl_platform.specs.SoundFilters.{IsSound, target_of}
 use Rattle.acl_languages.specs.PlatformLanguages.{SectionOn}
 use Rattle.cisco_lang.specs.Texts as cisco
-use Rattle.cisco_lang.specs.Walks as cisco_walks
 use Rattle.junos_lang.specs.Texts as junos
-use Rattle.junos_lang.specs.Walks as junos_walks
 use Rattle.ipt_lang.specs.Texts as ipt
-use Rattle.ipt_lang.specs.Walks as ipt_walks
 use Rattle.nft_lang.specs.Texts as nft
-use Rattle.nft_lang.specs.Walks as nft_walks
 use Rattle.gen_cisco.specs.Limits as cisco_limits
 use Rattle.gen_cisco.specs.Sections as cisco_sections
 use Rattle.gen_junos.specs.Limits as junos_limits
@@ -76,28 +69,3 @@ pub record IsTaken (kind : Kind) (f : Filter) : Type 0 where
 pub record AreApart (filters : List Filter) : Type 0 where
   pub clash_not : IsDistinct clash (map (target_of false) filters)
   pub numbers_differ : IsDistinct (λ (a b : Filter). a.number == b.number) filters
-
--- ---- what a language makes of a text
-
--- The text is one document of these sections, in order, and the section at a place decides packets as is asked of it
--- there.
-pub record IsTextOf {S A : Type 0} (spells : List ℕ → List S → Type 0) (outcome : List S → ℕ → Packet → Option Outcome)
-    (decides_for : A → (Packet → Option Outcome) → Type 0) (text : List ℕ) (sections : List S) (asked : List A) : Type 0 where
-  pub spelled : spells text sections
-  pub decides : (k : ℕ) → IfSome (slice_get asked k) (λ a. decides_for a (outcome sections k))
-
--- The platform's language accepts the text of the filters as one document, which has one section for each of them, in
--- order; the section at a place decides packets as is asked of it there.
-abbrev pub IsFileText : {A : Type 0} → Kind → (A → (Packet → Option Outcome) → Type 0) → List Filter → List A → Type 0
-IsFileText Cisco decides_for filters asked =
-    IsTextOf cisco.Spells cisco_walks.outcome_of decides_for (text_on Cisco filters)
-    (map cisco_sections.section_of filters) asked
-IsFileText Juniper decides_for filters asked =
-    IsTextOf junos.Spells junos_walks.outcome_of decides_for (text_on Juniper filters)
-    (map junos_sections.section_of filters) asked
-IsFileText Iptables decides_for filters asked =
-    IsTextOf ipt.Spells ipt_walks.outcome_of decides_for (text_on Iptables filters)
-    (map ipt_sections.section_of filters) asked
-IsFileText Nftables decides_for filters asked =
-    IsTextOf nft.Spells nft_walks.outcome_of decides_for (text_on Nftables filters)
-    (map nft_sections.section_of filters) asked

@@ -1,5 +1,5 @@
 ghost use Rattle.acl_render.specs.FewerRules.{FewerRulesFit};
-ghost use Rattle.acl_render.specs.MeantTexts.{MeantTextsAreFiles};
+ghost use Rattle.acl_render.specs.MeantTexts.{MeantTextsAreOfSections};
 ghost use Rattle.acl_render.specs.ShortLists.{TakenFiltersAreShort};
 
 use acl_languages::a_text_has_one_document;
@@ -16,10 +16,10 @@ pub fn taken_filters_are_short()
     ensures { TakenFiltersAreShort }
 {}
 
-/// A law: a platform's language accepts the text that is put for filters as a document that decides as
-/// is asked, exactly where it accepts it as the sections of the filters and these decide so.
+/// A law: the text that is put for filters spells one document of the platform's language, and that is
+/// the sections which the filters become.
 pub fn a_meant_text_is_that_of_the_sections()
-    ensures { MeantTextsAreFiles }
+    ensures { MeantTextsAreOfSections }
 {
     a_text_has_one_document();
 }

@@ -3,7 +3,7 @@ ghost use Rattle.std.specs.List.{All};
 ghost use Rattle.acl_text.specs.Puts.{Puts};
 ghost use Rattle.acl_platform.specs.Platforms.{DecidesAs};
 ghost use Rattle.acl_languages.specs.PlatformLanguages.{IsTextFor};
-ghost use Rattle.acl_render.specs.PlatformFiles.{AreApart, IsFileText, IsTaken, text_on};
+ghost use Rattle.acl_render.specs.PlatformFiles.{AreApart, IsTaken, text_on};
 
 use acl_platform::{Filter, write_all};
 use acl_target::Kind;
@@ -23,7 +23,6 @@ pub fn render<O: Out>(kind: Kind, filters: &[Filter], out: &mut O) -> Result<(),
     requires apart { AreApart filters.now }
     ensures puts { Puts O.Out out.old out.new (text_on kind filters.now) result }
     ensures meant { IsTextFor kind DecidesAs filters.now (text_on kind filters.now) }
-    ensures accepted { IsFileText kind DecidesAs filters.now filters.now }
 {
     match kind {
         Kind::Cisco => write_all(&Cisco, filters, out),

@@ -1,5 +1,5 @@
 -- What is wrong with a job has a code that `aclgen` answers.
-use Rattle.std.proofs.Common.{◌≡◌, ℕ, List, zip, Option, None, Some, Result, Ok, Err, option_map, slice_get, sym, subst}
+use Rattle.std.proofs.Common.{◌≡◌, ℕ, List, zip, Option, None, Some, Result, Err, option_map, slice_get, sym, subst}
 use Rattle.std.specs.List.{enumerate_from}
 use Rattle.acl_text.specs.AnsweredCodes.{FailsAnswered, IsAnswered, SlipIsAnswered}
 use Rattle.acl_text.specs.declared.faults.Code.{Code}
@@ -10,7 +10,6 @@ use Rattle.acl_text.proofs.AnsweredLaws.{either, either_answered, first_answered
 use Rattle.acl_days.specs.declared.days.Day.{Day}
 use Rattle.acl_host.specs.Files.{File}
 use Rattle.acl_target.specs.declared.targets.Target.{Target}
-use Rattle.acl_policy.specs.declared.blocks.Block.{Block}
 use Rattle.acl_terms.specs.declared.terms.Term.{Term}
 use Rattle.acl_shade.specs.ComputableShading.{shading_term}
 use Rattle.acl_platform.specs.declared.filters.Filter.{Filter}
@@ -25,9 +24,10 @@ use Rattle.acl_platform.specs.Features.{feature_word}
 use Rattle.acl_render.specs.PlatformFiles.{limit_of}
 use Rattle.acl_options.specs.CommandLines.{Options}
 use Rattle.acl_options.specs.ComputableOptions.{options_of}
-use Rattle.aclgen_core.specs.FilterRequests.{FilterRequest, check_slip, filter_for, limit_slip, loaded_slip, name_word, request_slip, requests_of, rule_slip}
+use Rattle.aclgen_core.specs.AskedFilters.{FilterRequest}
+use Rattle.aclgen_core.specs.FilterRequests.{check_slip, filter_for, limit_slip, loaded_slip, name_word, request_slip, requests_of, rule_slip}
 use Rattle.aclgen_core.specs.Job.{IsJob, IsJobOf, Plan, Plans, job_slip, or_day, or_slip, plan_of, planned}
-use Rattle.aclgen_core.specs.ShadedSlips.{asked_shaded, block_shaded, loaded_shaded, shaded_slip, slip_at, terms_shaded}
+use Rattle.aclgen_core.specs.ShadedSlips.{asked_shaded, block_shaded, loaded_shaded, shaded_slip, slip_at}
 
 rule_good : (code : Code) (word : Rule → List ℕ) (f : Filter) (o : Option Rule) → IsAnswered code → IsAnswered (rule_slip code word f o).code
 rule_good code word f (Some r) h = h

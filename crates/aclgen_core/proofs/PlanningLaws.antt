@@ -31,7 +31,6 @@ use Rattle.acl_policy.specs.declared.raw_terms.RawTerm.{RawTerm}
 use Rattle.acl_policy.specs.Conditions.{Each, IsPolicy, NumbersDiffer, StandsBehind, targets_of}
 use Rattle.acl_terms.specs.declared.terms.Term.{Term}
 use Rattle.acl_platform.specs.declared.filters.Filter.{Filter}
-use Rattle.acl_platform.specs.Platforms.{DecidesAs}
 use Rattle.acl_platform.specs.SoundFilters.{target_of}
 use Rattle.acl_load.specs.declared.load_faults.LoadFault.{LoadFault}
 use Rattle.acl_load.specs.declared.policy_loading.Loaded.{Loaded}
@@ -39,9 +38,8 @@ use Rattle.acl_load.specs.declared.load_faults.LoadFault.TheVariants as loads
 use Rattle.acl_load.specs.FaultLines.{fault_line}
 use Rattle.acl_load.specs.LoadFaults.{LoadsFiles, of_rejection}
 use Rattle.acl_text.specs.Output.{Rose}
-use Rattle.acl_load.specs.LoadedPolicies.{AreResolved, AreResolvedIn, LoadsPolicy}
-use Rattle.acl_render.specs.PlatformFiles.{AreApart, IsFileText, IsTaken, limit_of, text_on}
-use Rattle.acl_render.proofs.AcceptedTextLaws.{text-accepted}
+use Rattle.acl_load.specs.LoadedPolicies.{AreResolvedIn, LoadsPolicy}
+use Rattle.acl_render.specs.PlatformFiles.{AreApart, IsTaken, limit_of, text_on}
 use Rattle.acl_render.proofs.ShortListsLaws.{taken-short}
 use Rattle.acl_options.specs.CommandLines.{Options}
 use Rattle.acl_options.specs.ComputableOptions.{asks_clock, asks_clock_for, options_of}
@@ -49,11 +47,12 @@ use Rattle.acl_report.specs.Reports.{terms_report}
 use Rattle.aclgen_core.specs.DecidingSteps.{Asks, DecidesPlanned, DecidesSo, FindsDay, FollowsFrom, IsDayFor, IsReady, RoseLooking, texts_in}
 use Rattle.aclgen_core.specs.declared.deciding.Decision.{Decision}
 use Rattle.aclgen_core.specs.declared.deciding.Decision.TheVariants as decided
-use Rattle.aclgen_core.specs.Endings.{DecidesAsPolicy, IsFileOf, IsShort, OnDay}
+use Rattle.aclgen_core.specs.Endings.{IsShort, OnDay, WhereDay}
 use Rattle.aclgen_core.specs.FileLists.{IsApart, PathsDiffer}
 use Rattle.aclgen_core.specs.WritingSteps.{IsWritable, file_view}
 use Rattle.aclgen_core.specs.FilterPaths.{ending_of, last_part, path_of, without_pol}
-use Rattle.aclgen_core.specs.FilterRequests.{FilterRequest, block_requests, filter_for, request_of, loaded_slip, requests_in, requests_of, requests_on}
+use Rattle.aclgen_core.specs.AskedFilters.{FilterRequest}
+use Rattle.aclgen_core.specs.FilterRequests.{block_requests, filter_for, request_of, loaded_slip, requests_in, requests_of, requests_on}
 use Rattle.aclgen_core.specs.Job.{Plan, Plans, IsJob, IsJobOf, file_of, file_report, file_with, files_on, filters_of, or_day, or_slip, plan_of, platforms, report_line}
 use Rattle.aclgen_core.specs.PreparingSteps.{IsPlanned, IsTakenFor, IsWorkOf, MakesWork, PlansLoaded, JudgesAll, PreparesAll, draft_on, filter_file_on, filter_file_with}
 use Rattle.aclgen_core.specs.ShadedSlips.{asked_shaded}
@@ -61,7 +60,7 @@ use Rattle.aclgen_core.specs.Worlds.{Disk, Watch}
 use Rattle.aclgen_core.specs.declared.planning.Work.{Work}
 use Rattle.aclgen_core.specs.declared.preparing.FileDraft.{FileDraft}
 use Rattle.aclgen_core.specs.declared.preparing.FileDrafts.{FileDrafts}
-use Rattle.aclgen_core.proofs.PreparingLaws.{both-none, decides-at, resolved-requests}
+use Rattle.aclgen_core.proofs.PreparingLaws.{both-none}
 
 -- ---- targets that do not clash
 
@@ -125,7 +124,7 @@ same-kinds Nftables Iptables e = absurd (false≢true e)
 same-kinds Nftables Nftables e = refl
 
 -- What holds of each request that is of the platform holds of each of the platform's requests.
-all-on : (kind : Kind) (P : FilterRequest → Type 0) (Q : FilterRequest → Type 0) → ((r : FilterRequest) → r.target.kind ≡ kind → P r → Q r)
+pub all-on : (kind : Kind) (P : FilterRequest → Type 0) (Q : FilterRequest → Type 0) → ((r : FilterRequest) → r.target.kind ≡ kind → P r → Q r)
     → (rs : List FilterRequest) → AllByRecursion P rs → AllByRecursion Q (requests_on kind rs)
 all-on kind P Q f [] h = tt
 all-on kind P Q f (r ∷ rs) h = by (all-on kind P Q f rs h.1) (same_kind r.target.kind kind) refl
@@ -144,7 +143,7 @@ distinct-on kind eq (r ∷ rs) h = by (distinct-on kind eq rs h.1) (same_kind r.
     by more true = (all-on kind (λ s. eq r s ≡ false) (λ s. eq r s ≡ false) (λ s _ e. e) rs h.0, more)
     by more false = more
 
-all-by : {A B : Type 0} (f : A → B) (P : A → Type 0) (Q : B → Type 0) → ((x : A) → P x → Q (f x)) → (xs : List A) → AllByRecursion P xs → AllByRecursion Q (map f xs)
+pub all-by : {A B : Type 0} (f : A → B) (P : A → Type 0) (Q : B → Type 0) → ((x : A) → P x → Q (f x)) → (xs : List A) → AllByRecursion P xs → AllByRecursion Q (map f xs)
 all-by f P Q g [] h = tt
 all-by f P Q g (x ∷ xs) h = (g x h.0, all-by f P Q g xs h.1)
 
@@ -236,7 +235,7 @@ numbers-differ today kind (r ∷ rs) k h = (
 
 -- ---- what a platform's text wants
 
-apart-on : (today : Day) (n : Naming) (policy : Policy) (lists : List (List Term)) (kind : Kind) → IsPolicy policy → AreResolvedIn n policy.blocks lists
+pub apart-on : (today : Day) (n : Naming) (policy : Policy) (lists : List (List Term)) (kind : Kind) → IsPolicy policy → AreResolvedIn n policy.blocks lists
     → AreApart (map (filter_for today) (requests_on kind (requests_in policy.blocks lists)))
 apart-on today n policy lists kind is resolved =
     let rs = requests_in policy.blocks lists in
@@ -254,7 +253,7 @@ apart-on today n policy lists kind is resolved =
     any [] = tt
     any (x ∷ xs) = (tt, any xs)
 
-all-taken : (today : Day) (kind : Kind) (rs : List FilterRequest) → AllByRecursion (λ (r : FilterRequest). IsTaken kind (filter_for today r)) rs
+pub all-taken : (today : Day) (kind : Kind) (rs : List FilterRequest) → AllByRecursion (λ (r : FilterRequest). IsTaken kind (filter_for today r)) rs
     → All (IsTaken kind) (map (filter_for today) rs)
 all-taken today kind [] h = All-nil (IsTaken kind)
 all-taken today kind (r ∷ rs) h = All-cons (IsTaken kind) (filter_for today r) (map (filter_for today) rs) h.0 (all-taken today kind rs h.1)
@@ -288,7 +287,7 @@ map-flat : {A B C : Type 0} (g : B → C) (f : A → List B) (xs : List A) → m
 map-flat g f [] = refl
 map-flat g f (x ∷ xs) = map-append g (f x) (flat_map f xs) ∙ ap (λ ys. map g (f x) ++ ys) (map-flat g f xs)
 
-all-flat : {A B : Type 0} (Q : B → Type 0) (f : A → List B) → ((x : A) → AllByRecursion Q (f x)) → (xs : List A) → AllByRecursion Q (flat_map f xs)
+pub all-flat : {A B : Type 0} (Q : B → Type 0) (f : A → List B) → ((x : A) → AllByRecursion Q (f x)) → (xs : List A) → AllByRecursion Q (flat_map f xs)
 all-flat Q f each [] = tt
 all-flat Q f each (x ∷ xs) = all_append Q (f x) (flat_map f xs) (each x) (all-flat Q f each xs)
 
@@ -395,20 +394,6 @@ paths-differ output policy drafts paths =
 
 -- ---- a loaded policy
 
--- What is asked of the filters is what the policy asks of their sections.
-as-policy : (n : Naming) (today : Day) (kind : Kind) (rs : List FilterRequest) → AllByRecursion (λ (r : FilterRequest). AreResolved n r.written r.terms) rs
-    → IsFileText kind DecidesAs (map (filter_for today) rs) (map (filter_for today) rs) → IsFileText kind (DecidesAsPolicy n today) (map (filter_for today) rs) rs
-as-policy n today Cisco rs resolved h = record { spelled = h.spelled; decides = λ k. decides-at n today rs k _ resolved (h.decides k) }
-as-policy n today Juniper rs resolved h = record { spelled = h.spelled; decides = λ k. decides-at n today rs k _ resolved (h.decides k) }
-as-policy n today Iptables rs resolved h = record { spelled = h.spelled; decides = λ k. decides-at n today rs k _ resolved (h.decides k) }
-as-policy n today Nftables rs resolved h = record { spelled = h.spelled; decides = λ k. decides-at n today rs k _ resolved (h.decides k) }
-
-file-is : (n : Naming) (today : Day) (kind : Kind) (path : List ℕ) (rs : List FilterRequest) → AllByRecursion (λ (r : FilterRequest). AreResolved n r.written r.terms) rs
-    → IsFileText kind DecidesAs (map (filter_for today) rs) (map (filter_for today) rs)
-    → AllByRecursion (IsFileOf n today) (file_with kind path rs)
-file-is n today kind path [] resolved h = tt
-file-is n today kind path (r ∷ rs) resolved h = (as-policy n today kind (r ∷ rs) resolved h, tt)
-
 short-one : (today : Day) (r : FilterRequest) → IsTakenFor today r → IsShort (filter_for today r)
 unfolding limit_of
 short-one today r t =
@@ -435,7 +420,6 @@ is-planned o today loaded drafts work judged w fits resolved =
     (p.each k).report_is ∙ one-report k (path k) today (requests_on k all) in
     let fit = fit-on o.output o.policy today loaded drafts fits resolved p in
     let texts = texts-from drafts work w.files_are in
-    let resolved-all = resolved-requests loaded.definitions loaded.policy.blocks loaded.terms resolved in
     record {
       plan_is = ap (λ s. or_slip loaded.sources.labels s (plan_of o today loaded)) clean;
       ready = record {
@@ -444,11 +428,6 @@ is-planned o today loaded drafts work judged w fits resolved =
         report_is = w.report_is ∙ ap (λ t. terms_report today o.exp_info loaded ++ t)
             (flat-same (λ k. (draft_on k drafts).report.bytes) (λ k. flat_map (file_report today) (files_on o all k)) line platforms
             ∙ flat_twice (file_report today) (files_on o all) platforms);
-        each = all-flat (IsFileOf loaded.definitions today) (files_on o all)
-            (λ k. file-is loaded.definitions today k (path k) (requests_on k all)
-            (all-on k (λ r. AreResolved loaded.definitions r.written r.terms) (λ r. AreResolved loaded.definitions r.written r.terms) (λ r _ x. x) all resolved-all)
-            (subst (λ (fs : List Filter). IsFileText k DecidesAs fs fs) (p.each k).filters_are
-            (text-accepted k (draft_on k drafts).filters (fit k).taken (fit k).apart))) platforms;
         short = all-flat (λ f. AllByRecursion IsShort (filters_of today f)) (files_on o all)
             (λ k. short-with today k (path k) (requests_on k all)
             (all-on k (IsTakenFor today) (IsTakenFor today) (λ r _ x. x) all p.taken)) platforms;

@@ -33,8 +33,9 @@ use Rattle.acl_expand.proofs.DecideLaws.{decides-as-written}
 use Rattle.acl_load.specs.LoadedPolicies.{AreResolved, AreResolvedIn}
 use Rattle.acl_load.specs.declared.policy_loading.Loaded.{Loaded}
 use Rattle.acl_render.specs.PlatformFiles.{count_of, limit_of, limit_on}
-use Rattle.aclgen_core.specs.Endings.{DecidesAsPolicy}
-use Rattle.aclgen_core.specs.FilterRequests.{FilterRequest, check_slip, block_requests, filter_for, limit_slip, request_of, request_slip, requests_in, requests_of, requests_on, requests_slip}
+use Rattle.aclgen_core.specs.FileMeanings.{DecidesAsPolicy}
+use Rattle.aclgen_core.specs.AskedFilters.{FilterRequest}
+use Rattle.aclgen_core.specs.FilterRequests.{check_slip, block_requests, filter_for, limit_slip, request_of, request_slip, requests_in, requests_of, requests_on, requests_slip}
 use Rattle.acl_report.specs.Reports.{count_line}
 use Rattle.aclgen_core.specs.Job.{report_line}
 use Rattle.aclgen_core.specs.PreparingSteps.{Adds, AddsAll, AddsOne, AddsTo, AreEmptyDrafts, AreOpen, Checks, ChecksFilter, IsTakenFor, PreparesAll, draft_on, with_draft}

@@ -1,9 +1,9 @@
 -- All shaded terms of a block can go at once.
 use Prim.Native.Nat.{zero, suc}
-use Rattle.std.proofs.Common.{◌≡◌, ◌≢◌, ℕ, ◌<◌, ◌≤◌, Bool, true, false, not, ◌&&◌, ◌||◌, if◌then◌else◌, nat_le, List, [], ◌∷◌, ◌++◌, map, length, Option, None, Some, Ok, Err, option_map, inl, inr, refl, ap, sym, subst, ◌∙◌, arith}
+use Rattle.std.proofs.Common.{◌≡◌, ◌≢◌, ℕ, ◌<◌, ◌≤◌, Bool, true, false, if◌then◌else◌, nat_le, List, [], ◌∷◌, ◌++◌, map, length, Option, None, Some, Ok, Err, option_map, inl, inr, refl, ap, sym, subst, ◌∙◌, arith}
 use Rattle.std.specs.Prelude.{flat_map, zip, slice_index_or}
 use Rattle.std.specs.List.{AllByRecursion, Contains, list_any}
-use Rattle.std.proofs.lemmas.Bool.{and_from, and_parts, both_ways, false_from_ne_true, leb-true, le-leb}
+use Rattle.std.proofs.lemmas.Bool.{both_ways, leb-true, le-leb}
 use Rattle.std.proofs.lemmas.List.Elements.{recursion_from_All}
 use Rattle.acl_packet.specs.declared.addresses.Family.{Family}
 use Rattle.acl_packet.specs.declared.filtering.Outcome.{Outcome}
@@ -304,7 +304,7 @@ blocks-can-go n today (b ∷ bs) (ts ∷ tss) fits clean resolved none =
 
 -- ---- the plan of a job
 
-planned-none : (labels : List (List ℕ)) (slip : Option Slip) (made plan : Plan) → or_slip labels slip made ≡ Ok plan → (slip ≡ None) × (plan ≡ made)
+pub planned-none : (labels : List (List ℕ)) (slip : Option Slip) (made plan : Plan) → or_slip labels slip made ≡ Ok plan → (slip ≡ None) × (plan ≡ made)
 planned-none labels None made plan e = (refl, cc)
 planned-none labels (Some slip) made plan e = absurd cc
 

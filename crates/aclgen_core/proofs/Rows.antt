@@ -1,5 +1,5 @@
 -- The rows of the endings, from what deciding and acting give.
-use Rattle.std.proofs.Common.{◌≡◌, ◌⊎◌, ℕ, ℤ, inl, inr, Bool, true, false, List, [], Option, None, Some, Result, Ok, Err, IfSome, IsSome, IsSomeAnd, refl, sym, subst, ◌∙◌, le_refl, arith}
+use Rattle.std.proofs.Common.{◌≡◌, ◌⊎◌, ℕ, ℤ, inl, inr, Bool, true, false, List, [], ◌∷◌, map, Option, None, Some, Result, Ok, Err, IfSome, IsSome, IsSomeAnd, refl, sym, subst, ◌∙◌, le_refl, arith}
 use Rattle.std.proofs.lemmas.Bool.{false≢true}
 use Rattle.std.specs.List.{AllByRecursion}
 use Rattle.acl_text.specs.declared.faults.Fault.{Fault}
@@ -7,11 +7,16 @@ use Rattle.acl_text.specs.Output.{Rose}
 use Rattle.acl_days.specs.declared.days.Day.{Day}
 use Rattle.acl_host.specs.Files.{File, BothTell}
 use Rattle.acl_host.specs.Outside.{AddsFront}
+use Rattle.acl_naming.specs.Definitions.{Naming}
+use Rattle.acl_render.specs.PlatformFiles.{sections_on}
 use Rattle.acl_options.specs.CommandLines.{Options}
 use Rattle.acl_options.specs.ComputableOptions.{asks_clock, options_of}
+use Rattle.aclgen_core.specs.AskedFilters.{PlanFile}
 use Rattle.aclgen_core.specs.FaultLines.{outside_line, usage_line}
-use Rattle.aclgen_core.specs.FileLists.{HoldsTexts, Interrupted}
-use Rattle.aclgen_core.specs.Job.{Plan, IsJob, IsJobOf, or_day, report_of, texts_of}
+use Rattle.aclgen_core.specs.FileLists.{HoldsAll, HoldsTexts, Interrupted}
+use Rattle.aclgen_core.specs.FileMeanings.{HoldsMeaning, Means}
+use Rattle.aclgen_core.specs.Job.{Plan, IsJob, IsJobOf, file_of, filters_of, or_day, report_of, texts_of}
+use Rattle.aclgen_core.specs.PlannedTexts.{IsOfSections}
 use Rattle.aclgen_core.specs.Endings.{FailedAlone, OnDay, OnItsDay, WhereDay, WhereTold, Got, Untouched, IsWritten, Headline, EndsDone, EndsUsage, EndsRejected, RoseAt, EndsLooking, LeavesFiles, EndsWriting, LeavesReport, EndsReporting, IsRefusalLine, EndsTelling, EndsOutside, LeavesPart, EndsWanting, EndsSo, NoneRose, IsEnding, EndsAsAsked, Keeps}
 use Rattle.aclgen_core.specs.Removals.{ShadedCanGo}
 use Rattle.aclgen_core.specs.Worlds.{Disk, DiskCountsGrow, Stream, StreamCountsGrow, Watch, World, world}
@@ -26,6 +31,7 @@ use Rattle.acl_text.specs.declared.wholes.Whole.{Whole}
 use Rattle.aclgen_core.proofs.FaultCounts.{alone-behind, refused-alone, told-alone}
 use Rattle.aclgen_core.proofs.FileListLaws.{both-more}
 use Rattle.aclgen_core.proofs.OneAnswer.{one-job}
+use Rattle.aclgen_core.proofs.PlannedTextsLaws.{planned-texts}
 use Rattle.aclgen_core.proofs.RemovalLaws.{shaded-can-go}
 use Rattle.aclgen_core.proofs.Telling.{no-front}
 
@@ -291,12 +297,24 @@ planned-leaves words work d c R f h =
     told-goes-on words c d.files (λ day files. (plan : Plan) × IsJob words day files (Some (Ok plan)) × IsReady plan work) R
     (λ day files is p. f day files is p.0 p.1 p.2) h.planned
 
-written-plan : (plan : Plan) (work : Work) (d d' : Disk) (files : List File) → d.files ≡ Some files → IsReady plan work → BothTell d.files d'.files (HoldsTexts (texts_in work))
+-- A text that stands at its path, and means what is asked, is one that the file holds.
+held-texts : (n : Naming) (today : Day) (new : List File) (fs : List PlanFile) → AllByRecursion (IsOfSections n today) fs → HoldsAll (map (file_of today) fs) new
+    → AllByRecursion (HoldsMeaning n today new) fs
+held-texts n today new [] are held = tt
+held-texts n today new (f ∷ fs) are held = (
+  subst (λ t. IsSomeAnd t (Means n today f.kind f.requests)) (sym held.0) (sections_on f.kind (filters_of today f), are.0),
+  held-texts n today new fs are.1 held.1,
+)
+
+written-plan : (plan : Plan) (work : Work) (d d' : Disk) (files : List File) → d.files ≡ Some files → IsReady plan work
+    → AllByRecursion (IsOfSections plan.naming plan.today) plan.files → BothTell d.files d'.files (HoldsTexts (texts_in work))
     → IsSomeAnd d'.files (IsWritten plan files)
-written-plan plan work d d' files is ready h =
+written-plan plan work d d' files is ready are h =
     both-some (IsWritten plan) d.files d'.files files is
     (both-more (HoldsTexts (texts_in work)) (IsWritten plan) d.files d'.files
-    (λ a b p. record { each = ready.each; holds = subst (λ ts. HoldsTexts ts a b) ready.texts_are p }) h)
+    (λ a b p.
+    let holds = subst (λ ts. HoldsTexts ts a b) ready.texts_are p in
+    record { each = held-texts plan.naming plan.today b plan.files are holds.held; holds = holds }) h)
 
 left-plan : (plan : Plan) (work : Work) (d d' : Disk) (files : List File) → d.files ≡ Some files → IsReady plan work → BothTell d.files d'.files (Interrupted (texts_in work))
     → IsSomeAnd d'.files (Interrupted (texts_of plan) files)
@@ -321,7 +339,7 @@ done-row words work d d' o o' e e' c c' planned acts = record {
         plan,
         record {
           job = job;
-          written = written-plan plan work d d' files is ready acts.written;
+          written = written-plan plan work d d' files is ready (planned-texts words day files plan job) acts.written;
           report = subst (λ t. Got t o.told o'.told) ready.report_is acts.report_got;
           short = ready.short;
           shaded = job-shaded words day files plan job;
@@ -351,7 +369,7 @@ out-row words work d d' o o' e e' c c' planned acts = record {
       (λ day files is plan job ready. (
         plan,
         job,
-        written-plan plan work d d' files is ready acts.written,
+        written-plan plan work d d' files is ready (planned-texts words day files plan job) acts.written,
         subst (λ t. BothTell o.told o'.told (AddsFront t)) ready.report_is acts.report_front,
       )) planned;
   report = (work.report.bytes, acts.report_front);

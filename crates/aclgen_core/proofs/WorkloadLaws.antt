@@ -24,7 +24,8 @@ use Rattle.workload_laws.specs.WorkloadFiles.{workload_files}
 use Rattle.workload_laws.specs.WorkloadPolicies.{block_text, workload_text}
 use Rattle.workload_laws.proofs.LoadedWorkloads.{workloads_loaded}
 use Rattle.aclgen_core.specs.Endings.{Keeps}
-use Rattle.aclgen_core.specs.FilterRequests.{FilterRequest, check_slip, filter_for, limit_slip, loaded_slip, request_of, request_slip, requests_in, requests_slip}
+use Rattle.aclgen_core.specs.AskedFilters.{FilterRequest}
+use Rattle.aclgen_core.specs.FilterRequests.{check_slip, filter_for, limit_slip, loaded_slip, request_of, request_slip, requests_in, requests_slip}
 use Rattle.aclgen_core.specs.Job.{Plan, Plans, files_on, job_slip, or_slip, plan_of, platforms}
 use Rattle.aclgen_core.specs.DecidingSteps.{ReportsOn}
 use Rattle.aclgen_core.specs.PreparingSteps.{MakesWork, MakesWorkload}

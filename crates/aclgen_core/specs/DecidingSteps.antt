@@ -14,7 +14,7 @@ use Rattle.aclgen_core.specs.Job.{Plan, IsJob, filters_of, report_of, texts_of}
 use Rattle.acl_load.specs.declared.load_faults.LoadFault.{LoadFault}
 use Rattle.acl_load.specs.declared.load_faults.LoadFault.TheVariants as loads
 use Rattle.acl_load.specs.FaultLines.{fault_line}
-use Rattle.aclgen_core.specs.Endings.{FailedAlone, Got, IsFileOf, IsShort, NoneFailed, OnItsDay, OnlyAsked, Tried}
+use Rattle.aclgen_core.specs.Endings.{FailedAlone, Got, IsShort, NoneFailed, OnItsDay, OnlyAsked, Tried}
 use Rattle.aclgen_core.specs.FaultLines.{outside_line}
 use Rattle.aclgen_core.specs.WorkloadRuns.{Reports}
 use Rattle.aclgen_core.specs.Worlds.{Disk, DiskCountsGrow, Stream, StreamCountsGrow, Watch, World, world}
@@ -31,12 +31,10 @@ use Rattle.aclgen_core.specs.declared.planning.Work.{Work}
 abbrev pub texts_in : Work → List File
 texts_in work = map file_view work.files.items
 
--- The texts and the report are those of the plan, each text is one that the headline speaks of, and the filters are
--- short.
+-- The texts and the report are those of the plan, and the filters are short.
 pub record IsReady (plan : Plan) (work : Work) : Type 0 where
   pub texts_are : texts_in work ≡ texts_of plan
   pub report_is : work.report.bytes ≡ report_of plan
-  pub each : AllByRecursion (IsFileOf plan.naming plan.today) plan.files
   pub short : AllByRecursion (λ f. AllByRecursion IsShort (filters_of plan.today f)) plan.files
 
 -- Nothing but the counts of looking changed, and they did not fall.

@@ -1,26 +1,20 @@
 -- What each ending of a run means: a record for each.
 use Rattle.std.specs.Prelude.{◌≡◌, ◌≢◌, ℕ, ◌≤◌, ℤ, ◌++◌, ◌⊎◌, Bool, true, false, List, Option, None, Some, Result, Ok, Err, option_map, IfSome, IsSome, IsSomeAnd}
 use Rattle.std.specs.List.{AllByRecursion}
-use Rattle.acl_packet.specs.declared.filtering.Outcome.{Outcome}
-use Rattle.acl_packet.specs.declared.packets.Packet.{Packet}
-use Rattle.acl_packet.specs.Addresses.{covers}
-use Rattle.acl_packet.specs.Packets.{IsPacket}
 use Rattle.acl_text.specs.declared.faults.Fault.{Fault}
 use Rattle.acl_text.specs.Output.{Rose}
 use Rattle.acl_days.specs.declared.days.Day.{Day}
 use Rattle.acl_host.specs.Files.{File, BothTell}
 use Rattle.acl_host.specs.Outside.{AddsFront}
-use Rattle.acl_naming.specs.Definitions.{Naming}
-use Rattle.acl_terms.specs.Outcomes.{PolicyDecides, shown}
 use Rattle.acl_load.specs.FaultLines.{fault_line}
-use Rattle.acl_render.specs.PlatformFiles.{IsFileText, count_of}
+use Rattle.acl_render.specs.PlatformFiles.{count_of}
 use Rattle.acl_render.specs.ShortLists.{HasFewestPrefixes}
 use Rattle.acl_platform.specs.declared.filters.Filter.{Filter}
 use Rattle.acl_options.specs.ComputableOptions.{asks_clock, options_of}
 use Rattle.aclgen_core.specs.FaultLines.{usage_line, outside_line}
 use Rattle.aclgen_core.specs.FileLists.{HoldsTexts, Interrupted}
-use Rattle.aclgen_core.specs.FilterRequests.{FilterRequest}
-use Rattle.aclgen_core.specs.Job.{Plan, PlanFile, IsJob, filters_of, report_of, texts_of}
+use Rattle.aclgen_core.specs.FileMeanings.{HoldsMeaning}
+use Rattle.aclgen_core.specs.Job.{Plan, IsJob, filters_of, report_of, texts_of}
 use Rattle.aclgen_core.specs.Removals.{ShadedCanGo}
 use Rattle.aclgen_core.specs.Worlds.{CountsGrow, Disk, Stream, Watch, World}
 use Rattle.aclgen_core.specs.declared.endings.Ended.{Ended}
@@ -69,23 +63,10 @@ pub record Untouched (old new : World) : Type 0 where
 
 -- ---- the headline
 
--- What decides packets decides those of the target's families as its block of the policy does, as far as the platform
--- can show it.
-abbrev pub DecidesAsPolicy : Naming → Day → FilterRequest → (Packet → Option Outcome) → Type 0
-DecidesAsPolicy naming today r outcome = (p : Packet) → IsPacket p
-    → covers r.target.families p.family ≡ true
-    → (o : Outcome) × PolicyDecides naming r.target today r.written p o
-    × (outcome p ≡ Some (shown r.target.kind o))
-
--- The file's text is one that the language of its platform accepts as one document, with one section for each target,
--- in order; and each section decides as the policy does.
-abbrev pub IsFileOf : Naming → Day → PlanFile → Type 0
-IsFileOf naming today f =
-    IsFileText f.kind (DecidesAsPolicy naming today) (filters_of today f) f.requests
-
--- Each file of the plan is such a text, and every other file is as it was.
+-- Each file of the plan holds a text that means what the policy asks for; the text is that of its filters, and every
+-- other file is as it was.
 pub record IsWritten (plan : Plan) (old new : List File) : Type 0 where
-  pub each : AllByRecursion (IsFileOf plan.naming plan.today) plan.files
+  pub each : AllByRecursion (HoldsMeaning plan.naming plan.today new) plan.files
   pub holds : HoldsTexts (texts_of plan) old new
 
 -- Each address list of a filter is as short as any with the same addresses, and it has at most 100,000 entries.

@@ -1,6 +1,6 @@
 -- Several files that are written one behind the other.
 use Prim.Native.Nat.{suc}
-use Rattle.std.specs.Prelude.{◌≡◌, ◌≢◌, ℕ, List, [], ◌∷◌, take, Option, Some, Result, OnOk, OnErr}
+use Rattle.std.specs.Prelude.{◌≡◌, ◌≢◌, ℕ, List, [], ◌∷◌, take, Some, Result, OnOk, OnErr}
 use Rattle.std.specs.List.{AllByRecursion}
 use Rattle.acl_host.specs.Files.{File, file_at, BothTell}
 use Rattle.acl_host.specs.Outside.{CountsWriting, TreeMembers}

@@ -21,12 +21,7 @@ use Rattle.acl_expand.specs.Expansions.{filter_of}
 use Rattle.acl_expand.specs.ExpansionSlips.{first_slip}
 use Rattle.acl_load.specs.declared.policy_loading.Loaded.{Loaded}
 use Rattle.acl_render.specs.PlatformFiles.{limit_of}
-
--- A target of a policy, and the terms of its block: as they are written, and with their words read as numbers.
-pub record FilterRequest : Type 0 where
-  pub target : Target
-  pub written : List RawTerm
-  pub terms : List Term
+use Rattle.aclgen_core.specs.AskedFilters.{FilterRequest}
 
 -- Each target of a block asks for a filter of the block's terms.
 abbrev pub request_of : List RawTerm → List Term → Target → FilterRequest

@@ -17,15 +17,10 @@ use Rattle.acl_report.specs.Reports.{count_line, terms_report}
 use Rattle.acl_options.specs.CommandLines.{Options}
 use Rattle.acl_options.specs.ComputableOptions.{options_of}
 use Rattle.aclgen_core.specs.FilterPaths.{path_of}
-use Rattle.aclgen_core.specs.FilterRequests.{FilterRequest, filter_for, loaded_slip, requests_of, requests_on}
+use Rattle.aclgen_core.specs.AskedFilters.{FilterRequest, PlanFile}
+use Rattle.aclgen_core.specs.FilterRequests.{filter_for, loaded_slip, requests_of, requests_on}
 use Rattle.aclgen_core.specs.Removals.{PlanBlock, blocks_of}
 use Rattle.aclgen_core.specs.ShadedSlips.{asked_shaded}
-
--- A file that a run writes: its platform, its path, and the filters that are asked for in it, in order.
-pub record PlanFile : Type 0 where
-  pub kind : Kind
-  pub path : List ℕ
-  pub requests : List FilterRequest
 
 -- What a run writes: its files, over the definitions, the day for which they are made and the blocks of the policy, and
 -- what its report says of the policy's terms.

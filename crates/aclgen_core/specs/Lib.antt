@@ -1,10 +1,13 @@
+pub mod AskedFilters
 pub mod DecidingSteps
 pub mod Endings
 pub mod FaultLines
 pub mod FileLists
+pub mod FileMeanings
 pub mod FilterPaths
 pub mod FilterRequests
 pub mod Job
+pub mod PlannedTexts
 pub mod PreparingSteps
 pub mod Programs
 pub mod Removals

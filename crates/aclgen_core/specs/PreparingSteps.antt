@@ -21,7 +21,8 @@ use Rattle.acl_report.specs.Reports.{count_line}
 use Rattle.aclgen_core.specs.DecidingSteps.{IsReady}
 use Rattle.aclgen_core.specs.WritingSteps.{AreWritable}
 use Rattle.aclgen_core.specs.FilterPaths.{path_of}
-use Rattle.aclgen_core.specs.FilterRequests.{FilterRequest, filter_for, loaded_slip, request_slip, requests_of, requests_on, requests_slip}
+use Rattle.aclgen_core.specs.AskedFilters.{FilterRequest}
+use Rattle.aclgen_core.specs.FilterRequests.{filter_for, loaded_slip, request_slip, requests_of, requests_on, requests_slip}
 use Rattle.aclgen_core.specs.Job.{Plan, Plans, job_slip, plan_of, planned, platforms, report_line}
 use Rattle.aclgen_core.specs.ShadedSlips.{asked_shaded}
 use Rattle.aclgen_core.specs.WorkloadRuns.{PlansWorkload}

@@ -7,6 +7,7 @@ ghost use Rattle.acl_memory.specs.declared.sure_clocks.SureClock.{SureClock};
 ghost use Rattle.acl_memory.specs.declared.sure_sinks.SureSink.{SureSink};
 ghost use Rattle.acl_memory.specs.declared.sure_trees.SureTree.{SureTree};
 ghost use Rattle.aclgen_core.specs.Job.{IsJob, Plan};
+ghost use Rattle.aclgen_core.specs.PlannedTexts.{PlannedTextsAreOfSections};
 ghost use Rattle.aclgen_core.specs.Runs.{Runs};
 ghost use Rattle.aclgen_core.specs.SureRuns.{sure_world};
 ghost use Rattle.aclgen_core.specs.declared.endings.Ended.TheVariants as ended;
@@ -24,6 +25,12 @@ pub fn jobs_are_one()
 pub fn jobs_are_there()
     ensures { (words : List (List ℕ)) → (day : Day) → (files : List File)
         → (job : Option (Result Plan Fault)) × IsJob words day files job }
+{}
+
+/// A law: the text of each file of a job's plan spells the sections that the file's filters become, one for
+/// each target, in order, which decide as the policy does.
+pub fn planned_texts_are_of_sections()
+    ensures { PlannedTextsAreOfSections }
 {}
 
 /// A law: the fault of a job has one of the codes that `aclgen` answers, which are all but five.

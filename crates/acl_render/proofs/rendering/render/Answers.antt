@@ -1,4 +1,4 @@
-use Rattle.std.proofs.Common.{false, refl, subst, sym}
+use Rattle.std.proofs.Common.{false, subst}
 use Rattle.std.specs.List.{All}
 use Rattle.acl_target.specs.declared.targets.Kind.{Kind}
 use Rattle.acl_target.specs.declared.targets.Kind.TheVariants.{Cisco, Juniper, Iptables, Nftables}
@@ -6,10 +6,8 @@ use Rattle.gen_cisco.proofs.ListNames.{all-differ}
 use Rattle.gen_junos.proofs.NameLaws as junos
 use Rattle.gen_iptables.proofs.NameLaws as ipt
 use Rattle.gen_nftables.proofs.TableNames as nft
-use Rattle.acl_platform.specs.Platforms.{DecidesAs}
-use Rattle.acl_languages.specs.PlatformLanguages.{IsTextFor}
-use Rattle.acl_render.specs.PlatformFiles.{IsTaken, text_on}
-use Rattle.acl_render.proofs.MeantTextsLaws.{text-for}
+use Rattle.acl_render.specs.PlatformFiles.{IsTaken}
+use Rattle.acl_render.proofs.MeantTextsLaws.{text-meant}
 use Rattle.acl_render.proofs.TakenFilters.{accepted, kinds, numbers-differ, of-iptables, of-junos, of-nftables}
 use Rattle.acl_render.proofs.rendering.render.Goals as goal
 
@@ -54,25 +52,13 @@ write_all-requires-in-Nftables-clause-names_differ g c =
     nft.all-differ c.args.filters.now false (of-nftables c.args.filters.now taken) (numbers-differ c.args.filters.now c.requires.apart.numbers_differ)
 
 pub returns-in-Cisco-clause-meant : goal.returns-in-Cisco-clause-meant
-returns-in-Cisco-clause-meant g c =
-    let fs = c.args.filters.now in
-    subst (λ (k : Kind). IsTextFor k DecidesAs fs (text_on k fs)) (sym c.in-Cisco.is)
-    (text-for DecidesAs Cisco fs fs refl (record { spelled = c.write_all.ensures.spelled; decides = c.write_all.ensures.decides }))
+returns-in-Cisco-clause-meant g c = text-meant c.args.kind c.args.filters.now c.requires.taken c.requires.apart
 
 pub returns-in-Juniper-clause-meant : goal.returns-in-Juniper-clause-meant
-returns-in-Juniper-clause-meant g c =
-    let fs = c.args.filters.now in
-    subst (λ (k : Kind). IsTextFor k DecidesAs fs (text_on k fs)) (sym c.in-Juniper.is)
-    (text-for DecidesAs Juniper fs fs refl (record { spelled = c.write_all-in-Juniper.ensures.spelled; decides = c.write_all-in-Juniper.ensures.decides }))
+returns-in-Juniper-clause-meant g c = text-meant c.args.kind c.args.filters.now c.requires.taken c.requires.apart
 
 pub returns-in-Iptables-clause-meant : goal.returns-in-Iptables-clause-meant
-returns-in-Iptables-clause-meant g c =
-    let fs = c.args.filters.now in
-    subst (λ (k : Kind). IsTextFor k DecidesAs fs (text_on k fs)) (sym c.in-Iptables.is)
-    (text-for DecidesAs Iptables fs fs refl (record { spelled = c.write_all-in-Iptables.ensures.spelled; decides = c.write_all-in-Iptables.ensures.decides }))
+returns-in-Iptables-clause-meant g c = text-meant c.args.kind c.args.filters.now c.requires.taken c.requires.apart
 
 pub returns-in-Nftables-clause-meant : goal.returns-in-Nftables-clause-meant
-returns-in-Nftables-clause-meant g c =
-    let fs = c.args.filters.now in
-    subst (λ (k : Kind). IsTextFor k DecidesAs fs (text_on k fs)) (sym c.in-Nftables.is)
-    (text-for DecidesAs Nftables fs fs refl (record { spelled = c.write_all-in-Nftables.ensures.spelled; decides = c.write_all-in-Nftables.ensures.decides }))
+returns-in-Nftables-clause-meant g c = text-meant c.args.kind c.args.filters.now c.requires.taken c.requires.apart

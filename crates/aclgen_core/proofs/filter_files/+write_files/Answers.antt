@@ -1,8 +1,5 @@
-use Rattle.std.proofs.Common.{◌≡◌, ◌≤◌, ◌-◌, List, [], ◌∷◌, map, take, drop, length, get_or, ap, sym, subst}
-use Rattle.std.specs.List.{All}
-use Rattle.std.proofs.lemmas.List.Elements.{All-tail}
-use Rattle.aclgen_core.specs.declared.filter_files.FilterFile.{FilterFile}
-use Rattle.aclgen_core.specs.WritingSteps.{IsWritable, file_view}
+use Rattle.std.proofs.Common.{map, ap}
+use Rattle.aclgen_core.specs.WritingSteps.{file_view}
 use Rattle.aclgen_core.proofs.FileListLaws.{writes-cons}
 use Rattle.aclgen_core.proofs.PreparingLaws.{first-rest}
 use Rattle.aclgen_core.proofs.filter_files.+write_files.Goals as goal

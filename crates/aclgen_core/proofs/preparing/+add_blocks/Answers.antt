@@ -2,7 +2,8 @@ use Rattle.std.proofs.Common.{List, [], rules, sym, subst}
 use Rattle.std.specs.List.{All}
 use Rattle.std.proofs.lemmas.List.Elements.{All-tail}
 use Rattle.acl_policy.specs.Conditions.{IsBlock}
-use Rattle.aclgen_core.specs.FilterRequests.{FilterRequest, block_requests}
+use Rattle.aclgen_core.specs.AskedFilters.{FilterRequest}
+use Rattle.aclgen_core.specs.FilterRequests.{block_requests}
 use Rattle.aclgen_core.specs.PreparingSteps.{Adds}
 use Rattle.aclgen_core.proofs.PreparingLaws.{adds-append, adds-slip, first-block, first-rest, still-open}
 use Rattle.aclgen_core.proofs.preparing.+add_blocks.Goals as goal
