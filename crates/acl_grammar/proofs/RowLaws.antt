@@ -37,6 +37,16 @@ pub row_parts : (n : ℕ) (w : List ℕ) (ws : List (List ℕ)) → ((replicate 
 unfolding row_text
 row_parts n w ws = ap (λ t. t ++ 10 ∷ []) (append_assoc (replicate n 32) w (spaced ws) ∙ ap (λ t. replicate n 32 ++ t) (join_spaced w ws))
 
+one_space_more : (n : ℕ) (text : List ℕ) → replicate n 32 ++ 32 ∷ text ≡ replicate (suc n) 32 ++ text
+one_space_more zero text = refl
+one_space_more (suc n) text = ap (λ t. 32 ∷ t) (one_space_more n text)
+
+-- words each behind a space, the first one's being the last of the indent
+pub spaced_row : (n : ℕ) (words : List (List ℕ)) → begins words ≡ true → row_text (row n ([] ∷ words)) ≡ row_text (row (suc n) words)
+unfolding row_text
+spaced_row n [] h = absurd cc
+spaced_row n (w ∷ words) h = ap (λ t. t ++ 10 ∷ []) (one_space_more n (join_with_byte 32 (w ∷ words)))
+
 -- ---- cutting
 
 cut_step : (b : Bool) (c x : ℕ) (xs : List ℕ) (parts rest : List (List ℕ)) → (b || has_byte c xs) ≡ false → (has_byte c xs ≡ false → parts ≡ xs ∷ rest)

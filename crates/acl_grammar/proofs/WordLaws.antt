@@ -1,8 +1,8 @@
--- Numbers, addresses, prefixes and names are words of a row, and a free text is such words.
-use Rattle.std.proofs.Common.{◌≡◌, ℕ, ◌-◌, ◌^◌, ◌<◌, Bool, true, false, cond, ◌==◌, ◌&&◌, nat_le, List, [], ◌∷◌, length, refl}
+-- What is a word of a row: numbers, addresses, prefixes, names, and such that are put together. A free text is words.
+use Rattle.std.proofs.Common.{◌≡◌, ℕ, ◌-◌, ◌^◌, ◌<◌, Bool, true, false, cond, ◌==◌, ◌&&◌, nat_le, List, [], ◌∷◌, ◌++◌, length, codes, refl}
 use Rattle.std.specs.Fmt.{decimal}
 use Rattle.std.specs.List.{list_all, AllByRecursion, onto_first}
-use Rattle.std.proofs.lemmas.Bool.{and_parts, or_parts, or_from}
+use Rattle.std.proofs.lemmas.Bool.{and_parts, cond_both, or_parts, or_from}
 use Rattle.acl_packet.specs.declared.addresses.Family.{Family}
 use Rattle.acl_packet.specs.declared.addresses.Family.TheVariants.{V4}
 use Rattle.acl_packet.specs.declared.addresses.Prefix.{Prefix}
@@ -12,15 +12,34 @@ use Rattle.acl_text.specs.AddressTexts.{address_text, prefix_text, wildcard_text
 use Rattle.acl_text.specs.Cuts.{has_byte}
 use Rattle.acl_text.specs.Names.{is_letter, is_name_byte, is_name, is_filter_name, is_safe_byte, is_safe_text, single_spaced}
 use Rattle.acl_text.proofs.AddressLaws.{address-lacks, prefix-lacks}
-use Rattle.acl_text.proofs.CutLaws.{has-not}
+use Rattle.acl_text.proofs.CutLaws.{has-append, has-not}
 use Rattle.acl_text.proofs.DigitLaws.{decimal-lacks}
+use Rattle.acl_text.proofs.ListLaws.{all_append}
 use Rattle.acl_text.proofs.Printed.{IsForeign}
 use Rattle.acl_grammar.specs.Rows.{is_space, words_in}
-use Rattle.acl_grammar.specs.RowSteps.{IsWord}
+use Rattle.acl_grammar.specs.RowSteps.{IsWord, AreWords}
+use Rattle.acl_grammar.specs.RuleParts.{log_words}
 
 -- of a literal: give `refl` twice
 pub word : (w : List ℕ) → has_byte 32 w ≡ false → has_byte 10 w ≡ false → IsWord w
 word w h k = record { no_space = h; no_feed = k }
+
+pub joined_word : (v w : List ℕ) → IsWord v → IsWord w → IsWord (v ++ w)
+joined_word v w h k = word (v ++ w) (has-append 32 v w h.no_space k.no_space) (has-append 10 v w h.no_feed k.no_feed)
+
+pub either_word : (t : Bool) (v w : List ℕ) → IsWord v → IsWord w → IsWord (cond t v w)
+either_word t v w h k = cond_both t v w IsWord (λ _. h) (λ _. k)
+
+pub both_words : (vs ws : List (List ℕ)) → AreWords vs → AreWords ws → AreWords (vs ++ ws)
+both_words vs ws h k = all_append IsWord vs ws h k
+
+pub either_words : (t : Bool) (vs ws : List (List ℕ)) → AreWords vs → AreWords ws → AreWords (cond t vs ws)
+either_words t vs ws h k = cond_both t vs ws AreWords (λ _. h) (λ _. k)
+
+pub log_safe : (b : Bool) → AreWords (log_words b)
+unfolding log_words
+log_safe true = search word
+log_safe false = tt
 
 pub decimal_word : (n : ℕ) → n < 2 ^ 128 → IsWord (decimal n)
 decimal_word n h = word (decimal n) (decimal-lacks 32 n h refl) (decimal-lacks 10 n h refl)

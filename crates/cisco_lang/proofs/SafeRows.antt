@@ -1,5 +1,5 @@
 -- Each row of a document can be found again in its text.
-use Rattle.std.proofs.Common.{◌≡◌, ℕ, ◌≤◌, Bool, true, false, cond, ◌==◌, List, [], ◌∷◌, ◌++◌, map, flat_map, codes, Option, None, Some, IfSome, refl, subst, sym, arith}
+use Rattle.std.proofs.Common.{◌≡◌, ℕ, ◌≤◌, Bool, true, false, ◌==◌, List, [], ◌∷◌, ◌++◌, map, flat_map, codes, Option, None, Some, IfSome, refl, subst, sym, arith}
 use Rattle.std.specs.Fmt.{decimal}
 use Rattle.std.specs.List.{AllByRecursion}
 use Rattle.acl_packet.specs.declared.addresses.Family.{Family}
@@ -11,13 +11,11 @@ use Rattle.acl_packet.specs.Addresses.{width_of, IsPrefixOf}
 use Rattle.acl_packet.specs.Packets.{icmp_of}
 use Rattle.acl_packet.proofs.PrefixLaws.{first_fits}
 use Rattle.acl_text.specs.AddressTexts.{address_text}
-use Rattle.acl_text.proofs.CutLaws.{has-append}
 use Rattle.acl_text.proofs.ListLaws.{all_append}
 use Rattle.acl_grammar.specs.PortRanges.{IsPortRange}
 use Rattle.acl_grammar.specs.RowSteps.{begins, IsRow, IsWord, AreWords, AreRows}
 use Rattle.acl_grammar.proofs.ListLaws.{all_flat}
-use Rattle.acl_grammar.proofs.WordLaws.{word, decimal_word, address_word, wildcard_word, prefix_word, name_word, text_words}
-use Rattle.acl_grammar.specs.RuleParts.{log_words}
+use Rattle.acl_grammar.proofs.WordLaws.{word, decimal_word, address_word, wildcard_word, prefix_word, name_word, text_words, joined_word, both_words, either_word, either_words, log_safe}
 use Rattle.cisco_lang.specs.declared.documents.Section.{Section}
 use Rattle.cisco_lang.specs.declared.documents.AccessList.{AccessList}
 use Rattle.cisco_lang.specs.declared.documents.Item.{Item}
@@ -32,105 +30,83 @@ use Rattle.cisco_lang.proofs.ValidityLaws.{head_of}
 -- ---- entries
 
 action_safe : (b : Bool) → IsWord (action_word b)
-action_safe true = word (codes "permit") refl refl
-action_safe false = word (codes "deny") refl refl
+action_safe true = search word
+action_safe false = search word
 
 proto_safe : (f : Family) (o : Option ℕ) → IfSome o (λ n. (1 ≤ n) × (n ≤ 255)) → IsWord (proto_word f o)
 unfolding proto_word
-proto_safe V4 None h = word (codes "ip") refl refl
-proto_safe V6 None h = word (codes "ipv6") refl refl
-proto_safe f (Some n) h = name_cases (n == 6) (n == 17) (n == icmp_of f) where
-  name_cases : (a b c : Bool) → IsWord (cond a (codes "tcp") (cond b (codes "udp") (cond c (codes "icmp") (decimal n))))
-  name_cases true b c = word (codes "tcp") refl refl
-  name_cases false true c = word (codes "udp") refl refl
-  name_cases false false true = word (codes "icmp") refl refl
-  name_cases false false false = decimal_word n (omega (arith, h.1))
+proto_safe V4 None h = search word
+proto_safe V6 None h = search word
+proto_safe f (Some n) h =
+    either_word (n == 6) (codes "tcp") _ (search word) (either_word (n == 17) (codes "udp") _ (search word)
+    (either_word (n == icmp_of f) (codes "icmp") (decimal n) (search word) (decimal_word n (omega (arith, h.1)))))
 
 masked_safe : (f : Family) (p : Prefix) → IsPrefixOf f p → AreWords (masked_words f p)
-masked_safe V4 p h = (address_word V4 p.first (first_fits V4 p h), (wildcard_word p.len, tt))
-masked_safe V6 p h = (prefix_word p h.1, tt)
+masked_safe V4 p h = search (address_word V4 p.first (first_fits V4 p h), wildcard_word)
+masked_safe V6 p h = search (prefix_word p h.1)
 
 address_safe : (f : Family) (p : Prefix) → IsPrefixOf f p → AreWords (address_words f p)
 unfolding address_words
-address_safe f p h = place_cases (p.len == 0) (p.len == width_of f) where
-  place_cases : (a b : Bool) → AreWords (cond a (codes "any" ∷ []) (cond b (codes "host" ∷ address_text f p.first ∷ []) (masked_words f p)))
-  place_cases true b = (word (codes "any") refl refl, tt)
-  place_cases false true = (word (codes "host") refl refl, (address_word f p.first (first_fits f p h), tt))
-  place_cases false false = masked_safe f p h
+address_safe f p h = search (either_words, word, address_word f p.first (first_fits f p h), masked_safe f p h)
 
 ports_safe : (o : Option (ℕ × ℕ)) → IfSome o IsPortRange → AreWords (ports_words o)
 unfolding ports_words
 ports_safe None h = tt
-ports_safe (Some (m, n)) h = port_cases (m == n) where
-  port_cases : (a : Bool) → AreWords (cond a (codes "eq" ∷ decimal m ∷ []) (codes "range" ∷ decimal m ∷ decimal n ∷ []))
-  port_cases true = (word (codes "eq") refl refl, (decimal_word m (omega (arith, h.0, h.1)), tt))
-  port_cases false = (word (codes "range") refl refl, (decimal_word m (omega (arith, h.0, h.1)), (decimal_word n (omega (arith, h.1)), tt)))
+ports_safe (Some (m, n)) h =
+    search (either_words, word, decimal_word m (omega (arith, h.0, h.1)), decimal_word n (omega (arith, h.1)))
 
 end_safe : (f : Family) (p : Prefix) (o : Option (ℕ × ℕ)) → IsPrefixOf f p → IfSome o IsPortRange → AreWords (end_words f p o)
 unfolding end_words
-end_safe f p o h k = all_append IsWord (address_words f p) (ports_words o) (address_safe f p h) (ports_safe o k)
+end_safe f p o h k = search (both_words, address_safe f p h, ports_safe o k)
 
 type_safe : (o : Option ℕ) → IfSome o (λ n. n ≤ 254) → AreWords (type_words o)
 unfolding type_words
 type_safe None h = tt
-type_safe (Some n) h = (decimal_word n (omega (arith, h)), tt)
+type_safe (Some n) h = search (decimal_word n (omega (arith, h)))
 
 flags_safe : (o : Option Flags) → AreWords (flags_words o)
 unfolding flags_words
 flags_safe None = tt
-flags_safe (Some Established) = (word (codes "established") refl refl, tt)
-flags_safe (Some Rst) = (word (codes "rst") refl refl, tt)
-flags_safe (Some SynNotAck) = (word (codes "match-all") refl refl, (word (codes "+syn") refl refl, (word (codes "-ack") refl refl, tt)))
-
-log_safe : (b : Bool) → AreWords (log_words b)
-unfolding log_words
-log_safe true = (word (codes "log") refl refl, tt)
-log_safe false = tt
+flags_safe (Some Established) = search word
+flags_safe (Some Rst) = search word
+flags_safe (Some SynNotAck) = search word
 
 entry_safe : (f : Family) (e : Entry) → IsEntry f e → AreWords (entry_words f e)
 unfolding entry_words
 entry_safe f e h =
-    let last = all_append IsWord (flags_words e.flags) (log_words e.log) (flags_safe e.flags) (log_safe e.log) in
-    let tests = all_append IsWord (type_words e.itype) _ (type_safe e.itype h.icmp_type) last in
-    let destination = all_append IsWord (end_words f e.dst e.dport) _ (end_safe f e.dst e.dport h.destination h.destination_ports) tests in
-    let source = all_append IsWord (end_words f e.src e.sport) _ (end_safe f e.src e.sport h.source h.source_ports) destination in
-    (action_safe e.permit, (proto_safe f e.proto h.protocol, source))
+    let source = end_safe f e.src e.sport h.source h.source_ports in
+    let destination = end_safe f e.dst e.dport h.destination h.destination_ports in
+    search (both_words, action_safe, proto_safe f e.proto h.protocol, source, destination, type_safe e.itype h.icmp_type, flags_safe, log_safe)
 
 -- ---- rows
 
 item_safe : (f : Family) (i : Item) → IsItem f i → AreRows (item_rows f i)
 unfolding item_rows entry_words
-item_safe f (Remark text) h = (record { start = refl; words = (word (codes "remark") refl refl, text_words text h) }, tt)
+item_safe f (Remark text) h = search (word, text_words text h)
 item_safe f (AnEntry e) h = (record { start = action_starts e.permit _; words = entry_safe f e h }, tt) where
   action_starts : (b : Bool) (words : List (List ℕ)) → begins (action_word b ∷ words) ≡ true
   action_starts true words = refl
   action_starts false words = refl
 
 head_safe : (f : Family) (name : List ℕ) → IsWord name → AreRows (head_rows f name)
-head_safe V4 name h =
-    let words : AreWords (head_words V4 name) = (word (codes "ip") refl refl, (word (codes "access-list") refl refl, (word (codes "extended") refl refl, (h, tt)))) in
-    (record { start = refl; words = (word (codes "no") refl refl, words) }, (record { start = refl; words = words }, tt))
-head_safe V6 name h =
-    let words : AreWords (head_words V6 name) = (word (codes "ipv6") refl refl, (word (codes "access-list") refl refl, (h, tt))) in
-    (record { start = refl; words = (word (codes "no") refl refl, words) }, (record { start = refl; words = words }, tt))
+head_safe V4 name h = search (word, h)
+head_safe V6 name h = search (word, h)
 
 list_safe : (l : AccessList) → IsWord l.name × IsList l → AreRows (list_rows l)
 unfolding list_rows
 list_safe l h =
     let items = all_flat (IsItem l.family) IsRow (item_rows l.family) (item_safe l.family) l.items h.1 in
-    all_append IsRow (head_rows l.family l.name) _ (head_safe l.family l.name h.0)
-    (all_append IsRow (flat_map (item_rows l.family) l.items) end_rows items (record { start = refl; words = (word (codes "exit") refl refl, tt) }, tt))
+    all_append IsRow (head_rows l.family l.name) _ (head_safe l.family l.name h.0) (all_append IsRow (flat_map (item_rows l.family) l.items) end_rows items (search word))
 
 families_safe : (fs : Families) → IsWord (families_word fs)
-families_safe Inet = word (codes "extended") refl refl
-families_safe Inet6 = word (codes "inet6") refl refl
-families_safe Mixed = word (codes "mixed") refl refl
+families_safe Inet = search word
+families_safe Inet6 = search word
+families_safe Mixed = search word
 
 heads_safe : (fs : Families) (name : List ℕ) → IsWord name → AllByRecursion (λ (h : Family × List ℕ). IsWord h.1) (heads_of fs name)
 heads_safe Inet name h = (h, tt)
 heads_safe Inet6 name h = (h, tt)
-heads_safe Mixed name h =
-    (h, (word (codes "ipv6-" ++ name) (has-append 32 (codes "ipv6-") name refl h.no_space) (has-append 10 (codes "ipv6-") name refl h.no_feed), tt))
+heads_safe Mixed name h = (h, (joined_word (codes "ipv6-") name (search word) h, tt))
 
 named_lists : (ls : List AccessList) → AllByRecursion (λ (h : Family × List ℕ). IsWord h.1) (map head_of ls) → AllByRecursion IsList ls
     → AllByRecursion (λ l. IsWord l.name × IsList l) ls
@@ -143,9 +119,7 @@ section_safe s h =
     let name = name_word s.name h.named in
     let P : List (Family × List ℕ) → Type 0 = AllByRecursion (λ (x : Family × List ℕ). IsWord x.1) in
     let names = subst P (sym h.heads) (heads_safe s.families s.name name) in
-    let words : AreWords (codes "!" ∷ codes "cisco" ∷ s.name ∷ families_word s.families ∷ []) =
-    (word (codes "!") refl refl, (word (codes "cisco") refl refl, (name, (families_safe s.families, tt)))) in
-    (record { start = refl; words = words }, all_flat (λ l. IsWord l.name × IsList l) IsRow list_rows list_safe s.lists (named_lists s.lists names h.lists))
+    (search (word, name, families_safe), all_flat (λ l. IsWord l.name × IsList l) IsRow list_rows list_safe s.lists (named_lists s.lists names h.lists))
 
 pub sections_safe : (doc : List Section) → AllByRecursion IsSection doc → AllByRecursion IsRow (flat_map section_rows doc)
 sections_safe doc h = all_flat IsSection IsRow section_rows section_safe doc h
