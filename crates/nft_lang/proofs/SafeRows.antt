@@ -16,15 +16,15 @@ use Rattle.acl_packet.specs.declared.filtering.Verdict.{Verdict}
 use Rattle.acl_packet.specs.declared.filtering.Verdict.TheVariants.{Accept, Deny, Reject, Reset, Left}
 use Rattle.acl_text.specs.AddressTexts.{prefix_text}
 use Rattle.acl_text.specs.Cuts.{has_byte}
-use Rattle.acl_text.proofs.CutLaws.{has-append}
 use Rattle.acl_text.proofs.ListLaws.{all_append}
 use Rattle.acl_text.proofs.DigitLaws.{decimal-lacks}
 use Rattle.acl_grammar.specs.PortRanges.{IsPortRange}
-use Rattle.acl_grammar.specs.Rows.{row, row_text, text_of_rows}
+use Rattle.acl_grammar.specs.Rows.{row, text_of_rows}
 use Rattle.acl_grammar.specs.RowSteps.{begins, IsRow, IsWord, AreWords, AreRows}
 use Rattle.acl_grammar.proofs.ListLaws.{all_flat, all_map}
 use Rattle.acl_grammar.proofs.PortRangeLaws.{range_word}
-use Rattle.acl_grammar.proofs.WordLaws.{word, decimal_word, prefix_word, text_words}
+use Rattle.acl_grammar.proofs.RowLaws.{spaced_row}
+use Rattle.acl_grammar.proofs.WordLaws.{word, decimal_word, prefix_word, text_words, joined_word, both_words, either_word, log_safe}
 use Rattle.acl_grammar.specs.RuleParts.{IsAddresses, log_words}
 use Rattle.nft_lang.specs.declared.documents.Section.{Section}
 use Rattle.nft_lang.specs.declared.documents.Item.{Item}
@@ -130,33 +130,31 @@ rule_begins fs r =
     let addresses = sets_begin (address_word r.family) (codes "saddr") (codes "daddr") (map prefix_text r.src) (map prefix_text r.dst) _ (address_plain r.family) ports in
     behind_part (family_words fs r.family) _ (family_plain fs r.family) (behind_part (proto_words r.proto) _ (proto_plain r.proto) addresses)
 
+rule_starts : (words : List (List ℕ)) → BeginsRule words → begins words ≡ true
+rule_starts words b = ap begins b.is ∙ plain_starts b.first b.rest b.plain where
+  plain_starts : (w : List ℕ) (ws : List (List ℕ)) → plain_word w ≡ true → begins (w ∷ ws) ≡ true
+  plain_starts [] ws h = absurd cc
+  plain_starts (c ∷ cs) ws h = refl
+
 -- the last space of the indent stands before the first word
 pub row_begun : (fs : Families) (r : Rule) → text_of_rows (row 7 ([] ∷ rule_words fs r) ∷ []) ≡ text_of_rows (item_rows fs (ARule r))
-unfolding item_rows row_text
-row_begun fs r =
-    let b = rule_begins fs r in
-    ap (λ ws. text_of_rows (row 7 ([] ∷ ws) ∷ [])) b.is ∙ shifted b.first b.rest ∙ ap (λ ws. text_of_rows (row 8 ws ∷ [])) (sym b.is) where
-      shifted : (w : List ℕ) (ws : List (List ℕ)) → text_of_rows (row 7 ([] ∷ w ∷ ws) ∷ []) ≡ text_of_rows (row 8 (w ∷ ws) ∷ [])
-      shifted w ws = refl
+unfolding item_rows
+row_begun fs r = ap (λ t. t ++ []) (spaced_row 7 (rule_words fs r) (rule_starts (rule_words fs r) (rule_begins fs r)))
 
 -- ---- sets
-
-comma_safe : (w : List ℕ) → IsWord w → IsWord (w ++ codes ",")
-comma_safe w h = word (w ++ codes ",") (has-append 32 w (codes ",") h.no_space refl) (has-append 10 w (codes ",") h.no_feed refl)
 
 commas_safe : (words : List (List ℕ)) → AreWords words → AreWords (with_commas words)
 unfolding with_commas
 commas_safe [] h = tt
 commas_safe (w ∷ []) h = h
-commas_safe (w ∷ v ∷ words) h = (comma_safe w h.0, commas_safe (v ∷ words) h.1)
+commas_safe (w ∷ v ∷ words) h = (joined_word w (codes ",") h.0 (search word), commas_safe (v ∷ words) h.1)
 
 set_safe : {A : Type 0} (P : A → Type 0) (front key : List ℕ) (w : A → List ℕ) → IsWord front → IsWord key → ((x : A) → P x → IsWord (w x))
     → (xs : List A) → AllByRecursion P xs → AreWords (set_words front key (map w xs))
 unfolding set_words
 set_safe P front key w f k each [] h = tt
 set_safe P front key w f k each (x ∷ xs) h =
-    let words = all_map P IsWord w each (x ∷ xs) h in
-    (f, (k, (word (codes "{") refl refl, all_append IsWord (with_commas (map w (x ∷ xs))) (codes "}" ∷ []) (commas_safe (map w (x ∷ xs)) words) (word (codes "}") refl refl, tt))))
+    search (both_words, word, f, k, commas_safe (map w (x ∷ xs)) (all_map P IsWord w each (x ∷ xs) h))
 
 ports_safe : (ports : ℕ × ℕ) → IsPortRange ports → IsWord (ports_word ports)
 ports_safe ports h = range_word 45 ports h refl refl
@@ -170,124 +168,97 @@ family_safe : (fs : Families) (f : Family) → AreWords (family_words fs f)
 unfolding family_words
 family_safe Inet f = tt
 family_safe Inet6 f = tt
-family_safe Mixed V4 = (word (codes "meta") refl refl, (word (codes "nfproto") refl refl, (word (codes "ipv4") refl refl, tt)))
-family_safe Mixed V6 = (word (codes "meta") refl refl, (word (codes "nfproto") refl refl, (word (codes "ipv6") refl refl, tt)))
+family_safe Mixed V4 = search word
+family_safe Mixed V6 = search word
 
 proto_safe : (o : Option ℕ) → IfSome o (λ n. (1 ≤ n) × (n ≤ 255)) → AreWords (proto_words o)
 unfolding proto_words
 proto_safe None h = tt
-proto_safe (Some n) h = (word (codes "meta") refl refl, (word (codes "l4proto") refl refl, (decimal_word n (omega (arith, h.1)), tt)))
+proto_safe (Some n) h = search (word, decimal_word n (omega (arith, h.1)))
 
 address_safe : (f : Family) → IsWord (address_word f)
-address_safe V4 = word (codes "ip") refl refl
-address_safe V6 = word (codes "ip6") refl refl
+address_safe V4 = search word
+address_safe V6 = search word
 
 icmp_safe : (f : Family) → IsWord (icmp_word f)
-icmp_safe V4 = word (codes "icmp") refl refl
-icmp_safe V6 = word (codes "icmpv6") refl refl
+icmp_safe V4 = search word
+icmp_safe V6 = search word
 
 port_safe : (o : Option ℕ) → IsWord (port_word o)
 unfolding port_word
-port_safe None = word (codes "tcp") refl refl
-port_safe (Some n) = name_cases (n == 17) (n == 132) where
-  name_cases : (a b : Bool) → IsWord (cond a (codes "udp") (cond b (codes "sctp") (codes "tcp")))
-  name_cases true b = word (codes "udp") refl refl
-  name_cases false true = word (codes "sctp") refl refl
-  name_cases false false = word (codes "tcp") refl refl
+port_safe None = search word
+port_safe (Some n) = search (either_word, word)
 
 flags_safe : (o : Option Flags) → AreWords (flags_words o)
 unfolding flags_words
 flags_safe None = tt
-flags_safe (Some Rst) =
-    (word (codes "tcp") refl refl, (word (codes "flags") refl refl, (word (codes "&") refl refl, (word (codes "rst") refl refl, (word (codes "==") refl refl, (word (codes "rst") refl refl, tt))))))
-flags_safe (Some SynNotAck) =
-    (word (codes "tcp") refl refl, (word (codes "flags") refl refl, (word (codes "&") refl refl, (word (codes "(syn") refl refl, (word (codes "|") refl refl, (word (codes "ack)") refl refl, (word (codes "==") refl refl, (word (codes "syn") refl refl, tt))))))))
+flags_safe (Some Rst) = search word
+flags_safe (Some SynNotAck) = search word
 
 state_safe : (b : Bool) → AreWords (state_words b)
 unfolding state_words
-state_safe true =
-    (word (codes "ct") refl refl, (word (codes "state") refl refl, (word (codes "{") refl refl, (word (codes "established,") refl refl, (word (codes "related") refl refl, (word (codes "}") refl refl, tt))))))
+state_safe true = search word
 state_safe false = tt
-
-log_safe : (b : Bool) → AreWords (log_words b)
-unfolding log_words
-log_safe true = (word (codes "log") refl refl, tt)
-log_safe false = tt
 
 verdict_safe : (v : Verdict) → AreWords (verdict_words v)
 unfolding verdict_words
-verdict_safe Accept = (word (codes "accept") refl refl, tt)
-verdict_safe Deny = (word (codes "drop") refl refl, tt)
-verdict_safe Reject = (word (codes "reject") refl refl, tt)
-verdict_safe Reset = (word (codes "reject") refl refl, (word (codes "with") refl refl, (word (codes "tcp") refl refl, (word (codes "reset") refl refl, tt))))
-verdict_safe Left = (word (codes "drop") refl refl, tt)
+verdict_safe Accept = search word
+verdict_safe Deny = search word
+verdict_safe Reject = search word
+verdict_safe Reset = search word
+verdict_safe Left = search word
 
 addresses_safe : (fs : Families) (r : Rule) → IsRule fs r → AreWords (addresses_words r.family r.src r.dst)
 unfolding addresses_words
 addresses_safe fs r h =
     let each : (p : Prefix) → IsAddresses r.family p → IsWord (prefix_text p) = λ p k. prefix_word p k.0.1 in
     let front = address_safe r.family in
-    all_append IsWord (set_words (address_word r.family) (codes "saddr") (map prefix_text r.src)) (set_words (address_word r.family) (codes "daddr") (map prefix_text r.dst))
-    (set_safe (IsAddresses r.family) (address_word r.family) (codes "saddr") prefix_text front (word (codes "saddr") refl refl) each r.src h.sources.each)
-    (set_safe (IsAddresses r.family) (address_word r.family) (codes "daddr") prefix_text front (word (codes "daddr") refl refl) each r.dst h.destinations.each)
+    both_words _ _
+    (set_safe (IsAddresses r.family) (address_word r.family) (codes "saddr") prefix_text front (search word) each r.src h.sources.each)
+    (set_safe (IsAddresses r.family) (address_word r.family) (codes "daddr") prefix_text front (search word) each r.dst h.destinations.each)
 
 all_ports_safe : (fs : Families) (r : Rule) → IsRule fs r → AreWords (ports_words r.proto r.sports r.dports)
 unfolding ports_words
 all_ports_safe fs r h =
     let front = port_safe r.proto in
-    all_append IsWord (set_words (port_word r.proto) (codes "sport") (map ports_word r.sports)) (set_words (port_word r.proto) (codes "dport") (map ports_word r.dports))
-    (set_safe IsPortRange (port_word r.proto) (codes "sport") ports_word front (word (codes "sport") refl refl) ports_safe r.sports h.source_ports.each)
-    (set_safe IsPortRange (port_word r.proto) (codes "dport") ports_word front (word (codes "dport") refl refl) ports_safe r.dports h.destination_ports.each)
+    both_words _ _
+    (set_safe IsPortRange (port_word r.proto) (codes "sport") ports_word front (search word) ports_safe r.sports h.source_ports.each)
+    (set_safe IsPortRange (port_word r.proto) (codes "dport") ports_word front (search word) ports_safe r.dports h.destination_ports.each)
 
 rule_safe : (fs : Families) (r : Rule) → IsRule fs r → AreWords (rule_words fs r)
 unfolding rule_words ending_words
 rule_safe fs r h =
-    let decided = all_append IsWord (log_words r.log) (verdict_words r.verdict) (log_safe r.log) (verdict_safe r.verdict) in
-    let ending = all_append IsWord (state_words r.state) _ (state_safe r.state) decided in
-    let tests = all_append IsWord (flags_words r.flags) _ (flags_safe r.flags) ending in
-    let types = all_append IsWord (types_words r.family r.itypes) _
-    (set_safe IsType (icmp_word r.family) (codes "type") (λ n. decimal n) (icmp_safe r.family) (word (codes "type") refl refl) type_safe r.itypes h.icmp_types.each) tests in
-    let ports = all_append IsWord (ports_words r.proto r.sports r.dports) _ (all_ports_safe fs r h) types in
-    let addresses = all_append IsWord (addresses_words r.family r.src r.dst) _ (addresses_safe fs r h) ports in
-    let proto = all_append IsWord (proto_words r.proto) _ (proto_safe r.proto h.protocol) addresses in
-    all_append IsWord (family_words fs r.family) _ (family_safe fs r.family) proto
+    let types = set_safe IsType (icmp_word r.family) (codes "type") (λ n. decimal n) (icmp_safe r.family) (search word) type_safe r.itypes h.icmp_types.each in
+    search (both_words, family_safe, proto_safe r.proto h.protocol, addresses_safe fs r h, all_ports_safe fs r h, types, flags_safe, state_safe, log_safe, verdict_safe) depth 9
 
 -- ---- rows
 
-rule_starts : (words : List (List ℕ)) → BeginsRule words → begins words ≡ true
-rule_starts words b = ap begins b.is ∙ plain_starts b.first b.rest b.plain where
-  plain_starts : (w : List ℕ) (ws : List (List ℕ)) → plain_word w ≡ true → begins (w ∷ ws) ≡ true
-  plain_starts [] ws h = absurd cc
-  plain_starts (c ∷ cs) ws h = refl
-
 item_safe : (fs : Families) (i : Item) → IsItem fs i → AreRows (item_rows fs i)
 unfolding item_rows
-item_safe fs (Remark text) h = (record { start = refl; words = (word (codes "#") refl refl, text_words text h) }, tt)
+item_safe fs (Remark text) h = search (word, text_words text h)
 item_safe fs (ARule r) h = (record { start = rule_starts (rule_words fs r) (rule_begins fs r); words = rule_safe fs r h }, tt)
 
 hook_safe : (h : Hook) → IsWord (hook_word h)
-hook_safe Input = word (codes "input") refl refl
-hook_safe Output = word (codes "output") refl refl
-hook_safe Forward = word (codes "forward") refl refl
+hook_safe Input = search word
+hook_safe Output = search word
+hook_safe Forward = search word
 
 families_safe : (fs : Families) → IsWord (families_word fs)
-families_safe Inet = word (codes "inet") refl refl
-families_safe Inet6 = word (codes "inet6") refl refl
-families_safe Mixed = word (codes "mixed") refl refl
+families_safe Inet = search word
+families_safe Inet6 = search word
+families_safe Mixed = search word
 
 table_safe : (fs : Families) → IsWord (table_word fs)
-table_safe Inet = word (codes "ip") refl refl
-table_safe Inet6 = word (codes "ip6") refl refl
-table_safe Mixed = word (codes "inet") refl refl
+table_safe Inet = search word
+table_safe Inet6 = search word
+table_safe Mixed = search word
 
 name_safe : (n : ℕ) → n < 2 ^ 32 → IsWord (table_name n)
-name_safe n h =
-    let number = decimal_word n (omega (arith, h)) in
-    word (table_name n) (has-append 32 (codes "aclgen_") (decimal n) refl number.no_space) (has-append 10 (codes "aclgen_") (decimal n) refl number.no_feed)
+name_safe n h = joined_word (codes "aclgen_") (decimal n) (search word) (decimal_word n (omega (arith, h)))
 
 default_safe : (b : Bool) → IsWord (default_word b)
-default_safe true = word (codes "accept;") refl refl
-default_safe false = word (codes "drop;") refl refl
+default_safe true = search word
+default_safe false = search word
 
 -- a byte that no priority has
 pub signed_lacks : (c : ℕ) (p : ℤ) → fits_i32 p ≡ true → is_ascii_digit c ≡ false → (45 == c) ≡ false → has_byte c (signed_decimal p) ≡ false
@@ -298,56 +269,15 @@ signed_lacks c (negsuc n) h d m =
 
 priority_safe : (p : ℤ) → fits_i32 p ≡ true → IsWord (priority_word p)
 priority_safe p h =
-    word (priority_word p) (has-append 32 (signed_decimal p) (codes ";") (signed_lacks 32 p h refl refl) refl)
-    (has-append 10 (signed_decimal p) (codes ";") (signed_lacks 10 p h refl refl) refl)
+    joined_word (signed_decimal p) (codes ";") (word (signed_decimal p) (signed_lacks 32 p h refl refl) (signed_lacks 10 p h refl refl)) (search word)
 
 head_safe : (s : Section) → IsSection s → AreRows (head_rows s.hook s.families s.number s.priority s.accept)
 unfolding head_rows
 head_safe s h =
-    let hook = hook_safe s.hook in
-    let family = table_safe s.families in
-    let name = name_safe s.number h.number in
-    let table = word (codes "table") refl refl in
-    let brace = word (codes "{") refl refl in (
-      record { start = refl; words = (word (codes "##") refl refl, (word (codes "nftables") refl refl, (hook, (families_safe s.families, tt)))) },
-      (
-        record { start = refl; words = (word (codes "add") refl refl, (table, (family, (name, tt)))) },
-        (
-          record { start = refl; words = (word (codes "delete") refl refl, (table, (family, (name, tt)))) },
-          (
-            record { start = refl; words = (table, (family, (name, (brace, tt)))) },
-            (
-              record { start = refl; words = (word (codes "chain") refl refl, (hook, (brace, tt))) },
-              (
-                record {
-                  start = refl;
-                  words = (
-                    word (codes "type") refl refl,
-                    (
-                      word (codes "filter") refl refl,
-                      (
-                        word (codes "hook") refl refl,
-                        (
-                          hook,
-                          (
-                            word (codes "priority") refl refl,
-                            (priority_safe s.priority h.priority, (word (codes "policy") refl refl, (default_safe s.accept, tt))),
-                          ),
-                        ),
-                      ),
-                    ),
-                  );
-                },
-                tt,
-              ),
-            ),
-          ),
-        ),
-      ),
-    )
+    search (word, hook_safe s.hook, families_safe s.families, table_safe s.families, name_safe s.number h.number, priority_safe s.priority h.priority, default_safe s.accept)
 
 end_safe : AreRows end_rows
-end_safe = (record { start = refl; words = (word (codes "}") refl refl, tt) }, (record { start = refl; words = (word (codes "}") refl refl, tt) }, tt))
+end_safe = search word
 
 section_safe : (s : Section) → IsSection s → AreRows (section_rows s)
 unfolding section_rows
