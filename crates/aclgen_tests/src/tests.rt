@@ -2,5 +2,6 @@ mod failures;
 mod hostile;
 mod jobs;
 mod options;
+mod runs;
 mod words;
 mod workloads;

@@ -3,4 +3,3 @@ mod iptables;
 mod junos;
 mod languages;
 mod nftables;
-mod packets;

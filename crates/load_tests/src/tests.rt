@@ -1,3 +1,4 @@
+mod files;
 mod loads;
 mod policies;
 mod reports;

@@ -1,2 +1,1 @@
 pub mod SampleSections
-pub mod SoundSamples

@@ -1,2 +1,1 @@
 pub mod SampleFilters
-pub mod SampleRules

@@ -1,13 +1,11 @@
 -- The filters of the tests.
-use Rattle.std.specs.Prelude.{◌≡◌, ℕ, ℤ, Bool, true, List}
+use Rattle.std.specs.Prelude.{ℕ, ℤ, Bool, List}
 use Rattle.acl_packet.specs.declared.addresses.Families.{Families}
 use Rattle.acl_packet.specs.declared.filtering.Hook.{Hook}
 use Rattle.acl_target.specs.declared.targets.Ending.{Ending}
 use Rattle.acl_target.specs.declared.targets.Kind.{Kind}
-use Rattle.acl_target.specs.TargetData.{IsTarget}
 use Rattle.acl_platform.specs.declared.filters.Filter.{Filter}
 use Rattle.acl_platform.specs.declared.rules.Rule.{Rule}
-use Rattle.acl_platform.specs.SoundFilters.{target_of}
 
 abbrev pub filter_with : Kind → List ℕ → Families → Hook → Ending → ℤ → Bool → ℕ → List Rule → Filter
 filter_with kind name families hook ending priority verbose number rules = record {
@@ -22,8 +20,3 @@ filter_with kind name families hook ending priority verbose number rules = recor
   number = number;
   rules = rules;
 }
-
--- A platform handles the filters with these data, which are those of a target.
-pub record IsHeadFor (handles : Filter → Bool) (with : List Rule → Filter) : Type 0 where
-  pub handled : (rules : List Rule) → handles (with rules) ≡ true
-  pub target : (rules : List Rule) → (stateful : Bool) × IsTarget (target_of stateful (with rules))

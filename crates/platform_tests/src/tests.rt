@@ -6,4 +6,3 @@ mod nftables;
 mod platforms;
 mod rendering;
 mod samples;
-mod soundness;

@@ -1,5 +1,4 @@
 mod filters;
 mod reading;
 mod shades;
-mod sides;
 mod terms;

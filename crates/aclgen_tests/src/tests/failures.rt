@@ -1,20 +1,19 @@
 ghost use Rattle.std.specs.Prelude.{◌≡◌, IfOk, None};
 ghost use Rattle.acl_memory.specs.MemoryTrees.{contents};
 
-use crate::tests::jobs::{Left, USAGE, status};
+use crate::tests::runs::{
+    Calls, DATED, Left, NETWORKS, NONE, SERVICES, UNDATED, USAGE, WITHOUT_POLICY, WRONG,
+    keeps_inputs, left_by, sink_with, status,
+};
 use crate::tests::words::words_of;
 use acl_days::Day;
-use acl_host::{Clock, ClockFault};
 use acl_memory::{MemSink, MemTree, Op, SureClock, SureSink, SureTree};
 use acl_text::Memory;
 use aclgen_core::status_without_words;
 use std::alloc::Global;
 use std::test::Fail;
 
-const NETWORKS: &[u8] = b"WEB = 192.0.2.10\n";
-
-const SERVICES: &[u8] = b"HTTP = 80/tcp\n";
-
+// A policy whose rules have each part that a rule may have, but for the flags.
 const POLICY: &[u8] = b"header {
   target:: cisco edge-in extended
   target:: juniper edge-in
@@ -22,11 +21,16 @@ const POLICY: &[u8] = b"header {
   target:: nftables inet input
 }
 term web {
+  comment:: \"Not ours.\"
+  source-address:: LOW WEB
   destination-address:: WEB
-  destination-port:: HTTP
+  destination-port:: PORTS
   protocol:: tcp
   action:: accept
+  logging:: true
 }
+term ping { protocol:: icmp icmp-type:: 0 8 action:: reject }
+term est { protocol:: tcp udp option:: established action:: accept }
 ";
 
 // The files in the order in which they are written.
@@ -37,7 +41,18 @@ static FILES: [(&str, &[u8]); 4] = [
 no ip access-list extended edge-in
 ip access-list extended edge-in
  remark web
- permit tcp any host 192.0.2.10 eq 80
+ remark Not ours.
+ permit tcp 10.0.0.0 0.0.0.127 host 192.0.2.10 eq 80 log
+ permit tcp 10.0.0.0 0.0.0.127 host 192.0.2.10 range 8000 8080 log
+ permit tcp host 192.0.2.10 host 192.0.2.10 eq 80 log
+ permit tcp host 192.0.2.10 host 192.0.2.10 range 8000 8080 log
+ remark ping
+ deny icmp any any 0
+ deny icmp any any 8
+ remark est-tcp
+ permit tcp any any established
+ remark est-udp
+ permit udp any any range 1024 65535
 exit
 ",
     ),
@@ -47,13 +62,46 @@ exit
 firewall {
     family inet {
         replace: filter edge-in {
+            /* Not ours. */
             term web {
                 from {
+                    source-address {
+                        10.0.0.0/25;
+                        192.0.2.10/32;
+                    }
                     destination-address {
                         192.0.2.10/32;
                     }
                     protocol [ 6 ];
-                    destination-port [ 80 ];
+                    destination-port [ 80 8000-8080 ];
+                }
+                then {
+                    syslog;
+                    accept;
+                }
+            }
+            term ping {
+                from {
+                    protocol [ 1 ];
+                    icmp-type [ 0 8 ];
+                }
+                then {
+                    reject;
+                }
+            }
+            term est-tcp {
+                from {
+                    protocol [ 6 ];
+                    tcp-established;
+                }
+                then {
+                    accept;
+                }
+            }
+            term est-udp {
+                from {
+                    protocol [ 17 ];
+                    destination-port [ 1024-65535 ];
                 }
                 then {
                     accept;
@@ -69,9 +117,23 @@ firewall {
         b"## iptables INPUT inet
 -P INPUT DROP
 # web
+# Not ours.
 -N I_web
--A I_web -p tcp -d 192.0.2.10/32 --dport 80 -j ACCEPT
+-A I_web -p tcp -s 10.0.0.0/25 -d 192.0.2.10/32 -m multiport --dports 80,8000:8080 -j LOG
+-A I_web -p tcp -s 10.0.0.0/25 -d 192.0.2.10/32 -m multiport --dports 80,8000:8080 -j ACCEPT
+-A I_web -p tcp -s 192.0.2.10/32 -d 192.0.2.10/32 -m multiport --dports 80,8000:8080 -j LOG
+-A I_web -p tcp -s 192.0.2.10/32 -d 192.0.2.10/32 -m multiport --dports 80,8000:8080 -j ACCEPT
 -A INPUT -j I_web
+# ping
+-N I_ping
+-A I_ping -p icmp --icmp-type 0 -j REJECT
+-A I_ping -p icmp --icmp-type 8 -j REJECT
+-A INPUT -j I_ping
+# est
+-N I_est
+-A I_est -p tcp -m state --state ESTABLISHED,RELATED -j ACCEPT
+-A I_est -p udp -m state --state ESTABLISHED,RELATED -j ACCEPT
+-A INPUT -j I_est
 ",
     ),
     (
@@ -83,114 +145,24 @@ table ip aclgen_1 {
     chain input {
         type filter hook input priority 0; policy drop;
         # web
-        meta l4proto 6 ip daddr { 192.0.2.10/32 } tcp dport { 80 } accept
+        # Not ours.
+        meta l4proto 6 ip saddr { 10.0.0.0/25, 192.0.2.10/32 } ip daddr { 192.0.2.10/32 } tcp dport { 80, 8000-8080 } log accept
+        # ping
+        meta l4proto 1 icmp type { 0, 8 } reject
+        # est
+        meta l4proto 6 ct state { established, related } accept
+        meta l4proto 17 ct state { established, related } accept
     }
 }
 ",
     ),
 ];
 
-const REPORT: &[u8] = b"out/a.acl: cisco edge-in extended: entries 1
-out/a.jcl: juniper edge-in inet: entries 4
-out/a.ipt: iptables INPUT inet: entries 2
-out/a.nft: nftables input inet: entries 3
+const REPORT: &[u8] = b"out/a.acl: cisco edge-in extended: entries 8
+out/a.jcl: juniper edge-in inet: entries 16
+out/a.ipt: iptables INPUT inet: entries 11
+out/a.nft: nftables input inet: entries 11
 ";
-
-// A clock that fails at its call of this number, counted from 1, and tells the day at each other one.
-#[derive(Drop)]
-struct OnceClock {
-    failing: u32,
-    asked: u32,
-    faults: u64,
-}
-
-impl Clock for OnceClock {
-    ghost day = { λ c. None };
-
-    ghost faults = { λ c. c.faults };
-
-    fn today(&mut self) -> Result<Day, ClockFault> {
-        self.asked = self.asked.saturating_add(1);
-        if self.asked == self.failing {
-            self.faults = self.faults.saturating_add(1);
-            return Err(ClockFault::Failed);
-        }
-        Ok(Day { number: 20468 })
-    }
-}
-
-// Which calls fail: of the tree the one of this kind and number, and of the streams and the clock those of these
-// numbers, counted from 1. Each other call succeeds, also the one behind it.
-#[derive(Clone, Copy)]
-struct Calls {
-    tree: Option<(Op, u32)>,
-    out: u32,
-    err: u32,
-    clock: u32,
-}
-
-const NONE: Calls = Calls {
-    tree: None,
-    out: 0,
-    err: 0,
-    clock: 0,
-};
-
-fn tree_with(alloc: Global, failing: Option<(Op, u32)>) -> Result<MemTree, Memory>
-    ensures { IfOk result (λ t. (contents t).begun ≡ None) }
-{
-    let mut tree = MemTree::new(alloc);
-    tree.put_file("def/n.net", NETWORKS)?;
-    tree.put_file("def/s.svc", SERVICES)?;
-    tree.put_file("pol/a.pol", POLICY)?;
-    if let Some((op, nth)) = failing {
-        tree.fail(op, nth)?;
-    }
-    Ok(tree)
-}
-
-fn sink_with(alloc: Global, failing: u32) -> Result<MemSink, Memory> {
-    let mut sink = MemSink::new(alloc);
-    sink.fail(failing)?;
-    Ok(sink)
-}
-
-fn left_after(alloc: Global, words: &str, calls: &Calls) -> Result<Left, Memory> {
-    let words = words_of(alloc, words)?;
-    let mut tree = tree_with(alloc, calls.tree)?;
-    let mut out = sink_with(alloc, calls.out)?;
-    let mut err = sink_with(alloc, calls.err)?;
-    let mut clock = OnceClock {
-        failing: calls.clock,
-        asked: 0,
-        faults: 0,
-    };
-    let status = status(
-        alloc,
-        words.as_slice(),
-        &mut tree,
-        &mut out,
-        &mut err,
-        &mut clock,
-    );
-    Ok(Left {
-        status,
-        tree,
-        out,
-        err,
-    })
-}
-
-const DATED: &str =
-    " --policy_file pol/a.pol --definitions_directory def --output_directory out --date 2026-01-15";
-
-const UNDATED: &str = " --policy_file pol/a.pol --definitions_directory def --output_directory out";
-
-const WITHOUT_POLICY: &str =
-    " --policy_file pol/b.pol --definitions_directory def --output_directory out --date 2026-01-15";
-
-const WRONG: &str =
-    " --policy_file pol/a.pol --definitions_directory def --output_directory out --exp_info x";
 
 // Whether so many files are whole, and of the others at most the next one is there, where one was begun.
 fn are_whole(tree: &MemTree, whole: usize, begun: bool) -> bool {
@@ -206,12 +178,6 @@ fn are_whole(tree: &MemTree, whole: usize, begun: bool) -> bool {
         }
     }
     true
-}
-
-fn keeps_inputs(tree: &MemTree) -> bool {
-    tree.file("def/n.net") == Some(NETWORKS)
-        && tree.file("def/s.svc") == Some(SERVICES)
-        && tree.file("pol/a.pol") == Some(POLICY)
 }
 
 // The calls that fail in a run, the status that it ends with, and what it leaves: how many files are whole, whether one
@@ -249,7 +215,7 @@ fn is_left(left: &Left, case: &Case) -> bool {
         && left.out.as_slice() == case.report
         && left.err.as_slice() == case.line
         && are_whole(&left.tree, case.whole, case.begun)
-        && keeps_inputs(&left.tree)
+        && keeps_inputs(&left.tree, POLICY)
 }
 
 // Calls before the writing, with the line: no file is made. Then calls that a run does not make: nothing is called again,
@@ -419,7 +385,7 @@ static CASES: [Case; 21] = [
 #[test]
 fn each_call_outside_fails_once(rt: HostRuntime) -> Result<(), Fail> {
     for (place, case) in CASES.iter().enumerate() {
-        let left = left_after(rt.alloc(), case.words, &case.calls)?;
+        let left = left_by(rt.alloc(), POLICY, case.words, &case.calls)?;
         assert!(rt; is_left(&left, case), "case {place}");
     }
     Ok(())
@@ -444,7 +410,7 @@ fn each_file_is_begun_and_finished_once(rt: HostRuntime) -> Result<(), Fail> {
     for before in 0..4u32 {
         for op in [Op::Begin, Op::Finish] {
             let case = cut_off(op, before + 1, before as usize);
-            let left = left_after(rt.alloc(), case.words, &case.calls)?;
+            let left = left_by(rt.alloc(), POLICY, case.words, &case.calls)?;
             assert!(rt; is_left(&left, &case), "{op:?} behind {before}");
         }
     }
@@ -461,26 +427,53 @@ fn files_before_the_cut(left: &Left, case: &Case) -> Option<usize> {
     None
 }
 
-// Appends are counted upwards until none of that number is made. Each file has one at least.
+// How much there is of the file behind so many whole ones, where it was cut off where a line begins.
+fn cut_at_a_line(tree: &MemTree, whole: usize) -> Option<usize> {
+    let (path, _) = FILES.get(whole)?;
+    let text = tree.file(path)?;
+    if text.is_empty() || text.ends_with(b"\n") {
+        Some(text.len())
+    } else {
+        None
+    }
+}
+
+fn count_lines() -> usize {
+    let mut count = 0usize;
+    for (_, text) in &FILES {
+        let feeds = text.iter().filter(|byte| **byte == b'\n').count();
+        count = count.saturating_add(feeds);
+    }
+    count
+}
+
+// Appends are counted upwards until none of that number is made. Each line begins with one of its own: no append has
+// bytes of two lines.
 #[test]
 fn each_append_fails_once(rt: HostRuntime) -> Result<(), Fail> {
     let mut before = 0usize;
+    let mut lines = 0usize;
+    let mut last = (usize::MAX, 0usize);
     for nth in 1..10_000u32 {
         let case = cut_off(Op::Append, nth, 0);
-        let left = left_after(rt.alloc(), case.words, &case.calls)?;
+        let left = left_by(rt.alloc(), POLICY, case.words, &case.calls)?;
         if left.status == 0 {
             assert!(rt; is_left(&left, &DONE) && before == 3, "append {nth}");
+            assert_eq!(rt; lines, count_lines());
             return Ok(());
         }
-        match files_before_the_cut(&left, &case) {
-            Some(whole) => {
-                assert!(rt;
-                    whole == before || whole == before.saturating_add(1),
-                    "append {nth}"
-                );
-                before = whole;
+        let whole = files_before_the_cut(&left, &case).unwrap_or(usize::MAX);
+        assert!(rt;
+            whole == before || whole == before.saturating_add(1),
+            "append {nth}"
+        );
+        before = whole;
+        match cut_at_a_line(&left.tree, whole) {
+            Some(length) if last != (whole, length) => {
+                lines = lines.saturating_add(1);
+                last = (whole, length);
             }
-            None => assert!(rt; false, "append {nth}"),
+            _ => {}
         }
     }
     assert!(rt; false, "each run failed");
@@ -524,7 +517,11 @@ fn a_run_over_objects_that_never_fail_is_done(rt: HostRuntime) -> Result<(), Fai
 }
 
 // The status and the line where the machine gives no words.
-fn without_words(alloc: Global, wanted_memory: bool, failing: u32) -> Result<(u8, MemSink), Memory> {
+fn without_words(
+    alloc: Global,
+    wanted_memory: bool,
+    failing: u32,
+) -> Result<(u8, MemSink), Memory> {
     let mut err = sink_with(alloc, failing)?;
     let status = status_without_words(wanted_memory, &mut err);
     Ok((status, err))

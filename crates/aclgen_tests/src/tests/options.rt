@@ -4,243 +4,223 @@ use acl_text::Memory;
 use std::alloc::{AllocError, Global};
 use std::test::Fail;
 
-// The one call of the reader.
-fn read(alloc: Global, words: &[String]) -> Result<Option<Options<'_>>, Memory> {
-    read_options(alloc, words)
-}
-
-// What clap's documentation says of an option that takes one value, and of the words between them; the answer has
-// the policy's path, the folder of the naming files and the folder for the filters.
-static LINES: [(&str, Option<(&str, &str, &str)>); 38] = [
+// What clap's documentation says of an option that takes one value, of a flag, and of the words between them. The answer
+// has the policy's path, the folder of the naming files, the folder for the filters, the day since 1970-01-01 as GNU date
+// counts it, the weeks, and whether the flag is set.
+static LINES: [(&str, &str); 38] = [
     (
         " --policy_file a.pol --definitions_directory def --output_directory out",
-        Some(("a.pol", "def", "out")),
+        "a.pol def out today 2 false",
     ),
     (
         " --output_directory=out --policy_file=a.pol --definitions_directory=def",
-        Some(("a.pol", "def", "out")),
+        "a.pol def out today 2 false",
     ),
     (
         " --policy_file==/a --definitions_directory def/ --output_directory / --",
-        Some(("=/a", "def/", "/")),
+        "=/a def/ / today 2 false",
     ),
     (
         " --policy_file - --definitions_directory=-d --output_directory=--",
-        Some(("-", "-d", "--")),
+        "- -d -- today 2 false",
     ),
-    ("", None),
-    (" ", None),
-    (" --definitions_directory def --output_directory out", None),
-    (" --policy_file a.pol --output_directory out", None),
-    (" --policy_file a.pol --definitions_directory def", None),
+    ("", "none"),
+    (" ", "none"),
+    (
+        " --definitions_directory def --output_directory out",
+        "none",
+    ),
+    (" --policy_file a.pol --output_directory out", "none"),
+    (" --policy_file a.pol --definitions_directory def", "none"),
     (
         " --policy_file a --policy_file a --definitions_directory def --output_directory out",
-        None,
+        "none",
     ),
     (
         " --policy_file a --definitions_directory d --definitions_directory d --output_directory out",
-        None,
+        "none",
     ),
     (
         " --policy_file a --definitions_directory d --output_directory o --output_directory=o",
-        None,
+        "none",
     ),
     (
         " --policy_file= --definitions_directory def --output_directory out",
-        None,
+        "none",
     ),
     (
         " --policy_file  --definitions_directory def --output_directory out",
-        None,
+        "none",
     ),
     (
         " --policy_file a.pol --definitions_directory= --output_directory out",
-        None,
+        "none",
     ),
     (
         " --policy_file a.pol --definitions_directory def --output_directory=",
-        None,
+        "none",
     ),
     (
         " --policy_file a.pol --definitions_directory def --output_directory ",
-        None,
+        "none",
     ),
     (
         " --policy_file pol/ --definitions_directory def --output_directory out",
-        None,
+        "none",
     ),
     (
         " --policy_file / --definitions_directory def --output_directory out",
-        None,
+        "none",
     ),
     (
         " --policy_file --definitions_directory def --output_directory out",
-        None,
+        "none",
     ),
     (
         " --definitions_directory def --output_directory out --policy_file",
-        None,
+        "none",
     ),
     (
         " --policy_file -- --definitions_directory def --output_directory out",
-        None,
+        "none",
     ),
     (
         " --policy_file -a --definitions_directory def --output_directory out",
-        None,
+        "none",
     ),
     (
         " --policy_file a.pol b.pol --definitions_directory def --output_directory out",
-        None,
+        "none",
     ),
     (
         " a.pol --policy_file a.pol --definitions_directory def --output_directory out",
-        None,
+        "none",
     ),
     (
         " -- --policy_file a.pol --definitions_directory def --output_directory out",
-        None,
+        "none",
     ),
     (
         " --policy_file a.pol --definitions_directory def --output_directory out -- more",
-        None,
+        "none",
     ),
     (
         " --policy a.pol --definitions_directory def --output_directory out",
-        None,
+        "none",
     ),
     (
         " --policy-file a.pol --definitions_directory def --output_directory out",
-        None,
+        "none",
     ),
     (
         " -policy_file a.pol --definitions_directory def --output_directory out",
-        None,
+        "none",
     ),
     (
         " --Policy_file a.pol --definitions_directory def --output_directory out",
-        None,
+        "none",
     ),
     (
         " policy_file a.pol --definitions_directory def --output_directory out",
-        None,
+        "none",
     ),
     (
         " --=a.pol --definitions_directory def --output_directory out",
-        None,
+        "none",
     ),
-    (" --help", None),
-    (" -h", None),
-    (" help", None),
-    (" --version", None),
-    (" -V", None),
+    (" --help", "none"),
+    (" -h", "none"),
+    (" help", "none"),
+    (" --version", "none"),
+    (" -V", "none"),
 ];
 
-type Paths<'a> = Option<(&'a str, &'a str, &'a str)>;
+const PATHS: &str = " --policy_file a --definitions_directory d --output_directory o";
 
-fn gives_paths(alloc: Global, line: &str, paths: &Paths<'_>) -> Result<bool, Fail> {
+// Words behind those of the three paths.
+static MORE: [(&str, &str); 49] = [
+    ("", "a d o today 2 false"),
+    (" --", "a d o today 2 false"),
+    (" --date 2026-01-15", "a d o 20468 2 false"),
+    (" --date=2000-02-29", "a d o 11016 2 false"),
+    (" --date 0001-01-01", "a d o -719162 2 false"),
+    (" --date 9999-12-31", "a d o 2932896 2 false"),
+    (" --exp_info 0", "a d o today 0 false"),
+    (" --exp_info=520", "a d o today 520 false"),
+    (" --exp_info 3 --date 1970-01-01", "a d o 0 3 false"),
+    (" --date 2026-02-30", "none"),
+    (" --date 0000-01-01", "none"),
+    (" --date 10000-01-01", "none"),
+    (" --date 2026-1-15", "none"),
+    (" --date=", "none"),
+    (" --date ", "none"),
+    (" --date", "none"),
+    (" --date 2026-01-15 --date 2026-01-15", "none"),
+    (" --date 2026-01-15 2026-01-15", "none"),
+    (" --exp_info 521", "none"),
+    (" --exp_info 02", "none"),
+    (" --exp_info +2", "none"),
+    (" --exp_info -1", "none"),
+    (" --exp_info=-1", "none"),
+    (" --exp_info=-0", "none"),
+    (" --exp_info 2.0", "none"),
+    (" --exp_info 18446744073709551618", "none"),
+    (" --exp_info=", "none"),
+    (" --exp_info", "none"),
+    (" --exp_info 2 --exp_info 2", "none"),
+    (" --exp 2", "none"),
+    (" --policy_file a.pol", "none"),
+    (" --help", "none"),
+    (" -h", "none"),
+    (" --version", "none"),
+    (" -V", "none"),
+    (" --workload 3", "none"),
+    (" -", "none"),
+    (" --shade_check", "a d o today 2 true"),
+    (" --shade_check --date 2026-01-15", "a d o 20468 2 true"),
+    (" --exp_info 3 --shade_check --", "a d o today 3 true"),
+    (" --shade_check --shade_check", "none"),
+    (" --shade_check=True", "none"),
+    (" --shade_check=False", "none"),
+    (" --shade_check=", "none"),
+    (" --shade_check x", "none"),
+    (" --shade_check True", "none"),
+    (" --exp_info --shade_check", "none"),
+    (" --shade-check", "none"),
+    (" -- --shade_check", "none"),
+];
+
+fn shown(alloc: Global, options: &Options<'_>) -> Result<String, Memory> {
+    let day = match options.date {
+        Some(day) => format!(in alloc; "{}", day.number)?,
+        None => String::from_str(alloc, "today")?,
+    };
+    Ok(format!(in alloc;
+        "{} {} {} {day} {} {}",
+        options.policy, options.definitions, options.output, options.exp_info, options.shade_check
+    )?)
+}
+
+fn read(alloc: Global, line: &str) -> Result<String, Memory> {
     let words = words_of(alloc, line)?;
-    let options = read(alloc, words.as_slice())?;
-    Ok(options.map(|o| (o.policy, o.definitions, o.output)) == *paths)
+    match read_options(alloc, words.as_slice())? {
+        Some(options) => shown(alloc, &options),
+        None => Ok(String::from_str(alloc, "none")?),
+    }
 }
 
 #[test]
 fn lines_are_read(rt: HostRuntime) -> Result<(), Fail> {
-    for (line, paths) in &LINES {
-        assert!(rt; gives_paths(rt.alloc(), line, paths)?, "{line}");
+    for (line, options) in &LINES {
+        assert_eq!(rt; read(rt.alloc(), line)?.as_str(), *options, "{line}");
     }
-    Ok(())
-}
-
-// Days since 1970-01-01, as GNU date counts them, and the weeks.
-static MORE: [(&str, Option<(Option<i32>, u16)>); 37] = [
-    ("", Some((None, 2))),
-    (" --", Some((None, 2))),
-    (" --date 2026-01-15", Some((Some(20468), 2))),
-    (" --date=2000-02-29", Some((Some(11016), 2))),
-    (" --date 0001-01-01", Some((Some(-719162), 2))),
-    (" --date 9999-12-31", Some((Some(2932896), 2))),
-    (" --exp_info 0", Some((None, 0))),
-    (" --exp_info=520", Some((None, 520))),
-    (" --exp_info 3 --date 1970-01-01", Some((Some(0), 3))),
-    (" --date 2026-02-30", None),
-    (" --date 0000-01-01", None),
-    (" --date 10000-01-01", None),
-    (" --date 2026-1-15", None),
-    (" --date=", None),
-    (" --date ", None),
-    (" --date", None),
-    (" --date 2026-01-15 --date 2026-01-15", None),
-    (" --date 2026-01-15 2026-01-15", None),
-    (" --exp_info 521", None),
-    (" --exp_info 02", None),
-    (" --exp_info +2", None),
-    (" --exp_info -1", None),
-    (" --exp_info=-1", None),
-    (" --exp_info=-0", None),
-    (" --exp_info 2.0", None),
-    (" --exp_info 18446744073709551618", None),
-    (" --exp_info=", None),
-    (" --exp_info", None),
-    (" --exp_info 2 --exp_info 2", None),
-    (" --exp 2", None),
-    (" --policy_file a.pol", None),
-    (" --help", None),
-    (" -h", None),
-    (" --version", None),
-    (" -V", None),
-    (" --workload 3", None),
-    (" -", None),
-];
-
-// The words of the three paths, and more.
-fn words_behind_paths(alloc: Global, more: &str) -> Result<Vec<String>, AllocError> {
-    let paths = " --policy_file a.pol --definitions_directory def --output_directory out";
-    let line = format!(in alloc; "{paths}{more}")?;
-    words_of(alloc, line.as_str())
-}
-
-fn gives_days(alloc: Global, more: &str, asked: &Option<(Option<i32>, u16)>) -> Result<bool, Fail> {
-    let words = words_behind_paths(alloc, more)?;
-    let options = read(alloc, words.as_slice())?;
-    Ok(options.map(|o| (o.date.map(|day| day.number), o.exp_info)) == *asked)
-}
-
-#[test]
-fn days_and_weeks_are_read(rt: HostRuntime) -> Result<(), Fail> {
-    for (more, asked) in &MORE {
-        assert!(rt; gives_days(rt.alloc(), more, asked)?, "{more}");
-    }
-    Ok(())
-}
-
-// What clap's documentation says of a flag: it is set where it is given, once and without a value.
-static FLAGS: [(&str, Option<bool>); 13] = [
-    ("", Some(false)),
-    (" --shade_check", Some(true)),
-    (" --shade_check --date 2026-01-15", Some(true)),
-    (" --exp_info 3 --shade_check --", Some(true)),
-    (" --shade_check --shade_check", None),
-    (" --shade_check=true", None),
-    (" --shade_check=false", None),
-    (" --shade_check=", None),
-    (" --shade_check x", None),
-    (" --shade_check true", None),
-    (" --exp_info --shade_check", None),
-    (" --shade-check", None),
-    (" -- --shade_check", None),
-];
-
-fn gives_flag(alloc: Global, more: &str, is_set: Option<bool>) -> Result<bool, Fail> {
-    let words = words_behind_paths(alloc, more)?;
-    let options = read(alloc, words.as_slice())?;
-    Ok(options.map(|o| o.shade_check) == is_set)
-}
-
-#[test]
-fn the_flag_is_read(rt: HostRuntime) -> Result<(), Fail> {
-    for (more, is_set) in &FLAGS {
-        assert!(rt; gives_flag(rt.alloc(), more, *is_set)?, "{more}");
+    for (more, options) in &MORE {
+        let line = format!(in rt.alloc(); "{PATHS}{more}")?;
+        assert_eq!(rt;
+            read(rt.alloc(), line.as_str())?.as_str(),
+            *options,
+            "{more}"
+        );
     }
     Ok(())
 }

@@ -2,16 +2,6 @@ use acl_workload::workload;
 use std::test::Fail;
 
 #[test]
-fn one_of_each_is_made(rt: HostRuntime) -> Result<(), Fail> {
-    let one = workload(rt.alloc(), 1)?;
-    assert_eq!(rt;
-        one.networks.as_slice(),
-        b"N0 = 10.0.0.0/25 10.0.0.128/25 2001:db8:0::/48\n".as_slice()
-    );
-    Ok(())
-}
-
-#[test]
 fn two_of_each_are_made(rt: HostRuntime) -> Result<(), Fail> {
     let two = workload(rt.alloc(), 2)?;
     assert_eq!(rt;

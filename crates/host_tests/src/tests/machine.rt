@@ -158,46 +158,6 @@ fn a_long_file_is_written_and_read(rt: HostRuntime) -> Result<(), Fail> {
     Ok(())
 }
 
-fn fill_with_numbers(rt: &HostRuntime, folder: &String, count: u32) -> Result<(), Fail> {
-    for number in 0..count {
-        let name = format!(in rt.alloc(); "{number}")?;
-        fs::write(rt, below(folder, name.as_str())?.as_str(), "")?;
-    }
-    Ok(())
-}
-
-fn is_ascending(names: &[String]) -> bool {
-    let mut before = "";
-    for name in names {
-        if before.as_bytes() >= name.as_bytes() {
-            return false;
-        }
-        before = name.as_str();
-    }
-    true
-}
-
-// How many names the folder has, where they are in byte order.
-fn ordered_names<T: Tree>(alloc: Global, tree: &mut T, folder: &str) -> Option<usize> {
-    let names = tree.list(alloc, folder).ok()?;
-    let names = names.as_slice();
-    if is_ascending(names) {
-        Some(names.len())
-    } else {
-        None
-    }
-}
-
-#[test]
-fn many_names_are_in_byte_order(rt: HostRuntime) -> Result<(), Fail> {
-    let folder = own_folder(&rt, "many")?;
-    fill_with_numbers(&rt, &folder, 100)?;
-    let mut tree = DiskTree::new(&rt);
-    assert!(rt; ordered_names(rt.alloc(), &mut tree, folder.as_str()) == Some(100));
-    fs::remove_dir_all(&rt, folder.as_str())?;
-    Ok(())
-}
-
 #[test]
 fn the_machines_files_are_written(rt: HostRuntime) -> Result<(), Fail> {
     let folder = own_folder(&rt, "write")?;

@@ -7,7 +7,7 @@ use acl_host::{
     read_whole, write_file,
 };
 use acl_memory::{FixedClock, MemSink, MemTree, Op};
-use acl_text::{Code, Memory, Out, Whole};
+use acl_text::{Code, Memory};
 use std::alloc::Global;
 use std::test::Fail;
 
@@ -44,17 +44,6 @@ fn a_file_in_memory_is_written(rt: HostRuntime) -> Result<(), Fail> {
     let mut tree = MemTree::new(rt.alloc());
     assert!(rt; writes(&mut tree, "x", &[b"hi".as_slice()]));
     assert_eq!(rt; tree.file("x"), Some(b"hi".as_slice()));
-    Ok(())
-}
-
-#[test]
-fn a_begun_file_stays_begun(rt: HostRuntime) -> Result<(), Fail> {
-    let mut tree = MemTree::new(rt.alloc());
-    tree.begin("x")?;
-    tree.put_file("y", b"hi")?;
-    tree.put_file("x", b"a")?;
-    tree.put(b"b")?;
-    assert_eq!(rt; tree.file("x"), Some(b"ab".as_slice()));
     Ok(())
 }
 
@@ -96,24 +85,18 @@ fn whole_files_are_read(rt: HostRuntime) -> Result<(), Fail> {
 }
 
 #[test]
-fn a_listed_begin_fails(rt: HostRuntime) -> Result<(), Fail> {
-    let mut tree = MemTree::new(rt.alloc());
-    tree.fail(Op::Begin, 2)?;
-    assert!(rt; writes(&mut tree, "one", &[]));
-    assert_eq!(rt; write_file(&mut tree, "two", &[]), Err(WriteFault::Failed));
-    assert_eq!(rt; tree.file("two"), None);
-    Ok(())
-}
-
-#[test]
-fn a_listed_list_and_read_fail(rt: HostRuntime) -> Result<(), Fail> {
+fn listed_calls_fail(rt: HostRuntime) -> Result<(), Fail> {
     let mut tree = MemTree::new(rt.alloc());
     tree.fail(Op::List, 2)?;
     tree.fail(Op::Read, 1)?;
+    tree.fail(Op::Begin, 2)?;
     assert!(rt; lists(rt.alloc(), &mut tree, "a", "absent")?);
     assert!(rt; lists(rt.alloc(), &mut tree, "a", "failed")?);
     assert!(rt; !lacks(rt.alloc(), &mut tree, "a"));
     assert!(rt; lacks(rt.alloc(), &mut tree, "a"));
+    assert!(rt; writes(&mut tree, "one", &[]));
+    assert_eq!(rt; write_file(&mut tree, "two", &[]), Err(WriteFault::Failed));
+    assert_eq!(rt; tree.file("two"), None);
     Ok(())
 }
 
@@ -133,13 +116,4 @@ fn a_fixed_clock_tells_its_day(rt: HostRuntime) {
     let day = Day { number: 20468 };
     assert_eq!(rt; FixedClock::new(day, false).today(), Ok(day));
     assert_eq!(rt; FixedClock::new(day, true).today(), Err(ClockFault::Failed));
-}
-
-#[test]
-fn a_whole_output_holds_what_was_put(rt: HostRuntime) -> Result<(), Fail> {
-    let mut whole = Whole::new(rt.alloc());
-    whole.put(b"a ")?;
-    whole.put(b"b")?;
-    assert_eq!(rt; whole.as_slice(), b"a b".as_slice());
-    Ok(())
 }

@@ -1,194 +1,186 @@
-use crate::tests::languages::{is_read, outcome_in};
-use crate::tests::packets::{ACCEPTED, DENIED, packet};
-use acl_packet::{Families, Family, Outcome, Packet, Prefix, is_packet};
-use acl_text::{Bytes, Items};
-use cisco_lang::{
-    AccessList, Cisco, Doc, Entry, Flags, Item, Section, outcome, read_document, sections,
+use crate::tests::languages::{
+    ACCEPTED, ACK, Change, DENIED, LOGGED, PACKET, PACKET_OF_SIX, PING, SOLICITATION, SYN, Walk,
+    expect_changes, expect_walks,
 };
+use acl_packet::{Outcome, Packet};
+use cisco_lang::Cisco;
 use std::test::Fail;
 
-const EDGE: &str = "! cisco edge-in extended
-no ip access-list extended edge-in
-ip access-list extended edge-in
- remark web
- permit tcp any host 192.0.2.10
+const DOCUMENT: &str = "! cisco edge mixed
+no ip access-list extended edge
+ip access-list extended edge
+ remark web servers
+ permit tcp any host 192.0.2.10 eq 80 established log
+ deny udp 10.0.0.0 0.255.255.255 any range 5000 5010
+ permit icmp any any 8
+ deny tcp any any match-all +syn -ack
+ permit 47 any any
+exit
+no ipv6 access-list ipv6-edge
+ipv6 access-list ipv6-edge
+ permit icmp any host 2001:db8::10 128
+ deny ipv6 2001:db8::/32 any log
 exit
 ";
 
-const MIXED: &str = "! cisco both mixed
-no ip access-list extended both
-ip access-list extended both
- deny ip any any
-exit
-no ipv6 access-list ipv6-both
-ipv6 access-list ipv6-both
- permit icmp any any 136
- permit icmp any any 135
- deny ipv6 any any
-exit
-";
+// Small changes of the document, each of which is read: what stands in it, and what in its place.
+static READ: [Change; 9] = [
+    (
+        "edge",
+        "aaaaaaaaaaaaaaaaaaaaaaaaaaaaaaaaaaaaaaaaaaaaaaaaaaaaaaaaaaaaaaaa",
+    ),
+    (" remark web servers\n", ""),
+    (
+        "web servers",
+        "xxxxxxxxxxxxxxxxxxxxxxxxxxxxxxxxxxxxxxxxxxxxxxxxxxxxxxxxxxxxxxxxxxxxxxxxxxxxxxxxxxxxxxxxxxxxxxxxxxxxxxxxxxxxxxxxxxxxxxxxxxxxxxxx",
+    ),
+    ("host 192.0.2.10", "10.0.0.0 0.0.255.255"),
+    ("range 5000 5010", "range 0 65535"),
+    ("any any 8", "any any 254"),
+    ("permit 47", "permit 58"),
+    (" deny ipv6 2001:db8::/32 any log\n", ""),
+    (
+        "any log\nexit\n",
+        "any log\nexit\n! cisco core inet6\nno ipv6 access-list core\nipv6 access-list core\nexit\n",
+    ),
+];
 
-fn any_of(family: Family) -> Prefix {
-    Prefix {
-        family,
-        first: 0,
-        len: 0,
-    }
-}
+// Small changes of it that are refused.
+static REFUSED: [Change; 42] = [
+    // sections and lists
+    ("! cisco edge mixed\n", ""),
+    ("! cisco edge mixed", "! cisco edge both"),
+    ("! cisco edge mixed", "! cisco edge extended"),
+    ("edge", "1edge"),
+    (
+        "edge",
+        "aaaaaaaaaaaaaaaaaaaaaaaaaaaaaaaaaaaaaaaaaaaaaaaaaaaaaaaaaaaaaaaaa",
+    ),
+    ("no ip access-list extended edge\n", ""),
+    ("edge\n remark", "edges\n remark"),
+    ("ipv6-edge", "ipv4-edge"),
+    ("exit\nno ipv6", "no ipv6"),
+    ("exit\nno ipv6", "exit\n\nno ipv6"),
+    ("exit\nno ipv6", "exit\r\nno ipv6"),
+    ("any log\nexit\n", "any log\nexit"),
+    (
+        "any log\nexit\n",
+        "any log\nexit\n! cisco ipv6-edge extended\nno ip access-list extended ipv6-edge\nip access-list extended ipv6-edge\nexit\n",
+    ),
+    // remarks
+    (" remark web", "remark web"),
+    (" remark web", "  remark web"),
+    ("web servers", "web  servers"),
+    ("web servers", "web servers "),
+    ("web servers", "web; servers"),
+    (
+        "web servers",
+        "xxxxxxxxxxxxxxxxxxxxxxxxxxxxxxxxxxxxxxxxxxxxxxxxxxxxxxxxxxxxxxxxxxxxxxxxxxxxxxxxxxxxxxxxxxxxxxxxxxxxxxxxxxxxxxxxxxxxxxxxxxxxxxxxx",
+    ),
+    // words
+    ("permit tcp", "allow tcp"),
+    ("permit tcp", "permit  tcp"),
+    ("permit tcp", "permit 6"),
+    ("permit 47", "permit 0"),
+    ("permit 47", "permit\t47"),
+    ("established log", "log established"),
+    (" deny ipv6", " deny ip"),
+    // addresses
+    ("any host", "0.0.0.0 255.255.255.255 host"),
+    ("host 192.0.2.10", "192.0.2.10 0.0.0.0"),
+    ("10.0.0.0 0.255.255.255", "10.0.0.1 0.255.255.255"),
+    ("10.0.0.0 0.255.255.255", "10.0.0.0 0.255.255.254"),
+    ("2001:db8::/32", "2001:DB8::/32"),
+    ("2001:db8::/32", "2001:0db8::/32"),
+    // ports, types and flags
+    ("eq 80", "eq 080"),
+    ("eq 80", "range 80 80"),
+    ("range 5000 5010", "range 5010 5000"),
+    ("range 5000 5010", "range 5000 65536"),
+    ("deny udp", "deny ip"),
+    ("any any 8", "any any 255"),
+    ("permit icmp any any 8", "permit udp any any 8"),
+    ("match-all +syn -ack", "match-all +syn"),
+    ("deny tcp any any match-all", "deny udp any any match-all"),
+    (
+        " permit icmp any host",
+        " permit tcp any any match-all +syn -ack\n permit icmp any host",
+    ),
+];
+
+const SIX: &str =
+    "! cisco six inet6\nno ipv6 access-list six\nipv6 access-list six\n permit tcp any host 2001:db8::10\nexit\n";
+
+const REMARKS: &str =
+    "! cisco e extended\nno ip access-list extended e\nip access-list extended e\n remark old\nexit\n";
+
+static WALKS: [Walk; 14] = [
+    (DOCUMENT, 0, ACK, Some(LOGGED)),
+    (DOCUMENT, 0, SYN, Some(DENIED)),
+    (
+        DOCUMENT,
+        0,
+        Packet {
+            src: 0x0a00_0001,
+            proto: 17,
+            dport: 5010,
+            ..PACKET
+        },
+        Some(DENIED),
+    ),
+    (DOCUMENT, 0, PING, Some(ACCEPTED)),
+    (
+        DOCUMENT,
+        0,
+        Packet {
+            proto: 47,
+            ..PACKET
+        },
+        Some(ACCEPTED),
+    ),
+    (
+        DOCUMENT,
+        0,
+        Packet {
+            proto: 58,
+            ..PACKET
+        },
+        Some(DENIED),
+    ),
+    // neighbours are looked for where no entry says otherwise
+    (DOCUMENT, 0, SOLICITATION, Some(ACCEPTED)),
+    (DOCUMENT, 0, PACKET_OF_SIX, Some(DENIED)),
+    (
+        DOCUMENT,
+        0,
+        Packet {
+            src: 0x2001_0db8_0000_0000_0000_0000_0000_0001,
+            ..SOLICITATION
+        },
+        Some(Outcome {
+            logged: true,
+            ..DENIED
+        }),
+    ),
+    (DOCUMENT, 1, SOLICITATION, None),
+    (SIX, 0, SOLICITATION, Some(ACCEPTED)),
+    (
+        SIX,
+        0,
+        Packet {
+            itype: 137,
+            ..SOLICITATION
+        },
+        Some(DENIED),
+    ),
+    (SIX, 0, PACKET, None),
+    // remarks are no entries
+    (REMARKS, 0, PACKET, Some(ACCEPTED)),
+];
 
 #[test]
-fn reads_a_section_of_one_entry(rt: HostRuntime) -> Result<(), Fail> {
-    let doc = read_document::<Cisco>(rt.alloc(), EDGE.as_bytes())?.expect(&rt, "a text");
-    assert_eq!(rt; sections(&doc), 1);
-    let section = doc.as_slice().first().expect(&rt, "a section");
-    assert_eq!(rt; section.families, Families::Inet);
-    let list = section.lists.as_slice().first().expect(&rt, "a list");
-    assert_eq!(rt; list.name.as_slice(), b"edge-in".as_slice());
-    assert_eq!(rt; list.items.as_slice().len(), 2);
-    if let Some(Item::Entry(entry)) = list.items.as_slice().get(1) {
-        assert_eq!(rt; entry.proto, Some(6));
-        assert_eq!(rt; entry.dst.first, 0xc000_020a);
-        assert_eq!(rt; entry.dst.len, 32);
-    } else {
-        assert!(rt; false);
-    }
-    Ok(())
-}
-
-#[test]
-fn refuses_other_texts(rt: HostRuntime) -> Result<(), Fail> {
-    let list = "! cisco e extended\nno ip access-list extended e\nip access-list extended e\n";
-    let cases = [
-        (" permit tcp any host 192.0.2.10", true),
-        (" permit tcp any  host 192.0.2.10", false),
-        (" permit 6 any any", false),
-        (" permit 58 any any", true),
-        (" permit udp any any range 5 5", false),
-        (" permit udp any any range 0 65535", true),
-        (" permit udp any any eq 07", false),
-        (" permit ip 10.0.0.0 0.0.255.255 any log", true),
-        (" permit ip 10.0.0.0 0.0.255.254 any log", false),
-        (" permit ip 10.0.0.1 0.0.255.255 any log", false),
-        (" permit tcp any any match-all +syn -ack", true),
-        (" permit tcp any any match-all +syn", false),
-        (" permit udp any any established", false),
-        (" permit icmp any any 254", true),
-        (" permit icmp any any 255", false),
-        (" remark not  ours", false),
-        (" remark not ours", true),
-    ];
-    for (line, good) in cases {
-        let text = format!(in rt.alloc(); "{list}{line}\nexit\n")?;
-        assert_eq!(rt;
-            is_read::<Cisco>(rt.alloc(), text.as_str())?,
-            good,
-            "at {line}"
-        );
-    }
-    assert_eq!(rt; is_read::<Cisco>(rt.alloc(), "")?, true);
-    assert_eq!(rt; is_read::<Cisco>(rt.alloc(), MIXED)?, true);
-    let twice = format!(in rt.alloc(); "{EDGE}{EDGE}")?;
-    assert_eq!(rt; is_read::<Cisco>(rt.alloc(), twice.as_str())?, false);
-    let both = format!(in rt.alloc(); "{EDGE}{MIXED}")?;
-    assert_eq!(rt; is_read::<Cisco>(rt.alloc(), both.as_str())?, true);
-    Ok(())
-}
-
-#[test]
-fn walks_lists_to_their_ends(rt: HostRuntime) -> Result<(), Fail> {
-    let solicitation = Packet {
-        itype: 135,
-        ..packet(Family::V6, 58)
-    };
-    assert_eq!(rt;
-        outcome_in::<Cisco>(rt.alloc(), MIXED, 0, &solicitation)?,
-        Some(ACCEPTED)
-    );
-    assert_eq!(rt;
-        outcome_in::<Cisco>(rt.alloc(), MIXED, 0, &packet(Family::V4, 6))?,
-        Some(DENIED)
-    );
-    assert_eq!(rt;
-        outcome_in::<Cisco>(rt.alloc(), MIXED, 1, &solicitation)?,
-        None
-    );
-    assert_eq!(rt;
-        outcome_in::<Cisco>(rt.alloc(), EDGE, 0, &solicitation)?,
-        None
-    );
-    let six =
-        "! cisco six inet6\nno ipv6 access-list six\nipv6 access-list six\n permit tcp any host 2001:db8::10\nexit\n";
-    assert_eq!(rt;
-        outcome_in::<Cisco>(rt.alloc(), six, 0, &solicitation)?,
-        Some(ACCEPTED)
-    );
-    assert_eq!(rt;
-        outcome_in::<Cisco>(rt.alloc(), six, 0, &packet(Family::V6, 17))?,
-        Some(DENIED)
-    );
-    let remarks =
-        "! cisco e extended\nno ip access-list extended e\nip access-list extended e\n remark old\nexit\n";
-    assert_eq!(rt;
-        outcome_in::<Cisco>(rt.alloc(), remarks, 0, &packet(Family::V4, 6))?,
-        Some(ACCEPTED)
-    );
-    let logged =
-        "! cisco e extended\nno ip access-list extended e\nip access-list extended e\n deny tcp any any established\n deny ip any any log\n permit ip any any\nexit\n";
-    let denied = Outcome {
-        logged: true,
-        ..DENIED
-    };
-    assert_eq!(rt;
-        outcome_in::<Cisco>(rt.alloc(), logged, 0, &packet(Family::V4, 6))?,
-        Some(denied)
-    );
-    Ok(())
-}
-
-#[test]
-fn makes_a_document(rt: HostRuntime) -> Result<(), Fail> {
-    let mut items = Items::new(rt.alloc());
-    items.push(Item::Remark(Bytes::from_slice(rt.alloc(), b"all of it")?))?;
-    items.push(Item::Entry(Entry {
-        permit: true,
-        proto: Some(6),
-        src: any_of(Family::V4),
-        sport: Some((1, 65535)),
-        dst: any_of(Family::V4),
-        dport: None,
-        itype: None,
-        flags: Some(Flags::SynNotAck),
-        log: true,
-    }))?;
-    let mut lists = Items::new(rt.alloc());
-    let name = Bytes::from_slice(rt.alloc(), b"e")?;
-    lists.push(AccessList {
-        family: Family::V4,
-        name,
-        items,
-    })?;
-    let mut doc = Doc::new(rt.alloc());
-    let name = Bytes::from_slice(rt.alloc(), b"e")?;
-    doc.push(Section {
-        name,
-        families: Families::Inet,
-        lists,
-    })?;
-    assert_eq!(rt; sections(&doc), 1);
-    let syn = Packet {
-        sport: 1,
-        flags: 2,
-        ..packet(Family::V4, 6)
-    };
-    let found = if is_packet(&syn) {
-        outcome::<Cisco>(&doc, 0, &syn)
-    } else {
-        None
-    };
-    let accepted = Outcome {
-        logged: true,
-        ..ACCEPTED
-    };
-    assert_eq!(rt; found, Some(accepted));
-    Ok(())
+fn texts_are_read_refused_and_walked(rt: HostRuntime) -> Result<(), Fail> {
+    expect_changes::<Cisco>(&rt, rt.alloc(), DOCUMENT, &READ, true)?;
+    expect_changes::<Cisco>(&rt, rt.alloc(), DOCUMENT, &REFUSED, false)?;
+    expect_walks::<Cisco>(&rt, rt.alloc(), &WALKS)
 }

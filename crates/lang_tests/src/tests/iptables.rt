@@ -1,17 +1,123 @@
-use crate::tests::languages::{is_read, outcome_in};
-use crate::tests::packets::{outcome_of, packet};
-use acl_packet::{Conn, Family, Hook, Packet, Verdict, is_packet};
-use acl_text::{Bytes, Items};
-use ipt_lang::{Act, Chain, Doc, Flags, Iptables, Rule, Section, outcome, read_document, sections};
+use crate::tests::languages::{
+    ACCEPTED, ACK, Change, DENIED, LOGGED, PACKET, PACKET_OF_SIX, PING, REJECTED, RESET,
+    SOLICITATION, SYN, Walk, expect_changes, expect_walks,
+};
+use acl_packet::{Conn, Outcome, Packet, Verdict};
+use ipt_lang::Iptables;
 use std::test::Fail;
 
-const WEB: &str = "## iptables INPUT inet
+const DOCUMENT: &str = "## iptables INPUT inet
 -P INPUT DROP
-# web
+# web servers
 -N I_web
--A I_web -p tcp -d 192.0.2.10/32 --dport 80 -j ACCEPT
+-A I_web -p tcp -d 192.0.2.10/32 -m multiport --dports 80,443,8000:8089 -m state --state ESTABLISHED,RELATED -j LOG
+-A I_web -p udp -s 10.0.0.0/8 -d 192.0.2.10/32 --sport 1024:65535 --dport 53 -j ACCEPT
+-A I_web -p icmp --icmp-type 8 -j REJECT
+-A I_web -p tcp --tcp-flags SYN,ACK SYN -j REJECT --reject-with tcp-reset
 -A INPUT -j I_web
+-N I_rest
+-A I_rest -p 47 -j DROP
+-A INPUT -j I_rest
 ";
+
+// Small changes of the document, each of which is read: what stands in it, and what in its place.
+static READ: [Change; 10] = [
+    ("-P INPUT DROP\n", ""),
+    ("# web servers\n", ""),
+    ("# web servers", "# not ours\n# at all"),
+    (
+        "web servers",
+        "xxxxxxxxxxxxxxxxxxxxxxxxxxxxxxxxxxxxxxxxxxxxxxxxxxxxxxxxxxxxxxxxxxxxxxxxxxxxxxxxxxxxxxxxxxxxxxxxxxxxxxxxxxxxxxxxxxxxxxxxxxxxxxxx",
+    ),
+    ("I_rest", "I_aaaaaaaaaaaaaaaaaaaaaaaa"),
+    ("80,443,8000:8089", "1,2,3,4,5,6,7,8,9,10,11,12,13,14,15"),
+    (
+        "--dports 80,443,8000:8089",
+        "--sports 53 -m multiport --dports 53,67:68",
+    ),
+    ("-p 47", "-p 58"),
+    ("-A I_rest -p 47 -j DROP\n", ""),
+    (
+        "-A INPUT -j I_rest\n",
+        "-A INPUT -j I_rest\n## iptables INPUT inet6\n-P INPUT ACCEPT\n",
+    ),
+];
+
+// Small changes of it that are refused.
+static REFUSED: [Change; 52] = [
+    // sections and chains
+    ("## iptables INPUT inet\n", ""),
+    ("INPUT inet", "INPUT mixed"),
+    ("## iptables INPUT", "## iptables OUTPUT"),
+    ("-P INPUT DROP", "-P INPUT REJECT"),
+    ("-P INPUT DROP", "-P OUTPUT DROP"),
+    ("-P INPUT DROP", "-P INPUT DROP\n-P INPUT DROP"),
+    (
+        "-A INPUT -j I_rest\n",
+        "-A INPUT -j I_rest\n-P INPUT DROP\n",
+    ),
+    (
+        "-A INPUT -j I_rest\n",
+        "-A INPUT -j I_rest\n## iptables INPUT inet\n",
+    ),
+    ("-A INPUT -j I_rest\n", "-A INPUT -j I_rest"),
+    ("-N I_rest\n", ""),
+    ("-A INPUT -j I_web\n", ""),
+    ("-A I_rest -p", "-A I_web -p"),
+    ("I_rest", "O_rest"),
+    ("I_rest", "I_web"),
+    ("I_rest", "I_"),
+    ("I_rest", "I_aaaaaaaaaaaaaaaaaaaaaaaaa"),
+    // remarks
+    ("# web servers", "#  web servers"),
+    ("# web servers", " # web servers"),
+    ("# web servers", "# web servers "),
+    (
+        "web servers",
+        "xxxxxxxxxxxxxxxxxxxxxxxxxxxxxxxxxxxxxxxxxxxxxxxxxxxxxxxxxxxxxxxxxxxxxxxxxxxxxxxxxxxxxxxxxxxxxxxxxxxxxxxxxxxxxxxxxxxxxxxxxxxxxxxxx",
+    ),
+    // protocols and addresses
+    ("-p 47", "-p 6"),
+    ("-p 47", "-p 0"),
+    ("-p 47", "-p 047"),
+    ("-p 47", "-p gre"),
+    ("-p icmp", "-p 1"),
+    ("-s 10.0.0.0/8", "-s 10.0.0.0"),
+    ("-s 10.0.0.0/8", "-s 10.0.0.1/8"),
+    ("-s 10.0.0.0/8", "-s 0.0.0.0/0"),
+    ("-s 10.0.0.0/8", "-s 2001:db8::/32"),
+    (
+        "-s 10.0.0.0/8 -d 192.0.2.10/32",
+        "-d 192.0.2.10/32 -s 10.0.0.0/8",
+    ),
+    // ports
+    ("-p udp -s", "-s"),
+    ("-p udp", "-p 47"),
+    ("80,443,8000:8089", "80"),
+    ("80,443,8000:8089", "80, 443"),
+    ("80,443,8000:8089", "1,2,3,4,5,6,7,8,9,10,11,12,13,14,15,16"),
+    ("80,443,8000:8089", "1,2,3,4,5,6,7,8,9,10,11,12,13,14,20:30"),
+    ("--dport 53", "--dport 53,67"),
+    ("--dport 53", "--dport 053"),
+    ("--dport 53", "-m multiport --dports 53,67"),
+    ("1024:65535", "65535:1024"),
+    ("1024:65535", "1024:1024"),
+    // types, flags, state and acts
+    ("--icmp-type 8", "--icmp-type 255"),
+    ("--icmp-type 8", "--icmpv6-type 8"),
+    ("SYN,ACK SYN", "FIN FIN"),
+    ("-p tcp --tcp-flags", "-p udp --tcp-flags"),
+    ("ESTABLISHED,RELATED", "ESTABLISHED"),
+    ("-j LOG", "-j LOG --reject-with tcp-reset"),
+    (
+        "--reject-with tcp-reset",
+        "--reject-with icmp-port-unreachable",
+    ),
+    ("-j ACCEPT", "-j RETURN"),
+    ("-j ACCEPT", "-j  ACCEPT"),
+    ("-j ACCEPT", "-j ACCEPT\r"),
+    ("-p 47 -j", "-p 47\t-j"),
+];
 
 const MANY: &str = "## iptables FORWARD inet6
 # log all
@@ -25,247 +131,96 @@ const MANY: &str = "## iptables FORWARD inet6
 -A FORWARD -j F_m
 ";
 
-#[test]
-fn reads_a_section_of_one_chain(rt: HostRuntime) -> Result<(), Fail> {
-    let doc = read_document::<Iptables>(rt.alloc(), WEB.as_bytes())?.expect(&rt, "a text");
-    assert_eq!(rt; sections(&doc), 1);
-    let section = doc.as_slice().first().expect(&rt, "a section");
-    assert_eq!(rt; section.hook, Hook::Input);
-    assert_eq!(rt; section.accept, Some(false));
-    let chain = section.chains.as_slice().first().expect(&rt, "a chain");
-    assert_eq!(rt; chain.name.as_slice(), b"web".as_slice());
-    let rule = chain.rules.as_slice().first().expect(&rt, "a rule");
-    assert_eq!(rt; rule.proto, Some(6));
-    assert_eq!(rt; rule.dports.as_slice().len(), 1);
-    assert_eq!(rt; rule.act, Act::Decide(Verdict::Accept));
-    assert_eq!(rt; is_read::<Iptables>(rt.alloc(), "")?, true);
-    Ok(())
-}
+static WALKS: [Walk; 12] = [
+    // what is logged goes on
+    (
+        DOCUMENT,
+        0,
+        Packet {
+            conn: Conn::Related,
+            ..ACK
+        },
+        Some(Outcome {
+            logged: true,
+            ..DENIED
+        }),
+    ),
+    (DOCUMENT, 0, Packet { dport: 8089, ..ACK }, Some(DENIED)),
+    (DOCUMENT, 0, SYN, Some(RESET)),
+    (
+        DOCUMENT,
+        0,
+        Packet {
+            src: 0x0a00_0001,
+            proto: 17,
+            sport: 1024,
+            dport: 53,
+            ..PACKET
+        },
+        Some(ACCEPTED),
+    ),
+    (DOCUMENT, 0, PING, Some(REJECTED)),
+    (
+        DOCUMENT,
+        0,
+        Packet {
+            proto: 47,
+            ..PACKET
+        },
+        Some(DENIED),
+    ),
+    (DOCUMENT, 0, SOLICITATION, None),
+    (DOCUMENT, 1, PACKET, None),
+    // without a policy a packet goes on
+    (
+        MANY,
+        0,
+        Packet {
+            dport: 7,
+            ..PACKET_OF_SIX
+        },
+        Some(LOGGED),
+    ),
+    (
+        MANY,
+        0,
+        Packet {
+            src: 0x2001_0db8_0000_0000_0000_0000_0000_0001,
+            sport: 1024,
+            flags: 2,
+            ..PACKET_OF_SIX
+        },
+        Some(Outcome {
+            logged: true,
+            ..RESET
+        }),
+    ),
+    (
+        MANY,
+        0,
+        Packet {
+            conn: Conn::Related,
+            ..SOLICITATION
+        },
+        Some(Outcome {
+            logged: true,
+            ..REJECTED
+        }),
+    ),
+    (
+        MANY,
+        0,
+        SOLICITATION,
+        Some(Outcome {
+            verdict: Verdict::Left,
+            ..LOGGED
+        }),
+    ),
+];
 
 #[test]
-fn refuses_other_rules(rt: HostRuntime) -> Result<(), Fail> {
-    let cases = [
-        (
-            "-p tcp -m multiport --dports 1,2,3,4,5,6,7,8,9,10,11,12,13,14,15 -j DROP",
-            true,
-        ),
-        (
-            "-p tcp -m multiport --dports 1,2,3,4,5,6,7,8,9,10,11,12,13,14,15,16 -j DROP",
-            false,
-        ),
-        (
-            "-p tcp -m multiport --dports 1,2,3,4,5,6,7,8,9,10,11,12,13,14,20:30 -j DROP",
-            false,
-        ),
-        (
-            "-p udp -m multiport --sports 53 -m multiport --dports 53,67:68 -j LOG",
-            true,
-        ),
-        (
-            "-p udp --sport 53 -m multiport --dports 53,67:68 -j LOG",
-            false,
-        ),
-        ("-p udp -m multiport --dports 53 -j LOG", false),
-        ("-p udp --dport 53,67 -j LOG", false),
-        ("-p udp --dport 67:68 -j LOG", true),
-        ("-p udp --dport 68:67 -j LOG", false),
-        ("-p udp --dport 67:67 -j LOG", false),
-        ("-p udp --dport 067 -j LOG", false),
-        ("--dport 80 -j ACCEPT", false),
-        ("-p gre --dport 80 -j ACCEPT", false),
-        ("-p 47 -j ACCEPT", true),
-        ("-p 6 -j ACCEPT", false),
-        ("-p 0 -j ACCEPT", false),
-        ("-p icmp --icmp-type 8 -j ACCEPT", true),
-        ("-p icmp --icmp-type 255 -j ACCEPT", false),
-        ("-p icmp --icmpv6-type 8 -j ACCEPT", false),
-        ("-p icmpv6 --icmp-type 8 -j ACCEPT", false),
-        ("-p 58 --icmp-type 8 -j ACCEPT", false),
-        ("-p 58 -j ACCEPT", true),
-        ("-s 0.0.0.0/0 -j ACCEPT", false),
-        ("-s 10.0.0.0/8 -d 10.0.0.1/32 -j ACCEPT", true),
-        ("-d 10.0.0.1/32 -s 10.0.0.0/8 -j ACCEPT", false),
-        ("-s 10.0.0.1/8 -j ACCEPT", false),
-        ("-s 10.0.0.1 -j ACCEPT", false),
-        ("-s ::1/128 -j ACCEPT", false),
-        ("-p tcp --tcp-flags RST RST -j ACCEPT", true),
-        ("-p tcp --tcp-flags RST ACK -j ACCEPT", false),
-        ("-p tcp --tcp-flags FIN FIN -j ACCEPT", false),
-        ("-p udp --tcp-flags ACK ACK -j ACCEPT", false),
-        ("-m state --state ESTABLISHED -j ACCEPT", false),
-        ("-j REJECT --reject-with tcp-reset", false),
-        ("-p tcp -j REJECT --reject-with tcp-reset", true),
-        ("-p tcp -j LOG --reject-with tcp-reset", false),
-        (
-            "-p tcp -j REJECT --reject-with icmp-port-unreachable",
-            false,
-        ),
-        ("-j  LOG", false),
-        ("-j RETURN", false),
-        ("", false),
-    ];
-    for (rule, good) in cases {
-        let text = format!(in rt.alloc();
-            "## iptables OUTPUT inet\n-N O_a\n-A O_a {rule}\n-A OUTPUT -j O_a\n"
-        )?;
-        assert_eq!(rt;
-            is_read::<Iptables>(rt.alloc(), text.as_str())?,
-            good,
-            "at {rule}"
-        );
-    }
-    Ok(())
-}
-
-#[test]
-fn refuses_other_sections(rt: HostRuntime) -> Result<(), Fail> {
-    let jump = "-A INPUT -j I_a\n";
-    let cases = [
-        ("", "-N I_a\n", jump, true),
-        (
-            "-P INPUT ACCEPT\n",
-            "# not ours\n# at all\n-N I_a\n-A I_a -j DROP\n",
-            jump,
-            true,
-        ),
-        ("-P INPUT ACCEPT\n", "", "", true),
-        ("-P OUTPUT ACCEPT\n", "-N I_a\n", jump, false),
-        ("-P INPUT REJECT\n", "-N I_a\n", jump, false),
-        ("-P INPUT DROP\n-P INPUT DROP\n", "-N I_a\n", jump, false),
-        ("", "-N I_a\n", "-A INPUT -j I_a\n-P INPUT DROP\n", false),
-        ("", "-N I_a\n", "", false),
-        ("", "-N I_a\n-A I_a -j DROP\n", "-A INPUT -j I_b\n", false),
-        ("", "-N I_a\n-A INPUT -j I_a\n", jump, false),
-        ("", "-N I_a\n-A INPUT -j I_a\n-A I_a -j DROP\n", "", false),
-        ("", "-N I_a\n-A I_b -j DROP\n", jump, false),
-        ("", "-N I_a\n-A INPUT -j I_a\n-N I_a\n", jump, false),
-        ("", "-N O_a\n", "-A INPUT -j O_a\n", false),
-        ("", "-N I_\n", "-A INPUT -j I_\n", false),
-        (
-            "",
-            "-N I_aaaaaaaaaaaaaaaaaaaaaaaa\n",
-            "-A INPUT -j I_aaaaaaaaaaaaaaaaaaaaaaaa\n",
-            true,
-        ),
-        (
-            "",
-            "-N I_aaaaaaaaaaaaaaaaaaaaaaaaa\n",
-            "-A INPUT -j I_aaaaaaaaaaaaaaaaaaaaaaaaa\n",
-            false,
-        ),
-        ("", " -N I_a\n", jump, false),
-        ("", "#  twice\n-N I_a\n", jump, false),
-        ("", "-N I_a\n", "-A INPUT -j I_a", false),
-    ];
-    for (policy, chain, end, good) in cases {
-        let text = format!(in rt.alloc(); "## iptables INPUT inet\n{policy}{chain}{end}")?;
-        assert_eq!(rt;
-            is_read::<Iptables>(rt.alloc(), text.as_str())?,
-            good,
-            "at {text}"
-        );
-    }
-    let twice = format!(in rt.alloc(); "{WEB}{WEB}")?;
-    assert_eq!(rt; is_read::<Iptables>(rt.alloc(), twice.as_str())?, false);
-    let both = format!(in rt.alloc(); "{MANY}{WEB}")?;
-    assert_eq!(rt; is_read::<Iptables>(rt.alloc(), both.as_str())?, true);
-    Ok(())
-}
-
-#[test]
-fn walks_rules_to_the_end_of_the_hook(rt: HostRuntime) -> Result<(), Fail> {
-    let web = Packet {
-        dport: 80,
-        ..packet(Family::V4, 6)
-    };
-    let seven = Packet {
-        dport: 7,
-        ..packet(Family::V6, 6)
-    };
-    let syn = Packet {
-        src: 0x2001_0db8_0000_0000_0000_0000_0000_0001,
-        sport: 1024,
-        dport: 8,
-        flags: 2,
-        ..seven
-    };
-    let solicitation = Packet {
-        itype: 135,
-        conn: Conn::Related,
-        ..packet(Family::V6, 58)
-    };
-    let cases = [
-        (WEB, 0, web, outcome_of(Verdict::Accept, false)),
-        (
-            WEB,
-            0,
-            packet(Family::V4, 6),
-            outcome_of(Verdict::Deny, false),
-        ),
-        (WEB, 0, seven, None),
-        (WEB, 1, web, None),
-        (MANY, 0, seven, outcome_of(Verdict::Accept, true)),
-        (MANY, 0, syn, outcome_of(Verdict::Reset, true)),
-        (
-            MANY,
-            0,
-            Packet { flags: 18, ..syn },
-            outcome_of(Verdict::Left, true),
-        ),
-        (MANY, 0, solicitation, outcome_of(Verdict::Reject, true)),
-        (
-            MANY,
-            0,
-            packet(Family::V6, 58),
-            outcome_of(Verdict::Left, true),
-        ),
-    ];
-    for (text, which, packet, wanted) in cases {
-        assert_eq!(rt;
-            outcome_in::<Iptables>(rt.alloc(), text, which, &packet)?,
-            wanted
-        );
-    }
-    Ok(())
-}
-
-#[test]
-fn makes_a_document(rt: HostRuntime) -> Result<(), Fail> {
-    let mut rules = Items::new(rt.alloc());
-    rules.push(Rule {
-        proto: Some(6),
-        src: None,
-        dst: None,
-        sports: Items::new(rt.alloc()),
-        dports: Items::new(rt.alloc()),
-        itype: None,
-        flags: Some(Flags::Rst),
-        state: true,
-        act: Act::Log,
-    })?;
-    let mut chains = Items::new(rt.alloc());
-    chains.push(Chain {
-        remarks: Items::new(rt.alloc()),
-        name: Bytes::from_slice(rt.alloc(), b"a")?,
-        rules,
-    })?;
-    let mut doc = Doc::new(rt.alloc());
-    doc.push(Section {
-        hook: Hook::Output,
-        family: Family::V4,
-        accept: Some(true),
-        chains,
-    })?;
-    let rst = Packet {
-        flags: 4,
-        conn: Conn::Established,
-        ..packet(Family::V4, 6)
-    };
-    let found = if is_packet(&rst) {
-        outcome::<Iptables>(&doc, 0, &rst)
-    } else {
-        None
-    };
-    assert_eq!(rt; found, outcome_of(Verdict::Accept, true));
-    Ok(())
+fn texts_are_read_refused_and_walked(rt: HostRuntime) -> Result<(), Fail> {
+    expect_changes::<Iptables>(&rt, rt.alloc(), DOCUMENT, &READ, true)?;
+    expect_changes::<Iptables>(&rt, rt.alloc(), DOCUMENT, &REFUSED, false)?;
+    expect_walks::<Iptables>(&rt, rt.alloc(), &WALKS)
 }

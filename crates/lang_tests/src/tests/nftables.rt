@@ -1,10 +1,111 @@
-use crate::tests::languages::{is_read, outcome_in};
-use crate::tests::packets::{ACCEPTED, DENIED, packet};
-use acl_packet::{Conn, Families, Family, Hook, Outcome, Packet, Prefix, Verdict, is_packet};
-use acl_text::{Bytes, Items, Memory};
-use nft_lang::{Doc, Flags, Item, Nftables, Rule, Section, outcome, read_document, sections};
-use std::alloc::Global;
+use crate::tests::languages::{
+    ACCEPTED, ACK, Change, DENIED, PACKET, PACKET_OF_SIX, PING, REJECTED, RESET, SOLICITATION, SYN,
+    Walk, expect_changes, expect_walks,
+};
+use acl_packet::{Conn, Outcome, Packet};
+use nft_lang::Nftables;
 use std::test::Fail;
+
+const DOCUMENT: &str = "## nftables forward mixed
+add table inet aclgen_2
+delete table inet aclgen_2
+table inet aclgen_2 {
+    chain forward {
+        type filter hook forward priority -5; policy accept;
+        # web servers
+        meta nfproto ipv4 meta l4proto 6 ip saddr { 192.0.2.0/24, 10.0.0.0/8 } tcp sport { 22, 1024-65535 } tcp flags & (syn | ack) == syn log reject with tcp reset
+        meta nfproto ipv6 meta l4proto 58 icmpv6 type { 136, 135 } ct state { established, related } drop
+        meta nfproto ipv4 meta l4proto 132 sctp dport { 0-65535 } reject
+        meta nfproto ipv4 meta l4proto 17 udp dport { 53, 67-68 } accept
+        meta nfproto ipv6 ip6 daddr { 2001:db8::/32 } drop
+    }
+}
+";
+
+// Small changes of the document, each of which is read: what stands in it, and what in its place.
+static READ: [Change; 9] = [
+    ("        # web servers\n", ""),
+    (
+        "web servers",
+        "xxxxxxxxxxxxxxxxxxxxxxxxxxxxxxxxxxxxxxxxxxxxxxxxxxxxxxxxxxxxxxxxxxxxxxxxxxxxxxxxxxxxxxxxxxxxxxxxxxxxxxxxxxxxxxxxxxxxxxxxxxxxxxxx",
+    ),
+    ("aclgen_2", "aclgen_4294967295"),
+    ("priority -5", "priority -2147483648"),
+    ("policy accept", "policy drop"),
+    ("22, 1024-65535", "1024-65535, 22"),
+    ("67-68 } accept", "67-68 } log accept"),
+    (" ip6 daddr { 2001:db8::/32 } drop", " drop"),
+    (
+        "    }\n}\n",
+        "    }\n}\n## nftables input inet\nadd table ip aclgen_3\ndelete table ip aclgen_3\ntable ip aclgen_3 {\n    chain input {\n        type filter hook input priority 0; policy drop;\n    }\n}\n",
+    ),
+];
+
+// Small changes of it that are refused.
+static REFUSED: [Change; 48] = [
+    // sections
+    ("## nftables forward mixed\n", ""),
+    ("## nftables", "# nftables"),
+    ("nftables forward", "nftables input"),
+    ("forward mixed", "forward inet"),
+    ("add table inet aclgen_2\n", ""),
+    ("add table inet aclgen_2", "add table inet aclgen_3"),
+    ("aclgen_2 {", "aclgen_2{"),
+    ("aclgen_2", "aclgen_02"),
+    ("aclgen_2", "aclgen_4294967296"),
+    ("priority -5", "priority -0"),
+    ("priority -5", "priority +5"),
+    ("priority -5", "priority 2147483648"),
+    ("policy accept;", "policy accept"),
+    ("policy accept", "policy reject"),
+    ("    }\n}\n", "    }\n"),
+    ("    }\n}\n", "    }\n}"),
+    (
+        "    }\n}\n",
+        "    }\n}\n## nftables input inet\nadd table ip aclgen_2\ndelete table ip aclgen_2\ntable ip aclgen_2 {\n    chain input {\n        type filter hook input priority 0; policy drop;\n    }\n}\n",
+    ),
+    // remarks
+    ("web servers", "web  servers"),
+    ("web servers", "web servers "),
+    (
+        "web servers",
+        "xxxxxxxxxxxxxxxxxxxxxxxxxxxxxxxxxxxxxxxxxxxxxxxxxxxxxxxxxxxxxxxxxxxxxxxxxxxxxxxxxxxxxxxxxxxxxxxxxxxxxxxxxxxxxxxxxxxxxxxxxxxxxxxxx",
+    ),
+    ("        # web", "       # web"),
+    ("        # web", "\t# web"),
+    // families and protocols
+    ("meta nfproto ipv4 meta l4proto 17", "meta l4proto 17"),
+    (
+        "meta nfproto ipv4 meta l4proto 17",
+        "meta l4proto 17 meta nfproto ipv4",
+    ),
+    ("meta l4proto 17 udp", "udp"),
+    ("l4proto 17", "l4proto 017"),
+    ("17 udp", "17 tcp"),
+    ("58 icmpv6", "1 icmp"),
+    ("ip6 daddr { 2001:db8::/32 }", "ip daddr { 10.0.0.0/8 }"),
+    // sets
+    ("192.0.2.0/24, 10.0.0.0/8", "10.0.0.0/8, 10.1.0.0/16"),
+    ("192.0.2.0/24, 10.0.0.0/8", "0.0.0.0/0"),
+    ("192.0.2.0/24, 10.0.0.0/8", "192.0.2.1/24"),
+    ("{ 2001:db8::/32 }", "{ }"),
+    ("22, 1024-65535", "22,1024-65535"),
+    ("{ 53, 67-68 }", "53"),
+    ("{ 53, 67-68 }", "{53, 67-68}"),
+    ("53, 67-68", "053, 67-68"),
+    ("67-68", "68-67"),
+    ("67-68", "67-67"),
+    ("53, 67-68", "67, 60-70"),
+    ("136, 135", "136, 136"),
+    ("136, 135", "255"),
+    // flags, state and what is done
+    ("(syn | ack)", "(syn|ack)"),
+    ("{ established, related }", "{ established }"),
+    ("log reject with tcp reset", "reject with tcp reset log"),
+    ("{ 0-65535 } reject", "{ 0-65535 } reject with tcp reset"),
+    ("67-68 } accept", "67-68 }"),
+    ("67-68 } accept", "67-68 } accept\r"),
+];
 
 const WEB: &str = "## nftables input inet
 add table ip aclgen_7
@@ -14,19 +115,6 @@ table ip aclgen_7 {
         type filter hook input priority 0; policy drop;
         # web
         meta l4proto 6 ip daddr { 192.0.2.10/32 } tcp dport { 80 } accept
-    }
-}
-";
-
-const BOTH: &str = "## nftables forward mixed
-add table inet aclgen_2
-delete table inet aclgen_2
-table inet aclgen_2 {
-    chain forward {
-        type filter hook forward priority -2147483648; policy accept;
-        meta nfproto ipv4 meta l4proto 6 ip saddr { 192.0.2.0/24, 10.0.0.0/8 } tcp sport { 22, 1024-65535 } tcp flags & (syn | ack) == syn log reject with tcp reset
-        meta nfproto ipv6 meta l4proto 58 icmpv6 type { 136, 135 } ct state { established, related } drop
-        meta nfproto ipv4 meta l4proto 132 sctp dport { 0-65535 } reject
     }
 }
 ";
@@ -43,270 +131,82 @@ table ip6 aclgen_1 {
 }
 ";
 
-#[test]
-fn reads_a_section_of_one_rule(rt: HostRuntime) -> Result<(), Fail> {
-    let doc = read_document::<Nftables>(rt.alloc(), WEB.as_bytes())?.expect(&rt, "a text");
-    assert_eq!(rt; sections(&doc), 1);
-    let section = doc.as_slice().first().expect(&rt, "a section");
-    assert_eq!(rt; section.hook, Hook::Input);
-    assert_eq!(rt; section.number, 7);
-    assert_eq!(rt; section.items.as_slice().len(), 2);
-    if let Some(Item::Rule(rule)) = section.items.as_slice().get(1) {
-        assert_eq!(rt; rule.proto, Some(6));
-        assert_eq!(rt; rule.dports.as_slice().len(), 1);
-        assert_eq!(rt; rule.verdict, Verdict::Accept);
-    } else {
-        assert!(rt; false);
-    }
-    assert_eq!(rt; is_read::<Nftables>(rt.alloc(), "")?, true);
-    Ok(())
-}
+static WALKS: [Walk; 14] = [
+    (
+        DOCUMENT,
+        0,
+        Packet { sport: 22, ..SYN },
+        Some(Outcome {
+            logged: true,
+            ..RESET
+        }),
+    ),
+    (DOCUMENT, 0, Packet { sport: 1023, ..SYN }, Some(ACCEPTED)),
+    (DOCUMENT, 0, Packet { sport: 22, ..ACK }, Some(ACCEPTED)),
+    (
+        DOCUMENT,
+        0,
+        Packet {
+            conn: Conn::Related,
+            ..SOLICITATION
+        },
+        Some(DENIED),
+    ),
+    (DOCUMENT, 0, SOLICITATION, Some(ACCEPTED)),
+    (
+        DOCUMENT,
+        0,
+        Packet {
+            proto: 132,
+            ..PACKET
+        },
+        Some(REJECTED),
+    ),
+    (
+        DOCUMENT,
+        0,
+        Packet {
+            proto: 132,
+            ..PACKET_OF_SIX
+        },
+        Some(ACCEPTED),
+    ),
+    (
+        DOCUMENT,
+        0,
+        Packet {
+            dst: 0x2001_0db8_0000_0000_0000_0000_0000_0010,
+            ..SOLICITATION
+        },
+        Some(DENIED),
+    ),
+    (DOCUMENT, 1, PACKET, None),
+    (WEB, 0, ACK, Some(ACCEPTED)),
+    (WEB, 0, PING, Some(DENIED)),
+    (WEB, 0, SOLICITATION, None),
+    (
+        ALL_BUT_ONE,
+        0,
+        Packet {
+            src: 0,
+            ..PACKET_OF_SIX
+        },
+        Some(ACCEPTED),
+    ),
+    (
+        ALL_BUT_ONE,
+        0,
+        Packet {
+            src: u128::MAX,
+            ..PACKET_OF_SIX
+        },
+        Some(DENIED),
+    ),
+];
 
 #[test]
-fn refuses_other_rules(rt: HostRuntime) -> Result<(), Fail> {
-    let head =
-        "## nftables output mixed\nadd table inet aclgen_1\ndelete table inet aclgen_1\ntable inet aclgen_1 {\n    chain output {\n        type filter hook output priority 10; policy drop;\n        ";
-    let cases = [
-        (
-            "meta nfproto ipv4 meta l4proto 17 udp dport { 53, 67-68 } accept",
-            true,
-        ),
-        (
-            "meta nfproto ipv4 meta l4proto 17 udp dport { 53,  67-68 } accept",
-            false,
-        ),
-        (
-            "meta nfproto ipv4 meta l4proto 17 udp dport { 53, 60-60 } accept",
-            false,
-        ),
-        (
-            "meta nfproto ipv4 meta l4proto 17 udp dport { 053 } accept",
-            false,
-        ),
-        (
-            "meta nfproto ipv4 meta l4proto 17 udp dport { 68-67 } accept",
-            false,
-        ),
-        (
-            "meta nfproto ipv4 meta l4proto 17 udp dport { 67, 60-70 } accept",
-            false,
-        ),
-        (
-            "meta nfproto ipv4 meta l4proto 17 udp dport { } accept",
-            false,
-        ),
-        (
-            "meta nfproto ipv4 meta l4proto 17 udp dport {53} accept",
-            false,
-        ),
-        (
-            "meta nfproto ipv4 meta l4proto 17 udp dport 53 accept",
-            false,
-        ),
-        (
-            "meta nfproto ipv4 meta l4proto 17 tcp dport { 53 } accept",
-            false,
-        ),
-        ("meta nfproto ipv4 tcp dport { 53 } accept", false),
-        (
-            "meta nfproto ipv4 ip saddr { 10.0.0.0/8, 10.1.0.0/16 } drop",
-            false,
-        ),
-        ("meta nfproto ipv4 ip saddr { 0.0.0.0/0 } drop", false),
-        (
-            "meta nfproto ipv4 meta l4proto 1 icmp type { 8, 8 } drop",
-            false,
-        ),
-        ("meta nfproto ipv6 ip saddr { 10.0.0.0/8 } drop", false),
-        ("ip saddr { 10.0.0.0/8 } drop", false),
-        ("meta nfproto ipv6 ct state { established } drop", false),
-        (
-            "meta nfproto ipv6 meta l4proto 17 reject with tcp reset",
-            false,
-        ),
-        (
-            "meta nfproto ipv6 meta l4proto 17 tcp flags & rst == rst drop",
-            false,
-        ),
-        ("meta nfproto ipv6 log", false),
-        ("# not  ours", false),
-        ("# not ours", true),
-    ];
-    for (line, good) in cases {
-        let text = format!(in rt.alloc(); "{head}{line}\n    }}\n}}\n")?;
-        assert_eq!(rt;
-            is_read::<Nftables>(rt.alloc(), text.as_str())?,
-            good,
-            "at {line}"
-        );
-    }
-    Ok(())
-}
-
-// A section without items, whose rows state the table, the chain and the ends.
-fn section_of(alloc: Global, table: &str, chain: &str, ends: &str) -> Result<String, Memory> {
-    Ok(format!(in alloc;
-        "## nftables input inet\nadd table {table}\ndelete table {table}\ntable {table} {{\n    chain input {{\n        type filter {chain}\n{ends}"
-    )?)
-}
-
-#[test]
-fn refuses_other_sections(rt: HostRuntime) -> Result<(), Fail> {
-    let ip = "ip aclgen_1";
-    let drop = "hook input priority 0; policy drop;";
-    let ends = "    }\n}\n";
-    let cases = [
-        (ip, drop, ends, true),
-        (
-            ip,
-            "hook input priority -2147483648; policy accept;",
-            ends,
-            true,
-        ),
-        (
-            ip,
-            "hook input priority 2147483648; policy drop;",
-            ends,
-            false,
-        ),
-        (ip, "hook input priority -0; policy drop;", ends, false),
-        (ip, "hook input priority +0; policy drop;", ends, false),
-        (ip, "hook input priority 01; policy drop;", ends, false),
-        (ip, "hook output priority 0; policy drop;", ends, false),
-        (ip, drop, "        drop\n    }\n}\n", true),
-        (
-            ip,
-            drop,
-            "        meta nfproto ipv4 drop\n    }\n}\n",
-            false,
-        ),
-        (
-            ip,
-            drop,
-            "        ip6 saddr { ::1/128 } drop\n    }\n}\n",
-            false,
-        ),
-        ("ip aclgen_4294967295", drop, ends, true),
-        ("ip aclgen_4294967296", drop, ends, false),
-        ("ip6 aclgen_1", drop, ends, false),
-        (ip, drop, "    }\n", false),
-        (ip, drop, "}\n}\n", false),
-        (ip, drop, "    }\n}", false),
-    ];
-    for (table, chain, ends, good) in cases {
-        let text = section_of(rt.alloc(), table, chain, ends)?;
-        assert_eq!(rt;
-            is_read::<Nftables>(rt.alloc(), text.as_str())?,
-            good,
-            "at {text}"
-        );
-    }
-    let twice = format!(in rt.alloc(); "{WEB}{WEB}")?;
-    assert_eq!(rt; is_read::<Nftables>(rt.alloc(), twice.as_str())?, false);
-    let both = format!(in rt.alloc(); "{BOTH}{WEB}")?;
-    assert_eq!(rt; is_read::<Nftables>(rt.alloc(), both.as_str())?, true);
-    Ok(())
-}
-
-#[test]
-fn walks_chains_to_their_ends(rt: HostRuntime) -> Result<(), Fail> {
-    let web = Packet {
-        dport: 80,
-        ..packet(Family::V4, 6)
-    };
-    let syn = Packet {
-        sport: 1024,
-        flags: 2,
-        ..web
-    };
-    let solicitation = Packet {
-        itype: 135,
-        conn: Conn::Related,
-        ..packet(Family::V6, 58)
-    };
-    let first = Packet {
-        src: 0,
-        ..packet(Family::V6, 6)
-    };
-    let last = Packet {
-        src: u128::MAX,
-        ..first
-    };
-    let reset = Outcome {
-        verdict: Verdict::Reset,
-        logged: true,
-    };
-    let rejected = Outcome {
-        verdict: Verdict::Reject,
-        logged: false,
-    };
-    let cases = [
-        (WEB, 0, web, Some(ACCEPTED)),
-        (WEB, 0, packet(Family::V4, 17), Some(DENIED)),
-        (WEB, 0, solicitation, None),
-        (WEB, 1, web, None),
-        (ALL_BUT_ONE, 0, first, Some(ACCEPTED)),
-        (ALL_BUT_ONE, 0, last, Some(DENIED)),
-        (BOTH, 0, web, Some(ACCEPTED)),
-        (BOTH, 0, syn, Some(reset)),
-        (BOTH, 0, solicitation, Some(DENIED)),
-        (BOTH, 0, packet(Family::V4, 132), Some(rejected)),
-        (BOTH, 0, packet(Family::V6, 132), Some(ACCEPTED)),
-    ];
-    for (text, which, packet, wanted) in cases {
-        assert_eq!(rt;
-            outcome_in::<Nftables>(rt.alloc(), text, which, &packet)?,
-            wanted
-        );
-    }
-    Ok(())
-}
-
-#[test]
-fn makes_a_document(rt: HostRuntime) -> Result<(), Fail> {
-    let mut src = Items::new(rt.alloc());
-    src.push(Prefix {
-        family: Family::V4,
-        first: 0xc000_0200,
-        len: 24,
-    })?;
-    let mut items = Items::new(rt.alloc());
-    items.push(Item::Remark(Bytes::from_slice(rt.alloc(), b"all of it")?))?;
-    items.push(Item::Rule(Rule {
-        family: Family::V4,
-        proto: Some(6),
-        src,
-        dst: Items::new(rt.alloc()),
-        sports: Items::new(rt.alloc()),
-        dports: Items::new(rt.alloc()),
-        itypes: Items::new(rt.alloc()),
-        flags: Some(Flags::Rst),
-        state: false,
-        log: true,
-        verdict: Verdict::Deny,
-    }))?;
-    let mut doc = Doc::new(rt.alloc());
-    doc.push(Section {
-        hook: Hook::Output,
-        families: Families::Inet,
-        number: 3,
-        priority: -1,
-        accept: true,
-        items,
-    })?;
-    let rst = Packet {
-        flags: 4,
-        ..packet(Family::V4, 6)
-    };
-    let found = if is_packet(&rst) {
-        outcome::<Nftables>(&doc, 0, &rst)
-    } else {
-        None
-    };
-    let denied = Outcome {
-        logged: true,
-        ..DENIED
-    };
-    assert_eq!(rt; found, Some(denied));
-    Ok(())
+fn texts_are_read_refused_and_walked(rt: HostRuntime) -> Result<(), Fail> {
+    expect_changes::<Nftables>(&rt, rt.alloc(), DOCUMENT, &READ, true)?;
+    expect_changes::<Nftables>(&rt, rt.alloc(), DOCUMENT, &REFUSED, false)?;
+    expect_walks::<Nftables>(&rt, rt.alloc(), &WALKS)
 }

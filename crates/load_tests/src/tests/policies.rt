@@ -1,23 +1,57 @@
+use crate::tests::files::{Files, line_of, loaded, tree_of};
 use acl_host::Tree;
-use acl_load::{LoadFault, Loaded, load, put_fault};
+use acl_load::Loaded;
 use acl_memory::{MemTree, Op};
 use acl_packet::Verdict;
 use acl_terms::Term;
-use acl_text::{Fault, Memory, Out, PutFault, Whole};
+use acl_text::Memory;
 use std::alloc::Global;
 use std::test::Fail;
-
-type Files = &'static [(&'static str, &'static [u8])];
 
 const NETWORKS: (&str, &[u8]) = ("def/n.net", b"WEB = 192.0.2.10\n");
 
 // Files, and the line of the fault that is told of the policy `pol/a.pol` over the folder `def`.
-static FAULTS: [(Files, &[u8]); 8] = [
-    // the naming files come before the policy
+static FAULTS: [(Files, &[u8]); 15] = [
+    // naming files come before the policy, and in byte order of their names
+    (&[("pol/a.net", b"A = 10/8")], b"def: F20 NoFile\n"),
     (
-        &[("def/n.net", b"WEB = NOPE")],
-        b"def/n.net:1: F17 Undefined NOPE\n",
+        &[("def/n.net", b"A = B\nB = C\nC = A\nD = NOPE\n")],
+        b"def/n.net:4: F17 Undefined NOPE\n",
     ),
+    (
+        &[("def/n.net", b"A = B\nB = C\nC = A\n")],
+        b"def/n.net:1: F18 Cycle A\n",
+    ),
+    (
+        &[
+            ("def/a.svc", b"S = 0x/tcp"),
+            ("def/b.net", b"\n# B\nB = !"),
+            ("def/a.net", b"A = 1.2.3.4"),
+        ],
+        b"def/b.net:3: F14 BadValue !\n",
+    ),
+    (
+        &[
+            ("def/a.svc", b"S = 80/tcp\n\nS = 81/tcp"),
+            ("def/a.net", b"S = 1.2.3.4"),
+        ],
+        b"def/a.svc:3: F15 Twice S\n",
+    ),
+    // a service has no name of a network as an item
+    (
+        &[
+            ("def/a.net", b"WEB = 1.2.3.4"),
+            ("def/a.svc", b"S = 80/tcp\n  WEB"),
+        ],
+        b"def/a.svc:2: F17 Undefined WEB\n",
+    ),
+    // a line does not go on with the definition of another file
+    (
+        &[("def/a.net", b"A ="), ("def/b.net", b"1.2.3.4")],
+        b"def/b.net:1: F13 NoDefinition 1.2.3.4\n",
+    ),
+    (&[("def/.svc", b"= 80/tcp")], b"def/.svc:1: F12 BadName\n"),
+    // the policy
     (&[NETWORKS], b"pol/a.pol: F20 NoFile\n"),
     (
         &[NETWORKS, ("pol/a.pol", b"\n#include 'gone.inc'\n")],
@@ -72,48 +106,6 @@ static FAULTS: [(Files, &[u8]); 8] = [
         b"pol/a.pol:1: F23 Syntax 1234567890123456789012345678901234567890123456789012345678901234\n",
     ),
 ];
-
-fn tree_of(alloc: Global, files: Files) -> Result<MemTree, Memory> {
-    let mut tree = MemTree::new(alloc);
-    for (path, bytes) in files {
-        tree.put_file(path, bytes)?;
-    }
-    Ok(tree)
-}
-
-fn text_line(alloc: Global, text: &[u8]) -> Result<Whole, PutFault> {
-    let mut line = Whole::new(alloc);
-    line.put(text)?;
-    Ok(line)
-}
-
-fn fault_line(alloc: Global, fault: &Fault) -> Result<Whole, PutFault> {
-    let mut line = Whole::new(alloc);
-    put_fault(&mut line, fault)?;
-    Ok(line)
-}
-
-fn refusal_line(alloc: Global, refusal: &LoadFault) -> Result<Whole, PutFault> {
-    match refusal {
-        LoadFault::Fault(fault) => fault_line(alloc, fault),
-        LoadFault::List => text_line(alloc, b"list"),
-        LoadFault::Read => text_line(alloc, b"read"),
-        LoadFault::Memory => text_line(alloc, b"memory"),
-    }
-}
-
-// The one call of the load, whatever the tree.
-fn loaded<T: Tree>(alloc: Global, tree: &mut T) -> Result<Loaded, LoadFault> {
-    load(alloc, tree, "def", "pol/a.pol")
-}
-
-// The line of the fault that is told, or what else is answered.
-fn line_of<T: Tree>(alloc: Global, tree: &mut T) -> Result<Whole, PutFault> {
-    match loaded(alloc, tree) {
-        Ok(_) => text_line(alloc, b"loaded"),
-        Err(refusal) => refusal_line(alloc, &refusal),
-    }
-}
 
 #[test]
 fn first_faults_of_each_step(rt: HostRuntime) -> Result<(), Fail> {

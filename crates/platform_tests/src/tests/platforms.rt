@@ -6,8 +6,7 @@ use crate::tests::samples::{HEAD, Head, filter};
 use acl_grammar::{Form, Number, Row, Rows, Word};
 use acl_packet::{Conn, Family, Outcome, Packet, Prefix, Verdict};
 use acl_platform::{
-    Combination, Limit, Rule, Rules, Test, count_combinations, count_in_limit, filter_outcome,
-    put_combinations,
+    Combination, Rule, Rules, Test, count_combinations, filter_outcome, put_combinations,
 };
 use acl_sets::{Prefixes, Range, RangeSet};
 use acl_target::Ending;
@@ -102,19 +101,59 @@ fn writes_each_combination(rt: HostRuntime) -> Result<(), Fail> {
     Ok(())
 }
 
-fn syn(family: Family, src: u128, proto: u8, dport: u16, flags: u8) -> Packet {
-    Packet {
-        family,
-        src,
-        dst: 3,
-        proto,
-        sport: 1024,
-        dport,
-        flags,
-        itype: 0,
-        conn: Conn::New,
-    }
-}
+// A packet that begins a connection to the rule's destination.
+const SYN: Packet = Packet {
+    family: Family::V4,
+    src: 1,
+    dst: 3,
+    proto: 6,
+    sport: 1024,
+    dport: 81,
+    flags: 2,
+    itype: 0,
+    conn: Conn::New,
+};
+
+const HELD: Outcome = Outcome {
+    verdict: Verdict::Accept,
+    logged: true,
+};
+
+const PASSED: Outcome = Outcome {
+    logged: false,
+    ..HELD
+};
+
+const DENIED: Outcome = Outcome {
+    verdict: Verdict::Deny,
+    ..PASSED
+};
+
+static OUTCOMES: [(Packet, Outcome); 7] = [
+    (SYN, HELD),
+    (Packet { src: 3, ..SYN }, DENIED),
+    (Packet { proto: 132, ..SYN }, DENIED),
+    (Packet { dport: 82, ..SYN }, DENIED),
+    (Packet { flags: 18, ..SYN }, DENIED),
+    (SYN_OF_SIX, DENIED),
+    // a neighbour is looked for
+    (
+        Packet {
+            proto: 58,
+            sport: 0,
+            dport: 0,
+            flags: 0,
+            itype: 135,
+            ..SYN_OF_SIX
+        },
+        PASSED,
+    ),
+];
+
+const SYN_OF_SIX: Packet = Packet {
+    family: Family::V6,
+    ..SYN
+};
 
 #[test]
 fn the_first_rule_or_the_ending_decides(rt: HostRuntime) -> Result<(), Fail> {
@@ -126,37 +165,8 @@ fn the_first_rule_or_the_ending_decides(rt: HostRuntime) -> Result<(), Fail> {
         ..HEAD
     };
     let filter = filter(alloc, &head, rules)?;
-    let held = Outcome {
-        verdict: Verdict::Accept,
-        logged: true,
-    };
-    let denied = Outcome::unlogged(Verdict::Deny);
-    let cases = [
-        (syn(Family::V4, 1, 6, 81, 2), held),
-        (syn(Family::V4, 3, 6, 81, 2), denied),
-        (syn(Family::V4, 1, 132, 81, 2), denied),
-        (syn(Family::V4, 1, 6, 82, 2), denied),
-        (syn(Family::V4, 1, 6, 81, 18), denied),
-        (syn(Family::V6, 1, 6, 81, 2), denied),
-    ];
-    for (packet, outcome) in cases {
-        assert_eq!(rt; filter_outcome(&filter, &packet), outcome);
-    }
-    let mut solicitation = syn(Family::V6, 1, 58, 0, 0);
-    solicitation.itype = 135;
-    let passed = Outcome::unlogged(Verdict::Accept);
-    assert_eq!(rt; filter_outcome(&filter, &solicitation), passed);
-    Ok(())
-}
-
-#[test]
-fn takes_as_many_entries_as_a_device_is_given(rt: HostRuntime) -> Result<(), Fail> {
-    let limits = [
-        (100_000, Ok(100_000)),
-        (100_001, Err(Limit::TooManyEntries)),
-    ];
-    for (count, limit) in limits {
-        assert_eq!(rt; count_in_limit(count), limit);
+    for (place, (packet, outcome)) in OUTCOMES.iter().enumerate() {
+        assert_eq!(rt; filter_outcome(&filter, packet), *outcome, "packet {place}");
     }
     Ok(())
 }

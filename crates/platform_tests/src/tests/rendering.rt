@@ -15,25 +15,15 @@ const EDGE_HEAD: Head = Head {
     ..HEAD
 };
 
-#[test]
-fn a_filter_is_checked_and_its_file_rendered(rt: HostRuntime) -> Result<(), Fail> {
-    let alloc = rt.alloc();
-    let edge = filter(alloc, &EDGE_HEAD, Rules::new(alloc))?;
-    assert_eq!(rt; check(&edge), Ok(1));
-    let mut text = Whole::new(alloc);
-    render(Kind::Cisco, &[edge], &mut text)?;
-    assert_eq!(rt;
-        text.as_slice(),
-        b"! cisco edge extended\nno ip access-list extended edge\nip access-list extended edge\n deny ip any any\nexit\n".as_slice()
-    );
-    Ok(())
-}
+const EDGE: &[u8] =
+    b"! cisco edge extended\nno ip access-list extended edge\nip access-list extended edge\n deny ip any any\nexit\n";
 
 // The bytes of a file are those that an output in memory gets.
 #[test]
 fn a_file_holds_what_is_rendered(rt: HostRuntime) -> Result<(), Fail> {
     let alloc = rt.alloc();
     let edge = filter(alloc, &EDGE_HEAD, Rules::new(alloc))?;
+    assert_eq!(rt; check(&edge), Ok(1));
     let mut text = Whole::new(alloc);
     let mut tree = MemTree::new(alloc);
     tree.begin("out/a.acl")?;
@@ -42,5 +32,6 @@ fn a_file_holds_what_is_rendered(rt: HostRuntime) -> Result<(), Fail> {
     render(Kind::Cisco, &filters, &mut tree)?;
     tree.finish()?;
     assert_eq!(rt; tree.file("out/a.acl"), Some(text.as_slice()));
+    assert_eq!(rt; text.as_slice(), EDGE);
     Ok(())
 }

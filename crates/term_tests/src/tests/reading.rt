@@ -8,20 +8,37 @@ use acl_memory::MemTree;
 use acl_naming::{Base, Checked, check, read_networks, read_services};
 use acl_policy::{Policy, RawTerm, gather, parse};
 use acl_terms::{Term, resolve};
-use acl_text::{Items, Refusal};
+use acl_text::{Items, Memory, Refusal, Slip};
 use std::alloc::Global;
 use std::str;
 
-pub(crate) fn definitions(
-    alloc: Global,
-    networks: &[u8],
-    services: &[u8],
-) -> Result<Checked, Refusal>
-    requires networks { length networks.now ≤ 4194304 }
-    requires services { length services.now ≤ 4194304 }
-{
-    let base = read_networks(Base::new(alloc), 1, networks)?;
-    check(read_services(base, 2, services)?)
+const NETWORKS: &[u8] = b"WEB = 192.0.2.10
+DNS = 192.0.2.53
+SERVERS = 192.0.2.10/32 192.0.2.11/32 2001:db8::10/128
+ONE = 10.0.0.1
+TEN = 10.0.0.0/8
+LOW = 10.0.0.0/9
+HIGH = 10.128.0.0/9
+PIN = 10.128.0.1
+FIRST = 10.0.1.0/24
+SECOND = 10.0.2.0/24
+BOGON = TEN 172.16.0.0/12 192.168.0.0/16 127.0.0.0/8 fc00::/7
+SIX = 2001:db8::10
+HALF = ::/1
+BOTH = TEN 2001:db8::/32
+ALL = 0.0.0.0/0 ::/0
+";
+
+const SERVICES: &[u8] = b"HTTP = 80/tcp
+WEB = HTTP 443/tcp
+BOTH = 80/tcp 53/udp
+DNS = 53/tcp 53/udp
+ANY = 0-65535/tcp 0-65535/udp
+";
+
+pub(crate) fn base(alloc: Global) -> Result<Checked, Refusal> {
+    let base = read_networks(Base::new(alloc), 1, NETWORKS)?;
+    check(read_services(base, 2, SERVICES)?)
 }
 
 // The policy at the path `a.pol`, whatever the tree.
@@ -67,4 +84,10 @@ pub(crate) fn text(bytes: &[u8]) -> &str {
         Ok(text) => text,
         Err(_) => "?",
     }
+}
+
+// The slip by its line, code and word.
+pub(crate) fn shown_slip(alloc: Global, slip: &Slip) -> Result<String, Memory> {
+    let word = text(slip.word.as_slice());
+    Ok(format!(in alloc; "{} {:?} {word}", slip.place.line, slip.code)?)
 }

@@ -1,23 +1,16 @@
 ghost use Rattle.std.specs.List.{All};
 ghost use Rattle.acl_policy.specs.Conditions.{IsBlock};
 
-use crate::tests::reading::{definitions, policy_of, terms_of, today};
+use crate::tests::reading::{base, policy_of, terms_of, today};
 use acl_days::Day;
 use acl_naming::Checked;
 use acl_policy::Block;
 use acl_shade::shaded_by;
 use acl_target::Target;
 use acl_terms::Term;
-use acl_text::{Bytes, Memory, Refusal};
+use acl_text::{Memory, Refusal};
 use std::alloc::Global;
-use std::process::Abort;
 use std::test::Fail;
-
-const NETWORKS: &[u8] =
-    b"ONE = 10.0.0.1\nTEN = 10.0.0.0/8\nLOW = 10.0.0.0/9\nHIGH = 10.128.0.0/9\nSIX = 2001:db8::/32\nBOTH = 10.0.0.0/8 2001:db8::/32\n";
-
-const SERVICES: &[u8] =
-    b"HTTP = 80/tcp\nWEB = 80/tcp 443/tcp\nDNS = 53/tcp 53/udp\nANY = 0-65535/tcp 0-65535/udp\n";
 
 // The terms in order: each by the place of the one that shades it, or by a dash.
 fn places(alloc: Global, terms: &[Term], targets: &[Target], day: Day) -> Result<String, Memory> {
@@ -44,210 +37,189 @@ fn places_in(alloc: Global, base: &Checked, blocks: &[Block]) -> Result<String, 
 }
 
 // The places of the terms, for two platforms, on 2026-01-15.
-fn shown(alloc: Global, terms: &[u8]) -> Result<String, Refusal> {
-    let base = definitions(alloc, NETWORKS, SERVICES)?;
-    let mut text = Bytes::from_slice(alloc, b"header { target:: cisco e\ntarget:: juniper e\n}\n")?;
-    text.push_all(terms)?;
-    let policy = policy_of(alloc, text.as_slice())?;
-    places_in(alloc, &base, policy.blocks.as_slice())
+fn shown(alloc: Global, base: &Checked, terms: &str) -> Result<String, Refusal> {
+    let text = format!(in alloc; "header {{ target:: cisco e target:: juniper e }}\n{terms}")?;
+    let policy = policy_of(alloc, text.as_bytes())?;
+    places_in(alloc, base, policy.blocks.as_slice())
 }
 
-fn expect(rt: &impl Abort, alloc: Global, rows: &[(&[u8], &str)]) -> Result<(), Fail> {
-    for (terms, expected) in rows {
-        assert_eq!(rt; shown(alloc, terms)?.as_str(), *expected);
-    }
-    Ok(())
-}
-
-static ADDRESSES: [(&[u8], &str); 12] = [
-    (b"term a { action:: accept } term b { action:: deny }", "-0"),
+static SHADES: [(&str, &str); 41] = [
+    // by addresses and life
+    ("term a { action:: accept } term b { action:: deny }", "-0"),
     (
-        b"term a { source-address:: TEN action:: deny } term b { source-address:: ONE action:: deny }",
+        "term a { source-address:: TEN action:: deny } term b { source-address:: ONE action:: deny }",
         "-0",
     ),
     (
-        b"term a { source-address:: ONE action:: deny } term b { source-address:: TEN action:: deny }",
+        "term a { source-address:: ONE action:: deny } term b { source-address:: TEN action:: deny }",
         "--",
     ),
     (
-        b"term a { expiration:: 2026-01-15 action:: deny } term b { action:: deny }",
+        "term a { expiration:: 2026-01-15 action:: deny } term b { action:: deny }",
         "--",
     ),
     (
-        b"term a { platform:: cisco action:: deny } term b { action:: deny } term c { platform:: cisco action:: deny }",
+        "term a { platform:: cisco action:: deny } term b { action:: deny } term c { platform:: cisco action:: deny }",
         "--0",
     ),
     (
-        b"term a { destination-address:: TEN action:: deny } term b { destination-address:: BOTH action:: deny }",
+        "term a { destination-address:: TEN action:: deny } term b { destination-address:: BOTH action:: deny }",
         "--",
     ),
     (
-        b"term a { source-address:: LOW action:: deny } term b { source-address:: HIGH action:: deny } term c { source-address:: TEN action:: deny }",
+        "term a { source-address:: LOW action:: deny } term b { source-address:: HIGH action:: deny } term c { source-address:: TEN action:: deny }",
         "---",
     ),
     (
-        b"term a { source-address:: TEN action:: deny } term b { source-address:: TEN action:: deny } term c { source-address:: ONE action:: deny }",
+        "term a { source-address:: TEN action:: deny } term b { source-address:: TEN action:: deny } term c { source-address:: ONE action:: deny }",
         "-00",
     ),
     (
-        b"term a { source-address:: SIX action:: deny } term b { source-address:: ONE source-exclude:: TEN action:: deny }",
+        "term a { source-address:: SIX action:: deny } term b { source-address:: ONE source-exclude:: TEN action:: deny }",
         "--",
     ),
     (
-        b"term a { action:: deny } term b { source-address:: ONE source-exclude:: TEN action:: deny }",
+        "term a { action:: deny } term b { source-address:: ONE source-exclude:: TEN action:: deny }",
         "--",
     ),
     (
-        b"term a { action:: deny } term b { platform:: iptables action:: deny }",
+        "term a { action:: deny } term b { platform:: iptables action:: deny }",
         "--",
     ),
     (
-        b"term a { source-address:: TEN action:: deny } term b { action:: deny } term c { source-address:: ONE action:: deny }",
+        "term a { source-address:: TEN action:: deny } term b { action:: deny } term c { source-address:: ONE action:: deny }",
         "--0",
     ),
-];
-
-#[test]
-fn shaded_by_addresses_and_life(rt: HostRuntime) -> Result<(), Fail> {
-    expect(&rt, rt.alloc(), &ADDRESSES)
-}
-
-static OPTIONS: [(&[u8], &str); 9] = [
+    // by options
     (
-        b"term a { protocol:: tcp action:: deny } term b { protocol:: tcp option:: established action:: deny }",
+        "term a { protocol:: tcp action:: deny } term b { protocol:: tcp option:: established action:: deny }",
         "-0",
     ),
     (
-        b"term a { protocol:: tcp option:: established action:: deny } term b { protocol:: tcp action:: deny }",
+        "term a { protocol:: tcp option:: established action:: deny } term b { protocol:: tcp action:: deny }",
         "--",
     ),
     (
-        b"term a { protocol:: tcp option:: tcp-established action:: deny } term b { protocol:: tcp option:: established action:: deny }",
+        "term a { protocol:: tcp option:: tcp-established action:: deny } term b { protocol:: tcp option:: established action:: deny }",
         "--",
     ),
     (
-        b"term a { protocol:: tcp option:: tcp-established action:: deny } term b { protocol:: tcp option:: tcp-established action:: deny }",
+        "term a { protocol:: tcp option:: tcp-established action:: deny } term b { protocol:: tcp option:: tcp-established action:: deny }",
         "-0",
     ),
     (
-        b"term a { protocol:: tcp option:: tcp-initial action:: deny } term b { protocol:: tcp option:: rst action:: deny }",
+        "term a { protocol:: tcp option:: tcp-initial action:: deny } term b { protocol:: tcp option:: rst action:: deny }",
         "--",
     ),
     (
-        b"term a { protocol:: udp option:: established action:: deny } term b { protocol:: udp option:: established action:: deny }",
+        "term a { protocol:: udp option:: established action:: deny } term b { protocol:: udp option:: established action:: deny }",
         "-0",
     ),
     (
-        b"term a { protocol:: udp option:: established action:: deny } term b { protocol:: udp option:: established destination-port:: DNS action:: deny }",
+        "term a { protocol:: udp option:: established action:: deny } term b { protocol:: udp option:: established destination-port:: DNS action:: deny }",
         "--",
     ),
     (
-        b"term a { protocol:: udp option:: established destination-port:: ANY action:: deny } term b { protocol:: udp option:: established action:: deny }",
+        "term a { protocol:: udp option:: established destination-port:: ANY action:: deny } term b { protocol:: udp option:: established action:: deny }",
         "-0",
     ),
     (
-        b"term a { protocol:: udp option:: established destination-port:: DNS action:: deny } term b { protocol:: udp option:: established destination-port:: DNS action:: deny }",
+        "term a { protocol:: udp option:: established destination-port:: DNS action:: deny } term b { protocol:: udp option:: established destination-port:: DNS action:: deny }",
         "-0",
     ),
-];
-
-#[test]
-fn shaded_by_options(rt: HostRuntime) -> Result<(), Fail> {
-    expect(&rt, rt.alloc(), &OPTIONS)
-}
-
-static SETS: [(&[u8], &str); 8] = [
+    // by protocols, ports and types
     (
-        b"term a { protocol:: tcp destination-port:: WEB action:: deny } term b { protocol:: tcp destination-port:: HTTP action:: deny }",
+        "term a { protocol:: tcp destination-port:: WEB action:: deny } term b { protocol:: tcp destination-port:: HTTP action:: deny }",
         "-0",
     ),
     (
-        b"term a { protocol:: tcp destination-port:: HTTP action:: deny } term b { protocol:: tcp destination-port:: WEB action:: deny }",
+        "term a { protocol:: tcp destination-port:: HTTP action:: deny } term b { protocol:: tcp destination-port:: WEB action:: deny }",
         "--",
     ),
     (
-        b"term a { protocol:: tcp source-port:: HTTP action:: deny } term b { protocol:: tcp source-port:: WEB action:: deny }",
+        "term a { protocol:: tcp source-port:: HTTP action:: deny } term b { protocol:: tcp source-port:: WEB action:: deny }",
         "--",
     ),
     (
-        b"term a { protocol:: icmp icmp-type:: 0 8 action:: deny } term b { protocol:: icmp icmp-type:: 8 action:: deny }",
+        "term a { protocol:: icmp icmp-type:: 0 8 action:: deny } term b { protocol:: icmp icmp-type:: 8 action:: deny }",
         "-0",
     ),
     (
-        b"term a { protocol:: icmp icmp-type:: 8 action:: deny } term b { protocol:: icmp icmp-type:: 0 8 action:: deny }",
+        "term a { protocol:: icmp icmp-type:: 8 action:: deny } term b { protocol:: icmp icmp-type:: 0 8 action:: deny }",
         "--",
     ),
     (
-        b"term a { protocol:: tcp udp action:: deny } term b { protocol:: udp action:: deny } term c { action:: deny }",
+        "term a { protocol:: tcp udp action:: deny } term b { protocol:: udp action:: deny } term c { action:: deny }",
         "-0-",
     ),
     (
-        b"term a { protocol:: icmp action:: deny } term b { protocol:: icmp icmpv6 action:: deny }",
+        "term a { protocol:: icmp action:: deny } term b { protocol:: icmp icmpv6 action:: deny }",
         "--",
     ),
     (
-        b"term a { protocol:: icmp source-address:: TEN action:: deny } term b { protocol:: icmp icmpv6 source-address:: TEN action:: deny }",
+        "term a { protocol:: icmp source-address:: TEN action:: deny } term b { protocol:: icmp icmpv6 source-address:: TEN action:: deny }",
         "-0",
     ),
-];
-
-#[test]
-fn shaded_by_protocols_ports_and_types(rt: HostRuntime) -> Result<(), Fail> {
-    expect(&rt, rt.alloc(), &SETS)
-}
-
-static EITHER: [(&[u8], &str); 12] = [
+    // on either side
     (
-        b"term a { address:: TEN action:: deny } term b { source-address:: LOW action:: deny }",
+        "term a { address:: TEN action:: deny } term b { source-address:: LOW action:: deny }",
         "-0",
     ),
     (
-        b"term a { address:: TEN action:: deny } term b { destination-address:: LOW action:: deny }",
+        "term a { address:: TEN action:: deny } term b { destination-address:: LOW action:: deny }",
         "-0",
     ),
     (
-        b"term a { address:: TEN action:: deny } term b { address:: LOW action:: deny }",
+        "term a { address:: TEN action:: deny } term b { address:: LOW action:: deny }",
         "-0",
     ),
     (
-        b"term a { address:: LOW action:: deny } term b { address:: TEN action:: deny }",
+        "term a { address:: LOW action:: deny } term b { address:: TEN action:: deny }",
         "--",
     ),
     (
-        b"term a { source-address:: TEN action:: deny } term b { destination-address:: TEN action:: deny } term c { address:: LOW action:: deny }",
+        "term a { source-address:: TEN action:: deny } term b { destination-address:: TEN action:: deny } term c { address:: LOW action:: deny }",
         "---",
     ),
     (
-        b"term a { source-address:: TEN action:: deny } term b { source-address:: LOW address:: LOW action:: deny }",
+        "term a { source-address:: TEN action:: deny } term b { source-address:: LOW address:: LOW action:: deny }",
         "-0",
     ),
     (
-        b"term a { action:: deny } term b { address:: LOW action:: deny }",
+        "term a { action:: deny } term b { address:: LOW action:: deny }",
         "-0",
     ),
     (
-        b"term a { action:: deny } term b { address:: LOW source-exclude:: LOW destination-exclude:: LOW action:: deny }",
+        "term a { action:: deny } term b { address:: LOW source-exclude:: LOW destination-exclude:: LOW action:: deny }",
         "--",
     ),
     (
-        b"term a { protocol:: tcp port:: WEB action:: deny } term b { protocol:: tcp source-port:: HTTP action:: deny }",
+        "term a { protocol:: tcp port:: WEB action:: deny } term b { protocol:: tcp source-port:: HTTP action:: deny }",
         "-0",
     ),
     (
-        b"term a { protocol:: tcp port:: WEB action:: deny } term b { protocol:: tcp destination-port:: HTTP action:: deny }",
+        "term a { protocol:: tcp port:: WEB action:: deny } term b { protocol:: tcp destination-port:: HTTP action:: deny }",
         "-0",
     ),
     (
-        b"term a { protocol:: tcp destination-port:: WEB action:: deny } term b { protocol:: tcp port:: HTTP action:: deny }",
+        "term a { protocol:: tcp destination-port:: WEB action:: deny } term b { protocol:: tcp port:: HTTP action:: deny }",
         "--",
     ),
     (
-        b"term a { address:: TEN protocol:: udp port:: DNS action:: deny } term b { source-address:: LOW protocol:: udp destination-port:: DNS action:: deny }",
+        "term a { address:: TEN protocol:: udp port:: DNS action:: deny } term b { source-address:: LOW protocol:: udp destination-port:: DNS action:: deny }",
         "-0",
     ),
 ];
 
 #[test]
-fn shaded_on_either_side(rt: HostRuntime) -> Result<(), Fail> {
-    expect(&rt, rt.alloc(), &EITHER)
+fn terms_are_shaded(rt: HostRuntime) -> Result<(), Fail> {
+    let base = base(rt.alloc())?;
+    for (terms, expected) in &SHADES {
+        assert_eq!(rt;
+            shown(rt.alloc(), &base, terms)?.as_str(),
+            *expected,
+            "at {terms}"
+        );
+    }
+    Ok(())
 }
