@@ -1,14 +1,14 @@
 -- What is written as rows is read as those rows.
-use Rattle.std.proofs.Common.{◌≡◌, ℕ, zero, suc, ◌+◌, ◌-◌, ◌≤◌, length, take, get_or, Bool, true, false, cond, ◌||◌, List, [], ◌∷◌, ◌++◌, drop, map, flat_map, replicate, refl, ap, sym, ◌∙◌, append_assoc, append-nil, arith, eqb}
+use Rattle.std.proofs.Common.{◌≡◌, ℕ, zero, suc, ◌+◌, ◌-◌, ◌<◌, ◌≤◌, length, take, get_or, Bool, true, false, cond, ◌||◌, List, [], ◌∷◌, ◌++◌, drop, map, flat_map, replicate, None, Some, refl, ap, sym, ◌∙◌, append_assoc, append-nil, arith, eqb}
 use Rattle.std.specs.Borrow.{Bor}
 use Rattle.std.specs.List.{AllByRecursion, prefix_len, slice_split, join_with_byte, onto_first, fold}
 use Rattle.std.proofs.lemmas.Bool.Decides.{Decides-eqb}
 use Rattle.std.proofs.lemmas.List.Splits.{join_with_byte-slice_split}
 use Rattle.std.proofs.lemmas.List.Sums.{fold-append}
-use Rattle.std.proofs.lemmas.List.{take_all}
+use Rattle.std.proofs.lemmas.List.{length-append, take_all}
 use Rattle.std.proofs.Math.Seq.{take-length}
-use Rattle.acl_text.specs.Cuts.{views, has_byte}
-use Rattle.acl_text.proofs.CutLaws.{has-append}
+use Rattle.acl_text.specs.Cuts.{views, cut_at, has_byte}
+use Rattle.acl_text.proofs.CutLaws.{cut-found, has-append, none-cut}
 use Rattle.acl_grammar.specs.Rows.{Row, row, spaced, row_line, row_text, text_of_rows, is_space, words_in}
 use Rattle.acl_grammar.specs.RowSteps.{row_in, rows_in, IsWord, begins, IsRow}
 
@@ -112,6 +112,16 @@ rows_again (r ∷ rows) h =
     ap rows_in (append_assoc (row_line r) (10 ∷ []) (text_of_rows rows))
     ∙ ap (map row_in) (cut_there 10 (row_line r) (text_of_rows rows) no_feed)
     ∙ ap (λ x. x ∷ rows_in (text_of_rows rows)) (row-again r h.0) ∙ ap (λ xs. r ∷ xs) (rows_again rows h.1)
+
+-- the rows of a text are that of its first line and those of the lines behind it
+pub first_row : (text line rest : List ℕ) → cut_at 10 text ≡ Some (line, rest) → (rows_in text ≡ row_in line ∷ rows_in rest) × (length rest < length text)
+first_row text line rest h =
+    let cut = cut-found 10 text line rest h in
+    let longer : length text ≡ length line + length (10 ∷ rest) = ap length cut.0 ∙ length-append line (10 ∷ rest) in
+    (ap rows_in cut.0 ∙ ap (map row_in) (cut_there 10 line rest cut.1), omega (arith, longer))
+
+pub last_row : (text : List ℕ) → cut_at 10 text ≡ None → rows_in text ≡ row_in text ∷ []
+last_row text h = ap (map row_in) (cut_none 10 text (none-cut 10 text h))
 
 -- what is written is read: a draft goes over the rows that were written
 pub fold-again : {S : Type 0} (step : S → Row → S) (start end : S) (rows : List Row) → AllByRecursion IsRow rows

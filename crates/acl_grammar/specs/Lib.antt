@@ -1,8 +1,8 @@
+pub mod ApartSteps
 pub mod ComparingSteps
 pub mod Documents
 pub mod FamilyWords
 pub mod Naming
-pub mod NamingSteps
 pub mod PortRangeSteps
 pub mod PortRanges
 pub mod PrefixCheckSteps

@@ -2,10 +2,10 @@ ghost use Rattle.std.specs.Prelude.{◌≡◌, IfOk, List, OnOk};
 ghost use Rattle.std.specs.List.{fold};
 ghost use Rattle.acl_text.specs.Cuts.{views};
 ghost use Rattle.acl_grammar.specs.Rows.{Row, row};
-ghost use Rattle.acl_grammar.specs.RowSteps.{rows_in};
+ghost use Rattle.acl_grammar.specs.RowSteps.{row_in, rows_in};
 
 use crate::splitting::read_row;
-use acl_text::{Items, Memory, split_text};
+use acl_text::{Items, Memory, split_at_byte};
 use std::alloc::Global;
 
 /// What has been read of a text, row by row. No row is refused: one that means nothing changes
@@ -33,14 +33,22 @@ pub trait DocumentDraft<S: Drop>: Draft + Drop {
         ensures { IfOk result (λ doc. doc ≡ sections self) };
 }
 
-/// Takes the rows of a text.
+/// Takes the rows of a text, line by line.
+#[tactic(auto, using(crate::proofs::RowLaws::first_row, crate::proofs::RowLaws::last_row))]
 pub fn read_rows<D: Draft>(alloc: Global, draft: &mut D, text: &[u8]) -> Result<(), Memory>
     ensures { OnOk result (draft.new ≡ fold D.step draft.old (rows_in text.now)) }
 {
-    let lines = split_text(alloc, text, b'\n')?;
-    for line in lines.as_slice() {
-        let (indent, words) = read_row(alloc, line)?;
-        draft.take_row(alloc, indent, words.as_slice())?;
+    let mut rest = text;
+    while let Some((line, behind)) = split_at_byte(rest, b'\n') {
+        take_line(alloc, draft, line)?;
+        rest = behind;
     }
-    Ok(())
+    take_line(alloc, draft, rest)
+}
+
+fn take_line<D: Draft>(alloc: Global, draft: &mut D, line: &[u8]) -> Result<(), Memory>
+    ensures { OnOk result (draft.new ≡ D.step draft.old (row_in line.now)) }
+{
+    let (indent, words) = read_row(alloc, line)?;
+    draft.take_row(alloc, indent, words.as_slice())
 }

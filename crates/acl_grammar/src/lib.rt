@@ -3,6 +3,7 @@
 //! document with their laws, and the parts of rules that languages have alike.
 #![tactic(auto)]
 
+mod apart;
 mod comparing;
 mod drafts;
 mod each_word;
@@ -11,7 +12,6 @@ mod item_lists;
 mod languages;
 mod laws;
 mod named;
-mod naming;
 mod pieces;
 mod port_ranges;
 mod prefix_checks;
@@ -19,6 +19,7 @@ mod rows;
 mod rule_parts;
 mod splitting;
 
+pub use apart::{are_distinct, are_distinct_names};
 pub use comparing::is_text_of;
 pub use drafts::{DocumentDraft, Draft};
 pub use each_word::{EachWord, WordForm};
@@ -30,7 +31,6 @@ pub use laws::{
     joined_texts_spell_joined_documents, the_empty_text_has_no_section,
 };
 pub use named::{Named, have_distinct_names};
-pub use naming::are_distinct;
 pub use pieces::{Address, FreeText, Number, Piece, Wildcard, Word, Words, put_words};
 pub use port_ranges::{PortRange, RangeWords, are_port_ranges, is_port_range};
 pub use prefix_checks::{is_addresses, is_prefix_of};
