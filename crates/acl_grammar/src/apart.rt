@@ -7,8 +7,8 @@ ghost use Rattle.acl_grammar.specs.ApartSteps.{are_apart, are_rising, is_below_f
 
 /// Whether no two of the names are the same.
 pub fn are_distinct_names(names: Vec<&[u8]>) -> bool
-    ensures is { IsTrue result ↔ IsDistinct bytes_eq (views names.items) }
-    ensures exact { result ≡ are_apart bytes_eq (views names.items) }
+    ensures is { IsTrue result ↔ IsDistinct bytes_eq (views names.entry.items) }
+    ensures exact { result ≡ are_apart bytes_eq (views names.entry.items) }
 {
     are_distinct(names)
 }

@@ -1,10 +1,9 @@
-ghost use Rattle.std.specs.Prelude.{◌≡◌, IfOk, List, OnOk};
-ghost use Rattle.std.specs.List.{fold};
-ghost use Rattle.acl_text.specs.Cuts.{views};
-ghost use Rattle.acl_grammar.specs.Rows.{Row, row};
+ghost use Rattle.std.specs.Prelude.{◌≡◌, ◌≤◌, IfOk, List, OnOk, length};
+ghost use Rattle.std.specs.List.{fold, prefix_len};
+ghost use Rattle.acl_grammar.specs.Rows.{Row, is_space, row};
 ghost use Rattle.acl_grammar.specs.RowSteps.{row_in, rows_in};
 
-use crate::splitting::read_row;
+use crate::row_words::RowWords;
 use acl_text::{Items, Memory, split_at_byte};
 use std::alloc::Global;
 
@@ -14,8 +13,13 @@ pub trait Draft {
     ghost step: { Self → Row → Self };
 
     /// Takes the next row.
-    fn take_row(&mut self, alloc: Global, indent: usize, words: &[&[u8]]) -> Result<(), Memory>
-        ensures { OnOk result (self.new ≡ step self.old (row indent (views words.now))) };
+    fn take_row(
+        &mut self,
+        alloc: Global,
+        indent: usize,
+        words: RowWords<'_>,
+    ) -> Result<(), Memory>
+        ensures { OnOk result (self.new ≡ step self.old (row indent words)) };
 }
 
 /// What has been read of a document, whose rows become sections.
@@ -46,9 +50,23 @@ pub fn read_rows<D: Draft>(alloc: Global, draft: &mut D, text: &[u8]) -> Result<
     take_line(alloc, draft, rest)
 }
 
+#[tactic(auto, unfolding(crate::specs::RowSteps::row_in))]
 fn take_line<D: Draft>(alloc: Global, draft: &mut D, line: &[u8]) -> Result<(), Memory>
     ensures { OnOk result (draft.new ≡ D.step draft.old (row_in line.now)) }
 {
-    let (indent, words) = read_row(alloc, line)?;
-    draft.take_row(alloc, indent, words.as_slice())
+    let indent = indent_of(line);
+    draft.take_row(alloc, indent, RowWords::new(&line[indent..]))
+}
+
+// How many spaces the line begins with.
+fn indent_of(line: &[u8]) -> usize
+    ensures exact { result ≡ prefix_len is_space line.now }
+    ensures fits { result ≤ length line.now }
+{
+    for (i, byte) in line.iter().enumerate() {
+        if *byte != b' ' {
+            return i;
+        }
+    }
+    line.len()
 }

@@ -1,11 +1,10 @@
 ghost use Rattle.std.specs.Prelude.{◌≡◌, Some, IfSome, ◌<◌, ◌^◌};
 ghost use Rattle.std.specs.List.{fold};
 ghost use Rattle.std.specs.Str.{bytes_eq};
-ghost use Rattle.acl_text.specs.Cuts.{views};
 ghost use Rattle.cisco_lang.specs.ReadingSteps.{draft, no_entry, with_place, with_ports, place_of, ports_of, after, proto_in, host_in, place_in, length_in, port_in, port_pair, begun, ports_begin, place_named, take_place, test_named, with_test, take_test, take_as, take_word, entry_in};
 
 use crate::documents::{Entry, Flags};
-use acl_grammar::End;
+use acl_grammar::{End, RowWords};
 use acl_packet::{Family, Prefix};
 use acl_text::{read_address, read_spelled_prefix, read_u8, read_u16};
 
@@ -36,11 +35,12 @@ struct EntryDraft {
 
 /// The entry of the words. No words are refused: what means nothing changes nothing.
 #[tactic(auto, unfolding(crate::specs::ReadingSteps::entry_in))]
-pub(crate) fn entry_of(family: Family, words: &[&[u8]]) -> Entry
-    ensures { result ≡ entry_in family (views words.now) }
+pub(crate) fn entry_of(family: Family, words: RowWords<'_>) -> Entry
+    ensures { result ≡ entry_in family words }
 {
     let mut draft = EntryDraft::new(family);
-    for word in words {
+    let mut rest = words;
+    while let Some(word) = rest.next() {
         draft = draft.take_word(word);
     }
     draft.entry

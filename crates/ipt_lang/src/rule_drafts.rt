@@ -3,7 +3,7 @@ ghost use Rattle.acl_text.specs.Cuts.{views};
 ghost use Rattle.ipt_lang.specs.ReadingSteps.{act_in, draft, flags_in, named_proto_in, next_in, no_rule, proto_in, ranges_among, ranges_in, rule_in, take_word, with_address, with_ports, with_value, with_word};
 
 use crate::documents::{Act, Flags, Rule};
-use acl_grammar::End;
+use acl_grammar::{End, RowWords};
 use acl_packet::{Family, Verdict};
 use acl_text::{Items, Memory, read_ports, read_spelled_prefix, read_u8, split_text};
 use std::alloc::Global;
@@ -31,15 +31,16 @@ struct RuleDraft {
 /// The rule of the words, for packets of the family. No words are refused: what means nothing changes
 /// nothing.
 #[tactic(auto, unfolding(crate::specs::ReadingSteps::rule_in))]
-pub(crate) fn rule_of(alloc: Global, family: Family, words: &[&[u8]]) -> Result<Rule, Memory>
-    ensures { IfOk result (λ r. r ≡ rule_in family (views words.now)) }
+pub(crate) fn rule_of(alloc: Global, family: Family, words: RowWords<'_>) -> Result<Rule, Memory>
+    ensures { IfOk result (λ r. r ≡ rule_in family words) }
 {
     let mut draft = RuleDraft {
         family,
         rule: no_rule(alloc),
         next: Next::Keyword,
     };
-    for word in words {
+    let mut rest = words;
+    while let Some(word) = rest.next() {
         draft.take_word(alloc, word)?;
     }
     Ok(draft.rule)

@@ -1,7 +1,7 @@
 use acl_grammar::{
-    Address, Each, EachWord, Form, FreeText, Named, Number, Piece, PortRange, Row, Rows, Wildcard,
+    Address, Each, EachWord, Form, FreeText, Named, Number, Piece, PortRange, Row, RowWords, Rows, Wildcard,
     Word, WordForm, are_distinct, are_distinct_names, are_port_ranges, have_distinct_names, is_port_range,
-    is_prefix_of, is_text_of, join_words,
+    is_prefix_of, is_text_of,
 };
 use acl_packet::{Family, Prefix};
 use acl_text::{Memory, Out, PutFault};
@@ -124,9 +124,19 @@ fn compares_rows_with_a_text(rt: HostRuntime) {
 }
 
 #[test]
-fn joins_words(rt: HostRuntime) -> Result<(), Fail> {
-    let joined = join_words(rt.alloc(), &[b"to", b"all"])?;
-    assert_eq!(rt; joined.as_slice(), b"to all".as_slice());
+fn takes_words_of_a_row(rt: HostRuntime) -> Result<(), Fail> {
+    let mut words = RowWords::new(b"to  all");
+    assert_eq!(rt; words.begins_with(b"to"), true);
+    assert_eq!(rt; words.next(), Some(b"to".as_slice()));
+    assert_eq!(rt; words.text(), b" all".as_slice());
+    assert_eq!(rt; words.few(rt.alloc())?.len(), 2);
+    assert_eq!(rt; words.next(), Some(b"".as_slice()));
+    assert_eq!(rt; words.next(), Some(b"all".as_slice()));
+    assert_eq!(rt; words.next(), None);
+    assert_eq!(rt; words.begins_with(b"to"), false);
+    assert_eq!(rt; words.text(), b"".as_slice());
+    let behind = RowWords::new(b"to all").behind_first();
+    assert_eq!(rt; behind.text(), b"all".as_slice());
     Ok(())
 }
 
