@@ -71,7 +71,7 @@ module _ {A : Type 0} {clash below : A → A → Bool} {IsUp : A → A → Type 
       let p = and_parts (is_below_first below x xs) (are_rising below xs) h in
       ap (λ b. not b && are_apart clash xs) (below_all x xs p.0 p.1) ∙ rising_apart xs p.1
 
-  apart_rising : (xs : List A) → ((k : ℕ) (d : A) → k + 1 < length xs → IsUp (get_or xs k d) (get_or xs (k + 1) d))
+  apart_rising : (xs : List A) → ((k n : ℕ) (d : A) → n ≡ k + 1 → n < length xs → IsUp (get_or xs k d) (get_or xs n d))
       → list_all is_sound xs ≡ true → are_apart clash xs ≡ true → are_rising below xs ≡ true
   unfolding are_rising are_apart
   apart_rising [] up s h = refl
@@ -81,20 +81,23 @@ module _ {A : Type 0} {clash below : A → A → Bool} {IsUp : A → A → Type 
       let q = or_parts (clash x y) (list_any (λ z. clash x z) xs) (not_false (list_any (λ z. clash x z) (y ∷ xs)) p.0) in
       let t = and_parts (is_sound x) (list_all is_sound (y ∷ xs)) s in
       let u = and_parts (is_sound y) (list_all is_sound xs) t.1 in
-      ap (λ b. b && are_rising below (y ∷ xs)) (tells.meets x y u.0 (up zero x (omega arith)) q.0)
-      ∙ apart_rising (y ∷ xs) (λ k d inside. up (suc k) d (omega arith)) t.1 p.1
+      ap (λ b. b && are_rising below (y ∷ xs)) (tells.meets x y u.0 (up zero (suc zero) x (omega arith) (omega arith)) q.0)
+      ∙ apart_rising (y ∷ xs) (λ k n d e inside. up (suc k) (suc n) d (omega (arith, e)) (omega (arith, inside))) t.1 p.1
 
   -- what is sorted rises exactly where no two items clash
   pub sorted_tells : (xs ys : List A) → IsPermutation xs ys → ((k : ℕ) (d : A) → k + 1 < length ys → IsUp (get_or ys k d) (get_or ys (k + 1) d))
       → list_all is_sound xs ≡ true → are_rising below ys ≡ are_apart clash xs
   sorted_tells xs ys p up s =
       let sound : list_all is_sound ys ≡ true =
-          list_all-from_AllPass is_sound ys (All-permutation (λ x. is_sound x ≡ true) xs ys p (AllPass-from_list_all is_sound xs s)) in
+      list_all-from_AllPass is_sound ys (All-permutation (λ x. is_sound x ≡ true) xs ys p (AllPass-from_list_all is_sound xs s)) in
+      let next : (k n : ℕ) (d : A) → n ≡ k + 1 → n < length ys → IsUp (get_or ys k d) (get_or ys n d) =
+      λ k n d e inside. subst (λ m. IsUp (get_or ys k d) (get_or ys m d)) (sym e) (up k d (omega (arith, e, inside))) in
       let front = apart_decides clash xs in
       let back = apart_decides clash ys in
-      same_from_decides (are_rising below ys) (are_apart clash xs)
-      (λ h. IsDistinct-IsPermutation clash tells.flips ys xs (IsPermutation-sym xs ys p) (back.0 (rising_apart ys h)),
-      λ h. apart_rising ys up sound (back.1 (IsDistinct-IsPermutation clash tells.flips xs ys p h)))
+      same_from_decides (are_rising below ys) (are_apart clash xs) (
+        λ h. IsDistinct-IsPermutation clash tells.flips ys xs (IsPermutation-sym xs ys p) (back.0 (rising_apart ys h)),
+        λ h. apart_rising ys next sound (back.1 (IsDistinct-IsPermutation clash tells.flips xs ys p h)),
+      )
       front
 
 -- ---- keys in their order

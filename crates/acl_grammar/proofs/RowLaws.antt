@@ -1,5 +1,5 @@
 -- What is written as rows is read as those rows.
-use Rattle.std.proofs.Common.{◌≡◌, ℕ, zero, suc, ◌+◌, ◌-◌, ◌<◌, length, take, Bool, true, false, cond, ◌||◌, List, [], ◌∷◌, ◌++◌, drop, map, flat_map, replicate, None, Some, refl, ap, sym, ◌∙◌, append_assoc, append-nil, arith, eqb}
+use Rattle.std.proofs.Common.{◌≡◌, ℕ, zero, suc, ◌+◌, ◌<◌, length, Bool, true, false, cond, ◌||◌, List, [], ◌∷◌, ◌++◌, drop, map, flat_map, replicate, None, Some, refl, ap, sym, ◌∙◌, append_assoc, append-nil, arith, eqb}
 use Rattle.std.specs.List.{AllByRecursion, prefix_len, slice_split, join_with_byte, onto_first, fold}
 use Rattle.std.proofs.lemmas.Bool.Decides.{Decides-eqb}
 use Rattle.std.proofs.lemmas.List.Splits.{join_with_byte-slice_split}
@@ -64,11 +64,6 @@ last_word text h = cut_none 32 text (none-cut 32 text h)
 pub text_of_words : (text : List ℕ) → text ≡ join_with_byte 32 (words_in text)
 text_of_words text = sym (join_with_byte-slice_split 32 text)
 
--- one of the first few words more
-pub few_more : (n : ℕ) (w : List ℕ) (words : List (List ℕ)) → 0 < n → take n (w ∷ words) ≡ w ∷ take (n - 1) words
-few_more zero w words h = absurd (omega arith)
-few_more (suc n) w words h = refl
-
 -- ---- one row
 
 words_again : (w : List ℕ) (ws : List (List ℕ)) → AllByRecursion IsWord (w ∷ ws) → words_in (join_with_byte 32 (w ∷ ws)) ≡ w ∷ ws
@@ -129,11 +124,14 @@ rows_again (r ∷ rows) h =
     ∙ ap (λ x. x ∷ rows_in (text_of_rows rows)) (row-again r h.0) ∙ ap (λ xs. r ∷ xs) (rows_again rows h.1)
 
 -- the rows of a text are that of its first line and those of the lines behind it
-pub first_row : (text line rest : List ℕ) → cut_at 10 text ≡ Some (line, rest) → (rows_in text ≡ row_in line ∷ rows_in rest) × (length rest < length text)
+pub first_row : (text line rest : List ℕ) → cut_at 10 text ≡ Some (line, rest) → rows_in text ≡ row_in line ∷ rows_in rest
 first_row text line rest h =
-    let cut = cut-found 10 text line rest h in
-    let longer : length text ≡ length line + length (10 ∷ rest) = ap length cut.0 ∙ length-append line (10 ∷ rest) in
-    (ap rows_in cut.0 ∙ ap (map row_in) (cut_there 10 line rest cut.1), omega (arith, longer))
+    let cut = cut-found 10 text line rest h in ap rows_in cut.0 ∙ ap (map row_in) (cut_there 10 line rest cut.1)
+
+pub rest_is_shorter : (text line rest : List ℕ) → cut_at 10 text ≡ Some (line, rest) → length rest < length text
+rest_is_shorter text line rest h =
+    let longer : length text ≡ length line + length (10 ∷ rest) = ap length (cut-found 10 text line rest h).0 ∙ length-append line (10 ∷ rest) in
+    omega (arith, longer)
 
 pub last_row : (text : List ℕ) → cut_at 10 text ≡ None → rows_in text ≡ row_in text ∷ []
 last_row text h = ap (map row_in) (cut_none 10 text (none-cut 10 text h))

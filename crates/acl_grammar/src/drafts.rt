@@ -13,13 +13,8 @@ pub trait Draft {
     ghost step: { Self → Row → Self };
 
     /// Takes the next row.
-    fn take_row(
-        &mut self,
-        alloc: Global,
-        indent: usize,
-        words: RowWords<'_>,
-    ) -> Result<(), Memory>
-        ensures { OnOk result (self.new ≡ step self.old (row indent words)) };
+    fn take_row(&mut self, alloc: Global, indent: usize, words: RowWords<'_>) -> Result<(), Memory>
+        ensures { OnOk result (self.new ≡ step self.old (row indent words.entry)) };
 }
 
 /// What has been read of a document, whose rows become sections.
@@ -38,7 +33,7 @@ pub trait DocumentDraft<S: Drop>: Draft + Drop {
 }
 
 /// Takes the rows of a text, line by line.
-#[tactic(auto, using(crate::proofs::RowLaws::first_row, crate::proofs::RowLaws::last_row))]
+#[tactic(auto, using(crate::proofs::RowLaws::first_row, crate::proofs::RowLaws::last_row, crate::proofs::RowLaws::rest_is_shorter))]
 pub fn read_rows<D: Draft>(alloc: Global, draft: &mut D, text: &[u8]) -> Result<(), Memory>
     ensures { OnOk result (draft.new ≡ fold D.step draft.old (rows_in text.now)) }
 {

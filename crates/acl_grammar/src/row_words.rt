@@ -5,10 +5,8 @@ ghost use Rattle.acl_grammar.specs.RowSteps.{begins_with, few_in};
 ghost use Rattle.acl_grammar.specs.Rows.{words_in};
 
 use acl_text::{Memory, split_at_byte};
-use std::alloc::Global;
+use std::alloc::{AllocError, Global};
 use std::marker::Model;
-
-const FEW: usize = 9;
 
 /// The words of a row that have not been taken. They are cut from its text one by one, so that a row
 /// of many words takes no memory.
@@ -56,18 +54,13 @@ impl<'a> RowWords<'a> {
     }
 
     /// The first few words, more than a row can have whose meaning lies in their number.
-    #[tactic(auto, using(crate::proofs::RowLaws::few_more))]
     pub fn few(&self, alloc: Global) -> Result<Vec<&'a [u8]>, Memory>
         ensures { IfOk result (λ few. views few.items ≡ few_in self.now) }
     {
-        let mut few = Vec::with_capacity(alloc, FEW)?;
-        let mut rest = RowWords { text: self.text };
-        for _place in 0..FEW {
-            if let Some(word) = rest.next() {
-                few.push(word)?;
-            }
+        match self.text {
+            Some(text) => Ok(few_of(alloc, text)?),
+            None => Ok(Vec::new(alloc)),
         }
-        Ok(few)
     }
 
     /// Whether the first word is that one.
@@ -83,7 +76,7 @@ impl<'a> RowWords<'a> {
 
     /// The words behind the first one.
     pub fn behind_first(self) -> RowWords<'a>
-        ensures { result ≡ drop 1 self }
+        ensures { result ≡ drop 1 self.entry }
     {
         let mut rest = self;
         rest.next();
@@ -100,4 +93,10 @@ impl<'a> RowWords<'a> {
             None => &[],
         }
     }
+}
+
+fn few_of<'a>(alloc: Global, text: &'a [u8]) -> Result<Vec<&'a [u8]>, AllocError>
+    ensures { IfOk result (λ few. views few.items ≡ few_in (words_in text.now)) }
+{
+    text.split(|b| *b == b' ').take(9).collect(alloc)
 }

@@ -145,7 +145,7 @@ impl ListsDraft {
 
     #[tactic(auto, unfolding(crate::specs::ReadingSteps::take_inner))]
     fn take_inner(&mut self, alloc: Global, words: RowWords<'_>) -> Result<(), Memory>
-        ensures { OnOk result (self.new ≡ take_inner self.old words) }
+        ensures { OnOk result (self.new ≡ take_inner self.old words.entry) }
     {
         let item = item_of(alloc, self.list.family, words)?;
         self.list.items.push(item)
@@ -183,7 +183,7 @@ fn is_last(families: Families, family: Family) -> bool
 
 #[tactic(auto, unfolding(crate::specs::ReadingSteps::item_in))]
 fn item_of(alloc: Global, family: Family, words: RowWords<'_>) -> Result<Item, Memory>
-    ensures { IfOk result (λ i. i ≡ item_in family words) }
+    ensures { IfOk result (λ i. i ≡ item_in family words.entry) }
 {
     if words.begins_with(b"remark") {
         let text = words.behind_first().text();

@@ -61,7 +61,7 @@ impl DocumentDraft<Section> for ChainsDraft {
 impl ChainsDraft {
     #[tactic(auto, unfolding(crate::specs::ReadingSteps::take_words))]
     fn take_words(&mut self, alloc: Global, words: RowWords<'_>) -> Result<(), Memory>
-        ensures { OnOk result (self.new ≡ take_words self.old words) }
+        ensures { OnOk result (self.new ≡ take_words self.old words.entry) }
     {
         let mut rest = words;
         match rest.next() {
@@ -77,7 +77,7 @@ impl ChainsDraft {
         first: &[u8],
         words: RowWords<'_>,
     ) -> Result<(), Memory>
-        ensures { OnOk result (self.new ≡ take_named self.old first.now words) }
+        ensures { OnOk result (self.new ≡ take_named self.old first.now words.entry) }
     {
         if first == b"-A".as_slice() {
             self.take_appended(alloc, words)
@@ -107,7 +107,7 @@ impl ChainsDraft {
 
     #[tactic(auto, unfolding(crate::specs::ReadingSteps::take_appended))]
     fn take_appended(&mut self, alloc: Global, words: RowWords<'_>) -> Result<(), Memory>
-        ensures { OnOk result (self.new ≡ take_appended self.old words) }
+        ensures { OnOk result (self.new ≡ take_appended self.old words.entry) }
     {
         let mut rest = words;
         let Some(chain) = rest.next() else {

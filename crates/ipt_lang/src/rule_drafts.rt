@@ -32,7 +32,7 @@ struct RuleDraft {
 /// nothing.
 #[tactic(auto, unfolding(crate::specs::ReadingSteps::rule_in))]
 pub(crate) fn rule_of(alloc: Global, family: Family, words: RowWords<'_>) -> Result<Rule, Memory>
-    ensures { IfOk result (λ r. r ≡ rule_in family words) }
+    ensures { IfOk result (λ r. r ≡ rule_in family words.entry) }
 {
     let mut draft = RuleDraft {
         family,

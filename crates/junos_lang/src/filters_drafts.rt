@@ -218,7 +218,7 @@ impl JTerm {
         word: &[u8],
         words: RowWords<'_>,
     ) -> Result<(), Memory>
-        ensures { OnOk result (self.new ≡ with_list self.old word.now words) }
+        ensures { OnOk result (self.new ≡ with_list self.old word.now words.entry) }
     {
         if word == b"source-port".as_slice() {
             self.sports = ranges_of(alloc, words)?;
@@ -303,7 +303,7 @@ fn note_of(alloc: Global, text: &[u8]) -> Result<Bytes, Memory>
 // The numbers among the words.
 #[tactic(auto, unfolding(crate::specs::ReadingSteps::numbers_in))]
 fn numbers_of(alloc: Global, words: RowWords<'_>) -> Result<Items<u8>, Memory>
-    ensures { IfOk result (λ numbers. numbers ≡ numbers_in words) }
+    ensures { IfOk result (λ numbers. numbers ≡ numbers_in words.entry) }
 {
     let mut numbers = Items::new(alloc);
     let mut rest = words;
@@ -318,7 +318,7 @@ fn numbers_of(alloc: Global, words: RowWords<'_>) -> Result<Items<u8>, Memory>
 // The ranges of ports among the words.
 #[tactic(auto, unfolding(crate::specs::ReadingSteps::ranges_in))]
 fn ranges_of(alloc: Global, words: RowWords<'_>) -> Result<Items<(u16, u16)>, Memory>
-    ensures { IfOk result (λ ranges. ranges ≡ ranges_in words) }
+    ensures { IfOk result (λ ranges. ranges ≡ ranges_in words.entry) }
 {
     let mut ranges = Items::new(alloc);
     let mut rest = words;

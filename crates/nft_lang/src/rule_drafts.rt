@@ -33,7 +33,7 @@ pub(crate) fn rule_of(
     families: Families,
     words: RowWords<'_>,
 ) -> Result<Rule, Memory>
-    ensures { IfOk result (λ r. r ≡ rule_in families words) }
+    ensures { IfOk result (λ r. r ≡ rule_in families words.entry) }
 {
     let mut draft = RuleDraft::new(alloc, first_family(families));
     let mut rest = words;

@@ -101,7 +101,7 @@ impl TablesDraft {
 
     #[tactic(auto, unfolding(crate::specs::ReadingSteps::take_inner))]
     fn take_inner(&mut self, alloc: Global, words: RowWords<'_>) -> Result<(), Memory>
-        ensures { OnOk result (self.new ≡ take_inner self.old words) }
+        ensures { OnOk result (self.new ≡ take_inner self.old words.entry) }
     {
         if words.begins_with(b"type") {
             let few = words.few(alloc)?;
@@ -202,7 +202,7 @@ fn from_zero(word: &[u8]) -> Option<i32>
 
 #[tactic(auto, unfolding(crate::specs::ReadingSteps::item_in))]
 fn item_of(alloc: Global, families: Families, words: RowWords<'_>) -> Result<Item, Memory>
-    ensures { IfOk result (λ i. i ≡ item_in families words) }
+    ensures { IfOk result (λ i. i ≡ item_in families words.entry) }
 {
     if words.begins_with(b"#") {
         let text = words.behind_first().text();

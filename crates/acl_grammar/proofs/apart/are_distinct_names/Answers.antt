@@ -1,5 +1,4 @@
-use Rattle.std.proofs.Common.{◌∙◌, sym}
-use Rattle.std.specs.Str.{bytes_eq}
+use Rattle.std.proofs.Common.{◌∙◌}
 use Rattle.acl_grammar.proofs.NamingLaws.{names_apart, names_decide}
 use Rattle.acl_grammar.proofs.apart.are_distinct_names.Goals as goal
 
