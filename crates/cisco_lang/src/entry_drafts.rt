@@ -36,7 +36,7 @@ struct EntryDraft {
 /// The entry of the words. No words are refused: what means nothing changes nothing.
 #[tactic(auto, unfolding(crate::specs::ReadingSteps::entry_in))]
 pub(crate) fn entry_of(family: Family, words: RowWords<'_>) -> Entry
-    ensures { result ≡ entry_in family words }
+    ensures { result ≡ entry_in family words.entry }
 {
     let mut draft = EntryDraft::new(family);
     let mut rest = words;

@@ -108,7 +108,7 @@ impl FiltersDraft {
         few: &[&[u8]],
         words: RowWords<'_>,
     ) -> Result<(), Memory>
-        ensures { OnOk result (self.new ≡ take_term self.old (views few.now) words) }
+        ensures { OnOk result (self.new ≡ take_term self.old (views few.now) words.entry) }
     {
         match few {
             [] => Ok(()),
@@ -149,7 +149,7 @@ impl FiltersDraft {
         few: &[&[u8]],
         words: RowWords<'_>,
     ) -> Result<(), Memory>
-        ensures { OnOk result (self.new ≡ take_part self.old (views few.now) words) }
+        ensures { OnOk result (self.new ≡ take_part self.old (views few.now) words.entry) }
     {
         match few {
             [] => Ok(()),
