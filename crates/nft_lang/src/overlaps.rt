@@ -4,7 +4,6 @@ ghost use Rattle.acl_grammar.specs.ApartSteps.{are_apart, are_rising, is_below_f
 ghost use Rattle.acl_grammar.specs.PortRangeSteps.{is_port_range};
 ghost use Rattle.nft_lang.specs.Documents.{ports_overlap, prefixes_overlap};
 ghost use Rattle.nft_lang.specs.ValiditySteps.{ports_below, prefix_below};
-ghost use Rattle.nft_lang.proofs.OverlapLaws.{ports_tell, prefixes_tell};
 
 use acl_packet::Prefix;
 use acl_text::Memory;
@@ -29,7 +28,9 @@ pub(crate) trait Element {
     fn is_below(&self, other: &Self) -> bool
         ensures { result ≡ below self.now other.now };
 
-    ghost tells: { TellsApart overlap below (λ x y. start x ≤ start y) is_sound };
+    /// A law: of elements that are sorted by their starts, neighbours tell.
+    fn neighbours_tell()
+        ensures { TellsApart overlap below (λ x y. start x ≤ start y) is_sound };
 }
 
 impl Element for Prefix {
@@ -41,8 +42,6 @@ impl Element for Prefix {
 
     ghost is_sound = { λ p. true };
 
-    ghost tells = { prefixes_tell };
-
     fn start(&self) -> u128 {
         self.first
     }
@@ -50,6 +49,9 @@ impl Element for Prefix {
     fn is_below(&self, other: &Prefix) -> bool {
         self.first < other.first && !self.contains(other.first)
     }
+
+    #[tactic(auto, using(crate::proofs::OverlapLaws::prefixes_tell))]
+    fn neighbours_tell() {}
 }
 
 impl Element for (u16, u16) {
@@ -61,8 +63,6 @@ impl Element for (u16, u16) {
 
     ghost is_sound = { is_port_range };
 
-    ghost tells = { ports_tell };
-
     fn start(&self) -> u128 {
         u128::from(self.0)
     }
@@ -70,6 +70,9 @@ impl Element for (u16, u16) {
     fn is_below(&self, other: &(u16, u16)) -> bool {
         self.1 < other.0 && other.0 <= other.1
     }
+
+    #[tactic(auto, using(crate::proofs::OverlapLaws::ports_tell))]
+    fn neighbours_tell() {}
 }
 
 /// Whether no two of the elements overlap.
@@ -77,6 +80,7 @@ pub(crate) fn are_apart<T: Element>(alloc: Global, elements: &[T]) -> Result<boo
     requires { list_all T.is_sound elements.now ≡ true }
     ensures { IfOk result (λ b. b ≡ are_apart T.overlap elements.now) }
 {
+    T::neighbours_tell();
     let mut sorted = references(alloc, elements)?;
     sorted.sort_unstable_by_key(|element| element.start());
     Ok(are_rising(sorted.as_slice()))
