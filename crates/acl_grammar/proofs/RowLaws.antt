@@ -52,6 +52,12 @@ cut_there c [] ys h =
     ap (λ b. cond b ([] ∷ parts) (onto_first c parts)) ((Decides-eqb c c).1 refl)
 cut_there c (x ∷ xs) ys h = cut_step (eqb x c) c x xs (slice_split (λ b. eqb b c) (xs ++ c ∷ ys)) (slice_split (λ b. eqb b c) ys) h (cut_there c xs ys)
 
+-- what stands behind a byte is shorter
+pub rest_is_shorter : (c : ℕ) (text part rest : List ℕ) → cut_at c text ≡ Some (part, rest) → length rest < length text
+rest_is_shorter c text part rest h =
+    let longer : length text ≡ length part + length (c ∷ rest) = ap length (cut-found c text part rest h).0 ∙ length-append part (c ∷ rest) in
+    omega (arith, longer)
+
 -- ---- the words of a row, one by one
 
 pub first_word : (text word rest : List ℕ) → cut_at 32 text ≡ Some (word, rest) → words_in text ≡ word ∷ words_in rest
@@ -127,11 +133,6 @@ rows_again (r ∷ rows) h =
 pub first_row : (text line rest : List ℕ) → cut_at 10 text ≡ Some (line, rest) → rows_in text ≡ row_in line ∷ rows_in rest
 first_row text line rest h =
     let cut = cut-found 10 text line rest h in ap rows_in cut.0 ∙ ap (map row_in) (cut_there 10 line rest cut.1)
-
-pub rest_is_shorter : (text line rest : List ℕ) → cut_at 10 text ≡ Some (line, rest) → length rest < length text
-rest_is_shorter text line rest h =
-    let longer : length text ≡ length line + length (10 ∷ rest) = ap length (cut-found 10 text line rest h).0 ∙ length-append line (10 ∷ rest) in
-    omega (arith, longer)
 
 pub last_row : (text : List ℕ) → cut_at 10 text ≡ None → rows_in text ≡ row_in text ∷ []
 last_row text h = ap (map row_in) (cut_none 10 text (none-cut 10 text h))

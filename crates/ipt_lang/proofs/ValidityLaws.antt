@@ -10,7 +10,6 @@ use Rattle.acl_packet.specs.declared.addresses.Prefix.{Prefix}
 use Rattle.acl_text.specs.Names.{is_safe_text}
 use Rattle.acl_grammar.specs.ApartSteps.{are_apart}
 use Rattle.acl_grammar.specs.PortRangeSteps.{is_port_range}
-use Rattle.acl_grammar.specs.PrefixCheckSteps.{is_prefix_of}
 use Rattle.acl_grammar.specs.RuleParts.{IsAddresses, number_fits}
 use Rattle.acl_grammar.proofs.DecisionLaws.{addresses_decide, le_decides, number_decides, type_decides, all_decides}
 use Rattle.acl_grammar.proofs.ApartLaws.{apart_decides}

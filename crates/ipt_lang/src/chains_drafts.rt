@@ -71,12 +71,7 @@ impl ChainsDraft {
     }
 
     #[tactic(auto, unfolding(crate::specs::ReadingSteps::take_named))]
-    fn take_named(
-        &mut self,
-        alloc: Global,
-        first: &[u8],
-        words: RowWords<'_>,
-    ) -> Result<(), Memory>
+    fn take_named(&mut self, alloc: Global, first: &[u8], words: RowWords<'_>) -> Result<(), Memory>
         ensures { OnOk result (self.new ≡ take_named self.old first.now words.entry) }
     {
         if first == b"-A".as_slice() {

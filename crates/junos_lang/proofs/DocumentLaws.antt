@@ -21,7 +21,7 @@ use Rattle.acl_text.proofs.AddressLaws.{prefix-lacks, spelled-again}
 use Rattle.acl_text.proofs.CutLaws.{cut-again}
 use Rattle.acl_text.proofs.Printed.{IsForeign}
 use Rattle.acl_grammar.specs.PortRanges.{IsPortRange}
-use Rattle.acl_grammar.specs.Rows.{Row, row, words_in}
+use Rattle.acl_grammar.specs.Rows.{Row, row}
 use Rattle.acl_grammar.specs.RowSteps.{document_in, row_in}
 use Rattle.acl_grammar.proofs.PortRangeLaws.{range-again}
 use Rattle.acl_grammar.proofs.RowLaws.{fold-again, fold-members, split_some}

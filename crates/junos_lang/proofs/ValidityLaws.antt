@@ -1,5 +1,5 @@
 -- The tests of a section say what a valid one is.
-use Rattle.std.proofs.Common.{◌≡◌, ℕ, ◌<◌, ◌≤◌, Bool, true, false, not, ◌&&◌, nat_le, nat_lt, List, [], ◌∷◌, ◌++◌, map, flat_map, Option, None, Some, IfSome, refl, ap, subst, ◌∙◌}
+use Rattle.std.proofs.Common.{◌≡◌, ℕ, ◌<◌, ◌≤◌, Bool, true, false, not, ◌&&◌, nat_le, nat_lt, List, [], ◌∷◌, map, flat_map, Option, None, Some, IfSome, refl, ap, subst, ◌∙◌}
 use Rattle.std.specs.Bool.{Decides}
 use Rattle.std.specs.Borrow.{Bor}
 use Rattle.std.specs.Cmp.Lexicographic.{slice_cmp}
@@ -11,19 +11,17 @@ use Rattle.std.proofs.lemmas.Bool.{false≢true}
 use Rattle.std.proofs.lemmas.Bool.Decides.{Decides-and, Decides-like, Decides-ltb}
 use Rattle.std.proofs.lemmas.Map.Text.{is_eq-slice_cmp}
 use Rattle.acl_packet.specs.declared.addresses.Family.{Family}
-use Rattle.acl_packet.specs.declared.addresses.Family.TheVariants.{V4, V6}
-use Rattle.acl_packet.specs.declared.addresses.Prefix.{Prefix}
 use Rattle.acl_text.specs.Names.{is_name, is_filter_name, is_safe_text}
 use Rattle.acl_grammar.specs.ApartSteps.{are_apart}
 use Rattle.acl_grammar.specs.PortRangeSteps.{is_port_range}
-use Rattle.acl_grammar.specs.PrefixCheckSteps.{is_addresses, is_prefix_of}
+use Rattle.acl_grammar.specs.PrefixCheckSteps.{is_addresses}
 use Rattle.acl_grammar.proofs.DecisionLaws.{addresses_decide, le_decides, all_decides}
 use Rattle.acl_grammar.proofs.ApartLaws.{apart_decides, apart_like}
 use Rattle.acl_grammar.proofs.PortRangeLaws.{ranges_decide}
 use Rattle.acl_grammar.specs.RuleParts.{IsAddresses, is_empty}
 use Rattle.junos_lang.specs.declared.documents.Section.{Section}
 use Rattle.junos_lang.specs.declared.documents.JTerm.{JTerm}
-use Rattle.junos_lang.specs.Documents.{parts_fit, IsTerm, term_names, IsSection, family_word, name_of, filter_names}
+use Rattle.junos_lang.specs.Documents.{parts_fit, IsTerm, term_names, IsSection, name_of, filter_names}
 use Rattle.junos_lang.specs.ValiditySteps.{filter_name, is_note, are_named, are_addresses, are_ports, are_numbers, is_term, is_section}
 
 -- two names are the same where family and filter's name are

@@ -5,7 +5,6 @@ use Rattle.std.specs.List.{list_all}
 use Rattle.std.specs.Str.{bytes_eq}
 use Rattle.acl_packet.specs.declared.addresses.Family.{Family}
 use Rattle.acl_packet.specs.declared.addresses.Family.TheVariants.{V4, V6}
-use Rattle.acl_packet.specs.declared.addresses.Prefix.{Prefix}
 use Rattle.acl_text.specs.Names.{is_name, is_filter_name, is_safe_text}
 use Rattle.acl_grammar.specs.ApartSteps.{are_apart}
 use Rattle.acl_grammar.specs.PortRangeSteps.{is_port_range}

@@ -102,12 +102,7 @@ impl FiltersDraft {
     }
 
     // Takes the row of the words, of which the first few are at hand.
-    fn take_term(
-        &mut self,
-        alloc: Global,
-        few: &[&[u8]],
-        words: RowWords<'_>,
-    ) -> Result<(), Memory>
+    fn take_term(&mut self, alloc: Global, few: &[&[u8]], words: RowWords<'_>) -> Result<(), Memory>
         ensures { OnOk result (self.new ≡ take_term self.old (views few.now) words.entry) }
     {
         match few {
@@ -143,12 +138,7 @@ impl FiltersDraft {
     }
 
     // Takes the row of the words, of which the first few are at hand.
-    fn take_part(
-        &mut self,
-        alloc: Global,
-        few: &[&[u8]],
-        words: RowWords<'_>,
-    ) -> Result<(), Memory>
+    fn take_part(&mut self, alloc: Global, few: &[&[u8]], words: RowWords<'_>) -> Result<(), Memory>
         ensures { OnOk result (self.new ≡ take_part self.old (views few.now) words.entry) }
     {
         match few {
@@ -212,12 +202,7 @@ impl JTerm {
     }
 
     #[tactic(auto, unfolding(crate::specs::ReadingSteps::with_list))]
-    fn take_list(
-        &mut self,
-        alloc: Global,
-        word: &[u8],
-        words: RowWords<'_>,
-    ) -> Result<(), Memory>
+    fn take_list(&mut self, alloc: Global, word: &[u8], words: RowWords<'_>) -> Result<(), Memory>
         ensures { OnOk result (self.new ≡ with_list self.old word.now words.entry) }
     {
         if word == b"source-port".as_slice() {

@@ -13,7 +13,7 @@ use acl_text::{Bytes, Memory, is_filter_name, is_name, is_safe_text};
 use std::alloc::Global;
 
 /// Whether no two of the sections have the same family and name.
-#[tactic(auto, using(crate::proofs::ValidityLaws::filters_apart))]
+
 pub(crate) fn have_distinct_filters(alloc: Global, sections: &[Section]) -> Result<bool, Memory>
     ensures { IfOk result (λ b. b ≡ are_apart bytes_eq (map name_of sections.now)) }
 {
@@ -21,10 +21,7 @@ pub(crate) fn have_distinct_filters(alloc: Global, sections: &[Section]) -> Resu
 }
 
 // Of each section whether it is of IPv6, and its name.
-fn filters_of<'a>(
-    alloc: Global,
-    sections: &'a [Section],
-) -> Result<Vec<(bool, &'a [u8])>, Memory>
+fn filters_of<'a>(alloc: Global, sections: &'a [Section]) -> Result<Vec<(bool, &'a [u8])>, Memory>
     ensures { IfOk result (λ filters. map filter_name filters.items ≡ map name_of sections.now) }
 {
     let mut filters = Vec::with_capacity(alloc, sections.len())?;

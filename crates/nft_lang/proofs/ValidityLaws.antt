@@ -10,14 +10,12 @@ use Rattle.std.proofs.lemmas.Bool.Decides.{same_from_decides, Decides-and, Decid
 use Rattle.std.proofs.lemmas.Fmt.{decimal_injective}
 use Rattle.std.proofs.lemmas.List.{append_cancel_left}
 use Rattle.std.proofs.lemmas.Slice.Eq.{bytes_eq-Decides}
-use Rattle.acl_packet.specs.declared.addresses.Family.{Family}
 use Rattle.acl_packet.specs.declared.addresses.Families.{Families}
-use Rattle.acl_packet.specs.declared.addresses.Prefix.{Prefix}
 use Rattle.acl_packet.specs.Addresses.{covers}
 use Rattle.acl_grammar.specs.ApartSteps.{are_apart}
 use Rattle.acl_grammar.specs.PortRangeSteps.{is_port_range}
 use Rattle.acl_grammar.specs.PortRanges.{IsPortRange}
-use Rattle.acl_grammar.specs.PrefixCheckSteps.{is_addresses, is_prefix_of}
+use Rattle.acl_grammar.specs.PrefixCheckSteps.{is_addresses}
 use Rattle.acl_grammar.specs.RuleParts.{IsAddresses, number_fits}
 use Rattle.acl_grammar.proofs.ApartLaws.{Apart, apart_decides, apart_like}
 use Rattle.acl_grammar.proofs.DecisionLaws.{addresses_decide, le_decides, number_decides, all_decides}

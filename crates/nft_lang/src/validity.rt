@@ -29,8 +29,10 @@ pub(crate) fn numbers_of(alloc: Global, sections: &[Section]) -> Result<Vec<u32>
 pub(crate) fn is_section(alloc: Global, section: &Section) -> Result<bool, Memory>
     ensures { IfOk result (λ b. b ≡ is_section section.now) }
 {
-    Ok(fits(section.number, section.priority)
-        && are_items(alloc, section.families, section.items.as_slice())?)
+    Ok(
+        fits(section.number, section.priority)
+            && are_items(alloc, section.families, section.items.as_slice())?,
+    )
 }
 
 // Each number and each priority that the types have fits.
@@ -73,14 +75,20 @@ fn is_rule(alloc: Global, families: Families, rule: &Rule) -> Result<bool, Memor
 fn has_sets(alloc: Global, rule: &Rule) -> Result<bool, Memory>
     ensures { IfOk result (λ b. b ≡ has_sets rule.now) }
 {
-    Ok(has_addresses(alloc, rule)? && has_ports(alloc, rule)? && are_types(alloc, rule.itypes.as_slice())?)
+    Ok(
+        has_addresses(alloc, rule)?
+            && has_ports(alloc, rule)?
+            && are_types(alloc, rule.itypes.as_slice())?,
+    )
 }
 
 fn has_addresses(alloc: Global, rule: &Rule) -> Result<bool, Memory>
     ensures { IfOk result (λ b. b ≡ has_addresses rule.now) }
 {
-    Ok(are_addresses(alloc, rule.family, rule.src.as_slice())?
-        && are_addresses(alloc, rule.family, rule.dst.as_slice())?)
+    Ok(
+        are_addresses(alloc, rule.family, rule.src.as_slice())?
+            && are_addresses(alloc, rule.family, rule.dst.as_slice())?,
+    )
 }
 
 fn has_ports(alloc: Global, rule: &Rule) -> Result<bool, Memory>

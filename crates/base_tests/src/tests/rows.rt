@@ -1,7 +1,7 @@
 use acl_grammar::{
-    Address, Each, EachWord, Form, FreeText, Named, Number, Piece, PortRange, Row, RowWords, Rows, Wildcard,
-    Word, WordForm, are_distinct, are_distinct_names, are_port_ranges, have_distinct_names, is_port_range,
-    is_prefix_of, is_text_of,
+    Address, Each, EachWord, Form, FreeText, Named, Number, Piece, PortRange, Row, RowWords, Rows,
+    Wildcard, Word, WordForm, are_distinct, are_distinct_names, are_port_ranges,
+    have_distinct_names, is_port_range, is_prefix_of, is_text_of,
 };
 use acl_packet::{Family, Prefix};
 use acl_text::{Memory, Out, PutFault};
