@@ -1,3 +1,4 @@
+pub mod ApartLaws
 pub mod DecisionLaws
 pub mod EachWordLaws
 pub mod JoinLaws

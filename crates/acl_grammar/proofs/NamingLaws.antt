@@ -1,38 +1,31 @@
 -- Names that differ, alone and in two lists.
-use Rattle.std.proofs.Common.{◌≡◌, ℕ, Bool, true, false, not, List, [], ◌∷◌, ◌++◌, refl, ap}
-use Rattle.std.specs.Bool.{Decides}
-use Rattle.std.specs.List.{AllByRecursion, IsDistinct}
+use Rattle.std.proofs.Common.{◌≡◌, ◌↔◌, ℕ, Bool, false, List, [], ◌∷◌, ◌++◌, IsTrue, sym, subst, ◌∙◌}
+use Rattle.std.specs.Borrow.{Bor}
+use Rattle.std.specs.Cmp.Lexicographic.{slice_cmp}
+use Rattle.std.specs.List.{IsDistinct}
+use Rattle.std.specs.Ordering.{eq_by_cmp, nat_cmp}
 use Rattle.std.specs.Set.{is_member}
 use Rattle.std.specs.Str.{bytes_eq}
-use Rattle.std.proofs.lemmas.Bool.{or_parts, or_from, false≢true}
-use Rattle.std.proofs.lemmas.Bool.Decides.{Decides-and}
+use Rattle.std.proofs.lemmas.Bool.{or_parts}
+use Rattle.std.proofs.lemmas.Map.Text.{is_eq-slice_cmp}
+use Rattle.acl_text.specs.Cuts.{views}
 use Rattle.acl_text.specs.Names.{in_common}
-use Rattle.acl_grammar.specs.NamingSteps.{are_distinct}
+use Rattle.acl_grammar.specs.ApartSteps.{are_apart}
+use Rattle.acl_grammar.proofs.ApartLaws.{Apart, none_clashes, apart_decides, apart_like}
 
-not_false : (a : Bool) → not a ≡ true → a ≡ false
-not_false true h = absurd (false≢true h)
-not_false false h = refl
+-- borrowed names
+names_tied : (a b : Bor (List ℕ)) → eq_by_cmp (λ (x y : Bor (List ℕ)). slice_cmp nat_cmp x.now y.now) a b ≡ bytes_eq a.now b.now
+names_tied a b = is_eq-slice_cmp a.now b.now
 
-abbrev Apart : List ℕ → List (List ℕ) → Type 0
-Apart name names = AllByRecursion (λ other. bytes_eq name other ≡ false) names
+pub names_apart : (names : List (Bor (List ℕ))) → are_apart (eq_by_cmp (λ x y. slice_cmp nat_cmp x.now y.now)) names ≡ are_apart bytes_eq (views names)
+names_apart names = apart_like (λ x. x.now) (eq_by_cmp (λ x y. slice_cmp nat_cmp x.now y.now)) bytes_eq names_tied names
 
-apart : (name : List ℕ) (names : List (List ℕ)) → is_member bytes_eq names name ≡ false → Apart name names
-apart name [] h = tt
-apart name (other ∷ names) h =
-    let p = or_parts (bytes_eq name other) (is_member bytes_eq names name) h in (p.0, apart name names p.1)
+pub names_decide : (names : List (Bor (List ℕ))) (b : Bool) → b ≡ are_apart (eq_by_cmp (λ x y. slice_cmp nat_cmp x.now y.now)) names
+    → IsTrue b ↔ IsDistinct bytes_eq (views names)
+names_decide names b e =
+    subst (λ c. IsTrue c ↔ IsDistinct bytes_eq (views names)) (sym (e ∙ names_apart names)) (apart_decides bytes_eq (views names))
 
-no_member : (name : List ℕ) (names : List (List ℕ)) → Apart name names → is_member bytes_eq names name ≡ false
-no_member name [] h = refl
-no_member name (other ∷ names) h = or_from (bytes_eq name other) (is_member bytes_eq names name) h.0 (no_member name names h.1)
-
-pub distinct_decides : (names : List (List ℕ)) → Decides (are_distinct names) (IsDistinct bytes_eq names)
-unfolding are_distinct IsDistinct
-distinct_decides [] = (λ h. tt, λ h. refl)
-distinct_decides (name ∷ names) =
-    let here = is_member bytes_eq names name in
-    Decides-and (not here) (are_distinct names) (λ h. apart name names (not_false here h), λ h. ap not (no_member name names h)) (distinct_decides names)
-
-apart-append : (name : List ℕ) (xs ys : List (List ℕ)) → Apart name xs → Apart name ys → Apart name (xs ++ ys)
+apart-append : (name : List ℕ) (xs ys : List (List ℕ)) → Apart bytes_eq name xs → Apart bytes_eq name ys → Apart bytes_eq name (xs ++ ys)
 apart-append name [] ys h k = k
 apart-append name (x ∷ xs) ys h k = (h.0, apart-append name xs ys h.1 k)
 
@@ -43,4 +36,4 @@ unfolding IsDistinct
 distinct-append [] ys h k n = k
 distinct-append (x ∷ xs) ys h k n =
     let p = or_parts (is_member bytes_eq ys x) (in_common xs ys) n in
-    (apart-append x xs ys h.0 (apart x ys p.0), distinct-append xs ys h.1 k p.1)
+    (apart-append x xs ys h.0 (none_clashes bytes_eq x ys p.0), distinct-append xs ys h.1 k p.1)

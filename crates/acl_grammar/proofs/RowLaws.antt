@@ -1,14 +1,12 @@
 -- What is written as rows is read as those rows.
-use Rattle.std.proofs.Common.{◌≡◌, ℕ, zero, suc, ◌+◌, ◌-◌, ◌≤◌, length, take, get_or, Bool, true, false, cond, ◌||◌, List, [], ◌∷◌, ◌++◌, drop, map, flat_map, replicate, refl, ap, sym, ◌∙◌, append_assoc, append-nil, arith, eqb}
-use Rattle.std.specs.Borrow.{Bor}
+use Rattle.std.proofs.Common.{◌≡◌, ℕ, zero, suc, ◌+◌, ◌<◌, length, Bool, true, false, cond, ◌||◌, List, [], ◌∷◌, ◌++◌, drop, map, flat_map, replicate, None, Some, refl, ap, sym, ◌∙◌, append_assoc, append-nil, arith, eqb}
 use Rattle.std.specs.List.{AllByRecursion, prefix_len, slice_split, join_with_byte, onto_first, fold}
 use Rattle.std.proofs.lemmas.Bool.Decides.{Decides-eqb}
 use Rattle.std.proofs.lemmas.List.Splits.{join_with_byte-slice_split}
 use Rattle.std.proofs.lemmas.List.Sums.{fold-append}
-use Rattle.std.proofs.lemmas.List.{take_all}
-use Rattle.std.proofs.Math.Seq.{take-length}
-use Rattle.acl_text.specs.Cuts.{views, has_byte}
-use Rattle.acl_text.proofs.CutLaws.{has-append}
+use Rattle.std.proofs.lemmas.List.{length-append}
+use Rattle.acl_text.specs.Cuts.{cut_at, has_byte}
+use Rattle.acl_text.proofs.CutLaws.{cut-found, has-append, none-cut}
 use Rattle.acl_grammar.specs.Rows.{Row, row, spaced, row_line, row_text, text_of_rows, is_space, words_in}
 use Rattle.acl_grammar.specs.RowSteps.{row_in, rows_in, IsWord, begins, IsRow}
 
@@ -18,7 +16,7 @@ pub join_spaced : (w : List ℕ) (ws : List (List ℕ)) → w ++ spaced ws ≡ j
 join_spaced w [] = append-nil w
 join_spaced w (v ∷ ws) = ap (λ t. w ++ (32 ∷ t)) (join_spaced v ws)
 
-split_some : (text : List ℕ) → (w : List ℕ) × (ws : List (List ℕ)) × (words_in text ≡ w ∷ ws)
+pub split_some : (text : List ℕ) → (w : List ℕ) × (ws : List (List ℕ)) × (words_in text ≡ w ∷ ws)
 split_some [] = ([], [], refl)
 split_some (b ∷ bs) = some_part (is_space b) (words_in bs) where
   some_part : (t : Bool) (parts : List (List ℕ)) → (w : List ℕ) × (ws : List (List ℕ)) × (cond t ([] ∷ parts) (onto_first b parts) ≡ w ∷ ws)
@@ -63,6 +61,24 @@ cut_there c [] ys h =
     let parts : List (List ℕ) = slice_split (λ b. eqb b c) ys in
     ap (λ b. cond b ([] ∷ parts) (onto_first c parts)) ((Decides-eqb c c).1 refl)
 cut_there c (x ∷ xs) ys h = cut_step (eqb x c) c x xs (slice_split (λ b. eqb b c) (xs ++ c ∷ ys)) (slice_split (λ b. eqb b c) ys) h (cut_there c xs ys)
+
+-- what stands behind a byte is shorter
+pub rest_is_shorter : (c : ℕ) (text part rest : List ℕ) → cut_at c text ≡ Some (part, rest) → length rest < length text
+rest_is_shorter c text part rest h =
+    let longer : length text ≡ length part + length (c ∷ rest) = ap length (cut-found c text part rest h).0 ∙ length-append part (c ∷ rest) in
+    omega (arith, longer)
+
+-- ---- the words of a row, one by one
+
+pub first_word : (text word rest : List ℕ) → cut_at 32 text ≡ Some (word, rest) → words_in text ≡ word ∷ words_in rest
+first_word text word rest h =
+    let cut = cut-found 32 text word rest h in ap words_in cut.0 ∙ cut_there 32 word rest cut.1
+
+pub last_word : (text : List ℕ) → cut_at 32 text ≡ None → words_in text ≡ text ∷ []
+last_word text h = cut_none 32 text (none-cut 32 text h)
+
+pub text_of_words : (text : List ℕ) → text ≡ join_with_byte 32 (words_in text)
+text_of_words text = sym (join_with_byte-slice_split 32 text)
 
 -- ---- one row
 
@@ -123,6 +139,14 @@ rows_again (r ∷ rows) h =
     ∙ ap (map row_in) (cut_there 10 (row_line r) (text_of_rows rows) no_feed)
     ∙ ap (λ x. x ∷ rows_in (text_of_rows rows)) (row-again r h.0) ∙ ap (λ xs. r ∷ xs) (rows_again rows h.1)
 
+-- the rows of a text are that of its first line and those of the lines behind it
+pub first_row : (text line rest : List ℕ) → cut_at 10 text ≡ Some (line, rest) → rows_in text ≡ row_in line ∷ rows_in rest
+first_row text line rest h =
+    let cut = cut-found 10 text line rest h in ap rows_in cut.0 ∙ ap (map row_in) (cut_there 10 line rest cut.1)
+
+pub last_row : (text : List ℕ) → cut_at 10 text ≡ None → rows_in text ≡ row_in text ∷ []
+last_row text h = ap (map row_in) (cut_none 10 text (none-cut 10 text h))
+
 -- what is written is read: a draft goes over the rows that were written
 pub fold-again : {S : Type 0} (step : S → Row → S) (start end : S) (rows : List Row) → AllByRecursion IsRow rows
     → fold step start rows ≡ end → step end (row_in []) ≡ end → fold step start (rows_in (text_of_rows rows)) ≡ end
@@ -137,15 +161,3 @@ fold-members step write at P each before [] h = ap at (sym (append-nil before))
 fold-members step write at P each before (a ∷ members) h =
     fold-append step (at before) (write a) (flat_map write members) ∙ ap (λ s. fold step s (flat_map write members)) (each before a h.0)
     ∙ fold-members step write at P each (before ++ a ∷ []) members h.1 ∙ ap at (append_assoc before (a ∷ []) members)
-
--- all words behind the first were put behind it
-pub words_joined : (words : List (Bor (List ℕ))) (d : Bor (List ℕ)) (i : ℕ) (first text : List ℕ) → 1 ≤ length words
-    → length (take (length words - 1) (drop 1 words)) ≤ i → first ≡ (get_or words 0 d).now
-    → text ≡ first ++ spaced (views (take i (take (length words - 1) (drop 1 words))))
-    → text ≡ join_with_byte 32 (views words)
-words_joined [] d i first text h l f e = absurd (omega arith)
-words_joined (w ∷ ws) d i first text h l f e =
-    let rest : List (Bor (List ℕ)) = take (length (w ∷ ws) - 1) (drop 1 (w ∷ ws)) in
-    let size : length (w ∷ ws) - 1 ≡ length ws = omega arith in
-    let all : rest ≡ ws = ap (λ n. take n ws) size ∙ take-length ws in
-    e ∙ ap (λ r. first ++ spaced (views r)) (take_all i rest l ∙ all) ∙ ap (λ t. t ++ spaced (views ws)) f ∙ join_spaced w.now (views ws)

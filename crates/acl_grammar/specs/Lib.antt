@@ -1,7 +1,7 @@
+pub mod ApartSteps
 pub mod ComparingSteps
 pub mod Documents
 pub mod FamilyWords
-pub mod NamingSteps
 pub mod PortRangeSteps
 pub mod PortRanges
 pub mod PrefixCheckSteps

@@ -1,6 +1,8 @@
 -- Reading rows leniently: any bytes are rows.
-use Rattle.std.specs.Prelude.{◌≡◌, ℕ, Bool, true, false, ◌==◌, List, [], ◌∷◌, map, drop}
+use Rattle.std.specs.Prelude.{◌≡◌, ℕ, Bool, true, false, ◌==◌, List, [], ◌∷◌, map, drop, take, Option, None, Some}
+use Rattle.std.specs.Borrow.{Bor}
 use Rattle.std.specs.List.{AllByRecursion, fold, prefix_len, slice_split}
+use Rattle.std.specs.Str.{bytes_eq}
 use Rattle.acl_text.specs.Cuts.{has_byte}
 use Rattle.acl_grammar.specs.Rows.{Row, row, is_space, words_in}
 
@@ -40,3 +42,17 @@ pub record IsRow (r : Row) : Type 0 where
 
 abbrev pub AreRows : List Row → Type 0
 AreRows rows = AllByRecursion IsRow rows
+
+-- The words that are left of a row: those of what is left of its text, if anything is.
+abbrev pub words_left : Option (Bor (List ℕ)) → List (List ℕ)
+words_left None = []
+words_left (Some text) = words_in text.now
+
+-- The first few words. No row of so many means something by their number.
+abbrev pub few_in : List (List ℕ) → List (List ℕ)
+few_in words = take 9 words
+
+-- Whether the first word is that one.
+abbrev pub begins_with : List ℕ → List (List ℕ) → Bool
+begins_with word [] = false
+begins_with word (w ∷ words) = bytes_eq w word

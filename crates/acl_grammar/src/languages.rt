@@ -42,8 +42,8 @@ pub trait Language {
     ghost outcome: { Self.Section → APacket → Option PacketOutcome };
 
     /// Whether the section is valid.
-    fn is_valid(section: &Self::Section) -> bool
-        ensures { IsTrue result ↔ is_section section.now };
+    fn is_valid(alloc: Global, section: &Self::Section) -> Result<bool, Memory>
+        ensures { IfOk result (λ b. IsTrue b ↔ is_section section.now) };
 
     /// Whether no two of the names that the valid sections take are the same.
     fn have_distinct_names(alloc: Global, sections: &[Self::Section]) -> Result<bool, Memory>
@@ -126,28 +126,28 @@ fn is_spelled<L: Language>(
     ensures { IfOk result (λ b. IsTrue b
         ↔ SpellsRows L.is_section L.names L.rows bytes.now sections.now) }
 {
-    Ok(is_document::<L>(alloc, sections)? && is_written::<L>(bytes, sections))
+    Ok(is_written::<L>(bytes, sections) && is_document::<L>(alloc, sections)?)
 }
 
 fn is_document<L: Language>(alloc: Global, sections: &[L::Section]) -> Result<bool, Memory>
     ensures { IfOk result (λ b. IsTrue b ↔ IsDocumentOf L.is_section L.names sections.now) }
 {
-    if are_valid::<L>(sections) {
+    if are_valid::<L>(alloc, sections)? {
         L::have_distinct_names(alloc, sections)
     } else {
         Ok(false)
     }
 }
 
-fn are_valid<L: Language>(sections: &[L::Section]) -> bool
-    ensures { IsTrue result ↔ AllByRecursion L.is_section sections.now }
+fn are_valid<L: Language>(alloc: Global, sections: &[L::Section]) -> Result<bool, Memory>
+    ensures { IfOk result (λ b. IsTrue b ↔ AllByRecursion L.is_section sections.now) }
 {
     for section in sections {
-        if !L::is_valid(section) {
-            return false;
+        if !L::is_valid(alloc, section)? {
+            return Ok(false);
         }
     }
-    true
+    Ok(true)
 }
 
 fn is_written<L: Language>(bytes: &[u8], sections: &[L::Section]) -> bool

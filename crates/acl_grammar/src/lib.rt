@@ -3,6 +3,7 @@
 //! document with their laws, and the parts of rules that languages have alike.
 #![tactic(auto)]
 
+mod apart;
 mod comparing;
 mod drafts;
 mod each_word;
@@ -11,14 +12,14 @@ mod item_lists;
 mod languages;
 mod laws;
 mod named;
-mod naming;
 mod pieces;
 mod port_ranges;
 mod prefix_checks;
+mod row_words;
 mod rows;
 mod rule_parts;
-mod splitting;
 
+pub use apart::{are_distinct, are_distinct_names};
 pub use comparing::is_text_of;
 pub use drafts::{DocumentDraft, Draft};
 pub use each_word::{EachWord, WordForm};
@@ -30,13 +31,12 @@ pub use laws::{
     joined_texts_spell_joined_documents, the_empty_text_has_no_section,
 };
 pub use named::{Named, have_distinct_names};
-pub use naming::are_distinct;
 pub use pieces::{Address, FreeText, Number, Piece, Wildcard, Word, Words, put_words};
 pub use port_ranges::{PortRange, RangeWords, are_port_ranges, is_port_range};
 pub use prefix_checks::{is_addresses, is_prefix_of};
+pub use row_words::RowWords;
 pub use rows::{AsRows, Each, Form, Row, Rows};
 pub use rule_parts::{
     ACK, End, LogWord, RST, SYN, admit_addresses, admit_ports, has_port_proto, is_empty, is_proto,
     number_fits, number_holds, state_holds,
 };
-pub use splitting::join_words;

@@ -1,46 +1,36 @@
-ghost use Rattle.std.specs.Prelude.{◌≡◌, ◌↔◌, IsTrue, List, ℕ, map};
+ghost use Rattle.std.specs.Prelude.{◌≡◌, ◌↔◌, IfOk, IsTrue, List, ℕ, map};
 ghost use Rattle.std.specs.List.{IsDistinct};
-ghost use Rattle.std.specs.Set.{is_member};
 ghost use Rattle.std.specs.Str.{bytes_eq};
-ghost use Rattle.acl_grammar.specs.NamingSteps.{are_distinct};
+ghost use Rattle.acl_text.specs.Cuts.{views};
+ghost use Rattle.acl_grammar.specs.ApartSteps.{are_apart};
+
+use crate::apart::are_distinct_names;
+use acl_text::Memory;
+use std::alloc::Global;
 
 /// What has a name in its document.
 pub trait Named {
     ghost name: { Self → List ℕ };
 
-    /// Whether the two have the same name.
-    fn has_name_of(&self, other: &Self) -> bool
-        ensures { result ≡ bytes_eq (name self.now) (name other.now) };
+    /// The name.
+    fn name(&self) -> &[u8]
+        ensures { result.now ≡ name self.now };
 }
 
 /// Whether no two of the items have the same name.
-#[tactic(auto, using(crate::proofs::NamingLaws::distinct_decides))]
-pub fn have_distinct_names<T: Named>(items: &[T]) -> bool
-    ensures is { IsTrue result ↔ IsDistinct bytes_eq (map T.name items.now) }
-    ensures exact { result ≡ are_distinct (map T.name items.now) }
+pub fn have_distinct_names<T: Named>(alloc: Global, items: &[T]) -> Result<bool, Memory>
+    ensures is { IfOk result (λ b. IsTrue b ↔ IsDistinct bytes_eq (map T.name items.now)) }
+    ensures exact { IfOk result (λ b. b ≡ are_apart bytes_eq (map T.name items.now)) }
 {
-    differ(items)
+    Ok(are_distinct_names(names_of(alloc, items)?))
 }
 
-#[tactic(auto, unfolding(crate::specs::NamingSteps::are_distinct))]
-fn differ<T: Named>(items: &[T]) -> bool
-    ensures { result ≡ are_distinct (map T.name items.now) }
+fn names_of<'a, T: Named>(alloc: Global, items: &'a [T]) -> Result<Vec<&'a [u8]>, Memory>
+    ensures { IfOk result (λ names. views names.items ≡ map T.name items.now) }
 {
-    for (i, item) in items.iter().enumerate() {
-        if is_named_among(item, &items[i + 1..]) {
-            return false;
-        }
+    let mut names = Vec::with_capacity(alloc, items.len())?;
+    for item in items {
+        names.push(item.name())?;
     }
-    true
-}
-
-fn is_named_among<T: Named>(item: &T, others: &[T]) -> bool
-    ensures { result ≡ is_member bytes_eq (map T.name others.now) (T.name item.now) }
-{
-    for other in others {
-        if item.has_name_of(other) {
-            return true;
-        }
-    }
-    false
+    Ok(names)
 }

@@ -1,5 +1,5 @@
 -- Reading leniently: a draft that rows change, and that nothing refuses.
-use Rattle.std.specs.Prelude.{ℕ, ◌-◌, Bool, true, false, ◌==◌, if◌then◌else◌, List, [], ◌∷◌, ◌++◌, codes, Option, None, Some, unwrap_or}
+use Rattle.std.specs.Prelude.{ℕ, ◌-◌, Bool, true, false, ◌==◌, if◌then◌else◌, List, [], ◌∷◌, ◌++◌, drop, codes, Option, None, Some, unwrap_or}
 use Rattle.std.specs.Int.Count.{count_leading_zeros}
 use Rattle.std.specs.List.{join_with_byte}
 use Rattle.std.specs.Option.{option_map_or}
@@ -13,6 +13,7 @@ use Rattle.acl_packet.specs.Addresses.{width_of, everywhere}
 use Rattle.acl_packet.specs.Decimals.{number_in}
 use Rattle.acl_packet.specs.Packets.{icmp_of}
 use Rattle.acl_text.specs.AddressTexts.{address_in, spelled_prefix_in}
+use Rattle.acl_grammar.specs.RowSteps.{begins_with, few_in}
 use Rattle.acl_grammar.specs.Rows.{Row}
 use Rattle.acl_grammar.specs.FamilyWords.{families_in}
 use Rattle.cisco_lang.specs.declared.documents.Section.{Section}
@@ -126,10 +127,9 @@ abbrev pub no_section : Section
 no_section = record { name = []; families = Inet; lists = [] }
 
 unfoldable pub item_in : Family → List (List ℕ) → Item
-item_in family [] = AnEntry (entry_in family [])
-item_in family (w ∷ words) =
-    if bytes_eq w (codes "remark") then Remark (join_with_byte 32 words)
-    else AnEntry (entry_in family (w ∷ words))
+item_in family words =
+    if begins_with (codes "remark") words then Remark (join_with_byte 32 (drop 1 words))
+    else AnEntry (entry_in family words)
 
 -- The list that ends is the last of its section: in a mixed one the IPv6 list is.
 abbrev pub is_last : Families → Family → Bool
@@ -172,7 +172,7 @@ take_inner d words = record d {
 }
 
 unfoldable pub take_row : ListsDraft → Row → ListsDraft
-take_row d r = if r.indent == 0 then take_outer d r.words else take_inner d r.words
+take_row d r = if r.indent == 0 then take_outer d (few_in r.words) else take_inner d r.words
 
 abbrev pub no_draft : ListsDraft
 no_draft = record { sections = []; section = no_section; list = no_list }

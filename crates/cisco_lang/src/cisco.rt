@@ -7,7 +7,7 @@ use crate::documents::Section;
 use crate::lists_drafts::ListsDraft;
 use crate::validity::{is_section, list_names_of};
 use crate::walking::{items_of, walk};
-use acl_grammar::{Language, Rows, are_distinct};
+use acl_grammar::{Language, Rows, are_distinct_names};
 use acl_packet::{Outcome, Packet};
 use acl_text::{Memory, Out, PutFault};
 use std::alloc::Global;
@@ -23,15 +23,14 @@ impl Language for Cisco {
     ghost is_section = { IsSection };
 
     #[tactic(auto, using(crate::proofs::ValidityLaws::section_decides))]
-    fn is_valid(section: &Section) -> bool {
-        is_section(section)
+    fn is_valid(_alloc: Global, section: &Section) -> Result<bool, Memory> {
+        Ok(is_section(section))
     }
 
     ghost names = { list_names };
 
     fn have_distinct_names(alloc: Global, sections: &[Section]) -> Result<bool, Memory> {
-        let names = list_names_of(alloc, sections)?;
-        Ok(are_distinct(names.as_slice()))
+        Ok(are_distinct_names(list_names_of(alloc, sections)?))
     }
 
     ghost rows = { section_rows };

@@ -1,16 +1,16 @@
 ghost use Rattle.std.specs.Prelude.{◌≡◌};
 ghost use Rattle.std.specs.Str.{bytes_eq};
-ghost use Rattle.acl_text.specs.Cuts.{views};
 ghost use Rattle.cisco_lang.specs.ReadingSteps.{wildcard_length, proto_in, next_word, take_address, take_masked, take_place, take_port, take_ports, take_type, take_flags, entry_in};
 
 use crate::documents::{Entry, Flags};
+use acl_grammar::RowWords;
 use acl_packet::{Family, Prefix};
 use acl_text::{read_address, read_spelled_prefix, read_u8, read_u16};
 
 /// The entry of the words, each of which is told by its place. No words are refused.
 #[tactic(auto, unfolding(crate::specs::ReadingSteps::entry_in))]
-pub(crate) fn entry_of(family: Family, words: &[&[u8]]) -> Entry
-    ensures { result ≡ entry_in family (views words.now) }
+pub(crate) fn entry_of(family: Family, words: RowWords<'_>) -> Entry
+    ensures { result ≡ entry_in family words.entry }
 {
     let (action, words) = next_word(words);
     let (protocol, words) = next_word(words);
@@ -36,12 +36,13 @@ pub(crate) fn entry_of(family: Family, words: &[&[u8]]) -> Entry
 
 /// The next word, which is empty where there is none, and the words behind it.
 #[tactic(auto, unfolding(crate::specs::ReadingSteps::next_word))]
-fn next_word<'a>(words: &'a [&'a [u8]]) -> (&'a [u8], &'a [&'a [u8]])
-    ensures { (result.0.now, views result.1.now) ≡ next_word (views words.now) }
+fn next_word<'a>(words: RowWords<'a>) -> (&'a [u8], RowWords<'a>)
+    ensures { (result.0.now, result.1) ≡ next_word words.entry }
 {
-    match words {
-        [word, rest @ ..] => (word, rest),
-        [] => (&[], words),
+    let mut rest = words;
+    match rest.next() {
+        Some(word) => (word, rest),
+        None => (&[], rest),
     }
 }
 
@@ -67,8 +68,8 @@ fn protocol_of(family: Family, word: &[u8]) -> Option<u8>
 }
 
 #[tactic(auto, unfolding(crate::specs::ReadingSteps::take_place))]
-fn take_place<'a>(family: Family, words: &'a [&'a [u8]]) -> (Prefix, &'a [&'a [u8]])
-    ensures { (result.0, views result.1.now) ≡ take_place family (views words.now) }
+fn take_place<'a>(family: Family, words: RowWords<'a>) -> (Prefix, RowWords<'a>)
+    ensures { (result.0, result.1) ≡ take_place family words.entry }
 {
     let (word, rest) = next_word(words);
     if is(word, "any") {
@@ -83,8 +84,8 @@ fn take_place<'a>(family: Family, words: &'a [&'a [u8]]) -> (Prefix, &'a [&'a [u
 }
 
 #[tactic(auto, unfolding(crate::specs::ReadingSteps::take_masked))]
-fn take_masked<'a>(family: Family, words: &'a [&'a [u8]]) -> (Prefix, &'a [&'a [u8]])
-    ensures { (result.0, views result.1.now) ≡ take_masked family (views words.now) }
+fn take_masked<'a>(family: Family, words: RowWords<'a>) -> (Prefix, RowWords<'a>)
+    ensures { (result.0, result.1) ≡ take_masked family words.entry }
 {
     match family {
         Family::V4 => {
@@ -102,8 +103,8 @@ fn take_masked<'a>(family: Family, words: &'a [&'a [u8]]) -> (Prefix, &'a [&'a [
 }
 
 #[tactic(auto, unfolding(crate::specs::ReadingSteps::take_address))]
-fn take_address<'a>(family: Family, words: &'a [&'a [u8]]) -> (u128, &'a [&'a [u8]])
-    ensures { (result.0, views result.1.now) ≡ take_address family (views words.now) }
+fn take_address<'a>(family: Family, words: RowWords<'a>) -> (u128, RowWords<'a>)
+    ensures { (result.0, result.1) ≡ take_address family words.entry }
 {
     let (word, rest) = next_word(words);
     (read_address(family, word).unwrap_or(0), rest)
@@ -116,8 +117,8 @@ fn wildcard_length(wildcard: u128) -> u8
 }
 
 #[tactic(auto, unfolding(crate::specs::ReadingSteps::take_ports))]
-fn take_ports<'a>(words: &'a [&'a [u8]]) -> (Option<(u16, u16)>, &'a [&'a [u8]])
-    ensures { (result.0, views result.1.now) ≡ take_ports (views words.now) }
+fn take_ports<'a>(words: RowWords<'a>) -> (Option<(u16, u16)>, RowWords<'a>)
+    ensures { (result.0, result.1) ≡ take_ports words.entry }
 {
     let (word, rest) = next_word(words);
     if is(word, "eq") {
@@ -133,16 +134,16 @@ fn take_ports<'a>(words: &'a [&'a [u8]]) -> (Option<(u16, u16)>, &'a [&'a [u8]])
 }
 
 #[tactic(auto, unfolding(crate::specs::ReadingSteps::take_port))]
-fn take_port<'a>(words: &'a [&'a [u8]]) -> (u16, &'a [&'a [u8]])
-    ensures { (result.0, views result.1.now) ≡ take_port (views words.now) }
+fn take_port<'a>(words: RowWords<'a>) -> (u16, RowWords<'a>)
+    ensures { (result.0, result.1) ≡ take_port words.entry }
 {
     let (word, rest) = next_word(words);
     (read_u16(word, 65535).unwrap_or(0), rest)
 }
 
 #[tactic(auto, unfolding(crate::specs::ReadingSteps::take_type))]
-fn take_type<'a>(words: &'a [&'a [u8]]) -> (Option<u8>, &'a [&'a [u8]])
-    ensures { (result.0, views result.1.now) ≡ take_type (views words.now) }
+fn take_type<'a>(words: RowWords<'a>) -> (Option<u8>, RowWords<'a>)
+    ensures { (result.0, result.1) ≡ take_type words.entry }
 {
     let (word, rest) = next_word(words);
     match read_u8(word, 254) {
@@ -152,8 +153,8 @@ fn take_type<'a>(words: &'a [&'a [u8]]) -> (Option<u8>, &'a [&'a [u8]])
 }
 
 #[tactic(auto, unfolding(crate::specs::ReadingSteps::take_flags))]
-fn take_flags<'a>(words: &'a [&'a [u8]]) -> (Option<Flags>, &'a [&'a [u8]])
-    ensures { (result.0, views result.1.now) ≡ take_flags (views words.now) }
+fn take_flags<'a>(words: RowWords<'a>) -> (Option<Flags>, RowWords<'a>)
+    ensures { (result.0, result.1) ≡ take_flags words.entry }
 {
     let (word, rest) = next_word(words);
     if is(word, "established") {

@@ -5,7 +5,7 @@ ghost use Rattle.cisco_lang.specs.ReadingSteps.{no_list, no_section, item_in, is
 
 use crate::documents::{AccessList, Doc, Item, Section};
 use crate::entry_reading::entry_of;
-use acl_grammar::{DocumentDraft, Draft, families_of, join_words};
+use acl_grammar::{DocumentDraft, Draft, RowWords, families_of};
 use acl_packet::{Families, Family};
 use acl_text::{Bytes, Items, Memory};
 use std::alloc::Global;
@@ -24,9 +24,15 @@ impl Draft for ListsDraft {
     ghost step = { take_row };
 
     #[tactic(auto, unfolding(crate::specs::ReadingSteps::take_row))]
-    fn take_row(&mut self, alloc: Global, indent: usize, words: &[&[u8]]) -> Result<(), Memory> {
+    fn take_row(
+        &mut self,
+        alloc: Global,
+        indent: usize,
+        words: RowWords<'_>,
+    ) -> Result<(), Memory> {
         if indent == 0 {
-            self.take_outer(alloc, words)
+            let few = words.few(alloc)?;
+            self.take_outer(alloc, few.as_slice())
         } else {
             self.take_inner(alloc, words)
         }
@@ -138,8 +144,8 @@ impl ListsDraft {
     }
 
     #[tactic(auto, unfolding(crate::specs::ReadingSteps::take_inner))]
-    fn take_inner(&mut self, alloc: Global, words: &[&[u8]]) -> Result<(), Memory>
-        ensures { OnOk result (self.new ≡ take_inner self.old (views words.now)) }
+    fn take_inner(&mut self, alloc: Global, words: RowWords<'_>) -> Result<(), Memory>
+        ensures { OnOk result (self.new ≡ take_inner self.old words.entry) }
     {
         let item = item_of(alloc, self.list.family, words)?;
         self.list.items.push(item)
@@ -176,17 +182,13 @@ fn is_last(families: Families, family: Family) -> bool
 }
 
 #[tactic(auto, unfolding(crate::specs::ReadingSteps::item_in))]
-fn item_of(alloc: Global, family: Family, words: &[&[u8]]) -> Result<Item, Memory>
-    ensures { IfOk result (λ i. i ≡ item_in family (views words.now)) }
+fn item_of(alloc: Global, family: Family, words: RowWords<'_>) -> Result<Item, Memory>
+    ensures { IfOk result (λ i. i ≡ item_in family words.entry) }
 {
-    match words {
-        [first, text @ ..] => {
-            if *first == b"remark".as_slice() {
-                Ok(Item::Remark(join_words(alloc, text)?))
-            } else {
-                Ok(Item::Entry(entry_of(family, words)))
-            }
-        }
-        [] => Ok(Item::Entry(entry_of(family, words))),
+    if words.begins_with(b"remark") {
+        let text = words.behind_first().text();
+        Ok(Item::Remark(Bytes::from_slice(alloc, text)?))
+    } else {
+        Ok(Item::Entry(entry_of(family, words)))
     }
 }

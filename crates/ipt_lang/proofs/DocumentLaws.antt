@@ -18,7 +18,7 @@ use Rattle.ipt_lang.specs.declared.documents.Rule.{Rule}
 use Rattle.ipt_lang.specs.declared.chains_drafts.ChainsDraft.{ChainsDraft}
 use Rattle.ipt_lang.specs.Documents.{IsRule, IsRemark, IsChain, IsSection, hook_word, family_word}
 use Rattle.ipt_lang.specs.Texts.{rule_words, chain_name, remark_rows, rule_rows, chain_row, jump_row, chain_rows, default_rows, target_row, head_rows, section_rows, text_of}
-use Rattle.ipt_lang.specs.ReadingSteps.{rule_in, no_chain, no_draft, hook_in, ended, end_chain, with_rule, take_appended, take_target, take_policy, take_name, take_words, take_row}
+use Rattle.ipt_lang.specs.ReadingSteps.{rule_in, no_chain, no_draft, hook_in, ended, end_chain, with_rule, take_appended, take_target, take_policy, take_few, take_name, take_named, take_words, take_row}
 use Rattle.ipt_lang.proofs.RuleReadingLaws.{rule_again}
 use Rattle.ipt_lang.proofs.SafeRows.{sections_safe}
 
@@ -35,7 +35,7 @@ then d m e xs ys h k = fold-append take_row d xs ys ∙ ap (λ s. read s ys) h �
 
 remark_read : (ss : List Section) (s : Section) (c : Chain) (text : List ℕ) → IsRemark text
     → read (at ss s c) (remark_rows text) ≡ at ss s (record c { remarks = c.remarks ++ text ∷ [] })
-unfolding remark_rows take_words
+unfolding remark_rows take_words take_named
 remark_read ss s c text h = ap (λ t. at ss s (record c { remarks = c.remarks ++ t ∷ [] })) (join_with_byte-slice_split 32 text)
 
 -- a chain of its own is none of the hooks, and a jump is appended to the hook
@@ -51,21 +51,21 @@ own_hook Forward = refl
 
 rule_read : (ss : List Section) (s : Section) (c : Chain) (name : List ℕ) (r : Rule) → IsRule s.family r
     → read (at ss s c) (rule_rows s.hook s.family name r) ≡ at ss s (record c { rules = c.rules ++ r ∷ [] })
-unfolding rule_rows take_words take_appended
+unfolding rule_rows take_words take_named take_appended
 rule_read ss s c name r h =
     let d = at ss s c in
     ap (λ b. cond b (end_chain d) (with_rule d (rule_in s.family (rule_words s.family r)))) (no_hook s.hook name)
     ∙ ap (with_rule d) (rule_again s.family r h)
 
 jump_read : (ss : List Section) (s : Section) (c : Chain) (name : List ℕ) → read (at ss s c) (jump_row s.hook name ∷ []) ≡ end_chain (at ss s c)
-unfolding take_words take_appended
+unfolding take_words take_named take_appended
 jump_read ss s c name =
     let d = at ss s c in
     ap (λ b. cond b (end_chain d) (with_rule d (rule_in s.family (codes "-j" ∷ chain_name s.hook name ∷ [])))) (own_hook s.hook)
 
 chain_read : (ss : List Section) (s : Section) (c : Chain) → IsChain s.family c
     → read (at ss s no_chain) (chain_rows s.hook s.family c) ≡ at ss (record s { chains = s.chains ++ c ∷ [] }) no_chain
-unfolding chain_rows take_words take_name
+unfolding chain_rows take_words take_named take_few take_name
 chain_read ss s c h =
     let noted : Chain = record no_chain { remarks = c.remarks } in
     let named : Chain = record noted { name = c.name } in
@@ -102,14 +102,14 @@ abbrev section : Hook → Family → Option Bool → Section
 section hook family accept = record { hook = hook; family = family; accept = accept; chains = [] }
 
 target_read : (d : ChainsDraft) (h : Hook) (f : Family) → read d (target_row h f ∷ []) ≡ at (ended d) (section h f None) no_chain
-unfolding take_words take_target
+unfolding take_words take_named take_few take_target
 target_read d h f =
     ap (λ g. at (ended d) (section g (family_in (family_word f)) None) no_chain) (hook_again h)
     ∙ ap (λ g. at (ended d) (section h g None) no_chain) (family_again f)
 
 policy_read : (ss : List Section) (h : Hook) (f : Family) (o : Option Bool)
     → read (at ss (section h f None) no_chain) (default_rows h o) ≡ at ss (section h f o) no_chain
-unfolding default_rows take_words take_policy
+unfolding default_rows take_words take_named take_few take_policy
 policy_read ss h f None = refl
 policy_read ss h f (Some true) = refl
 policy_read ss h f (Some false) = refl
@@ -137,7 +137,7 @@ sections_read d (s ∷ doc) h =
 -- ---- documents
 
 empty_row : (d : ChainsDraft) → take_row d (row_in []) ≡ d
-unfolding row_in take_words
+unfolding row_in take_words take_named take_few
 empty_row d = refl
 
 pub document_again : (doc : List Section) → AllByRecursion IsSection doc → document_in take_row no_draft ended (text_of doc) ≡ doc

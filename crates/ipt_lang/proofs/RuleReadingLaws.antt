@@ -1,5 +1,5 @@
 -- What is written of a rule is read again.
-use Rattle.std.proofs.Common.{◌≡◌, ℕ, ◌≤◌, Bool, true, false, cond, ◌==◌, ◌&&◌, List, [], ◌∷◌, ◌++◌, map, codes, Option, None, Some, IfSome, refl, ap, sym, ◌∙◌, arith, eqb}
+use Rattle.std.proofs.Common.{◌≡◌, ℕ, ◌≤◌, Bool, true, false, cond, ◌==◌, ◌&&◌, List, [], ◌∷◌, ◌++◌, map, codes, Option, None, Some, IfSome, refl, ap, sym, ◌∙◌, append_assoc, append-nil, arith, eqb}
 use Rattle.std.specs.Fmt.{decimal}
 use Rattle.std.specs.List.{fold, AllByRecursion, join_with_byte, slice_split}
 use Rattle.std.specs.Option.{option_or}
@@ -12,8 +12,10 @@ use Rattle.acl_packet.specs.declared.filtering.Verdict.TheVariants.{Accept, Deny
 use Rattle.acl_packet.specs.Packets.{icmp_of}
 use Rattle.acl_packet.specs.Decimals.{number_in, digits_in}
 use Rattle.acl_packet.proofs.DecimalLaws.{number-again}
-use Rattle.acl_text.specs.Cuts.{has_byte}
+use Rattle.acl_text.specs.Cuts.{cut_at, has_byte}
+use Rattle.acl_text.specs.PortRanges.{ports_in}
 use Rattle.acl_text.proofs.AddressLaws.{spelled-again}
+use Rattle.acl_text.proofs.CutLaws.{cut-found, none-cut}
 use Rattle.acl_grammar.specs.PortRanges.{IsPortRange}
 use Rattle.acl_grammar.proofs.ListLaws.{all_map}
 use Rattle.acl_grammar.proofs.PortRangeLaws.{range-again, range-lacks}
@@ -106,6 +108,22 @@ unfolding ranges_in
 ranges_again r ranges h =
     let lack = all_map IsPortRange (λ v. has_byte 44 v ≡ false) range_word (λ x k. range-lacks 58 44 x k refl refl) (r ∷ ranges) h in
     ap ranges_among (parts_again (range_word r) (map range_word ranges) lack) ∙ among_again (r ∷ ranges) h
+
+-- the ranges of a word are that of its first part and those of the parts behind it
+first_range : (word part rest : List ℕ) → cut_at 44 word ≡ Some (part, rest) → ranges_in word ≡ one_or_none (ports_in 58 part) ++ ranges_in rest
+unfolding ranges_in
+first_range word part rest h =
+    let cut = cut-found 44 word part rest h in
+    ap (λ w. ranges_among (slice_split (λ b. eqb b 44) w)) cut.0 ∙ ap ranges_among (cut_there 44 part rest cut.1)
+
+pub more_ranges : (ranges : List (ℕ × ℕ)) (word part rest : List ℕ) → cut_at 44 word ≡ Some (part, rest)
+    → (ranges ++ one_or_none (ports_in 58 part)) ++ ranges_in rest ≡ ranges ++ ranges_in word
+more_ranges ranges word part rest h =
+    append_assoc ranges (one_or_none (ports_in 58 part)) (ranges_in rest) ∙ ap (λ rs. ranges ++ rs) (sym (first_range word part rest h))
+
+pub last_range : (word : List ℕ) → cut_at 44 word ≡ None → ranges_in word ≡ one_or_none (ports_in 58 word)
+unfolding ranges_in
+last_range word h = ap ranges_among (cut_none 44 word (none-cut 44 word h)) ∙ append-nil (one_or_none (ports_in 58 word))
 
 sports_read : (f : Family) (r : Rule) (plain : Bool) (ranges : List (ℕ × ℕ)) → r.sports ≡ [] → AllByRecursion IsPortRange ranges
     → read (at f r) (port_list_words plain (codes "--sport") (codes "--sports") (map range_word ranges)) ≡ at f (record r { sports = ranges })

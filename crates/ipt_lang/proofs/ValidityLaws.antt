@@ -8,12 +8,11 @@ use Rattle.std.proofs.lemmas.Bool.Decides.{Decides-and, Decides-like}
 use Rattle.acl_packet.specs.declared.addresses.Family.{Family}
 use Rattle.acl_packet.specs.declared.addresses.Prefix.{Prefix}
 use Rattle.acl_text.specs.Names.{is_safe_text}
-use Rattle.acl_grammar.specs.NamingSteps.{are_distinct}
+use Rattle.acl_grammar.specs.ApartSteps.{are_apart}
 use Rattle.acl_grammar.specs.PortRangeSteps.{is_port_range}
-use Rattle.acl_grammar.specs.PrefixCheckSteps.{is_prefix_of}
 use Rattle.acl_grammar.specs.RuleParts.{IsAddresses, number_fits}
 use Rattle.acl_grammar.proofs.DecisionLaws.{addresses_decide, le_decides, number_decides, type_decides, all_decides}
-use Rattle.acl_grammar.proofs.NamingLaws.{distinct_decides}
+use Rattle.acl_grammar.proofs.ApartLaws.{apart_decides}
 use Rattle.acl_grammar.proofs.PortRangeLaws.{ranges_decide}
 use Rattle.ipt_lang.specs.declared.documents.Section.{Section}
 use Rattle.ipt_lang.specs.declared.documents.Chain.{Chain}
@@ -80,13 +79,13 @@ chain_decides f c =
 pub section_decides : (s : Section) → Decides (is_section s) (IsSection s)
 section_decides s =
     Decides-like (is_section s) (λ h. record { chains = h.0; names_differ = h.1 }) (λ h. (h.chains, h.names_differ))
-    (Decides-and (list_all (is_chain s.family) s.chains) (are_distinct (chain_names s.chains))
-    (all_decides (is_chain s.family) (IsChain s.family) (chain_decides s.family) s.chains) (distinct_decides (chain_names s.chains)))
+    (Decides-and (list_all (is_chain s.family) s.chains) (are_apart bytes_eq (chain_names s.chains))
+    (all_decides (is_chain s.family) (IsChain s.family) (chain_decides s.family) s.chains) (apart_decides bytes_eq (chain_names s.chains)))
 
 one_each : (doc : List Section) → map name_of doc ≡ flat_map hook_names doc
 one_each [] = refl
 one_each (s ∷ doc) = ap (λ names. name_of s ∷ names) (one_each doc)
 
-pub hook_names_decide : (doc : List Section) → Decides (are_distinct (map name_of doc)) (IsDistinct bytes_eq (flat_map hook_names doc))
+pub hook_names_decide : (doc : List Section) → Decides (are_apart bytes_eq (map name_of doc)) (IsDistinct bytes_eq (flat_map hook_names doc))
 hook_names_decide doc =
-    subst (λ names. Decides (are_distinct (map name_of doc)) (IsDistinct bytes_eq names)) (one_each doc) (distinct_decides (map name_of doc))
+    subst (λ names. Decides (are_apart bytes_eq (map name_of doc)) (IsDistinct bytes_eq names)) (one_each doc) (apart_decides bytes_eq (map name_of doc))

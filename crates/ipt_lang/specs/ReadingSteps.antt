@@ -11,6 +11,7 @@ use Rattle.acl_packet.specs.declared.filtering.Verdict.TheVariants.{Accept, Deny
 use Rattle.acl_packet.specs.Decimals.{number_in}
 use Rattle.acl_text.specs.AddressTexts.{spelled_prefix_in}
 use Rattle.acl_text.specs.PortRanges.{ports_in}
+use Rattle.acl_grammar.specs.RowSteps.{few_in}
 use Rattle.acl_grammar.specs.Rows.{Row}
 use Rattle.acl_grammar.specs.FamilyWords.{family_in}
 use Rattle.ipt_lang.specs.declared.documents.Section.{Section}
@@ -197,15 +198,22 @@ unfoldable pub take_name : ChainsDraft → List (List ℕ) → ChainsDraft
 take_name d (name ∷ []) = with_name d name
 take_name d words = d
 
-unfoldable pub take_words : ChainsDraft → List (List ℕ) → ChainsDraft
-take_words d [] = d
-take_words d (w ∷ words) =
-    if bytes_eq w (codes "-A") then take_appended d words
-    else if bytes_eq w (codes "#") then with_remark d (join_with_byte 32 words)
-    else if bytes_eq w (codes "-N") then take_name d words
+unfoldable pub take_few : ChainsDraft → List ℕ → List (List ℕ) → ChainsDraft
+take_few d w words =
+    if bytes_eq w (codes "-N") then take_name d words
     else if bytes_eq w (codes "##") then take_target d words
     else if bytes_eq w (codes "-P") then take_policy d words
     else d
+
+unfoldable pub take_named : ChainsDraft → List ℕ → List (List ℕ) → ChainsDraft
+take_named d w words =
+    if bytes_eq w (codes "-A") then take_appended d words
+    else if bytes_eq w (codes "#") then with_remark d (join_with_byte 32 words)
+    else take_few d w (few_in words)
+
+unfoldable pub take_words : ChainsDraft → List (List ℕ) → ChainsDraft
+take_words d [] = d
+take_words d (w ∷ words) = take_named d w words
 
 abbrev pub take_row : ChainsDraft → Row → ChainsDraft
 take_row d r = take_words d r.words

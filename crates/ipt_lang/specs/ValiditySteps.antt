@@ -1,10 +1,11 @@
 -- Whether a document is valid, test by test.
 use Rattle.std.specs.Prelude.{ℕ, ◌-◌, Bool, true, ◌&&◌, nat_le, List, [], ◌∷◌, Option, None, Some}
 use Rattle.std.specs.List.{list_all}
+use Rattle.std.specs.Str.{bytes_eq}
 use Rattle.acl_packet.specs.declared.addresses.Family.{Family}
 use Rattle.acl_packet.specs.declared.addresses.Prefix.{Prefix}
 use Rattle.acl_text.specs.Names.{is_safe_text}
-use Rattle.acl_grammar.specs.NamingSteps.{are_distinct}
+use Rattle.acl_grammar.specs.ApartSteps.{are_apart}
 use Rattle.acl_grammar.specs.PortRangeSteps.{is_port_range}
 use Rattle.acl_grammar.specs.PrefixCheckSteps.{is_addresses}
 use Rattle.acl_grammar.specs.RuleParts.{number_fits}
@@ -46,4 +47,4 @@ is_chain family c =
     are_remarks c.remarks && (is_chain_name c.name && list_all (is_rule family) c.rules)
 
 abbrev pub is_section : Section → Bool
-is_section s = list_all (is_chain s.family) s.chains && are_distinct (chain_names s.chains)
+is_section s = list_all (is_chain s.family) s.chains && are_apart bytes_eq (chain_names s.chains)

@@ -1,12 +1,12 @@
 ghost use Rattle.std.specs.Prelude.{◌≡◌, OnOk};
 ghost use Rattle.acl_text.specs.Cuts.{views};
 ghost use Rattle.acl_grammar.specs.FamilyWords.{family_in};
-ghost use Rattle.ipt_lang.specs.ReadingSteps.{begin_section, end_chain, ended, hook_in, no_chain, no_draft, no_section, take_appended, take_name, take_policy, take_row, take_target, take_words, with_name, with_policy, with_remark, with_rule};
+ghost use Rattle.ipt_lang.specs.ReadingSteps.{begin_section, end_chain, ended, hook_in, no_chain, no_draft, no_section, take_appended, take_few, take_name, take_named, take_policy, take_row, take_target, take_words, with_name, with_policy, with_remark, with_rule};
 
 use crate::chain_rows::hook_word;
 use crate::documents::{Chain, Doc, Section};
 use crate::rule_drafts::rule_of;
-use acl_grammar::{DocumentDraft, Draft, family_named, join_words};
+use acl_grammar::{DocumentDraft, Draft, RowWords, family_named};
 use acl_packet::{Family, Hook};
 use acl_text::{Bytes, Items, Memory};
 use std::alloc::Global;
@@ -25,7 +25,12 @@ pub struct ChainsDraft {
 impl Draft for ChainsDraft {
     ghost step = { take_row };
 
-    fn take_row(&mut self, alloc: Global, _indent: usize, words: &[&[u8]]) -> Result<(), Memory> {
+    fn take_row(
+        &mut self,
+        alloc: Global,
+        _indent: usize,
+        words: RowWords<'_>,
+    ) -> Result<(), Memory> {
         self.take_words(alloc, words)
     }
 }
@@ -55,21 +60,39 @@ impl DocumentDraft<Section> for ChainsDraft {
 
 impl ChainsDraft {
     #[tactic(auto, unfolding(crate::specs::ReadingSteps::take_words))]
-    fn take_words(&mut self, alloc: Global, words: &[&[u8]]) -> Result<(), Memory>
-        ensures { OnOk result (self.new ≡ take_words self.old (views words.now)) }
+    fn take_words(&mut self, alloc: Global, words: RowWords<'_>) -> Result<(), Memory>
+        ensures { OnOk result (self.new ≡ take_words self.old words.entry) }
     {
-        let [first, words @ ..] = words else {
-            return Ok(());
-        };
-        if *first == b"-A".as_slice() {
+        let mut rest = words;
+        match rest.next() {
+            Some(first) => self.take_named(alloc, first, rest),
+            None => Ok(()),
+        }
+    }
+
+    #[tactic(auto, unfolding(crate::specs::ReadingSteps::take_named))]
+    fn take_named(&mut self, alloc: Global, first: &[u8], words: RowWords<'_>) -> Result<(), Memory>
+        ensures { OnOk result (self.new ≡ take_named self.old first.now words.entry) }
+    {
+        if first == b"-A".as_slice() {
             self.take_appended(alloc, words)
-        } else if *first == b"#".as_slice() {
-            self.push_remark(join_words(alloc, words)?)
-        } else if *first == b"-N".as_slice() {
+        } else if first == b"#".as_slice() {
+            self.push_remark(Bytes::from_slice(alloc, words.text())?)
+        } else {
+            let few = words.few(alloc)?;
+            self.take_few(alloc, first, few.as_slice())
+        }
+    }
+
+    #[tactic(auto, unfolding(crate::specs::ReadingSteps::take_few))]
+    fn take_few(&mut self, alloc: Global, first: &[u8], words: &[&[u8]]) -> Result<(), Memory>
+        ensures { OnOk result (self.new ≡ take_few self.old first.now (views words.now)) }
+    {
+        if first == b"-N".as_slice() {
             self.take_name(alloc, words)
-        } else if *first == b"##".as_slice() {
+        } else if first == b"##".as_slice() {
             self.take_target(alloc, words)
-        } else if *first == b"-P".as_slice() {
+        } else if first == b"-P".as_slice() {
             self.take_policy(words);
             Ok(())
         } else {
@@ -78,16 +101,17 @@ impl ChainsDraft {
     }
 
     #[tactic(auto, unfolding(crate::specs::ReadingSteps::take_appended))]
-    fn take_appended(&mut self, alloc: Global, words: &[&[u8]]) -> Result<(), Memory>
-        ensures { OnOk result (self.new ≡ take_appended self.old (views words.now)) }
+    fn take_appended(&mut self, alloc: Global, words: RowWords<'_>) -> Result<(), Memory>
+        ensures { OnOk result (self.new ≡ take_appended self.old words.entry) }
     {
-        let [chain, words @ ..] = words else {
+        let mut rest = words;
+        let Some(chain) = rest.next() else {
             return Ok(());
         };
-        if *chain == hook_word(self.section.hook) {
+        if chain == hook_word(self.section.hook) {
             self.end_chain(alloc)
         } else {
-            let rule = rule_of(alloc, self.section.family, words)?;
+            let rule = rule_of(alloc, self.section.family, rest)?;
             self.chain.rules.push(rule)
         }
     }

@@ -23,15 +23,15 @@ impl Language for Iptables {
     ghost is_section = { IsSection };
 
     #[tactic(auto, using(crate::proofs::ValidityLaws::section_decides))]
-    fn is_valid(section: &Section) -> bool {
-        is_section(section)
+    fn is_valid(alloc: Global, section: &Section) -> Result<bool, Memory> {
+        is_section(alloc, section)
     }
 
     ghost names = { hook_names };
 
     #[tactic(auto, using(crate::proofs::ValidityLaws::hook_names_decide))]
-    fn have_distinct_names(_alloc: Global, sections: &[Section]) -> Result<bool, Memory> {
-        Ok(have_distinct_names(sections))
+    fn have_distinct_names(alloc: Global, sections: &[Section]) -> Result<bool, Memory> {
+        have_distinct_names(alloc, sections)
     }
 
     ghost rows = { section_rows };

@@ -1,11 +1,11 @@
-ghost use Rattle.std.specs.Prelude.{◌≡◌, IfOk, OnOk};
-ghost use Rattle.acl_text.specs.Cuts.{views};
-ghost use Rattle.ipt_lang.specs.ReadingSteps.{act_in, draft, flags_in, named_proto_in, next_in, no_rule, proto_in, ranges_among, ranges_in, rule_in, take_word, with_address, with_ports, with_value, with_word};
+ghost use Rattle.std.specs.Prelude.{◌≡◌, ◌++◌, IfOk, OnOk};
+ghost use Rattle.acl_text.specs.PortRanges.{ports_in};
+ghost use Rattle.ipt_lang.specs.ReadingSteps.{act_in, draft, flags_in, named_proto_in, next_in, no_rule, one_or_none, proto_in, ranges_in, rule_in, take_word, with_address, with_ports, with_value, with_word};
 
 use crate::documents::{Act, Flags, Rule};
-use acl_grammar::End;
+use acl_grammar::{End, RowWords};
 use acl_packet::{Family, Verdict};
-use acl_text::{Items, Memory, read_ports, read_spelled_prefix, read_u8, split_text};
+use acl_text::{Items, Memory, read_ports, read_spelled_prefix, read_u8, split_at_byte};
 use std::alloc::Global;
 
 /// What the next word of a rule is.
@@ -31,15 +31,16 @@ struct RuleDraft {
 /// The rule of the words, for packets of the family. No words are refused: what means nothing changes
 /// nothing.
 #[tactic(auto, unfolding(crate::specs::ReadingSteps::rule_in))]
-pub(crate) fn rule_of(alloc: Global, family: Family, words: &[&[u8]]) -> Result<Rule, Memory>
-    ensures { IfOk result (λ r. r ≡ rule_in family (views words.now)) }
+pub(crate) fn rule_of(alloc: Global, family: Family, words: RowWords<'_>) -> Result<Rule, Memory>
+    ensures { IfOk result (λ r. r ≡ rule_in family words.entry) }
 {
     let mut draft = RuleDraft {
         family,
         rule: no_rule(alloc),
         next: Next::Keyword,
     };
-    for word in words {
+    let mut rest = words;
+    while let Some(word) = rest.next() {
         draft.take_word(alloc, word)?;
     }
     Ok(draft.rule)
@@ -128,24 +129,29 @@ impl Rule {
     }
 }
 
-#[tactic(auto, unfolding(crate::specs::ReadingSteps::ranges_in))]
+// The ranges of a word, with commas between.
+#[tactic(auto, using(crate::proofs::RuleReadingLaws::more_ranges, crate::proofs::RuleReadingLaws::last_range, acl_grammar::proofs::RowLaws::rest_is_shorter))]
 fn ranges_of(alloc: Global, word: &[u8]) -> Result<Items<(u16, u16)>, Memory>
     ensures { IfOk result (λ ranges. ranges ≡ ranges_in word.now) }
 {
-    let parts = split_text(alloc, word, b',')?;
-    ranges_among(alloc, parts.as_slice())
+    let mut ranges = Items::new(alloc);
+    let mut rest = word;
+    while let Some((part, behind)) = split_at_byte(rest, b',') {
+        push_range(&mut ranges, part)?;
+        rest = behind;
+    }
+    push_range(&mut ranges, rest)?;
+    Ok(ranges)
 }
 
-fn ranges_among(alloc: Global, words: &[&[u8]]) -> Result<Items<(u16, u16)>, Memory>
-    ensures { IfOk result (λ ranges. ranges ≡ ranges_among (views words.now)) }
+// Adds the range of the word, if it is one.
+fn push_range(ranges: &mut Items<(u16, u16)>, word: &[u8]) -> Result<(), Memory>
+    ensures { OnOk result (ranges.new ≡ ranges.old ++ one_or_none (ports_in 58 word.now)) }
 {
-    let mut ranges = Items::new(alloc);
-    for word in words {
-        if let Some(ports) = read_ports(word, b':') {
-            ranges.push(ports)?;
-        }
+    match read_ports(word, b':') {
+        Some(ports) => ranges.push(ports),
+        None => Ok(()),
     }
-    Ok(ranges)
 }
 
 fn protocol_of(word: &[u8]) -> Option<u8>

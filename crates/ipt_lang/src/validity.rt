@@ -1,6 +1,6 @@
-ghost use Rattle.std.specs.Prelude.{◌≡◌, ◌&&◌};
+ghost use Rattle.std.specs.Prelude.{◌≡◌, ◌&&◌, IfOk};
 ghost use Rattle.std.specs.List.{list_all};
-ghost use Rattle.acl_grammar.specs.NamingSteps.{are_distinct};
+ghost use Rattle.acl_grammar.specs.ApartSteps.{are_apart};
 ghost use Rattle.acl_grammar.specs.RuleParts.{has_port_proto, is_proto};
 ghost use Rattle.ipt_lang.specs.Documents.{act_fits, chain_names, flags_fit, is_chain_name, name_of, parts_fit, ports_fit, type_fits, weight_of};
 ghost use Rattle.ipt_lang.specs.ValiditySteps.{are_addresses, are_numbers, are_ports, are_remarks, has_room, is_address, is_chain, is_port_list, is_rule, is_section};
@@ -11,13 +11,14 @@ use acl_grammar::{
     number_fits,
 };
 use acl_packet::{Family, Hook, Prefix, Verdict};
-use acl_text::{Bytes, is_name, is_safe_text};
+use acl_text::{Bytes, Memory, is_name, is_safe_text};
+use std::alloc::Global;
 
 impl Named for Section {
     ghost name = { name_of };
 
-    fn has_name_of(&self, other: &Section) -> bool {
-        target_words(self) == target_words(other)
+    fn name(&self) -> &[u8] {
+        target_words(self)
     }
 }
 
@@ -35,18 +36,18 @@ fn target_words(section: &Section) -> &'static [u8]
 }
 
 /// Whether the section is valid.
-pub(crate) fn is_section(section: &Section) -> bool
-    ensures { result ≡ is_section section.now }
+pub(crate) fn is_section(alloc: Global, section: &Section) -> Result<bool, Memory>
+    ensures { IfOk result (λ b. b ≡ is_section section.now) }
 {
     let chains = section.chains.as_slice();
-    are_chains(section.family, chains) && have_distinct_names(chains)
+    Ok(are_chains(section.family, chains) && have_distinct_names(alloc, chains)?)
 }
 
 impl Named for Chain {
     ghost name = { λ c. c.name };
 
-    fn has_name_of(&self, other: &Chain) -> bool {
-        self.name.as_slice() == other.name.as_slice()
+    fn name(&self) -> &[u8] {
+        self.name.as_slice()
     }
 }
 

@@ -21,10 +21,10 @@ use Rattle.acl_text.proofs.AddressLaws.{prefix-lacks, spelled-again}
 use Rattle.acl_text.proofs.CutLaws.{cut-again}
 use Rattle.acl_text.proofs.Printed.{IsForeign}
 use Rattle.acl_grammar.specs.PortRanges.{IsPortRange}
-use Rattle.acl_grammar.specs.Rows.{Row, row, words_in}
+use Rattle.acl_grammar.specs.Rows.{Row, row}
 use Rattle.acl_grammar.specs.RowSteps.{document_in, row_in}
 use Rattle.acl_grammar.proofs.PortRangeLaws.{range-again}
-use Rattle.acl_grammar.proofs.RowLaws.{fold-again, fold-members}
+use Rattle.acl_grammar.proofs.RowLaws.{fold-again, fold-members, split_some}
 use Rattle.acl_grammar.specs.FamilyWords.{family_in}
 use Rattle.junos_lang.specs.declared.documents.Section.{Section}
 use Rattle.junos_lang.specs.declared.documents.JTerm.{JTerm}
@@ -225,21 +225,31 @@ then_read ss s t protos false Left e h = absurd (false≢true h)
 
 -- ---- terms
 
-between : (words : List (List ℕ)) → take (length (codes "/*" ∷ (words ++ codes "*/" ∷ [])) - 2) (words ++ codes "*/" ∷ []) ≡ words
-between words =
-    let e : length (codes "/*" ∷ (words ++ codes "*/" ∷ [])) - 2 ≡ length words = omega (arith, length-append words (codes "*/" ∷ [])) in
-    ap (λ n. take n (words ++ codes "*/" ∷ [])) e ∙ take-append_seam words (codes "*/" ∷ [])
+-- a word more, and then without the three bytes that it took
+joined_more : (w : List ℕ) (words : List (List ℕ)) → join_with_byte 32 ((w ∷ words) ++ codes "*/" ∷ []) ≡ join_with_byte 32 (w ∷ words) ++ codes " */"
+joined_more w [] = refl
+joined_more w (v ∷ words) =
+    ap (λ t. w ++ 32 ∷ t) (joined_more v words) ∙ sym (append_assoc w (32 ∷ join_with_byte 32 (v ∷ words)) (codes " */"))
 
-note_taken : (ss : List Section) (s : Section) (t : JTerm) (words : List (List ℕ))
-    → take_row (at ss s t) (row 12 (codes "/*" ∷ (words ++ codes "*/" ∷ []))) ≡ at ss s (record t { note = Some (join_with_byte 32 words) })
-unfolding take_row take_head note_in
-note_taken ss s t [] = ap (λ ws. at ss s (record t { note = Some (join_with_byte 32 ws) })) (between [])
-note_taken ss s t (w ∷ words) = ap (λ ws. at ss s (record t { note = Some (join_with_byte 32 ws) })) (between (w ∷ words))
+without_end : (text : List ℕ) → note_in (text ++ codes " */") ≡ text
+unfolding note_in
+without_end text =
+    let e : length (text ++ codes " */") - 3 ≡ length text = omega (arith, length-append text (codes " */")) in
+    ap (λ n. take n (text ++ codes " */")) e ∙ take-append_seam text (codes " */")
+
+note_taken : (ss : List Section) (s : Section) (t : JTerm) (w : List ℕ) (words : List (List ℕ))
+    → take_row (at ss s t) (row 12 (codes "/*" ∷ ((w ∷ words) ++ codes "*/" ∷ []))) ≡ at ss s (record t { note = Some (join_with_byte 32 (w ∷ words)) })
+unfolding take_row take_head
+note_taken ss s t w words =
+    ap (λ n. at ss s (record t { note = Some n })) (ap note_in (joined_more w words) ∙ without_end (join_with_byte 32 (w ∷ words)))
 
 note_read : (ss : List Section) (s : Section) (o : Option (List ℕ)) → read (at ss s no_term) (note_rows o) ≡ at ss s (record no_term { note = o })
 unfolding note_row
 note_read ss s None = refl
-note_read ss s (Some text) = note_taken ss s no_term (words_in text) ∙ ap (λ w. at ss s (record no_term { note = Some w })) (join_with_byte-slice_split 32 text)
+note_read ss s (Some text) =
+    let p = split_some text in
+    ap (λ ws. take_row (at ss s no_term) (row 12 (codes "/*" ∷ (ws ++ codes "*/" ∷ [])))) p.2 ∙ note_taken ss s no_term p.0 p.1
+    ∙ ap (λ t. at ss s (record no_term { note = Some t })) (ap (join_with_byte 32) (sym p.2) ∙ join_with_byte-slice_split 32 text)
 
 abbrev with_term : Section → JTerm → Section
 with_term s t = record s { terms = s.terms ++ t ∷ [] }

@@ -1,33 +1,42 @@
 -- The tests of a section say what a valid one is.
-use Rattle.std.proofs.Common.{◌≡◌, ℕ, ◌<◌, ◌≤◌, Bool, true, false, not, ◌&&◌, nat_le, nat_lt, List, [], ◌∷◌, ◌++◌, map, flat_map, Option, None, Some, IfSome, refl, ap, subst}
+use Rattle.std.proofs.Common.{◌≡◌, ℕ, ◌<◌, ◌≤◌, Bool, true, false, not, ◌&&◌, nat_le, nat_lt, List, [], ◌∷◌, map, flat_map, Option, None, Some, IfSome, refl, ap, subst, ◌∙◌}
 use Rattle.std.specs.Bool.{Decides}
+use Rattle.std.specs.Borrow.{Bor}
+use Rattle.std.specs.Cmp.Lexicographic.{slice_cmp}
 use Rattle.std.specs.List.{list_all, IsDistinct}
+use Rattle.std.specs.Ordering.{bool_cmp, eq_by_cmp, nat_cmp, ordering_then}
 use Rattle.std.specs.Str.{bytes_eq}
+use Rattle.std.specs.declared.cmp.Ordering.{Ordering}
 use Rattle.std.proofs.lemmas.Bool.{false≢true}
 use Rattle.std.proofs.lemmas.Bool.Decides.{Decides-and, Decides-like, Decides-ltb}
+use Rattle.std.proofs.lemmas.Map.Text.{is_eq-slice_cmp}
 use Rattle.acl_packet.specs.declared.addresses.Family.{Family}
-use Rattle.acl_packet.specs.declared.addresses.Family.TheVariants.{V4, V6}
-use Rattle.acl_packet.specs.declared.addresses.Prefix.{Prefix}
-use Rattle.acl_packet.specs.Addresses.{same_family}
 use Rattle.acl_text.specs.Names.{is_name, is_filter_name, is_safe_text}
-use Rattle.acl_grammar.specs.NamingSteps.{are_distinct}
+use Rattle.acl_grammar.specs.ApartSteps.{are_apart}
 use Rattle.acl_grammar.specs.PortRangeSteps.{is_port_range}
-use Rattle.acl_grammar.specs.PrefixCheckSteps.{is_addresses, is_prefix_of}
+use Rattle.acl_grammar.specs.PrefixCheckSteps.{is_addresses}
 use Rattle.acl_grammar.proofs.DecisionLaws.{addresses_decide, le_decides, all_decides}
-use Rattle.acl_grammar.proofs.NamingLaws.{distinct_decides}
+use Rattle.acl_grammar.proofs.ApartLaws.{apart_decides, apart_like}
 use Rattle.acl_grammar.proofs.PortRangeLaws.{ranges_decide}
 use Rattle.acl_grammar.specs.RuleParts.{IsAddresses, is_empty}
 use Rattle.junos_lang.specs.declared.documents.Section.{Section}
 use Rattle.junos_lang.specs.declared.documents.JTerm.{JTerm}
-use Rattle.junos_lang.specs.Documents.{parts_fit, IsTerm, term_names, IsSection, family_word, name_of, filter_names}
-use Rattle.junos_lang.specs.ValiditySteps.{is_note, are_named, are_addresses, are_ports, are_numbers, is_term, is_section}
+use Rattle.junos_lang.specs.Documents.{parts_fit, IsTerm, term_names, IsSection, name_of, filter_names}
+use Rattle.junos_lang.specs.ValiditySteps.{filter_name, is_note, are_named, are_addresses, are_ports, are_numbers, is_term, is_section}
 
 -- two names are the same where family and filter's name are
-pub same_names : (f g : Family) (a b : List ℕ) → (same_family f g && bytes_eq a b) ≡ bytes_eq (family_word f ++ 32 ∷ a) (family_word g ++ 32 ∷ b)
-same_names V4 V4 a b = refl
-same_names V4 V6 a b = refl
-same_names V6 V4 a b = refl
-same_names V6 V6 a b = refl
+abbrev filters_cmp : Bool × Bor (List ℕ) → Bool × Bor (List ℕ) → Ordering
+filters_cmp a b = ordering_then (bool_cmp a.0 b.0) (slice_cmp nat_cmp a.1.now b.1.now)
+
+same_filters : (a b : Bool × Bor (List ℕ)) → eq_by_cmp filters_cmp a b ≡ bytes_eq (filter_name a) (filter_name b)
+same_filters (false, a) (false, b) = is_eq-slice_cmp a.now b.now
+same_filters (false, a) (true, b) = refl
+same_filters (true, a) (false, b) = refl
+same_filters (true, a) (true, b) = is_eq-slice_cmp a.now b.now
+
+pub filters_apart : (filters : List (Bool × Bor (List ℕ))) (doc : List Section) → map filter_name filters ≡ map name_of doc
+    → are_apart (eq_by_cmp filters_cmp) filters ≡ are_apart bytes_eq (map name_of doc)
+filters_apart filters doc h = apart_like filter_name (eq_by_cmp filters_cmp) bytes_eq same_filters filters ∙ ap (are_apart bytes_eq) h
 
 -- ---- terms
 
@@ -77,16 +86,16 @@ pub section_decides : (s : Section) → Decides (is_section s) (IsSection s)
 section_decides s =
     let terms = all_decides (is_term s.family) (IsTerm s.family) (term_decides s.family) s.terms in
     let heads = Decides-and (is_filter_name s.name) (not (is_empty s.terms)) (holds (is_filter_name s.name)) (some_decides s.terms) in
-    let body = Decides-and (list_all (is_term s.family) s.terms) (are_distinct (term_names s.terms)) terms (distinct_decides (term_names s.terms)) in
+    let body = Decides-and (list_all (is_term s.family) s.terms) (are_apart bytes_eq (term_names s.terms)) terms (apart_decides bytes_eq (term_names s.terms)) in
     Decides-like (is_section s)
     (λ h. record { named = h.0.0; has_terms = h.0.1; terms = h.1.0; terms_differ = h.1.1 })
     (λ h. ((h.named, h.has_terms), (h.terms, h.terms_differ)))
-    (Decides-and (is_filter_name s.name && not (is_empty s.terms)) (list_all (is_term s.family) s.terms && are_distinct (term_names s.terms)) heads body)
+    (Decides-and (is_filter_name s.name && not (is_empty s.terms)) (list_all (is_term s.family) s.terms && are_apart bytes_eq (term_names s.terms)) heads body)
 
 one_each : (doc : List Section) → map name_of doc ≡ flat_map filter_names doc
 one_each [] = refl
 one_each (s ∷ doc) = ap (λ names. name_of s ∷ names) (one_each doc)
 
-pub filter_names_decide : (doc : List Section) → Decides (are_distinct (map name_of doc)) (IsDistinct bytes_eq (flat_map filter_names doc))
+pub filter_names_decide : (doc : List Section) → Decides (are_apart bytes_eq (map name_of doc)) (IsDistinct bytes_eq (flat_map filter_names doc))
 filter_names_decide doc =
-    subst (λ names. Decides (are_distinct (map name_of doc)) (IsDistinct bytes_eq names)) (one_each doc) (distinct_decides (map name_of doc))
+    subst (λ names. Decides (are_apart bytes_eq (map name_of doc)) (IsDistinct bytes_eq names)) (one_each doc) (apart_decides bytes_eq (map name_of doc))

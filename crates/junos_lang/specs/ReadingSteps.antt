@@ -11,6 +11,7 @@ use Rattle.acl_text.specs.AddressTexts.{spelled_prefix_in}
 use Rattle.acl_text.specs.Cuts.{cut_at}
 use Rattle.acl_text.specs.OptionSteps.{◌>>=◌}
 use Rattle.acl_text.specs.PortRanges.{ports_in}
+use Rattle.acl_grammar.specs.RowSteps.{few_in}
 use Rattle.acl_grammar.specs.Rows.{Row}
 use Rattle.acl_grammar.specs.FamilyWords.{family_in}
 use Rattle.junos_lang.specs.declared.documents.Section.{Section}
@@ -38,9 +39,9 @@ ranges_in words = flat_map (λ w. one_or_none (ports_in 45 w)) words
 unfoldable pub listed_prefix_in : Family → List ℕ → Option Prefix
 listed_prefix_in family w = cut_at 59 w >>= (λ p. spelled_prefix_in family p.0)
 
--- The text between the words that begin and end a comment.
-unfoldable pub note_in : List (List ℕ) → List ℕ
-note_in words = join_with_byte 32 (take (length words - 2) (drop 1 words))
+-- The text of a comment, without the space and the two bytes that end it.
+unfoldable pub note_in : List ℕ → List ℕ
+note_in text = take (length text - 3) text
 
 -- ---- the parts of a term
 
@@ -110,22 +111,23 @@ take_filter d (w ∷ v ∷ name ∷ brace ∷ []) =
     record d { section = record d.section { name = name } }
 take_filter d words = d
 
--- The row of a comment, of a term's name, or of a term's end.
-unfoldable pub take_head : FiltersDraft → List ℕ → List ℕ → List (List ℕ) → FiltersDraft
-take_head d w name words =
-    if bytes_eq w (codes "/*") then record d { term = record d.term { note = Some (note_in words) } }
+-- The row of a comment, or of a term's name.
+unfoldable pub take_head : FiltersDraft → List ℕ → List ℕ → List ℕ → FiltersDraft
+take_head d w name text =
+    if bytes_eq w (codes "/*") then record d { term = record d.term { note = Some (note_in text) } }
     else record d { term = record d.term { name = name } }
 
-abbrev pub take_term : FiltersDraft → List (List ℕ) → FiltersDraft
-take_term d [] = d
-take_term d (w ∷ []) = end_term d
-take_term d (w ∷ name ∷ words) = take_head d w name (w ∷ name ∷ words)
+-- The first few words of a row tell what it is.
+abbrev pub take_term : FiltersDraft → List (List ℕ) → List (List ℕ) → FiltersDraft
+take_term d [] words = d
+take_term d (w ∷ []) words = end_term d
+take_term d (w ∷ name ∷ few) words = take_head d w name (join_with_byte 32 (drop 1 words))
 
-abbrev pub take_part : FiltersDraft → List (List ℕ) → FiltersDraft
-take_part d [] = d
-take_part d (w ∷ []) = record d { term = with_word d.term w; end = Source }
-take_part d (w ∷ v ∷ []) = record d { term = with_pair d.term w; end = end_in w }
-take_part d (w ∷ v ∷ x ∷ words) = record d { term = with_list d.term w (w ∷ v ∷ x ∷ words) }
+abbrev pub take_part : FiltersDraft → List (List ℕ) → List (List ℕ) → FiltersDraft
+take_part d [] words = d
+take_part d (w ∷ []) words = record d { term = with_word d.term w; end = Source }
+take_part d (w ∷ v ∷ []) words = record d { term = with_pair d.term w; end = end_in w }
+take_part d (w ∷ v ∷ x ∷ few) words = record d { term = with_list d.term w words }
 
 abbrev pub take_address : FiltersDraft → List (List ℕ) → FiltersDraft
 take_address d (w ∷ []) =
@@ -134,10 +136,10 @@ take_address d words = d
 
 unfoldable pub take_row : FiltersDraft → Row → FiltersDraft
 take_row d r =
-    if r.indent == 0 then take_outer d r.words
-    else if r.indent == 4 then take_family d r.words
-    else if r.indent == 8 then take_filter d r.words
-    else if r.indent == 12 then take_term d r.words
-    else if r.indent == 20 then take_part d r.words
-    else if r.indent == 24 then take_address d r.words
+    if r.indent == 0 then take_outer d (few_in r.words)
+    else if r.indent == 4 then take_family d (few_in r.words)
+    else if r.indent == 8 then take_filter d (few_in r.words)
+    else if r.indent == 12 then take_term d (few_in r.words) r.words
+    else if r.indent == 20 then take_part d (few_in r.words) r.words
+    else if r.indent == 24 then take_address d (few_in r.words)
     else d

@@ -1,16 +1,18 @@
 -- Whether a document is valid, test by test.
-use Rattle.std.specs.Prelude.{ℕ, Bool, true, not, ◌&&◌, nat_le, nat_lt, List, Option, None, Some}
+use Rattle.std.specs.Prelude.{ℕ, Bool, true, false, not, ◌&&◌, nat_le, nat_lt, List, ◌∷◌, ◌++◌, Option, None, Some}
+use Rattle.std.specs.Borrow.{Bor}
 use Rattle.std.specs.List.{list_all}
+use Rattle.std.specs.Str.{bytes_eq}
 use Rattle.acl_packet.specs.declared.addresses.Family.{Family}
-use Rattle.acl_packet.specs.declared.addresses.Prefix.{Prefix}
+use Rattle.acl_packet.specs.declared.addresses.Family.TheVariants.{V4, V6}
 use Rattle.acl_text.specs.Names.{is_name, is_filter_name, is_safe_text}
-use Rattle.acl_grammar.specs.NamingSteps.{are_distinct}
+use Rattle.acl_grammar.specs.ApartSteps.{are_apart}
 use Rattle.acl_grammar.specs.PortRangeSteps.{is_port_range}
 use Rattle.acl_grammar.specs.PrefixCheckSteps.{is_addresses}
 use Rattle.acl_grammar.specs.RuleParts.{is_empty}
 use Rattle.junos_lang.specs.declared.documents.Section.{Section}
 use Rattle.junos_lang.specs.declared.documents.JTerm.{JTerm}
-use Rattle.junos_lang.specs.Documents.{parts_fit, term_names}
+use Rattle.junos_lang.specs.Documents.{family_word, parts_fit, term_names}
 
 abbrev pub is_note : Option (List ℕ) → Bool
 is_note None = true
@@ -34,4 +36,9 @@ is_term family t = (are_named t && are_addresses family t)
 
 abbrev pub is_section : Section → Bool
 is_section s = (is_filter_name s.name && not (is_empty s.terms))
-    && (list_all (is_term s.family) s.terms && are_distinct (term_names s.terms))
+    && (list_all (is_term s.family) s.terms && are_apart bytes_eq (term_names s.terms))
+
+-- The name of a section, from whether it is of IPv6 and its filter's name.
+abbrev pub filter_name : Bool × Bor (List ℕ) → List ℕ
+filter_name (false, name) = family_word V4 ++ 32 ∷ name.now
+filter_name (true, name) = family_word V6 ++ 32 ∷ name.now

@@ -4,7 +4,7 @@ ghost use Rattle.acl_grammar.specs.FamilyWords.{family_in};
 ghost use Rattle.junos_lang.specs.ReadingSteps.{no_term, no_section, no_draft, numbers_in, ranges_in, listed_prefix_in, note_in, with_prefix, with_list, with_word, with_pair, end_in, end_term, end_section, take_outer, take_family, take_filter, take_head, take_term, take_part, take_address, take_row};
 
 use crate::documents::{Doc, JTerm, JTest, Section};
-use acl_grammar::{DocumentDraft, Draft, End, family_named, join_words};
+use acl_grammar::{DocumentDraft, Draft, End, RowWords, family_named};
 use acl_packet::{Family, Prefix, Verdict};
 use acl_text::{Bytes, Items, Memory, read_ports, read_spelled_prefix, read_u8, split_at_byte};
 use std::alloc::Global;
@@ -24,17 +24,24 @@ impl Draft for FiltersDraft {
     ghost step = { take_row };
 
     #[tactic(auto, unfolding(crate::specs::ReadingSteps::take_row))]
-    fn take_row(&mut self, alloc: Global, indent: usize, words: &[&[u8]]) -> Result<(), Memory> {
+    fn take_row(
+        &mut self,
+        alloc: Global,
+        indent: usize,
+        words: RowWords<'_>,
+    ) -> Result<(), Memory> {
+        let few = words.few(alloc)?;
+        let few = few.as_slice();
         match indent {
-            0 => self.take_outer(alloc, words),
+            0 => self.take_outer(alloc, few),
             4 => {
-                self.take_family(words);
+                self.take_family(few);
                 Ok(())
             }
-            8 => self.take_filter(alloc, words),
-            12 => self.take_term(alloc, words),
-            20 => self.take_part(alloc, words),
-            24 => self.take_address(words),
+            8 => self.take_filter(alloc, few),
+            12 => self.take_term(alloc, few, words),
+            20 => self.take_part(alloc, few, words),
+            24 => self.take_address(few),
             _ => Ok(()),
         }
     }
@@ -94,13 +101,14 @@ impl FiltersDraft {
         Ok(())
     }
 
-    fn take_term(&mut self, alloc: Global, words: &[&[u8]]) -> Result<(), Memory>
-        ensures { OnOk result (self.new ≡ take_term self.old (views words.now)) }
+    // Takes the row of the words, of which the first few are at hand.
+    fn take_term(&mut self, alloc: Global, few: &[&[u8]], words: RowWords<'_>) -> Result<(), Memory>
+        ensures { OnOk result (self.new ≡ take_term self.old (views few.now) words.entry) }
     {
-        match words {
+        match few {
             [] => Ok(()),
             [_] => self.end_term(alloc),
-            [word, name, ..] => self.take_head(alloc, word, name, words),
+            [word, name, ..] => self.take_head(alloc, word, name, words.behind_first().text()),
         }
     }
 
@@ -117,23 +125,23 @@ impl FiltersDraft {
         alloc: Global,
         word: &[u8],
         name: &[u8],
-        words: &[&[u8]],
+        text: &[u8],
     ) -> Result<(), Memory>
-        ensures { OnOk result (self.new
-            ≡ take_head self.old word.now name.now (views words.now)) }
+        ensures { OnOk result (self.new ≡ take_head self.old word.now name.now text.now) }
     {
         if word == b"/*".as_slice() {
-            self.term.note = Some(note_of(alloc, words)?);
+            self.term.note = Some(note_of(alloc, text)?);
         } else {
             self.term.name = Bytes::from_slice(alloc, name)?;
         }
         Ok(())
     }
 
-    fn take_part(&mut self, alloc: Global, words: &[&[u8]]) -> Result<(), Memory>
-        ensures { OnOk result (self.new ≡ take_part self.old (views words.now)) }
+    // Takes the row of the words, of which the first few are at hand.
+    fn take_part(&mut self, alloc: Global, few: &[&[u8]], words: RowWords<'_>) -> Result<(), Memory>
+        ensures { OnOk result (self.new ≡ take_part self.old (views few.now) words.entry) }
     {
-        match words {
+        match few {
             [] => Ok(()),
             [word] => {
                 self.term.take_word(word);
@@ -194,8 +202,8 @@ impl JTerm {
     }
 
     #[tactic(auto, unfolding(crate::specs::ReadingSteps::with_list))]
-    fn take_list(&mut self, alloc: Global, word: &[u8], words: &[&[u8]]) -> Result<(), Memory>
-        ensures { OnOk result (self.new ≡ with_list self.old word.now (views words.now)) }
+    fn take_list(&mut self, alloc: Global, word: &[u8], words: RowWords<'_>) -> Result<(), Memory>
+        ensures { OnOk result (self.new ≡ with_list self.old word.now words.entry) }
     {
         if word == b"source-port".as_slice() {
             self.sports = ranges_of(alloc, words)?;
@@ -268,24 +276,23 @@ fn listed_prefix(family: Family, word: &[u8]) -> Option<Prefix>
     read_spelled_prefix(family, prefix)
 }
 
-// The text between the first and the last word.
+// The text of a comment, without what ends it.
 #[tactic(auto, unfolding(crate::specs::ReadingSteps::note_in))]
-fn note_of(alloc: Global, words: &[&[u8]]) -> Result<Bytes, Memory>
-    ensures { IfOk result (λ text. text ≡ note_in (views words.now)) }
+fn note_of(alloc: Global, text: &[u8]) -> Result<Bytes, Memory>
+    ensures { IfOk result (λ note. note ≡ note_in text.now) }
 {
-    match words {
-        [_, text @ .., _] => join_words(alloc, text),
-        _ => Ok(Bytes::new(alloc)),
-    }
+    let end = text.len().saturating_sub(b" */".len());
+    Bytes::from_slice(alloc, &text[..end])
 }
 
 // The numbers among the words.
 #[tactic(auto, unfolding(crate::specs::ReadingSteps::numbers_in))]
-fn numbers_of(alloc: Global, words: &[&[u8]]) -> Result<Items<u8>, Memory>
-    ensures { IfOk result (λ numbers. numbers ≡ numbers_in (views words.now)) }
+fn numbers_of(alloc: Global, words: RowWords<'_>) -> Result<Items<u8>, Memory>
+    ensures { IfOk result (λ numbers. numbers ≡ numbers_in words.entry) }
 {
     let mut numbers = Items::new(alloc);
-    for word in words {
+    let mut rest = words;
+    while let Some(word) = rest.next() {
         if let Some(number) = read_u8(word, 255) {
             numbers.push(number)?;
         }
@@ -295,11 +302,12 @@ fn numbers_of(alloc: Global, words: &[&[u8]]) -> Result<Items<u8>, Memory>
 
 // The ranges of ports among the words.
 #[tactic(auto, unfolding(crate::specs::ReadingSteps::ranges_in))]
-fn ranges_of(alloc: Global, words: &[&[u8]]) -> Result<Items<(u16, u16)>, Memory>
-    ensures { IfOk result (λ ranges. ranges ≡ ranges_in (views words.now)) }
+fn ranges_of(alloc: Global, words: RowWords<'_>) -> Result<Items<(u16, u16)>, Memory>
+    ensures { IfOk result (λ ranges. ranges ≡ ranges_in words.entry) }
 {
     let mut ranges = Items::new(alloc);
-    for word in words {
+    let mut rest = words;
+    while let Some(word) = rest.next() {
         if let Some(ports) = read_ports(word, b'-') {
             ranges.push(ports)?;
         }

@@ -5,9 +5,9 @@ ghost use Rattle.junos_lang.specs.Walks.{section_outcome};
 
 use crate::documents::Section;
 use crate::filters_drafts::FiltersDraft;
-use crate::validity::is_section;
+use crate::validity::{have_distinct_filters, is_section};
 use crate::walking::walk;
-use acl_grammar::{Language, Rows, have_distinct_names};
+use acl_grammar::{Language, Rows};
 use acl_packet::{Outcome, Packet};
 use acl_text::{Memory, Out, PutFault};
 use std::alloc::Global;
@@ -23,15 +23,15 @@ impl Language for Junos {
     ghost is_section = { IsSection };
 
     #[tactic(auto, using(crate::proofs::ValidityLaws::section_decides))]
-    fn is_valid(section: &Section) -> bool {
-        is_section(section)
+    fn is_valid(alloc: Global, section: &Section) -> Result<bool, Memory> {
+        is_section(alloc, section)
     }
 
     ghost names = { filter_names };
 
     #[tactic(auto, using(crate::proofs::ValidityLaws::filter_names_decide))]
-    fn have_distinct_names(_alloc: Global, sections: &[Section]) -> Result<bool, Memory> {
-        Ok(have_distinct_names(sections))
+    fn have_distinct_names(alloc: Global, sections: &[Section]) -> Result<bool, Memory> {
+        have_distinct_filters(alloc, sections)
     }
 
     ghost rows = { section_rows };

@@ -1,40 +1,62 @@
-ghost use Rattle.std.specs.Prelude.{◌≡◌, ◌==◌, ◌||◌, nat_le, nat_lt};
+ghost use Rattle.std.specs.Prelude.{◌≡◌, ◌==◌, ◌||◌, IfOk, map, nat_le, nat_lt};
 ghost use Rattle.std.specs.List.{list_all};
+ghost use Rattle.std.specs.Str.{bytes_eq};
+ghost use Rattle.acl_grammar.specs.ApartSteps.{are_apart};
 ghost use Rattle.acl_grammar.specs.PrefixCheckSteps.{is_addresses};
 ghost use Rattle.junos_lang.specs.Documents.{are_tcp_or_udp, is_alone, name_of, parts_fit, ports_fit, test_fits, types_fit, verdict_fits};
-ghost use Rattle.junos_lang.specs.ValiditySteps.{are_addresses, are_named, are_numbers, are_ports, is_note, is_section, is_term};
+ghost use Rattle.junos_lang.specs.ValiditySteps.{are_addresses, are_named, are_numbers, are_ports, filter_name, is_note, is_section, is_term};
 
 use crate::documents::{JTerm, Section};
-use acl_grammar::{Named, are_port_ranges, have_distinct_names, is_addresses};
+use acl_grammar::{Named, are_distinct, are_port_ranges, have_distinct_names, is_addresses};
 use acl_packet::{Family, Prefix, Verdict};
-use acl_text::{Bytes, is_filter_name, is_name, is_safe_text};
+use acl_text::{Bytes, Memory, is_filter_name, is_name, is_safe_text};
+use std::alloc::Global;
 
-impl Named for Section {
-    ghost name = { name_of };
+/// Whether no two of the sections have the same family and name.
 
-    #[tactic(auto, using(crate::proofs::ValidityLaws::same_names))]
-    fn has_name_of(&self, other: &Section) -> bool {
-        self.family == other.family && self.name.as_slice() == other.name.as_slice()
+pub(crate) fn have_distinct_filters(alloc: Global, sections: &[Section]) -> Result<bool, Memory>
+    ensures { IfOk result (λ b. b ≡ are_apart bytes_eq (map name_of sections.now)) }
+{
+    Ok(are_distinct(filters_of(alloc, sections)?))
+}
+
+// Of each section whether it is of IPv6, and its name.
+fn filters_of<'a>(alloc: Global, sections: &'a [Section]) -> Result<Vec<(bool, &'a [u8])>, Memory>
+    ensures { IfOk result (λ filters. map filter_name filters.items ≡ map name_of sections.now) }
+{
+    let mut filters = Vec::with_capacity(alloc, sections.len())?;
+    for section in sections {
+        filters.push(filter_of(section))?;
+    }
+    Ok(filters)
+}
+
+fn filter_of(section: &Section) -> (bool, &[u8])
+    ensures { filter_name result ≡ name_of section.now }
+{
+    match section.family {
+        Family::V4 => (false, section.name.as_slice()),
+        Family::V6 => (true, section.name.as_slice()),
     }
 }
 
 impl Named for JTerm {
     ghost name = { λ t. t.name };
 
-    fn has_name_of(&self, other: &JTerm) -> bool {
-        self.name.as_slice() == other.name.as_slice()
+    fn name(&self) -> &[u8] {
+        self.name.as_slice()
     }
 }
 
 /// Whether the section is valid.
-pub(crate) fn is_section(section: &Section) -> bool
-    ensures { result ≡ is_section section.now }
+pub(crate) fn is_section(alloc: Global, section: &Section) -> Result<bool, Memory>
+    ensures { IfOk result (λ b. b ≡ is_section section.now) }
 {
     let terms = section.terms.as_slice();
     if !is_filter_name(section.name.as_slice()) || terms.is_empty() {
-        return false;
+        return Ok(false);
     }
-    are_terms(section.family, terms) && have_distinct_names(terms)
+    Ok(are_terms(section.family, terms) && have_distinct_names(alloc, terms)?)
 }
 
 fn are_terms(family: Family, terms: &[JTerm]) -> bool

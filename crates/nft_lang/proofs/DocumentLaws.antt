@@ -27,6 +27,7 @@ use Rattle.nft_lang.specs.declared.documents.Item.TheVariants.{Remark, Rule as A
 use Rattle.nft_lang.specs.declared.tables_drafts.TablesDraft.{TablesDraft}
 use Rattle.nft_lang.specs.Documents.{IsItem, IsSection, fits_i32, table_name}
 use Rattle.nft_lang.specs.Texts.{hook_word, families_word, default_word, priority_word, rule_words, item_rows, head_rows, end_rows, section_rows, text_of}
+use Rattle.acl_grammar.specs.RowSteps.{few_in}
 use Rattle.nft_lang.specs.ReadingSteps.{no_section, no_draft, hook_in, table_in, priority_in, rule_in, item_in, with_item, take_four, take_outer, take_chain, take_inner, take_row}
 use Rattle.nft_lang.proofs.RuleReadingLaws.{rule_again, up_to_there}
 use Rattle.nft_lang.proofs.SafeRows.{plain_word, BeginsRule, rule_begins, signed_lacks, sections_safe}
@@ -62,7 +63,7 @@ rule_taken d words h =
     let w = h.first in
     let ws = h.rest in
     let parts = plain_parts w h.plain in
-    ap (take_inner d) h.is ∙ ap (λ b. cond b (take_chain d (w ∷ ws)) (with_item d (item_in d.section.families (w ∷ ws)))) parts.1
+    ap (take_inner d) h.is ∙ ap (λ b. cond b (take_chain d (few_in (w ∷ ws))) (with_item d (item_in d.section.families (w ∷ ws)))) parts.1
     ∙ ap (λ b. with_item d (cond b (Remark (join_with_byte 32 ws)) (ARule (rule_in d.section.families (w ∷ ws))))) parts.0
     ∙ ap (λ v. with_item d (ARule (rule_in d.section.families v))) (sym h.is)
 

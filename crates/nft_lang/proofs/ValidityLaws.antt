@@ -1,22 +1,23 @@
 -- The tests say which sections are valid, and where their tables differ.
-use Rattle.std.proofs.Common.{◌≡◌, ◌^◌, Bool, true, false, not, ◌&&◌, ◌==◌, nat_eq, nat_le, nat_lt, List, [], ◌∷◌, flat_map, codes, refl, ap, sym, ◌∙◌, arith}
+use Rattle.std.proofs.Common.{◌≡◌, ℕ, ◌^◌, Bool, true, ◌&&◌, ◌==◌, nat_eq, nat_le, nat_lt, List, [], ◌∷◌, map, flat_map, codes, refl, ap, sym, subst, ◌∙◌, arith}
 use Rattle.std.specs.Bool.{Decides}
 use Rattle.std.specs.Fmt.{decimal}
-use Rattle.std.specs.List.{list_all, list_any, AllByRecursion, IsDistinct}
+use Rattle.std.specs.Cmp.{unsigned_tied}
+use Rattle.std.specs.List.{list_all, AllByRecursion, IsDistinct}
+use Rattle.std.specs.Ordering.{eq_by_cmp, nat_cmp}
 use Rattle.std.specs.Str.{bytes_eq}
-use Rattle.std.proofs.lemmas.Bool.{or_parts, or_from, false≢true}
 use Rattle.std.proofs.lemmas.Bool.Decides.{same_from_decides, Decides-and, Decides-like, Decides-eqb, Decides-ltb}
 use Rattle.std.proofs.lemmas.Fmt.{decimal_injective}
 use Rattle.std.proofs.lemmas.List.{append_cancel_left}
 use Rattle.std.proofs.lemmas.Slice.Eq.{bytes_eq-Decides}
-use Rattle.acl_packet.specs.declared.addresses.Family.{Family}
 use Rattle.acl_packet.specs.declared.addresses.Families.{Families}
-use Rattle.acl_packet.specs.declared.addresses.Prefix.{Prefix}
 use Rattle.acl_packet.specs.Addresses.{covers}
+use Rattle.acl_grammar.specs.ApartSteps.{are_apart}
 use Rattle.acl_grammar.specs.PortRangeSteps.{is_port_range}
 use Rattle.acl_grammar.specs.PortRanges.{IsPortRange}
-use Rattle.acl_grammar.specs.PrefixCheckSteps.{is_addresses, is_prefix_of}
+use Rattle.acl_grammar.specs.PrefixCheckSteps.{is_addresses}
 use Rattle.acl_grammar.specs.RuleParts.{IsAddresses, number_fits}
+use Rattle.acl_grammar.proofs.ApartLaws.{Apart, apart_decides, apart_like}
 use Rattle.acl_grammar.proofs.DecisionLaws.{addresses_decide, le_decides, number_decides, all_decides}
 use Rattle.acl_grammar.proofs.PortRangeLaws.{range_decides}
 use Rattle.nft_lang.specs.declared.documents.Section.{Section}
@@ -24,32 +25,9 @@ use Rattle.nft_lang.specs.declared.documents.Item.{Item}
 use Rattle.nft_lang.specs.declared.documents.Item.TheVariants.{Remark, Rule as ARule}
 use Rattle.nft_lang.specs.declared.documents.Rule.{Rule}
 use Rattle.nft_lang.specs.Documents.{IsSet, IsType, IsRule, IsItem, IsSection, prefixes_overlap, ports_overlap, parts_fit, fits_i32, table_name, table_names}
-use Rattle.nft_lang.specs.ValiditySteps.{are_apart, are_addresses, are_ports, are_types, has_sets, is_rule, is_item, is_section, same_table}
+use Rattle.nft_lang.specs.ValiditySteps.{are_addresses, are_ports, are_types, has_sets, is_rule, is_item, is_section, same_table}
 
 -- ---- sets
-
-not_false : (a : Bool) → not a ≡ true → a ≡ false
-not_false true h = absurd (false≢true h)
-not_false false h = refl
-
-abbrev Apart : {A : Type 0} → (A → A → Bool) → A → List A → Type 0
-Apart overlap x xs = AllByRecursion (λ y. overlap x y ≡ false) xs
-
-none_overlaps : {A : Type 0} (overlap : A → A → Bool) (x : A) (xs : List A) → list_any (λ y. overlap x y) xs ≡ false → Apart overlap x xs
-none_overlaps overlap x [] h = tt
-none_overlaps overlap x (y ∷ xs) h =
-    let p = or_parts (overlap x y) (list_any (λ z. overlap x z) xs) h in (p.0, none_overlaps overlap x xs p.1)
-
-no_overlap : {A : Type 0} (overlap : A → A → Bool) (x : A) (xs : List A) → Apart overlap x xs → list_any (λ y. overlap x y) xs ≡ false
-no_overlap overlap x [] h = refl
-no_overlap overlap x (y ∷ xs) h = or_from (overlap x y) (list_any (λ z. overlap x z) xs) h.0 (no_overlap overlap x xs h.1)
-
-apart_decides : {A : Type 0} (overlap : A → A → Bool) (xs : List A) → Decides (are_apart overlap xs) (IsDistinct overlap xs)
-unfolding are_apart IsDistinct
-apart_decides overlap [] = (λ h. tt, λ h. refl)
-apart_decides overlap (x ∷ xs) =
-    let here = list_any (λ y. overlap x y) xs in
-    Decides-and (not here) (are_apart overlap xs) (λ h. none_overlaps overlap x xs (not_false here h), λ h. ap not (no_overlap overlap x xs h)) (apart_decides overlap xs)
 
 set_decides : {A : Type 0} (test : A → Bool) (P : A → Type 0) (overlap : A → A → Bool) → ((x : A) → Decides (test x) (P x))
     → (xs : List A) → Decides (list_all test xs && are_apart overlap xs) (IsSet P overlap xs)
@@ -132,5 +110,21 @@ unfolding IsDistinct
 tables_differ [] k d = tt
 tables_differ (s ∷ doc) k d = (tables_apart s doc k.0 k.1 d.0, tables_differ doc k.1 d.1)
 
-pub tables_decide : (doc : List Section) → AllByRecursion IsSection doc → Decides (are_apart same_table doc) (IsDistinct bytes_eq (flat_map table_names doc))
+tables_decide : (doc : List Section) → AllByRecursion IsSection doc → Decides (are_apart same_table doc) (IsDistinct bytes_eq (flat_map table_names doc))
 tables_decide doc h = Decides-like (are_apart same_table doc) (names_differ doc h) (tables_differ doc h) (apart_decides same_table doc)
+
+pub numbers_decide : (doc : List Section) → AllByRecursion IsSection doc → (numbers : List ℕ) → numbers ≡ map (λ s. s.number) doc
+    → Decides (are_apart (eq_by_cmp nat_cmp) numbers) (IsDistinct bytes_eq (flat_map table_names doc))
+numbers_decide doc h numbers e =
+    subst (λ b. Decides b (IsDistinct bytes_eq (flat_map table_names doc)))
+    (apart_like (λ s. s.number) same_table (eq_by_cmp nat_cmp) (λ s t. sym (unsigned_tied s.number t.number)) doc
+    ∙ ap (are_apart (eq_by_cmp nat_cmp)) (sym e))
+    (tables_decide doc h)
+
+-- ---- types
+
+pub types_apart : (types : List ℕ) → are_apart (eq_by_cmp nat_cmp) types ≡ are_apart nat_eq types
+types_apart types = apart_like (λ n. n) (eq_by_cmp nat_cmp) nat_eq unsigned_tied types ∙ ap (are_apart nat_eq) (map_same types) where
+  map_same : (ns : List ℕ) → map (λ n. n) ns ≡ ns
+  map_same [] = refl
+  map_same (n ∷ ns) = ap (λ ms. n ∷ ms) (map_same ns)

@@ -1,5 +1,5 @@
 -- Reading leniently: a draft that rows and words change, and that nothing refuses.
-use Rattle.std.specs.Prelude.{ℕ, ◌-◌, ◌^◌, Bool, true, false, ◌==◌, if◌then◌else◌, ℤ, pos, List, [], ◌∷◌, ◌++◌, codes, None, Some, unwrap_or}
+use Rattle.std.specs.Prelude.{ℕ, ◌-◌, ◌^◌, true, false, ◌==◌, if◌then◌else◌, ℤ, pos, List, [], ◌∷◌, ◌++◌, drop, codes, None, Some, unwrap_or}
 use Rattle.std.specs.List.{fold, join_with_byte}
 use Rattle.std.specs.Option.{option_map_or}
 use Rattle.std.specs.Str.{bytes_eq}
@@ -17,6 +17,7 @@ use Rattle.acl_text.specs.AddressTexts.{spelled_prefix_in}
 use Rattle.acl_text.specs.Cuts.{behind, cut_at}
 use Rattle.acl_text.specs.PortRanges.{ports_in}
 use Rattle.acl_text.specs.SignedNumbers.{signed_in}
+use Rattle.acl_grammar.specs.RowSteps.{begins_with, few_in}
 use Rattle.acl_grammar.specs.Rows.{Row}
 use Rattle.acl_grammar.specs.FamilyWords.{families_in}
 use Rattle.nft_lang.specs.declared.documents.Section.{Section}
@@ -156,16 +157,10 @@ table_in w = option_map_or {U = ℕ} (λ digits. unwrap_or (number_in (2 ^ 32 - 
 unfoldable pub priority_in : List ℕ → ℤ
 priority_in w = unwrap_or (signed_in (2 ^ 31) (2 ^ 31 - 1) (up_to 59 w)) (pos 0)
 
--- Whether the first word is that one.
-abbrev pub begins_with : List ℕ → List (List ℕ) → Bool
-begins_with word [] = false
-begins_with word (w ∷ words) = bytes_eq w word
-
 unfoldable pub item_in : Families → List (List ℕ) → Item
-item_in families [] = ARule (rule_in families [])
-item_in families (w ∷ words) =
-    if bytes_eq w (codes "#") then Remark (join_with_byte 32 words)
-    else ARule (rule_in families (w ∷ words))
+item_in families words =
+    if begins_with (codes "#") words then Remark (join_with_byte 32 (drop 1 words))
+    else ARule (rule_in families words)
 
 abbrev pub begin_section : TablesDraft → List ℕ → List ℕ → TablesDraft
 begin_section d hook families = record d {
@@ -207,12 +202,12 @@ take_chain d words = d
 
 unfoldable pub take_inner : TablesDraft → List (List ℕ) → TablesDraft
 take_inner d words =
-    if begins_with (codes "type") words then take_chain d words
+    if begins_with (codes "type") words then take_chain d (few_in words)
     else with_item d (item_in d.section.families words)
 
 unfoldable pub take_row : TablesDraft → Row → TablesDraft
 take_row d r =
-    if r.indent == 0 then take_outer d r.words
+    if r.indent == 0 then take_outer d (few_in r.words)
     else if r.indent == 8 then take_inner d r.words
     else d
 

@@ -1,11 +1,12 @@
 -- Whether sections are valid, test by test, and their tables apart.
-use Rattle.std.specs.Prelude.{ℕ, ◌^◌, Bool, true, not, ◌&&◌, ◌==◌, nat_eq, nat_le, nat_lt, List, [], ◌∷◌}
-use Rattle.std.specs.List.{list_all, list_any}
+use Rattle.std.specs.Prelude.{ℕ, ◌^◌, Bool, not, ◌&&◌, ◌==◌, nat_eq, nat_le, nat_lt, List}
+use Rattle.std.specs.List.{list_all}
 use Rattle.acl_packet.specs.declared.addresses.Family.{Family}
 use Rattle.acl_packet.specs.declared.addresses.Families.{Families}
 use Rattle.acl_packet.specs.declared.addresses.Prefix.{Prefix}
 use Rattle.acl_packet.specs.Addresses.{covers, has_address}
 use Rattle.acl_text.specs.Names.{is_safe_text}
+use Rattle.acl_grammar.specs.ApartSteps.{are_apart}
 use Rattle.acl_grammar.specs.PortRangeSteps.{is_port_range}
 use Rattle.acl_grammar.specs.PrefixCheckSteps.{is_addresses}
 use Rattle.acl_grammar.specs.RuleParts.{number_fits}
@@ -15,11 +16,6 @@ use Rattle.nft_lang.specs.declared.documents.Item.TheVariants.{Remark, Rule as A
 use Rattle.nft_lang.specs.declared.documents.Rule.{Rule}
 use Rattle.nft_lang.specs.Documents.{fits_i32, parts_fit, ports_overlap, prefixes_overlap}
 
--- No two overlap, each against those behind it.
-unfoldable pub are_apart : {A : Type 0} → (A → A → Bool) → List A → Bool
-are_apart overlap [] = true
-are_apart overlap (x ∷ xs) = not (list_any (λ y. overlap x y) xs) && are_apart overlap xs
-
 -- One prefix or range is below another. Then the two do not overlap, and what the other is
 -- below does not overlap the one either.
 abbrev pub prefix_below : Prefix → Prefix → Bool
@@ -27,15 +23,6 @@ prefix_below p q = nat_lt p.first q.first && not (has_address p q.first)
 
 abbrev pub ports_below : ℕ × ℕ → ℕ × ℕ → Bool
 ports_below a b = nat_lt a.1 b.0 && nat_le b.0 b.1
-
-abbrev pub is_below_first : {A : Type 0} → (A → A → Bool) → A → List A → Bool
-is_below_first below x [] = true
-is_below_first below x (y ∷ xs) = below x y
-
--- Each is below the next one.
-unfoldable pub are_rising : {A : Type 0} → (A → A → Bool) → List A → Bool
-are_rising below [] = true
-are_rising below (x ∷ xs) = is_below_first below x xs && are_rising below xs
 
 abbrev pub are_addresses : Family → List Prefix → Bool
 are_addresses family ps = list_all (is_addresses family) ps && are_apart prefixes_overlap ps
@@ -46,9 +33,14 @@ are_ports ranges = list_all is_port_range ranges && are_apart ports_overlap rang
 abbrev pub are_types : List ℕ → Bool
 are_types numbers = list_all (λ n. nat_le n 254) numbers && are_apart nat_eq numbers
 
+abbrev pub has_addresses : Rule → Bool
+has_addresses r = are_addresses r.family r.src && are_addresses r.family r.dst
+
+abbrev pub has_ports : Rule → Bool
+has_ports r = are_ports r.sports && are_ports r.dports
+
 abbrev pub has_sets : Rule → Bool
-has_sets r = (are_addresses r.family r.src && are_addresses r.family r.dst)
-    && ((are_ports r.sports && are_ports r.dports) && are_types r.itypes)
+has_sets r = has_addresses r && (has_ports r && are_types r.itypes)
 
 abbrev pub is_rule : Families → Rule → Bool
 is_rule families r = (covers families r.family && number_fits 1 255 r.proto)

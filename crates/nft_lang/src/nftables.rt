@@ -4,11 +4,10 @@ ghost use Rattle.nft_lang.specs.Texts.{section_rows};
 ghost use Rattle.nft_lang.specs.Walks.{section_outcome};
 
 use crate::documents::Section;
-use crate::overlaps::are_apart;
 use crate::tables_drafts::TablesDraft;
-use crate::validity::is_section;
+use crate::validity::{is_section, numbers_of};
 use crate::walking::walk;
-use acl_grammar::{Language, Rows};
+use acl_grammar::{Language, Rows, are_distinct};
 use acl_packet::{Outcome, Packet};
 use acl_text::{Memory, Out, PutFault};
 use std::alloc::Global;
@@ -24,15 +23,15 @@ impl Language for Nftables {
     ghost is_section = { IsSection };
 
     #[tactic(auto, using(crate::proofs::ValidityLaws::section_decides))]
-    fn is_valid(section: &Section) -> bool {
-        is_section(section)
+    fn is_valid(alloc: Global, section: &Section) -> Result<bool, Memory> {
+        is_section(alloc, section)
     }
 
     ghost names = { table_names };
 
-    #[tactic(auto, using(crate::proofs::ValidityLaws::tables_decide))]
-    fn have_distinct_names(_alloc: Global, sections: &[Section]) -> Result<bool, Memory> {
-        Ok(are_apart(sections))
+    #[tactic(auto, using(crate::proofs::ValidityLaws::numbers_decide))]
+    fn have_distinct_names(alloc: Global, sections: &[Section]) -> Result<bool, Memory> {
+        Ok(are_distinct(numbers_of(alloc, sections)?))
     }
 
     ghost rows = { section_rows };

@@ -1,9 +1,8 @@
 ghost use Rattle.std.specs.Prelude.{◌≡◌, IfOk, OnOk};
-ghost use Rattle.acl_text.specs.Cuts.{views};
 ghost use Rattle.nft_lang.specs.ReadingSteps.{draft, no_rule, up_to, nfproto_in, next_in, with_test, with_verdict, with_address, with_ports, with_type, in_set, take_address, take_ports, take_type, take_as, take_word, rule_in};
 
 use crate::documents::{Flags, Rule};
-use acl_grammar::End;
+use acl_grammar::{End, RowWords};
 use acl_packet::{Families, Family, Prefix, Verdict};
 use acl_text::{Items, Memory, read_ports, read_spelled_prefix, read_u8, split_at_byte};
 use std::alloc::Global;
@@ -29,11 +28,16 @@ struct RuleDraft {
 /// The rule of the words, in a table of the families. No words are refused: what means nothing
 /// changes nothing.
 #[tactic(auto, unfolding(crate::specs::ReadingSteps::rule_in))]
-pub(crate) fn rule_of(alloc: Global, families: Families, words: &[&[u8]]) -> Result<Rule, Memory>
-    ensures { IfOk result (λ r. r ≡ rule_in families (views words.now)) }
+pub(crate) fn rule_of(
+    alloc: Global,
+    families: Families,
+    words: RowWords<'_>,
+) -> Result<Rule, Memory>
+    ensures { IfOk result (λ r. r ≡ rule_in families words.entry) }
 {
     let mut draft = RuleDraft::new(alloc, families.first_family());
-    for word in words {
+    let mut rest = words;
+    while let Some(word) = rest.next() {
         draft.take_word(word)?;
     }
     Ok(draft.rule)

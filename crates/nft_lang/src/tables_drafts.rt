@@ -1,13 +1,13 @@
 ghost use Rattle.std.specs.Prelude.{◌≡◌, ◌-◌, ◌^◌, [], OnOk, IfOk};
 ghost use Rattle.acl_text.specs.Cuts.{views};
 ghost use Rattle.acl_text.specs.SignedNumbers.{below_zero_in, from_zero_in, signed_in};
-ghost use Rattle.nft_lang.specs.ReadingSteps.{no_section, hook_in, table_in, priority_in, begins_with, item_in, begin_section, with_chain, end_section, take_four, take_outer, take_chain, take_inner, take_row, no_draft};
+ghost use Rattle.nft_lang.specs.ReadingSteps.{no_section, hook_in, table_in, priority_in, item_in, begin_section, with_chain, end_section, take_four, take_outer, take_chain, take_inner, take_row, no_draft};
 
 use crate::documents::{Doc, Item, Section};
 use crate::rule_drafts::{rule_of, up_to};
-use acl_grammar::{DocumentDraft, Draft, families_of, join_words};
+use acl_grammar::{DocumentDraft, Draft, RowWords, families_of};
 use acl_packet::{Families, Hook};
-use acl_text::{Items, Memory, behind, read_number};
+use acl_text::{Bytes, Items, Memory, behind, read_number};
 use std::alloc::Global;
 use std::mem;
 
@@ -22,9 +22,15 @@ impl Draft for TablesDraft {
     ghost step = { take_row };
 
     #[tactic(auto, unfolding(crate::specs::ReadingSteps::take_row))]
-    fn take_row(&mut self, alloc: Global, indent: usize, words: &[&[u8]]) -> Result<(), Memory> {
+    fn take_row(
+        &mut self,
+        alloc: Global,
+        indent: usize,
+        words: RowWords<'_>,
+    ) -> Result<(), Memory> {
         if indent == 0 {
-            self.take_outer(alloc, words)
+            let few = words.few(alloc)?;
+            self.take_outer(alloc, few.as_slice())
         } else if indent == 8 {
             self.take_inner(alloc, words)
         } else {
@@ -94,11 +100,12 @@ impl TablesDraft {
     }
 
     #[tactic(auto, unfolding(crate::specs::ReadingSteps::take_inner))]
-    fn take_inner(&mut self, alloc: Global, words: &[&[u8]]) -> Result<(), Memory>
-        ensures { OnOk result (self.new ≡ take_inner self.old (views words.now)) }
+    fn take_inner(&mut self, alloc: Global, words: RowWords<'_>) -> Result<(), Memory>
+        ensures { OnOk result (self.new ≡ take_inner self.old words.entry) }
     {
-        if begins_with(words, b"type") {
-            self.take_chain(words);
+        if words.begins_with(b"type") {
+            let few = words.few(alloc)?;
+            self.take_chain(few.as_slice());
             Ok(())
         } else {
             let item = item_of(alloc, self.section.families, words)?;
@@ -193,27 +200,14 @@ fn from_zero(word: &[u8]) -> Option<i32>
     Some(number as i32)
 }
 
-fn begins_with(words: &[&[u8]], word: &[u8]) -> bool
-    ensures { result ≡ begins_with word.now (views words.now) }
-{
-    match words {
-        [first, ..] => *first == word,
-        [] => false,
-    }
-}
-
 #[tactic(auto, unfolding(crate::specs::ReadingSteps::item_in))]
-fn item_of(alloc: Global, families: Families, words: &[&[u8]]) -> Result<Item, Memory>
-    ensures { IfOk result (λ i. i ≡ item_in families (views words.now)) }
+fn item_of(alloc: Global, families: Families, words: RowWords<'_>) -> Result<Item, Memory>
+    ensures { IfOk result (λ i. i ≡ item_in families words.entry) }
 {
-    match words {
-        [first, text @ ..] => {
-            if *first == b"#".as_slice() {
-                Ok(Item::Remark(join_words(alloc, text)?))
-            } else {
-                Ok(Item::Rule(rule_of(alloc, families, words)?))
-            }
-        }
-        [] => Ok(Item::Rule(rule_of(alloc, families, words)?)),
+    if words.begins_with(b"#") {
+        let text = words.behind_first().text();
+        Ok(Item::Remark(Bytes::from_slice(alloc, text)?))
+    } else {
+        Ok(Item::Rule(rule_of(alloc, families, words)?))
     }
 }

@@ -1,21 +1,38 @@
-ghost use Rattle.std.specs.Prelude.{◌≡◌, ◌&&◌, ◌^◌, nat_le, nat_lt};
+ghost use Rattle.std.specs.Prelude.{◌≡◌, ◌&&◌, ◌^◌, IfOk, map, nat_le, nat_lt};
 ghost use Rattle.std.specs.List.{list_all};
 ghost use Rattle.acl_grammar.specs.PrefixCheckSteps.{is_addresses};
 ghost use Rattle.acl_grammar.specs.RuleParts.{has_port_proto, is_empty, is_proto};
 ghost use Rattle.nft_lang.specs.Documents.{fits_i32, flags_fit, parts_fit, ports_fit, types_fit, verdict_fits};
-ghost use Rattle.nft_lang.specs.ValiditySteps.{are_addresses, are_ports, are_types, has_sets, is_item, is_rule, is_section};
+ghost use Rattle.nft_lang.specs.ValiditySteps.{are_addresses, are_ports, are_types, has_addresses, has_ports, has_sets, is_item, is_rule, is_section};
 
 use crate::documents::{Item, Rule, Section};
-use crate::overlaps::{are_apart, are_ports_apart, are_prefixes_apart};
-use acl_grammar::{are_port_ranges, has_port_proto, is_addresses, is_empty, is_proto, number_fits};
+use crate::overlaps::are_apart;
+use acl_grammar::{
+    are_distinct, are_port_ranges, has_port_proto, is_addresses, is_empty, is_proto, number_fits,
+};
 use acl_packet::{Families, Family, Prefix, Verdict};
-use acl_text::is_safe_text;
+use acl_text::{Memory, is_safe_text};
+use std::alloc::Global;
+
+/// The numbers of the sections' tables.
+pub(crate) fn numbers_of(alloc: Global, sections: &[Section]) -> Result<Vec<u32>, Memory>
+    ensures { IfOk result (λ v. v.items ≡ map (λ s. s.number) sections.now) }
+{
+    let mut numbers = Vec::with_capacity(alloc, sections.len())?;
+    for section in sections {
+        numbers.push(section.number)?;
+    }
+    Ok(numbers)
+}
 
 /// Whether the section is valid.
-pub(crate) fn is_section(section: &Section) -> bool
-    ensures { result ≡ is_section section.now }
+pub(crate) fn is_section(alloc: Global, section: &Section) -> Result<bool, Memory>
+    ensures { IfOk result (λ b. b ≡ is_section section.now) }
 {
-    fits(section.number, section.priority) && are_items(section.families, section.items.as_slice())
+    Ok(
+        fits(section.number, section.priority)
+            && are_items(alloc, section.families, section.items.as_slice())?,
+    )
 }
 
 // Each number and each priority that the types have fits.
@@ -26,44 +43,65 @@ fn fits(number: u32, priority: i32) -> bool
     true
 }
 
-fn are_items(families: Families, items: &[Item]) -> bool
-    ensures { result ≡ list_all (is_item families) items.now }
+fn are_items(alloc: Global, families: Families, items: &[Item]) -> Result<bool, Memory>
+    ensures { IfOk result (λ b. b ≡ list_all (is_item families) items.now) }
 {
-    items.iter().all(|item| is_item(families, item))
+    for item in items {
+        if !is_item(alloc, families, item)? {
+            return Ok(false);
+        }
+    }
+    Ok(true)
 }
 
-fn is_item(families: Families, item: &Item) -> bool
-    ensures { result ≡ is_item families item.now }
+fn is_item(alloc: Global, families: Families, item: &Item) -> Result<bool, Memory>
+    ensures { IfOk result (λ b. b ≡ is_item families item.now) }
 {
     match item {
-        Item::Remark(text) => is_safe_text(text.as_slice()),
-        Item::Rule(rule) => is_rule(families, rule),
+        Item::Remark(text) => Ok(is_safe_text(text.as_slice())),
+        Item::Rule(rule) => is_rule(alloc, families, rule),
     }
 }
 
-fn is_rule(families: Families, rule: &Rule) -> bool
-    ensures { result ≡ is_rule families rule.now }
+fn is_rule(alloc: Global, families: Families, rule: &Rule) -> Result<bool, Memory>
+    ensures { IfOk result (λ b. b ≡ is_rule families rule.now) }
 {
-    families.covers(rule.family)
-        && number_fits(1, 255, rule.proto)
-        && has_sets(rule)
-        && parts_fit(rule)
+    if !families.covers(rule.family) || !number_fits(1, 255, rule.proto) {
+        return Ok(false);
+    }
+    Ok(has_sets(alloc, rule)? && parts_fit(rule))
 }
 
-fn has_sets(rule: &Rule) -> bool
-    ensures { result ≡ has_sets rule.now }
+fn has_sets(alloc: Global, rule: &Rule) -> Result<bool, Memory>
+    ensures { IfOk result (λ b. b ≡ has_sets rule.now) }
 {
-    are_addresses(rule.family, rule.src.as_slice())
-        && are_addresses(rule.family, rule.dst.as_slice())
-        && are_ports(rule.sports.as_slice())
-        && are_ports(rule.dports.as_slice())
-        && are_types(rule.itypes.as_slice())
+    Ok(
+        has_addresses(alloc, rule)?
+            && has_ports(alloc, rule)?
+            && are_types(alloc, rule.itypes.as_slice())?,
+    )
 }
 
-fn are_addresses(family: Family, prefixes: &[Prefix]) -> bool
-    ensures { result ≡ are_addresses family prefixes.now }
+fn has_addresses(alloc: Global, rule: &Rule) -> Result<bool, Memory>
+    ensures { IfOk result (λ b. b ≡ has_addresses rule.now) }
 {
-    all_addresses(family, prefixes) && are_prefixes_apart(prefixes)
+    Ok(
+        are_addresses(alloc, rule.family, rule.src.as_slice())?
+            && are_addresses(alloc, rule.family, rule.dst.as_slice())?,
+    )
+}
+
+fn has_ports(alloc: Global, rule: &Rule) -> Result<bool, Memory>
+    ensures { IfOk result (λ b. b ≡ has_ports rule.now) }
+{
+    Ok(are_ports(alloc, rule.sports.as_slice())? && are_ports(alloc, rule.dports.as_slice())?)
+}
+
+#[tactic(auto, using(acl_grammar::proofs::ApartLaws::all_true))]
+fn are_addresses(alloc: Global, family: Family, prefixes: &[Prefix]) -> Result<bool, Memory>
+    ensures { IfOk result (λ b. b ≡ are_addresses family prefixes.now) }
+{
+    Ok(all_addresses(family, prefixes) && are_apart(alloc, prefixes)?)
 }
 
 fn all_addresses(family: Family, prefixes: &[Prefix]) -> bool
@@ -72,16 +110,17 @@ fn all_addresses(family: Family, prefixes: &[Prefix]) -> bool
     prefixes.iter().all(|prefix| is_addresses(family, prefix))
 }
 
-fn are_ports(ranges: &[(u16, u16)]) -> bool
-    ensures { result ≡ are_ports ranges.now }
+fn are_ports(alloc: Global, ranges: &[(u16, u16)]) -> Result<bool, Memory>
+    ensures { IfOk result (λ b. b ≡ are_ports ranges.now) }
 {
-    are_port_ranges(ranges) && are_ports_apart(ranges)
+    Ok(are_port_ranges(ranges) && are_apart(alloc, ranges)?)
 }
 
-fn are_types(types: &[u8]) -> bool
-    ensures { result ≡ are_types types.now }
+#[tactic(auto, using(crate::proofs::ValidityLaws::types_apart))]
+fn are_types(alloc: Global, types: &[u8]) -> Result<bool, Memory>
+    ensures { IfOk result (λ b. b ≡ are_types types.now) }
 {
-    all_types(types) && are_apart(types)
+    Ok(all_types(types) && are_distinct(Vec::from_slice(alloc, types)?))
 }
 
 fn all_types(types: &[u8]) -> bool

@@ -1,7 +1,7 @@
 use acl_grammar::{
-    Address, Each, EachWord, Form, FreeText, Named, Number, Piece, PortRange, Row, Rows, Wildcard,
-    Word, WordForm, are_distinct, are_port_ranges, have_distinct_names, is_port_range,
-    is_prefix_of, is_text_of, join_words,
+    Address, Each, EachWord, Form, FreeText, Named, Number, Piece, PortRange, Row, RowWords, Rows,
+    Wildcard, Word, WordForm, are_distinct, are_distinct_names, are_port_ranges,
+    have_distinct_names, is_port_range, is_prefix_of, is_text_of,
 };
 use acl_packet::{Family, Prefix};
 use acl_text::{Memory, Out, PutFault};
@@ -54,8 +54,8 @@ struct Titled<'a> {
 impl<'a> Named for Titled<'a> {
     ghost name = { λ t. t.title.now };
 
-    fn has_name_of(&self, other: &Titled<'a>) -> bool {
-        self.title == other.title
+    fn name(&self) -> &[u8] {
+        self.title
     }
 }
 
@@ -124,16 +124,40 @@ fn compares_rows_with_a_text(rt: HostRuntime) {
 }
 
 #[test]
-fn joins_words(rt: HostRuntime) -> Result<(), Fail> {
-    let joined = join_words(rt.alloc(), &[b"to", b"all"])?;
-    assert_eq!(rt; joined.as_slice(), b"to all".as_slice());
+fn takes_words_of_a_row(rt: HostRuntime) -> Result<(), Fail> {
+    let mut words = RowWords::new(b"to  all");
+    assert_eq!(rt; words.begins_with(b"to"), true);
+    assert_eq!(rt; words.next(), Some(b"to".as_slice()));
+    assert_eq!(rt; words.text(), b" all".as_slice());
+    assert_eq!(rt; words.few(rt.alloc())?.len(), 2);
+    assert_eq!(rt; words.next(), Some(b"".as_slice()));
+    assert_eq!(rt; words.next(), Some(b"all".as_slice()));
+    assert_eq!(rt; words.next(), None);
+    assert_eq!(rt; words.begins_with(b"to"), false);
+    assert_eq!(rt; words.text(), b"".as_slice());
+    let behind = RowWords::new(b"to all").behind_first();
+    assert_eq!(rt; behind.text(), b"all".as_slice());
     Ok(())
 }
 
 #[test]
-fn tells_names_and_prefixes(rt: HostRuntime) {
-    assert_eq!(rt; are_distinct(&[b"a", b"b", b"ab"]), true);
-    assert_eq!(rt; are_distinct(&[b"a", b"b", b"a"]), false);
+fn tells_names(rt: HostRuntime) -> Result<(), Fail> {
+    let alloc = rt.alloc();
+    let names: [&[u8]; 3] = [b"b", b"a", b"ab"];
+    assert_eq!(rt; are_distinct_names(Vec::from_slice(alloc, &names)?), true);
+    let names: [&[u8]; 3] = [b"b", b"a", b"b"];
+    assert_eq!(rt; are_distinct_names(Vec::from_slice(alloc, &names)?), false);
+    assert_eq!(rt; are_distinct(Vec::from_slice(alloc, &[7, 2, 5])?), true);
+    assert_eq!(rt; are_distinct(Vec::from_slice(alloc, &[7, 2, 7])?), false);
+    let items = [Titled { title: b"b" }, Titled { title: b"ab" }];
+    assert_eq!(rt; have_distinct_names(alloc, &items)?, true);
+    let items = [Titled { title: b"b" }, Titled { title: b"b" }];
+    assert_eq!(rt; have_distinct_names(alloc, &items)?, false);
+    Ok(())
+}
+
+#[test]
+fn tells_prefixes(rt: HostRuntime) {
     let cases = [
         (Family::V4, 0x0a00_0000, 8, true),
         (Family::V4, 0x0a00_0001, 8, false),
@@ -169,10 +193,6 @@ fn writes_words_and_tells_items(rt: HostRuntime) {
     };
     assert_eq!(rt; is_text_of(b"numbers 7 10\n", &row), true);
     assert_eq!(rt; is_text_of(b"numbers 7\n", &row), false);
-    let a = Titled { title: b"a" };
-    let items = [Titled { title: b"a" }, Titled { title: b"ab" }];
-    assert_eq!(rt; have_distinct_names(&items), true);
-    assert_eq!(rt; have_distinct_names(&[a, Titled { title: b"a" }]), false);
     assert_eq!(rt; are_port_ranges(&[(22, 22), (0, 65535)]), true);
     assert_eq!(rt; are_port_ranges(&[(22, 22), (2, 1)]), false);
     assert_eq!(rt; is_port_range((2, 1)), false);

@@ -1,10 +1,12 @@
-use Rattle.std.proofs.Common.{◌≡◌, drop, map}
+use Rattle.std.proofs.Common.{◌≡◌, length}
 use Rattle.std.specs.List.{fold}
-use Rattle.acl_text.specs.Cuts.{views}
-use Rattle.acl_grammar.specs.RowSteps.{row_in}
+use Rattle.acl_grammar.specs.RowSteps.{rows_in}
 use Rattle.acl_grammar.proofs.drafts.read_rows.Given as goal
 
 abbrev pub invariant-loop-line : goal.invariant-loop-line
 invariant-loop-line g l =
     let step = g.D.Draft.step in
-    fold step l.draft (map row_in (views (drop l.line-index l.line-items))) ≡ fold step l.initial.draft (map row_in (views l.line-items))
+    fold step l.draft (rows_in l.rest) ≡ fold step l.initial.draft (rows_in l.fn.text)
+
+abbrev pub decreases-loop-line : goal.decreases-loop-line
+decreases-loop-line g l = length l.rest

@@ -1,7 +1,9 @@
-use Rattle.std.proofs.Common.{◌≡◌, take}
-use Rattle.acl_text.specs.Cuts.{views}
+use Rattle.std.proofs.Common.{◌≡◌, ◌++◌, length}
 use Rattle.junos_lang.specs.ReadingSteps.{ranges_in}
 use Rattle.junos_lang.proofs.filters_drafts.ranges_of.Given as goal
 
 abbrev pub invariant-loop-word : goal.invariant-loop-word
-invariant-loop-word l = l.ranges ≡ ranges_in (views (take l.word-index l.words))
+invariant-loop-word l = l.ranges ++ ranges_in l.rest ≡ ranges_in l.initial.rest
+
+abbrev pub decreases-loop-word : goal.decreases-loop-word
+decreases-loop-word l = length l.rest

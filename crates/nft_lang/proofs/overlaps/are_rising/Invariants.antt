@@ -1,6 +1,8 @@
 use Rattle.std.proofs.Common.{◌≡◌, drop}
-use Rattle.nft_lang.specs.ValiditySteps.{are_rising}
+use Rattle.acl_grammar.specs.ApartSteps.{are_rising}
 use Rattle.nft_lang.proofs.overlaps.are_rising.Given as goal
 
 abbrev pub invariant-loop-i : goal.invariant-loop-i
-invariant-loop-i g l = are_rising g.T.Rise.below (drop l.i l.items) ≡ are_rising g.T.Rise.below l.items
+invariant-loop-i g l =
+    let below = g.T.Element.below in
+    are_rising (λ x y. below x.now y.now) (drop l.i l.elements) ≡ are_rising (λ x y. below x.now y.now) l.elements
