@@ -12,7 +12,7 @@ use std::marker::Model;
 /// of many words takes no memory.
 ///
 /// A contract sees the list of the words.
-#[derive(Clone, Copy)]
+#[derive(Drop)]
 pub struct RowWords<'a> {
     text: Option<&'a [u8]>,
 }
@@ -32,6 +32,13 @@ impl<'a> RowWords<'a> {
         ensures { result ≡ words_in text.now }
     {
         RowWords { text: Some(text) }
+    }
+
+    /// The same words once more.
+    pub fn copy(&self) -> RowWords<'a>
+        ensures { result ≡ self.now }
+    {
+        RowWords { text: self.text }
     }
 
     /// Takes the next word. `None` exactly where there is none.
@@ -67,7 +74,7 @@ impl<'a> RowWords<'a> {
     pub fn begins_with(&self, word: &[u8]) -> bool
         ensures { result ≡ begins_with word.now self.now }
     {
-        let mut rest = RowWords { text: self.text };
+        let mut rest = self.copy();
         match rest.next() {
             Some(first) => first == word,
             None => false,

@@ -69,9 +69,9 @@ fn protocol_of(family: Family, word: &[u8]) -> Option<u8>
 
 #[tactic(auto, unfolding(crate::specs::ReadingSteps::take_place))]
 fn take_place<'a>(family: Family, words: RowWords<'a>) -> (Prefix, RowWords<'a>)
-    ensures { (result.0, result.1) ≡ take_place family words.entry }
+    ensures { result ≡ take_place family words.entry }
 {
-    let (word, rest) = next_word(words);
+    let (word, rest) = next_word(words.copy());
     if is(word, "any") {
         (Prefix::everywhere(family), rest)
     } else if is(word, "host") {
@@ -85,7 +85,7 @@ fn take_place<'a>(family: Family, words: RowWords<'a>) -> (Prefix, RowWords<'a>)
 
 #[tactic(auto, unfolding(crate::specs::ReadingSteps::take_masked))]
 fn take_masked<'a>(family: Family, words: RowWords<'a>) -> (Prefix, RowWords<'a>)
-    ensures { (result.0, result.1) ≡ take_masked family words.entry }
+    ensures { result ≡ take_masked family words.entry }
 {
     match family {
         Family::V4 => {
@@ -104,7 +104,7 @@ fn take_masked<'a>(family: Family, words: RowWords<'a>) -> (Prefix, RowWords<'a>
 
 #[tactic(auto, unfolding(crate::specs::ReadingSteps::take_address))]
 fn take_address<'a>(family: Family, words: RowWords<'a>) -> (u128, RowWords<'a>)
-    ensures { (result.0, result.1) ≡ take_address family words.entry }
+    ensures { result ≡ take_address family words.entry }
 {
     let (word, rest) = next_word(words);
     (read_address(family, word).unwrap_or(0), rest)
@@ -118,9 +118,9 @@ fn wildcard_length(wildcard: u128) -> u8
 
 #[tactic(auto, unfolding(crate::specs::ReadingSteps::take_ports))]
 fn take_ports<'a>(words: RowWords<'a>) -> (Option<(u16, u16)>, RowWords<'a>)
-    ensures { (result.0, result.1) ≡ take_ports words.entry }
+    ensures { result ≡ take_ports words.entry }
 {
-    let (word, rest) = next_word(words);
+    let (word, rest) = next_word(words.copy());
     if is(word, "eq") {
         let (port, rest) = take_port(rest);
         (Some((port, port)), rest)
@@ -135,7 +135,7 @@ fn take_ports<'a>(words: RowWords<'a>) -> (Option<(u16, u16)>, RowWords<'a>)
 
 #[tactic(auto, unfolding(crate::specs::ReadingSteps::take_port))]
 fn take_port<'a>(words: RowWords<'a>) -> (u16, RowWords<'a>)
-    ensures { (result.0, result.1) ≡ take_port words.entry }
+    ensures { result ≡ take_port words.entry }
 {
     let (word, rest) = next_word(words);
     (read_u16(word, 65535).unwrap_or(0), rest)
@@ -143,9 +143,9 @@ fn take_port<'a>(words: RowWords<'a>) -> (u16, RowWords<'a>)
 
 #[tactic(auto, unfolding(crate::specs::ReadingSteps::take_type))]
 fn take_type<'a>(words: RowWords<'a>) -> (Option<u8>, RowWords<'a>)
-    ensures { (result.0, result.1) ≡ take_type words.entry }
+    ensures { result ≡ take_type words.entry }
 {
-    let (word, rest) = next_word(words);
+    let (word, rest) = next_word(words.copy());
     match read_u8(word, 254) {
         Some(number) => (Some(number), rest),
         None => (None, words),
@@ -154,9 +154,9 @@ fn take_type<'a>(words: RowWords<'a>) -> (Option<u8>, RowWords<'a>)
 
 #[tactic(auto, unfolding(crate::specs::ReadingSteps::take_flags))]
 fn take_flags<'a>(words: RowWords<'a>) -> (Option<Flags>, RowWords<'a>)
-    ensures { (result.0, result.1) ≡ take_flags words.entry }
+    ensures { result ≡ take_flags words.entry }
 {
-    let (word, rest) = next_word(words);
+    let (word, rest) = next_word(words.copy());
     if is(word, "established") {
         (Some(Flags::Established), rest)
     } else if is(word, "rst") {
