@@ -1,10 +1,10 @@
 -- Each row of a document can be found again in its text.
-use Rattle.std.proofs.Common.{◌≡◌, ℕ, suc, ◌^◌, ◌<◌, ◌≤◌, Bool, true, false, cond, not, ◌==◌, ◌&&◌, ℤ, pos, negsuc, List, [], ◌∷◌, ◌++◌, map, flat_map, codes, Option, None, Some, IfSome, refl, ap, subst, sym, ◌∙◌, append_assoc, arith}
+use Rattle.std.proofs.Common.{◌≡◌, ℕ, suc, ◌^◌, ◌<◌, ◌≤◌, Bool, true, false, not, ◌==◌, ◌&&◌, ℤ, pos, negsuc, List, [], ◌∷◌, ◌++◌, map, flat_map, codes, Option, None, Some, IfSome, refl, ap, ◌∙◌, arith}
 use Rattle.std.specs.Char.{is_ascii_digit}
 use Rattle.std.specs.Fmt.{decimal, signed_decimal}
 use Rattle.std.specs.List.{AllByRecursion}
 use Rattle.std.specs.Str.{bytes_eq}
-use Rattle.std.proofs.lemmas.Bool.{ltb-true, or_from}
+use Rattle.std.proofs.lemmas.Bool.{cond_both, ltb-true, or_from}
 use Rattle.acl_packet.specs.declared.addresses.Family.{Family}
 use Rattle.acl_packet.specs.declared.addresses.Family.TheVariants.{V4, V6}
 use Rattle.acl_packet.specs.declared.addresses.Families.{Families}
@@ -33,7 +33,7 @@ use Rattle.nft_lang.specs.declared.documents.Rule.{Rule}
 use Rattle.nft_lang.specs.declared.documents.Flags.{Flags}
 use Rattle.nft_lang.specs.declared.documents.Flags.TheVariants.{Rst, SynNotAck}
 use Rattle.nft_lang.specs.Documents.{IsType, IsRule, IsItem, IsSection, fits_i32, table_name}
-use Rattle.nft_lang.specs.Texts.{with_commas, set_words, ports_word, family_words, proto_words, address_word, icmp_word, port_word, flags_words, state_words, verdict_words, addresses_words, ports_words, types_words, ending_words, rule_words, item_rows, hook_word, families_word, table_word, default_word, priority_word, head_rows, end_rows, section_rows}
+use Rattle.nft_lang.specs.Texts.{with_commas, set_words, ports_word, family_words, proto_words, address_word, icmp_word, port_word, flags_words, state_words, verdict_words, addresses_words, ports_words, ending_words, rule_words, item_rows, hook_word, families_word, table_word, default_word, priority_word, head_rows, end_rows, section_rows}
 
 -- ---- words that begin a rule, and no remark and no chain
 
@@ -55,6 +55,10 @@ pub record BeginsRule (words : List (List ℕ)) : Type 0 where
 behind_part : (xs ys : List (List ℕ)) → is_plain xs ≡ true → BeginsRule ys → BeginsRule (xs ++ ys)
 behind_part [] ys h k = k
 behind_part (x ∷ xs) ys h k = record { first = x; rest = xs ++ ys; is = refl; plain = h }
+
+both_plain : (xs ys : List (List ℕ)) → is_plain xs ≡ true → is_plain ys ≡ true → is_plain (xs ++ ys) ≡ true
+both_plain [] ys h k = k
+both_plain (x ∷ xs) ys h k = h
 
 set_plain : (front key : List ℕ) (words : List (List ℕ)) → plain_word front ≡ true → is_plain (set_words front key words) ≡ true
 unfolding set_words
@@ -83,11 +87,9 @@ icmp_plain V6 = refl
 port_plain : (o : Option ℕ) → plain_word (port_word o) ≡ true
 unfolding port_word
 port_plain None = refl
-port_plain (Some n) = name_cases (n == 17) (n == 132) where
-  name_cases : (a b : Bool) → plain_word (cond a (codes "udp") (cond b (codes "sctp") (codes "tcp"))) ≡ true
-  name_cases true b = refl
-  name_cases false true = refl
-  name_cases false false = refl
+port_plain (Some n) =
+    let P : List ℕ → Type 0 = λ w. plain_word w ≡ true in
+    cond_both (n == 17) _ _ P (λ _. refl) (λ _. cond_both (n == 132) _ _ P (λ _. refl) (λ _. refl))
 
 flags_plain : (o : Option Flags) → is_plain (flags_words o) ≡ true
 unfolding flags_words
@@ -113,22 +115,10 @@ verdict_begins Reject = record { first = codes "reject"; rest = []; is = refl; p
 verdict_begins Reset = record { first = codes "reject"; rest = codes "with" ∷ codes "tcp" ∷ codes "reset" ∷ []; is = refl; plain = refl }
 verdict_begins Left = record { first = codes "drop"; rest = []; is = refl; plain = refl }
 
-sets_begin : (front : List ℕ) (a b : List ℕ) (xs ys : List (List ℕ)) (rest : List (List ℕ)) → plain_word front ≡ true → BeginsRule rest
-    → BeginsRule ((set_words front a xs ++ set_words front b ys) ++ rest)
-sets_begin front a b xs ys rest h k =
-    let P : List (List ℕ) → Type 0 = BeginsRule in
-    subst P (sym (append_assoc (set_words front a xs) (set_words front b ys) rest))
-    (behind_part (set_words front a xs) (set_words front b ys ++ rest) (set_plain front a xs h) (behind_part (set_words front b ys) rest (set_plain front b ys h) k))
-
 pub rule_begins : (fs : Families) (r : Rule) → BeginsRule (rule_words fs r)
 unfolding rule_words addresses_words ports_words ending_words
 rule_begins fs r =
-    let ending = behind_part (state_words r.state) _ (state_plain r.state) (behind_part (log_words r.log) _ (log_plain r.log) (verdict_begins r.verdict)) in
-    let tests = behind_part (types_words r.family r.itypes) _ (set_plain (icmp_word r.family) (codes "type") _ (icmp_plain r.family))
-    (behind_part (flags_words r.flags) _ (flags_plain r.flags) ending) in
-    let ports = sets_begin (port_word r.proto) (codes "sport") (codes "dport") (map ports_word r.sports) (map ports_word r.dports) _ (port_plain r.proto) tests in
-    let addresses = sets_begin (address_word r.family) (codes "saddr") (codes "daddr") (map prefix_text r.src) (map prefix_text r.dst) _ (address_plain r.family) ports in
-    behind_part (family_words fs r.family) _ (family_plain fs r.family) (behind_part (proto_words r.proto) _ (proto_plain r.proto) addresses)
+    search (behind_part, both_plain, set_plain, family_plain, proto_plain, address_plain, port_plain, icmp_plain, flags_plain, state_plain, log_plain, verdict_begins) depth 12
 
 rule_starts : (words : List (List ℕ)) → BeginsRule words → begins words ≡ true
 rule_starts words b = ap begins b.is ∙ plain_starts b.first b.rest b.plain where
