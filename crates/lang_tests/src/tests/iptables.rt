@@ -139,6 +139,13 @@ fn refuses_other_sections(rt: HostRuntime) -> Result<(), Fail> {
         ("", "-N I_a\n-A INPUT -j I_a\n-A I_a -j DROP\n", "", false),
         ("", "-N I_a\n-A I_b -j DROP\n", jump, false),
         ("", "-N I_a\n-A INPUT -j I_a\n-N I_a\n", jump, false),
+        ("", "-N I_b\n-A INPUT -j I_b\n-N I_a\n", jump, true),
+        (
+            "",
+            "-N I_a\n-A INPUT -j I_a\n-N I_b\n-A INPUT -j I_b\n-N I_a\n",
+            jump,
+            false,
+        ),
         ("", "-N O_a\n", "-A INPUT -j O_a\n", false),
         ("", "-N I_\n", "-A INPUT -j I_\n", false),
         (

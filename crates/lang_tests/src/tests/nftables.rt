@@ -117,6 +117,30 @@ fn refuses_other_rules(rt: HostRuntime) -> Result<(), Fail> {
             "meta nfproto ipv4 meta l4proto 1 icmp type { 8, 8 } drop",
             false,
         ),
+        (
+            "meta nfproto ipv4 ip saddr { 10.2.0.0/16, 192.0.2.0/24, 10.0.0.0/16 } drop",
+            true,
+        ),
+        (
+            "meta nfproto ipv4 ip saddr { 10.2.0.0/16, 192.0.2.0/24, 10.0.0.0/8 } drop",
+            false,
+        ),
+        (
+            "meta nfproto ipv4 meta l4proto 17 udp dport { 90, 60-70, 53 } accept",
+            true,
+        ),
+        (
+            "meta nfproto ipv4 meta l4proto 17 udp dport { 60-70, 90, 65 } accept",
+            false,
+        ),
+        (
+            "meta nfproto ipv4 meta l4proto 1 icmp type { 8, 3, 0 } drop",
+            true,
+        ),
+        (
+            "meta nfproto ipv4 meta l4proto 1 icmp type { 8, 0, 8 } drop",
+            false,
+        ),
         ("meta nfproto ipv6 ip saddr { 10.0.0.0/8 } drop", false),
         ("ip saddr { 10.0.0.0/8 } drop", false),
         ("meta nfproto ipv6 ct state { established } drop", false),
@@ -203,6 +227,8 @@ fn refuses_other_sections(rt: HostRuntime) -> Result<(), Fail> {
     }
     let twice = format!(in rt.alloc(); "{WEB}{WEB}")?;
     assert_eq!(rt; is_read::<Nftables>(rt.alloc(), twice.as_str())?, false);
+    let thrice = format!(in rt.alloc(); "{WEB}{BOTH}{WEB}")?;
+    assert_eq!(rt; is_read::<Nftables>(rt.alloc(), thrice.as_str())?, false);
     let both = format!(in rt.alloc(); "{BOTH}{WEB}")?;
     assert_eq!(rt; is_read::<Nftables>(rt.alloc(), both.as_str())?, true);
     Ok(())
