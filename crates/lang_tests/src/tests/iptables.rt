@@ -44,7 +44,12 @@ static READ: [Change; 10] = [
 ];
 
 // Small changes of it that are refused.
-static REFUSED: [Change; 52] = [
+static REFUSED: [Change; 53] = [
+    // a name again, behind another
+    (
+        "-A INPUT -j I_rest\n",
+        "-A INPUT -j I_rest\n-N I_web\n-A INPUT -j I_web\n",
+    ),
     // sections and chains
     ("## iptables INPUT inet\n", ""),
     ("INPUT inet", "INPUT mixed"),

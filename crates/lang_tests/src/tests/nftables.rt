@@ -23,7 +23,7 @@ table inet aclgen_2 {
 ";
 
 // Small changes of the document, each of which is read: what stands in it, and what in its place.
-static READ: [Change; 9] = [
+static READ: [Change; 12] = [
     ("        # web servers\n", ""),
     (
         "web servers",
@@ -33,6 +33,13 @@ static READ: [Change; 9] = [
     ("priority -5", "priority -2147483648"),
     ("policy accept", "policy drop"),
     ("22, 1024-65535", "1024-65535, 22"),
+    // sets in any order
+    (
+        "192.0.2.0/24, 10.0.0.0/8",
+        "10.2.0.0/16, 192.0.2.0/24, 10.0.0.0/16",
+    ),
+    ("53, 67-68", "90, 60-70, 53"),
+    ("136, 135", "8, 3, 0"),
     ("67-68 } accept", "67-68 } log accept"),
     (" ip6 daddr { 2001:db8::/32 } drop", " drop"),
     (
@@ -42,7 +49,14 @@ static READ: [Change; 9] = [
 ];
 
 // Small changes of it that are refused.
-static REFUSED: [Change; 48] = [
+static REFUSED: [Change; 51] = [
+    // sets whose elements meet, far apart in the text
+    (
+        "192.0.2.0/24, 10.0.0.0/8",
+        "10.2.0.0/16, 192.0.2.0/24, 10.0.0.0/8",
+    ),
+    ("53, 67-68", "60-70, 90, 65"),
+    ("136, 135", "8, 0, 8"),
     // sections
     ("## nftables forward mixed\n", ""),
     ("## nftables", "# nftables"),
