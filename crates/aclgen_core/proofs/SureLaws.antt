@@ -47,8 +47,10 @@ never-outside words t t' o o' e e' c c' w h = by (workload_of words) h.0 h.1
   where
     old : World
     old = sure_world t o e c
+
     new : World
     new = sure_world t' o' e' c'
+
     by : (asked : Option ℕ) → IfSome asked (λ n. EndsWorkload n old new (ended.Outside w)) → IfNone asked (Keeps words old new (ended.Outside w)) → ⊥
     by (Some n) h k = none-rose 0 0 refl refl (workload-fails n old.out new.out old.err new.err w h.runs)
     by None h k = none-rose _ _ (sure-count t o e c w) (sure-count t' o' e' c' w) (outside-cause words w old new k.ending)

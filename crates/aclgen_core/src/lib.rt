@@ -18,7 +18,8 @@ mod workload_runs;
 
 pub use endings::{Ended, Which, status_of};
 pub use laws::{
-    faults_are_answered, jobs_are_one, jobs_are_there, sure_runs_end_inside, workloads_have_no_fault,
+    faults_are_answered, jobs_are_one, jobs_are_there, sure_runs_end_inside,
+    workloads_have_no_fault,
 };
 pub use programs::{run_status, status_without_words};
 pub use running::aclgen;

@@ -524,7 +524,11 @@ fn a_run_over_objects_that_never_fail_is_done(rt: HostRuntime) -> Result<(), Fai
 }
 
 // The status and the line where the machine gives no words.
-fn without_words(alloc: Global, wanted_memory: bool, failing: u32) -> Result<(u8, MemSink), Memory> {
+fn without_words(
+    alloc: Global,
+    wanted_memory: bool,
+    failing: u32,
+) -> Result<(u8, MemSink), Memory> {
     let mut err = sink_with(alloc, failing)?;
     let status = status_without_words(wanted_memory, &mut err);
     Ok((status, err))
