@@ -10,7 +10,6 @@ use Rattle.aclgen_core.specs.Runs.{Runs}
 use Rattle.aclgen_core.specs.SureRuns.{sure_world}
 use Rattle.aclgen_core.specs.WorkloadRuns.{EndsWorkload, Reports, RunsWorkload}
 use Rattle.aclgen_core.specs.Worlds.{Stream, World}
-use Rattle.aclgen_core.specs.declared.endings.Ended.{Ended}
 use Rattle.aclgen_core.specs.declared.endings.Ended.TheVariants as ended
 use Rattle.aclgen_core.specs.declared.endings.Which.{Which}
 use Rattle.aclgen_core.specs.declared.endings.Which.TheVariants as which
