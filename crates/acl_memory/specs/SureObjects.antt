@@ -1,9 +1,9 @@
 -- What the calls of the objects that never fail are: each of their counts of faults is 0.
-use Rattle.std.specs.Prelude.{ℕ, List, Option, Some, is_some, Result}
+use Rattle.std.specs.Prelude.{ℕ, List, Some, is_some, Result}
 use Rattle.acl_text.specs.Output.{PutsBy}
 use Rattle.acl_text.specs.declared.output.PutFault.{PutFault}
 use Rattle.acl_days.specs.declared.days.Day.{Day}
-use Rattle.acl_host.specs.Files.{File, RestStays}
+use Rattle.acl_host.specs.Files.{RestStays}
 use Rattle.acl_host.specs.Outside.{TreeMembers, Lists, Reads, Begins, Finishes, Writes, Tells}
 use Rattle.acl_host.specs.declared.clocks.ClockFault.{ClockFault}
 use Rattle.acl_host.specs.declared.sinks.WriteFault.{WriteFault}

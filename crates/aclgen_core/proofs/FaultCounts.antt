@@ -1,5 +1,5 @@
 -- No call failed but those that an ending tells of.
-use Rattle.std.proofs.Common.{◌≡◌, ◌≢◌, ℕ, inl, inr, false, List, Result, Err, refl, ap, sym, subst, ◌∙◌}
+use Rattle.std.proofs.Common.{◌≡◌, ◌≢◌, ℕ, inl, inr, false, List, Err, refl, ap, sym, subst, ◌∙◌}
 use Rattle.acl_load.specs.LoadFaults.{fails_to_list, fails_to_read}
 use Rattle.acl_load.specs.declared.load_faults.LoadFault.{LoadFault}
 use Rattle.acl_load.specs.declared.load_faults.LoadFault.TheVariants as loads

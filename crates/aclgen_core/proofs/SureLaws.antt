@@ -10,7 +10,6 @@ use Rattle.aclgen_core.specs.Runs.{Runs}
 use Rattle.aclgen_core.specs.SureRuns.{sure_world}
 use Rattle.aclgen_core.specs.WorkloadRuns.{EndsWorkload, Reports, RunsWorkload}
 use Rattle.aclgen_core.specs.Worlds.{Stream, World}
-use Rattle.aclgen_core.specs.declared.endings.Ended.{Ended}
 use Rattle.aclgen_core.specs.declared.endings.Ended.TheVariants as ended
 use Rattle.aclgen_core.specs.declared.endings.Which.{Which}
 use Rattle.aclgen_core.specs.declared.endings.Which.TheVariants as which
@@ -47,8 +46,10 @@ never-outside words t t' o o' e e' c c' w h = by (workload_of words) h.0 h.1
   where
     old : World
     old = sure_world t o e c
+
     new : World
     new = sure_world t' o' e' c'
+
     by : (asked : Option ℕ) → IfSome asked (λ n. EndsWorkload n old new (ended.Outside w)) → IfNone asked (Keeps words old new (ended.Outside w)) → ⊥
     by (Some n) h k = none-rose 0 0 refl refl (workload-fails n old.out new.out old.err new.err w h.runs)
     by None h k = none-rose _ _ (sure-count t o e c w) (sure-count t' o' e' c' w) (outside-cause words w old new k.ending)

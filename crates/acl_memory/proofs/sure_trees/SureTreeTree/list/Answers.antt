@@ -12,4 +12,4 @@ returns-clause-sure c = λ e. none_next _ c.args.self.now.never_fails.lists (c.l
 
 pub invariant_of-self : goal.invariant_of-self
 invariant_of-self c =
-    record { never_fails = subst NeverFails (sym c.list.ensures.left) (sure_list c.list.result  _ c.args.self.now.never_fails) }
+    record { never_fails = subst NeverFails (sym c.list.ensures.left) (sure_list c.list.result _ c.args.self.now.never_fails) }

@@ -12,4 +12,4 @@ returns-clause-sure c = λ e. none_next _ c.args.self.now.never_fails.reads (c.r
 
 pub invariant_of-self : goal.invariant_of-self
 invariant_of-self c =
-    record { never_fails = subst NeverFails (sym c.read.ensures.left) (sure_read c.read.result  _ c.args.self.now.never_fails) }
+    record { never_fails = subst NeverFails (sym c.read.ensures.left) (sure_read c.read.result _ c.args.self.now.never_fails) }
