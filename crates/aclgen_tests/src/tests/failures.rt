@@ -441,8 +441,11 @@ fn cut_at_a_line(tree: &MemTree, whole: usize) -> Option<usize> {
 fn count_lines() -> usize {
     let mut count = 0usize;
     for (_, text) in &FILES {
-        let feeds = text.iter().filter(|byte| **byte == b'\n').count();
-        count = count.saturating_add(feeds);
+        for byte in *text {
+            if *byte == b'\n' {
+                count = count.saturating_add(1);
+            }
+        }
     }
     count
 }

@@ -83,7 +83,10 @@ fn decides(alloc: Global, kind: Kind, text: &[u8], verdict: Verdict) -> Result<b
             return Ok(false);
         }
     }
-    Ok(str::from_utf8(text).is_ok_and(|text| text.contains(REMARK)))
+    match str::from_utf8(text) {
+        Ok(text) => Ok(text.contains(REMARK)),
+        Err(_) => Ok(false),
+    }
 }
 
 static PLATFORMS: [(Kind, &str, &str); 4] = [

@@ -1,4 +1,5 @@
 use acl_workload::workload;
+use std::str;
 use std::test::Fail;
 
 #[test]
@@ -20,28 +21,25 @@ fn two_of_each_are_made(rt: HostRuntime) -> Result<(), Fail> {
 }
 
 // Lines of the networks of a workload of 1,024: of each number of digits, and on both sides of 256.
-static LINES: [(usize, &[u8]); 7] = [
-    (9, b"N9 = 10.0.9.0/25 10.0.9.128/25 2001:db8:9::/48"),
-    (10, b"N10 = 10.0.10.0/25 10.0.10.128/25 2001:db8:a::/48"),
-    (16, b"N16 = 10.0.16.0/25 10.0.16.128/25 2001:db8:10::/48"),
-    (
-        255,
-        b"N255 = 10.0.255.0/25 10.0.255.128/25 2001:db8:ff::/48",
-    ),
-    (256, b"N256 = 10.1.0.0/25 10.1.0.128/25 2001:db8:100::/48"),
-    (300, b"N300 = 10.1.44.0/25 10.1.44.128/25 2001:db8:12c::/48"),
+static LINES: [(usize, &str); 7] = [
+    (9, "N9 = 10.0.9.0/25 10.0.9.128/25 2001:db8:9::/48"),
+    (10, "N10 = 10.0.10.0/25 10.0.10.128/25 2001:db8:a::/48"),
+    (16, "N16 = 10.0.16.0/25 10.0.16.128/25 2001:db8:10::/48"),
+    (255, "N255 = 10.0.255.0/25 10.0.255.128/25 2001:db8:ff::/48"),
+    (256, "N256 = 10.1.0.0/25 10.1.0.128/25 2001:db8:100::/48"),
+    (300, "N300 = 10.1.44.0/25 10.1.44.128/25 2001:db8:12c::/48"),
     (
         1023,
-        b"N1023 = 10.3.255.0/25 10.3.255.128/25 2001:db8:3ff::/48",
+        "N1023 = 10.3.255.0/25 10.3.255.128/25 2001:db8:3ff::/48",
     ),
 ];
 
 #[test]
 fn networks_have_their_numbers(rt: HostRuntime) -> Result<(), Fail> {
     let load = workload(rt.alloc(), 1024)?;
+    let text = str::from_utf8(load.networks.as_slice()).unwrap_or("");
     for (i, line) in &LINES {
-        let found = load.networks.as_slice().split(|b| *b == b'\n').nth(*i);
-        assert!(rt; found == Some(*line), "{i}");
+        assert!(rt; text.lines().nth(*i) == Some(*line), "{i}");
     }
     Ok(())
 }

@@ -4,7 +4,6 @@ ghost use Rattle.std.specs.Str.{bytes_eq};
 ghost use Rattle.acl_platform.specs.Limits.{filter_limit};
 ghost use Rattle.acl_platform.specs.Platforms.{IsAccepted};
 
-use crate::tests::samples::Lines;
 use acl_grammar::{read_document, sections};
 use acl_platform::{Filter, Platform, write_all};
 use acl_text::{Memory, Whole};
@@ -19,16 +18,8 @@ fn sections_of<P: Platform>(alloc: Global, text: &[u8]) -> Result<Option<usize>,
     }
 }
 
-// How many line feeds the text has.
-fn count_lines(text: &str) -> u64 {
-    text.as_bytes()
-        .iter()
-        .filter(|byte| **byte == b'\n')
-        .count() as u64
-}
-
-// Whether the text is what becomes of filters that the platform takes, also where each has no rules: it is put line by
-// line, and is read back as a section for each.
+// Whether the text is what becomes of filters that the platform takes, also where each has no rules: it is read back as
+// a section for each.
 pub(crate) fn are_written<P: Platform>(
     alloc: Global,
     platform: &P,
@@ -41,11 +32,8 @@ pub(crate) fn are_written<P: Platform>(
 {
     let mut out = Whole::new(alloc);
     write_all(platform, filters, &mut out)?;
-    let mut lines = Lines::new();
-    write_all(platform, filters, &mut lines)?;
     Ok(
-        lines.is_of(count_lines(text))
-            && out.as_slice() == text.as_bytes()
+        out.as_slice() == text.as_bytes()
             && sections_of::<P>(alloc, out.as_slice())? == Some(filters.len()),
     )
 }

@@ -1,7 +1,7 @@
 use crate::tests::generators::are_written;
 use crate::tests::samples::{HEAD, Head, filter};
 use acl_packet::Families;
-use acl_platform::{Rules, check};
+use acl_platform::Rules;
 use acl_target::{Ending, Kind};
 use acl_text::Memory;
 use gen_junos::Junos;
@@ -46,7 +46,6 @@ fn writes_one_section_after_another(rt: HostRuntime) -> Result<(), Fail> {
     let alloc = rt.alloc();
     let edge = filter(alloc, &EDGE_HEAD, Rules::new(alloc))?;
     let six = filter(alloc, &EDGE_OF_SIX, Rules::new(alloc))?;
-    assert_eq!(rt; check(&Junos, &edge), Ok(1));
     let text = format!(in alloc; "{}{}", empty(alloc, "inet")?, empty(alloc, "inet6")?)?;
     assert!(rt; are_written(alloc, &Junos, &[edge, six], text.as_str())?);
     Ok(())

@@ -1,10 +1,10 @@
-ghost use Rattle.std.specs.Prelude.{◌≡◌, IfOk, None, true};
+ghost use Rattle.std.specs.Prelude.{◌≡◌, IfOk};
 ghost use Rattle.platform_tests.specs.SampleFilters.{filter_with};
 
 use acl_packet::{Families, Hook};
 use acl_platform::{Filter, Rules, SharedRules};
 use acl_target::{Ending, Kind};
-use acl_text::{Bytes, Memory, Out, Place, PutFault, contains_byte};
+use acl_text::{Bytes, Memory, Place};
 use std::alloc::Global;
 
 // What a filter has beside its rules.
@@ -50,53 +50,4 @@ pub(crate) fn filter(alloc: Global, head: &Head, rules: Rules) -> Result<Filter,
         number: head.number,
         rules: SharedRules::new(alloc, rules)?,
     })
-}
-
-// An output that counts the lines that are put, and sees whether each put is within one line.
-#[derive(Drop)]
-pub(crate) struct Lines {
-    count: u64,
-    within: bool,
-}
-
-impl Lines {
-    pub(crate) fn new() -> Lines {
-        Lines {
-            count: 0,
-            within: true,
-        }
-    }
-
-    // Whether this many lines were put, each put within one line.
-    pub(crate) fn is_of(&self, count: u64) -> bool {
-        self.within && self.count == count
-    }
-}
-
-impl Out for Lines {
-    ghost told = { λ l. None };
-
-    ghost faults = { λ l. 0 };
-
-    ghost refusals = { λ l. 0 };
-
-    ghost is_open = { λ l. true };
-
-    ghost keeps_rest = { λ x y. Unit {0} };
-
-    fn put(&mut self, bytes: &[u8]) -> Result<(), PutFault> {
-        if let Some((last, front)) = bytes.split_last() {
-            if contains_byte(front, b'\n') {
-                self.within = false;
-            }
-            if *last == b'\n' {
-                self.count = self.count.saturating_add(1);
-            }
-        }
-        Ok(())
-    }
-
-    ghost rest_same = { λ x. tt };
-
-    ghost rest_goes_on = { λ x y z h k. tt };
 }
