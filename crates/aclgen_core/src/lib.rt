@@ -21,6 +21,5 @@ pub use laws::{
     faults_are_answered, jobs_are_one, jobs_are_there, planned_texts_are_of_sections,
     sure_runs_end_inside, workloads_have_no_fault,
 };
-};
 pub use programs::{run_status, status_without_words};
 pub use running::aclgen;
