@@ -47,10 +47,6 @@ pub planned-alone : (work : Work) (d d' : Disk) (c c' : Watch) → d'.list_fault
     → c'.faults ≡ c.faults → LooksAlone (decided.Planned work) d d' c c'
 planned-alone work d d' c c' l r w k = λ o e. none-failed d d' o o e e c c' l r w refl refl k
 
-pub clock-alone : (d : Disk) (c c' : Watch) → LooksAlone (decided.Outside which.Clock) d d c c'
-clock-alone d c c' = λ o e. by-kind (λ v. v ≢ which.Clock → v ≢ which.Err → faults_at v (world d o e c') ≡ faults_at v (world d o e c))
-    (λ _ _. refl) (λ _ _. refl) (λ _ _. refl) (λ _ _. refl) (λ _ _. refl) (λ n _. absurd (n refl))
-
 list-alone : (d d' : Disk) (c c' : Watch) → d'.read_faults ≡ d.read_faults → d'.write_faults ≡ d.write_faults → c'.faults ≡ c.faults
     → LooksAlone (decided.Outside which.List) d d' c c'
 list-alone d d' c c' r w k = λ o e. by-kind (λ v. v ≢ which.List → v ≢ which.Err → faults_at v (world d' o e c') ≡ faults_at v (world d o e c))

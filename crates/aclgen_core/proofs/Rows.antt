@@ -17,7 +17,7 @@ use Rattle.aclgen_core.specs.FileLists.{HoldsAll, HoldsTexts, Interrupted}
 use Rattle.aclgen_core.specs.FileMeanings.{HoldsMeaning, Means}
 use Rattle.aclgen_core.specs.Job.{Plan, IsJob, IsJobOf, file_of, filters_of, or_day, report_of, texts_of}
 use Rattle.aclgen_core.specs.PlannedTexts.{IsOfSections}
-use Rattle.aclgen_core.specs.Endings.{FailedAlone, OnDay, OnItsDay, WhereDay, WhereTold, Got, Untouched, IsWritten, Headline, EndsDone, EndsUsage, EndsRejected, RoseAt, EndsLooking, LeavesFiles, EndsWriting, LeavesReport, EndsReporting, IsRefusalLine, EndsTelling, EndsOutside, LeavesPart, EndsWanting, EndsSo, NoneRose, IsEnding, EndsAsAsked, Keeps}
+use Rattle.aclgen_core.specs.Endings.{FailedAlone, NoneFailed, OnDay, OnItsDay, WhereDay, WhereTold, Got, Untouched, IsWritten, Headline, EndsDone, EndsUsage, EndsRejected, RoseAt, EndsLooking, LeavesFiles, EndsWriting, LeavesReport, EndsReporting, IsRefusalLine, EndsTelling, EndsOutside, LeavesPart, EndsWanting, EndsSo, NoneRose, IsEnding, EndsAsAsked, Keeps}
 use Rattle.aclgen_core.specs.Removals.{ShadedCanGo}
 use Rattle.aclgen_core.specs.Worlds.{Disk, DiskCountsGrow, Stream, StreamCountsGrow, Watch, World, world}
 use Rattle.aclgen_core.specs.DecidingSteps.{ActsAlone, Asks, IsReady, LooksAlone, OnlySeen, RoseLooking, DecidesRefused, DecidesPlanned, RefusesSo, Refuses, ActsDone, ActsWrite, ActsOut, ActsMemory, ActsSo, Acts, TriesLine, texts_in}
@@ -27,7 +27,6 @@ use Rattle.aclgen_core.specs.declared.endings.Which.{Which}
 use Rattle.aclgen_core.specs.declared.endings.Which.TheVariants as which
 use Rattle.aclgen_core.specs.declared.deciding.Decision.TheVariants as decided
 use Rattle.aclgen_core.specs.declared.planning.Work.{Work}
-use Rattle.acl_text.specs.declared.wholes.Whole.{Whole}
 use Rattle.aclgen_core.proofs.FaultCounts.{alone-behind, refused-alone, told-alone}
 use Rattle.aclgen_core.proofs.FileListLaws.{both-more}
 use Rattle.aclgen_core.proofs.OneAnswer.{one-job}
@@ -217,10 +216,10 @@ usage-keeps words line result d d' o e e' c c' none seen asked alone refused is 
       line = subst (λ t. Got t e.told e'.told) is got;
     }) h.so
 
-pub fault-keeps : (words : List (List ℕ)) (fault : Fault) (text : Whole) (line : List ℕ) (result : Ended) (d d' : Disk) (o e e' : Stream) (c c' : Watch) → d.begun ≡ None → OnlySeen d d'
-    → Asks words c c' → LooksAlone (decided.Refused fault text) d d' c c' → DecidesRefused words fault line d c → Refuses line (ended.Rejected fault) e e' result
+pub fault-keeps : (words : List (List ℕ)) (fault : Fault) (line : List ℕ) (result : Ended) (d d' : Disk) (o e e' : Stream) (c c' : Watch) → d.begun ≡ None → OnlySeen d d'
+    → Asks words c c' → ((o e : Stream) → NoneFailed (world d o e c) (world d' o e c')) → DecidesRefused words fault line d c → Refuses line (ended.Rejected fault) e e' result
     → Keeps words (world d o e c) (world d' o e' c') result
-fault-keeps words fault text line result d d' o e e' c c' none seen asked alone refused h =
+fault-keeps words fault line result d d' o e e' c c' none seen asked alone refused h =
     let same = untouched d d' o e e' c c' seen in
     refused-so words line (ended.Rejected fault) result d d' o e e' c c' none seen asked h.counts
     (alone-behind result (world d o e c) (world d' o e c') (world d' o e' c') (alone o e) (refused-alone line (ended.Rejected fault) result d' o e e' c' (λ n. n) h.so))

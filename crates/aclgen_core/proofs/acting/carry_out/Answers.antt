@@ -27,5 +27,5 @@ returns-in-Err-Failed-clause-alone g c =
 
 pub returns-in-Err-Memory-clause-alone : goal.returns-in-Err-Memory-clause-alone
 returns-in-Err-Memory-clause-alone g c =
-    let w = c.in-Err-Memory.ensures.counts in
-    wanting-alone _ _ _ _ w.lists_stay w.reads_stay (w.faults_stay refl)
+    let w = rw c.in-Err-Memory.field-0-is at c.in-Err-Memory.ensures in
+    wanting-alone _ _ _ _ w.counts.lists_stay w.counts.reads_stay (w.counts.faults_stay refl)

@@ -1,6 +1,6 @@
 use Rattle.std.proofs.Common.{◌∙◌, ap, option_map, refl, sym}
 use Rattle.acl_options.specs.CodeViews.{options_view}
-use Rattle.aclgen_core.proofs.FaultCounts.{clock-alone, fault-alone, planned-alone}
+use Rattle.aclgen_core.proofs.FaultCounts.{fault-alone, planned-alone}
 use Rattle.aclgen_core.proofs.PlanningLaws.{asked-for, decides-fault, decides-planned}
 use Rattle.aclgen_core.proofs.deciding.decide.Goals as goal
 

@@ -12,7 +12,7 @@ returns-in-Usage g c =
 pub returns-in-Refused : goal.returns-in-Refused
 returns-in-Refused g c =
     compiled _ _ _ _ (sym c.read_workload.ensures.exact ∙ c.in_default.is)
-    (fault-keeps _ _ _ _ _ _ _ _ _ _ _ _ c.requires c.in-Refused.ensures.decides.seen c.in-Refused.ensures.decides.asked c.in-Refused.ensures.alone
+    (fault-keeps _ _ _ _ _ _ _ _ _ _ _ c.requires c.in-Refused.ensures.decides.seen c.in-Refused.ensures.decides.asked c.in-Refused.ensures.alone
     c.in-Refused.ensures.decides.so
     (rw (← c.as_slice.ensures) c.refuse-in-Refused.ensures))
 
