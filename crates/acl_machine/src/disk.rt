@@ -60,7 +60,7 @@ fn add_entry<R: Files>(
     names: &mut FileNames,
 ) -> Result<(), TreeFault> {
     match fs::metadata(rt, entry.path()) {
-        Ok(metadata) if metadata.is_dir() => Ok(()),
+        Ok(metadata) if !metadata.is_file() => Ok(()),
         Ok(_) => {
             names.push(String::from_str(alloc, entry.file_name())?)?;
             Ok(())

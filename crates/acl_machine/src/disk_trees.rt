@@ -14,7 +14,7 @@ use std::rt::Files;
 /// The files of the machine.
 ///
 /// It tells no files. A folder that is not there, that is a file, or in which nothing lies is absent; so is
-/// a file that is not there, or that is a folder. Folders within a folder are passed over. `list` fails
+/// a file that is not there, or that is a folder. What is no regular file in a folder is passed over. `list` fails
 /// where a name is not UTF-8, or where the folder holds more than 1,048,576 names. `begin` makes no folder.
 ///
 /// A file is as it was until `finish` answers: it is written beside, and then put into its place in one step.
