@@ -230,7 +230,7 @@ fn lies_within_in_each(earlier: &Term, term: &Term) -> bool
 
 // ---- life
 
-fn is_live_on_some(targets: &[Target], today: Day, term: &Term) -> bool
+pub(crate) fn is_live_on_some(targets: &[Target], today: Day, term: &Term) -> bool
     ensures { result ≡ list_any (λ g. is_term_live term.now g.kind today) targets.now }
 {
     targets.iter().any(|g| is_live(term, g.kind, today))
@@ -243,7 +243,7 @@ fn follows_life(targets: &[Target], today: Day, earlier: &Term, term: &Term) -> 
     targets.iter().all(|g| !is_live(term, g.kind, today) || is_live(earlier, g.kind, today))
 }
 
-fn is_live_where(targets: &[Target], today: Day, earlier: &Term, term: &Term) -> bool
+pub(crate) fn is_live_where(targets: &[Target], today: Day, earlier: &Term, term: &Term) -> bool
     ensures { result ≡ is_live_where targets.now today earlier.now term.now }
 {
     is_live_on_some(targets, today, term) && follows_life(targets, today, earlier, term)
@@ -253,7 +253,7 @@ fn is_live_where(targets: &[Target], today: Day, earlier: &Term, term: &Term) ->
 
 // What tells most terms apart is asked first.
 #[tactic(auto, unfolding(crate::specs::ComputableShading::shades))]
-fn shades(targets: &[Target], today: Day, earlier: &Term, term: &Term) -> bool
+pub(crate) fn shades(targets: &[Target], today: Day, earlier: &Term, term: &Term) -> bool
     ensures { result ≡ shades targets.now today earlier.now term.now }
 {
     numbers_within(earlier, term)
