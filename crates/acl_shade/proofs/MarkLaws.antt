@@ -1,5 +1,5 @@
 -- Marks of which terms have some numbers.
-use Rattle.std.proofs.Common.{◌≡◌, ℕ, ◌+◌, ◌*◌, ◌<◌, ◌≤◌, true, List, length, get_or, subst, sym, ap, ◌∙◌, inl, inr, refl, arith}
+use Rattle.std.proofs.Common.{◌≡◌, ℕ, ◌+◌, ◌*◌, ◌<◌, ◌≤◌, true, List, length, get_or, subst, sym, ◌∙◌, inl, inr, refl, arith}
 use Rattle.std.proofs.lemmas.Bool.{cases_lt}
 use Rattle.std.proofs.lemmas.List.Folds.{Any-from_list_any, list_any_at}
 use Rattle.std.proofs.lemmas.Nat.{row_fits}
@@ -8,8 +8,8 @@ use Rattle.acl_sets.specs.declared.sets.Range.{Range}
 use Rattle.acl_sets.specs.Ranges.{Numbers, holds, inside}
 use Rattle.acl_sets.proofs.RangeLaws.{ends_of, in_range}
 use Rattle.acl_shade.specs.declared.marks.Marks.{Marks}
-use Rattle.acl_shade.specs.Sifting.{AreMarked, Has, RowHas}
-use Rattle.acl_shade.specs.Marking.{AreMarks, KeepsBeside, MarksMore}
+use Rattle.acl_shade.specs.Sifting.{AreMarked, RowHas}
+use Rattle.acl_shade.specs.Marking.{AreMarks, MarksMore}
 
 -- ---- marks stay
 
@@ -56,11 +56,13 @@ pub inside-from : (points : List ℕ) (at k : ℕ) (r : Range)
     → (at ≤ k) × (get_or points k 0 ≤ r.high)
 inside-from points at k r below i =
     let e = ends_of r.low r.high (get_or points k 0) i in
-    let low = e.0 in
-    (elim (cases_lt k at) [
-      | inl before ↦ let less = below k before in absurd (omega arith)
-      | inr behind ↦ behind
-    ], e.1)
+    let low = e.0 in (
+      elim (cases_lt k at) [
+        | inl before ↦ let less = below k before in absurd (omega arith)
+        | inr behind ↦ behind
+      ],
+      e.1,
+    )
 
 -- ---- the numbers of a set
 

@@ -1,8 +1,7 @@
 -- Terms that are sifted out do not shade.
-use Rattle.std.proofs.Common.{◌≡◌, ◌⊎◌, ℕ, ◌+◌, ◌*◌, ◌/◌, ◌%◌, ◌^◌, ◌<◌, ◌≤◌, ◌-◌, Bool, true, false, cond, not, ◌&&◌, ◌||◌, nat_lt, List, [], ◌∷◌, length, take, get_or, Option, None, Some, inl, inr, refl, ap, sym, ◌∙◌, subst, arith}
-use Rattle.std.specs.Prelude.{IfSome, IfNone}
+use Rattle.std.proofs.Common.{◌≡◌, ◌⊎◌, ℕ, ◌+◌, ◌*◌, ◌/◌, ◌%◌, ◌^◌, ◌<◌, ◌≤◌, ◌-◌, Bool, true, false, cond, not, ◌&&◌, ◌||◌, nat_lt, List, length, take, get_or, None, Some, inl, inr, ap, sym, ◌∙◌, subst, arith}
 use Rattle.std.specs.Int.{bit_at}
-use Rattle.std.specs.List.{list_all, list_any, position, position_or_len}
+use Rattle.std.specs.List.{list_all, list_any, position}
 use Rattle.std.proofs.lemmas.List.{get_or-take, get_or_default, length-take-le}
 use Rattle.std.proofs.lemmas.Bool.{and_parts, both_ways, cases_eq, cases_lt, false_from_ne_true, le-ltb, lt-ltb}
 use Rattle.std.proofs.lemmas.List.Sums.{position_or_len_is}
@@ -13,14 +12,14 @@ use Rattle.acl_days.specs.declared.days.Day.{Day}
 use Rattle.acl_sets.specs.Ranges.{Numbers, holds}
 use Rattle.acl_target.specs.declared.targets.Target.{Target}
 use Rattle.acl_terms.specs.declared.terms.Term.{Term}
-use Rattle.acl_terms.specs.Resolved.{IsEmptyIn, is_empty_in, is_term_live}
+use Rattle.acl_terms.specs.Resolved.{is_empty_in, is_term_live}
 use Rattle.acl_terms.proofs.EmptyLaws.{empty-law}
 use Rattle.acl_terms.proofs.TestLaws.{true-not}
 use Rattle.acl_shade.specs.ComputableShading.{is_live_where, lies_within_in_each, numbers_within, option_covers, shaded_by, shades}
 use Rattle.acl_shade.specs.Shading.{LiesWithin, LiesWithinIn}
 use Rattle.acl_shade.specs.declared.parts.Part.{Part}
 use Rattle.acl_shade.specs.declared.parts.Part.TheVariants.{DestinationPorts, SourcePorts, Types, Source, Destination}
-use Rattle.acl_shade.specs.Sifting.{AreMarked, Has, KeepsShading, KeepsWithin, LeavesShading, RowHas, is_asked, part_of}
+use Rattle.acl_shade.specs.Sifting.{AreMarked, KeepsShading, KeepsWithin, LeavesShading, RowHas, is_asked, part_of}
 use Rattle.acl_shade.specs.declared.marks.Marks.{Marks}
 use Rattle.acl_shade.specs.Marking.{KeepsBeside, MarksMore}
 use Rattle.acl_shade.proofs.BitLaws.{from-row, to-row}

@@ -11,5 +11,5 @@ mod shading;
 mod sifting;
 
 pub use laws::{shaded_terms_can_go, shading_is_computed, shading_terms_stay};
-pub use places::shaded_places;
-pub use shading::{shaded_by, shading_term};
+pub use places::{shaded_places, shading_term};
+pub use shading::shaded_by;

@@ -1,6 +1,8 @@
-ghost use Rattle.std.specs.Prelude.{◌≡◌, ℕ, ◌+◌, ◌*◌, ◌%◌, ◌<◌, ◌≤◌, ◌==◌, ◌&&◌, length, slice_index_or, true, IfOk};
+ghost use Rattle.std.specs.Prelude.{◌≡◌, ℕ, ◌+◌, ◌*◌, ◌%◌, ◌<◌, ◌≤◌, ◌==◌, ◌&&◌, List, length, slice_index_or, true, IfOk, option_map};
+ghost use Rattle.acl_days.specs.declared.days.Day.{Day};
+ghost use Rattle.acl_target.specs.declared.targets.Target.{Target};
 ghost use Rattle.acl_terms.specs.declared.terms.Term.{Term};
-ghost use Rattle.acl_shade.specs.ComputableShading.{is_live_where, shaded_by, shades};
+ghost use Rattle.acl_shade.specs.ComputableShading.{shaded_by, shades, shading_term};
 ghost use Rattle.acl_shade.specs.ShadedPlaces.{AreShadedPlaces};
 ghost use Rattle.acl_shade.specs.Sifting.{RowHas};
 
@@ -9,7 +11,7 @@ use crate::sifting::candidates;
 use acl_days::Day;
 use acl_target::Target;
 use acl_terms::Term;
-use acl_text::Memory;
+use acl_text::{Items, Memory};
 use std::alloc::Global;
 
 // Life is asked before sets are walked through.
@@ -68,14 +70,28 @@ pub fn shaded_places(
     terms: &[Term],
     targets: &[Target],
     today: Day,
-) -> Result<Vec<Option<usize>>, Memory>
-    ensures { IfOk result (λ places. AreShadedPlaces targets.now today terms.now places.items) }
+) -> Result<Items<Option<usize>>, Memory>
+    ensures { IfOk result (AreShadedPlaces targets.now today terms.now) }
 {
     let width = terms.len().div_ceil(64);
     let left = candidates(alloc, terms, width)?;
-    let mut places = Vec::with_capacity(alloc, terms.len())?;
+    let mut places = Items::with_capacity(alloc, terms.len())?;
     for place in 0..terms.len() {
         places.push(first_left(terms, targets, today, place, &left, width))?;
     }
     Ok(places)
+}
+
+/// The term that shades the one at this place, where the list is that of the block's shaded places.
+pub fn shading_term<'a>(
+    terms: &'a [Term],
+    places: &[Option<usize>],
+    place: usize,
+) -> Option<&'a Term>
+    ensures { (targets : List Target) (today : Day) → AreShadedPlaces targets today terms.now places.now
+        → place < length terms.now
+        → option_map (λ t. t.now) result ≡ shading_term targets today terms.now place }
+{
+    let shading = *places.get(place)?;
+    terms.get(shading?)
 }

@@ -1,4 +1,4 @@
-ghost use Rattle.std.specs.Prelude.{◌≡◌, ℕ, ◌<◌, ◌&&◌, ◌||◌, false, [], ◌∷◌, IfNone, IfSome, length, not, option_map};
+ghost use Rattle.std.specs.Prelude.{◌≡◌, ℕ, ◌<◌, ◌&&◌, ◌||◌, false, [], ◌∷◌, IfNone, IfSome, length, not};
 ghost use Rattle.std.specs.List.{list_all, list_any, position};
 ghost use Rattle.acl_sets.specs.ComputableSets.{covers};
 ghost use Rattle.acl_terms.specs.Resolved.{destination_in, either_in, source_in, is_term_live};
@@ -18,7 +18,6 @@ ghost use Rattle.acl_shade.specs.ComputableShading.{
   protocols_within,
   shaded_by,
   shades,
-  shading_term,
   some_within,
 };
 ghost use Rattle.acl_shade.specs.Shading.{IsShadedBy, ShadesAt};
@@ -276,17 +275,4 @@ pub fn shaded_by(terms: &[Term], targets: &[Target], today: Day, place: usize) -
     ensures computed { result ≡ shaded_by targets.now today terms.now place }
 {
     first_shading(targets, today, &terms[..place], &terms[place])
-}
-
-/// The term at that place.
-pub fn shading_term<'a>(
-    terms: &'a [Term],
-    targets: &[Target],
-    today: Day,
-    place: usize,
-) -> Option<&'a Term>
-    requires { place < length terms.now }
-    ensures { option_map (λ t. t.now) result ≡ shading_term targets.now today terms.now place }
-{
-    terms.get(shaded_by(terms, targets, today, place)?)
 }

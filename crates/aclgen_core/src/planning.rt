@@ -3,6 +3,7 @@ ghost use Rattle.std.specs.List.{All};
 ghost use Rattle.acl_policy.specs.Conditions.{IsBlock, IsPolicy};
 ghost use Rattle.acl_load.specs.LoadedPolicies.{AreResolvedIn};
 ghost use Rattle.acl_load.specs.LoadFaults.{LoadsFiles};
+ghost use Rattle.acl_report.specs.ShadedLists.{AreShadedIn};
 ghost use Rattle.acl_options.specs.CodeViews.{options_view};
 ghost use Rattle.aclgen_core.specs.PreparingSteps.{
   AddsFile,
@@ -20,7 +21,7 @@ use acl_host::Tree;
 use acl_load::{LoadFault, Loaded, load, policy_fault};
 use acl_options::Options;
 use acl_policy::Kind;
-use acl_report::report_terms;
+use acl_report::{ShadedLists, report_terms, shaded_lists};
 use acl_text::{Memory, Out, Refusal, Rejection, Whole};
 use std::alloc::Global;
 
@@ -72,13 +73,15 @@ fn judge(
     options: &Options<'_>,
     today: Day,
     loaded: &Loaded,
+    shaded: &ShadedLists,
 ) -> Result<FileDrafts, Refusal>
-    requires { All IsBlock loaded.now.policy.blocks }
+    requires blocks { All IsBlock loaded.now.policy.blocks }
+    requires shaded { AreShadedIn today loaded.now shaded.now }
     ensures { JudgesSo (options_view options.now) today loaded.now result }
 {
     let drafts = prepare(alloc, today, options.output, options.policy, loaded)?;
     if options.shade_check {
-        refuse_shaded(alloc, today, loaded)?;
+        refuse_shaded(alloc, loaded, shaded)?;
     }
     Ok(drafts)
 }
@@ -94,9 +97,10 @@ fn plan(
     requires terms { AreResolvedIn loaded.now.definitions loaded.now.policy.blocks loaded.now.terms }
     ensures { PlansLoaded (options_view options.now) today loaded.now result }
 {
-    match judge(alloc, options, today, loaded) {
+    let shaded = shaded_lists(alloc, loaded, today)?;
+    match judge(alloc, options, today, loaded, &shaded) {
         Ok(drafts) => {
-            let report = report_terms(alloc, loaded, today, options.exp_info)?;
+            let report = report_terms(alloc, loaded, &shaded, today, options.exp_info)?;
             Ok(work_of(alloc, drafts, report)?)
         }
         Err(Refusal::Slip(slip)) => {

@@ -1,4 +1,4 @@
-use Rattle.std.proofs.Common.{◌+◌, ◌*◌, ◌/◌, ◌<◌, length, arith}
+use Rattle.std.proofs.Common.{◌*◌, arith}
 use Rattle.acl_shade.proofs.BitLaws.{set-keeps, set-sets}
 use Rattle.acl_shade.proofs.bits.insert.Goals as goal
 

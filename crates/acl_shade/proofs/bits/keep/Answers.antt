@@ -1,4 +1,4 @@
-use Rattle.std.proofs.Common.{◌≡◌, ◌+◌, ◌*◌, inl, inr, arith}
+use Rattle.std.proofs.Common.{◌*◌, inl, inr, arith}
 use Rattle.acl_shade.proofs.BitLaws.{beside-kept, both-kept}
 use Rattle.acl_shade.proofs.bits.keep.Goals as goal
 

@@ -1,4 +1,4 @@
-use Rattle.std.proofs.Common.{rules, get_or, ◌<◌, ◌≡◌, ◌*◌, ◌++◌, List, ℕ, length, take, drop, ap, sym, ◌∙◌, subst, arith}
+use Rattle.std.proofs.Common.{rules, get_or, ◌++◌, List, ℕ, length, take, drop, ap, sym, ◌∙◌, subst, arith}
 use Rattle.std.proofs.lemmas.List.{get_or-replicate}
 use Rattle.std.proofs.Math.Seq.{take-append_seam}
 use Rattle.acl_shade.specs.Sifting.{LeavesShading}
@@ -16,5 +16,5 @@ returns-clause-shading c =
     (all-left c.args.width c.args.terms.now c.in_ok-left.left.items c.requires.fits
     (search rules)
     (λ k small. let is = c.in_ok-left.ensures.items_if_clones_equal (λ y e. e) in
-        ap (λ xs. get_or xs k 0) is ∙ get_or-replicate c.in-Some.words k 18446744073709551615 0
-        (omega (arith, small, c.in_ok-left.ensures.len))))))
+    ap (λ xs. get_or xs k 0) is ∙ get_or-replicate c.in-Some.words k 18446744073709551615 0
+    (omega (arith, small, c.in_ok-left.ensures.len))))))

@@ -1,6 +1,6 @@
-use Rattle.std.proofs.Common.{◌≡◌, ℕ, ◌+◌, ◌*◌, ◌<◌, true, sym, ◌∙◌, subst, arith}
+use Rattle.std.proofs.Common.{ℕ, ◌*◌, ◌<◌, sym, ◌∙◌, subst}
 use Rattle.acl_sets.specs.Ranges.{Numbers}
-use Rattle.acl_shade.specs.Sifting.{AreMarked, RowHas, part_of}
+use Rattle.acl_shade.specs.Sifting.{AreMarked, RowHas}
 use Rattle.acl_shade.specs.Marking.{KeepsBeside}
 use Rattle.acl_shade.proofs.SiftLaws.{keeps-more, marked-more}
 use Rattle.acl_shade.proofs.sifting.sift.Goals as goal
@@ -27,11 +27,11 @@ loop-place-preserved c =
           c.requires.fits before.marked
           (subst (λ w. KeepsBeside place w c.loop-place.left c.pass.new.left) before.width passed.beside)
           (λ e small marked has.
-              subst (λ w. RowHas w c.pass.new.left place e) before.width
-              (passed.keeps e (subst (λ w. e < 64 * w) (sym before.width) small)
-              (λ asked. subst (λ w. AreMarked w points rows e c.part_of.result.now) (sym before.width)
-              (subst (λ (s : Numbers). AreMarked a.width points rows e s) (sym c.part_of.ensures)
-              (marked (sym c.is_asked.ensures ∙ asked))))
-              (subst (λ w. RowHas w c.loop-place.left place e) (sym before.width) has)))
+          subst (λ w. RowHas w c.pass.new.left place e) before.width
+          (passed.keeps e (subst (λ w. e < 64 * w) (sym before.width) small)
+          (λ asked. subst (λ w. AreMarked w points rows e c.part_of.result.now) (sym before.width)
+          (subst (λ (s : Numbers). AreMarked a.width points rows e s) (sym c.part_of.ensures)
+          (marked (sym c.is_asked.ensures ∙ asked))))
+          (subst (λ w. RowHas w c.loop-place.left place e) (sym before.width) has)))
           before.keeps;
     }

@@ -1,5 +1,5 @@
 -- The numbers so far are marked.
-use Rattle.std.proofs.Common.{◌≡◌, ℕ, ◌+◌, ◌<◌, ◌≤◌, ◌-◌, length}
+use Rattle.std.proofs.Common.{ℕ, ◌<◌, ◌≤◌, ◌-◌, length}
 use Rattle.acl_shade.specs.Sifting.{RowHas}
 use Rattle.acl_shade.specs.Marking.{MarksMore}
 use Rattle.acl_shade.proofs.marks.Marks.mark.Given as goal

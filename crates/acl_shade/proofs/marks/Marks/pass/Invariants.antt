@@ -1,5 +1,5 @@
 -- The numbers of the ranges so far are marked, and who has all of them is left.
-use Rattle.std.proofs.Common.{◌≡◌, ℕ, ◌+◌, ◌*◌, ◌<◌, true, length, slice_index, slice_index_or}
+use Rattle.std.proofs.Common.{◌≡◌, ℕ, ◌*◌, ◌<◌, true, length, slice_index, slice_index_or}
 use Rattle.acl_sets.specs.declared.sets.Range.{Range}
 use Rattle.acl_sets.specs.Ranges.{inside}
 use Rattle.acl_shade.specs.Sifting.{AreMarked, RowHas}
