@@ -69,7 +69,15 @@ pub fn report_terms(
     let blocks = loaded.policy.blocks.as_slice();
     let lists = loaded.terms.as_slice();
     let shaded = shaded.as_slice();
-    match put_blocks(&mut report, &loaded.sources, today, weeks, blocks, lists, shaded) {
+    match put_blocks(
+        &mut report,
+        &loaded.sources,
+        today,
+        weeks,
+        blocks,
+        lists,
+        shaded,
+    ) {
         Ok(()) => Ok(report),
         Err(_) => Err(Memory),
     }

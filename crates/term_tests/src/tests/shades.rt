@@ -5,7 +5,7 @@ use crate::tests::reading::{definitions, policy_of, terms_of, today};
 use acl_days::Day;
 use acl_naming::Checked;
 use acl_policy::Block;
-use acl_shade::shaded_by;
+use acl_shade::shaded_places;
 use acl_target::Target;
 use acl_terms::Term;
 use acl_text::{Bytes, Memory, Refusal};
@@ -22,8 +22,8 @@ const SERVICES: &[u8] =
 // The terms in order: each by the place of the one that shades it, or by a dash.
 fn places(alloc: Global, terms: &[Term], targets: &[Target], day: Day) -> Result<String, Memory> {
     let mut shown = String::new(alloc);
-    for place in 0..terms.len() {
-        shown = match shaded_by(terms, targets, day, place) {
+    for place in shaded_places(alloc, terms, targets, day)?.as_slice() {
+        shown = match place {
             Some(earlier) => format!(in alloc; "{shown}{earlier}")?,
             None => format!(in alloc; "{shown}-")?,
         };
@@ -52,9 +52,21 @@ fn shown(alloc: Global, terms: &[u8]) -> Result<String, Refusal> {
     places_in(alloc, &base, policy.blocks.as_slice())
 }
 
+// The terms with others behind them that are not live, so many that they are sifted.
+fn among_many(alloc: Global, terms: &[u8]) -> Result<Bytes, Memory> {
+    let mut text = Bytes::from_slice(alloc, terms)?;
+    for n in 0..64 {
+        let more = format!(in alloc; "\nterm p{n} {{ expiration:: 2026-01-15 action:: deny }}")?;
+        text.push_all(more.as_bytes())?;
+    }
+    Ok(text)
+}
+
 fn expect(rt: &impl Abort, alloc: Global, rows: &[(&[u8], &str)]) -> Result<(), Fail> {
     for (terms, expected) in rows {
         assert_eq!(rt; shown(alloc, terms)?.as_str(), *expected);
+        let many = shown(alloc, among_many(alloc, terms)?.as_slice())?;
+        assert!(rt; many.as_str().starts_with(*expected));
     }
     Ok(())
 }
