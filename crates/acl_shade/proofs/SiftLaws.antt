@@ -9,20 +9,22 @@ use Rattle.std.proofs.lemmas.Nat.{row_fits, shr-shr}
 use Rattle.std.proofs.lemmas.Nat.Bits.{bit_at-zero, bit_at_ones}
 use Rattle.acl_packet.specs.declared.addresses.Family.{Family}
 use Rattle.acl_days.specs.declared.days.Day.{Day}
+use Rattle.acl_sets.specs.ComputableSets.{is_all}
 use Rattle.acl_sets.specs.Ranges.{Numbers, holds}
 use Rattle.acl_target.specs.declared.targets.Target.{Target}
 use Rattle.acl_terms.specs.declared.terms.Term.{Term}
-use Rattle.acl_terms.specs.Resolved.{is_empty_in, is_term_live}
+use Rattle.acl_terms.specs.Resolved.{destination_in, is_empty_in, is_term_live, source_in}
 use Rattle.acl_terms.proofs.EmptyLaws.{empty-law}
 use Rattle.acl_terms.proofs.TestLaws.{true-not}
 use Rattle.acl_shade.specs.ComputableShading.{is_live_where, lies_within_in_each, numbers_within, option_covers, shaded_by, shades}
 use Rattle.acl_shade.specs.Shading.{LiesWithin, LiesWithinIn}
 use Rattle.acl_shade.specs.declared.parts.Part.{Part}
-use Rattle.acl_shade.specs.declared.parts.Part.TheVariants.{DestinationPorts, SourcePorts, Types, Source, Destination}
-use Rattle.acl_shade.specs.Sifting.{AreMarked, KeepsShading, KeepsWithin, LeavesShading, RowHas, is_asked, part_of}
+use Rattle.acl_shade.specs.declared.parts.Part.TheVariants.{DestinationPorts, SourcePorts, Types, Source, Destination, Either}
+use Rattle.acl_shade.specs.Sifting.{AreMarked, KeepsShading, KeepsWithin, LeavesShading, RowHas, asks_either_alone, is_asked, part_of}
 use Rattle.acl_shade.specs.declared.marks.Marks.{Marks}
 use Rattle.acl_shade.specs.Marking.{KeepsBeside, MarksMore}
 use Rattle.acl_shade.proofs.BitLaws.{from-row, to-row}
+use Rattle.acl_shade.proofs.FamilyLaws.{either-alone}
 use Rattle.acl_shade.proofs.PlaceLaws.{place-is}
 use Rattle.acl_shade.proofs.ShadingLaws.{shading-law}
 
@@ -52,6 +54,10 @@ part-within targets today SourcePorts i j h asked = ((shading-law targets today 
 part-within targets today Types i j h asked = ((shading-law targets today i j).0 h).types
 part-within targets today (Source f) i j h asked = (within-in targets today i j f h asked).source
 part-within targets today (Destination f) i j h asked = (within-in targets today i j f h asked).destination
+part-within targets today (Either f) i j h asked =
+    let p = and_parts (not (is_empty_in f j)) (asks_either_alone f j) asked in
+    let q = and_parts (is_all (source_in f j)) (is_all (destination_in f j)) p.1 in
+    either-alone f i j q.0 q.1 (within-in targets today i j f h p.0).either
 
 -- ---- a part is sifted
 

@@ -1,15 +1,17 @@
 -- How the terms that can shade one are sifted: for each number of a few it is marked which terms have it. A term that
 -- lacks a number of another does not shade it.
-use Rattle.std.specs.Prelude.{◌≡◌, ℕ, ◌+◌, ◌*◌, ◌/◌, ◌%◌, ◌<◌, Bool, true, not, List, length, slice_index, slice_index_or}
+use Rattle.std.specs.Prelude.{◌≡◌, ℕ, ◌+◌, ◌*◌, ◌/◌, ◌%◌, ◌<◌, Bool, true, not, ◌&&◌, List, length, slice_index, slice_index_or}
 use Rattle.std.specs.Int.{bit_at}
 use Rattle.acl_days.specs.declared.days.Day.{Day}
+use Rattle.acl_packet.specs.declared.addresses.Family.{Family}
+use Rattle.acl_sets.specs.ComputableSets.{is_all}
 use Rattle.acl_sets.specs.Ranges.{Numbers, holds}
 use Rattle.acl_target.specs.declared.targets.Target.{Target}
 use Rattle.acl_terms.specs.declared.terms.Term.{Term}
-use Rattle.acl_terms.specs.Resolved.{destination_in, is_empty_in, source_in}
+use Rattle.acl_terms.specs.Resolved.{destination_in, either_in, is_empty_in, source_in}
 use Rattle.acl_shade.specs.ComputableShading.{shades}
 use Rattle.acl_shade.specs.declared.parts.Part.{Part}
-use Rattle.acl_shade.specs.declared.parts.Part.TheVariants.{DestinationPorts, SourcePorts, Types, Source, Destination}
+use Rattle.acl_shade.specs.declared.parts.Part.TheVariants.{DestinationPorts, SourcePorts, Types, Source, Destination, Either}
 use Rattle.acl_shade.specs.Shading.{LiesWithin}
 
 -- ---- parts of a term
@@ -20,11 +22,17 @@ part_of SourcePorts t = t.sports
 part_of Types t = t.itypes
 part_of (Source f) t = source_in f t
 part_of (Destination f) t = destination_in f t
+part_of (Either f) t = either_in f t
+
+-- The term asks nothing of the sources and of the destinations.
+abbrev pub asks_either_alone : Family → Term → Bool
+asks_either_alone f t = is_all (source_in f t) && is_all (destination_in f t)
 
 -- A term that shades this one has the numbers of this part of it.
 abbrev pub is_asked : Part → Term → Bool
 is_asked (Source f) t = not (is_empty_in f t)
 is_asked (Destination f) t = not (is_empty_in f t)
+is_asked (Either f) t = not (is_empty_in f t) && asks_either_alone f t
 is_asked part t = true
 
 -- ---- rows of bits

@@ -57,22 +57,42 @@ impl Marks {
         at
     }
 
-    // Where it is asked, keeps of what is left for the term the terms that have the number at the place, if it is not
-    // above the high one. A number that all terms before this one have tells nothing. It says whether to go on asking.
-    fn keep(&self, asks: bool, at: usize, high: u128, term: usize, left: &mut [u64]) -> bool
+    // Keeps of what is left for the term the terms that have the number at the place, and says whether any is left. A
+    // number that all terms before this one have tells nothing.
+    fn keep_at(&self, at: usize, term: usize, left: &mut [u64]) -> bool
+        requires are { AreMarks self.now }
+        requires at { at < length self.now.points.items }
+        requires row { term * self.now.width + self.now.width ≤ length left.old }
+        ensures beside { KeepsBeside term self.now.width left.old left.new }
+        ensures keeps { (e : ℕ) → e < 64 * self.now.width
+            → RowHas self.now.width self.now.rows.items at e
+            → RowHas self.now.width left.old term e → RowHas self.now.width left.new term e }
+    {
+        if self.counts[at] == term {
+            return true;
+        }
+        keep(left, self.width, term, &self.rows, at)
+    }
+
+    // Where it is asked, keeps of what is left for the term the terms that have the numbers from this place on, up to
+    // the high one. It says whether to go on asking.
+    fn keep(&self, asks: bool, from: usize, high: u128, term: usize, left: &mut [u64]) -> bool
         requires are { AreMarks self.now }
         requires row { term * self.now.width + self.now.width ≤ length left.old }
         ensures beside { KeepsBeside term self.now.width left.old left.new }
         ensures asked { result ≡ true → asks ≡ true }
         ensures keeps { (e : ℕ) → e < 64 * self.now.width
-            → (asks ≡ true → at < length self.now.points.items → slice_index self.now.points.items at ≤ high
-            → RowHas self.now.width self.now.rows.items at e)
+            → (asks ≡ true → (k : ℕ) → from ≤ k → k < length self.now.points.items
+            → slice_index self.now.points.items k ≤ high → RowHas self.now.width self.now.rows.items k e)
             → RowHas self.now.width left.old term e → RowHas self.now.width left.new term e }
     {
-        if asks && at < self.points.len() && self.points[at] <= high && self.counts[at] != term {
-            return keep(left, self.width, term, &self.rows, at);
+        let mut asking = asks;
+        let mut at = from;
+        while asking && at < self.points.len() && self.points[at] <= high {
+            asking = self.keep_at(at, term, left);
+            at += 1;
         }
-        asks
+        asking
     }
 
     /// Marks which numbers the term has in the set. Where it is asked, only the terms that have them too are left for

@@ -2,7 +2,7 @@ ghost use Rattle.std.specs.Prelude.{◌≡◌, ℕ, ◌<◌, ◌≤◌, IfOk, On
 ghost use Rattle.std.specs.List.Sorted.{IsNonDecreasing};
 
 use crate::parts::{Part, part_of};
-use acl_sets::Range;
+use acl_sets::RangeSet;
 use acl_terms::Term;
 use acl_text::Memory;
 use std::alloc::Global;
@@ -41,17 +41,28 @@ impl Points {
         Ok(())
     }
 
-    // Adds low ends of the ranges, as long as there is room.
-    fn add(&mut self, ranges: &[Range], room: usize) -> Result<(), Memory> {
+    // Adds the number, unless it is known. It gives the place where the next one is looked for.
+    fn note(&mut self, number: u128, near: usize) -> Result<usize, Memory> {
+        let at = start_of(&self.known, near, number);
+        match self.known.get(at) {
+            Some(point) if *point == number => Ok(at + 1),
+            _ => {
+                self.fresh.push(number)?;
+                Ok(at)
+            }
+        }
+    }
+
+    // Adds the ends of the set's ranges, as long as there is room: where each begins, and the number behind it.
+    fn add(&mut self, set: &RangeSet, room: usize) -> Result<(), Memory> {
         let mut near = 0;
-        for range in ranges {
+        for range in set.ranges() {
             if self.known.len().saturating_add(self.fresh.len()) >= room {
                 break;
             }
-            near = start_of(&self.known, near, range.low);
-            match self.known.get(near) {
-                Some(point) if *point == range.low => near += 1,
-                _ => self.fresh.push(range.low)?,
+            near = self.note(range.low, near)?;
+            if range.high < set.top() {
+                near = self.note(range.high + 1, near)?;
             }
         }
         if self.fresh.len() > self.known.len() / 4 {
@@ -61,8 +72,21 @@ impl Points {
     }
 }
 
-/// Numbers that tell the terms' parts apart, in rising order: low ends of their ranges, not many more than one for each
-/// term and one for sixteen ranges.
+// How many numbers are looked at besides one for each term: the ends of the longest part, but not many more than the
+// parts have ranges.
+fn room_for(part: Part, terms: &[Term]) -> usize {
+    let mut longest: usize = 0;
+    let mut all: usize = 0;
+    for term in terms {
+        let ranges = part_of(part, term).ranges();
+        longest = longest.max(ranges.len());
+        all = all.saturating_add(ranges.len());
+    }
+    longest.saturating_mul(2).min(all / 8)
+}
+
+/// Numbers that tell the terms' parts apart, in rising order: ends of their ranges. Where a set does not lie within
+/// another, it has a number that is a low end of its own, or that stands behind a range of the other.
 pub(crate) fn points_of(alloc: Global, part: Part, terms: &[Term]) -> Result<Vec<u128>, Memory>
     ensures { IfOk result (λ points. IsNonDecreasing points.items) }
 {
@@ -70,11 +94,10 @@ pub(crate) fn points_of(alloc: Global, part: Part, terms: &[Term]) -> Result<Vec
         known: Vec::new(alloc),
         fresh: Vec::new(alloc),
     };
-    let mut room: usize = 0;
+    let mut room = room_for(part, terms);
     for term in terms {
-        let ranges = part_of(part, term).ranges();
-        room = MOST.min(room.saturating_add(1 + ranges.len() / 16));
-        points.add(ranges, room)?;
+        room = MOST.min(room.saturating_add(1));
+        points.add(part_of(part, term), room)?;
     }
     points.settle()?;
     Ok(points.known)

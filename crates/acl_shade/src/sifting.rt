@@ -17,12 +17,14 @@ use std::alloc::Global;
 const FEW: usize = 64;
 
 // The parts by which terms are told apart: first those in which most differ.
-const PARTS: [Part; 7] = [
+const PARTS: [Part; 9] = [
     Part::DestinationPorts,
     Part::Source(Family::V4),
     Part::Destination(Family::V4),
     Part::Source(Family::V6),
     Part::Destination(Family::V6),
+    Part::Either(Family::V4),
+    Part::Either(Family::V6),
     Part::SourcePorts,
     Part::Types,
 ];

@@ -86,7 +86,33 @@ fn judge(
     Ok(drafts)
 }
 
-// What is to be written of the policy, or the first fault of its filters and of its terms.
+// What is to be written of the policy, or the first fault of its filters and of its terms. The lists say which terms are
+// shaded.
+fn plan_with(
+    alloc: Global,
+    options: &Options<'_>,
+    today: Day,
+    loaded: &Loaded,
+    shaded: &ShadedLists,
+) -> Result<Work, Rejection>
+    requires fits { IsPolicy loaded.now.policy }
+    requires terms { AreResolvedIn loaded.now.definitions loaded.now.policy.blocks loaded.now.terms }
+    requires shaded { AreShadedIn today loaded.now shaded.now }
+    ensures { PlansLoaded (options_view options.now) today loaded.now result }
+{
+    match judge(alloc, options, today, loaded, shaded) {
+        Ok(drafts) => {
+            let report = report_terms(alloc, loaded, shaded, today, options.exp_info)?;
+            Ok(work_of(alloc, drafts, report)?)
+        }
+        Err(Refusal::Slip(slip)) => {
+            Err(Rejection::Fault(policy_fault(alloc, &loaded.sources, slip)?))
+        }
+        Err(Refusal::Memory) => Err(Rejection::Memory),
+    }
+}
+
+// The same, where it is not known yet which terms are shaded: that is found out once.
 fn plan(
     alloc: Global,
     options: &Options<'_>,
@@ -98,16 +124,7 @@ fn plan(
     ensures { PlansLoaded (options_view options.now) today loaded.now result }
 {
     let shaded = shaded_lists(alloc, loaded, today)?;
-    match judge(alloc, options, today, loaded, &shaded) {
-        Ok(drafts) => {
-            let report = report_terms(alloc, loaded, &shaded, today, options.exp_info)?;
-            Ok(work_of(alloc, drafts, report)?)
-        }
-        Err(Refusal::Slip(slip)) => {
-            Err(Rejection::Fault(policy_fault(alloc, &loaded.sources, slip)?))
-        }
-        Err(Refusal::Memory) => Err(Rejection::Memory),
-    }
+    plan_with(alloc, options, today, loaded, &shaded)
 }
 
 /// What is to be written for that day, or the first fault of the files.
