@@ -4,8 +4,8 @@ use Rattle.acl_shade.specs.Sifting.{RowHas}
 use Rattle.acl_shade.specs.Marking.{KeepsBeside}
 use Rattle.acl_shade.proofs.marks.Marks.keep.Given as goal
 
-abbrev pub invariant-loop-at : goal.invariant-loop-at
-invariant-loop-at l = record {
+abbrev pub invariant-loop-asking : goal.invariant-loop-asking
+invariant-loop-asking l = record {
   behind : l.from ≤ l.at;
   asked : l.asking ≡ true → l.asks ≡ true;
   beside : KeepsBeside l.term l.self.width l.fn.left l.left;
@@ -15,5 +15,5 @@ invariant-loop-at l = record {
       → RowHas l.self.width l.fn.left l.term e → RowHas l.self.width l.left l.term e;
 }
 
-abbrev pub decreases-loop-at : goal.decreases-loop-at
-decreases-loop-at l = length l.self.points.items - l.at
+abbrev pub decreases-loop-asking : goal.decreases-loop-asking
+decreases-loop-asking l = length l.self.points.items - l.at

@@ -45,15 +45,15 @@ loop-range-preserved c =
           subst (λ w. RowHas w c.keep-asks.new.left c.args.term e) before.more.width
           (c.keep-asks.ensures.keeps e (subst (λ w. e < 64 * w) (sym before.more.width) small)
           (λ asks k from inside high.
-              let low = c.start_of-at.ensures.above rise
-              (subst (λ ps. start < length ps) (sym points) (omega (arith, from, inside))) in
-              let up = before.more.are.rise start k 0 from inside in
-              row-stays _ _ before.more k e (all (before.asked asks) k
-              (subst (λ ps. k < length ps) before.more.points inside)
-              (subst (λ ps. holds c.args.set.now.ranges (get_or ps k 0) ≡ true) before.more.points
-              (range-holds c.args.set.now ranges at _ (record { low = 0; high = 0 }) c.ranges-ranges.ensures.list
-              c.loop-range-test.true
-              (let first = subst (λ ps. q.low ≤ get_or ps start 0) points low in omega (arith, first, up)) high))))
+          let low = c.start_of-at.ensures.above rise
+          (subst (λ ps. start < length ps) (sym points) (omega (arith, from, inside))) in
+          let up = before.more.are.rise start k 0 from inside in
+          row-stays _ _ before.more k e (all (before.asked asks) k
+          (subst (λ ps. k < length ps) before.more.points inside)
+          (subst (λ ps. holds c.args.set.now.ranges (get_or ps k 0) ≡ true) before.more.points
+          (range-holds c.args.set.now ranges at _ (record { low = 0; high = 0 }) c.ranges-ranges.ensures.list
+          c.loop-range-test.true
+          (let first = subst (λ ps. q.low ≤ get_or ps start 0) points low in omega (arith, first, up)) high))))
           (subst (λ w. RowHas w c.loop-range.left c.args.term e) (sym before.more.width) (before.kept e small all has)));
     }
 
