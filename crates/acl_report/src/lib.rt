@@ -4,7 +4,9 @@
 mod conditions;
 mod counts;
 mod reports;
+mod shaded;
 mod term_lines;
 
 pub use counts::put_count;
 pub use reports::report_terms;
+pub use shaded::{ShadedLists, shaded_lists};

@@ -2,6 +2,7 @@ ghost use Rattle.std.specs.Prelude.{◌≡◌, ◌<◌, ◌++◌, [], true, code
 ghost use Rattle.std.specs.List.{enumerate_from};
 ghost use Rattle.acl_days.specs.DaySteps.{date_text};
 ghost use Rattle.acl_shade.specs.ComputableShading.{shading_term};
+ghost use Rattle.acl_shade.specs.ShadedPlaces.{AreShadedPlaces};
 ghost use Rattle.acl_report.specs.Reports.{
   empty_line,
   empty_lines,
@@ -65,6 +66,8 @@ pub(crate) struct BlockLines<'a> {
     pub(crate) weeks: u16,
     pub(crate) targets: &'a [Target],
     pub(crate) terms: &'a [Term],
+    /// For each term the place of the first one that shades it.
+    pub(crate) shaded: &'a [Option<usize>],
 }
 
 impl<'a> BlockLines<'a> {
@@ -103,12 +106,14 @@ impl<'a> BlockLines<'a> {
     fn put_shaded(&self, report: &mut Whole, place: usize, term: &Term) -> Result<(), PutFault>
         requires open { report.old.is_open ≡ true }
         requires there { place < length self.now.terms.now }
+        requires shaded { AreShadedPlaces self.now.targets.now self.now.today self.now.terms.now
+            self.now.shaded.now }
         ensures text { OnOk result (report.new.bytes ≡ report.old.bytes
             ++ shaded_lines self.now.sources.now.labels term.now
             (shading_term self.now.targets.now self.now.today self.now.terms.now place)) }
         ensures opened { OnOk result (report.new.is_open ≡ true) }
     {
-        let Some(other) = shading_term(self.terms, self.targets, self.today, place) else {
+        let Some(other) = shading_term(self.terms, self.shaded, place) else {
             return Ok(());
         };
         put_term(report, self.sources, term)?;
@@ -151,6 +156,8 @@ impl<'a> BlockLines<'a> {
     fn put_term_lines(&self, report: &mut Whole, place: usize, term: &Term) -> Result<(), PutFault>
         requires open { report.old.is_open ≡ true }
         requires there { place < length self.now.terms.now }
+        requires shaded { AreShadedPlaces self.now.targets.now self.now.today self.now.terms.now
+            self.now.shaded.now }
         ensures text { OnOk result (report.new.bytes ≡ report.old.bytes
             ++ term_lines self.now.sources.now.labels self.now.today self.now.weeks
             self.now.targets.now self.now.terms.now (place, term.now)) }
@@ -164,7 +171,9 @@ impl<'a> BlockLines<'a> {
 
     /// Puts the lines on the terms of the block.
     pub(crate) fn put_into(&self, report: &mut Whole) -> Result<(), PutFault>
-        requires { report.old.is_open ≡ true }
+        requires open { report.old.is_open ≡ true }
+        requires shaded { AreShadedPlaces self.now.targets.now self.now.today self.now.terms.now
+            self.now.shaded.now }
         ensures text { OnOk result (report.new.bytes ≡ report.old.bytes
             ++ flat_map (term_lines self.now.sources.now.labels self.now.today self.now.weeks
             self.now.targets.now self.now.terms.now) (enumerate_from 0 self.now.terms.now)) }

@@ -52,6 +52,14 @@ source-normal : (f : Family) (t : Term) → IsNormal 0 (top_address f) (source_i
 source-normal V4 t = normal-at t.src4 (top_address V4) t.sound.src4_top t.sound.src4_normal
 source-normal V6 t = normal-at t.src6 (top_address V6) t.sound.src6_top t.sound.src6_normal
 
+source-top : (f : Family) (t : Term) → (source_in f t).top ≡ top_address f
+source-top V4 t = t.sound.src4_top
+source-top V6 t = t.sound.src6_top
+
+destination-top : (f : Family) (t : Term) → (destination_in f t).top ≡ top_address f
+destination-top V4 t = t.sound.dst4_top
+destination-top V6 t = t.sound.dst6_top
+
 either-normal : (f : Family) (t : Term) → IsNormal 0 (top_address f) (either_in f t).ranges
 either-normal V4 t = normal-at t.addr4 (top_address V4) t.sound.addr4_top t.sound.addr4_normal
 either-normal V6 t = normal-at t.addr6 (top_address V6) t.sound.addr6_top t.sound.addr6_normal
@@ -185,6 +193,30 @@ but-held k s m top normal h n held =
                 (or_right (is_all s) (not (n == k)) other)
           ]
     ]
+
+-- what lies in a set in which all lies
+past-all : (top : ℕ) (s e other : Numbers) → s.top ≡ top → is_all s ≡ true → IsNormal 0 top e.ranges
+    → LiesWithin s other → LiesWithin e other
+past-all top s e other same all n lies x held =
+    let l = at_top 0 top e.ranges x n held in
+    lies x (all-held s x all (omega arith))
+
+-- Where all sources and destinations are asked, the addresses that are asked of either lie within those of the other.
+pub either-alone : (f : Family) (i j : Term) → is_all (source_in f j) ≡ true → is_all (destination_in f j) ≡ true
+    → SomeLiesWithin (either_in f j ∷ source_in f j ∷ destination_in f j ∷ []) (either_in f i)
+    → LiesWithin (either_in f j) (either_in f i)
+either-alone f i j source destination w = elim w [
+  | inl lies ↦ lies
+  | inr u ↦ elim u [
+    | inl lies ↦ past-all (top_address f) (source_in f j) (either_in f j) (either_in f i) (source-top f j) source
+        (either-normal f j) lies
+    | inr v ↦ elim v [
+      | inl lies ↦ past-all (top_address f) (destination_in f j) (either_in f j) (either_in f i) (destination-top f j)
+          destination (either-normal f j) lies
+      | inr e ↦ absurd e
+    ]
+  ]
+]
 
 -- the foreign number is not in a set that is not all
 foreign-out : (k : ℕ) (s : Numbers) → is_all s ≡ false → has k s k ≡ true → ⊥

@@ -1,3 +1,6 @@
 pub mod Shading
 pub mod ComputableShading
 pub mod Deletions
+pub mod ShadedPlaces
+pub mod Sifting
+pub mod Marking

@@ -1,8 +1,15 @@
 //! Shaded terms: those of a block that decide no packet, since an earlier term decides each of theirs.
 #![tactic(auto)]
 
+mod bits;
 mod laws;
+mod marks;
+mod parts;
+mod places;
+mod points;
 mod shading;
+mod sifting;
 
 pub use laws::{shaded_terms_can_go, shading_is_computed, shading_terms_stay};
-pub use shading::{shaded_by, shading_term};
+pub use places::{shaded_places, shading_term};
+pub use shading::shaded_by;

@@ -1,4 +1,4 @@
-ghost use Rattle.std.specs.Prelude.{◌≡◌, ℕ, ◌<◌, ◌&&◌, ◌||◌, false, [], ◌∷◌, IfNone, IfSome, length, not, option_map};
+ghost use Rattle.std.specs.Prelude.{◌≡◌, ℕ, ◌<◌, ◌&&◌, ◌||◌, false, [], ◌∷◌, IfNone, IfSome, length, not};
 ghost use Rattle.std.specs.List.{list_all, list_any, position};
 ghost use Rattle.acl_sets.specs.ComputableSets.{covers};
 ghost use Rattle.acl_terms.specs.Resolved.{destination_in, either_in, source_in, is_term_live};
@@ -18,7 +18,6 @@ ghost use Rattle.acl_shade.specs.ComputableShading.{
   protocols_within,
   shaded_by,
   shades,
-  shading_term,
   some_within,
 };
 ghost use Rattle.acl_shade.specs.Shading.{IsShadedBy, ShadesAt};
@@ -230,7 +229,7 @@ fn lies_within_in_each(earlier: &Term, term: &Term) -> bool
 
 // ---- life
 
-fn is_live_on_some(targets: &[Target], today: Day, term: &Term) -> bool
+pub(crate) fn is_live_on_some(targets: &[Target], today: Day, term: &Term) -> bool
     ensures { result ≡ list_any (λ g. is_term_live term.now g.kind today) targets.now }
 {
     targets.iter().any(|g| is_live(term, g.kind, today))
@@ -243,7 +242,7 @@ fn follows_life(targets: &[Target], today: Day, earlier: &Term, term: &Term) -> 
     targets.iter().all(|g| !is_live(term, g.kind, today) || is_live(earlier, g.kind, today))
 }
 
-fn is_live_where(targets: &[Target], today: Day, earlier: &Term, term: &Term) -> bool
+pub(crate) fn is_live_where(targets: &[Target], today: Day, earlier: &Term, term: &Term) -> bool
     ensures { result ≡ is_live_where targets.now today earlier.now term.now }
 {
     is_live_on_some(targets, today, term) && follows_life(targets, today, earlier, term)
@@ -253,7 +252,7 @@ fn is_live_where(targets: &[Target], today: Day, earlier: &Term, term: &Term) ->
 
 // What tells most terms apart is asked first.
 #[tactic(auto, unfolding(crate::specs::ComputableShading::shades))]
-fn shades(targets: &[Target], today: Day, earlier: &Term, term: &Term) -> bool
+pub(crate) fn shades(targets: &[Target], today: Day, earlier: &Term, term: &Term) -> bool
     ensures { result ≡ shades targets.now today earlier.now term.now }
 {
     numbers_within(earlier, term)
@@ -276,17 +275,4 @@ pub fn shaded_by(terms: &[Term], targets: &[Target], today: Day, place: usize) -
     ensures computed { result ≡ shaded_by targets.now today terms.now place }
 {
     first_shading(targets, today, &terms[..place], &terms[place])
-}
-
-/// The term at that place.
-pub fn shading_term<'a>(
-    terms: &'a [Term],
-    targets: &[Target],
-    today: Day,
-    place: usize,
-) -> Option<&'a Term>
-    requires { place < length terms.now }
-    ensures { option_map (λ t. t.now) result ≡ shading_term targets.now today terms.now place }
-{
-    terms.get(shaded_by(terms, targets, today, place)?)
 }

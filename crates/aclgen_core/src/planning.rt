@@ -3,6 +3,7 @@ ghost use Rattle.std.specs.List.{All};
 ghost use Rattle.acl_policy.specs.Conditions.{IsBlock, IsPolicy};
 ghost use Rattle.acl_load.specs.LoadedPolicies.{AreResolvedIn};
 ghost use Rattle.acl_load.specs.LoadFaults.{LoadsFiles};
+ghost use Rattle.acl_report.specs.ShadedLists.{AreShadedIn};
 ghost use Rattle.acl_options.specs.CodeViews.{options_view};
 ghost use Rattle.aclgen_core.specs.PreparingSteps.{
   AddsFile,
@@ -20,7 +21,7 @@ use acl_host::Tree;
 use acl_load::{LoadFault, Loaded, load, policy_fault};
 use acl_options::Options;
 use acl_policy::Kind;
-use acl_report::report_terms;
+use acl_report::{ShadedLists, report_terms, shaded_lists};
 use acl_text::{Memory, Out, Refusal, Rejection, Whole};
 use std::alloc::Global;
 
@@ -72,18 +73,46 @@ fn judge(
     options: &Options<'_>,
     today: Day,
     loaded: &Loaded,
+    shaded: &ShadedLists,
 ) -> Result<FileDrafts, Refusal>
-    requires { All IsBlock loaded.now.policy.blocks }
+    requires blocks { All IsBlock loaded.now.policy.blocks }
+    requires shaded { AreShadedIn today loaded.now shaded.now }
     ensures { JudgesSo (options_view options.now) today loaded.now result }
 {
     let drafts = prepare(alloc, today, options.output, options.policy, loaded)?;
     if options.shade_check {
-        refuse_shaded(alloc, today, loaded)?;
+        refuse_shaded(alloc, loaded, shaded)?;
     }
     Ok(drafts)
 }
 
-// What is to be written of the policy, or the first fault of its filters and of its terms.
+// What is to be written of the policy, or the first fault of its filters and of its terms. The lists say which terms are
+// shaded.
+fn plan_with(
+    alloc: Global,
+    options: &Options<'_>,
+    today: Day,
+    loaded: &Loaded,
+    shaded: &ShadedLists,
+) -> Result<Work, Rejection>
+    requires fits { IsPolicy loaded.now.policy }
+    requires terms { AreResolvedIn loaded.now.definitions loaded.now.policy.blocks loaded.now.terms }
+    requires shaded { AreShadedIn today loaded.now shaded.now }
+    ensures { PlansLoaded (options_view options.now) today loaded.now result }
+{
+    match judge(alloc, options, today, loaded, shaded) {
+        Ok(drafts) => {
+            let report = report_terms(alloc, loaded, shaded, today, options.exp_info)?;
+            Ok(work_of(alloc, drafts, report)?)
+        }
+        Err(Refusal::Slip(slip)) => {
+            Err(Rejection::Fault(policy_fault(alloc, &loaded.sources, slip)?))
+        }
+        Err(Refusal::Memory) => Err(Rejection::Memory),
+    }
+}
+
+// The same, where it is not known yet which terms are shaded: that is found out once.
 fn plan(
     alloc: Global,
     options: &Options<'_>,
@@ -94,16 +123,8 @@ fn plan(
     requires terms { AreResolvedIn loaded.now.definitions loaded.now.policy.blocks loaded.now.terms }
     ensures { PlansLoaded (options_view options.now) today loaded.now result }
 {
-    match judge(alloc, options, today, loaded) {
-        Ok(drafts) => {
-            let report = report_terms(alloc, loaded, today, options.exp_info)?;
-            Ok(work_of(alloc, drafts, report)?)
-        }
-        Err(Refusal::Slip(slip)) => {
-            Err(Rejection::Fault(policy_fault(alloc, &loaded.sources, slip)?))
-        }
-        Err(Refusal::Memory) => Err(Rejection::Memory),
-    }
+    let shaded = shaded_lists(alloc, loaded, today)?;
+    plan_with(alloc, options, today, loaded, &shaded)
 }
 
 /// What is to be written for that day, or the first fault of the files.

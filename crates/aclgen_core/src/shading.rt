@@ -1,26 +1,31 @@
-ghost use Rattle.std.specs.Prelude.{zip};
+ghost use Rattle.std.specs.Prelude.{List, zip};
 ghost use Rattle.acl_text.specs.Refusals.{Judges, first_in};
+ghost use Rattle.acl_days.specs.declared.days.Day.{Day};
+ghost use Rattle.acl_target.specs.declared.targets.Target.{Target};
+ghost use Rattle.acl_shade.specs.ShadedPlaces.{AreShadedPlaces};
+ghost use Rattle.acl_report.specs.ShadedLists.{AreShadedIn, AreShadedLists};
 ghost use Rattle.aclgen_core.specs.ShadedSlips.{block_shaded, loaded_shaded, terms_shaded};
 
-use acl_days::Day;
 use acl_load::{Loaded, Terms};
-use acl_policy::{Block, Target};
+use acl_policy::Block;
+use acl_report::ShadedLists;
 use acl_shade::shading_term;
 use acl_terms::Term;
-use acl_text::{Code, Refusal};
+use acl_text::{Code, Items, Refusal};
 use std::alloc::Global;
 
 // Refuses the first term of a block that an earlier one shades.
 fn refuse_in_block(
     alloc: Global,
-    today: Day,
-    targets: &[Target],
     terms: &[Term],
+    places: &[Option<usize>],
 ) -> Result<(), Refusal>
-    ensures { Judges result (terms_shaded targets.now today terms.now) }
+    ensures { (targets : List Target) (today : Day)
+        → AreShadedPlaces targets today terms.now places.now
+        → Judges result (terms_shaded targets today terms.now) }
 {
     for (place, term) in terms.iter().enumerate() {
-        if let Some(other) = shading_term(terms, targets, today, place) {
+        if let Some(other) = shading_term(terms, places, place) {
             return Err(Refusal::at(alloc, Code::Shaded, term.place, other.name.as_slice()));
         }
     }
@@ -30,22 +35,31 @@ fn refuse_in_block(
 // The same of each block, whose terms are those of the list at its place.
 fn refuse_in_blocks(
     alloc: Global,
-    today: Day,
     blocks: &[Block],
     lists: &[Terms],
+    shaded: &[Items<Option<usize>>],
 ) -> Result<(), Refusal>
-    ensures { Judges result (first_in (block_shaded today) (zip blocks.now lists.now)) }
+    ensures { (today : Day) → AreShadedLists today (zip blocks.now lists.now) shaded.now
+        → Judges result (first_in (block_shaded today) (zip blocks.now lists.now)) }
 {
-    for (block, terms) in blocks.iter().zip(lists) {
-        refuse_in_block(alloc, today, block.targets.as_slice(), terms.as_slice())?;
-    }
-    Ok(())
+    let [_, more @ ..] = blocks else {
+        return Ok(());
+    };
+    let [terms, others @ ..] = lists else {
+        return Ok(());
+    };
+    let [places, rest @ ..] = shaded else {
+        return Ok(());
+    };
+    refuse_in_block(alloc, terms.as_slice(), places.as_slice())?;
+    refuse_in_blocks(alloc, more, others, rest)
 }
 
-/// Refuses the policy's first term that an earlier one of its block shades.
-pub fn refuse_shaded(alloc: Global, today: Day, loaded: &Loaded) -> Result<(), Refusal>
-    ensures { Judges result (loaded_shaded today loaded.now) }
+/// Refuses the policy's first term that an earlier one of its block shades that day.
+pub fn refuse_shaded(alloc: Global, loaded: &Loaded, shaded: &ShadedLists) -> Result<(), Refusal>
+    ensures { (today : Day) → AreShadedIn today loaded.now shaded.now
+        → Judges result (loaded_shaded today loaded.now) }
 {
     let blocks = loaded.policy.blocks.as_slice();
-    refuse_in_blocks(alloc, today, blocks, loaded.terms.as_slice())
+    refuse_in_blocks(alloc, blocks, loaded.terms.as_slice(), shaded.as_slice())
 }

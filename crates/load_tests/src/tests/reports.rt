@@ -1,11 +1,11 @@
-ghost use Rattle.std.specs.Prelude.{◌≡◌, true};
+ghost use Rattle.std.specs.Prelude.{◌≡◌, true, IfOk};
 
 use crate::tests::files::loaded;
 use acl_days::{Day, read_day};
 use acl_load::Loaded;
 use acl_memory::MemTree;
 use acl_policy::Block;
-use acl_report::{put_count, report_terms};
+use acl_report::{put_count, report_terms, shaded_lists};
 use acl_text::{Memory, Whole};
 use std::alloc::Global;
 use std::test::Fail;
@@ -46,10 +46,17 @@ fn put_counts(report: &mut Whole, blocks: &[Block], entries: u64) -> Result<(), 
     put_count(report, b"out/a.acl", target, entries)
 }
 
+fn terms_report(alloc: Global, loaded: &Loaded, today: Day, weeks: u16) -> Result<Whole, Memory>
+    ensures { IfOk result (λ report. report.is_open ≡ true) }
+{
+    let shaded = shaded_lists(alloc, loaded, today)?;
+    report_terms(alloc, loaded, &shaded, today, weeks)
+}
+
 // The report on the policy `pol/a.pol` that day, with five entries for its first target.
 fn report(alloc: Global, policy: &[u8], today: &[u8], weeks: u16) -> Result<Whole, Memory> {
     let loaded = load_policy(alloc, policy)?;
-    let mut report = report_terms(alloc, &loaded, day(today)?, weeks)?;
+    let mut report = terms_report(alloc, &loaded, day(today)?, weeks)?;
     put_counts(&mut report, loaded.policy.blocks.as_slice(), 5)?;
     Ok(report)
 }

@@ -5,7 +5,7 @@ use crate::tests::reading::{base, policy_of, terms_of, today};
 use acl_days::Day;
 use acl_naming::Checked;
 use acl_policy::Block;
-use acl_shade::shaded_by;
+use acl_shade::shaded_places;
 use acl_target::Target;
 use acl_terms::Term;
 use acl_text::{Memory, Refusal};
@@ -15,8 +15,8 @@ use std::test::Fail;
 // The terms in order: each by the place of the one that shades it, or by a dash.
 fn places(alloc: Global, terms: &[Term], targets: &[Target], day: Day) -> Result<String, Memory> {
     let mut shown = String::new(alloc);
-    for place in 0..terms.len() {
-        shown = match shaded_by(terms, targets, day, place) {
+    for place in shaded_places(alloc, terms, targets, day)?.as_slice() {
+        shown = match place {
             Some(earlier) => format!(in alloc; "{shown}{earlier}")?,
             None => format!(in alloc; "{shown}-")?,
         };
@@ -41,6 +41,16 @@ fn shown(alloc: Global, base: &Checked, terms: &str) -> Result<String, Refusal> 
     let text = format!(in alloc; "header {{ target:: cisco e target:: juniper e }}\n{terms}")?;
     let policy = policy_of(alloc, text.as_bytes())?;
     places_in(alloc, base, policy.blocks.as_slice())
+}
+
+// The terms with others behind them that are not live, so many that they are sifted.
+fn among_many(alloc: Global, terms: &str) -> Result<String, Memory> {
+    let mut text = String::from_str(alloc, terms)?;
+    for n in 0..64 {
+        let more = format!(in alloc; "\nterm p{n} {{ expiration:: 2026-01-15 action:: deny }}")?;
+        text.push_str(more.as_str())?;
+    }
+    Ok(text)
 }
 
 static SHADES: [(&str, &str); 41] = [
@@ -220,6 +230,9 @@ fn terms_are_shaded(rt: HostRuntime) -> Result<(), Fail> {
             *expected,
             "at {terms}"
         );
+        let many = among_many(rt.alloc(), terms)?;
+        let places = shown(rt.alloc(), &base, many.as_str())?;
+        assert!(rt; places.as_str().starts_with(*expected), "at {terms}");
     }
     Ok(())
 }

@@ -2,7 +2,7 @@ use Rattle.std.proofs.Common.{ℕ, List, subst}
 use Rattle.acl_options.specs.CodeViews.{options_view}
 use Rattle.aclgen_core.specs.PreparingSteps.{IsWorkOf}
 use Rattle.aclgen_core.proofs.PlanningLaws.{is-planned}
-use Rattle.aclgen_core.proofs.planning.plan.Goals as goal
+use Rattle.aclgen_core.proofs.planning.plan_with.Goals as goal
 
 pub returns-in_ok-work_of-in-Ok : goal.returns-in_ok-work_of-in-Ok
 returns-in_ok-work_of-in-Ok c =

@@ -1,0 +1,50 @@
+ghost use Rattle.std.specs.Prelude.{◌≡◌};
+ghost use Rattle.acl_shade.specs.Sifting.{asks_either_alone, is_asked, part_of};
+
+use acl_packet::Family;
+use acl_sets::RangeSet;
+use acl_terms::{Term, destination_in, either_in, is_empty_in, source_in};
+
+/// One of the sets of numbers that a term has.
+#[derive(Clone, Copy)]
+pub(crate) enum Part {
+    DestinationPorts,
+    SourcePorts,
+    Types,
+    Source(Family),
+    Destination(Family),
+    Either(Family),
+}
+
+/// The part of the term.
+pub(crate) fn part_of(part: Part, term: &Term) -> &RangeSet
+    ensures { result.now ≡ part_of part term.now }
+{
+    match part {
+        Part::DestinationPorts => &term.dports,
+        Part::SourcePorts => &term.sports,
+        Part::Types => &term.itypes,
+        Part::Source(family) => source_in(family, term),
+        Part::Destination(family) => destination_in(family, term),
+        Part::Either(family) => either_in(family, term),
+    }
+}
+
+// Whether the term asks nothing of the sources and of the destinations.
+fn asks_either_alone(family: Family, term: &Term) -> bool
+    ensures { result ≡ asks_either_alone family term.now }
+{
+    source_in(family, term).is_all() && destination_in(family, term).is_all()
+}
+
+/// Whether a term that shades this one has the numbers of this part of it. Addresses of a family in which the term is
+/// empty are not asked, and what it asks of either side only where it asks nothing of each.
+pub(crate) fn is_asked(part: Part, term: &Term) -> bool
+    ensures { result ≡ is_asked part term.now }
+{
+    match part {
+        Part::Source(family) | Part::Destination(family) => !is_empty_in(term, family),
+        Part::Either(family) => !is_empty_in(term, family) && asks_either_alone(family, term),
+        _ => true,
+    }
+}

@@ -1,0 +1,104 @@
+ghost use Rattle.std.specs.Prelude.{◌≡◌, ℕ, ◌<◌, ◌≤◌, IfOk, OnOk, length, slice_index};
+ghost use Rattle.std.specs.List.Sorted.{IsNonDecreasing};
+
+use crate::parts::{Part, part_of};
+use acl_sets::RangeSet;
+use acl_terms::Term;
+use acl_text::Memory;
+use std::alloc::Global;
+
+// No more numbers are looked at: a row for each of them takes 4 MB at 1,024 terms.
+const MOST: usize = 32_768;
+
+/// The place of the first of the rising numbers that is not below this one. Most often it is the one named.
+pub(crate) fn start_of(points: &[u128], near: usize, low: u128) -> usize
+    ensures within { result ≤ length points.now }
+    ensures below { IsNonDecreasing points.now → (k : ℕ) → k < result → slice_index points.now k < low }
+    ensures above { IsNonDecreasing points.now → result < length points.now
+        → low ≤ slice_index points.now result }
+{
+    if near < points.len() && low <= points[near] && (near == 0 || points[near - 1] < low) {
+        return near;
+    }
+    points.partition_point(|point| *point < low)
+}
+
+// Numbers that are gathered: those in order, and those that came since.
+#[derive(Drop)]
+struct Points {
+    known: Vec<u128>,
+    fresh: Vec<u128>,
+}
+
+impl Points {
+    // Puts what came since in order. Each number stands once.
+    fn settle(&mut self) -> Result<(), Memory>
+        ensures { OnOk result (IsNonDecreasing self.new.known.items) }
+    {
+        self.known.append(&mut self.fresh)?;
+        self.known.sort_unstable();
+        self.known.dedup();
+        Ok(())
+    }
+
+    // Adds the number, unless it is known. It gives the place where the next one is looked for.
+    fn note(&mut self, number: u128, near: usize) -> Result<usize, Memory> {
+        let at = start_of(&self.known, near, number);
+        match self.known.get(at) {
+            Some(point) if *point == number => Ok(at + 1),
+            _ => {
+                self.fresh.push(number)?;
+                Ok(at)
+            }
+        }
+    }
+
+    // Adds the ends of the set's ranges, as long as there is room: where each begins, and the number behind it.
+    fn add(&mut self, set: &RangeSet, room: usize) -> Result<(), Memory> {
+        let mut near = 0;
+        for range in set.ranges() {
+            if self.known.len().saturating_add(self.fresh.len()) >= room {
+                break;
+            }
+            near = self.note(range.low, near)?;
+            if range.high < set.top() {
+                near = self.note(range.high + 1, near)?;
+            }
+        }
+        if self.fresh.len() > self.known.len() / 4 {
+            self.settle()?;
+        }
+        Ok(())
+    }
+}
+
+// How many numbers are looked at besides one for each term: the ends of the longest part, but not many more than the
+// parts have ranges.
+fn room_for(part: Part, terms: &[Term]) -> usize {
+    let mut longest: usize = 0;
+    let mut all: usize = 0;
+    for term in terms {
+        let ranges = part_of(part, term).ranges();
+        longest = longest.max(ranges.len());
+        all = all.saturating_add(ranges.len());
+    }
+    longest.saturating_mul(2).min(all / 8)
+}
+
+/// Numbers that tell the terms' parts apart, in rising order: ends of their ranges. Where a set does not lie within
+/// another, it has a number that is a low end of its own, or that stands behind a range of the other.
+pub(crate) fn points_of(alloc: Global, part: Part, terms: &[Term]) -> Result<Vec<u128>, Memory>
+    ensures { IfOk result (λ points. IsNonDecreasing points.items) }
+{
+    let mut points = Points {
+        known: Vec::new(alloc),
+        fresh: Vec::new(alloc),
+    };
+    let mut room = room_for(part, terms);
+    for term in terms {
+        room = MOST.min(room.saturating_add(1));
+        points.add(part_of(part, term), room)?;
+    }
+    points.settle()?;
+    Ok(points.known)
+}
