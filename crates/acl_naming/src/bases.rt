@@ -144,7 +144,7 @@ pub fn networks_of(
 {
     let wanted = Wanted::Addresses(family);
     let ranges = ranges_of(alloc, &base.networks, wanted, name)?;
-    Ok(RangeSet::from_ranges(alloc, top_of(wanted), &ranges)?)
+    Ok(RangeSet::from_vec(alloc, top_of(wanted), ranges)?)
 }
 
 /// The ports that the name reaches with the protocol.
@@ -170,5 +170,5 @@ pub fn ports_of(alloc: Global, base: &Checked, proto: u8, name: &[u8]) -> Result
     if ranges.is_empty() {
         return Err(Lookup::NoPort);
     }
-    Ok(RangeSet::from_ranges(alloc, top_of(wanted), &ranges)?)
+    Ok(RangeSet::from_vec(alloc, top_of(wanted), ranges)?)
 }

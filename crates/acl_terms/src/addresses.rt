@@ -59,8 +59,8 @@ fn named(alloc: Global, base: &Checked, words: &WordList) -> Result<Addresses, R
     ensures v6 { IfOk result (λ a. IsSetOf (λ x. AnyOf (NamesAddress base.now V6 x) words.now)
         (top_address V6) a.v6) }
 {
-    let mut v4 = RangeSet::empty(alloc, Family::V4.top_address());
-    let mut v6 = RangeSet::empty(alloc, Family::V6.top_address());
+    let mut v4 = RangeSet::empty(alloc, Family::V4.top_address())?;
+    let mut v6 = RangeSet::empty(alloc, Family::V6.top_address())?;
     let mut left = NewWords::new(alloc, words);
     while let Some(word) = left.next()? {
         let more4 = networks_in(alloc, base, Family::V4, &word)?;
