@@ -3,7 +3,7 @@ ghost use Rattle.std.specs.List.{All};
 ghost use Rattle.acl_sets.specs.Ranges.{holds, IsRange, IsNormal, OneNormalList};
 ghost use Rattle.acl_sets.specs.ComputableSets.{put_all, cut_all, shared_all, is_all, all_covered};
 
-use crate::shared_lists::SharedList;
+use crate::range_lists::RangeList;
 use crate::sweeps;
 use acl_text::Memory;
 use std::alloc::Global;
@@ -24,7 +24,7 @@ pub struct Range {
 #[derive(Debug, Drop)]
 pub struct RangeSet {
     limit: u128,
-    list: SharedList<Range>,
+    list: RangeList,
 }
 
 impl Model for RangeSet {
@@ -47,7 +47,7 @@ impl RangeSet {
     {
         Ok(RangeSet {
             limit: top,
-            list: SharedList::new(alloc, Vec::new(alloc))?,
+            list: RangeList::new(alloc, Vec::new(alloc))?,
         })
     }
 
@@ -61,7 +61,7 @@ impl RangeSet {
         let whole = Range { low: 0, high: top };
         Ok(RangeSet {
             limit: top,
-            list: SharedList::new(alloc, Vec::from_slice(alloc, &[whole])?)?,
+            list: RangeList::of_one(whole),
         })
     }
 
@@ -88,7 +88,7 @@ impl RangeSet {
         let merged = sweeps::merged(alloc, &rising)?;
         Ok(RangeSet {
             limit: top,
-            list: SharedList::new(alloc, merged)?,
+            list: RangeList::new(alloc, merged)?,
         })
     }
 
@@ -104,7 +104,7 @@ impl RangeSet {
         let united = sweeps::united(alloc, self.list.as_slice(), other.list.as_slice())?;
         Ok(RangeSet {
             limit: self.limit,
-            list: SharedList::new(alloc, united)?,
+            list: RangeList::new(alloc, united)?,
         })
     }
 
@@ -123,7 +123,7 @@ impl RangeSet {
         let cut = sweeps::cut(alloc, self.list.as_slice(), other.list.as_slice())?;
         Ok(RangeSet {
             limit: self.limit,
-            list: SharedList::new(alloc, cut)?,
+            list: RangeList::new(alloc, cut)?,
         })
     }
 
@@ -140,7 +140,7 @@ impl RangeSet {
         let shared = sweeps::shared(alloc, self.list.as_slice(), other.list.as_slice())?;
         Ok(RangeSet {
             limit: self.limit,
-            list: SharedList::new(alloc, shared)?,
+            list: RangeList::new(alloc, shared)?,
         })
     }
 
