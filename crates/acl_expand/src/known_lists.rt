@@ -60,6 +60,7 @@ fn new_list(alloc: Global, family: Family, set: &RangeSet) -> Result<Prefixes, M
 }
 
 impl KnownList {
+    #[tactic(auto, using(crate::proofs::SetForms::same_list))]
     fn is_of(&self, family: Family, set: &RangeSet) -> bool
         ensures { result ≡ true → self.now.list ≡ least_list family set.now }
     {
