@@ -14,7 +14,7 @@ enum Held {
 }
 
 /// The ranges of a set. A contract sees the list.
-#[derive(Debug, Drop)]
+#[derive(Debug)]
 pub(crate) struct RangeList {
     held: Held,
 }
@@ -27,6 +27,14 @@ impl Model for RangeList {
     ghost Value = { List Range };
 
     ghost view = { λ l. ranges_in l.held };
+}
+
+// Where a set is let go, that is one step, whatever it holds.
+impl Drop for RangeList {
+    fn drop(self) {
+        let RangeList { held } = self;
+        drop(held);
+    }
 }
 
 impl RangeList {
