@@ -1,4 +1,4 @@
-ghost use Rattle.std.specs.Prelude.{◌≡◌, ◌+◌, ◌^◌, ◌∷◌, [], IfOk, IfSome};
+ghost use Rattle.std.specs.Prelude.{◌≡◌, ◌+◌, ◌^◌, ◌∷◌, [], true, IfOk, IfSome};
 ghost use Rattle.acl_packet.specs.Addresses.{everywhere, width_of};
 ghost use Rattle.acl_expand.specs.TermRules.{least_list};
 
