@@ -7,6 +7,7 @@ use Rattle.std.proofs.lemmas.Bool.{or_parts}
 use Rattle.std.proofs.lemmas.Bool.{and_left, or_from, both_ways, false_from_ne_true, eqb-true, eq-eqb, le-leb}
 use Rattle.acl_packet.specs.declared.addresses.Family.{Family}
 use Rattle.acl_packet.specs.declared.addresses.Family.TheVariants.{V4, V6}
+use Rattle.acl_packet.specs.declared.addresses.Prefix.{Prefix}
 use Rattle.acl_packet.specs.Addresses.{top_address, width_of, everywhere}
 use Rattle.acl_sets.specs.declared.sets.Range.{Range}
 use Rattle.acl_sets.specs.ComputableLeastLists.{halved_space, last_of}
@@ -94,6 +95,11 @@ all_listed V6 s e h = step_whole V6 s.ranges 128 0 (ap (covers s.ranges 0) (last
   where
     last : (f : Family) (top : ℕ) → top + 1 ≡ 2 ^ width_of f → last_of (width_of f) 0 ≡ top
     last f top e = omega (arith, e)
+
+-- sets of the same ranges have one list
+pub same_list : (f g : Family) (s t : Numbers) (ps : List Prefix) → ps ≡ least_list f s → f ≡ g → s.ranges ≡ t.ranges
+    → ps ≡ least_list g t
+same_list f g s t ps h e r = h ∙ ap (λ k. halved_space k s.ranges) e ∙ ap (λ rs. halved_space g rs) r
 
 end-of : (f : Family) (top : ℕ) → top ≡ top_address f → top + 1 ≡ 2 ^ width_of f
 end-of V4 top e = ap (λ n. n + 1) e

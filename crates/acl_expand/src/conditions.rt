@@ -66,7 +66,7 @@ fn without(alloc: Global, set: &RangeSet, number: u8) -> Result<RangeSet, Memory
     if set.contains(u128::from(number)) {
         set.subtract(alloc, &only_protocol(alloc, number)?)
     } else {
-        set.copy(alloc)
+        set.share()
     }
 }
 
@@ -74,7 +74,7 @@ fn protocols_in(alloc: Global, family: Family, term: &Term) -> Result<RangeSet, 
     ensures { IfOk result (λ s. s ≡ protocols_in family term.now) }
 {
     if term.protos.is_all() {
-        term.protos.copy(alloc)
+        term.protos.share()
     } else {
         without(alloc, &term.protos, family.foreign_number())
     }

@@ -6,6 +6,7 @@ ghost use Rattle.acl_expand.specs.Expansions.{DecidesAsTerms, filter_of, filter_
 ghost use Rattle.acl_expand.specs.ExpansionSlips.{first_slip, most_prefixes, prefixes_with, term_slip};
 ghost use Rattle.acl_expand.specs.TermRules.{rules_of, term_rules};
 
+use crate::known_lists::KnownLists;
 use crate::rule_making::push_term;
 use crate::slips::{check_header, check_prefixes, prefixes_behind};
 use acl_days::Day;
@@ -18,6 +19,7 @@ use std::alloc::Global;
 // Adds the rules of the term, and gives the number of prefixes with them.
 fn add_term(
     alloc: Global,
+    lists: &mut KnownLists,
     rules: &mut Rules,
     prefixes: u64,
     target: &Target,
@@ -30,7 +32,7 @@ fn add_term(
 {
     check_header(alloc, target, today, term)?;
     let before = rules.as_slice().len();
-    push_term(alloc, rules, target, today, term)?;
+    push_term(alloc, lists, rules, target, today, term)?;
     let total = prefixes_behind(prefixes, &rules.as_slice()[before..]);
     check_prefixes(alloc, term, total)?;
     Ok(total)
@@ -40,6 +42,7 @@ fn add_term(
 #[tactic(auto, unfolding(crate::specs::ExpansionSlips::first_slip))]
 pub(crate) fn rules_of(
     alloc: Global,
+    lists: &mut KnownLists,
     terms: &[Term],
     target: &Target,
     today: Day,
@@ -50,7 +53,7 @@ pub(crate) fn rules_of(
     let mut rules = Items::new(alloc);
     let mut prefixes = 0;
     for term in terms {
-        prefixes = add_term(alloc, &mut rules, prefixes, target, today, term)?;
+        prefixes = add_term(alloc, lists, &mut rules, prefixes, target, today, term)?;
     }
     Ok(rules)
 }
@@ -92,7 +95,8 @@ pub fn expand(alloc: Global, terms: &[Term], target: &Target, today: Day) -> Res
     ensures sound { IfOk result IsSound }
     ensures decides { IfOk result (DecidesAsTerms target.now today terms.now) }
 {
-    let rules = rules_of(alloc, terms, target, today)?;
+    let mut lists = KnownLists::new(alloc);
+    let rules = rules_of(alloc, &mut lists, terms, target, today)?;
     let shared = SharedRules::new(alloc, rules)?;
     Ok(filter_with(alloc, target, shared)?)
 }

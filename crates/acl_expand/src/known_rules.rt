@@ -10,6 +10,7 @@ ghost use Rattle.acl_expand.specs.KnownRuleSteps.{rules_for, target_rules};
 ghost use Rattle.acl_expand.specs.TermRules.{rules_of};
 
 use crate::expanding::{filter_with, rules_of};
+use crate::known_lists::KnownLists;
 use acl_days::Day;
 use acl_packet::Families;
 use acl_platform::{Filter, SharedRules};
@@ -45,6 +46,7 @@ impl TargetRules {
 #[derive(Drop)]
 pub struct KnownRules {
     lists: Items<TargetRules>,
+    least: KnownLists,
 }
 
 // The rules that are known for the target.
@@ -66,6 +68,7 @@ impl KnownRules {
     {
         KnownRules {
             lists: Items::new(alloc),
+            least: KnownLists::new(alloc),
         }
     }
 
@@ -97,7 +100,7 @@ impl KnownRules {
         if let Some(rules) = rules_for(self.lists.as_slice(), target) {
             return Ok(rules.share()?);
         }
-        let rules = rules_of(alloc, terms, target, today)?;
+        let rules = rules_of(alloc, &mut self.least, terms, target, today)?;
         let shared = SharedRules::new(alloc, rules)?;
         self.keep(target, shared.share()?)?;
         Ok(shared)

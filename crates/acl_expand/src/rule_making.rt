@@ -1,5 +1,4 @@
-ghost use Rattle.std.specs.Prelude.{◌≡◌, ◌+◌, ◌^◌, ◌++◌, [], ◌∷◌, IfOk, OnOk, map, flat_map, false};
-ghost use Rattle.acl_packet.specs.Addresses.{everywhere, width_of};
+ghost use Rattle.std.specs.Prelude.{◌≡◌, ◌++◌, [], ◌∷◌, IfOk, OnOk, map, flat_map};
 ghost use Rattle.acl_sets.specs.Ranges.{holds};
 ghost use Rattle.acl_terms.specs.Outcomes.{denied, mode_of};
 ghost use Rattle.acl_terms.specs.Resolved.{destinations_on, is_term_live, sources_on};
@@ -23,10 +22,11 @@ ghost use Rattle.acl_expand.specs.TermRules.{
 };
 
 use crate::conditions::{Conditions, tcp_half, udp_alone, udp_half, whole};
+use crate::known_lists::KnownLists;
 use acl_days::Day;
-use acl_packet::{Families, Family, Prefix, Verdict};
+use acl_packet::{Families, Family, Verdict};
 use acl_platform::{Rule, Rules, Test};
-use acl_sets::{Prefixes, RangeSet, least_prefixes};
+use acl_sets::Prefixes;
 use acl_target::{Kind, Target};
 use acl_terms::{
     Mode, Opt, Side, SidePair, Term, destination_in, either_in, is_live, is_pair_empty, pairs_of,
@@ -53,57 +53,47 @@ fn verdict_on(kind: Kind, verdict: Verdict) -> Verdict
     }
 }
 
-// The list of all addresses of the family.
-fn everywhere(alloc: Global, family: Family) -> Result<Prefixes, Memory>
-    ensures { IfOk result (λ ps. ps ≡ everywhere family ∷ []) }
-{
-    let mut prefixes = Prefixes::with_capacity(alloc, 1)?;
-    prefixes.push(Prefix::everywhere(family))?;
-    Ok(prefixes)
-}
-
-// The least list of a set. Most rules have all addresses on one side, for which nothing has to be computed.
-#[tactic(auto, using(crate::proofs::SetForms::all_listed))]
-fn list_of(alloc: Global, family: Family, set: &RangeSet) -> Result<Prefixes, Memory>
-    requires { set.now.top + 1 ≡ 2 ^ width_of family }
-    ensures { IfOk result (λ ps. ps ≡ least_list family set.now) }
-{
-    if set.is_all() {
-        everywhere(alloc, family)
-    } else {
-        least_prefixes(alloc, set, family)
-    }
-}
-
 // The least list of the term's sources on the side, in the family.
 #[tactic(auto, using(acl_terms::proofs::SideLaws::source_tops, crate::proofs::SideForms::source_end))]
-fn sources(alloc: Global, family: Family, term: &Term, side: Side) -> Result<Prefixes, Memory>
+fn sources(
+    alloc: Global,
+    lists: &mut KnownLists,
+    family: Family,
+    term: &Term,
+    side: Side,
+) -> Result<Prefixes, Memory>
     ensures { IfOk result (λ ps. ps ≡ least_list family (sources_on side family term.now)) }
 {
     let set = source_in(family, term);
     match side {
-        Side::Source => list_of(
+        Side::Source => lists.list_of(
             alloc,
             family,
             &set.intersect(alloc, either_in(family, term))?,
         ),
-        Side::Whole | Side::Destination => list_of(alloc, family, set),
+        Side::Whole | Side::Destination => lists.list_of(alloc, family, set),
     }
 }
 
 // The least list of its destinations on the side.
 #[tactic(auto, using(acl_terms::proofs::SideLaws::destination_tops, crate::proofs::SideForms::destination_end))]
-fn destinations(alloc: Global, family: Family, term: &Term, side: Side) -> Result<Prefixes, Memory>
+fn destinations(
+    alloc: Global,
+    lists: &mut KnownLists,
+    family: Family,
+    term: &Term,
+    side: Side,
+) -> Result<Prefixes, Memory>
     ensures { IfOk result (λ ps. ps ≡ least_list family (destinations_on side family term.now)) }
 {
     let set = destination_in(family, term);
     match side {
-        Side::Destination => list_of(
+        Side::Destination => lists.list_of(
             alloc,
             family,
             &set.intersect(alloc, either_in(family, term))?,
         ),
-        Side::Whole | Side::Source => list_of(alloc, family, set),
+        Side::Whole | Side::Source => lists.list_of(alloc, family, set),
     }
 }
 
@@ -149,7 +139,12 @@ struct PairTerm<'a> {
 
 impl<'a> PairTerm<'a> {
     // The rule of the term with the conditions.
-    fn rule(&self, alloc: Global, conditions: Conditions) -> Result<Rule, Memory>
+    fn rule(
+        &self,
+        alloc: Global,
+        lists: &mut KnownLists,
+        conditions: Conditions,
+    ) -> Result<Rule, Memory>
         ensures { IfOk result (λ r. r
             ≡ rule_of self.now.kind self.now.family self.now.term.now self.now.pair conditions) }
     {
@@ -159,12 +154,12 @@ impl<'a> PairTerm<'a> {
             place: term.place,
             note: Bytes::from_slice(alloc, term.note.as_slice())?,
             family: self.family,
-            src: sources(alloc, self.family, term, self.pair.addresses)?,
-            dst: destinations(alloc, self.family, term, self.pair.addresses)?,
+            src: sources(alloc, lists, self.family, term, self.pair.addresses)?,
+            dst: destinations(alloc, lists, self.family, term, self.pair.addresses)?,
             protos: conditions.protos,
             sports: sports_on(alloc, self.pair.ports, term)?,
             dports: conditions.dports,
-            itypes: term.itypes.copy(alloc)?,
+            itypes: term.itypes.share()?,
             test: conditions.test,
             verdict: verdict_on(self.kind, term.verdict),
             log: term.log,
@@ -172,17 +167,24 @@ impl<'a> PairTerm<'a> {
     }
 
     // Adds that rule at the end.
-    fn push(&self, alloc: Global, rules: &mut Rules, conditions: Conditions) -> Result<(), Memory>
+    fn push(
+        &self,
+        alloc: Global,
+        lists: &mut KnownLists,
+        rules: &mut Rules,
+        conditions: Conditions,
+        ) -> Result<(), Memory>
         ensures { OnOk result (rules.new ≡ rules.old ++ rule_of self.now.kind self.now.family
             self.now.term.now self.now.pair conditions ∷ []) }
     {
-        rules.push(self.rule(alloc, conditions)?)
+        rules.push(self.rule(alloc, lists, conditions)?)
     }
 
     // The same, where the conditions leave some destination port.
     fn push_with_ports(
         &self,
         alloc: Global,
+        lists: &mut KnownLists,
         rules: &mut Rules,
         conditions: Conditions,
     ) -> Result<(), Memory>
@@ -193,72 +195,99 @@ impl<'a> PairTerm<'a> {
         if conditions.dports.is_empty() {
             Ok(())
         } else {
-            self.push(alloc, rules, conditions)
+            self.push(alloc, lists, rules, conditions)
         }
     }
 
     // The same with the term's own protocols and ports, and a test.
-    fn push_whole(&self, alloc: Global, rules: &mut Rules, test: Test) -> Result<(), Memory>
+    fn push_whole(
+        &self,
+        alloc: Global,
+        lists: &mut KnownLists,
+        rules: &mut Rules,
+        test: Test,
+        ) -> Result<(), Memory>
         ensures { OnOk result (rules.new ≡ rules.old ++ rule_of self.now.kind self.now.family
             self.now.term.now self.now.pair
             (whole self.now.family self.now.term.now self.now.pair.ports test) ∷ []) }
     {
         let conditions = whole(alloc, self.family, self.term, self.pair.ports, test)?;
-        self.push(alloc, rules, conditions)
+        self.push(alloc, lists, rules, conditions)
     }
 
     // The two rules of `established` over TCP and UDP, where connections are not known.
-    fn push_halves(&self, alloc: Global, rules: &mut Rules) -> Result<(), Memory>
+    fn push_halves(
+        &self,
+        alloc: Global,
+        lists: &mut KnownLists,
+        rules: &mut Rules,
+        ) -> Result<(), Memory>
         ensures { OnOk result (rules.new ≡ rules.old
             ++ map (rule_of self.now.kind self.now.family self.now.term.now self.now.pair)
             (tcp_half self.now.term.now self.now.pair.ports
             ∷ with_ports (udp_half self.now.term.now self.now.pair.ports))) }
     {
         let tcp = tcp_half(alloc, self.term, self.pair.ports)?;
-        self.push(alloc, rules, tcp)?;
+        self.push(alloc, lists, rules, tcp)?;
         let udp = udp_half(alloc, self.term, self.pair.ports)?;
-        self.push_with_ports(alloc, rules, udp)
+        self.push_with_ports(alloc, lists, rules, udp)
     }
 
-    fn push_udp(&self, alloc: Global, rules: &mut Rules) -> Result<(), Memory>
+    fn push_udp(
+        &self,
+        alloc: Global,
+        lists: &mut KnownLists,
+        rules: &mut Rules,
+        ) -> Result<(), Memory>
         ensures { OnOk result (rules.new ≡ rules.old
             ++ map (rule_of self.now.kind self.now.family self.now.term.now self.now.pair)
             (with_ports (udp_alone self.now.family self.now.term.now self.now.pair.ports))) }
     {
         let udp = udp_alone(alloc, self.family, self.term, self.pair.ports)?;
-        self.push_with_ports(alloc, rules, udp)
+        self.push_with_ports(alloc, lists, rules, udp)
     }
 
     // The rules of `established` where connections are not known.
-    fn push_established(&self, alloc: Global, rules: &mut Rules) -> Result<(), Memory>
+    fn push_established(
+        &self,
+        alloc: Global,
+        lists: &mut KnownLists,
+        rules: &mut Rules,
+        ) -> Result<(), Memory>
         ensures { OnOk result (rules.new ≡ rules.old
             ++ map (rule_of self.now.kind self.now.family self.now.term.now self.now.pair)
             (conditions_by Opt.Established Mode.Stateless self.now.family self.now.term.now
             self.now.pair.ports)) }
     {
         match (self.term.protos.contains(6), self.term.protos.contains(17)) {
-            (true, true) => self.push_halves(alloc, rules),
-            (true, false) => self.push_whole(alloc, rules, Test::AckOrRst),
-            (false, _) => self.push_udp(alloc, rules),
+            (true, true) => self.push_halves(alloc, lists, rules),
+            (true, false) => self.push_whole(alloc, lists, rules, Test::AckOrRst),
+            (false, _) => self.push_udp(alloc, lists, rules),
         }
     }
 
     // The rules of the term on a pair of sides that is not empty in the family.
-    fn push_by_option(&self, alloc: Global, rules: &mut Rules, mode: Mode) -> Result<(), Memory>
+    fn push_by_option(
+        &self,
+        alloc: Global,
+        lists: &mut KnownLists,
+        rules: &mut Rules,
+        mode: Mode,
+        ) -> Result<(), Memory>
         ensures { OnOk result (rules.new ≡ rules.old
             ++ map (rule_of self.now.kind self.now.family self.now.term.now self.now.pair)
             (conditions_by self.now.term.now.option mode self.now.family self.now.term.now
             self.now.pair.ports)) }
     {
         let test = match (self.term.option, mode) {
-            (Opt::Established, Mode::Stateless) => return self.push_established(alloc, rules),
+            (Opt::Established, Mode::Stateless) => return self.push_established(alloc, lists, rules),
             (Opt::Plain, _) => Test::Plain,
             (Opt::Established | Opt::TcpEstablished, Mode::Stateful) => Test::State,
             (Opt::TcpEstablished, Mode::Stateless) => Test::AckOrRst,
             (Opt::TcpInitial, _) => Test::SynNotAck,
             (Opt::Rst, _) => Test::Rst,
         };
-        self.push_whole(alloc, rules, test)
+        self.push_whole(alloc, lists, rules, test)
     }
 }
 
@@ -276,6 +305,7 @@ fn mode_of(target: &Target) -> Mode
 #[tactic(auto, unfolding(crate::specs::TermRules::pair_rules))]
 fn push_pair(
     alloc: Global,
+    lists: &mut KnownLists,
     rules: &mut Rules,
     target: &Target,
     family: Family,
@@ -293,13 +323,14 @@ fn push_pair(
         term,
         pair,
     };
-    term.push_by_option(alloc, rules, mode_of(target))
+    term.push_by_option(alloc, lists, rules, mode_of(target))
 }
 
 // Adds the rules of the term in the family, on each pair of its sides.
 #[tactic(auto, unfolding(crate::specs::TermRules::family_rules))]
 fn push_family(
     alloc: Global,
+    lists: &mut KnownLists,
     rules: &mut Rules,
     target: &Target,
     family: Family,
@@ -309,7 +340,7 @@ fn push_family(
 {
     let pairs = pairs_of(term);
     for pair in pairs {
-        push_pair(alloc, rules, target, family, term, *pair)?;
+        push_pair(alloc, lists, rules, target, family, term, *pair)?;
     }
     Ok(())
 }
@@ -317,6 +348,7 @@ fn push_family(
 // Adds the rules of the term in each family of the target.
 fn push_families(
     alloc: Global,
+    lists: &mut KnownLists,
     rules: &mut Rules,
     target: &Target,
     term: &Term,
@@ -325,11 +357,11 @@ fn push_families(
         ++ flat_map (family_rules target.now term.now) (members target.now.families)) }
 {
     match target.families {
-        Families::Inet => push_family(alloc, rules, target, Family::V4, term),
-        Families::Inet6 => push_family(alloc, rules, target, Family::V6, term),
+        Families::Inet => push_family(alloc, lists, rules, target, Family::V4, term),
+        Families::Inet6 => push_family(alloc, lists, rules, target, Family::V6, term),
         Families::Mixed => {
-            push_family(alloc, rules, target, Family::V4, term)?;
-            push_family(alloc, rules, target, Family::V6, term)
+            push_family(alloc, lists, rules, target, Family::V4, term)?;
+            push_family(alloc, lists, rules, target, Family::V6, term)
         }
     }
 }
@@ -338,6 +370,7 @@ fn push_families(
 #[tactic(auto, unfolding(crate::specs::TermRules::term_rules))]
 pub(crate) fn push_term(
     alloc: Global,
+    lists: &mut KnownLists,
     rules: &mut Rules,
     target: &Target,
     today: Day,
@@ -348,5 +381,5 @@ pub(crate) fn push_term(
     if !is_live(term, target.kind, today) {
         return Ok(());
     }
-    push_families(alloc, rules, target, term)
+    push_families(alloc, lists, rules, target, term)
 }

@@ -8,3 +8,4 @@ pub mod ReachLaws
 pub mod ReadLaws
 pub mod TableLaws
 pub mod WalkLaws
+pub mod ClearedMarks

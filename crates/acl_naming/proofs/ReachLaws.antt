@@ -1,8 +1,8 @@
 -- Ranges of what the definitions at places hold.
-use Rattle.std.proofs.Common.{◌≡◌, ℕ, ◌↔◌, ◌<◌, ◌+◌, Bool, true, false, ◌||◌, ◌==◌, nat_lt, take, get_or, List, [], ◌∷◌, length, Some, inl, inr, ap, sym, ◌∙◌, refl}
+use Rattle.std.proofs.Common.{◌≡◌, ℕ, ◌↔◌, ◌⊎◌, ◌<◌, ◌+◌, Bool, true, false, ◌||◌, ◌==◌, nat_lt, take, get_or, List, [], ◌∷◌, length, Some, inl, inr, ap, sym, subst, ◌∙◌, refl}
 use Rattle.std.specs.List.{list_any}
 use Rattle.std.proofs.Math.Bool.{or_assoc, or-false}
-use Rattle.std.proofs.lemmas.Bool.{eq-eqb, eqb-true, or_cases, or_left, or_right}
+use Rattle.std.proofs.lemmas.Bool.{both_ways, eq-eqb, eqb-true, or_cases, or_left, or_right}
 use Rattle.std.proofs.lemmas.List.Elements.{All-nil}
 use Rattle.std.proofs.lemmas.List.Folds.{list_any_more}
 use Rattle.acl_sets.specs.declared.sets.Range.{Range}
@@ -13,7 +13,7 @@ use Rattle.acl_naming.specs.Definitions.{Definition, index_of, items_at}
 use Rattle.acl_naming.specs.GraphSteps.{AreBehind}
 use Rattle.acl_naming.specs.MarkSteps.{among}
 use Rattle.acl_naming.specs.Reach.{Reaches}
-use Rattle.acl_naming.specs.LookupSteps.{top_of, has_number, is_wanted, Collects, IsReach, any_at, any_item}
+use Rattle.acl_naming.specs.LookupSteps.{top_of, has_number, is_wanted, AddsReach, Collects, IsReach, any_at, any_item}
 use Rattle.acl_naming.proofs.WalkLaws.{AreReached, places_reach, reached_too}
 
 -- first one collection, then another
@@ -71,16 +71,43 @@ reaches_any base name i places test e reached =
     let law = places_reach base name i places e test reached in
     (λ h. law.0 (any_there base places test h), λ r. let p = law.1 r in any_back base places p.0 test p.1 p.2)
 
-pub collects_reach : (base : List Definition) (name : List ℕ) (i : ℕ) (places : List ℕ) (w : Wanted) (ranges : List Range) → index_of base name ≡ Some i
-    → AreBehind base i places → Collects w (any_at base (i ∷ places)) [] ranges → IsReach base name w ranges
-collects_reach base name i places w ranges e behind h =
+collects_adds : (base : List Definition) (name : List ℕ) (i : ℕ) (places : List ℕ) (w : Wanted) (old new : List Range)
+    → index_of base name ≡ Some i → AreBehind base i places → Collects w (any_at base (i ∷ places)) old new
+    → AddsReach base name w old new
+collects_adds base name i places w old new e behind h =
     let law : (test : Item → Bool) → (any_at base (i ∷ places) test ≡ true) ↔ Reaches base name test =
     λ test. reaches_any base name i (i ∷ places) test e (reached_too base i places behind) in
     record {
-      fits = h.fits (All-nil (λ r. IsRange (top_of w) r));
-      exact = λ x. (λ t. (law (has_number w x)).0 (sym (h.exact x) ∙ t), λ r. h.exact x ∙ (law (has_number w x)).1 r);
-      some = (λ t. (law (is_wanted w)).0 (sym h.some ∙ t), λ r. h.some ∙ (law (is_wanted w)).1 r);
+      fits = h.fits;
+      exact = λ x. either (holds old x) (any_at base (i ∷ places) (has_number w x)) (holds new x) (Reaches base name (has_number w x))
+          (h.exact x) (law (has_number w x));
+      some = either (nat_lt 0 (length old)) (any_at base (i ∷ places) (is_wanted w)) (nat_lt 0 (length new)) (Reaches base name (is_wanted w))
+          h.some (law (is_wanted w));
     }
+  where
+    either : (a t n : Bool) (P : Type 0) → n ≡ (a || t) → (t ≡ true) ↔ P → (n ≡ true) ↔ ((a ≡ true) ⊎ P)
+    either a t n P is l = (
+      λ k. elim (or_cases a t (sym is ∙ k)) [ inl s ↦ inl s | inr s ↦ inr (l.0 s) ],
+      λ k. elim k [ inl s ↦ is ∙ or_left a t s | inr p ↦ is ∙ or_right a t (l.1 p) ],
+    )
+
+-- as it is told of the table, and of the places as they are read
+pub adds_all : (base table : List Definition) (name : List ℕ) (i : ℕ) (places read : List ℕ) (w : Wanted) (old new : List Range)
+    → table ≡ base → Some i ≡ index_of table name → AreBehind base i places → read ≡ places
+    → Collects w (any_at table (i ∷ read)) old new → AddsReach base name w old new
+adds_all base table name i places read w old new same there behind all h =
+    collects_adds base name i places w old new (ap (λ (ds : List Definition). index_of ds name) (sym same) ∙ sym there) behind
+    (subst (λ (ds : List Definition). Collects w (any_at ds (i ∷ places)) old new) same
+    (subst (λ (js : List ℕ). Collects w (any_at table (i ∷ js)) old new) all h))
+
+pub adds_reach : (base : List Definition) (name : List ℕ) (w : Wanted) (ranges : List Range) → AddsReach base name w [] ranges
+    → IsReach base name w ranges
+adds_reach base name w ranges h = record {
+  fits = h.fits (All-nil (λ r. IsRange (top_of w) r));
+  exact = λ x. let law = h.exact x in
+      (λ t. elim (law.0 t) [ inl none ↦ absurd (both_ways false refl none) | inr r ↦ r ], λ r. law.1 (inr r));
+  some = (λ t. elim (h.some.0 t) [ inl none ↦ absurd (both_ways false refl none) | inr r ↦ r ], λ r. h.some.1 (inr r));
+}
 
 -- ---- one place after the other
 

@@ -18,6 +18,9 @@ use Rattle.acl_naming.proofs.GraphLaws.{option_cases, index_name, same_index, it
 pub blank_length : (base : List Definition) → length (blank base) ≡ length base
 blank_length base = length-replicate (length base) false
 
+pub cleared : (base : List Definition) (m : List Bool) (n : ℕ) → n ≡ length base → m ≡ replicate n false → m ≡ blank base
+cleared base m n e h = h ∙ ap (λ k. replicate k false) e
+
 pub blank_unmarked : (n i : ℕ) → marked (replicate n false) i ≡ true → ⊥
 blank_unmarked zero i h = cc
 blank_unmarked (suc n) zero h = cc

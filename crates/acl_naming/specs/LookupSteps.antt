@@ -1,5 +1,5 @@
 -- What is looked up of a name: addresses of a family, or ports of a protocol.
-use Rattle.std.specs.Prelude.{◌≡◌, ◌↔◌, ℕ, Bool, true, false, ◌||◌, nat_lt, List, length, Option, None, Some}
+use Rattle.std.specs.Prelude.{◌≡◌, ◌↔◌, ◌⊎◌, ℕ, Bool, true, false, ◌||◌, nat_lt, List, length, Option, None, Some}
 use Rattle.std.specs.List.{list_any, All}
 use Rattle.acl_sets.specs.declared.sets.Range.{Range}
 use Rattle.acl_sets.specs.Ranges.{IsRange, inside, holds}
@@ -54,3 +54,9 @@ pub record IsReach (base : List Definition) (name : List ℕ) (w : Wanted)
   pub fits : All (λ r. IsRange (top_of w) r) ranges
   pub exact : (x : ℕ) → (holds ranges x ≡ true) ↔ Reaches base name (has_number w x)
   pub some : (nat_lt 0 (length ranges) ≡ true) ↔ Reaches base name (is_wanted w)
+
+-- The ranges of what the name reaches were put behind others.
+pub record AddsReach (base : List Definition) (name : List ℕ) (w : Wanted) (old new : List Range) : Type 0 where
+  pub fits : All (λ r. IsRange (top_of w) r) old → All (λ r. IsRange (top_of w) r) new
+  pub exact : (x : ℕ) → (holds new x ≡ true) ↔ ((holds old x ≡ true) ⊎ Reaches base name (has_number w x))
+  pub some : (nat_lt 0 (length new) ≡ true) ↔ ((nat_lt 0 (length old) ≡ true) ⊎ Reaches base name (is_wanted w))

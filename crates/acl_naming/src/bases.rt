@@ -1,8 +1,9 @@
-ghost use Rattle.std.specs.Prelude.{◌≡◌, ◌≢◌, ◌↔◌, ◌≤◌, ℕ, [], true, None, Err, IfOk, length};
+ghost use Rattle.std.specs.Prelude.{◌≡◌, ◌≢◌, ◌↔◌, ◌≤◌, ℕ, [], true, None, Err, IfOk, OnOk, length};
 ghost use Rattle.acl_sets.specs.Ranges.{IsNormal, holds};
 ghost use Rattle.acl_naming.specs.Checking.{IsChecked};
 ghost use Rattle.acl_naming.specs.ComputableReach.{addresses_reached, ports_reached};
 ghost use Rattle.acl_naming.specs.Definitions.{index_of};
+ghost use Rattle.acl_naming.specs.LookupSteps.{AddsReach};
 ghost use Rattle.acl_packet.specs.Addresses.{top_address};
 ghost use Rattle.acl_naming.specs.Ports.{top_port};
 ghost use Rattle.acl_naming.specs.NamingFiles.{AddsNetworks, AddsServices};
@@ -12,11 +13,12 @@ use crate::checking::check_tables;
 use crate::item_words::NamingKind;
 use crate::linking::LinkedTable;
 use crate::lookups::Lookup;
+use crate::marks::Marks;
 use crate::naming_files::add_file;
-use crate::reaching::{Wanted, ranges_of, top_of};
+use crate::reaching::{Wanted, add_addresses, ranges_of, top_of};
 use crate::tables::Table;
 use acl_packet::Family;
-use acl_sets::RangeSet;
+use acl_sets::{Range, RangeSet};
 use acl_text::Refusal;
 use std::alloc::Global;
 use std::marker::Model;
@@ -144,7 +146,7 @@ pub fn networks_of(
 {
     let wanted = Wanted::Addresses(family);
     let ranges = ranges_of(alloc, &base.networks, wanted, name)?;
-    Ok(RangeSet::from_ranges(alloc, top_of(wanted), &ranges)?)
+    Ok(RangeSet::from_vec(alloc, top_of(wanted), ranges)?)
 }
 
 /// The ports that the name reaches with the protocol.
@@ -170,5 +172,27 @@ pub fn ports_of(alloc: Global, base: &Checked, proto: u8, name: &[u8]) -> Result
     if ranges.is_empty() {
         return Err(Lookup::NoPort);
     }
-    Ok(RangeSet::from_ranges(alloc, top_of(wanted), &ranges)?)
+    Ok(RangeSet::from_vec(alloc, top_of(wanted), ranges)?)
+}
+
+/// Puts the addresses of both families that the name reaches behind others.
+///
+/// `Unknown` exactly where no network has the name; never `NoPort`. The marks are used, whatever they are: where many
+/// names are looked up, they are made once.
+pub fn add_networks(
+    alloc: Global,
+    base: &Checked,
+    name: &[u8],
+    marks: &mut Marks,
+    v4: &mut Vec<Range>,
+    v6: &mut Vec<Range>,
+) -> Result<(), Lookup>
+    ensures v4 { OnOk result (AddsReach base.now.networks name.now (Wanted.Addresses Family.V4)
+        v4.old.items v4.new.items) }
+    ensures v6 { OnOk result (AddsReach base.now.networks name.now (Wanted.Addresses Family.V6)
+        v6.old.items v6.new.items) }
+    ensures unknown { (result ≡ Err Lookup.Unknown) ↔ (index_of base.now.networks name.now ≡ None) }
+    ensures no_port { result ≡ Err Lookup.NoPort → ⊥ }
+{
+    add_addresses(alloc, &base.networks, name, marks, v4, v6)
 }

@@ -16,6 +16,7 @@ ghost use Rattle.acl_naming.specs.Tables.{name_at};
 
 use crate::linking::LinkedTable;
 use crate::marking::places_behind;
+use crate::marks::Marks;
 use crate::naming_items::{Item, Reference};
 use crate::ranking::{lowest, ranks};
 use crate::tables::Table;
@@ -102,7 +103,8 @@ fn reaches_itself(
     if lowest(table.links_at(index), ranks) > ranks[index] {
         return Ok(false);
     }
-    Ok(places_behind(alloc, table, index)?.contains(&index))
+    let places = places_behind(alloc, table, index, &mut Marks::new(alloc))?;
+    Ok(places.contains(&index))
 }
 
 /// The first definition that reaches itself.

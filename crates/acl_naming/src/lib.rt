@@ -9,16 +9,20 @@ mod line_parts;
 mod linking;
 mod lookups;
 mod marking;
+mod marks;
 mod naming_files;
 mod naming_items;
 mod ranking;
 mod reaching;
 mod tables;
 
-pub use bases::{Base, Checked, check, networks_of, ports_of, read_networks, read_services};
+pub use bases::{
+    Base, Checked, add_networks, check, networks_of, ports_of, read_networks, read_services,
+};
 pub use item_words::NamingKind;
 pub use laws::{
     addresses_are_computed, ordered_ports_are_some, port_order_is_kept, ports_are_computed,
     reach_is_computed,
 };
 pub use lookups::Lookup;
+pub use marks::Marks;

@@ -4,24 +4,25 @@ ghost use Rattle.acl_naming.specs.GraphSteps.{AreBehind, blank};
 ghost use Rattle.acl_naming.specs.MarkSteps.{mark_all, unmarked};
 
 use crate::linking::LinkedTable;
+use crate::marks::Marks;
 use acl_text::Memory;
 use std::alloc::Global;
 
 // Marks the place. One that had no mark is put behind those that are known.
-fn mark(marks: &mut [bool], places: &mut Vec<usize>, index: usize) -> Result<(), Memory>
+fn mark(marks: &mut Marks, places: &mut Vec<usize>, index: usize) -> Result<(), Memory>
     requires { index < length marks.old }
     ensures marked { OnOk result (marks.new ≡ slice_set marks.old index true) }
     ensures added { OnOk result (places.new.items
         ≡ places.old.items ++ unmarked (index ∷ []) marks.old) }
 {
-    if !marks[index] {
+    if !marks.has(index) {
         places.push(index)?;
     }
-    marks[index] = true;
+    marks.set(index);
     Ok(())
 }
 
-fn mark_links(links: &[usize], marks: &mut [bool], places: &mut Vec<usize>) -> Result<(), Memory>
+fn mark_links(links: &[usize], marks: &mut Marks, places: &mut Vec<usize>) -> Result<(), Memory>
     requires { All (λ j. j < length marks.old) links.now }
     ensures marked { OnOk result (marks.new ≡ mark_all links.now marks.old) }
     ensures added { OnOk result (places.new.items
@@ -40,23 +41,33 @@ pub fn no_marks(alloc: Global, table: &LinkedTable) -> Result<Vec<bool>, Memory>
 }
 
 // Each place is looked at once, in the order in which the places were found.
-fn follow_links(alloc: Global, table: &LinkedTable, index: usize) -> Result<Vec<usize>, Memory>
+fn follow_links(
+    alloc: Global,
+    table: &LinkedTable,
+    index: usize,
+    marks: &mut Marks,
+) -> Result<Vec<usize>, Memory>
     requires { index < length table.now }
     ensures { IfOk result (λ v. AreBehind table.now index v.items) }
 {
-    let mut marks = no_marks(alloc, table)?;
+    marks.clear(table.len())?;
     let mut places = Vec::new(alloc);
-    mark_links(table.links_at(index), &mut marks, &mut places)?;
+    mark_links(table.links_at(index), marks, &mut places)?;
     let mut done = 0;
     while done < places.len() {
-        mark_links(table.links_at(places[done]), &mut marks, &mut places)?;
+        mark_links(table.links_at(places[done]), marks, &mut places)?;
         done += 1;
     }
     Ok(places)
 }
 
-/// Where the definitions stand that the definition's names reach, each once.
-pub fn places_behind(alloc: Global, table: &LinkedTable, index: usize) -> Result<Vec<usize>, Memory>
+/// Where the definitions stand that the definition's names reach, each once. The marks are used, whatever they are.
+pub fn places_behind(
+    alloc: Global,
+    table: &LinkedTable,
+    index: usize,
+    marks: &mut Marks,
+) -> Result<Vec<usize>, Memory>
     requires { index < length table.now }
     ensures { IfOk result (λ v. AreBehind table.now index v.items) }
 {
@@ -64,5 +75,5 @@ pub fn places_behind(alloc: Global, table: &LinkedTable, index: usize) -> Result
     if table.links_at(index).is_empty() {
         return Ok(Vec::new(alloc));
     }
-    follow_links(alloc, table, index)
+    follow_links(alloc, table, index, marks)
 }

@@ -3,11 +3,12 @@ ghost use Rattle.std.specs.List.{All, list_any};
 ghost use Rattle.acl_sets.specs.Ranges.{IsNormal, holds};
 ghost use Rattle.acl_naming.specs.Definitions.{index_of};
 ghost use Rattle.acl_naming.specs.Reach.{Reaches};
-ghost use Rattle.acl_naming.specs.LookupSteps.{Collects, IsRangeOf, IsReach, any_at, any_item, has_number, is_wanted, top_of};
+ghost use Rattle.acl_naming.specs.LookupSteps.{AddsReach, Collects, IsRangeOf, IsReach, any_at, any_item, has_number, is_wanted, top_of};
 
 use crate::linking::LinkedTable;
 use crate::lookups::Lookup;
 use crate::marking::places_behind;
+use crate::marks::Marks;
 use crate::naming_items::Item;
 use crate::tables::Table;
 use acl_packet::Family;
@@ -64,24 +65,72 @@ fn push_items(out: &mut Vec<Range>, wanted: Wanted, items: &[Item]) -> Result<()
     Ok(())
 }
 
-// The ranges of what is wanted in the definition, and in those at the places.
-fn gather(
-    alloc: Global,
+// Puts the ranges of what is wanted in the definition, and in those at the places, behind the others.
+fn push_reached(
+    out: &mut Vec<Range>,
     table: &Table,
     index: usize,
     places: &[usize],
     wanted: Wanted,
-) -> Result<Vec<Range>, Memory>
+) -> Result<(), Memory>
     requires first { index < length table.now }
     requires within { All (λ j. j < length table.now) places.now }
-    ensures { IfOk result (λ v. Collects wanted (any_at table.now (index ∷ places.now)) [] v.items) }
+    ensures { OnOk result (Collects wanted (any_at table.now (index ∷ places.now))
+        out.old.items out.new.items) }
 {
-    let mut out = Vec::new(alloc);
-    push_items(&mut out, wanted, table.items_at(index))?;
+    push_items(out, wanted, table.items_at(index))?;
     for place in places {
-        push_items(&mut out, wanted, table.items_at(*place))?;
+        push_items(out, wanted, table.items_at(*place))?;
     }
-    Ok(out)
+    Ok(())
+}
+
+/// Puts the ranges of what the name reaches behind the others.
+pub fn add_ranges(
+    alloc: Global,
+    linked: &LinkedTable,
+    wanted: Wanted,
+    name: &[u8],
+    marks: &mut Marks,
+    out: &mut Vec<Range>,
+) -> Result<(), Lookup>
+    ensures reached { OnOk result (AddsReach linked.now name.now wanted out.old.items out.new.items) }
+    ensures unknown { (result ≡ Err Lookup.Unknown) ↔ (index_of linked.now name.now ≡ None) }
+    ensures no_port { result ≡ Err Lookup.NoPort → ⊥ }
+{
+    let table = linked.table();
+    let Some(index) = table.index_of(name) else {
+        return Err(Lookup::Unknown);
+    };
+    let places = places_behind(alloc, linked, index, marks)?;
+    push_reached(out, table, index, &places, wanted)?;
+    Ok(())
+}
+
+/// The same of the addresses of both families, in one walk.
+pub fn add_addresses(
+    alloc: Global,
+    linked: &LinkedTable,
+    name: &[u8],
+    marks: &mut Marks,
+    v4: &mut Vec<Range>,
+    v6: &mut Vec<Range>,
+) -> Result<(), Lookup>
+    ensures v4 { OnOk result (AddsReach linked.now name.now (Wanted.Addresses Family.V4)
+        v4.old.items v4.new.items) }
+    ensures v6 { OnOk result (AddsReach linked.now name.now (Wanted.Addresses Family.V6)
+        v6.old.items v6.new.items) }
+    ensures unknown { (result ≡ Err Lookup.Unknown) ↔ (index_of linked.now name.now ≡ None) }
+    ensures no_port { result ≡ Err Lookup.NoPort → ⊥ }
+{
+    let table = linked.table();
+    let Some(index) = table.index_of(name) else {
+        return Err(Lookup::Unknown);
+    };
+    let places = places_behind(alloc, linked, index, marks)?;
+    push_reached(v4, table, index, &places, Wanted::Addresses(Family::V4))?;
+    push_reached(v6, table, index, &places, Wanted::Addresses(Family::V6))?;
+    Ok(())
 }
 
 /// The ranges of what the name reaches.
@@ -95,10 +144,14 @@ pub fn ranges_of(
     ensures unknown { (result ≡ Err Lookup.Unknown) ↔ (index_of linked.now name.now ≡ None) }
     ensures no_port { result ≡ Err Lookup.NoPort → ⊥ }
 {
-    let table = linked.table();
-    let Some(index) = table.index_of(name) else {
-        return Err(Lookup::Unknown);
-    };
-    let places = places_behind(alloc, linked, index)?;
-    Ok(gather(alloc, table, index, &places, wanted)?)
+    let mut out = Vec::new(alloc);
+    add_ranges(
+        alloc,
+        linked,
+        wanted,
+        name,
+        &mut Marks::new(alloc),
+        &mut out,
+    )?;
+    Ok(out)
 }

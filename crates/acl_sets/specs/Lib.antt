@@ -5,3 +5,4 @@ pub mod ComputableLeastLists
 pub mod SweepSteps
 pub mod CutSteps
 pub mod Groups
+pub mod HeldRanges

@@ -3,10 +3,9 @@ ghost use Rattle.acl_packet.specs.Addresses.{width_of};
 ghost use Rattle.acl_sets.specs.Ranges.{IsNormal};
 ghost use Rattle.acl_sets.specs.CutSteps.{IsLongest, GoesOn, CutsAll};
 
-use crate::least::Prefixes;
 use crate::sets::Range;
 use acl_packet::{Family, Prefix};
-use acl_text::{Items, Memory};
+use acl_text::Memory;
 use std::alloc::Global;
 
 /// A block of numbers whose count is a power of two: the bits that are free in it, and its end.
@@ -37,10 +36,10 @@ fn longest_block(first: u128, last: u128) -> Block
     }
 }
 
-fn push_cuts(out: &mut Prefixes, range: Range, family: Family) -> Result<(), Memory>
+fn push_cuts(out: &mut Vec<Prefix>, range: Range, family: Family) -> Result<(), Memory>
     requires some { range.low ≤ range.high }
     requires fits { range.high < 2 ^ width_of family }
-    ensures { OnOk result (GoesOn family range out.old out.new) }
+    ensures { OnOk result (GoesOn family range out.old.items out.new.items) }
 {
     let mut first = range.low;
     loop {
@@ -58,11 +57,11 @@ fn push_cuts(out: &mut Prefixes, range: Range, family: Family) -> Result<(), Mem
 }
 
 /// The blocks of each range, cut from its low end.
-pub fn cut_ranges(alloc: Global, ranges: &[Range], family: Family) -> Result<Prefixes, Memory>
+pub fn cut_ranges(alloc: Global, ranges: &[Range], family: Family) -> Result<Vec<Prefix>, Memory>
     requires { IsNormal 0 (2 ^ width_of family - 1) ranges.now }
-    ensures { IfOk result (λ ps. CutsAll family ranges.now ps) }
+    ensures { IfOk result (λ v. CutsAll family ranges.now v.items) }
 {
-    let mut prefixes = Items::with_capacity(alloc, ranges.len())?;
+    let mut prefixes = Vec::with_capacity(alloc, ranges.len())?;
     for range in ranges {
         push_cuts(&mut prefixes, *range, family)?;
     }

@@ -8,12 +8,13 @@ ghost use Rattle.acl_sets.specs.ComputableLeastLists.{halved_space};
 
 use crate::cuts::cut_ranges;
 use crate::sets::RangeSet;
+use crate::shared_lists::SharedList;
 use acl_packet::{Family, Prefix};
-use acl_text::{Items, Memory};
+use acl_text::Memory;
 use std::alloc::Global;
 
-/// A list of prefixes. A contract sees the list.
-pub type Prefixes = Items<Prefix>;
+/// A list of prefixes, which may stand in many rules. A contract sees the list.
+pub type Prefixes = SharedList<Prefix>;
 
 /// All maximal prefixes of a set of addresses, in order of address.
 ///
@@ -28,7 +29,8 @@ pub fn least_prefixes(alloc: Global, set: &RangeSet, family: Family) -> Result<P
     ensures computed { IfOk result (λ ps. ps ≡ halved_space family set.now.ranges) }
 {
     let prefixes = cut_ranges(alloc, set.ranges(), family)?;
-    Ok(prefixes)
+    let list = SharedList::new(alloc, prefixes)?;
+    Ok(list)
 }
 
 /// A law: a least list of a set of addresses has the addresses of the set, and no other.

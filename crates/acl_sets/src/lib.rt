@@ -4,10 +4,13 @@
 mod cuts;
 mod groups;
 mod least;
+mod range_lists;
 mod range_pieces;
 mod sets;
+mod shared_lists;
 mod sweeps;
 
 pub use groups::group_end;
 pub use least::{Prefixes, least_list_holds, least_list_is_fewest, least_prefixes, one_least_list};
 pub use sets::{Range, RangeSet, one_normal_list};
+pub use shared_lists::SharedList;

@@ -3,6 +3,7 @@ ghost use Rattle.std.specs.List.{All};
 ghost use Rattle.acl_sets.specs.Ranges.{holds, IsRange, IsNormal, OneNormalList};
 ghost use Rattle.acl_sets.specs.ComputableSets.{put_all, cut_all, shared_all, is_all, all_covered};
 
+use crate::range_lists::RangeList;
 use crate::sweeps;
 use acl_text::Memory;
 use std::alloc::Global;
@@ -23,7 +24,7 @@ pub struct Range {
 #[derive(Debug, Drop)]
 pub struct RangeSet {
     limit: u128,
-    list: Vec<Range>,
+    list: RangeList,
 }
 
 impl Model for RangeSet {
@@ -31,23 +32,23 @@ impl Model for RangeSet {
 
     ghost Value = { Numbers };
 
-    ghost view = { λ s. record { top = s.limit; ranges = s.list.items } };
+    ghost view = { λ s. record { top = s.limit; ranges = s.list } };
 
-    ghost invariant = { λ s. IsNormal 0 s.limit s.list.items };
+    ghost invariant = { λ s. IsNormal 0 s.limit s.list };
 }
 
 impl RangeSet {
     /// No number.
-    pub fn empty(alloc: Global, top: u128) -> RangeSet
-        ensures top { result.top ≡ top }
-        ensures normal { IsNormal 0 result.top result.ranges }
-        ensures exact { (x : ℕ) → holds result.ranges x ≡ false }
-        ensures computed { result.ranges ≡ [] }
+    pub fn empty(alloc: Global, top: u128) -> Result<RangeSet, Memory>
+        ensures top { IfOk result (λ s. s.top ≡ top) }
+        ensures normal { IfOk result (λ s. IsNormal 0 s.top s.ranges) }
+        ensures exact { IfOk result (λ s. (x : ℕ) → holds s.ranges x ≡ false) }
+        ensures computed { IfOk result (λ s. s.ranges ≡ []) }
     {
-        RangeSet {
+        Ok(RangeSet {
             limit: top,
-            list: Vec::new(alloc),
-        }
+            list: RangeList::new(alloc, Vec::new(alloc))?,
+        })
     }
 
     /// All numbers up to the top.
@@ -60,7 +61,7 @@ impl RangeSet {
         let whole = Range { low: 0, high: top };
         Ok(RangeSet {
             limit: top,
-            list: Vec::from_slice(alloc, &[whole])?,
+            list: RangeList::of_one(whole),
         })
     }
 
@@ -72,10 +73,22 @@ impl RangeSet {
         ensures exact { IfOk result (λ s. (x : ℕ) → holds s.ranges x ≡ holds ranges.now x) }
         ensures computed { IfOk result (λ s. s.ranges ≡ put_all ranges.now []) }
     {
-        let sorted = sweeps::sorted(alloc, ranges)?;
+        RangeSet::from_vec(alloc, top, Vec::from_slice(alloc, ranges)?)
+    }
+
+    /// The same, of ranges that are sorted where they stand.
+    pub fn from_vec(alloc: Global, top: u128, ranges: Vec<Range>) -> Result<RangeSet, Memory>
+        requires { All (λ r. IsRange top r) ranges.items }
+        ensures top { IfOk result (λ s. s.top ≡ top) }
+        ensures normal { IfOk result (λ s. IsNormal 0 s.top s.ranges) }
+        ensures exact { IfOk result (λ s. (x : ℕ) → holds s.ranges x ≡ holds ranges.items x) }
+        ensures computed { IfOk result (λ s. s.ranges ≡ put_all ranges.items []) }
+    {
+        let rising = sweeps::sorted(ranges);
+        let merged = sweeps::merged(alloc, &rising)?;
         Ok(RangeSet {
             limit: top,
-            list: sweeps::merged(alloc, &sorted)?,
+            list: RangeList::new(alloc, merged)?,
         })
     }
 
@@ -88,9 +101,10 @@ impl RangeSet {
             holds s.ranges x ≡ holds self.now.ranges x || holds other.now.ranges x) }
         ensures computed { IfOk result (λ s. s.ranges ≡ put_all other.now.ranges self.now.ranges) }
     {
+        let united = sweeps::united(alloc, self.list.as_slice(), other.list.as_slice())?;
         Ok(RangeSet {
             limit: self.limit,
-            list: sweeps::united(alloc, &self.list, &other.list)?,
+            list: RangeList::new(alloc, united)?,
         })
     }
 
@@ -103,12 +117,13 @@ impl RangeSet {
             holds s.ranges x ≡ holds self.now.ranges x && not (holds other.now.ranges x)) }
         ensures computed { IfOk result (λ s. s.ranges ≡ cut_all other.now.ranges self.now.ranges) }
     {
-        if other.list.is_empty() {
-            return self.copy(alloc);
+        if other.is_empty() {
+            return self.share();
         }
+        let cut = sweeps::cut(alloc, self.list.as_slice(), other.list.as_slice())?;
         Ok(RangeSet {
             limit: self.limit,
-            list: sweeps::cut(alloc, &self.list, &other.list)?,
+            list: RangeList::new(alloc, cut)?,
         })
     }
 
@@ -122,20 +137,21 @@ impl RangeSet {
         ensures computed { IfOk result (λ s.
             s.ranges ≡ shared_all other.now.ranges self.now.ranges) }
     {
+        let shared = sweeps::shared(alloc, self.list.as_slice(), other.list.as_slice())?;
         Ok(RangeSet {
             limit: self.limit,
-            list: sweeps::shared(alloc, &self.list, &other.list)?,
+            list: RangeList::new(alloc, shared)?,
         })
     }
 
-    /// The same set again.
-    pub fn copy(&self, alloc: Global) -> Result<RangeSet, Memory>
+    /// The same set, for one place more. It is not copied, and no memory is taken.
+    pub fn share(&self) -> Result<RangeSet, Memory>
         ensures same { IfOk result (λ s. s ≡ self.now) }
         ensures normal { IfOk result (λ s. IsNormal 0 s.top s.ranges) }
     {
         Ok(RangeSet {
             limit: self.limit,
-            list: Vec::from_slice(alloc, &self.list)?,
+            list: self.list.share()?,
         })
     }
 
@@ -143,7 +159,7 @@ impl RangeSet {
     pub fn contains(&self, x: u128) -> bool
         ensures { result ≡ holds self.now.ranges x }
     {
-        sweeps::has_number(&self.list, x)
+        sweeps::has_number(self.list.as_slice(), x)
     }
 
     /// Whether each number of this set is in the other.
@@ -154,7 +170,14 @@ impl RangeSet {
             → IsTrue (holds self.now.ranges x) → IsTrue (holds other.now.ranges x)) }
         ensures computed { result ≡ all_covered self.now.ranges other.now.ranges }
     {
-        sweeps::all_covered(&self.list, &other.list)
+        sweeps::all_covered(self.list.as_slice(), other.list.as_slice())
+    }
+
+    /// Whether both have the same ranges, and so the same numbers.
+    pub fn is_same(&self, other: &RangeSet) -> bool
+        ensures { IsTrue result ↔ (self.now.ranges ≡ other.now.ranges) }
+    {
+        self.ranges() == other.ranges()
     }
 
     /// Whether no number is in the set.
@@ -172,7 +195,7 @@ impl RangeSet {
             ↔ ((x : ℕ) → x ≤ self.now.top → IsTrue (holds self.now.ranges x)) }
         ensures computed { result ≡ is_all self.now }
     {
-        sweeps::covers(&self.list, 0, self.limit)
+        sweeps::covers(self.list.as_slice(), 0, self.limit)
     }
 
     /// The ranges of the set, in rising order, disjoint and not touching.
@@ -180,7 +203,7 @@ impl RangeSet {
         ensures list { result.now ≡ self.now.ranges }
         ensures normal { IsNormal 0 self.now.top self.now.ranges }
     {
-        &self.list
+        self.list.as_slice()
     }
 
     /// The greatest number that the set may hold.

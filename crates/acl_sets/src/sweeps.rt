@@ -10,13 +10,13 @@ use acl_text::Memory;
 use std::alloc::Global;
 
 /// The ranges in rising order of their low ends.
-pub fn sorted(alloc: Global, ranges: &[Range]) -> Result<Vec<Range>, Memory>
-    ensures same { IfOk result (λ v. IsPermutation ranges.now v.items) }
-    ensures rising { IfOk result (λ v. IsNonDecreasingBy (λ r. r.low) v.items) }
+pub fn sorted(ranges: Vec<Range>) -> Vec<Range>
+    ensures same { IsPermutation ranges.items result.items }
+    ensures rising { IsNonDecreasingBy (λ r. r.low) result.items }
 {
-    let mut out = Vec::from_slice(alloc, ranges)?;
+    let mut out = ranges;
     out.sort_unstable_by_key(|range| range.low);
-    Ok(out)
+    out
 }
 
 /// The ranges in normal form, where they come in rising order of their low ends.

@@ -1,8 +1,10 @@
-ghost use Rattle.std.specs.Prelude.{◌≡◌, IfOk};
+ghost use Rattle.std.specs.Prelude.{◌≡◌, IfOk, OnOk};
 ghost use Rattle.std.specs.Option.{option_or};
 ghost use Rattle.acl_packet.specs.declared.addresses.Family.TheVariants.{V4, V6};
 ghost use Rattle.acl_packet.specs.Addresses.{top_address};
 ghost use Rattle.acl_text.specs.Refusals.{Judges, first_in};
+ghost use Rattle.acl_naming.specs.declared.reaching.Wanted.TheVariants as wanted;
+ghost use Rattle.acl_naming.specs.LookupSteps.{AddsReach};
 ghost use Rattle.acl_terms.specs.Matching.{Admits, AnyOf, IsAddress, NamesAddress};
 ghost use Rattle.acl_terms.specs.Sets.{IsAddressSet, IsSetOf};
 ghost use Rattle.acl_terms.specs.SetSteps.{ends_slip};
@@ -10,10 +12,10 @@ ghost use Rattle.acl_terms.specs.Slips.{network_slip, networks_slip};
 
 use crate::checks::refusal_at;
 use crate::new_words::NewWords;
-use acl_naming::{Checked, Lookup, networks_of};
+use acl_naming::{Checked, Lookup, Marks, add_networks};
 use acl_packet::Family;
 use acl_policy::{RawTerm, WordList, WordRef};
-use acl_sets::RangeSet;
+use acl_sets::{Range, RangeSet};
 use acl_text::{Code, Refusal};
 use std::alloc::Global;
 
@@ -32,19 +34,23 @@ pub(crate) struct Ends {
     pub(crate) either: Addresses,
 }
 
-// The addresses of the family that the word's name reaches.
-fn networks_in(
+// Puts the addresses that the word's name reaches behind those of each family.
+fn add_word(
     alloc: Global,
     base: &Checked,
-    family: Family,
     word: &WordRef<'_>,
-) -> Result<RangeSet, Refusal>
+    marks: &mut Marks,
+    v4: &mut Vec<Range>,
+    v6: &mut Vec<Range>,
+) -> Result<(), Refusal>
     ensures judged { Judges result (network_slip base.now.networks word.now) }
-    ensures set { IfOk result (λ s. IsSetOf (λ x. NamesAddress base.now family x word.now)
-        (top_address family) s) }
+    ensures v4 { OnOk result (AddsReach base.now.networks word.now.text (wanted.Addresses V4)
+        v4.old.items v4.new.items) }
+    ensures v6 { OnOk result (AddsReach base.now.networks word.now.text (wanted.Addresses V6)
+        v6.old.items v6.new.items) }
 {
-    match networks_of(alloc, base, family, word.text()) {
-        Ok(set) => Ok(set),
+    match add_networks(alloc, base, word.text(), marks, v4, v6) {
+        Ok(()) => Ok(()),
         Err(Lookup::Unknown) => Err(refusal_at(alloc, Code::UnknownName, word)),
         Err(Lookup::Memory) => Err(Refusal::Memory),
         Err(Lookup::NoPort) => unreachable!(),
@@ -59,15 +65,15 @@ fn named(alloc: Global, base: &Checked, words: &WordList) -> Result<Addresses, R
     ensures v6 { IfOk result (λ a. IsSetOf (λ x. AnyOf (NamesAddress base.now V6 x) words.now)
         (top_address V6) a.v6) }
 {
-    let mut v4 = RangeSet::empty(alloc, Family::V4.top_address());
-    let mut v6 = RangeSet::empty(alloc, Family::V6.top_address());
+    let mut v4 = Vec::new(alloc);
+    let mut v6 = Vec::new(alloc);
+    let mut marks = Marks::new(alloc);
     let mut left = NewWords::new(alloc, words);
     while let Some(word) = left.next()? {
-        let more4 = networks_in(alloc, base, Family::V4, &word)?;
-        v4 = v4.union(alloc, &more4)?;
-        let more6 = networks_in(alloc, base, Family::V6, &word)?;
-        v6 = v6.union(alloc, &more6)?;
+        add_word(alloc, base, &word, &mut marks, &mut v4, &mut v6)?;
     }
+    let v4 = RangeSet::from_vec(alloc, Family::V4.top_address(), v4)?;
+    let v6 = RangeSet::from_vec(alloc, Family::V6.top_address(), v6)?;
     Ok(Addresses { v4, v6 })
 }
 

@@ -60,7 +60,7 @@ fn ports_by(
         IsSetOf (λ x. NamesPort base.now protos.now x word.now) top_port s) }
     ensures some { IfOk result (λ s. s.ranges ≢ []) }
 {
-    let mut out = RangeSet::empty(alloc, TOP);
+    let mut out = RangeSet::empty(alloc, TOP)?;
     for proto in protos {
         let more = ports_at(alloc, base, *proto, word)?;
         out = out.union(alloc, &more)?;
@@ -82,7 +82,7 @@ fn named(
         IsSetOf (λ x. AnyOf (NamesPort base.now protos.now x) words.now) top_port s) }
     ensures some { IfOk result (λ s. words.now ≢ [] → s.ranges ≢ []) }
 {
-    let mut out = RangeSet::empty(alloc, TOP);
+    let mut out = RangeSet::empty(alloc, TOP)?;
     let mut left = NewWords::new(alloc, words);
     while let Some(word) = left.next()? {
         let more = ports_by(alloc, base, protos, &word)?;

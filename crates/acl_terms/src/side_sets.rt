@@ -65,7 +65,7 @@ pub fn sports_on(alloc: Global, side: Side, term: &Term) -> Result<RangeSet, Mem
 {
     match side {
         Side::Source => term.sports.intersect(alloc, &term.ports),
-        Side::Whole | Side::Destination => term.sports.copy(alloc),
+        Side::Whole | Side::Destination => term.sports.share(),
     }
 }
 
@@ -76,6 +76,6 @@ pub fn dports_on(alloc: Global, side: Side, term: &Term) -> Result<RangeSet, Mem
 {
     match side {
         Side::Destination => term.dports.intersect(alloc, &term.ports),
-        Side::Whole | Side::Source => term.dports.copy(alloc),
+        Side::Whole | Side::Source => term.dports.share(),
     }
 }

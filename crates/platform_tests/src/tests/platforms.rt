@@ -27,11 +27,8 @@ fn host(address: u128) -> Prefix {
 fn web(alloc: Global) -> Result<Rule, Memory>
     ensures { IfOk result IsSized }
 {
-    let mut src = Prefixes::new(alloc);
-    src.push(host(1))?;
-    src.push(host(2))?;
-    let mut dst = Prefixes::new(alloc);
-    dst.push(host(3))?;
+    let src = Prefixes::new(alloc, Vec::from_slice(alloc, &[host(1), host(2)])?)?;
+    let dst = Prefixes::new(alloc, Vec::from_slice(alloc, &[host(3)])?)?;
     let protos = [Range { low: 6, high: 6 }, Range { low: 17, high: 17 }];
     let dports = [
         Range { low: 80, high: 81 },

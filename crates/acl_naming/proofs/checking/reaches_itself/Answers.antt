@@ -22,13 +22,13 @@ pub returns-clause-found : goal.returns-clause-found
 returns-clause-found c = λ h.
     let base = c.args.table.now in
     let i = c.args.index in
-    let places = c.in_ok-places_behind.field-0.items in
-    comes_back base i places c.in_ok-places_behind.ensures (ap (among i) (sym c.deref.ensures.value) ∙ sym c.contains.ensures.value ∙ h)
+    let places = c.in_ok-places.places.items in
+    comes_back base i places c.in_ok-places.ensures (ap (among i) (sym c.deref.ensures.value) ∙ sym c.contains.ensures.value ∙ h)
 
 pub returns-clause-missed : goal.returns-clause-missed
 returns-clause-missed c = λ e there r.
     let base = c.args.table.now in
     let i = c.args.index in
-    let places = c.in_ok-places_behind.field-0.items in
-    let here : among i places ≡ true = itself_all base (name_at base i) i places there c.in_ok-places_behind.ensures r in
+    let places = c.in_ok-places.places.items in
+    let here : among i places ≡ true = itself_all base (name_at base i) i places there c.in_ok-places.ensures r in
     true≢false (sym here ∙ ap (among i) (sym c.deref.ensures.value) ∙ sym c.contains.ensures.value ∙ e)

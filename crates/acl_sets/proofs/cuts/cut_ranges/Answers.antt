@@ -14,11 +14,11 @@ push_cuts-requires-clause-fits c =
 pub loop-range-preserved : goal.loop-range-preserved
 loop-range-preserved c =
     cuts_more c.args.family _ (drop c.loop-range.range-index c.args.ranges.now)
-    (drop (c.loop-range.range-index + 1) c.args.ranges.now) c.args.ranges.now c.loop-range.prefixes
-    c.push_cuts.new.out (drop_more c.args.ranges.now c.loop-range.range-index _ c.loop-range-test.true)
+    (drop (c.loop-range.range-index + 1) c.args.ranges.now) c.args.ranges.now c.loop-range.prefixes.items
+    c.push_cuts.new.out.items (drop_more c.args.ranges.now c.loop-range.range-index _ c.loop-range-test.true)
     c.loop-range.invariant c.in_ok-push_cuts.ensures
 
 pub returns : goal.returns
 returns c =
     cuts_end c.args.family (drop c.loop-range.range-index c.args.ranges.now) c.args.ranges.now
-    c.loop-range.prefixes (drop_all c.loop-range.range-index c.args.ranges.now (omega (arith, c.loop-range-test.false))) c.loop-range.invariant
+    c.loop-range.prefixes.items (drop_all c.loop-range.range-index c.args.ranges.now (omega (arith, c.loop-range-test.false))) c.loop-range.invariant

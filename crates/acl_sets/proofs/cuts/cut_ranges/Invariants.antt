@@ -5,4 +5,4 @@ use Rattle.acl_sets.proofs.cuts.cut_ranges.Given as goal
 
 abbrev pub invariant-loop-range : goal.invariant-loop-range
 invariant-loop-range l = (ps : List Prefix) → CutsAll l.family (drop l.range-index l.ranges) ps
-    → CutsAll l.family l.ranges (l.prefixes ++ ps)
+    → CutsAll l.family l.ranges (l.prefixes.items ++ ps)

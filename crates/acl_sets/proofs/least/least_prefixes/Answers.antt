@@ -1,4 +1,5 @@
-use Rattle.std.proofs.Common.{◌≡◌, ◌-◌, ◌^◌, ℕ, List, subst, arith}
+use Rattle.std.proofs.Common.{◌≡◌, ◌-◌, ◌^◌, ℕ, List, subst, sym, arith}
+use Rattle.acl_packet.specs.declared.addresses.Prefix.{Prefix}
 use Rattle.acl_packet.specs.Addresses.{width_of}
 use Rattle.acl_sets.specs.declared.sets.Range.{Range}
 use Rattle.acl_sets.specs.Ranges.{holds, IsNormal}
@@ -13,12 +14,13 @@ returns c =
     let f = c.args.family in
     let top = c.args.set.now.top in
     let ranges = c.args.set.now.ranges in
-    let ps = c.in_ok-prefixes.prefixes in
+    let ps = c.in_ok-list.list in
     let last : top ≡ 2 ^ width_of f - 1 = omega (arith, c.requires) in
     let N : ℕ → Type 0 = λ z. IsNormal 0 z ranges in
     let C : List Range → Type 0 = λ z. CutsAll f z ps in
+    let D : List Prefix → Type 0 = λ z. CutsAll f c.ranges-2.result.now z in
     let least = cuts-least f ranges ps (subst N last c.ranges-2.ensures.normal)
-    (subst C c.ranges-2.ensures.list c.in_ok-prefixes.ensures) in
+    (subst C c.ranges-2.ensures.list (subst D (sym c.in_ok-list.ensures) c.in_ok-prefixes.ensures)) in
     let addresses = normal-addresses f top ranges c.ranges-2.ensures.normal c.requires in
     record {
       least = least;

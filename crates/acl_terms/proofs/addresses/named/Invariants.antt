@@ -4,15 +4,15 @@ use Rattle.acl_packet.specs.Addresses.{top_address}
 use Rattle.acl_text.specs.Refusals.{first_in}
 use Rattle.acl_terms.specs.Matching.{AnyOf, NamesAddress}
 use Rattle.acl_terms.specs.Slips.{network_slip}
-use Rattle.acl_terms.proofs.SetLaws.{IsSetSoFar}
+use Rattle.acl_terms.proofs.GatheredLaws.{IsGathered}
 use Rattle.acl_terms.proofs.addresses.named.Given as goal
 
 abbrev pub invariant-loop-left : goal.invariant-loop-left
 invariant-loop-left l = record {
-  v4 : IsSetSoFar (λ x. AnyOf (NamesAddress l.base V4 x) l.words) (λ x. AnyOf (NamesAddress l.base V4 x) l.left)
-      (top_address V4) l.v4;
-  v6 : IsSetSoFar (λ x. AnyOf (NamesAddress l.base V6 x) l.words) (λ x. AnyOf (NamesAddress l.base V6 x) l.left)
-      (top_address V6) l.v6;
+  v4 : IsGathered (λ x. AnyOf (NamesAddress l.base V4 x) l.words) (λ x. AnyOf (NamesAddress l.base V4 x) l.left)
+      (top_address V4) l.v4.items;
+  v6 : IsGathered (λ x. AnyOf (NamesAddress l.base V6 x) l.words) (λ x. AnyOf (NamesAddress l.base V6 x) l.left)
+      (top_address V6) l.v6.items;
   judged : first_in (network_slip l.base.networks) l.left ≡ first_in (network_slip l.base.networks) l.words;
 }
 

@@ -7,19 +7,19 @@ use Rattle.acl_sets.proofs.sets.RangeSet.is_all.Goals as goal
 
 pub returns : goal.returns
 returns c =
-    let list : c.self.inside.list.items ≡ c.args.self.now.ranges = ap
+    let list : c.self.inside.list ≡ c.args.self.now.ranges = ap
     (λ (s : Numbers). s.ranges) c.self.view_is in
     let top : c.self.inside.limit ≡ c.args.self.now.top = ap
     (λ (s : Numbers). s.top) c.self.view_is in
-    let e : c.covers.result ≡ covers c.self.inside.list.items 0 c.self.inside.limit =
+    let e : c.covers.result ≡ covers c.self.inside.list 0 c.self.inside.limit =
     c.covers.ensures ∙ ap (λ
-    (z : List Range). covers z 0 c.self.inside.limit) c.deref.ensures.value in
+    (z : List Range). covers z 0 c.self.inside.limit) c.as_slice.ensures in
     record {
       exact = (
         λ h x l. sym (ap (λ (z : List Range). holds z x) list)
-            ∙ covers-holds c.self.inside.list.items 0 c.self.inside.limit x (sym e ∙ h) (omega arith)
+            ∙ covers-holds c.self.inside.list 0 c.self.inside.limit x (sym e ∙ h) (omega arith)
             (omega (arith, l, top)),
-        λ h. e ∙ holds-covers 0 c.self.inside.limit c.self.inside.list.items 0 c.self.inside.limit c.self.invariant (omega arith)
+        λ h. e ∙ holds-covers 0 c.self.inside.limit c.self.inside.list 0 c.self.inside.limit c.self.invariant (omega arith)
             (λ x p q. ap (λ (z : List Range). holds z x) list ∙ h x (omega (arith, q, top))),
       );
       computed = e ∙ ap (λ (z : List Range). covers z 0 c.self.inside.limit) list ∙ ap

@@ -8,23 +8,23 @@ pub invariant_of-result : goal.invariant_of-result
 invariant_of-result c =
     let two = two_sets c.self.view_is c.other.view_is c.requires c.self.invariant c.other.invariant in
     subtract-normal two _ (cut_away two _ (at_lists (λ z w. walk (λ r qs. cut_along r qs) w z)
-    c.deref.ensures.value c.deref-2.ensures.value c.in_ok-cut.ensures))
+    c.as_slice.ensures c.as_slice-2.ensures (c.in_ok-new.ensures ∙ c.in_ok-cut.ensures)))
 
 pub returns-clause-normal : goal.returns-clause-normal
 returns-clause-normal c =
     let two = two_sets c.self.view_is c.other.view_is c.requires c.self.invariant c.other.invariant in
     subtract-normal two _ (cut_away two _ (at_lists (λ z w. walk (λ r qs. cut_along r qs) w z)
-    c.deref.ensures.value c.deref-2.ensures.value c.in_ok-cut.ensures))
+    c.as_slice.ensures c.as_slice-2.ensures (c.in_ok-new.ensures ∙ c.in_ok-cut.ensures)))
 
 pub returns-clause-exact : goal.returns-clause-exact
 returns-clause-exact c =
     let two = two_sets c.self.view_is c.other.view_is c.requires c.self.invariant c.other.invariant in
     subtract-holds two _ (cut_away two _ (at_lists (λ z w. walk (λ r qs. cut_along r qs) w z)
-    c.deref.ensures.value c.deref-2.ensures.value c.in_ok-cut.ensures))
+    c.as_slice.ensures c.as_slice-2.ensures (c.in_ok-new.ensures ∙ c.in_ok-cut.ensures)))
 
 pub returns-clause-computed : goal.returns-clause-computed
 returns-clause-computed c =
     let two = two_sets c.self.view_is c.other.view_is c.requires c.self.invariant c.other.invariant in
     cut_away two _ (at_lists (λ z w. walk (λ r qs. cut_along r qs) w z)
-    c.deref.ensures.value c.deref-2.ensures.value c.in_ok-cut.ensures)
+    c.as_slice.ensures c.as_slice-2.ensures (c.in_ok-new.ensures ∙ c.in_ok-cut.ensures))
     ∙ at_sets (λ z w. cut_all z w) two

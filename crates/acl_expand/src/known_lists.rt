@@ -1,0 +1,116 @@
+ghost use Rattle.std.specs.Prelude.{◌≡◌, ◌+◌, ◌^◌, ◌∷◌, [], true, IfOk, IfSome};
+ghost use Rattle.acl_packet.specs.Addresses.{everywhere, width_of};
+ghost use Rattle.acl_expand.specs.TermRules.{least_list};
+
+use acl_packet::{Family, Prefix};
+use acl_sets::{Prefixes, Range, RangeSet, least_prefixes};
+use acl_text::Memory;
+use indexmap::IndexMap;
+use std::alloc::Global;
+
+// The least list of a set.
+#[derive(Drop)]
+struct KnownList {
+    family: Family,
+    set: RangeSet,
+    list: Prefixes,
+    ghost least: { list ≡ least_list family set },
+}
+
+/// Least lists of sets so far.
+///
+/// Many terms name the same addresses, and each has its rules on targets of different kinds. So a list is made once,
+/// and rules share it.
+#[derive(Drop)]
+pub(crate) struct KnownLists {
+    lists: IndexMap<u128, KnownList>,
+}
+
+// A number that differs, most often, where ranges do. It only says where to look.
+fn digest_of(ranges: &[Range]) -> u128 {
+    let mut digest = 0;
+    for range in ranges {
+        digest = mixed(mixed(digest, range.low), range.high);
+    }
+    digest
+}
+
+fn mixed(digest: u128, number: u128) -> u128 {
+    (digest ^ number).wrapping_mul(0x9e37_79b9_7f4a_7c15_f39c_c060_5ced_c835)
+}
+
+// The list of all addresses of the family.
+fn everywhere(alloc: Global, family: Family) -> Result<Prefixes, Memory>
+    ensures { IfOk result (λ ps. ps ≡ everywhere family ∷ []) }
+{
+    Prefixes::new(alloc, Vec::from_slice(alloc, &[Prefix::everywhere(family)])?)
+}
+
+// The least list of a set. Most rules have all addresses on one side, for which nothing has to be computed.
+#[tactic(auto, using(crate::proofs::SetForms::all_listed))]
+fn new_list(alloc: Global, family: Family, set: &RangeSet) -> Result<Prefixes, Memory>
+    requires { set.now.top + 1 ≡ 2 ^ width_of family }
+    ensures { IfOk result (λ ps. ps ≡ least_list family set.now) }
+{
+    if set.is_all() {
+        everywhere(alloc, family)
+    } else {
+        least_prefixes(alloc, set, family)
+    }
+}
+
+impl KnownList {
+    #[tactic(auto, using(crate::proofs::SetForms::same_list))]
+    fn is_of(&self, family: Family, set: &RangeSet) -> bool
+        ensures { result ≡ true → self.now.list ≡ least_list family set.now }
+    {
+        self.family == family && self.set.is_same(set)
+    }
+}
+
+impl KnownLists {
+    /// No list is known.
+    pub(crate) fn new(alloc: Global) -> KnownLists {
+        KnownLists {
+            lists: IndexMap::new(alloc),
+        }
+    }
+
+    fn find(
+        &self,
+        digest: u128,
+        family: Family,
+        set: &RangeSet,
+    ) -> Result<Option<Prefixes>, Memory>
+        ensures { IfOk result (λ o. IfSome o (λ ps. ps ≡ least_list family set.now)) }
+    {
+        match self.lists.get(&digest) {
+            Some(known) if known.is_of(family, set) => Ok(Some(known.list.share()?)),
+            _ => Ok(None),
+        }
+    }
+
+    /// The least list of a set of addresses of the family, which is known from now on.
+    pub(crate) fn list_of(
+        &mut self,
+        alloc: Global,
+        family: Family,
+        set: &RangeSet,
+    ) -> Result<Prefixes, Memory>
+        requires { set.now.top + 1 ≡ 2 ^ width_of family }
+        ensures { IfOk result (λ ps. ps ≡ least_list family set.now) }
+    {
+        let digest = digest_of(set.ranges());
+        if let Some(list) = self.find(digest, family, set)? {
+            return Ok(list);
+        }
+        let list = new_list(alloc, family, set)?;
+        let known = KnownList {
+            family,
+            set: set.share()?,
+            list: list.share()?,
+        };
+        self.lists.insert(digest, known)?;
+        Ok(list)
+    }
+}

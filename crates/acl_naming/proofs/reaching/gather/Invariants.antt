@@ -1,6 +1,0 @@
-use Rattle.std.proofs.Common.{take, [], ◌∷◌}
-use Rattle.acl_naming.specs.LookupSteps.{Collects, any_at}
-use Rattle.acl_naming.proofs.reaching.gather.Given as goal
-
-abbrev pub invariant-loop-place : goal.invariant-loop-place
-invariant-loop-place l = Collects l.wanted (any_at l.table (l.index ∷ take l.place-index l.places)) [] l.out.items

@@ -1,0 +1,69 @@
+-- Ranges that are gathered word by word: what they hold, and what is left.
+use Rattle.std.proofs.Common.{◌≡◌, ◌↔◌, ◌⊎◌, ℕ, ◌≤◌, true, false, List, [], ◌∷◌, inl, inr, refl, sym, subst, ◌∙◌}
+use Rattle.std.specs.List.{All}
+use Rattle.std.proofs.lemmas.Bool.{both_ways}
+use Rattle.std.proofs.lemmas.List.Elements.{All-nil}
+use Rattle.acl_sets.specs.declared.sets.Range.{Range}
+use Rattle.acl_sets.specs.Ranges.{IsNormal, IsRange, Numbers, holds}
+use Rattle.acl_words.specs.declared.word_lists.Word.{Word}
+use Rattle.acl_terms.specs.DistinctSteps.{new_words}
+use Rattle.acl_terms.specs.Matching.{AnyOf}
+use Rattle.acl_terms.specs.Sets.{IsSetOf}
+use Rattle.acl_terms.proofs.DistinctLaws.{new-any}
+
+-- What the ranges hold and what is left make up, up to the top, the numbers of which the fact holds.
+pub record IsGathered (P left : ℕ → Type 0) (top : ℕ) (rs : List Range) : Type 0 where
+  pub fits : All (λ r. IsRange top r) rs
+  pub exact : (x : ℕ) → x ≤ top → ((holds rs x ≡ true) ⊎ left x) ↔ P x
+
+-- Before the first of the words of new texts, all is left.
+pub begun-names : (Q : ℕ → List ℕ → Type 0) (words left : List Word) (top : ℕ) (rs : List Range)
+    → left ≡ new_words [] words → rs ≡ []
+    → IsGathered (λ x. AnyOf (λ w. Q x w.text) words) (λ x. AnyOf (λ w. Q x w.text) left) top rs
+begun-names Q words left top rs is none =
+    subst (λ (l : List Word). IsGathered (λ x. AnyOf (λ w. Q x w.text) words) (λ x. AnyOf (λ w. Q x w.text) l) top rs) (sym is)
+    (subst (λ (qs : List Range). IsGathered (λ x. AnyOf (λ w. Q x w.text) words) (λ x. AnyOf (λ w. Q x w.text) (new_words [] words)) top qs)
+    (sym none) (record {
+      fits = All-nil (λ r. IsRange top r);
+      exact = λ x le. let same = new-any (Q x) words in (
+        λ a. elim a [ inl h ↦ absurd (both_ways false refl h) | inr l ↦ same.0 l ],
+        λ p. inr (same.1 p),
+      );
+    }))
+
+-- Behind the next word.
+pub next-names : (N : ℕ → Word → Type 0) (P : ℕ → Type 0) (old left : List Word) (w : Word) (top : ℕ) (rs more : List Range)
+    → old ≡ w ∷ left → IsGathered P (λ x. AnyOf (N x) old) top rs
+    → (All (λ r. IsRange top r) rs → All (λ r. IsRange top r) more)
+    → ((x : ℕ) → (holds more x ≡ true) ↔ ((holds rs x ≡ true) ⊎ N x w))
+    → IsGathered P (λ x. AnyOf (N x) left) top more
+next-names N P old left w top rs more is had fits adds =
+    let all = subst (λ (l : List Word). IsGathered P (λ x. AnyOf (N x) l) top rs) is had in
+    record {
+      fits = fits all.fits;
+      exact = λ x le. let e = all.exact x le in let a = adds x in (
+        λ h. elim h [
+          | inl k ↦ elim (a.0 k) [ inl r ↦ e.0 (inl r) | inr n ↦ e.0 (inr (inl n)) ]
+          | inr l ↦ e.0 (inr (inr l))
+        ],
+        λ p. elim (e.1 p) [
+          | inl r ↦ inl (a.1 (inl r))
+          | inr n ↦ elim n [ inl q ↦ inl (a.1 (inr q)) | inr l ↦ inr l ]
+        ],
+      );
+    }
+
+-- Behind the last one, the set of the ranges is that of the numbers.
+pub ended-names : (N : ℕ → Word → Type 0) (P : ℕ → Type 0) (left : List Word) (top : ℕ) (rs : List Range) (s : Numbers)
+    → left ≡ [] → IsGathered P (λ x. AnyOf (N x) left) top rs → s.top ≡ top → IsNormal 0 s.top s.ranges
+    → ((x : ℕ) → holds s.ranges x ≡ holds rs x) → IsSetOf P top s
+ended-names N P left top rs s none had t n same =
+    let all = subst (λ (l : List Word). IsGathered P (λ x. AnyOf (N x) l) top rs) none had in
+    record {
+      top_is = t;
+      normal = n;
+      exact = λ x le. let e = all.exact x le in (
+        λ h. e.0 (inl (sym (same x) ∙ h)),
+        λ p. elim (e.1 p) [ inl h ↦ same x ∙ h | inr l ↦ absurd l ],
+      );
+    }
