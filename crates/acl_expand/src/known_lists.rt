@@ -43,7 +43,10 @@ fn mixed(digest: u128, number: u128) -> u128 {
 fn everywhere(alloc: Global, family: Family) -> Result<Prefixes, Memory>
     ensures { IfOk result (λ ps. ps ≡ everywhere family ∷ []) }
 {
-    Prefixes::new(alloc, Vec::from_slice(alloc, &[Prefix::everywhere(family)])?)
+    Prefixes::new(
+        alloc,
+        Vec::from_slice(alloc, &[Prefix::everywhere(family)])?,
+    )
 }
 
 // The least list of a set. Most rules have all addresses on one side, for which nothing has to be computed.
@@ -76,12 +79,7 @@ impl KnownLists {
         }
     }
 
-    fn find(
-        &self,
-        digest: u128,
-        family: Family,
-        set: &RangeSet,
-    ) -> Result<Option<Prefixes>, Memory>
+    fn find(&self, digest: u128, family: Family, set: &RangeSet) -> Result<Option<Prefixes>, Memory>
         ensures { IfOk result (λ o. IfSome o (λ ps. ps ≡ least_list family set.now)) }
     {
         match self.lists.get(&digest) {

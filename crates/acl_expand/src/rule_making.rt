@@ -173,7 +173,7 @@ impl<'a> PairTerm<'a> {
         lists: &mut KnownLists,
         rules: &mut Rules,
         conditions: Conditions,
-        ) -> Result<(), Memory>
+    ) -> Result<(), Memory>
         ensures { OnOk result (rules.new ≡ rules.old ++ rule_of self.now.kind self.now.family
             self.now.term.now self.now.pair conditions ∷ []) }
     {
@@ -206,7 +206,7 @@ impl<'a> PairTerm<'a> {
         lists: &mut KnownLists,
         rules: &mut Rules,
         test: Test,
-        ) -> Result<(), Memory>
+    ) -> Result<(), Memory>
         ensures { OnOk result (rules.new ≡ rules.old ++ rule_of self.now.kind self.now.family
             self.now.term.now self.now.pair
             (whole self.now.family self.now.term.now self.now.pair.ports test) ∷ []) }
@@ -221,7 +221,7 @@ impl<'a> PairTerm<'a> {
         alloc: Global,
         lists: &mut KnownLists,
         rules: &mut Rules,
-        ) -> Result<(), Memory>
+    ) -> Result<(), Memory>
         ensures { OnOk result (rules.new ≡ rules.old
             ++ map (rule_of self.now.kind self.now.family self.now.term.now self.now.pair)
             (tcp_half self.now.term.now self.now.pair.ports
@@ -238,7 +238,7 @@ impl<'a> PairTerm<'a> {
         alloc: Global,
         lists: &mut KnownLists,
         rules: &mut Rules,
-        ) -> Result<(), Memory>
+    ) -> Result<(), Memory>
         ensures { OnOk result (rules.new ≡ rules.old
             ++ map (rule_of self.now.kind self.now.family self.now.term.now self.now.pair)
             (with_ports (udp_alone self.now.family self.now.term.now self.now.pair.ports))) }
@@ -253,7 +253,7 @@ impl<'a> PairTerm<'a> {
         alloc: Global,
         lists: &mut KnownLists,
         rules: &mut Rules,
-        ) -> Result<(), Memory>
+    ) -> Result<(), Memory>
         ensures { OnOk result (rules.new ≡ rules.old
             ++ map (rule_of self.now.kind self.now.family self.now.term.now self.now.pair)
             (conditions_by Opt.Established Mode.Stateless self.now.family self.now.term.now
@@ -273,14 +273,16 @@ impl<'a> PairTerm<'a> {
         lists: &mut KnownLists,
         rules: &mut Rules,
         mode: Mode,
-        ) -> Result<(), Memory>
+    ) -> Result<(), Memory>
         ensures { OnOk result (rules.new ≡ rules.old
             ++ map (rule_of self.now.kind self.now.family self.now.term.now self.now.pair)
             (conditions_by self.now.term.now.option mode self.now.family self.now.term.now
             self.now.pair.ports)) }
     {
         let test = match (self.term.option, mode) {
-            (Opt::Established, Mode::Stateless) => return self.push_established(alloc, lists, rules),
+            (Opt::Established, Mode::Stateless) => return self.push_established(
+                alloc, lists, rules,
+            ),
             (Opt::Plain, _) => Test::Plain,
             (Opt::Established | Opt::TcpEstablished, Mode::Stateful) => Test::State,
             (Opt::TcpEstablished, Mode::Stateless) => Test::AckOrRst,
