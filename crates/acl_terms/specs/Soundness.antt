@@ -35,7 +35,7 @@ abbrev pub is_left : Verdict → Bool
 is_left verdicts.Left = true
 is_left _ = false
 
-pub record IsSound (name note : List ℕ) (src4 src6 dst4 dst6 addr4 addr6 : Numbers)
+pub record IsSoundTerm (name note : List ℕ) (src4 src6 dst4 dst6 addr4 addr6 : Numbers)
     (addr_named : Bool) (protos sports dports : Numbers) (dport_named : Bool) (ports : Numbers)
     (port_named : Bool) (itypes : Numbers) (option : Opt) (verdict : Verdict) : Type 0 where
   pub name_is : is_name name ≡ true
