@@ -9,10 +9,12 @@ use Rattle.acl_packet.specs.declared.addresses.Families.{Families}
 use Rattle.acl_packet.specs.declared.addresses.Family.{Family}
 use Rattle.acl_packet.specs.declared.addresses.Family.TheVariants.{V4, V6}
 use Rattle.acl_packet.specs.declared.addresses.Prefix.{Prefix}
+use Rattle.acl_packet.specs.declared.packet_fields.Field.{Field}
 use Rattle.acl_packet.specs.declared.filtering.Hook.{Hook}
 use Rattle.acl_packet.specs.declared.filtering.Verdict.TheVariants.{Reset}
 use Rattle.acl_packet.specs.Addresses.{covers}
-use Rattle.acl_packet.specs.Packets.{has_ports, icmp_of, is_icmp}
+use Rattle.acl_packet.specs.Packets.{has_field, has_ports, icmp_of, is_icmp, top_of}
+use Rattle.acl_packet.proofs.FieldLaws.{by-field}
 use Rattle.acl_text.specs.Names.{is_name}
 use Rattle.acl_text.specs.Notes.{is_note}
 use Rattle.acl_sets.specs.declared.sets.Range.{Range}
@@ -24,7 +26,8 @@ use Rattle.acl_target.specs.declared.targets.Ending.{Ending}
 use Rattle.acl_target.specs.declared.targets.Kind.{Kind}
 use Rattle.acl_platform.specs.declared.filters.Filter.{Filter}
 use Rattle.acl_platform.specs.declared.rules.Rule.{Rule}
-use Rattle.acl_platform.specs.SoundFilters.{has_test, has_verdict, is_named_protocol, IsRuleName, IsSound, IsSoundRule, is_tcp, tests_flags}
+use Rattle.acl_platform.specs.Rules.{set_of}
+use Rattle.acl_platform.specs.SoundFilters.{has_test, has_verdict, IsFull, is_named_protocol, IsRuleName, IsSound, IsSoundRule, is_tcp, tests_flags}
 use Rattle.platform_tests.specs.SampleFilters.{filter_with, IsHeadFor}
 use Rattle.platform_tests.specs.SampleRules.{are_ones, flags_fit, HasFullSets, HasLeastLists, is_known, is_one, is_protocol, is_reset, numbers_fit, ports_fit, protocols_fit, types_fit, types_named, words_fit}
 
@@ -127,16 +130,13 @@ sound kind families r l s w n k =
       note = texts.1;
       sources = record { least = l.sources; some = s.sources };
       destinations = record { least = l.destinations; some = s.destinations };
-      protocols = s.protocols;
-      source_ports = s.source_ports;
-      destination_ports = s.destination_ports;
-      types = s.types;
+      numbers = by-field (λ field. IsFull (top_of field) (set_of field r)) s.protocols s.source_ports s.destination_ports s.types;
+      numbers_fit = by-field (λ field. is_all (set_of field r) ≡ false → Only (has_field r.family field) r.protos) (λ _ _ _. refl)
+          (λ e. only-ones has_ports r.protos (ports.0 e)) (λ e. only-ones has_ports r.protos (ports.1 e))
+          (λ e. only-ones (is_icmp r.family) r.protos
+          (and_parts (not (holds r.itypes.ranges 255)) (are_ones (is_icmp r.family) r.protos) (types e)).1);
       protocols_named = λ e x h. named r.family x (only-ones (is_protocol r.family) r.protos
           (behind (is_all r.protos) (are_ones (is_protocol r.family) r.protos) front.0 e) x h);
-      source_ports_fit = λ e. only-ones has_ports r.protos (ports.0 e);
-      destination_ports_fit = λ e. only-ones has_ports r.protos (ports.1 e);
-      types_fit = λ e. only-ones (is_icmp r.family) r.protos
-          (and_parts (not (holds r.itypes.ranges 255)) (are_ones (is_icmp r.family) r.protos) (types e)).1;
       types_named = λ e. not-false (holds r.itypes.ranges 255)
           (and_parts (not (holds r.itypes.ranges 255)) (are_ones (is_icmp r.family) r.protos) (types e)).0;
       flags_fit = λ e. only-ones is_tcp r.protos (flags.0 e);

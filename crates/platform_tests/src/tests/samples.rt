@@ -180,6 +180,7 @@ fn set(alloc: Global, top: u128, ends: &[(u128, u128)]) -> Result<RangeSet, Memo
 }
 
 // The rule of a sample, from these prefixes in place of the sample's.
+#[tactic(auto, using(acl_platform::proofs::SoundRules::sized_by))]
 fn rule_from(alloc: Global, sample: &Sample, src: Prefixes) -> Result<Rule, Memory>
     requires { IsLeastList sample.now.family (any_has src) src }
     ensures sized { IfOk result IsSized }
