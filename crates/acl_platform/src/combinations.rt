@@ -68,6 +68,7 @@ type PartChoices<'a> = (
     ),
 );
 
+#[tactic(auto, using(crate::proofs::SoundRules::protocols_small, crate::proofs::SoundRules::source_ports_small, crate::proofs::SoundRules::destination_ports_small, crate::proofs::SoundRules::types_small))]
 fn choices_of(rule: &Rule) -> PartChoices<'_>
     requires { IsSized rule.now }
     ensures { ⟦<PartChoices<'static> as Choices>⟧.items result ≡ parts_of rule.now }

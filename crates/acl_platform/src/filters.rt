@@ -57,4 +57,3 @@ pub enum Limit {
     /// The filter would have more entries than a device is given.
     TooManyEntries,
 }
-

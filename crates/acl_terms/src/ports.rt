@@ -3,8 +3,8 @@ ghost use Rattle.acl_text.specs.Refusals.{Judges, first_in};
 ghost use Rattle.acl_naming.specs.Ports.{top_port};
 ghost use Rattle.acl_naming.specs.Reach.{ReachesPort};
 ghost use Rattle.acl_terms.specs.Matching.{Admits, AnyOf, IsPort, NamesPort};
-ghost use Rattle.acl_terms.specs.Sets.{IsPortSet, IsSetOf};
-ghost use Rattle.acl_terms.specs.SetSteps.{protocol_slip};
+ghost use Rattle.acl_terms.specs.Sets.{IsSetOf};
+ghost use Rattle.acl_terms.specs.SetSteps.{IsPortSet, protocol_slip};
 ghost use Rattle.acl_terms.specs.Slips.{port_words, service_slip, services_slip};
 
 use crate::checks::refusal_at;

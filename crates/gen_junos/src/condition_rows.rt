@@ -25,6 +25,7 @@ pub(crate) struct RuleConditions<'a> {
 impl<'a> Rows for RuleConditions<'a> {
     ghost rows = { λ c. from_rows (condition_rows c.family (term_of c.rule.now)) };
 
+    #[tactic(auto, using(acl_platform::proofs::SoundRules::protocols_small, acl_platform::proofs::SoundRules::source_ports_small, acl_platform::proofs::SoundRules::destination_ports_small, acl_platform::proofs::SoundRules::types_small))]
     fn put_rows<O: Out>(&self, out: &mut O) -> Result<(), PutFault> {
         let rule = self.rule;
         let conditions = FromPart {

@@ -23,7 +23,7 @@ pub(crate) struct RuleWords<'a> {
 impl<'a> Words for RuleWords<'a> {
     ghost words = { λ w. rule_words w.families (chain_rule w.rule.now w.proto) };
 
-    #[tactic(auto, unfolding(nft_lang::specs::Texts::rule_words, nft_lang::specs::Texts::addresses_words, nft_lang::specs::Texts::ports_words))]
+    #[tactic(auto, unfolding(nft_lang::specs::Texts::rule_words, nft_lang::specs::Texts::addresses_words, nft_lang::specs::Texts::ports_words), using(acl_platform::proofs::SoundRules::source_ports_small, acl_platform::proofs::SoundRules::destination_ports_small, acl_platform::proofs::SoundRules::types_small))]
     fn put_spaced<O: Out>(&self, out: &mut O) -> Result<(), PutFault> {
         let rule = self.rule;
         let proto = self.proto;

@@ -125,6 +125,7 @@ impl<'a> Rows for ChainRules<'a> {
         (λ proto. item_rows c.families (ARule (chain_rule c.rule.now proto)))
         (number_choices c.rule.now.protos) };
 
+    #[tactic(auto, using(acl_platform::proofs::SoundRules::protocols_small))]
     fn put_rows<O: Out>(&self, out: &mut O) -> Result<(), PutFault> {
         let protocols = NumberChoices {
             set: &self.rule.protos,

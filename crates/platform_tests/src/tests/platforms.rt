@@ -24,6 +24,7 @@ fn host(address: u128) -> Prefix {
 
 // What of TCP and UDP goes from 0.0.0.1 or 0.0.0.2 to 0.0.0.3, ports 80 to 81 and 443, and begins a
 // connection.
+#[tactic(auto, using(acl_platform::proofs::SoundRules::sized_by))]
 fn web(alloc: Global) -> Result<Rule, Memory>
     ensures { IfOk result IsSized }
 {
