@@ -7,8 +7,8 @@ use acl_terms::Term;
 use acl_text::Memory;
 use std::alloc::Global;
 
-// No more numbers are looked at: a row for each of them takes 4 MB at 1,024 terms.
-const MOST: usize = 32_768;
+// No more numbers are looked at: a row for each of them takes 4.5 MB at 1,024 terms.
+const MOST: usize = 35_000;
 
 /// The place of the first of the rising numbers that is not below this one. Most often it is the one named.
 pub(crate) fn start_of(points: &[u128], near: usize, low: u128) -> usize
@@ -72,7 +72,7 @@ impl Points {
     }
 }
 
-// How many numbers are looked at besides one for each term: the ends of the longest part, but not many more than the
+// How many numbers are looked at besides those of a range for each term: the ends of the longest part, but not many more than the
 // parts have ranges.
 fn room_for(part: Part, terms: &[Term]) -> usize {
     let mut longest: usize = 0;
@@ -96,7 +96,7 @@ pub(crate) fn points_of(alloc: Global, part: Part, terms: &[Term]) -> Result<Vec
     };
     let mut room = room_for(part, terms);
     for term in terms {
-        room = MOST.min(room.saturating_add(1));
+        room = MOST.min(room.saturating_add(2));
         points.add(part_of(part, term), room)?;
     }
     points.settle()?;

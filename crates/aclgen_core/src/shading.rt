@@ -15,11 +15,7 @@ use acl_text::{Code, Items, Refusal};
 use std::alloc::Global;
 
 // Refuses the first term of a block that an earlier one shades.
-fn refuse_in_block(
-    alloc: Global,
-    terms: &[Term],
-    places: &[Option<usize>],
-) -> Result<(), Refusal>
+fn refuse_in_block(alloc: Global, terms: &[Term], places: &[Option<usize>]) -> Result<(), Refusal>
     ensures { (targets : List Target) (today : Day)
         → AreShadedPlaces targets today terms.now places.now
         → Judges result (terms_shaded targets today terms.now) }

@@ -15,8 +15,9 @@ use std::test::Fail;
 // The terms in order: each by the place of the one that shades it, or by a dash.
 fn places(alloc: Global, terms: &[Term], targets: &[Target], day: Day) -> Result<String, Memory> {
     let mut shown = String::new(alloc);
-    for place in shaded_places(alloc, terms, targets, day)?.as_slice() {
-        shown = match place {
+    let places = shaded_places(alloc, terms, targets, day)?;
+    for place in places.as_slice() {
+        shown = match *place {
             Some(earlier) => format!(in alloc; "{shown}{earlier}")?,
             None => format!(in alloc; "{shown}-")?,
         };
