@@ -18,7 +18,7 @@ use Rattle.acl_target.specs.declared.targets.Target.{Target}
 use Rattle.acl_target.specs.FilterEndings.{ending_outcome}
 use Rattle.acl_terms.specs.declared.sides.SidePair.{SidePair}
 use Rattle.acl_terms.specs.declared.terms.Term.{Term}
-use Rattle.acl_terms.specs.Outcomes.{decides, denied, mode_of, outcome_of, policy_outcome, shown}
+use Rattle.acl_terms.specs.Outcomes.{decides, cisco_verdict, mode_of, outcome_of, policy_outcome, expressed_on}
 use Rattle.acl_terms.specs.Resolved.{is_pair_empty, is_term_live, pairs_of}
 use Rattle.acl_terms.proofs.PolicyLaws.{decide-as-written}
 use Rattle.acl_platform.specs.declared.rules.Rule.{Rule}
@@ -52,14 +52,14 @@ joined o (x ∷ xs) ys h k = (h.0, joined o xs ys h.1 k)
 
 -- ---- the rules of a term
 
-verdict-shown : (kind : Kind) (t : Term) → record { verdict = verdict_on kind t.verdict; logged = t.log } ≡ shown kind (outcome_of t)
+verdict-shown : (kind : Kind) (t : Term) → record { verdict = verdict_on kind t.verdict; logged = t.log } ≡ expressed_on kind (outcome_of t)
 verdict-shown Cisco t = refl
 verdict-shown Juniper t = refl
 verdict-shown Iptables t = refl
 verdict-shown Nftables t = refl
 
 conditions-alike : (kind : Kind) (f : Family) (t : Term) (pair : SidePair) (cs : List Conditions)
-    → Alike (shown kind (outcome_of t)) (map (rule_of kind f t pair) cs)
+    → Alike (expressed_on kind (outcome_of t)) (map (rule_of kind f t pair) cs)
 conditions-alike kind f t pair [] = tt
 conditions-alike kind f t pair (c ∷ cs) = (verdict-shown kind t, conditions-alike kind f t pair cs)
 
@@ -67,10 +67,10 @@ by-emptiness : (b : Bool) (o : Outcome) (rules : List Rule) → Alike o rules �
 by-emptiness true o rules h = tt
 by-emptiness false o rules h = h
 
-pair-alike : (target : Target) (t : Term) (f : Family) (pair : SidePair) → Alike (shown target.kind (outcome_of t)) (pair_rules target t f pair)
+pair-alike : (target : Target) (t : Term) (f : Family) (pair : SidePair) → Alike (expressed_on target.kind (outcome_of t)) (pair_rules target t f pair)
 unfolding pair_rules
 pair-alike target t f pair =
-    by-emptiness (is_pair_empty f t pair) (shown target.kind (outcome_of t))
+    by-emptiness (is_pair_empty f t pair) (expressed_on target.kind (outcome_of t))
     (map (rule_of target.kind f t pair) (conditions_by t.option (mode_of target) f t pair.ports))
     (conditions-alike target.kind f t pair (conditions_by t.option (mode_of target) f t pair.ports))
 
@@ -78,51 +78,51 @@ each-alike : {A : Type 0} (o : Outcome) (rows : A → List Rule) → ((a : A) �
 each-alike o rows h [] = tt
 each-alike o rows h (x ∷ xs) = joined o (rows x) (flat_map rows xs) (h x) (each-alike o rows h xs)
 
-family-alike : (target : Target) (t : Term) (f : Family) → Alike (shown target.kind (outcome_of t)) (family_rules target t f)
+family-alike : (target : Target) (t : Term) (f : Family) → Alike (expressed_on target.kind (outcome_of t)) (family_rules target t f)
 unfolding family_rules
 family-alike target t f =
-    each-alike (shown target.kind (outcome_of t)) (pair_rules target t f) (pair-alike target t f) (pairs_of t)
+    each-alike (expressed_on target.kind (outcome_of t)) (pair_rules target t f) (pair-alike target t f) (pairs_of t)
 
 by-life : (b : Bool) (o : Outcome) (rules : List Rule) → Alike o rules → Alike o (cond b rules [])
 by-life true o rules h = h
 by-life false o rules h = tt
 
-term-alike : (target : Target) (today : Day) (t : Term) → Alike (shown target.kind (outcome_of t)) (term_rules target today t)
+term-alike : (target : Target) (today : Day) (t : Term) → Alike (expressed_on target.kind (outcome_of t)) (term_rules target today t)
 unfolding term_rules
 term-alike target today t =
-    by-life (is_term_live t target.kind today) (shown target.kind (outcome_of t))
+    by-life (is_term_live t target.kind today) (expressed_on target.kind (outcome_of t))
     (flat_map (family_rules target t) (members target.families))
-    (each-alike (shown target.kind (outcome_of t)) (family_rules target t) (family-alike target t) (members target.families))
+    (each-alike (expressed_on target.kind (outcome_of t)) (family_rules target t) (family-alike target t) (members target.families))
 
 -- ---- the ending, and first match
 
-denied-same : (b : Bool) → unlogged (cond b verdicts.Accept verdicts.Deny) ≡ unlogged (denied (cond b verdicts.Accept verdicts.Deny))
+denied-same : (b : Bool) → unlogged (cond b verdicts.Accept verdicts.Deny) ≡ unlogged (cisco_verdict (cond b verdicts.Accept verdicts.Deny))
 denied-same true = refl
 denied-same false = refl
 
-ending-seen : (ending : Ending) (p : Packet) → ending_outcome ending p ≡ shown Cisco (ending_outcome ending p)
+ending-seen : (ending : Ending) (p : Packet) → ending_outcome ending p ≡ expressed_on Cisco (ending_outcome ending p)
 unfolding ending_outcome
 ending-seen endings.Accept p = refl
 ending-seen endings.Deny p = refl
 ending-seen endings.Left p = refl
 ending-seen endings.Neighbours p = denied-same (same_family V6 p.family && is_neighbour_discovery p)
 
-ending-shown : (kind : Kind) (ending : Ending) (p : Packet) → ending_outcome ending p ≡ shown kind (ending_outcome ending p)
+ending-shown : (kind : Kind) (ending : Ending) (p : Packet) → ending_outcome ending p ≡ expressed_on kind (ending_outcome ending p)
 ending-shown Cisco ending p = ending-seen ending p
 ending-shown Juniper ending p = refl
 ending-shown Iptables ending p = refl
 ending-shown Nftables ending p = refl
 
-shown-choice : (kind : Kind) (b : Bool) (x y : Outcome) → cond b (shown kind x) (shown kind y) ≡ shown kind (cond b x y)
+shown-choice : (kind : Kind) (b : Bool) (x y : Outcome) → cond b (expressed_on kind x) (expressed_on kind y) ≡ expressed_on kind (cond b x y)
 shown-choice kind true x y = refl
 shown-choice kind false x y = refl
 
 rules-decide : (target : Target) (today : Day) (terms : List Term) (p : Packet) → IsPacket p → covers target.families p.family ≡ true
-    → rules_outcome target.ending (rules_of target today terms) p ≡ shown target.kind (policy_outcome target today terms p)
+    → rules_outcome target.ending (rules_of target today terms) p ≡ expressed_on target.kind (policy_outcome target today terms p)
 unfolding rules_outcome policy_outcome
 rules-decide target today [] p is c = ending-shown target.kind target.ending p
 rules-decide target today (t ∷ terms) p is c =
-    let o = shown target.kind (outcome_of t) in
+    let o = expressed_on target.kind (outcome_of t) in
     over-alike target.ending o (term_rules target today t) (rules_of target today terms) p (term-alike target today t)
     ∙ ap (λ b. cond b o (rules_outcome target.ending (rules_of target today terms) p)) (term-step target today t p (in-range p is) c)
     ∙ ap (λ x. cond (decides target today p t) o x) (rules-decide target today terms p is c)

@@ -10,7 +10,7 @@ use Rattle.acl_target.specs.declared.targets.Target.{Target}
 use Rattle.acl_policy.specs.declared.raw_terms.RawTerm.{RawTerm}
 use Rattle.acl_naming.specs.Definitions.{Naming}
 use Rattle.acl_terms.specs.declared.terms.Term.{Term}
-use Rattle.acl_terms.specs.Outcomes.{PolicyDecides, policy_outcome, shown}
+use Rattle.acl_terms.specs.Outcomes.{PolicyDecides, policy_outcome, expressed_on}
 use Rattle.acl_terms.specs.Resolved.{IsResolved}
 use Rattle.acl_platform.specs.declared.filters.Filter.{Filter}
 use Rattle.acl_platform.specs.declared.rules.Rule.{Rule}
@@ -38,12 +38,12 @@ filter_of target today terms = filter_with target (rules_of target today terms)
 -- A filter decides each packet of the target's families as the terms do, as far as the platform can show it.
 abbrev pub DecidesAsTerms : Target → Day → List Term → Filter → Type 0
 DecidesAsTerms target today terms f = (p : Packet) → IsPacket p → covers target.families p.family ≡ true
-    → filter_outcome f p ≡ shown target.kind (policy_outcome target today terms p)
+    → filter_outcome f p ≡ expressed_on target.kind (policy_outcome target today terms p)
 
 -- The same of the block's terms as they are written.
 abbrev pub DecidesAsWritten : Naming → Target → Day → List RawTerm → Filter → Type 0
 DecidesAsWritten n target today raws f = (p : Packet) → IsPacket p → covers target.families p.family ≡ true
-    → (o : Outcome) × (PolicyDecides n target today raws p o × (filter_outcome f p ≡ shown target.kind o))
+    → (o : Outcome) × (PolicyDecides n target today raws p o × (filter_outcome f p ≡ expressed_on target.kind o))
 
 -- So the filter of resolved terms decides as the written terms that they stand for.
 abbrev pub FiltersDecideAsWritten : Type 0

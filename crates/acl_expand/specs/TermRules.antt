@@ -23,7 +23,7 @@ use Rattle.acl_terms.specs.declared.sides.Side.TheVariants.{Whole, Source, Desti
 use Rattle.acl_terms.specs.declared.sides.SidePair.{SidePair}
 use Rattle.acl_terms.specs.declared.terms.Term.{Term}
 use Rattle.acl_packet.specs.Packets.{foreign_of}
-use Rattle.acl_terms.specs.Outcomes.{denied, mode_of}
+use Rattle.acl_terms.specs.Outcomes.{cisco_verdict, mode_of}
 use Rattle.acl_terms.specs.Resolved.{destinations_on, dports_on, has_none, in_both, is_pair_empty, is_term_live, pairs_of, sources_on, sports_on}
 use Rattle.acl_platform.specs.declared.rules.Rule.{Rule}
 use Rattle.acl_platform.specs.declared.rules.Test.{Test}
@@ -57,7 +57,7 @@ least_list f s = halved_space f s.ranges
 
 -- Cisco access lists permit and deny alone: there a rejection and a reset are a denial.
 abbrev pub verdict_on : Kind → Verdict → Verdict
-verdict_on Cisco v = denied v
+verdict_on Cisco v = cisco_verdict v
 verdict_on Juniper v = v
 verdict_on Iptables v = v
 verdict_on Nftables v = v

@@ -1,6 +1,6 @@
 ghost use Rattle.std.specs.Prelude.{◌≡◌, ◌++◌, [], ◌∷◌, IfOk, OnOk, map, flat_map};
 ghost use Rattle.acl_sets.specs.Ranges.{holds};
-ghost use Rattle.acl_terms.specs.Outcomes.{denied, mode_of};
+ghost use Rattle.acl_terms.specs.Outcomes.{cisco_verdict, mode_of};
 ghost use Rattle.acl_terms.specs.Resolved.{destinations_on, is_term_live, sources_on};
 ghost use Rattle.acl_expand.specs.TermRules.{
   address_suffix,
@@ -35,8 +35,8 @@ use acl_terms::{
 use acl_text::{Bytes, Memory};
 use std::alloc::Global;
 
-fn denied(verdict: Verdict) -> Verdict
-    ensures { result ≡ denied verdict }
+fn cisco_verdict(verdict: Verdict) -> Verdict
+    ensures { result ≡ cisco_verdict verdict }
 {
     match verdict {
         Verdict::Reject | Verdict::Reset => Verdict::Deny,
@@ -48,7 +48,7 @@ fn verdict_on(kind: Kind, verdict: Verdict) -> Verdict
     ensures { result ≡ verdict_on kind verdict }
 {
     match kind {
-        Kind::Cisco => denied(verdict),
+        Kind::Cisco => cisco_verdict(verdict),
         Kind::Juniper | Kind::Iptables | Kind::Nftables => verdict,
     }
 }

@@ -1,6 +1,6 @@
 ghost use Rattle.acl_languages.specs.PlatformLanguages.{OneDocument};
 
-use acl_grammar::a_text_has_one_document as has_one_document;
+use acl_rows::a_text_has_one_document as has_one_document;
 use cisco_lang::Cisco;
 use ipt_lang::Iptables;
 use junos_lang::Junos;

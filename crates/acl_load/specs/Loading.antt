@@ -95,7 +95,7 @@ definitions_of folder files = do
       else all_files folder names files
 
 -- Each name that stands in a definition is defined in its kind, and none reaches itself.
-pub record IsSound (naming : Naming) : Type 0 where
+pub record IsSoundNaming (naming : Naming) : Type 0 where
   pub defined : undefined_of naming ≡ None
   pub networks : HasNoCycle naming.networks
   pub services : HasNoCycle naming.services
@@ -103,7 +103,7 @@ pub record IsSound (naming : Naming) : Type 0 where
 -- The answer on definitions: a fault stays, sound ones are given, and of others the slip is told.
 abbrev pub AnswersWith : List (List ℕ) → Result Naming Fault → Result Naming Fault → Type 0
 AnswersWith paths (Err fault) answer = answer ≡ Err fault
-AnswersWith paths (Ok naming) (Ok given) = (given ≡ naming) × IsSound naming
+AnswersWith paths (Ok naming) (Ok given) = (given ≡ naming) × IsSoundNaming naming
 AnswersWith paths (Ok naming) (Err fault) =
     (slip : Slip) × IsSlipOf naming slip × (fault ≡ slip_fault paths slip)
 

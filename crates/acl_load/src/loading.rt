@@ -11,7 +11,7 @@ use crate::load_faults::LoadFault;
 use crate::naming_paths::naming_paths;
 use crate::slips::slip_fault;
 use acl_host::{ReadFault, Tree, listing};
-use acl_naming::{Base, Checked, NamingKind, check};
+use acl_naming::{Base, Checked, NamingKind, check_base};
 use acl_text::{Code, Fault, Refusal, Rejection};
 use std::alloc::Global;
 
@@ -108,7 +108,7 @@ fn check_definitions(alloc: Global, paths: &[String], base: Base) -> Result<Chec
     ensures { Answers fault_told (λ checked. checked) result
         (AnswersWith (map string_bytes paths.now) (Ok base)) }
 {
-    match check(base) {
+    match check_base(base) {
         Ok(checked) => Ok(checked),
         Err(Refusal::Slip(slip)) => Err(Rejection::Fault(slip_fault(alloc, paths, slip)?)),
         Err(Refusal::Memory) => Err(Rejection::Memory),

@@ -14,9 +14,9 @@ use Rattle.acl_naming.specs.declared.naming_items.Reference.{Reference}
 use Rattle.acl_naming.specs.Checking.{IsCycleSlip, IsSlipBy, IsSlipOf, undefined_of}
 use Rattle.acl_naming.specs.Definitions.{Definition, Naming, index_of, items_count}
 use Rattle.acl_naming.specs.ItemWords.{item_in}
-use Rattle.acl_naming.specs.NamingFiles.{Outcome, bad_byte, file_added, item_added, item_put, items_added, line_added, lines_added, most, opens, split_added, trimmed, with_definition, with_items, without_comment}
+use Rattle.acl_naming.specs.NamingFiles.{TableOrSlip, bad_byte, file_added, item_added, item_put, items_added, line_added, lines_added, most, opens, split_added, trimmed, with_definition, with_items, without_comment}
 
-abbrev Good : Outcome → Type 0
+abbrev Good : TableOrSlip → Type 0
 Good o = EndsAnswered o
 
 item_put_good : (place : Place) (ds : List Definition) (word : List ℕ) (o : Option Item) → Good (item_put place ds word o)
@@ -44,7 +44,7 @@ with_items_good kind place is_open ds [] = tt
 with_items_good kind place is_open ds (word ∷ words) = either Good is_open _ _ (items_good kind place ds (word ∷ words)) tt
 
 -- what is made of a part that is there, or else
-map_or_good : {A : Type 0} (f : A → Outcome) (o : Option A) (other : Outcome) → ((x : A) → Good (f x)) → Good other → Good (option_map_or {U = Outcome} f o other)
+map_or_good : {A : Type 0} (f : A → TableOrSlip) (o : Option A) (other : TableOrSlip) → ((x : A) → Good (f x)) → Good other → Good (option_map_or {U = TableOrSlip} f o other)
 map_or_good f None other h k = k
 map_or_good f (Some x) other h k = h x
 

@@ -21,7 +21,7 @@ use Rattle.acl_naming.specs.declared.naming_items.Item.{Item}
 use Rattle.acl_naming.specs.declared.naming_items.Item.TheVariants.{Name, Network, Service}
 use Rattle.acl_naming.specs.Definitions.{Definition, index_of, items_at, items_count, items_in, items_of}
 use Rattle.acl_naming.specs.ItemWords.{item_in, name_in, service_in, service_ports_in}
-use Rattle.acl_naming.specs.NamingFiles.{Outcome, bad_byte, file_added, item_added, item_put, items_added, line_added, lines_added, most, opens, split_added, trimmed, with_definition, with_items, without_comment}
+use Rattle.acl_naming.specs.NamingFiles.{TableOrSlip, bad_byte, file_added, item_added, item_put, items_added, line_added, lines_added, most, opens, split_added, trimmed, with_definition, with_items, without_comment}
 use Rattle.acl_naming.specs.PortLaws.{AreInOrder, IsInOrder, OrderedPortsAreSome, PortOrderIsKept, PortsAreOrdered}
 use Rattle.acl_naming.specs.Ports.{Ports, has_port, top_port}
 use Rattle.acl_naming.specs.Reach.{holds_port, is_service_of}
@@ -61,20 +61,20 @@ item-ordered place word item = by (has_byte 47 word)
 -- ---- outcomes
 
 -- Where definitions come out, their ports lie in order.
-abbrev Kept : Outcome → Type 0
+abbrev Kept : TableOrSlip → Type 0
 Kept r = IfOk r PortsAreOrdered
 
-behind : (r : Outcome) (next : List Definition → Outcome) → Kept r → ((ds : List Definition) → PortsAreOrdered ds → Kept (next ds))
+behind : (r : TableOrSlip) (next : List Definition → TableOrSlip) → Kept r → ((ds : List Definition) → PortsAreOrdered ds → Kept (next ds))
     → Kept (r >>= next)
 behind (Ok ds) next h more = more ds h
 behind (Err s) next h more = tt
 
-chosen : (b : Bool) (x y : Outcome) → Kept x → Kept y → Kept (if b then x else y)
+chosen : (b : Bool) (x y : TableOrSlip) → Kept x → Kept y → Kept (if b then x else y)
 chosen true x y h k = h
 chosen false x y h k = k
 
-mapped-or : {A : Type 0} (o : Option A) (f : A → Outcome) (x : Outcome) → ((a : A) → Kept (f a)) → Kept x
-    → Kept (option_map_or {U = Outcome} f o x)
+mapped-or : {A : Type 0} (o : Option A) (f : A → TableOrSlip) (x : TableOrSlip) → ((a : A) → Kept (f a)) → Kept x
+    → Kept (option_map_or {U = TableOrSlip} f o x)
 mapped-or None f x h k = k
 mapped-or (Some a) f x h k = h a
 

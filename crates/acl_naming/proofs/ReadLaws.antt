@@ -11,7 +11,7 @@ use Rattle.acl_text.specs.Cursors.{is_white}
 use Rattle.acl_text.specs.Cuts.{cut_at, has_byte}
 use Rattle.acl_text.proofs.CutLaws.{cut-none, none-cut}
 use Rattle.acl_text.specs.Refusals.{IsRefusalBy}
-use Rattle.acl_naming.specs.NamingFiles.{Outcome, in_front_of, without_end, opens}
+use Rattle.acl_naming.specs.NamingFiles.{TableOrSlip, in_front_of, without_end, opens}
 
 -- ---- white space at the end
 
@@ -30,7 +30,7 @@ end_black (x ∷ xs) b h = ap (in_front_of x) (end_black xs b h) ∙ kept_more x
 -- ---- refusals
 
 -- the slip is the expected one
-pub refuses_slip : (s : Slip) (r : Refusal) (e : Outcome) → IsRefusalBy s r → e ≡ Err s → Stops slip_told r e
+pub refuses_slip : (s : Slip) (r : Refusal) (e : TableOrSlip) → IsRefusalBy s r → e ≡ Err s → Stops slip_told r e
 refuses_slip s (refusals.Slip t) e h f = f ∙ ap Err (sym h)
 refuses_slip s refusals.Memory e h f = tt
 

@@ -8,13 +8,13 @@ use Rattle.std.proofs.lemmas.Option.{none-some, same_Some}
 use Rattle.std.proofs.lemmas.List.{length-map, map-append, length-append}
 use Rattle.indexmap.specs.IndexMap.{set_value_at}
 use Rattle.acl_naming.specs.declared.naming_items.Item.{Item}
-use Rattle.acl_naming.specs.declared.tables.Entry.{Entry}
+use Rattle.acl_naming.specs.declared.tables.TableEntry.{TableEntry}
 use Rattle.acl_naming.specs.Definitions.{Definition, index_of, items_at, items_count}
 use Rattle.acl_naming.specs.Tables.{name_at, place_at, with_item}
 use Rattle.acl_naming.specs.TableViewSteps.{definition_of}
 
 abbrev pub Kept : Type 0
-Kept = Vec ℕ Global × Entry
+Kept = Vec ℕ Global × TableEntry
 
 prefix_map : {X Y : Type 0} (p : Y → Bool) (f : X → Y) (xs : List X) → prefix_len p (map f xs) ≡ prefix_len (λ x. p (f x)) xs
 prefix_map p f [] = refl
@@ -64,25 +64,25 @@ items_more (c ∷ ds) d = omega (arith, items_more ds d)
 
 -- ---- one more item
 
-pub last_written : (es : List Kept) (i : ℕ) (old : Entry) (items : List Item) (item : Item) → i + 1 ≡ length es
+pub last_written : (es : List Kept) (i : ℕ) (old : TableEntry) (items : List Item) (item : Item) → i + 1 ≡ length es
     → Some old ≡ slice_get (map (λ (e : Kept). e.1) es) i → items ≡ old.items ++ item ∷ []
     → map definition_of (set_value_at es i (record { place = old.place; items = items })) ≡ with_item (map definition_of es) item
 last_written [] i old items item n h e = absurd (omega arith)
 last_written (k ∷ []) zero old items item n h e =
     ap (λ (t : List Item). record { name = k.0.items; place = old.place; items = t } ∷ []) e
-    ∙ ap (λ (o : Entry). record { name = k.0.items; place = o.place; items = o.items ++ item ∷ [] } ∷ []) (same_Some old k.1 h)
+    ∙ ap (λ (o : TableEntry). record { name = k.0.items; place = o.place; items = o.items ++ item ∷ [] } ∷ []) (same_Some old k.1 h)
 last_written (k ∷ []) (suc i) old items item n h e = absurd (omega arith)
 last_written (k ∷ j ∷ es) zero old items item n h e = absurd (omega arith)
 last_written (k ∷ j ∷ es) (suc i) old items item n h e =
     ap (λ t. definition_of k ∷ t) (last_written (j ∷ es) i old items item (omega arith) h e)
 
-pub last_kept : (es : List Kept) (i : ℕ) (old : Entry) (items : List Item)
+pub last_kept : (es : List Kept) (i : ℕ) (old : TableEntry) (items : List Item)
     → Some old ≡ slice_get (map (λ (e : Kept). e.1) es) i → items ≡ old.items
     → map definition_of (set_value_at es i (record { place = old.place; items = items })) ≡ map definition_of es
 last_kept [] i old items h e = refl
 last_kept (k ∷ es) zero old items h e =
     ap (λ (t : List Item). record { name = k.0.items; place = old.place; items = t } ∷ map definition_of es) e
-    ∙ ap (λ (o : Entry). record { name = k.0.items; place = o.place; items = o.items } ∷ map definition_of es) (same_Some old k.1 h)
+    ∙ ap (λ (o : TableEntry). record { name = k.0.items; place = o.place; items = o.items } ∷ map definition_of es) (same_Some old k.1 h)
 last_kept (k ∷ es) (suc i) old items h e = ap (λ t. definition_of k ∷ t) (last_kept es i old items h e)
 
 pub items_one : (ds : List Definition) (item : Item) → 0 < length ds → items_count (with_item ds item) ≡ items_count ds + 1

@@ -19,8 +19,8 @@ use Rattle.acl_naming.specs.ItemWords.{item_in}
 use Rattle.acl_naming.specs.Tables.{with_item}
 
 -- The definitions, or the first slip.
-abbrev pub Outcome : Type 0
-Outcome = Result (List Definition) Slip
+abbrev pub TableOrSlip : Type 0
+TableOrSlip = Result (List Definition) Slip
 
 -- The greatest number of definitions of a kind, and of their items.
 abbrev pub most : ℕ
@@ -28,16 +28,16 @@ most = 16384
 
 -- ---- the items of a definition, left to right
 
-abbrev pub item_put : Place → List Definition → List ℕ → Option Item → Outcome
+abbrev pub item_put : Place → List Definition → List ℕ → Option Item → TableOrSlip
 item_put place ds word None = Err (slip codes.BadValue place word)
 item_put place ds word (Some item) =
     if nat_le most (items_count ds) then Err (slip codes.TooMany place word)
     else Ok (with_item ds item)
 
-unfoldable pub item_added : NamingKind → Place → List Definition → List ℕ → Outcome
+unfoldable pub item_added : NamingKind → Place → List Definition → List ℕ → TableOrSlip
 item_added kind place ds word = item_put place ds word (item_in kind place word)
 
-abbrev pub items_added : NamingKind → Place → List Definition → List (List ℕ) → Outcome
+abbrev pub items_added : NamingKind → Place → List Definition → List (List ℕ) → TableOrSlip
 items_added kind place ds [] = Ok ds
 items_added kind place ds (word ∷ words) =
     item_added kind place ds word >>= λ more. items_added kind place more words
@@ -69,7 +69,7 @@ bad_byte [] = None
 bad_byte (b ∷ bs) = if is_bad b then Some b else bad_byte bs
 
 -- A definition begins: its name, and the items behind `=`.
-unfoldable pub with_definition : NamingKind → Place → List Definition → List ℕ → List ℕ → Outcome
+unfoldable pub with_definition : NamingKind → Place → List Definition → List ℕ → List ℕ → TableOrSlip
 with_definition kind place ds name rest =
     if not (is_name name) then Err (slip codes.BadName place name)
     else if is_some (index_of ds name) then Err (slip codes.Twice place name)
@@ -78,23 +78,23 @@ with_definition kind place ds name rest =
     (ds ++ record { name = name; place = place; items = [] } ∷ []) (words_of rest)
 
 -- Further items of the definition above in the file.
-abbrev pub with_items : NamingKind → Place → Bool → List Definition → List (List ℕ) → Outcome
+abbrev pub with_items : NamingKind → Place → Bool → List Definition → List (List ℕ) → TableOrSlip
 with_items kind place is_open ds [] = Ok ds
 with_items kind place is_open ds (word ∷ words) =
     if is_open then items_added kind place ds (word ∷ words)
     else Err (slip codes.NoDefinition place word)
 
 -- A line of good bytes; `=` is 61.
-abbrev pub split_added : NamingKind → Place → Bool → List Definition → List ℕ → Outcome
+abbrev pub split_added : NamingKind → Place → Bool → List Definition → List ℕ → TableOrSlip
 split_added kind place is_open ds text =
-    option_map_or {U = Outcome} (λ p. with_definition kind place ds (trimmed p.0) p.1)
+    option_map_or {U = TableOrSlip} (λ p. with_definition kind place ds (trimmed p.0) p.1)
     (cut_at 61 text)
     (with_items kind place is_open ds (words_of text))
 
 -- A line without its comment.
-abbrev pub line_added : NamingKind → Place → Bool → List Definition → List ℕ → Outcome
+abbrev pub line_added : NamingKind → Place → Bool → List Definition → List ℕ → TableOrSlip
 line_added kind place is_open ds text =
-    option_map_or {U = Outcome} (λ b. Err (slip codes.BadByte place (b ∷ []))) (bad_byte text)
+    option_map_or {U = TableOrSlip} (λ b. Err (slip codes.BadByte place (b ∷ []))) (bad_byte text)
     (split_added kind place is_open ds text)
 
 -- ---- a file
@@ -104,13 +104,13 @@ abbrev pub opens : Bool → List ℕ → Bool
 opens is_open text = is_open || has_byte 61 text
 
 -- The lines from the n-th on.
-abbrev pub lines_added : NamingKind → ℕ → ℕ → Bool → List Definition → List (List ℕ) → Outcome
+abbrev pub lines_added : NamingKind → ℕ → ℕ → Bool → List Definition → List (List ℕ) → TableOrSlip
 lines_added kind file n is_open ds [] = Ok ds
 lines_added kind file n is_open ds (line ∷ lines) =
     line_added kind (record { file = file; line = n }) is_open ds (without_comment line)
     >>= λ more. lines_added kind file (n + 1) (opens is_open (without_comment line)) more lines
 
-unfoldable pub file_added : NamingKind → ℕ → List Definition → List ℕ → Outcome
+unfoldable pub file_added : NamingKind → ℕ → List Definition → List ℕ → TableOrSlip
 file_added kind file ds bytes = lines_added kind file 1 false ds (lines_of bytes)
 
 -- ---- what calls promise

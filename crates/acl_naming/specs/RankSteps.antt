@@ -1,7 +1,7 @@
 -- Ranks by which rings of names are found: what is kept of them, and what bounds the steps of the search.
 use Rattle.std.specs.Prelude.{◌≡◌, ℕ, ◌+◌, ◌<◌, ◌≤◌, suc, Bool, true, false, List, [], ◌∷◌, length, slice_index_or}
-use Rattle.acl_naming.specs.declared.ranking.Step.{Step}
-use Rattle.acl_naming.specs.declared.ranking.Step.TheVariants.{Enter, Leave}
+use Rattle.acl_naming.specs.declared.ranking.SearchStep.{SearchStep}
+use Rattle.acl_naming.specs.declared.ranking.SearchStep.TheVariants.{Enter, Leave}
 use Rattle.acl_naming.specs.Definitions.{Definition}
 use Rattle.acl_naming.specs.GraphSteps.{graph_of}
 use Rattle.acl_naming.specs.MarkSteps.{leads}
@@ -15,7 +15,7 @@ NeverFall base ranks =
     (i j : ℕ) → leads (graph_of base) i j ≡ true → rank_at ranks i ≤ rank_at ranks j
 
 -- The step is at one of so many definitions.
-abbrev pub IsStepOf : ℕ → Step → Type 0
+abbrev pub IsStepOf : ℕ → SearchStep → Type 0
 IsStepOf n (Enter i) = i < n
 IsStepOf n (Leave i) = i < n
 

@@ -110,7 +110,7 @@ pub fn read_services(base: Base, file: u32, bytes: &[u8]) -> Result<Base, Refusa
 ///
 /// Slips: `Undefined` at the first item that is a name defined nowhere, networks before services. Where there is
 /// none, `Cycle` at the first definition that reaches itself, in the same order.
-pub fn check(base: Base) -> Result<Checked, Refusal>
+pub fn check_base(base: Base) -> Result<Checked, Refusal>
     ensures same { IfOk result (λ c. c ≡ base) }
     ensures exact { IsChecked base result }
 {

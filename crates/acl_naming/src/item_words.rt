@@ -9,7 +9,7 @@ ghost use Rattle.acl_naming.specs.ItemWords.{
   service_ports_in,
 };
 
-use crate::naming_items::{Block, Item, PortRange, Reference};
+use crate::naming_items::{PrefixItem, Item, PortsItem, Reference};
 use acl_packet::protocol_number;
 use acl_text::{
     Bytes, Memory, Place, contains_byte, is_name, read_ports, read_prefix, split_at_byte,
@@ -24,20 +24,20 @@ pub enum NamingKind {
 }
 
 #[tactic(auto, unfolding(crate::specs::ItemWords::service_ports_in))]
-fn read_service_ports(word: &[u8]) -> Option<PortRange>
+fn read_service_ports(word: &[u8]) -> Option<PortsItem>
     ensures { result ≡ service_ports_in word.now }
 {
     let (ports, protocol) = split_at_byte(word, b'/')?;
     let (low, high) = read_ports(ports, b'-')?;
     let proto = protocol_number(protocol)?;
-    Some(PortRange::new(proto, low, high))
+    Some(PortsItem::new(proto, low, high))
 }
 
-fn read_block(word: &[u8]) -> Option<Block>
+fn read_block(word: &[u8]) -> Option<PrefixItem>
     ensures { result ≡ prefix_in word.now }
 {
     let prefix = read_prefix(word)?;
-    Some(Block::new(prefix))
+    Some(PrefixItem::new(prefix))
 }
 
 fn read_name(alloc: Global, place: Place, word: &[u8]) -> Result<Option<Item>, Memory>

@@ -17,7 +17,7 @@ mod reaching;
 mod tables;
 
 pub use bases::{
-    Base, Checked, add_networks, check, networks_of, ports_of, read_networks, read_services,
+    Base, Checked, add_networks, check_base, networks_of, ports_of, read_networks, read_services,
 };
 pub use item_words::NamingKind;
 pub use laws::{

@@ -17,11 +17,11 @@ pub struct Reference {
 
 /// A prefix as an item. A contract sees the prefix.
 #[derive(Drop)]
-pub struct Block {
+pub struct PrefixItem {
     prefix: Prefix,
 }
 
-impl Model for Block {
+impl Model for PrefixItem {
     ghost use Rattle.acl_packet.specs.declared.addresses.Prefix.{Prefix};
     ghost use Rattle.acl_packet.specs.Addresses.{IsPrefix};
 
@@ -32,12 +32,12 @@ impl Model for Block {
     ghost invariant = { λ b. IsPrefix b.prefix };
 }
 
-impl Block {
-    pub(crate) fn new(prefix: Prefix) -> Block
+impl PrefixItem {
+    pub(crate) fn new(prefix: Prefix) -> PrefixItem
         requires { IsPrefix prefix }
         ensures { result ≡ prefix }
     {
-        Block { prefix }
+        PrefixItem { prefix }
     }
 
     pub(crate) fn family(&self) -> Family
@@ -60,13 +60,13 @@ impl Block {
 
 /// Ports of a protocol as an item. A contract sees the protocol and both ends.
 #[derive(Drop)]
-pub struct PortRange {
+pub struct PortsItem {
     proto: u8,
     low: u16,
     high: u16,
 }
 
-impl Model for PortRange {
+impl Model for PortsItem {
     ghost use Rattle.std.specs.Prelude.{◌≤◌};
     ghost use Rattle.acl_naming.specs.Ports.{Ports};
 
@@ -77,12 +77,12 @@ impl Model for PortRange {
     ghost invariant = { λ p. p.low ≤ p.high };
 }
 
-impl PortRange {
-    pub(crate) fn new(proto: u8, low: u16, high: u16) -> PortRange
+impl PortsItem {
+    pub(crate) fn new(proto: u8, low: u16, high: u16) -> PortsItem
         requires { low ≤ high }
         ensures { result ≡ record { proto = proto; low = low; high = high } }
     {
-        PortRange { proto, low, high }
+        PortsItem { proto, low, high }
     }
 
     pub(crate) fn proto(&self) -> u8
@@ -107,6 +107,6 @@ impl PortRange {
 #[derive(Drop)]
 pub enum Item {
     Name(Reference),
-    Network(Block),
-    Service(PortRange),
+    Network(PrefixItem),
+    Service(PortsItem),
 }

@@ -1,6 +1,6 @@
 ghost use Rattle.std.specs.Prelude.{◌≡◌, ◌+◌, ◌<◌, ◌≤◌, ◌++◌, true, length, map, IfOk, OnOk};
 ghost use Rattle.std.specs.List.{All};
-ghost use Rattle.acl_naming.specs.declared.ranking.Step.TheVariants.{Enter};
+ghost use Rattle.acl_naming.specs.declared.ranking.SearchStep.TheVariants.{Enter};
 ghost use Rattle.acl_naming.specs.RankSteps.{IsStepOf, NeverFall, rank_at, steps_left};
 
 use crate::linking::LinkedTable;
@@ -14,7 +14,7 @@ use std::alloc::Global;
 
 /// A step of the search. A definition is left when all that it names has been left, but for what it is in a ring with.
 #[derive(Clone, Copy)]
-pub enum Step {
+pub enum SearchStep {
     Enter(usize),
     Leave(usize),
 }
@@ -31,11 +31,11 @@ pub fn lowest(places: &[usize], ranks: &[usize]) -> usize
     least
 }
 
-fn push_links(links: &[usize], steps: &mut Vec<Step>) -> Result<(), Memory>
+fn push_links(links: &[usize], steps: &mut Vec<SearchStep>) -> Result<(), Memory>
     ensures { OnOk result (steps.new.items ≡ steps.old.items ++ map Enter links.now) }
 {
     for link in links {
-        steps.push(Step::Enter(*link))?;
+        steps.push(SearchStep::Enter(*link))?;
     }
     Ok(())
 }
@@ -45,7 +45,7 @@ fn enter(
     table: &LinkedTable,
     index: usize,
     entered: &mut [bool],
-    steps: &mut Vec<Step>,
+    steps: &mut Vec<SearchStep>,
     path: &mut Vec<usize>,
     ranks: &mut [usize],
 ) -> Result<(), Memory>
@@ -66,7 +66,7 @@ fn enter(
     entered[index] = true;
     path.push(index)?;
     ranks[index] = path.len();
-    steps.push(Step::Leave(index))?;
+    steps.push(SearchStep::Leave(index))?;
     push_links(table.links_at(index), steps)
 }
 
@@ -107,12 +107,12 @@ fn leave(
     }
 }
 
-fn first_steps(alloc: Global, table: &LinkedTable) -> Result<Vec<Step>, Memory>
+fn first_steps(alloc: Global, table: &LinkedTable) -> Result<Vec<SearchStep>, Memory>
     ensures { IfOk result (λ v. All (IsStepOf (length table.now)) v.items) }
 {
     let mut steps = Vec::new(alloc);
     for i in 0..table.len() {
-        steps.push(Step::Enter(i))?;
+        steps.push(SearchStep::Enter(i))?;
     }
     Ok(steps)
 }
@@ -127,7 +127,7 @@ fn search(alloc: Global, table: &LinkedTable) -> Result<Vec<usize>, Memory>
     let mut next = usize::MAX;
     while let Some(step) = steps.pop() {
         match step {
-            Step::Enter(index) => {
+            SearchStep::Enter(index) => {
                 enter(
                     table,
                     index,
@@ -137,7 +137,7 @@ fn search(alloc: Global, table: &LinkedTable) -> Result<Vec<usize>, Memory>
                     &mut ranks,
                 )?
             }
-            Step::Leave(index) => leave(table, index, &mut path, &mut ranks, &mut next),
+            SearchStep::Leave(index) => leave(table, index, &mut path, &mut ranks, &mut next),
         }
     }
     Ok(ranks)

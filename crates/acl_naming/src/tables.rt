@@ -10,7 +10,7 @@ use std::marker::Model;
 
 /// What is kept of a definition beside its name.
 #[derive(Drop)]
-pub struct Entry {
+pub struct TableEntry {
     place: Place,
     items: Items<Item>,
 }
@@ -19,7 +19,7 @@ pub struct Entry {
 #[derive(Drop)]
 pub struct Table {
     alloc: Global,
-    kept: IndexMap<Vec<u8>, Entry>,
+    kept: IndexMap<Vec<u8>, TableEntry>,
     used: usize,
 }
 
@@ -104,7 +104,7 @@ impl Table {
         ensures { OnOk result (self.new
             ≡ self.old ++ record { name = name.now; place = place; items = [] } ∷ []) }
     {
-        let entry = Entry {
+        let entry = TableEntry {
             place,
             items: Items::new(self.alloc),
         };

@@ -7,7 +7,7 @@ use Rattle.std.proofs.lemmas.Slice.Eq.{bytes_eq-Decides}
 use Rattle.std.proofs.lemmas.Option.{none-some, same_Some}
 use Rattle.acl_packet.specs.Decimals.{number_in}
 use Rattle.acl_packet.specs.NumberWordSteps.{IsOfNames, begins_with_digit}
-use Rattle.acl_packet.specs.NumberWords.{Row, row_of, IsNumberWord, not_below, row_or_number}
+use Rattle.acl_packet.specs.NumberWords.{NumberWord, row_of, IsNumberWord, not_below, row_or_number}
 use Rattle.acl_packet.proofs.ChoiceLaws.{refused}
 use Rattle.acl_packet.proofs.DecimalLaws.{number-found, number-again}
 
@@ -27,7 +27,7 @@ or-else-found None other n e = inr (refl, e)
 or-else-found (Some m) other n e = inl e
 
 -- what is read is the word's number
-word-found : (table : List Row) (least most n : ℕ) (word : List ℕ) → most < 2 ^ 64 → row_or_number table least most word ≡ Some n
+word-found : (table : List NumberWord) (least most n : ℕ) (word : List ℕ) → most < 2 ^ 64 → row_or_number table least most word ≡ Some n
     → IsNumberWord table least most word n
 unfolding row_or_number
 word-found table least most n word l e = elim (or-else-found (row_of table word) (not_below least (number_in most word)) n e) [
@@ -38,7 +38,7 @@ word-found table least most n word l e = elim (or-else-found (row_of table word)
 ]
 
 -- a number's word is read
-word-again : (table : List Row) (least most n : ℕ) (word : List ℕ) → most < 2 ^ 64 → IsNumberWord table least most word n
+word-again : (table : List NumberWord) (least most n : ℕ) (word : List ℕ) → most < 2 ^ 64 → IsNumberWord table least most word n
     → row_or_number table least most word ≡ Some n
 unfolding row_or_number
 word-again table least most n word l h = elim h [
@@ -48,18 +48,18 @@ word-again table least most n word l h = elim h [
       ∙ ap (not_below least) (number-again most n (omega arith) p.3) ∙ not-below-again least n p.2
 ]
 
-pub word-some : (table : List Row) (least most : ℕ) (word : List ℕ) (o : Option ℕ) → most < 2 ^ 64 → o ≡ row_or_number table least most word
+pub word-some : (table : List NumberWord) (least most : ℕ) (word : List ℕ) (o : Option ℕ) → most < 2 ^ 64 → o ≡ row_or_number table least most word
     → IfSome o (λ n. IsNumberWord table least most word n)
 word-some table least most word None l e = tt
 word-some table least most word (Some n) l e = word-found table least most n word l (sym e)
 
-pub word-none : (table : List Row) (least most : ℕ) (word : List ℕ) (o : Option ℕ) → most < 2 ^ 64 → o ≡ row_or_number table least most word
+pub word-none : (table : List NumberWord) (least most : ℕ) (word : List ℕ) (o : Option ℕ) → most < 2 ^ 64 → o ≡ row_or_number table least most word
     → IfNone o ((n : ℕ) → IsNumberWord table least most word n → ⊥)
 word-none table least most word None l e = λ n h. none-some n (e ∙ word-again table least most n word l h)
 word-none table least most word (Some m) l e = tt
 
 -- a word that begins with a digit has no row
-pub digits_have_no_row : (table : List Row) (word : List ℕ) → IsOfNames table → begins_with_digit word ≡ true → row_of table word ≡ None
+pub digits_have_no_row : (table : List NumberWord) (word : List ℕ) → IsOfNames table → begins_with_digit word ≡ true → row_of table word ≡ None
 digits_have_no_row [] word h d = refl
 digits_have_no_row (r ∷ rs) word h d =
     let other : bytes_eq word r.0 ≡ false =

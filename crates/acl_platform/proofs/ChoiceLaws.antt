@@ -6,9 +6,9 @@ use Rattle.std.proofs.lemmas.Bool.{cases_lt, eqb-true, false≢true, or_cases, o
 use Rattle.std.proofs.lemmas.Bool.Decides.{Decides-and, Decides-eqb, Decides-like, same_from_decides}
 use Rattle.std.proofs.lemmas.List.Elements.{All-from_recursion}
 use Rattle.std.proofs.lemmas.List.Folds.{flat_map-map, list_any-append}
-use Rattle.acl_grammar.specs.Rows.{Row, row_text, text_of_rows}
-use Rattle.acl_grammar.proofs.DecisionLaws.{le_decides}
-use Rattle.acl_grammar.proofs.ListLaws.{flat_twice}
+use Rattle.acl_rows.specs.Rows.{Row, row_text, text_of_rows}
+use Rattle.acl_rows.proofs.DecisionLaws.{le_decides}
+use Rattle.acl_rows.proofs.ListLaws.{flat_twice}
 use Rattle.acl_sets.specs.declared.sets.Range.{Range}
 use Rattle.acl_sets.specs.ComputableSets.{is_all}
 use Rattle.acl_sets.specs.Ranges.{holds, inside, IsNormal, IsRange, Numbers}

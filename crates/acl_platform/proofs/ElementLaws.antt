@@ -7,7 +7,7 @@ use Rattle.std.proofs.lemmas.Bool.Decides.{Decides-eqb}
 use Rattle.acl_packet.specs.declared.addresses.Family.{Family}
 use Rattle.acl_packet.specs.declared.addresses.Prefix.{Prefix}
 use Rattle.acl_packet.specs.Addresses.{has_address, IsPrefixOf, size_of, width_of}
-use Rattle.acl_grammar.proofs.DecisionLaws.{le_decides}
+use Rattle.acl_rows.proofs.DecisionLaws.{le_decides}
 use Rattle.acl_sets.specs.declared.sets.Range.{Range}
 use Rattle.acl_sets.specs.ComputableSets.{is_all}
 use Rattle.acl_packet.specs.AddressLists.{any_has}

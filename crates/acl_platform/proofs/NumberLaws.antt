@@ -2,7 +2,7 @@
 use Rattle.std.proofs.Common.{◌≡◌, ℕ, zero, suc, ◌+◌, ◌-◌, ◌<◌, ◌≤◌, List, [], ◌∷◌, ◌++◌, length, take, drop, get_or, flat_map, ap, sym, ◌∙◌, append-nil, add-zero, zero-add, arith}
 use Rattle.std.specs.List.{range_with_len}
 use Rattle.std.proofs.lemmas.Grind.{flat_map-append}
-use Rattle.acl_grammar.proofs.PutLaws.{split_items}
+use Rattle.acl_rows.proofs.PutLaws.{split_items}
 use Rattle.acl_sets.specs.declared.sets.Range.{Range}
 use Rattle.acl_platform.specs.Choices.{numbers_in, numbers_of}
 

@@ -6,7 +6,7 @@ use Rattle.std.proofs.lemmas.List.{length-append, length-map}
 use Rattle.std.proofs.lemmas.List.Folds.{flat_map-map, list_any-append}
 use Rattle.std.proofs.lemmas.Grind.{flat_map-append}
 use Rattle.std.proofs.Math.Nat.{mul-zero, mul_comm}
-use Rattle.acl_grammar.proofs.ListLaws.{all_flat}
+use Rattle.acl_rows.proofs.ListLaws.{all_flat}
 use Rattle.acl_platform.specs.Choices.{pairs}
 
 -- ---- what is written

@@ -4,7 +4,7 @@ use Rattle.std.specs.List.{list_all, AllByRecursion}
 use Rattle.std.proofs.lemmas.Bool.{and_from, and_parts, eqb-true, false≢true, or_left}
 use Rattle.acl_text.specs.Names.{is_name, is_name_byte, is_safe_byte, is_safe_text, single_spaced}
 use Rattle.acl_text.specs.Notes.{is_note}
-use Rattle.acl_grammar.proofs.DecisionLaws.{le_decides}
+use Rattle.acl_rows.proofs.DecisionLaws.{le_decides}
 use Rattle.acl_platform.specs.Remarks.{notes}
 use Rattle.acl_platform.specs.SoundFilters.{IsOneOf, IsRuleName, address_suffixes, port_suffixes, protocol_suffixes}
 

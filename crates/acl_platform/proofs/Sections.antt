@@ -7,11 +7,11 @@ use Rattle.std.proofs.lemmas.Bool.{or_from}
 use Rattle.std.proofs.lemmas.List.{drop_more, map-append, take-append-drop}
 use Rattle.acl_packet.specs.declared.packets.Packet.{Packet}
 use Rattle.acl_packet.specs.declared.filtering.Outcome.{Outcome}
-use Rattle.acl_grammar.specs.Documents.{SpellsRows, outcome_at}
+use Rattle.acl_rows.specs.Documents.{SpellsRows, outcome_at}
 use Rattle.acl_text.specs.Names.{in_common}
-use Rattle.acl_grammar.specs.Rows.{Row, text_of_rows}
-use Rattle.acl_grammar.proofs.JoinLaws.{joined_documents, nothing_is_spelled}
-use Rattle.acl_grammar.proofs.ListLaws.{joined_text}
+use Rattle.acl_rows.specs.Rows.{Row, text_of_rows}
+use Rattle.acl_rows.proofs.JoinLaws.{joined_documents, nothing_is_spelled}
+use Rattle.acl_rows.proofs.ListLaws.{joined_text}
 use Rattle.acl_platform.specs.declared.filters.Filter.{Filter}
 use Rattle.acl_platform.specs.Platforms.{DecidesAs}
 

@@ -4,8 +4,8 @@ use Rattle.std.proofs.lemmas.Result.{err_from_is_err_and}
 use Rattle.acl_text.specs.declared.output.PutFault.{PutFault}
 use Rattle.acl_text.specs.Output.{PutsBy}
 use Rattle.acl_text.proofs.Putting.{done, goes_on, stops}
-use Rattle.acl_grammar.specs.Rows.{Row, text_of_rows}
-use Rattle.acl_grammar.proofs.PutLaws.{each_split, retold}
+use Rattle.acl_rows.specs.Rows.{Row, text_of_rows}
+use Rattle.acl_rows.proofs.PutLaws.{each_split, retold}
 
 -- the rows of the items before one, of that one, and of those behind it
 pub item-split : {A : Type 0} (rows : A → List Row) (xs : List A) (i : ℕ) (x : A) → x ≡ get_or xs i x → i < length xs

@@ -2,7 +2,7 @@ ghost use Rattle.std.specs.Prelude.{◌≡◌, ◌≤◌, ℕ, List, IsTrue, Som
 ghost use Rattle.std.specs.List.{All};
 ghost use Rattle.acl_text.specs.Output.{COUNT_END};
 ghost use Rattle.acl_text.specs.Puts.{Puts};
-ghost use Rattle.acl_grammar.specs.Rows.{text_of_rows};
+ghost use Rattle.acl_rows.specs.Rows.{text_of_rows};
 ghost use Rattle.acl_sets.specs.Ranges.{IsRange};
 ghost use Rattle.acl_platform.specs.ChoiceSteps.{range_rows};
 ghost use Rattle.acl_platform.specs.Choices.{
@@ -13,7 +13,7 @@ ghost use Rattle.acl_platform.specs.Choices.{
 
 use crate::elements::ranges_of;
 use crate::numbers::{NumberForm, count_numbers, put_numbers};
-use acl_grammar::{Each, Form, Rows};
+use acl_rows::{Each, RowForm, Rows};
 use acl_sets::{Range, RangeSet};
 use acl_text::{Out, PutFault};
 
@@ -26,7 +26,7 @@ pub trait Choices {
     ghost items: { Self → List Self.Item };
 
     /// Puts the lines of each choice, in order.
-    fn put_each<F: Form<Self::Item>, O: Out>(&self, form: &F, out: &mut O) -> Result<(), PutFault>
+    fn put_each<F: RowForm<Self::Item>, O: Out>(&self, form: &F, out: &mut O) -> Result<(), PutFault>
         requires { IsTrue (O.is_open out.old) }
         ensures { Puts O.Out out.old out.new
             (text_of_rows (flat_map (F.item_rows form.now) (items self.now))) result };
@@ -42,7 +42,7 @@ impl<'a, T: Copy> Choices for &'a [T] {
 
     ghost items = { λ s. s.now };
 
-    fn put_each<F: Form<T>, O: Out>(&self, form: &F, out: &mut O) -> Result<(), PutFault> {
+    fn put_each<F: RowForm<T>, O: Out>(&self, form: &F, out: &mut O) -> Result<(), PutFault> {
         let each = Each {
             items: self,
             form: Shared { form },
@@ -61,7 +61,7 @@ struct Shared<'a, F> {
     form: &'a F,
 }
 
-impl<'a, T, F: Form<T>> Form<T> for Shared<'a, F> {
+impl<'a, T, F: RowForm<T>> RowForm<T> for Shared<'a, F> {
     ghost item_rows = { λ s item. F.item_rows s.form.now item };
 
     fn put_item<O: Out>(&self, item: &T, out: &mut O) -> Result<(), PutFault> {
@@ -81,7 +81,7 @@ impl<'a> Choices for NumberChoices<'a> {
 
     ghost items = { λ s. number_choices s.set.now };
 
-    fn put_each<F: Form<Option<u8>>, O: Out>(&self, form: &F, out: &mut O) -> Result<(), PutFault> {
+    fn put_each<F: RowForm<Option<u8>>, O: Out>(&self, form: &F, out: &mut O) -> Result<(), PutFault> {
         if self.set.is_all() {
             form.put_item(&None, out)
         } else {
@@ -104,7 +104,7 @@ struct AsChoice<'a, F> {
     form: &'a F,
 }
 
-impl<'a, F: Form<Option<u8>>> NumberForm for AsChoice<'a, F> {
+impl<'a, F: RowForm<Option<u8>>> NumberForm for AsChoice<'a, F> {
     ghost number_text = { λ c number. text_of_rows (F.item_rows c.form.now (Some number)) };
 
     fn put_number<O: Out>(&self, number: u8, out: &mut O) -> Result<(), PutFault> {
@@ -124,7 +124,7 @@ impl<'a> Choices for RangeChoices<'a> {
 
     ghost items = { λ s. range_choices s.set.now };
 
-    fn put_each<F: Form<Option<(u16, u16)>>, O: Out>(
+    fn put_each<F: RowForm<Option<(u16, u16)>>, O: Out>(
         &self,
         form: &F,
         out: &mut O,
@@ -145,7 +145,7 @@ impl<'a> Choices for RangeChoices<'a> {
     }
 }
 
-fn put_ranges<F: Form<Option<(u16, u16)>>, O: Out>(
+fn put_ranges<F: RowForm<Option<(u16, u16)>>, O: Out>(
     ranges: &[Range],
     form: &F,
     out: &mut O,
@@ -174,7 +174,7 @@ impl<A: Choices, B: Choices> Choices for (A, B) {
 
     ghost items = { λ p. pairs (A.items p.0) (B.items p.1) };
 
-    fn put_each<F: Form<(A::Item, B::Item)>, O: Out>(
+    fn put_each<F: RowForm<(A::Item, B::Item)>, O: Out>(
         &self,
         form: &F,
         out: &mut O,
@@ -198,7 +198,7 @@ struct WithSeconds<'a, B, F> {
     form: &'a F,
 }
 
-impl<'a, A: Copy, B: Choices, F: Form<(A, B::Item)>> Form<A> for WithSeconds<'a, B, F> {
+impl<'a, A: Copy, B: Choices, F: RowForm<(A, B::Item)>> RowForm<A> for WithSeconds<'a, B, F> {
     ghost item_rows = { λ w first.
         flat_map (λ second. F.item_rows w.form.now (first, second)) (B.items w.seconds.now) };
 
@@ -218,7 +218,7 @@ struct WithFirst<'a, A, F> {
     form: &'a F,
 }
 
-impl<'a, A: Copy, B: Copy, F: Form<(A, B)>> Form<B> for WithFirst<'a, A, F> {
+impl<'a, A: Copy, B: Copy, F: RowForm<(A, B)>> RowForm<B> for WithFirst<'a, A, F> {
     ghost item_rows = { λ w second. F.item_rows w.form.now (w.first, second) };
 
     fn put_item<O: Out>(&self, item: &B, out: &mut O) -> Result<(), PutFault> {

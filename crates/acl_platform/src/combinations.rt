@@ -1,12 +1,12 @@
 ghost use Rattle.std.specs.Prelude.{◌≡◌, IsTrue, min, length, flat_map};
 ghost use Rattle.acl_text.specs.Output.{COUNT_END};
 ghost use Rattle.acl_text.specs.Puts.{Puts};
-ghost use Rattle.acl_grammar.specs.Rows.{text_of_rows};
+ghost use Rattle.acl_rows.specs.Rows.{text_of_rows};
 ghost use Rattle.acl_platform.specs.Combinations.{IsSized, combination_of, combinations, parts_of};
 
 use crate::choices::{Choices, NumberChoices, RangeChoices};
 use crate::rules::Rule;
-use acl_grammar::Form;
+use acl_rows::RowForm;
 use acl_packet::Prefix;
 use acl_text::{Out, PutFault};
 
@@ -23,7 +23,7 @@ pub struct Combination {
 }
 
 /// Puts the lines of each combination of the rule in the form, the protocol outermost.
-pub fn put_combinations<F: Form<Combination>, O: Out>(
+pub fn put_combinations<F: RowForm<Combination>, O: Out>(
     rule: &Rule,
     form: &F,
     out: &mut O,
@@ -87,7 +87,7 @@ struct InParts<'a, F> {
     form: &'a F,
 }
 
-impl<'a, F: Form<Combination>> Form<Parts> for InParts<'a, F> {
+impl<'a, F: RowForm<Combination>> RowForm<Parts> for InParts<'a, F> {
     ghost item_rows = { λ f parts. F.item_rows f.form.now (combination_of parts) };
 
     fn put_item<O: Out>(&self, item: &Parts, out: &mut O) -> Result<(), PutFault> {

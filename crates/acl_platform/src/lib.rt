@@ -27,7 +27,7 @@ pub use filters::{Feature, Filter, Limit};
 pub use laws::{combinations_hold_what_the_sets_hold, sound_rules_have_combinations};
 pub use limits::{Earlier, RuleLimits, count_in_limit, first_limit, names_sctp_ports};
 pub use numbers::{NumberForm, count_numbers, put_numbers, put_numbers_from};
-pub use platforms::{Platform, check};
+pub use platforms::{Platform, count_within_limits};
 pub use remarks::{NoteRows, RemarkForm, RemarkRows};
 pub use rule_counts::{RuleCount, count_rules};
 pub use rule_rows::{RuleForm, put_rules};

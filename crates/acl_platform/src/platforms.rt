@@ -2,8 +2,8 @@ ghost use Rattle.std.specs.Prelude.{◌≡◌, ℕ, List, [], ◌∷◌, Bool, t
 ghost use Rattle.std.specs.List.{All};
 ghost use Rattle.acl_text.specs.Output.{COUNT_END};
 ghost use Rattle.acl_text.specs.Puts.{Puts};
-ghost use Rattle.acl_grammar.specs.Documents.{SpellsRows};
-ghost use Rattle.acl_grammar.specs.Rows.{text_of_rows};
+ghost use Rattle.acl_rows.specs.Documents.{SpellsRows};
+ghost use Rattle.acl_rows.specs.Rows.{text_of_rows};
 ghost use Rattle.acl_platform.specs.declared.filters.Filter.{Filter};
 ghost use Rattle.acl_platform.specs.Combinations.{IsSized};
 ghost use Rattle.acl_platform.specs.Limits.{filter_limit};
@@ -12,7 +12,7 @@ ghost use Rattle.acl_platform.specs.SoundFilters.{IsSound};
 
 use crate::filters::{Filter, Limit};
 use crate::limits::{RuleLimits, count_in_limit, first_limit};
-use acl_grammar::Language;
+use acl_rows::Language;
 use acl_text::{Out, PutFault};
 
 /// A platform: a language of documents, and the section of it that a filter becomes.
@@ -61,7 +61,7 @@ pub trait Platform: RuleLimits {
 /// The number of entries of the filter's section, or the first limit that the filter meets. The filter
 /// has to be sound, and one that the platform handles.
 #[tactic(auto, using(crate::proofs::SoundRules::all_sized))]
-pub fn check<P: Platform>(platform: &P, filter: &Filter) -> Result<u64, Limit>
+pub fn count_within_limits<P: Platform>(platform: &P, filter: &Filter) -> Result<u64, Limit>
     requires handled { P.handles filter.now ≡ true }
     requires sound { IsSound filter.now }
     ensures { result ≡ judged (filter_limit P.limit (P.count filter.now) filter.now)

@@ -1,10 +1,10 @@
 ghost use Rattle.std.specs.Prelude.{◌≡◌, ℕ, List, IsTrue, flat_map};
 ghost use Rattle.acl_text.specs.Puts.{Puts};
-ghost use Rattle.acl_grammar.specs.Rows.{Row, text_of_rows};
+ghost use Rattle.acl_rows.specs.Rows.{Row, text_of_rows};
 ghost use Rattle.acl_platform.specs.Remarks.{notes, remarks};
 
 use crate::rules::Rule;
-use acl_grammar::Rows;
+use acl_rows::Rows;
 use acl_text::{Out, PutFault};
 
 /// How remarks are written as rows.

@@ -1,7 +1,7 @@
 ghost use Rattle.std.specs.Prelude.{◌≡◌, List, IsTrue, flat_map};
 ghost use Rattle.std.specs.List.{All};
 ghost use Rattle.acl_text.specs.Puts.{Puts};
-ghost use Rattle.acl_grammar.specs.Rows.{Row, text_of_rows};
+ghost use Rattle.acl_rows.specs.Rows.{Row, text_of_rows};
 ghost use Rattle.acl_platform.specs.declared.rules.Rule.{Rule};
 ghost use Rattle.acl_platform.specs.Combinations.{IsSized};
 

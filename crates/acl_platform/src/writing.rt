@@ -2,8 +2,8 @@ ghost use Rattle.std.specs.Prelude.{◌≡◌, ℕ, List, IsTrue, IfSome, map, f
 ghost use Rattle.std.specs.List.{All, IsDistinct};
 ghost use Rattle.std.specs.Str.{bytes_eq};
 ghost use Rattle.acl_text.specs.Puts.{Puts};
-ghost use Rattle.acl_grammar.specs.Documents.{SpellsRows, outcome_at};
-ghost use Rattle.acl_grammar.specs.Rows.{text_of_rows};
+ghost use Rattle.acl_rows.specs.Documents.{SpellsRows, outcome_at};
+ghost use Rattle.acl_rows.specs.Rows.{text_of_rows};
 ghost use Rattle.acl_platform.specs.Limits.{filter_limit};
 ghost use Rattle.acl_platform.specs.Platforms.{DecidesAs, IsAccepted};
 

@@ -14,16 +14,16 @@ use Rattle.acl_words.specs.Tokens.{Token}
 use Rattle.acl_target.specs.declared.targets.Kind.{Kind}
 use Rattle.acl_target.specs.declared.targets.Kind.TheVariants.{Cisco, Juniper, Iptables, Nftables}
 use Rattle.acl_target.specs.Clashes.{clash}
-use Rattle.acl_policy.specs.declared.choices.Choices.{Choices}
+use Rattle.acl_policy.specs.declared.choices.TargetChoices.{TargetChoices}
 use Rattle.acl_policy.specs.declared.keywords.Keyword.{Keyword}
 use Rattle.acl_policy.specs.declared.keywords.Keyword.TheVariants as keywords
-use Rattle.acl_policy.specs.declared.keywords.Row.{Row}
+use Rattle.acl_policy.specs.declared.keywords.KeywordRow.{KeywordRow}
 use Rattle.acl_words.specs.declared.word_lists.Word.{Word}
 use Rattle.acl_policy.specs.declared.states.Part.{Part}
 use Rattle.acl_policy.specs.declared.states.Part.TheVariants.{Start, Header, InHeader, HeaderEnd, Term, Named, InTerm, TermEnd}
-use Rattle.acl_policy.specs.declared.states.State.{State}
+use Rattle.acl_policy.specs.declared.states.PolicyState.{PolicyState}
 use Rattle.acl_policy.specs.declared.target_lines.NamedTarget.{NamedTarget}
-use Rattle.acl_policy.specs.declared.term_drafts.Draft.{Draft}
+use Rattle.acl_policy.specs.declared.term_drafts.TermDraft.{TermDraft}
 use Rattle.acl_policy.specs.declared.values.Takes.{Takes}
 use Rattle.acl_policy.specs.declared.values.Takes.TheVariants as takes
 use Rattle.acl_policy.specs.JudgingSteps.{behind_open, if_keyword, still_open}
@@ -46,7 +46,7 @@ cut_bind : {A B : Type 0} (x : Result A Slip) (f g : A → Result B Slip) (h : B
 cut_bind (Ok a) f g h e = e a
 cut_bind (Err s) f g h e = refl
 
-pub words_in_parts : (vs more : List Token) (s : State) → behind_words s (vs ++ more) ≡ (behind_words s vs >>= λ t. behind_words t more)
+pub words_in_parts : (vs more : List Token) (s : PolicyState) → behind_words s (vs ++ more) ≡ (behind_words s vs >>= λ t. behind_words t more)
 words_in_parts [] more s = refl
 words_in_parts (v ∷ vs) more s = cut_bind (behind_word s.part s v) _ _ _ (λ t. words_in_parts vs more t)
 
@@ -77,12 +77,12 @@ values_joined (Ok u) (Ok v) z all first rest e h = subst (λ r. (r >>= λ _. Ok 
 values_joined (Ok u) (Err s) z all first rest e h = subst (λ r. (r >>= λ _. Ok all) ≡ Err s) (sym e) refl
 values_joined (Err s) y z all first rest e h = subst (λ r. (r >>= λ _. Ok all) ≡ Err s) (sym e) refl
 
-comments_joined : (d : Draft) (vs more : List Token) → with_comments d (vs ++ more) ≡ with_comments (with_comments d vs) more
+comments_joined : (d : TermDraft) (vs more : List Token) → with_comments d (vs ++ more) ≡ with_comments (with_comments d vs) more
 comments_joined d [] more = refl
 comments_joined d (v ∷ vs) more = comments_joined (with_comment d v.text) vs more
 
 -- The values of a keyword that may stand again.
-values_in_parts : (d : Draft) (key : Keyword) (vs more : List Token) → (entry key).once ≡ false
+values_in_parts : (d : TermDraft) (key : Keyword) (vs more : List Token) → (entry key).once ≡ false
     → with_values d key (vs ++ more) ≡ with_values (with_values d key vs) key more
 values_in_parts d keywords.Comment vs more h = comments_joined d vs more
 values_in_parts d keywords.Owner vs more h = cc
@@ -192,70 +192,70 @@ abbrev vacant : Bool → ℕ
 vacant true = 0
 vacant false = 1
 
-abbrev room : Choices → ℕ
+abbrev room : TargetChoices → ℕ
 room c = vacant (is_some c.accept) + vacant c.marked + vacant (is_some c.families) + vacant (is_some c.priority)
 
-abbrev Fewer : Choices → Choices → Type 0
+abbrev Fewer : TargetChoices → TargetChoices → Type 0
 Fewer c d = room d < room c
 
-policy_fewer : (c : Choices) (accept : Bool) → IfSome (with_policy c accept) (Fewer c)
+policy_fewer : (c : TargetChoices) (accept : Bool) → IfSome (with_policy c accept) (Fewer c)
 policy_fewer c accept = by_cases c.accept refl
   where
     by_cases : (o : Option Bool) → c.accept ≡ o → IfSome (unless_some o (record c { accept = Some accept })) (Fewer c)
     by_cases (Some a) e = tt
     by_cases None e = omega (arith, ap (λ o. vacant (is_some o)) e)
 
-mark_fewer : (c : Choices) → IfSome (with_mark c) (Fewer c)
+mark_fewer : (c : TargetChoices) → IfSome (with_mark c) (Fewer c)
 mark_fewer c = some_if (Fewer c) c.marked None (Some (record c { marked = true })) (λ e. tt)
     (λ e. omega (arith, ap vacant e))
 
-families_fewer : (c : Choices) (families : Families) → IfSome (with_families c families) (Fewer c)
+families_fewer : (c : TargetChoices) (families : Families) → IfSome (with_families c families) (Fewer c)
 families_fewer c families = by_cases c.families refl
   where
     by_cases : (o : Option Families) → c.families ≡ o → IfSome (unless_some o (record c { families = Some families })) (Fewer c)
     by_cases (Some a) e = tt
     by_cases None e = omega (arith, ap (λ o. vacant (is_some o)) e)
 
-priority_fewer : (c : Choices) (priority : ℤ) → IfSome (with_priority c priority) (Fewer c)
+priority_fewer : (c : TargetChoices) (priority : ℤ) → IfSome (with_priority c priority) (Fewer c)
 priority_fewer c priority = by_cases c.priority refl
   where
     by_cases : (o : Option ℤ) → c.priority ≡ o → IfSome (unless_some o (record c { priority = Some priority })) (Fewer c)
     by_cases (Some a) e = tt
     by_cases None e = omega (arith, ap (λ o. vacant (is_some o)) e)
 
-family_fewer : (c : Choices) (w : Token) → IfSome (option_and_then (with_families c) (single_family w)) (Fewer c)
+family_fewer : (c : TargetChoices) (w : Token) → IfSome (option_and_then (with_families c) (single_family w)) (Fewer c)
 family_fewer c w = then_has (λ _. Unit {0}) (Fewer c) (with_families c) (single_family w) (anything (single_family w))
     (λ f _. families_fewer c f)
 
-number_fewer : (c : Choices) (w : Token) → IfSome (option_and_then (with_priority c) (priority_word w)) (Fewer c)
+number_fewer : (c : TargetChoices) (w : Token) → IfSome (option_and_then (with_priority c) (priority_word w)) (Fewer c)
 number_fewer c w = then_has (λ _. Unit {0}) (Fewer c) (with_priority c) (priority_word w) (anything (priority_word w))
     (λ p _. priority_fewer c p)
 
-iptables_fewer : (c : Choices) (w : Token) → IfSome (iptables_choice c w) (Fewer c)
+iptables_fewer : (c : TargetChoices) (w : Token) → IfSome (iptables_choice c w) (Fewer c)
 unfolding iptables_choice
 iptables_fewer c w = some_if (Fewer c) (is_word w (codes "ACCEPT")) _ _ (λ _. policy_fewer c true)
     (λ _. some_if (Fewer c) (is_word w (codes "DROP")) _ _ (λ _. policy_fewer c false)
     (λ _. some_if (Fewer c) (is_word w (codes "nostate")) _ _ (λ _. mark_fewer c) (λ _. family_fewer c w)))
 
-nftables_fewer : (c : Choices) (w : Token) → IfSome (nftables_choice c w) (Fewer c)
+nftables_fewer : (c : TargetChoices) (w : Token) → IfSome (nftables_choice c w) (Fewer c)
 unfolding nftables_choice
 nftables_fewer c w = some_if (Fewer c) (is_word w (codes "ACCEPT")) _ _ (λ _. policy_fewer c true)
     (λ _. some_if (Fewer c) (is_word w (codes "DROP")) _ _ (λ _. policy_fewer c false)
     (λ _. some_if (Fewer c) (is_word w (codes "noverbose")) _ _ (λ _. mark_fewer c) (λ _. number_fewer c w)))
 
-choice_fewer : (kind : Kind) (c : Choices) (w : Token) → IfSome (choice kind c w) (Fewer c)
+choice_fewer : (kind : Kind) (c : TargetChoices) (w : Token) → IfSome (choice kind c w) (Fewer c)
 choice_fewer Iptables c w = iptables_fewer c w
 choice_fewer Cisco c w = nftables_fewer c w
 choice_fewer Juniper c w = nftables_fewer c w
 choice_fewer Nftables c w = nftables_fewer c w
 
-chosen_stays : (kind : Kind) (c : Choices) (v : Token) (o : Option Choices) (vs more : List Token) → IfSome o (Fewer c)
-    → ((d : Choices) → Fewer c d → Stays (choices_from kind d) vs more)
+chosen_stays : (kind : Kind) (c : TargetChoices) (v : Token) (o : Option TargetChoices) (vs more : List Token) → IfSome o (Fewer c)
+    → ((d : TargetChoices) → Fewer c d → Stays (choices_from kind d) vs more)
     → Stays (λ ws. or_slip v o >>= λ d. choices_from kind d ws) vs more
 chosen_stays kind c v None vs more less h = record { is_slip = tt; same = refl }
 chosen_stays kind c v (Some d) vs more less h = record { is_slip = (h d less).is_slip; same = (h d less).same }
 
-choices_stay : (kind : Kind) (c : Choices) (vs more : List Token) → room c < length vs → Stays (choices_from kind c) vs more
+choices_stay : (kind : Kind) (c : TargetChoices) (vs more : List Token) → room c < length vs → Stays (choices_from kind c) vs more
 choices_stay kind c [] more h = absurd (omega (arith, h))
 choices_stay kind c (v ∷ vs) more h = stays_head (choices_from kind c) v vs more
     (chosen_stays kind c v (choice kind c v) vs more (choice_fewer kind c v)
@@ -311,13 +311,13 @@ module _ (k a b m : Token) (rest others : List Token) where
   slip_cut : {T : Type 0} (e : Slip) → IsCut {T = T} (λ t ws. Err e) some further
   slip_cut e = record { at = λ t. refl }
 
-  once_stays : (r : Row) (d : Draft)
+  once_stays : (r : KeywordRow) (d : TermDraft)
       → Stays (λ ws. if has_stood d r.keyword then Err (slip_of codes_of.Repeated k) else one_value r.takes k ws) some further
   once_stays r d = stays_if (has_stood d r.keyword) _ _ some further (stays_slip (slip_of codes_of.Repeated k) some further)
       (one_stays r.takes k a b rest further)
 
-  item_by : (r : Row) (c : Bool) → (c ≡ false → (entry r.keyword).once ≡ false)
-      → IsCut (λ (d : Draft) ws. (if c
+  item_by : (r : KeywordRow) (c : Bool) → (c ≡ false → (entry r.keyword).once ≡ false)
+      → IsCut (λ (d : TermDraft) ws. (if c
       then (if has_stood d r.keyword then Err (slip_of codes_of.Repeated k) else one_value r.takes k ws)
       else some_values r.takes k ws) >>= λ _. Ok (with_values d r.keyword ws)) some further
   item_by r true h = cut_stays _ some further (λ d. stays_then _ (λ ws _. Ok (with_values d r.keyword ws)) some further (once_stays r d))
@@ -327,10 +327,10 @@ module _ (k a b m : Token) (rest others : List Token) where
         (values_in_parts d r.keyword some further (h refl));
   }
 
-  row_cut : (o : Option Row) → IfSome o (λ r. r ≡ row_of r.keyword) → IsCut (λ d ws. row_behind o d k ws) some further
+  row_cut : (o : Option KeywordRow) → IfSome o (λ r. r ≡ row_of r.keyword) → IsCut (λ d ws. row_behind o d k ws) some further
   unfolding item_behind
   row_cut None h = slip_cut (slip_of codes_of.Keyword k)
-  row_cut (Some r) h = item_by r r.once (λ e. ap (λ (x : Row). x.once) (sym h) ∙ e)
+  row_cut (Some r) h = item_by r r.once (λ e. ap (λ (x : KeywordRow). x.once) (sym h) ∙ e)
 
   draft_cut : IsCut (λ d ws. draft_behind d k ws) some further
   unfolding draft_behind
@@ -353,45 +353,45 @@ module _ (k a b m : Token) (rest others : List Token) where
       (cut_stays _ some further (λ s. stays_before (target_line k) (λ n. behind_target s k n) some further (target_line_stays rest h)))
       (slip_cut (slip_of codes_of.Keyword k)))
 
-  term_keyword_cut : IsCut {T = State} (λ s ws. draft_behind s.draft k ws >>= λ d. Ok (record s { draft = d })) some further
+  term_keyword_cut : IsCut {T = PolicyState} (λ s ws. draft_behind s.draft k ws >>= λ d. Ok (record s { draft = d })) some further
   term_keyword_cut = cut_part (λ d ws. draft_behind d k ws) (λ s. s.draft) (λ s d. record s { draft = d }) some further
       (λ s d. refl) (λ s d e. refl) draft_cut
 
   -- A keyword leaves the part as it is.
-  abbrev LeavesPart : Part → Result State Slip → Type 0
-  LeavesPart p x = Has (λ _. Unit {0}) (λ (t : State). t.part ≡ p) x
+  abbrev LeavesPart : Part → Result PolicyState Slip → Type 0
+  LeavesPart p x = Has (λ _. Unit {0}) (λ (t : PolicyState). t.part ≡ p) x
 
-  target_leaves : (s : State) (n : NamedTarget) → LeavesPart s.part (behind_target s k n)
+  target_leaves : (s : PolicyState) (n : NamedTarget) → LeavesPart s.part (behind_target s k n)
   unfolding behind_target
-  target_leaves s n = if_has (λ _. Unit {0}) (λ (t : State). t.part ≡ s.part)
+  target_leaves s n = if_has (λ _. Unit {0}) (λ (t : PolicyState). t.part ≡ s.part)
       (list_any (λ e. clash e n.target) s.earlier) (Err (slip codes_of.FilterTwice n.place n.target.name))
       (if nat_le most_targets (length s.earlier) then Err (slip_of codes_of.TooMany k)
       else Ok (with_target s (with_number s.earlier n.target))) (λ _. tt)
-      (λ _. if_has (λ _. Unit {0}) (λ (t : State). t.part ≡ s.part) (nat_le most_targets (length s.earlier))
+      (λ _. if_has (λ _. Unit {0}) (λ (t : PolicyState). t.part ≡ s.part) (nat_le most_targets (length s.earlier))
       (Err (slip_of codes_of.TooMany k)) (Ok (with_target s (with_number s.earlier n.target))) (λ _. tt) (λ _. refl))
 
-  header_leaves : (s : State) (ws : List Token) → LeavesPart s.part (behind_header_keyword s k ws)
+  header_leaves : (s : PolicyState) (ws : List Token) → LeavesPart s.part (behind_header_keyword s k ws)
   unfolding behind_header_keyword
-  header_leaves s ws = if_has (λ _. Unit {0}) (λ (t : State). t.part ≡ s.part) (bytes_eq k.text (codes "comment::"))
+  header_leaves s ws = if_has (λ _. Unit {0}) (λ (t : PolicyState). t.part ≡ s.part) (bytes_eq k.text (codes "comment::"))
       (some_values takes.String k ws >>= λ _. Ok s)
       (if bytes_eq k.text (codes "target::") then (target_line k ws >>= λ n. behind_target s k n) else Err (slip_of codes_of.Keyword k))
-      (λ _. bind_has (λ _. Unit {0}) (λ _. Unit {0}) (λ (t : State). t.part ≡ s.part) (some_values takes.String k ws) (λ _. Ok s)
+      (λ _. bind_has (λ _. Unit {0}) (λ _. Unit {0}) (λ (t : PolicyState). t.part ≡ s.part) (some_values takes.String k ws) (λ _. Ok s)
       (any_result (some_values takes.String k ws)) (λ _ _. refl))
-      (λ _. if_has (λ _. Unit {0}) (λ (t : State). t.part ≡ s.part) (bytes_eq k.text (codes "target::"))
+      (λ _. if_has (λ _. Unit {0}) (λ (t : PolicyState). t.part ≡ s.part) (bytes_eq k.text (codes "target::"))
       (target_line k ws >>= λ n. behind_target s k n) (Err (slip_of codes_of.Keyword k))
-      (λ _. bind_has (λ _. Unit {0}) (λ _. Unit {0}) (λ (t : State). t.part ≡ s.part) (target_line k ws) (λ n. behind_target s k n)
+      (λ _. bind_has (λ _. Unit {0}) (λ _. Unit {0}) (λ (t : PolicyState). t.part ≡ s.part) (target_line k ws) (λ n. behind_target s k n)
       (any_result (target_line k ws)) (λ n _. target_leaves s n)) (λ _. tt))
 
-  term_leaves : (s : State) (x : Result Draft Slip) → LeavesPart s.part (x >>= λ d. Ok (record s { draft = d }))
+  term_leaves : (s : PolicyState) (x : Result TermDraft Slip) → LeavesPart s.part (x >>= λ d. Ok (record s { draft = d }))
   term_leaves s (Ok d) = refl
   term_leaves s (Err e) = tt
 
-  goes_on_there : (p : Part) (x : Result State Slip) → LeavesPart p x
+  goes_on_there : (p : Part) (x : Result PolicyState Slip) → LeavesPart p x
       → (x >>= λ t. behind_keyword p t k further) ≡ (x >>= λ t. behind_keyword t.part t k further)
   goes_on_there p (Ok t) h = ap (λ q. behind_keyword q t k further) (sym h)
   goes_on_there p (Err e) h = refl
 
-  keyword_in_parts : (p : Part) (s : State) → s.part ≡ p → 6 ≤ length rest → behind_keyword p s k (some ++ further)
+  keyword_in_parts : (p : Part) (s : PolicyState) → s.part ≡ p → 6 ≤ length rest → behind_keyword p s k (some ++ further)
       ≡ (behind_keyword p s k some >>= λ t. behind_keyword t.part t k further)
   unfolding behind_keyword
   keyword_in_parts InHeader s e h = (header_cut h).at s
@@ -406,7 +406,7 @@ module _ (k a b m : Token) (rest others : List Token) where
   keyword_in_parts Named s e h = refl
   keyword_in_parts TermEnd s e h = refl
 
-  mark_in_parts : (form : Form) (s : State) → k.form ≡ form → 6 ≤ length rest → behind_mark form s k (some ++ further)
+  mark_in_parts : (form : Form) (s : PolicyState) → k.form ≡ form → 6 ≤ length rest → behind_mark form s k (some ++ further)
       ≡ (behind_mark form s k some >>= λ t. behind_open (if_keyword form k) t further)
   unfolding behind_mark
   mark_in_parts forms.Keyword s e h = keyword_in_parts s.part s refl h
@@ -419,7 +419,7 @@ module _ (k a b m : Token) (rest others : List Token) where
   mark_in_parts forms.Bad s e h = cut_bind (behind_end s.part s k) _ _ _ (λ t. words_in_parts some further t)
 
 -- Eight words and more may be judged before the others are.
-pub open_in_parts : (mark : Option Token) (s : State) (vs : List Token) (w : Token) (ws : List Token) → 8 ≤ length vs
+pub open_in_parts : (mark : Option Token) (s : PolicyState) (vs : List Token) (w : Token) (ws : List Token) → 8 ≤ length vs
     → behind_open mark s (vs ++ w ∷ ws) ≡ (behind_open mark s vs >>= λ t. behind_open (still_open mark) t (w ∷ ws))
 open_in_parts None s vs w ws h = words_in_parts vs (w ∷ ws) s
 open_in_parts (Some k) s [] w ws h = absurd (omega (arith, h))

@@ -6,7 +6,7 @@ use Rattle.acl_text.specs.declared.faults.Refusal.TheVariants as refusals
 use Rattle.acl_text.specs.declared.faults.Slip.{Slip}
 use Rattle.acl_text.specs.Steps.{◌>>=◌}
 use Rattle.acl_words.specs.Tokens.{Token}
-use Rattle.acl_policy.specs.declared.states.State.{State}
+use Rattle.acl_policy.specs.declared.states.PolicyState.{PolicyState}
 use Rattle.acl_policy.specs.JudgingSteps.{behind_open, still_open, rest_behind}
 use Rattle.acl_policy.specs.Policies.{is_mark, values_of, behind_mark, behind_marks}
 use Rattle.acl_policy.proofs.ClausesInParts.{open_in_parts}
@@ -20,8 +20,8 @@ same_bind : {A : Type 0} (x : Result A Slip) → (x >>= λ a. Ok a) ≡ x
 same_bind (Ok a) = refl
 same_bind (Err e) = refl
 
-module _ (mark : Option Token) (s : State) (vs : List Token) where
-  abbrev now : Result State Slip
+module _ (mark : Option Token) (s : PolicyState) (vs : List Token) where
+  abbrev now : Result PolicyState Slip
   now = behind_open mark s vs
 
   -- A word that is no mark.
@@ -69,15 +69,15 @@ module _ (mark : Option Token) (s : State) (vs : List Token) where
   unfolding rest_behind
   nothing_comes = same_bind (behind_open mark s (vs ++ [])) ∙ ap (λ l. behind_open mark s l) (append-nil vs)
 
-  pub mark_goes_on : (t : State) → now ≡ Ok t → (w : Token) → is_mark w.form ≡ true → (ws : List Token)
+  pub mark_goes_on : (t : PolicyState) → now ≡ Ok t → (w : Token) → is_mark w.form ≡ true → (ws : List Token)
       → rest_behind mark s vs (w ∷ ws) ≡ rest_behind (Some w) t [] ws
   mark_goes_on t e w h ws = mark_comes w h ws ∙ ap (λ x. x >>= λ t. rest_behind (Some w) t [] ws) e
 
-  pub more_goes_on : (t : State) → now ≡ Ok t → (w : Token) → is_mark w.form ≡ false → 8 ≤ length vs → (ws : List Token)
+  pub more_goes_on : (t : PolicyState) → now ≡ Ok t → (w : Token) → is_mark w.form ≡ false → 8 ≤ length vs → (ws : List Token)
       → rest_behind mark s vs (w ∷ ws) ≡ rest_behind (still_open mark) t [] (w ∷ ws)
   more_goes_on t e w h k ws = more_comes w h k ws ∙ ap (λ x. x >>= λ t. rest_behind (still_open mark) t [] (w ∷ ws)) e
 
-  slip_stays : (r : Refusal) (x : Result State Slip) (f : State → Result State Slip) → Stops slip_told r now → x ≡ (now >>= f) → Stops slip_told r x
+  slip_stays : (r : Refusal) (x : Result PolicyState Slip) (f : PolicyState → Result PolicyState Slip) → Stops slip_told r now → x ≡ (now >>= f) → Stops slip_told r x
   slip_stays (refusals.Slip slip) x f h e = e ∙ ap (λ y. y >>= f) h
   slip_stays refusals.Memory x f h e = tt
 

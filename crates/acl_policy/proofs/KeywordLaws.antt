@@ -6,14 +6,14 @@ use Rattle.acl_text.specs.declared.faults.Slip.{Slip}
 use Rattle.acl_words.specs.Tokens.{Token}
 use Rattle.acl_policy.specs.declared.keywords.Keyword.{Keyword}
 use Rattle.acl_policy.specs.declared.keywords.Keyword.TheVariants as keywords
-use Rattle.acl_policy.specs.declared.keywords.Row.{Row}
-use Rattle.acl_policy.specs.declared.term_drafts.Draft.{Draft}
+use Rattle.acl_policy.specs.declared.keywords.KeywordRow.{KeywordRow}
+use Rattle.acl_policy.specs.declared.term_drafts.TermDraft.{TermDraft}
 use Rattle.acl_policy.specs.Keywords.{all_keywords, entry, line, row_in, row_named, row_of}
 use Rattle.acl_policy.specs.Terms.{item_behind, row_behind, draft_behind}
 use Rattle.acl_policy.proofs.Outcomes.{some_if, weaker_some}
 
 -- The row is that of its keyword, which is written so.
-pub record IsRowOf (text : List ℕ) (r : Row) : Type 0 where
+pub record IsRowOf (text : List ℕ) (r : KeywordRow) : Type 0 where
   pub row_is : r ≡ row_of r.keyword
   pub text_is : text ≡ (entry r.keyword).text
 
@@ -39,15 +39,15 @@ row_found _ = refl
 abbrev pub IsKeyword : List ℕ → Type 0
 IsKeyword text = (key : Keyword) × (text ≡ (entry key).text)
 
-row_known : (o : Option Row) (d : Draft) (k : Token) (ws : List Token) → IfSome o (IsRowOf k.text)
+row_known : (o : Option KeywordRow) (d : TermDraft) (k : Token) (ws : List Token) → IfSome o (IsRowOf k.text)
     → IfOk (row_behind o d k ws) (λ _. IsKeyword k.text)
 row_known None d k ws h = tt
 row_known (Some r) d k ws h = always_known (item_behind r d k ws)
   where
-    always_known : (x : Result Draft Slip) → IfOk x (λ _. IsKeyword k.text)
+    always_known : (x : Result TermDraft Slip) → IfOk x (λ _. IsKeyword k.text)
     always_known (Ok e) = (r.keyword, h.text_is)
     always_known (Err e) = tt
 
-pub keyword_known : (d : Draft) (k : Token) (ws : List Token) → IfOk (draft_behind d k ws) (λ _. IsKeyword k.text)
+pub keyword_known : (d : TermDraft) (k : Token) (ws : List Token) → IfOk (draft_behind d k ws) (λ _. IsKeyword k.text)
 unfolding draft_behind
 keyword_known d k ws = row_known (row_named k.text) d k ws (row_is_of k.text)

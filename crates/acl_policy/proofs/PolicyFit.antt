@@ -21,7 +21,7 @@ use Rattle.acl_words.specs.declared.forms.Form.{Form}
 use Rattle.acl_words.specs.declared.forms.Form.TheVariants as forms
 use Rattle.acl_words.specs.Tokens.{Token}
 use Rattle.acl_words.specs.Places.{IsLinePlace, HaveLinePlaces}
-use Rattle.acl_policy.specs.declared.term_drafts.Draft.{Draft}
+use Rattle.acl_policy.specs.declared.term_drafts.TermDraft.{TermDraft}
 use Rattle.acl_policy.specs.declared.raw_terms.RawTerm.{RawTerm}
 use Rattle.acl_words.specs.declared.word_lists.Word.{Word}
 use Rattle.acl_target.specs.declared.targets.Kind.{Kind}
@@ -31,7 +31,7 @@ use Rattle.acl_policy.specs.declared.blocks.Block.{Block}
 use Rattle.acl_policy.specs.declared.blocks.Policy.{Policy}
 use Rattle.acl_policy.specs.declared.states.Part.{Part}
 use Rattle.acl_policy.specs.declared.states.Part.TheVariants.{Start, Header, InHeader, HeaderEnd, Term, Named, InTerm, TermEnd}
-use Rattle.acl_policy.specs.declared.states.State.{State}
+use Rattle.acl_policy.specs.declared.states.PolicyState.{PolicyState}
 use Rattle.acl_policy.specs.declared.target_lines.NamedTarget.{NamedTarget}
 use Rattle.acl_policy.specs.declared.values.Takes.TheVariants as takes
 use Rattle.acl_target.specs.Clashes.{clash, same_kind}
@@ -122,7 +122,7 @@ open_terms Named = 1
 open_terms InTerm = 1
 open_terms TermEnd = 0
 
-abbrev Few : Part → State → Type 0
+abbrev Few : Part → PolicyState → Type 0
 Few p s = (length (terms_of s.blocks) + length s.terms + open_terms p ≤ s.term_count) × (s.term_count ≤ 1024)
 
 terms_in : (blocks : List Block) (targets : List Target) (terms : List RawTerm)
@@ -167,14 +167,14 @@ module _ (At : Place → Type 0) where
     pub terms_are : All GoodTerm terms
     pub names_differ : Each NameIsNew [] terms
 
-  abbrev SoundName : List RawTerm → Draft → Type 0
+  abbrev SoundName : List RawTerm → TermDraft → Type 0
   SoundName terms d =
       (is_name d.term.name.text ≡ true)
       × (list_any (λ e. bytes_eq e.name.text d.term.name.text) terms ≡ false)
       × At d.term.name.place
 
   -- What holds besides by the part where the reading stands.
-  abbrev Stands : Part → List Target → List RawTerm → Draft → Type 0
+  abbrev Stands : Part → List Target → List RawTerm → TermDraft → Type 0
   Stands Start targets terms d = Unit {0}
   Stands Header targets terms d = Unit {0}
   Stands InHeader targets terms d = Unit {0}
@@ -185,13 +185,13 @@ module _ (At : Place → Type 0) where
   Stands TermEnd targets terms d = (0 < length targets) × (0 < length terms)
 
   -- The same, at a part that is told apart.
-  record GoodAt (p : Part) (s : State) : Type 0 where
+  record GoodAt (p : Part) (s : PolicyState) : Type 0 where
     pub base : Base s.blocks s.earlier s.targets s.terms
     pub draft_is : Sound At s.draft.term.name s.draft
     pub stands : Stands p s.targets s.terms s.draft
     pub few_terms : Few p s
 
-  abbrev Good : State → Type 0
+  abbrev Good : PolicyState → Type 0
   Good s = GoodAt s.part s
 
   start_good : Good start
@@ -212,7 +212,7 @@ module _ (At : Place → Type 0) where
     few_terms = (omega arith, omega arith);
   }
 
-  with_target_base : (s : State) (t : Target) → Base s.blocks s.earlier s.targets s.terms → GoodTarget t
+  with_target_base : (s : PolicyState) (t : Target) → Base s.blocks s.earlier s.targets s.terms → GoodTarget t
       → length s.earlier < 64 → StandsBehind s.earlier t
       → Base s.blocks (s.earlier ++ t ∷ []) (s.targets ++ t ∷ []) s.terms
   with_target_base s t b h room k = record {
@@ -227,7 +227,7 @@ module _ (At : Place → Type 0) where
     names_differ = b.names_differ;
   }
 
-  target_good : (s : State) (k : Token) (n : NamedTarget) → GoodAt InHeader s → s.part ≡ InHeader → At k.place → IsNamed At n
+  target_good : (s : PolicyState) (k : Token) (n : NamedTarget) → GoodAt InHeader s → s.part ≡ InHeader → At k.place → IsNamed At n
       → Has (ToldAt At) Good (behind_target s k n)
   unfolding behind_target
   target_good s k n h p a g = if_has (ToldAt At) Good (list_any (λ e. clash e n.target) s.earlier) _ _ (λ _. (g.name_stands, tt))
@@ -244,7 +244,7 @@ module _ (At : Place → Type 0) where
       stands_in : (t : Target) → Stands s.part (s.targets ++ t ∷ []) s.terms s.draft
       stands_in t = subst (λ q. Stands q (s.targets ++ t ∷ []) s.terms s.draft) (sym p) tt
 
-  header_good : (s : State) (k : Token) (ws : List Token) → GoodAt InHeader s → s.part ≡ InHeader → Good s
+  header_good : (s : PolicyState) (k : Token) (ws : List Token) → GoodAt InHeader s → s.part ≡ InHeader → Good s
       → At k.place → Stand At ws → Has (ToldAt At) Good (behind_header_keyword s k ws)
   unfolding behind_header_keyword
   header_good s k ws h p g a st = if_has (ToldAt At) Good (bytes_eq k.text (codes "comment::")) _ _
@@ -253,7 +253,7 @@ module _ (At : Place → Type 0) where
       (λ _. bind_has (ToldAt At) (IsNamed At) Good (target_line k ws) _ (line_good At k ws a st) (λ n m. target_good s k n h p a m))
       (λ _. (a, tt)))
 
-  name_good : (s : State) (w : Token) → GoodAt Term s → At w.place → Has (ToldAt At) Good (behind_name s w)
+  name_good : (s : PolicyState) (w : Token) → GoodAt Term s → At w.place → Has (ToldAt At) Good (behind_name s w)
   unfolding behind_name
   name_good s w h a = if_has (ToldAt At) Good (not (is_value takes.Name w)) _ _ (λ _. (a, answered_for w.form codes_of.Syntax tt))
       (λ named. if_has (ToldAt At) Good (list_any (λ t. bytes_eq t.name.text w.text) s.terms) _ _ (λ _. (a, tt))
@@ -265,7 +265,7 @@ module _ (At : Place → Type 0) where
         few_terms = (omega (arith, h.few_terms.0), omega (arith, fewer_terms s.term_count room));
       })))
 
-  block_is : (s : State) → GoodAt TermEnd s → GoodBlock (record { targets = s.targets; terms = s.terms })
+  block_is : (s : PolicyState) → GoodAt TermEnd s → GoodBlock (record { targets = s.targets; terms = s.terms })
   block_is s h = (
     record {
       some_target = h.stands.0;
@@ -280,7 +280,7 @@ module _ (At : Place → Type 0) where
     },
   )
 
-  with_block_base : (s : State) → GoodAt TermEnd s → Base (with_block s).blocks s.earlier [] []
+  with_block_base : (s : PolicyState) → GoodAt TermEnd s → Base (with_block s).blocks s.earlier [] []
   with_block_base s h =
       let b : Block = record { targets = s.targets; terms = s.terms } in
       record {
@@ -295,7 +295,7 @@ module _ (At : Place → Type 0) where
         names_differ = tt;
       }
 
-  word_good : (p : Part) (s : State) (w : Token) → GoodAt p s → At w.place → Has (ToldAt At) Good (behind_word p s w)
+  word_good : (p : Part) (s : PolicyState) (w : Token) → GoodAt p s → At w.place → Has (ToldAt At) Good (behind_word p s w)
   unfolding behind_word
   word_good Start s w h a = if_has (ToldAt At) Good (is_word w (codes "header")) _ _
       (λ _. record { base = h.base; draft_is = h.draft_is; stands = tt; few_terms = h.few_terms }) (λ _. (a, answered_for w.form codes_of.Syntax tt))
@@ -318,11 +318,11 @@ module _ (At : Place → Type 0) where
       })
       (λ _. (a, answered_for w.form codes_of.Syntax tt)))
 
-  words_good : (s : State) (ws : List Token) → Good s → Stand At ws → Has (ToldAt At) Good (behind_words s ws)
+  words_good : (s : PolicyState) (ws : List Token) → Good s → Stand At ws → Has (ToldAt At) Good (behind_words s ws)
   words_good s [] h st = h
   words_good s (w ∷ ws) h st = bind_has (ToldAt At) Good Good (behind_word s.part s w) _ (word_good s.part s w h st.0) (λ t g. words_good t ws g st.1)
 
-  keyword_good : (p : Part) (s : State) (k : Token) (ws : List Token) → s.part ≡ p → GoodAt p s → Good s
+  keyword_good : (p : Part) (s : PolicyState) (k : Token) (ws : List Token) → s.part ≡ p → GoodAt p s → Good s
       → At k.place → Stand At ws → Has (ToldAt At) Good (behind_keyword p s k ws)
   unfolding behind_keyword
   keyword_good Start s k ws e h g a st = (a, tt)
@@ -340,7 +340,7 @@ module _ (At : Place → Type 0) where
         few_terms = subst (λ q. Few q s) (sym e) h.few_terms;
       })
     where
-      named_on : (d : Draft) → d.term.name ≡ s.draft.term.name → SoundName s.terms d
+      named_on : (d : TermDraft) → d.term.name ≡ s.draft.term.name → SoundName s.terms d
       named_on d n = (
         ap (λ w. is_name w.text) n ∙ h.stands.1.0,
         ap (λ w. list_any (λ e. bytes_eq e.name.text w.text) s.terms) n ∙ h.stands.1.1,
@@ -348,7 +348,7 @@ module _ (At : Place → Type 0) where
       )
   keyword_good TermEnd s k ws e h g a st = (a, tt)
 
-  begin_good : (p : Part) (s : State) (m : Token) → GoodAt p s → At m.place → Has (ToldAt At) Good (behind_begin p s m)
+  begin_good : (p : Part) (s : PolicyState) (m : Token) → GoodAt p s → At m.place → Has (ToldAt At) Good (behind_begin p s m)
   unfolding behind_begin
   begin_good Start s m h a = (a, tt)
   begin_good Header s m h a = record { base = h.base; draft_is = h.draft_is; stands = tt; few_terms = h.few_terms }
@@ -359,7 +359,7 @@ module _ (At : Place → Type 0) where
   begin_good InTerm s m h a = (a, tt)
   begin_good TermEnd s m h a = (a, tt)
 
-  term_is : (d : Draft) → Sound At d.term.name d → d.has_action ≡ true → is_name d.term.name.text ≡ true → At d.term.name.place
+  term_is : (d : TermDraft) → Sound At d.term.name d → d.has_action ≡ true → is_name d.term.name.text ≡ true → At d.term.name.place
       → GoodTerm d.term
   term_is d h acted named a = (
     record {
@@ -376,7 +376,7 @@ module _ (At : Place → Type 0) where
     },
   )
 
-  with_term_base : (s : State) → GoodAt InTerm s → s.draft.has_action ≡ true
+  with_term_base : (s : PolicyState) → GoodAt InTerm s → s.draft.has_action ≡ true
       → Base s.blocks s.earlier s.targets (s.terms ++ s.draft.term ∷ [])
   with_term_base s h acted = record {
     blocks_are = h.base.blocks_are;
@@ -391,7 +391,7 @@ module _ (At : Place → Type 0) where
     names_differ = each_push NameIsNew [] s.terms s.draft.term h.base.names_differ h.stands.1.1;
   }
 
-  end_good : (p : Part) (s : State) (m : Token) → GoodAt p s → At m.place → Has (ToldAt At) Good (behind_end p s m)
+  end_good : (p : Part) (s : PolicyState) (m : Token) → GoodAt p s → At m.place → Has (ToldAt At) Good (behind_end p s m)
   unfolding behind_end
   end_good Start s m h a = (a, tt)
   end_good Header s m h a = (a, tt)
@@ -410,11 +410,11 @@ module _ (At : Place → Type 0) where
       (λ _. (a, tt))
   end_good TermEnd s m h a = (a, tt)
 
-  ended_good : (s : State) (m : Token) (ws : List Token) → Good s → At m.place → Stand At ws
+  ended_good : (s : PolicyState) (m : Token) (ws : List Token) → Good s → At m.place → Stand At ws
       → Has (ToldAt At) Good (behind_end s.part s m >>= λ t. behind_words t ws)
   ended_good s m ws h a st = bind_has (ToldAt At) Good Good (behind_end s.part s m) _ (end_good s.part s m h a) (λ t g. words_good t ws g st)
 
-  mark_good : (f : Form) (s : State) (m : Token) (ws : List Token) → Good s → At m.place → Stand At ws
+  mark_good : (f : Form) (s : PolicyState) (m : Token) (ws : List Token) → Good s → At m.place → Stand At ws
       → Has (ToldAt At) Good (behind_mark f s m ws)
   unfolding behind_mark
   mark_good forms.Keyword s m ws h a st = keyword_good s.part s m ws refl h h a st
@@ -433,7 +433,7 @@ module _ (At : Place → Type 0) where
   values_stand [] st = tt
   values_stand (w ∷ ws) st = either (Stand At) (is_mark w.form) _ _ tt (st.0, values_stand ws st.1)
 
-  marks_good : (s : State) (ws : List Token) → Good s → Stand At ws → Has (ToldAt At) Good (behind_marks s ws)
+  marks_good : (s : PolicyState) (ws : List Token) → Good s → Stand At ws → Has (ToldAt At) Good (behind_marks s ws)
   marks_good s [] h st = h
   marks_good s (w ∷ ws) h st = if_has (ToldAt At) Good (is_mark w.form) _ _
       (λ _. bind_has (ToldAt At) Good Good (behind_mark w.form s w (values_of ws)) _
@@ -451,7 +451,7 @@ module _ (At : Place → Type 0) where
   abbrev GoodPolicy : Policy → Type 0
   GoodPolicy p = IsPolicy p × All (BlockStands At) p.blocks
 
-  end_is_good : (p : Part) (s : State) (place : Place) → GoodAt p s → OrStart place → Has (ToldAt OrStart) GoodPolicy (end_of p s place)
+  end_is_good : (p : Part) (s : PolicyState) (place : Place) → GoodAt p s → OrStart place → Has (ToldAt OrStart) GoodPolicy (end_of p s place)
   unfolding end_of
   end_is_good Start s place h a = (a, tt)
   end_is_good Header s place h a = (a, tt)

@@ -10,7 +10,7 @@ use Rattle.acl_text.specs.Names.{is_filter_name}
 use Rattle.acl_text.specs.SignedNumbers.{IsSignedWord, signed_in}
 use Rattle.acl_text.proofs.SignedLaws.{signed_some}
 use Rattle.acl_words.specs.Tokens.{Token}
-use Rattle.acl_policy.specs.declared.choices.Choices.{Choices}
+use Rattle.acl_policy.specs.declared.choices.TargetChoices.{TargetChoices}
 use Rattle.acl_target.specs.declared.targets.Ending.TheVariants as endings
 use Rattle.acl_target.specs.declared.targets.Kind.{Kind}
 use Rattle.acl_target.specs.declared.targets.Kind.TheVariants.{Cisco, Juniper, Iptables, Nftables}
@@ -57,7 +57,7 @@ priority_good w = some_if IsPriority (is_plain w.form) _ _
     (λ _. limited w.text (signed_in 32768 32767 w.text) (signed_some 32768 32767 w.text (signed_in 32768 32767 w.text) refl))
     (λ _. tt)
 
-record Chosen (c : Choices) : Type 0 where
+record Chosen (c : TargetChoices) : Type 0 where
   pub families_fit : IfSome c.families NotMixed
   pub priority_fits : IfSome c.priority IsPriority
 
@@ -65,13 +65,13 @@ unless_has : {A B : Type 0} (Q : B → Type 0) (o : Option A) (x : B) → Q x �
 unless_has Q None x h = h
 unless_has Q (Some y) x h = tt
 
-policy_chosen : (c : Choices) (accept : Bool) → Chosen c → IfSome (with_policy c accept) Chosen
+policy_chosen : (c : TargetChoices) (accept : Bool) → Chosen c → IfSome (with_policy c accept) Chosen
 policy_chosen c accept h = unless_has Chosen c.accept (record c { accept = Some accept }) (record { families_fit = h.families_fit; priority_fits = h.priority_fits })
 
-mark_chosen : (c : Choices) → Chosen c → IfSome (with_mark c) Chosen
+mark_chosen : (c : TargetChoices) → Chosen c → IfSome (with_mark c) Chosen
 mark_chosen c h = some_if Chosen c.marked _ _ (λ _. tt) (λ _. record { families_fit = h.families_fit; priority_fits = h.priority_fits })
 
-iptables_chosen : (c : Choices) (w : Token) → Chosen c → IfSome (iptables_choice c w) Chosen
+iptables_chosen : (c : TargetChoices) (w : Token) → Chosen c → IfSome (iptables_choice c w) Chosen
 unfolding iptables_choice
 iptables_chosen c w h = some_if Chosen (is_word w (codes "ACCEPT")) _ _ (λ _. policy_chosen c true h)
     (λ _. some_if Chosen (is_word w (codes "DROP")) _ _ (λ _. policy_chosen c false h)
@@ -79,7 +79,7 @@ iptables_chosen c w h = some_if Chosen (is_word w (codes "ACCEPT")) _ _ (λ _. p
     (λ _. then_has NotMixed Chosen (with_families c) (single_family w) (one_family w)
     (λ f g. unless_has Chosen c.families (record c { families = Some f }) (record { families_fit = g; priority_fits = h.priority_fits })))))
 
-nftables_chosen : (c : Choices) (w : Token) → Chosen c → IfSome (nftables_choice c w) Chosen
+nftables_chosen : (c : TargetChoices) (w : Token) → Chosen c → IfSome (nftables_choice c w) Chosen
 unfolding nftables_choice
 nftables_chosen c w h = some_if Chosen (is_word w (codes "ACCEPT")) _ _ (λ _. policy_chosen c true h)
     (λ _. some_if Chosen (is_word w (codes "DROP")) _ _ (λ _. policy_chosen c false h)
@@ -87,7 +87,7 @@ nftables_chosen c w h = some_if Chosen (is_word w (codes "ACCEPT")) _ _ (λ _. p
     (λ _. then_has IsPriority Chosen (with_priority c) (priority_word w) (priority_good w)
     (λ z g. unless_has Chosen c.priority (record c { priority = Some z }) (record { families_fit = h.families_fit; priority_fits = g })))))
 
-choice_good : (kind : Kind) (c : Choices) (w : Token) → Chosen c → IfSome (choice kind c w) Chosen
+choice_good : (kind : Kind) (c : TargetChoices) (w : Token) → Chosen c → IfSome (choice kind c w) Chosen
 choice_good Iptables c w h = iptables_chosen c w h
 choice_good Cisco c w h = nftables_chosen c w h
 choice_good Juniper c w h = nftables_chosen c w h
@@ -165,7 +165,7 @@ module _ (At : Place → Type 0) where
       }))
       (λ _. (s.0, answered_for n.form codes_of.TargetLine tt))
 
-  chosen_good : (kind : Kind) (c : Choices) (ws : List Token) → Chosen c → Stand At ws → Has (ToldAt At) Chosen (choices_from kind c ws)
+  chosen_good : (kind : Kind) (c : TargetChoices) (ws : List Token) → Chosen c → Stand At ws → Has (ToldAt At) Chosen (choices_from kind c ws)
   chosen_good kind c [] h s = h
   chosen_good kind c (w ∷ ws) h s = bind_has (ToldAt At) Chosen Chosen (or_slip w (choice kind c w)) _
       (or_has Chosen w (choice kind c w) s.0 (choice_good kind c w h)) (λ d g. chosen_good kind d ws g s.1)

@@ -9,9 +9,9 @@ use Rattle.acl_words.specs.declared.word_lists.Word.{Word}
 use Rattle.acl_days.specs.declared.days.Day.{Day}
 use Rattle.acl_policy.specs.declared.keywords.Keyword.{Keyword}
 use Rattle.acl_policy.specs.declared.keywords.Keyword.TheVariants as keywords
-use Rattle.acl_policy.specs.declared.keywords.Row.{Row}
+use Rattle.acl_policy.specs.declared.keywords.KeywordRow.{KeywordRow}
 use Rattle.acl_policy.specs.declared.raw_terms.RawTerm.{RawTerm}
-use Rattle.acl_policy.specs.declared.term_drafts.Draft.{Draft}
+use Rattle.acl_policy.specs.declared.term_drafts.TermDraft.{TermDraft}
 use Rattle.acl_policy.specs.declared.values.Takes.{Takes}
 use Rattle.acl_policy.specs.declared.values.Takes.TheVariants as takes
 use Rattle.acl_policy.specs.Keywords.{entry, row_of, row_named}
@@ -32,7 +32,7 @@ abbrev pub ListsFit : (Place → Type 0) → RawTerm → Type 0
 ListsFit At t = (key : Keyword) → All (Fits At (entry key).takes) (list_at t key)
 
 -- A draft of that name, whose lists fit, and whose action does where there is one.
-pub record Sound (At : Place → Type 0) (name : Word) (d : Draft) : Type 0 where
+pub record Sound (At : Place → Type 0) (name : Word) (d : TermDraft) : Type 0 where
   pub name_is : d.term.name ≡ name
   pub action_fits : d.has_action ≡ true → Fits At takes.Action d.term.action
   pub lists : ListsFit At d.term
@@ -102,7 +102,7 @@ module _ (At : Place → Type 0) where
   some_given kind k (w ∷ ws) p h = weaker (ToldAt At) (λ _. All (Fits At kind) (map word_of (w ∷ ws)))
       (λ _. Given kind (w ∷ ws)) (all_values kind (w ∷ ws)) (all_fit kind (w ∷ ws) h) (λ _ g. (g, omega arith))
 
-  item_given : (r : Row) (d : Draft) (k : Token) (ws : List Token) → At k.place → Stand At ws
+  item_given : (r : KeywordRow) (d : TermDraft) (k : Token) (ws : List Token) → At k.place → Stand At ws
       → Has (ToldAt At) (λ _. Given r.takes ws) (item_checked r d k ws)
   item_given r d k ws p h = if_has (ToldAt At) (λ _. Given r.takes ws) r.once _ _
       (λ _. if_has (ToldAt At) (λ _. Given r.takes ws) (has_stood d r.keyword) _ _ (λ _. (p, tt)) (λ _. one_given r.takes k ws p h))
@@ -122,7 +122,7 @@ module _ (At : Place → Type 0) where
       no_words key = subst (All (Fits At (entry key).takes)) (sym (empty_at name key)) (All-nil (Fits At (entry key).takes))
 
   -- the lists are as they were
-  same_sound : (n : Word) (d e : Draft) → Sound At n d → e.term.name ≡ d.term.name
+  same_sound : (n : Word) (d e : TermDraft) → Sound At n d → e.term.name ≡ d.term.name
       → (e.has_action ≡ true → Fits At takes.Action e.term.action)
       → ((key : Keyword) → list_at e.term key ≡ list_at d.term key) → Sound At n e
   same_sound n d e h name acts same = record {
@@ -131,14 +131,14 @@ module _ (At : Place → Type 0) where
     lists = λ key. subst (All (Fits At (entry key).takes)) (sym (same key)) (h.lists key);
   }
 
-  comments_sound : (n : Word) (d : Draft) (ws : List Token) → Sound At n d → Sound At n (with_comments d ws)
+  comments_sound : (n : Word) (d : TermDraft) (ws : List Token) → Sound At n d → Sound At n (with_comments d ws)
   comments_sound n d [] h = h
   comments_sound n d (w ∷ ws) h = comments_sound n (with_comment d w.text) ws
       (same_sound n d (with_comment d w.text) h refl h.action_fits
       (other_fields d.term (comment_with d.has_comment d.term.comments w.text) d.term.action d.term.logging d.term.expires))
 
   -- a keyword of lists
-  list_sound : (n : Word) (d : Draft) (key : Keyword) (ws : List Token) → Sound At n d → Given (entry key).takes ws
+  list_sound : (n : Word) (d : TermDraft) (key : Keyword) (ws : List Token) → Sound At n d → Given (entry key).takes ws
       → (with_list d.term key (list_at d.term key ++ map word_of ws)).name ≡ d.term.name
       → (with_list d.term key (list_at d.term key ++ map word_of ws)).action ≡ d.term.action
       → Sound At n (record d { term = with_list d.term key (list_at d.term key ++ map word_of ws) })
@@ -149,7 +149,7 @@ module _ (At : Place → Type 0) where
         (All-append (Fits At (entry key).takes) (list_at d.term key) (map word_of ws) (h.lists key) g.0) (h.lists q);
   }
 
-  values_sound : (n : Word) (d : Draft) (key : Keyword) (ws : List Token) → Sound At n d → Given (entry key).takes ws
+  values_sound : (n : Word) (d : TermDraft) (key : Keyword) (ws : List Token) → Sound At n d → Given (entry key).takes ws
       → Sound At n (with_values d key ws)
   values_sound n d keywords.Comment ws h g = comments_sound n d ws h
   values_sound n d keywords.Owner ws h g = record { name_is = h.name_is; action_fits = h.action_fits; lists = h.lists }
@@ -161,15 +161,15 @@ module _ (At : Place → Type 0) where
       (other_fields d.term d.term.comments d.term.action d.term.logging (first_day ws))
   values_sound n d key ws h g = list_sound n d key ws h g refl refl
 
-  row_sound : (n : Word) (o : Option Row) (d : Draft) (k : Token) (ws : List Token) → IfSome o (λ r. r ≡ row_of r.keyword)
+  row_sound : (n : Word) (o : Option KeywordRow) (d : TermDraft) (k : Token) (ws : List Token) → IfSome o (λ r. r ≡ row_of r.keyword)
       → Sound At n d → At k.place → Stand At ws → Has (ToldAt At) (Sound At n) (row_behind o d k ws)
   unfolding item_behind
   row_sound n None d k ws is h p s = (p, tt)
   row_sound n (Some r) d k ws is h p s = bind_has (ToldAt At) (λ _. Given r.takes ws) (Sound At n) (item_checked r d k ws) _
       (item_given r d k ws p s)
-      (λ _ g. values_sound n d r.keyword ws h (subst (λ kind. Given kind ws) (ap (λ (x : Row). x.takes) is) g))
+      (λ _ g. values_sound n d r.keyword ws h (subst (λ kind. Given kind ws) (ap (λ (x : KeywordRow). x.takes) is) g))
 
-  pub term_sound : (n : Word) (d : Draft) (k : Token) (ws : List Token) → Sound At n d → At k.place → Stand At ws
+  pub term_sound : (n : Word) (d : TermDraft) (k : Token) (ws : List Token) → Sound At n d → At k.place → Stand At ws
       → Has (ToldAt At) (Sound At n) (draft_behind d k ws)
   unfolding draft_behind
   term_sound n d k ws h p s = row_sound n (row_named k.text) d k ws (named_row k.text) h p s

@@ -10,8 +10,8 @@ use Rattle.acl_words.specs.declared.forms.Form.TheVariants as forms
 use Rattle.acl_words.specs.Tokens.{IsRun, Token}
 use Rattle.acl_policy.specs.declared.values.Takes.{Takes}
 use Rattle.acl_policy.specs.declared.values.Takes.TheVariants as takes
-use Rattle.acl_policy.specs.declared.keywords.Row.{Row}
-use Rattle.acl_policy.specs.declared.term_drafts.Draft.{Draft}
+use Rattle.acl_policy.specs.declared.keywords.KeywordRow.{KeywordRow}
+use Rattle.acl_policy.specs.declared.term_drafts.TermDraft.{TermDraft}
 use Rattle.acl_policy.specs.Keywords.{entry, row_of}
 use Rattle.acl_policy.specs.Terms.{has_stood, item_checked}
 use Rattle.acl_policy.specs.Values.{all_values, form_fits, is_plain, is_value, one_value, some_values, takes_words, text_fits}
@@ -62,13 +62,13 @@ one_plain kind k (w ∷ []) takes = if_has Anywhere (λ _. All IsPlainWord (w �
 one_plain kind k (w ∷ v ∷ ws) takes =
     if_has Anywhere (λ _. All IsPlainWord (w ∷ v ∷ ws)) (is_value kind w) _ _ (λ _. tt) (λ _. tt)
 
-item_plain : (r : Row) (d : Draft) (k : Token) (ws : List Token) → takes_words r.takes ≡ true
+item_plain : (r : KeywordRow) (d : TermDraft) (k : Token) (ws : List Token) → takes_words r.takes ≡ true
     → Has Anywhere (λ _. All IsPlainWord ws) (item_checked r d k ws)
 item_plain r d k ws takes = if_has Anywhere (λ _. All IsPlainWord ws) r.once _ _
     (λ _. if_has Anywhere (λ _. All IsPlainWord ws) (has_stood d r.keyword) _ _ (λ _. tt) (λ _. one_plain r.takes k ws takes))
     (λ _. some_plain r.takes k ws takes)
 
-pub checked_plain : (r : Row) (d : Draft) (k : Token) (ws : List Token) → r ≡ row_of r.keyword
+pub checked_plain : (r : KeywordRow) (d : TermDraft) (k : Token) (ws : List Token) → r ≡ row_of r.keyword
     → item_checked r d k ws ≡ Ok tt → takes_words (entry r.keyword).takes ≡ true → All IsPlainWord ws
 checked_plain r d k ws is e takes = subst (Has Anywhere (λ _. All IsPlainWord ws)) e
-    (item_plain r d k ws (ap (λ (x : Row). takes_words x.takes) is ∙ takes))
+    (item_plain r d k ws (ap (λ (x : KeywordRow). takes_words x.takes) is ∙ takes))

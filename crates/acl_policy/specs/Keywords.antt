@@ -3,24 +3,24 @@ use Rattle.std.specs.Prelude.{ℕ, Bool, true, false, if◌then◌else◌, List,
 use Rattle.std.specs.Str.{bytes_eq}
 use Rattle.acl_policy.specs.declared.keywords.Keyword.{Keyword}
 use Rattle.acl_policy.specs.declared.keywords.Keyword.TheVariants as keywords
-use Rattle.acl_policy.specs.declared.keywords.Row.{Row}
+use Rattle.acl_policy.specs.declared.keywords.KeywordRow.{KeywordRow}
 use Rattle.acl_policy.specs.declared.values.Takes.{Takes}
 use Rattle.acl_policy.specs.declared.values.Takes.TheVariants as takes
 
 -- How a keyword is written, what its values are, and whether it stands once in a term, with one value.
-pub record Entry : Type 0 where
+pub record KeywordEntry : Type 0 where
   pub text : List ℕ
   pub takes : Takes
   pub once : Bool
 
-abbrev pub repeats : List ℕ → Takes → Entry
+abbrev pub repeats : List ℕ → Takes → KeywordEntry
 repeats text kind = record { text = text; takes = kind; once = false }
 
-abbrev pub stands_once : List ℕ → Takes → Entry
+abbrev pub stands_once : List ℕ → Takes → KeywordEntry
 stands_once text kind = record { text = text; takes = kind; once = true }
 
 -- The table.
-abbrev pub entry : Keyword → Entry
+abbrev pub entry : Keyword → KeywordEntry
 entry keywords.Comment = repeats (codes "comment::") takes.String
 entry keywords.Owner = stands_once (codes "owner::") takes.Any
 entry keywords.Action = stands_once (codes "action::") takes.Action
@@ -52,16 +52,16 @@ all_keywords =
     ∷ keywords.Platform ∷ keywords.PlatformExclude ∷ []
 
 -- A keyword's row, beside its text.
-abbrev pub row_of : Keyword → Row
+abbrev pub row_of : Keyword → KeywordRow
 row_of key = record { keyword = key; takes = (entry key).takes; once = (entry key).once }
 
-abbrev pub line : Keyword → List ℕ × Row
+abbrev pub line : Keyword → List ℕ × KeywordRow
 line key = ((entry key).text, row_of key)
 
 -- The row of the text.
-abbrev pub row_in : List (List ℕ × Row) → List ℕ → Option Row
+abbrev pub row_in : List (List ℕ × KeywordRow) → List ℕ → Option KeywordRow
 row_in [] text = None
 row_in (r ∷ rs) text = if bytes_eq text r.0 then Some r.1 else row_in rs text
 
-unfoldable pub row_named : List ℕ → Option Row
+unfoldable pub row_named : List ℕ → Option KeywordRow
 row_named text = row_in (map line all_keywords) text

@@ -1,26 +1,26 @@
 -- What the reading of a policy keeps, by names for laws of other crates: the code keeps these types to itself.
-use Rattle.acl_policy.specs.declared.choices.Choices.{Choices as ReadChoices}
-use Rattle.acl_policy.specs.declared.keywords.Row.{Row as ReadRow}
+use Rattle.acl_policy.specs.declared.choices.TargetChoices.{TargetChoices as ReadChoices}
+use Rattle.acl_policy.specs.declared.keywords.KeywordRow.{KeywordRow as ReadRow}
 use Rattle.acl_policy.specs.declared.states.Part.{Part as ReadPart}
 use Rattle.acl_policy.specs.declared.states.Part.TheVariants as parts
-use Rattle.acl_policy.specs.declared.states.State.{State as ReadState}
+use Rattle.acl_policy.specs.declared.states.PolicyState.{PolicyState as ReadState}
 use Rattle.acl_policy.specs.declared.target_lines.NamedTarget.{NamedTarget as ReadTarget}
-use Rattle.acl_policy.specs.declared.term_drafts.Draft.{Draft as ReadDraft}
+use Rattle.acl_policy.specs.declared.term_drafts.TermDraft.{TermDraft as ReadDraft}
 
-abbrev pub Choices : Type 0
-Choices = ReadChoices
+abbrev pub TargetChoices : Type 0
+TargetChoices = ReadChoices
 
-abbrev pub State : Type 0
-State = ReadState
+abbrev pub PolicyState : Type 0
+PolicyState = ReadState
 
 abbrev pub NamedTarget : Type 0
 NamedTarget = ReadTarget
 
-abbrev pub Draft : Type 0
-Draft = ReadDraft
+abbrev pub TermDraft : Type 0
+TermDraft = ReadDraft
 
-abbrev pub Row : Type 0
-Row = ReadRow
+abbrev pub KeywordRow : Type 0
+KeywordRow = ReadRow
 
 -- Where the reading stands.
 abbrev pub Part : Type 0

@@ -10,7 +10,7 @@ use Rattle.acl_text.specs.SignedNumbers.{signed_in}
 use Rattle.acl_text.specs.declared.faults.Code.TheVariants as codes_of
 use Rattle.acl_text.specs.declared.faults.Slip.{Slip}
 use Rattle.acl_words.specs.Tokens.{Token}
-use Rattle.acl_policy.specs.declared.choices.Choices.{Choices}
+use Rattle.acl_policy.specs.declared.choices.TargetChoices.{TargetChoices}
 use Rattle.acl_target.specs.declared.targets.Kind.{Kind}
 use Rattle.acl_target.specs.declared.targets.Kind.TheVariants.{Cisco, Juniper, Iptables, Nftables}
 use Rattle.acl_target.specs.declared.targets.Ending.{Ending}
@@ -72,44 +72,44 @@ abbrev pub priority_word : Token → Option ℤ
 priority_word w = if is_plain w.form then signed_in 32768 32767 w.text else None
 
 -- The words of iptables and nftables lines that stand in any order: each kind of them at most once.
-abbrev pub no_choices : Choices
+abbrev pub no_choices : TargetChoices
 no_choices = record { accept = None; marked = false; families = None; priority = None }
 
 abbrev pub unless_some : {A B : Type 0} → Option A → B → Option B
 unless_some None x = Some x
 unless_some (Some y) x = None
 
-abbrev pub with_policy : Choices → Bool → Option Choices
+abbrev pub with_policy : TargetChoices → Bool → Option TargetChoices
 with_policy c accept = unless_some c.accept (record c { accept = Some accept })
 
-abbrev pub with_mark : Choices → Option Choices
+abbrev pub with_mark : TargetChoices → Option TargetChoices
 with_mark c = if c.marked then None else Some (record c { marked = true })
 
-abbrev pub with_families : Choices → Families → Option Choices
+abbrev pub with_families : TargetChoices → Families → Option TargetChoices
 with_families c families = unless_some c.families (record c { families = Some families })
 
-abbrev pub with_priority : Choices → ℤ → Option Choices
+abbrev pub with_priority : TargetChoices → ℤ → Option TargetChoices
 with_priority c priority = unless_some c.priority (record c { priority = Some priority })
 
-unfoldable pub iptables_choice : Choices → Token → Option Choices
+unfoldable pub iptables_choice : TargetChoices → Token → Option TargetChoices
 iptables_choice c w =
     if is_word w (codes "ACCEPT") then with_policy c true
     else if is_word w (codes "DROP") then with_policy c false
     else if is_word w (codes "nostate") then with_mark c
     else option_and_then (with_families c) (single_family w)
 
-unfoldable pub nftables_choice : Choices → Token → Option Choices
+unfoldable pub nftables_choice : TargetChoices → Token → Option TargetChoices
 nftables_choice c w =
     if is_word w (codes "ACCEPT") then with_policy c true
     else if is_word w (codes "DROP") then with_policy c false
     else if is_word w (codes "noverbose") then with_mark c
     else option_and_then (with_priority c) (priority_word w)
 
-abbrev pub choice : Kind → Choices → Token → Option Choices
+abbrev pub choice : Kind → TargetChoices → Token → Option TargetChoices
 choice Iptables c w = iptables_choice c w
 choice _ c w = nftables_choice c w
 
-abbrev pub choices_from : Kind → Choices → List Token → Result Choices Slip
+abbrev pub choices_from : Kind → TargetChoices → List Token → Result TargetChoices Slip
 choices_from kind c [] = Ok c
 choices_from kind c (w ∷ ws) = or_slip w (choice kind c w) >>= λ d. choices_from kind d ws
 
@@ -159,7 +159,7 @@ default_ending without None = without
 default_ending without (Some true) = endings.Accept
 default_ending without (Some false) = endings.Deny
 
-abbrev pub iptables_target : Token → Token → Hook → Choices → Target
+abbrev pub iptables_target : Token → Token → Hook → TargetChoices → Target
 iptables_target k n hook c = record (target_of k n Iptables (unwrap_or c.families Inet) hook) {
   stateful = not c.marked;
   ending = default_ending endings.Left c.accept;
@@ -172,7 +172,7 @@ iptables_line k p (n ∷ ws) =
     >>= λ c. Ok (named_target n (iptables_target k n hook c)))
 
 -- `nftables FAMILIES HOOK`, then `ACCEPT` or `DROP`, a priority, and `noverbose`.
-abbrev pub nftables_target : Token → Token → Families → Hook → Choices → Target
+abbrev pub nftables_target : Token → Token → Families → Hook → TargetChoices → Target
 nftables_target k n families hook c = record (target_of k n Nftables families hook) {
   stateful = true;
   ending = default_ending endings.Deny c.accept;

@@ -3,12 +3,12 @@ use Rattle.std.specs.Prelude.{ℕ, Bool, true, false, if◌then◌else◌, List,
 use Rattle.acl_text.specs.declared.faults.Code.TheVariants as codes_of
 use Rattle.acl_text.specs.declared.faults.Slip.{Slip}
 use Rattle.acl_words.specs.Tokens.{Token}
-use Rattle.acl_policy.specs.declared.term_drafts.Draft.{Draft}
+use Rattle.acl_policy.specs.declared.term_drafts.TermDraft.{TermDraft}
 use Rattle.acl_words.specs.declared.word_lists.Word.{Word}
 use Rattle.acl_policy.specs.declared.raw_terms.RawTerm.{RawTerm}
 use Rattle.acl_policy.specs.declared.keywords.Keyword.{Keyword}
 use Rattle.acl_policy.specs.declared.keywords.Keyword.TheVariants as keywords
-use Rattle.acl_policy.specs.declared.keywords.Row.{Row}
+use Rattle.acl_policy.specs.declared.keywords.KeywordRow.{KeywordRow}
 use Rattle.acl_days.specs.declared.days.Day.{Day}
 use Rattle.acl_days.specs.NamedDays.{day_named}
 use Rattle.acl_policy.specs.Keywords.{row_named}
@@ -42,7 +42,7 @@ empty_term name = record {
 }
 
 -- A term of the name, before its first keyword.
-abbrev pub draft_of : Word → Draft
+abbrev pub draft_of : Word → TermDraft
 draft_of name = record {
   term = empty_term name;
   has_comment = false;
@@ -50,20 +50,20 @@ draft_of name = record {
   has_action = false;
 }
 
-abbrev pub no_draft : Draft
+abbrev pub no_draft : TermDraft
 no_draft = draft_of no_word
 
 -- The strings of a comment have a space between any two.
 abbrev pub comment_with : Bool → List ℕ → List ℕ → List ℕ
 comment_with before text more = if before then (text ++ 32 ∷ []) ++ more else text ++ more
 
-abbrev pub with_comment : Draft → List ℕ → Draft
+abbrev pub with_comment : TermDraft → List ℕ → TermDraft
 with_comment d text = record d {
   term = record d.term { comments = comment_with d.has_comment d.term.comments text };
   has_comment = true;
 }
 
-abbrev pub with_comments : Draft → List Token → Draft
+abbrev pub with_comments : TermDraft → List Token → TermDraft
 with_comments d [] = d
 with_comments d (w ∷ ws) = with_comments (with_comment d w.text) ws
 
@@ -109,7 +109,7 @@ first_day [] = None
 first_day (w ∷ ws) = day_named w.text
 
 -- The draft with the values of one more keyword. The owner is not written.
-abbrev pub with_values : Draft → Keyword → List Token → Draft
+abbrev pub with_values : TermDraft → Keyword → List Token → TermDraft
 with_values d keywords.Comment ws = with_comments d ws
 with_values d keywords.Owner ws = record d { has_owner = true }
 with_values d keywords.Action ws = record d {
@@ -123,28 +123,28 @@ with_values d key ws = record d {
 }
 
 -- Whether a keyword that stands once has stood.
-abbrev pub has_stood : Draft → Keyword → Bool
+abbrev pub has_stood : TermDraft → Keyword → Bool
 has_stood d keywords.Owner = d.has_owner
 has_stood d keywords.Action = d.has_action
 has_stood d keywords.Logging = d.term.logging
 has_stood d keywords.Expiration = is_some d.term.expires
 has_stood d _ = false
 
-abbrev pub item_checked : Row → Draft → Token → List Token → Result (Unit {0}) Slip
+abbrev pub item_checked : KeywordRow → TermDraft → Token → List Token → Result (Unit {0}) Slip
 item_checked r d k ws =
     if r.once
     then (if has_stood d r.keyword then Err (slip_of codes_of.Repeated k)
     else one_value r.takes k ws)
     else some_values r.takes k ws
 
-unfoldable pub item_behind : Row → Draft → Token → List Token → Result Draft Slip
+unfoldable pub item_behind : KeywordRow → TermDraft → Token → List Token → Result TermDraft Slip
 item_behind r d k ws = item_checked r d k ws >>= λ _. Ok (with_values d r.keyword ws)
 
 -- What is behind the row of a keyword, where the term has such a keyword.
-abbrev pub row_behind : Option Row → Draft → Token → List Token → Result Draft Slip
+abbrev pub row_behind : Option KeywordRow → TermDraft → Token → List Token → Result TermDraft Slip
 row_behind None d k ws = Err (slip_of codes_of.Keyword k)
 row_behind (Some r) d k ws = item_behind r d k ws
 
 -- A keyword of a term, with its values.
-unfoldable pub draft_behind : Draft → Token → List Token → Result Draft Slip
+unfoldable pub draft_behind : TermDraft → Token → List Token → Result TermDraft Slip
 draft_behind d k ws = row_behind (row_named k.text) d k ws

@@ -27,7 +27,7 @@ use std::alloc::Global;
 
 /// What the words of a target line in any order have chosen so far.
 #[derive(Clone, Copy, Debug, PartialEq, Eq)]
-pub(crate) struct Choices {
+pub(crate) struct TargetChoices {
     /// Whether the policy word is `ACCEPT`, where there is one.
     pub(crate) accept: Option<bool>,
     /// Whether `nostate` or `noverbose` stands there.
@@ -43,49 +43,49 @@ pub(crate) fn is_word(word: &Token<'_>, text: &[u8]) -> bool
     is_plain(word.form()) && is_text(word, text)
 }
 
-fn choose_policy(choices: Choices, accept: bool) -> Option<Choices>
+fn choose_policy(choices: TargetChoices, accept: bool) -> Option<TargetChoices>
     ensures { result ≡ with_policy choices accept }
 {
     match choices.accept {
         Some(_) => None,
-        None => Some(Choices {
+        None => Some(TargetChoices {
             accept: Some(accept),
             ..choices
         }),
     }
 }
 
-fn mark(choices: Choices) -> Option<Choices>
+fn mark(choices: TargetChoices) -> Option<TargetChoices>
     ensures { result ≡ with_mark choices }
 {
     if choices.marked {
         None
     } else {
-        Some(Choices {
+        Some(TargetChoices {
             marked: true,
             ..choices
         })
     }
 }
 
-fn choose_families(choices: Choices, families: Families) -> Option<Choices>
+fn choose_families(choices: TargetChoices, families: Families) -> Option<TargetChoices>
     ensures { result ≡ with_families choices families }
 {
     match choices.families {
         Some(_) => None,
-        None => Some(Choices {
+        None => Some(TargetChoices {
             families: Some(families),
             ..choices
         }),
     }
 }
 
-fn choose_priority(choices: Choices, priority: i32) -> Option<Choices>
+fn choose_priority(choices: TargetChoices, priority: i32) -> Option<TargetChoices>
     ensures { result ≡ with_priority choices priority }
 {
     match choices.priority {
         Some(_) => None,
-        None => Some(Choices {
+        None => Some(TargetChoices {
             priority: Some(priority),
             ..choices
         }),
@@ -140,7 +140,7 @@ fn single_family(word: &Token<'_>) -> Option<Families>
 }
 
 #[tactic(auto, unfolding(crate::specs::Targets::iptables_choice))]
-fn choose_iptables(choices: Choices, word: &Token<'_>) -> Option<Choices>
+fn choose_iptables(choices: TargetChoices, word: &Token<'_>) -> Option<TargetChoices>
     ensures { result ≡ iptables_choice choices word.now }
 {
     if is_word(word, b"ACCEPT") {
@@ -167,7 +167,7 @@ fn priority_word(word: &Token<'_>) -> Option<i32>
 }
 
 #[tactic(auto, unfolding(crate::specs::Targets::nftables_choice))]
-fn choose_nftables(choices: Choices, word: &Token<'_>) -> Option<Choices>
+fn choose_nftables(choices: TargetChoices, word: &Token<'_>) -> Option<TargetChoices>
     ensures { result ≡ nftables_choice choices word.now }
 {
     if is_word(word, b"ACCEPT") {
@@ -182,7 +182,7 @@ fn choose_nftables(choices: Choices, word: &Token<'_>) -> Option<Choices>
     }
 }
 
-fn choose(kind: Kind, choices: Choices, word: &Token<'_>) -> Option<Choices>
+fn choose(kind: Kind, choices: TargetChoices, word: &Token<'_>) -> Option<TargetChoices>
     ensures { result ≡ choice kind choices word.now }
 {
     match kind {
@@ -191,10 +191,10 @@ fn choose(kind: Kind, choices: Choices, word: &Token<'_>) -> Option<Choices>
     }
 }
 
-fn no_choices() -> Choices
+fn no_choices() -> TargetChoices
     ensures { result ≡ no_choices }
 {
-    Choices {
+    TargetChoices {
         accept: None,
         marked: false,
         families: None,
@@ -207,7 +207,7 @@ pub(crate) fn read_choices(
     alloc: Global,
     kind: Kind,
     words: &[Token<'_>],
-) -> Result<Choices, Refusal>
+) -> Result<TargetChoices, Refusal>
     ensures { Gives slip_told result (choices_from kind no_choices words.now) }
 {
     let mut choices = no_choices();

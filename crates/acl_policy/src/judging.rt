@@ -22,9 +22,9 @@ use crate::clashes::{clashes, count_of};
 use crate::clauses::Clause;
 use crate::copies::copy_target;
 use crate::raw_terms::RawTerm;
-use crate::states::{Part, State};
+use crate::states::{Part, PolicyState};
 use crate::target_lines::{NamedTarget, read_target_line};
-use crate::term_drafts::{Draft, draft_of, no_draft};
+use crate::term_drafts::{TermDraft, draft_of, no_draft};
 use crate::terms::judge_term_keyword;
 use crate::values::{Takes, check_values, is_text, is_value, word_of};
 use crate::word_slips::{refusal_at, refusal_for};
@@ -40,7 +40,7 @@ const MOST_TERMS: usize = 1024;
 #[tactic(auto, unfolding(crate::specs::Policies::behind_target))]
 fn judge_target(
     alloc: Global,
-    state: &mut State,
+    state: &mut PolicyState,
     keyword: &Token<'_>,
     named: NamedTarget,
 ) -> Result<(), Refusal>
@@ -64,7 +64,7 @@ fn judge_target(
 #[tactic(auto, unfolding(crate::specs::Policies::behind_header_keyword))]
 fn judge_header_keyword(
     alloc: Global,
-    state: &mut State,
+    state: &mut PolicyState,
     clause: &Clause<'_>,
 ) -> Result<(), Refusal>
     ensures { Leaves slip_told state.new result
@@ -93,7 +93,7 @@ fn is_name_of(term: &RawTerm, name: &Token<'_>) -> bool
     term.name.text.as_slice() == name.text()
 }
 
-fn begin_term(state: &mut State, draft: Draft)
+fn begin_term(state: &mut PolicyState, draft: TermDraft)
     requires { state.old.term_count < 1024 }
     ensures { state.new ≡ record state.old {
       draft = draft;
@@ -107,7 +107,7 @@ fn begin_term(state: &mut State, draft: Draft)
 }
 
 #[tactic(auto, unfolding(crate::specs::Policies::behind_name))]
-fn judge_name(alloc: Global, state: &mut State, word: &Token<'_>) -> Result<(), Refusal>
+fn judge_name(alloc: Global, state: &mut PolicyState, word: &Token<'_>) -> Result<(), Refusal>
     ensures { Leaves slip_told state.new result (behind_name state.old word.now) }
 {
     if !is_value(Takes::Name, word) {
@@ -124,7 +124,7 @@ fn judge_name(alloc: Global, state: &mut State, word: &Token<'_>) -> Result<(), 
 }
 
 /// Makes a block of the targets and terms since its header.
-pub(crate) fn end_block(alloc: Global, state: &mut State) -> Result<(), Memory>
+pub(crate) fn end_block(alloc: Global, state: &mut PolicyState) -> Result<(), Memory>
     ensures { OnOk result (state.new ≡ with_block state.old) }
 {
     let targets = mem::replace(&mut state.targets, Items::new(alloc));
@@ -132,7 +132,7 @@ pub(crate) fn end_block(alloc: Global, state: &mut State) -> Result<(), Memory>
     state.blocks.push(Block { targets, terms })
 }
 
-fn end_term(alloc: Global, state: &mut State) -> Result<(), Memory>
+fn end_term(alloc: Global, state: &mut PolicyState) -> Result<(), Memory>
     ensures { OnOk result (state.new ≡ with_term state.old) }
 {
     let draft = mem::replace(&mut state.draft, no_draft(alloc));
@@ -142,7 +142,7 @@ fn end_term(alloc: Global, state: &mut State) -> Result<(), Memory>
 }
 
 #[tactic(auto, unfolding(crate::specs::Policies::behind_word))]
-fn judge_start(alloc: Global, state: &mut State, word: &Token<'_>) -> Result<(), Refusal>
+fn judge_start(alloc: Global, state: &mut PolicyState, word: &Token<'_>) -> Result<(), Refusal>
     ensures { Leaves slip_told state.new result (behind_word Part.Start state.old word.now) }
 {
     if is_word(word, b"header") {
@@ -154,7 +154,7 @@ fn judge_start(alloc: Global, state: &mut State, word: &Token<'_>) -> Result<(),
 }
 
 #[tactic(auto, unfolding(crate::specs::Policies::behind_word))]
-fn judge_behind_header(alloc: Global, state: &mut State, word: &Token<'_>) -> Result<(), Refusal>
+fn judge_behind_header(alloc: Global, state: &mut PolicyState, word: &Token<'_>) -> Result<(), Refusal>
     ensures { Leaves slip_told state.new result (behind_word Part.HeaderEnd state.old word.now) }
 {
     if is_word(word, b"term") {
@@ -168,7 +168,7 @@ fn judge_behind_header(alloc: Global, state: &mut State, word: &Token<'_>) -> Re
 }
 
 #[tactic(auto, unfolding(crate::specs::Policies::behind_word))]
-fn judge_behind_term(alloc: Global, state: &mut State, word: &Token<'_>) -> Result<(), Refusal>
+fn judge_behind_term(alloc: Global, state: &mut PolicyState, word: &Token<'_>) -> Result<(), Refusal>
     ensures { Leaves slip_told state.new result (behind_word Part.TermEnd state.old word.now) }
 {
     if is_word(word, b"term") {
@@ -184,7 +184,7 @@ fn judge_behind_term(alloc: Global, state: &mut State, word: &Token<'_>) -> Resu
 }
 
 #[tactic(auto, unfolding(crate::specs::Policies::behind_word))]
-fn judge_word(alloc: Global, part: Part, state: &mut State, word: &Token<'_>) -> Result<(), Refusal>
+fn judge_word(alloc: Global, part: Part, state: &mut PolicyState, word: &Token<'_>) -> Result<(), Refusal>
     ensures { Leaves slip_told state.new result (behind_word part state.old word.now) }
 {
     match part {
@@ -199,7 +199,7 @@ fn judge_word(alloc: Global, part: Part, state: &mut State, word: &Token<'_>) ->
 /// Judges words that are no values of a keyword.
 pub(crate) fn judge_words(
     alloc: Global,
-    state: &mut State,
+    state: &mut PolicyState,
     words: &[Token<'_>],
 ) -> Result<(), Refusal>
     ensures { Leaves slip_told state.new result (behind_words state.old words.now) }
@@ -214,7 +214,7 @@ pub(crate) fn judge_words(
 fn judge_keyword(
     alloc: Global,
     part: Part,
-    state: &mut State,
+    state: &mut PolicyState,
     clause: &Clause<'_>,
 ) -> Result<(), Refusal>
     ensures { Leaves slip_told state.new result
@@ -234,7 +234,7 @@ fn judge_keyword(
 fn judge_begin(
     alloc: Global,
     part: Part,
-    state: &mut State,
+    state: &mut PolicyState,
     brace: &Token<'_>,
 ) -> Result<(), Refusal>
     ensures { Leaves slip_told state.new result (behind_begin part state.old brace.now) }
@@ -253,7 +253,7 @@ fn judge_begin(
 }
 
 #[tactic(auto, unfolding(crate::specs::Policies::behind_end))]
-fn judge_header_end(alloc: Global, state: &mut State, brace: &Token<'_>) -> Result<(), Refusal>
+fn judge_header_end(alloc: Global, state: &mut PolicyState, brace: &Token<'_>) -> Result<(), Refusal>
     ensures { Leaves slip_told state.new result (behind_end Part.InHeader state.old brace.now) }
 {
     if state.targets.as_slice().is_empty() {
@@ -264,7 +264,7 @@ fn judge_header_end(alloc: Global, state: &mut State, brace: &Token<'_>) -> Resu
 }
 
 #[tactic(auto, unfolding(crate::specs::Policies::behind_end))]
-fn judge_term_end(alloc: Global, state: &mut State, brace: &Token<'_>) -> Result<(), Refusal>
+fn judge_term_end(alloc: Global, state: &mut PolicyState, brace: &Token<'_>) -> Result<(), Refusal>
     ensures { Leaves slip_told state.new result (behind_end Part.InTerm state.old brace.now) }
 {
     if !state.draft.has_action {
@@ -275,7 +275,7 @@ fn judge_term_end(alloc: Global, state: &mut State, brace: &Token<'_>) -> Result
 }
 
 #[tactic(auto, unfolding(crate::specs::Policies::behind_end))]
-fn judge_end(alloc: Global, part: Part, state: &mut State, brace: &Token<'_>) -> Result<(), Refusal>
+fn judge_end(alloc: Global, part: Part, state: &mut PolicyState, brace: &Token<'_>) -> Result<(), Refusal>
     ensures { Leaves slip_told state.new result (behind_end part state.old brace.now) }
 {
     match part {
@@ -289,7 +289,7 @@ fn judge_end(alloc: Global, part: Part, state: &mut State, brace: &Token<'_>) ->
 #[tactic(auto, unfolding(crate::specs::Policies::behind_mark))]
 pub(crate) fn judge_mark(
     alloc: Global,
-    state: &mut State,
+    state: &mut PolicyState,
     clause: &Clause<'_>,
 ) -> Result<(), Refusal>
     ensures { Leaves slip_told state.new result (behind_mark clause.now.keyword.now.form state.old

@@ -30,7 +30,7 @@ pub enum Keyword {
 
 /// A keyword, and what its row of the table says of its values.
 #[derive(Clone, Copy, Debug, PartialEq, Eq)]
-pub(crate) struct Row {
+pub(crate) struct KeywordRow {
     pub(crate) keyword: Keyword,
     pub(crate) takes: Takes,
     /// Whether it stands once in a term, with one value.
@@ -68,13 +68,13 @@ const TABLE: [(&[u8], Keyword, Values); 18] = [
     (b"platform-exclude::", Keyword::PlatformExclude, NAMES),
 ];
 
-fn row_in(table: &[(&[u8], Keyword, Values)], text: &[u8]) -> Option<Row>
+fn row_in(table: &[(&[u8], Keyword, Values)], text: &[u8]) -> Option<KeywordRow>
     ensures { result ≡ row_in (map (λ r. (r.0.now, record { keyword = r.1; takes = r.2.0; once = r.2.1 }))
         table.now) text.now }
 {
     for (written, keyword, (takes, once)) in table {
         if text == *written {
-            return Some(Row {
+            return Some(KeywordRow {
                 keyword: *keyword,
                 takes: *takes,
                 once: *once,
@@ -86,7 +86,7 @@ fn row_in(table: &[(&[u8], Keyword, Values)], text: &[u8]) -> Option<Row>
 
 /// The row of the keyword that is written so.
 #[tactic(auto, unfolding(crate::specs::Keywords::row_named))]
-pub(crate) fn row_named(text: &[u8]) -> Option<Row>
+pub(crate) fn row_named(text: &[u8]) -> Option<KeywordRow>
     ensures named { result ≡ row_named text.now }
     ensures of_table { IfSome result (λ r. r ≡ row_of r.keyword) }
 {

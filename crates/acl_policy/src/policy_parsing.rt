@@ -13,19 +13,19 @@ ghost use Rattle.acl_policy.specs.Slips.{start_place};
 
 use crate::blocks::Policy;
 use crate::judging::end_block;
-use crate::states::{Part, State};
+use crate::states::{Part, PolicyState};
 use crate::term_drafts::no_draft;
 use crate::word_judges::Judge;
 use acl_splice::Sources;
 use acl_text::{Code, Items, Place, Refusal};
-use acl_words::Words;
+use acl_words::PolicyWords;
 use std::alloc::Global;
 use std::mem;
 
-fn start(alloc: Global) -> State
+fn start(alloc: Global) -> PolicyState
     ensures { result ≡ start }
 {
-    State {
+    PolicyState {
         blocks: Items::new(alloc),
         earlier: Items::new(alloc),
         targets: Items::new(alloc),
@@ -40,7 +40,7 @@ fn start(alloc: Global) -> State
 fn judge_all<'a>(
     alloc: Global,
     judge: &mut Judge<'a>,
-    words: &mut Words<'a>,
+    words: &mut PolicyWords<'a>,
 ) -> Result<Place, Refusal>
     ensures goes_on { OnOk result (rest_of judge.old words.old ≡ rest_of judge.new []) }
     ensures slip { IfErr result (λ e. Stops slip_told e (rest_of judge.old words.old)) }
@@ -58,7 +58,7 @@ fn judge_all<'a>(
 fn judge_rest<'a>(
     alloc: Global,
     judge: &mut Judge<'a>,
-    words: &mut Words<'a>,
+    words: &mut PolicyWords<'a>,
 ) -> Result<Place, Refusal>
     ensures gives { Leaves slip_told judge.new.state result (rest_of judge.old words.old) }
     ensures last { IfOk result (λ place. place ≡ last_place start_place words.old) }
@@ -69,7 +69,7 @@ fn judge_rest<'a>(
 }
 
 #[tactic(auto, unfolding(crate::specs::Policies::end_of))]
-fn end(alloc: Global, state: &mut State, place: Place) -> Result<Policy, Refusal>
+fn end(alloc: Global, state: &mut PolicyState, place: Place) -> Result<Policy, Refusal>
     ensures { Gives slip_told result (end_of state.old.part state.old place) }
 {
     match state.part {
@@ -85,7 +85,7 @@ fn end(alloc: Global, state: &mut State, place: Place) -> Result<Policy, Refusal
 }
 
 #[tactic(auto, unfolding(crate::specs::Policies::policy_of, crate::specs::JudgingSteps::rest_behind))]
-fn judge_policy(alloc: Global, words: &mut Words<'_>) -> Result<Policy, Refusal>
+fn judge_policy(alloc: Global, words: &mut PolicyWords<'_>) -> Result<Policy, Refusal>
     ensures { Gives slip_told result (policy_of words.old) }
 {
     let mut judge = Judge::new(alloc, start(alloc));
@@ -93,7 +93,7 @@ fn judge_policy(alloc: Global, words: &mut Words<'_>) -> Result<Policy, Refusal>
     end(alloc, &mut judge.state, place)
 }
 
-fn read_policy(alloc: Global, words: &mut Words<'_>) -> Result<Policy, Refusal>
+fn read_policy(alloc: Global, words: &mut PolicyWords<'_>) -> Result<Policy, Refusal>
     ensures gives { Gives slip_told result (policy_of words.old) }
     ensures fits { IfOk result IsPolicy }
     ensures places { (lines : List Line) → HaveLinePlaces lines words.old
@@ -120,6 +120,6 @@ pub fn parse(alloc: Global, sources: &Sources) -> Result<Policy, Refusal>
     ensures labelled { IfErr result (λ e. IfSome (slip_told e)
         (λ s. HasLabel sources.now.labels s.place)) }
 {
-    let mut words = Words::new(sources.lines());
+    let mut words = PolicyWords::new(sources.lines());
     read_policy(alloc, &mut words)
 }

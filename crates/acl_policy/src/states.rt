@@ -1,6 +1,6 @@
 use crate::blocks::Blocks;
 use crate::raw_terms::RawTerms;
-use crate::term_drafts::Draft;
+use crate::term_drafts::TermDraft;
 use acl_target::Targets;
 
 /// Where in the structure of a policy the reading stands.
@@ -24,7 +24,7 @@ pub(crate) enum Part {
 
 /// What was read of a policy so far.
 #[derive(Drop)]
-pub(crate) struct State {
+pub(crate) struct PolicyState {
     /// The blocks that have ended.
     pub(crate) blocks: Blocks,
     /// All targets of the policy.
@@ -35,5 +35,5 @@ pub(crate) struct State {
     /// How many terms of the policy have begun.
     pub(crate) term_count: usize,
     pub(crate) part: Part,
-    pub(crate) draft: Draft,
+    pub(crate) draft: TermDraft,
 }

@@ -8,7 +8,7 @@ use std::alloc::Global;
 
 /// A term whose braces are open, and what stood in it already.
 #[derive(Drop)]
-pub(crate) struct Draft {
+pub(crate) struct TermDraft {
     pub(crate) term: RawTerm,
     /// Whether a string of `comment::` stood there: strings may be empty.
     pub(crate) has_comment: bool,
@@ -27,7 +27,7 @@ pub(crate) fn no_word(alloc: Global) -> Word
 }
 
 /// The draft of a term of the name, before its first keyword.
-pub(crate) fn draft_of(alloc: Global, name: Word) -> Draft
+pub(crate) fn draft_of(alloc: Global, name: Word) -> TermDraft
     ensures { result ≡ draft_of name }
 {
     let term = RawTerm {
@@ -50,7 +50,7 @@ pub(crate) fn draft_of(alloc: Global, name: Word) -> Draft
         platforms: WordList::new(alloc),
         not_platforms: WordList::new(alloc),
     };
-    Draft {
+    TermDraft {
         term,
         has_comment: false,
         has_owner: false,
@@ -59,13 +59,13 @@ pub(crate) fn draft_of(alloc: Global, name: Word) -> Draft
 }
 
 /// What stands where no term is open.
-pub(crate) fn no_draft(alloc: Global) -> Draft
+pub(crate) fn no_draft(alloc: Global) -> TermDraft
     ensures { result ≡ no_draft }
 {
     draft_of(alloc, no_word(alloc))
 }
 
-fn add_comment(draft: &mut Draft, text: &[u8]) -> Result<(), Memory>
+fn add_comment(draft: &mut TermDraft, text: &[u8]) -> Result<(), Memory>
     ensures { OnOk result (draft.new ≡ with_comment draft.old text.now) }
 {
     if draft.has_comment {
@@ -77,7 +77,7 @@ fn add_comment(draft: &mut Draft, text: &[u8]) -> Result<(), Memory>
 }
 
 /// Adds the strings to the term's comment.
-pub(crate) fn add_comments(draft: &mut Draft, values: &[Token<'_>]) -> Result<(), Memory>
+pub(crate) fn add_comments(draft: &mut TermDraft, values: &[Token<'_>]) -> Result<(), Memory>
     ensures { OnOk result (draft.new ≡ with_comments draft.old values.now) }
 {
     for value in values {

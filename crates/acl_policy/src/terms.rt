@@ -13,8 +13,8 @@ ghost use Rattle.acl_policy.specs.Terms.{
 ghost use Rattle.acl_policy.specs.Values.{ArePlain, takes_words};
 
 use crate::clauses::Clause;
-use crate::keywords::{Keyword, Row, row_named};
-use crate::term_drafts::{Draft, add_comments, no_word};
+use crate::keywords::{Keyword, KeywordRow, row_named};
+use crate::term_drafts::{TermDraft, add_comments, no_word};
 use crate::values::{check_one, check_values, push_all, word_of};
 use crate::word_slips::refusal_at;
 use acl_days::{Day, read_day};
@@ -40,7 +40,7 @@ fn first_day(values: &[Token<'_>]) -> Option<Day>
     }
 }
 
-fn put_action(alloc: Global, draft: &mut Draft, values: &[Token<'_>]) -> Result<(), Memory>
+fn put_action(alloc: Global, draft: &mut TermDraft, values: &[Token<'_>]) -> Result<(), Memory>
     ensures { OnOk result (draft.new ≡ with_values draft.old Keyword.Action values.now) }
 {
     draft.term.action = first_word(alloc, values)?;
@@ -51,7 +51,7 @@ fn put_action(alloc: Global, draft: &mut Draft, values: &[Token<'_>]) -> Result<
 /// Puts the values of a keyword into the draft.
 fn put_values(
     alloc: Global,
-    draft: &mut Draft,
+    draft: &mut TermDraft,
     keyword: Keyword,
     values: &[Token<'_>],
 ) -> Result<(), Memory>
@@ -90,7 +90,7 @@ fn put_values(
 }
 
 /// Whether a keyword that stands once has stood.
-fn has_stood(draft: &Draft, keyword: Keyword) -> bool
+fn has_stood(draft: &TermDraft, keyword: Keyword) -> bool
     ensures { result ≡ has_stood draft.now keyword }
 {
     match keyword {
@@ -102,7 +102,7 @@ fn has_stood(draft: &Draft, keyword: Keyword) -> bool
     }
 }
 
-fn check_item(alloc: Global, row: Row, draft: &Draft, clause: &Clause<'_>) -> Result<(), Refusal>
+fn check_item(alloc: Global, row: KeywordRow, draft: &TermDraft, clause: &Clause<'_>) -> Result<(), Refusal>
     ensures { Gives slip_told result
         (item_checked row draft.now clause.now.keyword.now clause.now.values.now) }
 {
@@ -118,8 +118,8 @@ fn check_item(alloc: Global, row: Row, draft: &Draft, clause: &Clause<'_>) -> Re
 #[tactic(auto, unfolding(crate::specs::Terms::item_behind), using(crate::proofs::ValueLaws::checked_plain))]
 fn judge_item(
     alloc: Global,
-    row: Row,
-    draft: &mut Draft,
+    row: KeywordRow,
+    draft: &mut TermDraft,
     clause: &Clause<'_>,
 ) -> Result<(), Refusal>
     requires { row ≡ row_of row.keyword }
@@ -135,7 +135,7 @@ fn judge_item(
 #[tactic(auto, unfolding(crate::specs::Terms::draft_behind))]
 pub(crate) fn judge_term_keyword(
     alloc: Global,
-    draft: &mut Draft,
+    draft: &mut TermDraft,
     clause: &Clause<'_>,
 ) -> Result<(), Refusal>
     ensures { Leaves slip_told draft.new result

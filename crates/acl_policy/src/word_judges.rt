@@ -1,11 +1,11 @@
 ghost use Rattle.std.specs.Prelude.{◌≡◌, [], ◌∷◌, None, OnOk, option_map, false, true, length, ◌≤◌};
 ghost use Rattle.acl_text.specs.Answers.{Leaves, slip_told};
 ghost use Rattle.acl_policy.specs.Policies.{is_mark};
-ghost use Rattle.acl_policy.specs.JudgingSteps.{behind_open, still_open, rest_of, Keeps};
+ghost use Rattle.acl_policy.specs.JudgingSteps.{behind_open, still_open, rest_of, KeepsReading};
 
 use crate::clauses::Clause;
 use crate::judging::{judge_mark, judge_words};
-use crate::states::State;
+use crate::states::PolicyState;
 use acl_text::Refusal;
 use acl_words::{Form, Token};
 use std::alloc::Global;
@@ -19,7 +19,7 @@ const MOST_HELD: usize = 64;
 /// What was read of a policy so far, and the last words of it, which are not judged yet.
 #[derive(Drop)]
 pub(crate) struct Judge<'a> {
-    pub(crate) state: State,
+    pub(crate) state: PolicyState,
     /// The keyword or brace behind which the words stand, where there is one.
     pub(crate) mark: Option<Token<'a>>,
     pub(crate) held: Vec<Token<'a>>,
@@ -34,7 +34,7 @@ fn is_mark(form: Form) -> bool
 
 fn judge_open(
     alloc: Global,
-    state: &mut State,
+    state: &mut PolicyState,
     mark: Option<&Token<'_>>,
     words: &[Token<'_>],
 ) -> Result<(), Refusal>
@@ -66,7 +66,7 @@ fn still_open<'a>(mark: Option<Token<'a>>) -> Option<Token<'a>>
 
 impl<'a> Judge<'a> {
     /// A judge of the words that come behind what was read.
-    pub(crate) fn new(alloc: Global, state: State) -> Judge<'a>
+    pub(crate) fn new(alloc: Global, state: PolicyState) -> Judge<'a>
         ensures state { result.state ≡ state }
         ensures mark { result.mark ≡ None }
         ensures held { result.held.items ≡ [] }
@@ -101,7 +101,7 @@ impl<'a> Judge<'a> {
     fn judge_many(&mut self, alloc: Global, word: &Token<'a>) -> Result<(), Refusal>
         requires many { 8 ≤ length self.old.held.items }
         requires value { is_mark word.now.form ≡ false }
-        ensures { Keeps (λ ws. rest_of self.old (word.now ∷ ws))
+        ensures { KeepsReading (λ ws. rest_of self.old (word.now ∷ ws))
             (λ ws. rest_of self.new (word.now ∷ ws)) result }
     {
         self.judge_held(alloc)?;
@@ -111,7 +111,7 @@ impl<'a> Judge<'a> {
     /// Judges the words that are held, where there are as many as may be and another comes.
     fn make_room(&mut self, alloc: Global, word: &Token<'a>) -> Result<(), Refusal>
         requires { is_mark word.now.form ≡ false }
-        ensures { Keeps (λ ws. rest_of self.old (word.now ∷ ws))
+        ensures { KeepsReading (λ ws. rest_of self.old (word.now ∷ ws))
             (λ ws. rest_of self.new (word.now ∷ ws)) result }
     {
         if self.held.len() >= MOST_HELD {
@@ -124,7 +124,7 @@ impl<'a> Judge<'a> {
     #[tactic(auto, using(crate::proofs::JudgingLaws::value_comes))]
     fn take_value(&mut self, alloc: Global, word: Token<'a>) -> Result<(), Refusal>
         requires { is_mark word.form ≡ false }
-        ensures { Keeps (λ ws. rest_of self.old (word.entry ∷ ws)) (λ ws. rest_of self.new ws) result }
+        ensures { KeepsReading (λ ws. rest_of self.old (word.entry ∷ ws)) (λ ws. rest_of self.new ws) result }
     {
         self.make_room(alloc, &word)?;
         self.held.push(word)?;
@@ -134,7 +134,7 @@ impl<'a> Judge<'a> {
     #[tactic(auto, using(crate::proofs::JudgingLaws::mark_goes_on, crate::proofs::JudgingLaws::mark_stops))]
     fn take_mark(&mut self, alloc: Global, word: Token<'a>) -> Result<(), Refusal>
         requires { is_mark word.form ≡ true }
-        ensures { Keeps (λ ws. rest_of self.old (word.entry ∷ ws)) (λ ws. rest_of self.new ws) result }
+        ensures { KeepsReading (λ ws. rest_of self.old (word.entry ∷ ws)) (λ ws. rest_of self.new ws) result }
     {
         self.judge_held(alloc)?;
         self.mark = Some(word);
@@ -143,7 +143,7 @@ impl<'a> Judge<'a> {
 
     /// Takes the next word.
     pub(crate) fn take(&mut self, alloc: Global, word: Token<'a>) -> Result<(), Refusal>
-        ensures { Keeps (λ ws. rest_of self.old (word.entry ∷ ws)) (λ ws. rest_of self.new ws) result }
+        ensures { KeepsReading (λ ws. rest_of self.old (word.entry ∷ ws)) (λ ws. rest_of self.new ws) result }
     {
         if is_mark(word.form()) {
             self.take_mark(alloc, word)

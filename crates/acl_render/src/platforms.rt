@@ -12,14 +12,14 @@ use gen_nftables::Nftables;
 
 /// The number of entries of the filter on its platform, or the first limit that it meets there.
 #[tactic(auto, unfolding(crate::specs::PlatformFiles::limit_of, crate::specs::PlatformFiles::count_of))]
-pub fn check(filter: &Filter) -> Result<u64, Limit>
+pub fn count_within_limits(filter: &Filter) -> Result<u64, Limit>
     requires { IsSound filter.now }
     ensures { result ≡ judged (limit_of filter.now) (count_of filter.now) }
 {
     match filter.kind {
-        Kind::Cisco => acl_platform::check(&Cisco, filter),
-        Kind::Juniper => acl_platform::check(&Junos, filter),
-        Kind::Iptables => acl_platform::check(&Iptables, filter),
-        Kind::Nftables => acl_platform::check(&Nftables, filter),
+        Kind::Cisco => acl_platform::count_within_limits(&Cisco, filter),
+        Kind::Juniper => acl_platform::count_within_limits(&Junos, filter),
+        Kind::Iptables => acl_platform::count_within_limits(&Iptables, filter),
+        Kind::Nftables => acl_platform::count_within_limits(&Nftables, filter),
     }
 }

@@ -10,13 +10,13 @@ use std::alloc::Global;
 
 /// A block of numbers whose count is a power of two: the bits that are free in it, and its end.
 #[derive(Drop)]
-struct Block {
+struct FreeBlock {
     free: u8,
     last: u128,
 }
 
 /// The longest block from one number to another at most, beginning at a multiple of its size.
-fn longest_block(first: u128, last: u128) -> Block
+fn longest_block(first: u128, last: u128) -> FreeBlock
     requires { first ≤ last }
     ensures longest { IsLongest first last result.free }
     ensures last { result.last + 1 ≡ first + 2 ^ result.free }
@@ -30,7 +30,7 @@ fn longest_block(first: u128, last: u128) -> Block
         behind += behind + 1;
         multiple /= 2;
     }
-    Block {
+    FreeBlock {
         free,
         last: first + behind,
     }

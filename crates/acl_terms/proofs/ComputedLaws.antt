@@ -24,7 +24,7 @@ use Rattle.acl_naming.specs.Ports.{top_port}
 use Rattle.acl_naming.specs.Reach.{ReachesPort}
 use Rattle.acl_naming.proofs.ComputedReachLaws.{addresses_computed, ports_computed}
 use Rattle.acl_naming.specs.ComputableReach.{ports_reached}
-use Rattle.acl_terms.specs.ComputableTerms.{admitted, named, address_set, named_address_set, number_set, port_set, sets_of, word_addresses, word_numbers, word_ports}
+use Rattle.acl_terms.specs.ComputableTerms.{ranges_or_all, ranges_of, address_set, named_address_set, number_set, port_set, sets_of, word_addresses, word_numbers, word_ports}
 use Rattle.acl_terms.specs.Matching.{Admits, AnyOf, IsAddress, IsNamedAddress, IsNumber, IsPort, NamesAddress, NamesPort, icmp_family, protocols_of, type_in}
 use Rattle.acl_terms.specs.Sets.{AreSetsOf, IsSetOf, Sets}
 use Rattle.acl_terms.specs.SetSteps.{single}
@@ -109,7 +109,7 @@ flat-held P f (a ∷ xs) x h =
 named-set : {A : Type 0} (P : ℕ → A → Type 0) (top : ℕ) (f : A → List Range) (xs : List A)
     → ((a : A) → AllByRecursion (λ r. IsRange top r) (f a))
     → ((a : A) (x : ℕ) → x ≤ top → (holds (f a) x ≡ true) ↔ P x a)
-    → IsSetOf (λ x. AnyOf (P x) xs) top (record { top = top; ranges = named f xs })
+    → IsSetOf (λ x. AnyOf (P x) xs) top (record { top = top; ranges = ranges_of f xs })
 named-set P top f xs fit exact =
     let ranges = all-flat (λ r. IsRange top r) f xs fit in record {
       top_is = refl;
@@ -122,7 +122,7 @@ named-set P top f xs fit exact =
 admitted-set : {A : Type 0} (P : ℕ → A → Type 0) (top : ℕ) (f : A → List Range) (xs : List A)
     → ((a : A) → AllByRecursion (λ r. IsRange top r) (f a))
     → ((a : A) (x : ℕ) → x ≤ top → (holds (f a) x ≡ true) ↔ P x a)
-    → IsSetOf (λ x. Admits (P x) xs) top (record { top = top; ranges = admitted top f xs })
+    → IsSetOf (λ x. Admits (P x) xs) top (record { top = top; ranges = ranges_or_all top f xs })
 admitted-set P top f [] fit exact = record {
   top_is = refl;
   normal = (omega arith, omega arith, omega arith, tt);
@@ -152,8 +152,8 @@ address-is n f words excludes =
     λ w x l. (addresses_computed n.networks f w.text).1 x l in
     let yes = admitted-set (NamesAddress n f) top (word_addresses n f) words fit exact in
     let out = named-set (NamesAddress n f) top (word_addresses n f) excludes fit exact in
-    let some = admitted top (word_addresses n f) words in
-    let less = named (word_addresses n f) excludes in
+    let some = ranges_or_all top (word_addresses n f) words in
+    let less = ranges_of (word_addresses n f) excludes in
     let ranges = are_ranges 0 top less out.normal in
     less-set (λ x. Admits (NamesAddress n f x) words) (λ x. AnyOf (NamesAddress n f x) excludes) top
     (record { top = top; ranges = some }) (record { top = top; ranges = less }) (address_set n f words excludes)
@@ -180,7 +180,7 @@ word-held o x =
 
 number-is : (number : Word → Option ℕ) (words : List Word) → ((w : Word) (k : ℕ) → number w ≡ Some k → k ≤ 255)
     → IsSetOf (λ x. Admits (λ w. number w ≡ Some x) words) 255
-    (record { top = 255; ranges = admitted 255 (word_numbers number) words })
+    (record { top = 255; ranges = ranges_or_all 255 (word_numbers number) words })
 number-is number words within = admitted-set (λ x w. number w ≡ Some x) 255 (word_numbers number) words
     (λ w. word-fits (number w) (within w)) (λ w x _. word-held (number w) x)
 

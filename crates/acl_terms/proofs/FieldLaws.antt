@@ -13,7 +13,7 @@ use Rattle.acl_sets.specs.Ranges.{Numbers, holds}
 use Rattle.acl_policy.specs.declared.raw_terms.RawTerm.{RawTerm}
 use Rattle.acl_naming.specs.Definitions.{Naming}
 use Rattle.acl_terms.specs.declared.options.Mode.{Mode}
-use Rattle.acl_terms.specs.declared.resolving.Parts.{Parts}
+use Rattle.acl_terms.specs.declared.resolving.TermParts.{TermParts}
 use Rattle.acl_terms.specs.declared.terms.Term.{Term}
 use Rattle.acl_terms.specs.Matching.{IsNumber, IsProtocol, icmp_family, protocols_of}
 use Rattle.acl_terms.specs.Options.{passes}
@@ -30,7 +30,7 @@ pub told-same : (numbers : Field → Numbers) → told numbers ≡ numbers
 told-same numbers = λ j field. by-field (λ f. told numbers f ≡ numbers f) refl refl refl refl field j
 
 -- The sets of a term's parts, where each is what its words name.
-pub sets_are : (n : Naming) (raw : RawTerm) (p : Parts)
+pub sets_are : (n : Naming) (raw : RawTerm) (p : TermParts)
     → IsAddressSet n V4 raw p.ends.src.v4 p.ends.dst.v4 p.ends.either.v4
     → IsAddressSet n V6 raw p.ends.src.v6 p.ends.dst.v6 p.ends.either.v6
     → IsSetOf (IsProtocol raw.protocols) 255 p.protos

@@ -33,7 +33,7 @@ use Rattle.acl_terms.specs.SetSteps.{IsType}
 use Rattle.acl_terms.specs.Slips.{first_unless, slip_of, type_slip, option_fits, verdict_fits, is_tcp_or_udp, port_words, networks_slip, port_protocol_slip, services_slip, words_slips, types_slip, clash_slip, option_slip, reset_slip}
 use Rattle.acl_sets.specs.ComputableSets.{is_all}
 use Rattle.acl_sets.specs.Ranges.{Only}
-use Rattle.acl_terms.specs.Soundness.{HaveField, IsSound, is_established, is_protocol, needs_tcp, is_reset, is_left}
+use Rattle.acl_terms.specs.Soundness.{HaveField, IsSoundTerm, is_established, is_protocol, needs_tcp, is_reset, is_left}
 use Rattle.acl_text.specs.Notes.{is_note, note_of}
 use Rattle.acl_text.specs.Refusals.{first_in, first_some}
 use Rattle.acl_terms.proofs.WordLaws.{protocol-within, type-within, parts, passed, first-passed, none-more, left-some, right-some, only-all, any-passes, any-number}
@@ -209,7 +209,7 @@ not-written (w ∷ ws) P top s h e = absurd (both_ways true e refl)
 
 pub sound : (n : Naming) (t : RawTerm) (s : Sets) → is_name t.name.text ≡ true
     → is_note (note_of t.comments) ≡ true → slip_of n t ≡ None → AreSetsOf n t s
-    → IsSound t.name.text (note_of t.comments) s.src4 s.src6 s.dst4 s.dst6 s.addr4 s.addr6
+    → IsSoundTerm t.name.text (note_of t.comments) s.src4 s.src6 s.dst4 s.dst6 s.addr4 s.addr6
     (is_written t.addresses) s.numbers (is_written t.destination_ports) s.ports (is_written t.ports)
     (option_of t.options) (verdict_of t.action.text)
 sound n t s name note clean are =
@@ -279,7 +279,7 @@ pub sound-fields : (n : Naming) (t : RawTerm) (s : Sets) (name note : List ℕ) 
     → dport_named ≡ is_written t.destination_ports → port_named ≡ is_written t.ports
     → option ≡ option_of t.options → verdict ≡ verdict_of t.action.text
     → is_name t.name.text ≡ true → is_note note ≡ true → slip_of n t ≡ None → AreSetsOf n t s
-    → IsSound name note s.src4 s.src6 s.dst4 s.dst6 s.addr4 s.addr6 addr_named s.numbers dport_named
+    → IsSoundTerm name note s.src4 s.src6 s.dst4 s.dst6 s.addr4 s.addr6 addr_named s.numbers dport_named
     s.ports port_named option verdict
 sound-fields n t s name note addr_named dport_named port_named option verdict e1 e2 e3 e4 e5 e6 e7 is safe clean are =
     rw (e1, e2, e3, e4, e5, e6, e7) (sound n t s is (sym (ap is_note e2) ∙ safe) clean are)

@@ -32,7 +32,7 @@ use Rattle.acl_terms.specs.Options.{option_of, verdict_of}
 use Rattle.acl_terms.specs.Resolved.{IsResolved, sets_in}
 use Rattle.acl_terms.specs.Sets.{AreSetsOf, Sets}
 use Rattle.acl_terms.specs.Slips.{is_defined, port_words, reaches_protocol, service_slip, slip_of, unless}
-use Rattle.acl_terms.specs.Soundness.{IsSound, normal-prop}
+use Rattle.acl_terms.specs.Soundness.{IsSoundTerm, normal-prop}
 use Rattle.acl_terms.proofs.ComputedLaws.{computed-sets, one-of-sets, port-is}
 use Rattle.acl_terms.proofs.PortLaws.{protocol-tested}
 use Rattle.acl_terms.proofs.SetLaws.{holds-some}
@@ -60,7 +60,7 @@ record Fields : Type 0 where
   never : Platforms
 
 AreSound : Fields → Type 0
-AreSound f = IsSound f.name f.note f.sets.src4 f.sets.src6 f.sets.dst4 f.sets.dst6 f.sets.addr4 f.sets.addr6
+AreSound f = IsSoundTerm f.name f.note f.sets.src4 f.sets.src6 f.sets.dst4 f.sets.dst6 f.sets.addr4 f.sets.addr6
     f.addr_named (told f.sets.numbers) f.dport_named f.sets.ports f.port_named f.option f.verdict
 
 fields-of : Term → Fields
@@ -112,7 +112,7 @@ term-of f sound = record {
 one-proof : (f : Fields) (p q : AreSound f) → p ≡ q
 unfolding AreSound
 one-proof f p q =
-    let prop : IsProp (IsSound f.name f.note f.sets.src4 f.sets.src6 f.sets.dst4 f.sets.dst6 f.sets.addr4 f.sets.addr6
+    let prop : IsProp (IsSoundTerm f.name f.note f.sets.src4 f.sets.src6 f.sets.dst4 f.sets.dst6 f.sets.addr4 f.sets.addr6
     f.addr_named (told f.sets.numbers) f.dport_named f.sets.ports f.port_named f.option f.verdict) = hlevel (props, normal-prop) in prop p q
 
 same-term : (f g : Fields) → f ≡ g → (p : AreSound f) (q : AreSound g) → term-of f p ≡ term-of g q
@@ -187,7 +187,7 @@ sets-there n raw some clean =
     (port-some n qs raw.ports some (λ h. named (right-some ends raw.ports h)) all.1)
 
 abbrev pub IsSoundWith : RawTerm → Sets → (Field → Numbers) → Type 0
-IsSoundWith raw s numbers = IsSound raw.name.text (note_of raw.comments) s.src4 s.src6 s.dst4 s.dst6 s.addr4 s.addr6
+IsSoundWith raw s numbers = IsSoundTerm raw.name.text (note_of raw.comments) s.src4 s.src6 s.dst4 s.dst6 s.addr4 s.addr6
     (is_written raw.addresses) numbers (is_written raw.destination_ports) s.ports
     (is_written raw.ports) (option_of raw.options) (verdict_of raw.action.text)
 

@@ -8,7 +8,7 @@ use Rattle.std.proofs.lemmas.Option.{none-some, same_Some}
 use Rattle.std.specs.Option.{option_or}
 use Rattle.acl_packet.specs.declared.addresses.Family.{Family}
 use Rattle.acl_packet.specs.declared.addresses.Family.TheVariants.{V4, V6}
-use Rattle.acl_packet.specs.NumberWords.{Row, row_of, row_or_number, protocols, types_of, protocol_in, icmp_in}
+use Rattle.acl_packet.specs.NumberWords.{NumberWord, row_of, row_or_number, protocols, types_of, protocol_in, icmp_in}
 use Rattle.acl_packet.proofs.ChoiceLaws.{chosen}
 use Rattle.acl_packet.proofs.NumberWordLaws.{word-some}
 use Rattle.acl_text.specs.declared.faults.Code.{Code}
@@ -18,18 +18,18 @@ use Rattle.acl_terms.specs.Slips.{unless, first_unless}
 
 -- ---- the numbers of words
 
-row-passes : (test : ℕ → Bool) (table : List Row) (word : List ℕ) (n : ℕ)
-    → list_all {X = Row} (λ r. test r.1) table ≡ true → row_of table word ≡ Some n → test n ≡ true
+row-passes : (test : ℕ → Bool) (table : List NumberWord) (word : List ℕ) (n : ℕ)
+    → list_all {X = NumberWord} (λ r. test r.1) table ≡ true → row_of table word ≡ Some n → test n ≡ true
 row-passes test [] word n h e = absurd (none-some n e)
 row-passes test (r ∷ rs) word n h e =
-    let p = and_parts (test r.1) (list_all {X = Row} (λ q. test q.1) rs) h in
+    let p = and_parts (test r.1) (list_all {X = NumberWord} (λ q. test q.1) rs) h in
     elim (chosen (bytes_eq word r.0) (Some r.1) (row_of rs word) (Some n) e) [
       | inl a ↦ sym (ap test (same_Some r.1 n a.1)) ∙ p.0
       | inr b ↦ row-passes test rs word n p.1 b.1
     ]
 
-within : (table : List Row) (least most n : ℕ) (word : List ℕ) → most < 2 ^ 64
-    → list_all {X = Row} (λ r. nat_le least r.1 && nat_le r.1 most) table ≡ true
+within : (table : List NumberWord) (least most n : ℕ) (word : List ℕ) → most < 2 ^ 64
+    → list_all {X = NumberWord} (λ r. nat_le least r.1 && nat_le r.1 most) table ≡ true
     → row_or_number table least most word ≡ Some n → (least ≤ n) × (n ≤ most)
 within table least most n word small h e = elim (word-some table least most word (Some n) small (sym e)) [
   | inl row ↦ let p = and_parts (nat_le least n) (nat_le n most)

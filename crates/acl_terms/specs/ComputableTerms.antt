@@ -26,12 +26,12 @@ use Rattle.acl_terms.specs.SetSteps.{single}
 use Rattle.acl_terms.specs.Slips.{slip_of}
 
 -- The ranges of all items of a list, as one set; and all numbers up to the top where there is no item.
-abbrev pub named : {A : Type 0} → (A → List Range) → List A → List Range
-named f xs = put_all (flat_map f xs) []
+abbrev pub ranges_of : {A : Type 0} → (A → List Range) → List A → List Range
+ranges_of f xs = put_all (flat_map f xs) []
 
-abbrev pub admitted : {A : Type 0} → ℕ → (A → List Range) → List A → List Range
-admitted top f [] = record { low = 0; high = top } ∷ []
-admitted top f (x ∷ xs) = named f (x ∷ xs)
+abbrev pub ranges_or_all : {A : Type 0} → ℕ → (A → List Range) → List A → List Range
+ranges_or_all top f [] = record { low = 0; high = top } ∷ []
+ranges_or_all top f (x ∷ xs) = ranges_of f (x ∷ xs)
 
 abbrev pub word_addresses : Naming → Family → Word → List Range
 word_addresses n f w = addresses_reached n.networks f w.text
@@ -39,14 +39,14 @@ word_addresses n f w = addresses_reached n.networks f w.text
 abbrev pub address_set : Naming → Family → List Word → List Word → Numbers
 address_set n f words excludes = record {
   top = top_address f;
-  ranges = cut_all (named (word_addresses n f) excludes)
-      (admitted (top_address f) (word_addresses n f) words);
+  ranges = cut_all (ranges_of (word_addresses n f) excludes)
+      (ranges_or_all (top_address f) (word_addresses n f) words);
 }
 
 abbrev pub named_address_set : Naming → Family → List Word → Numbers
 named_address_set n f words = record {
   top = top_address f;
-  ranges = admitted (top_address f) (word_addresses n f) words;
+  ranges = ranges_or_all (top_address f) (word_addresses n f) words;
 }
 
 abbrev pub word_ports : Naming → List ℕ → Word → List Range
@@ -55,7 +55,7 @@ word_ports n protos w = flat_map (λ q. ports_reached n.services q w.text) proto
 abbrev pub port_set : Naming → List ℕ → List Word → Numbers
 port_set n protos words = record {
   top = top_port;
-  ranges = admitted top_port (word_ports n protos) words;
+  ranges = ranges_or_all top_port (word_ports n protos) words;
 }
 
 abbrev pub word_numbers : (Word → Option ℕ) → Word → List Range
@@ -71,7 +71,7 @@ field_numbers n t IcmpType w = word_numbers (λ v. type_in (icmp_family (protoco
 abbrev pub number_set : Naming → RawTerm → Field → Numbers
 number_set n t field = record {
   top = top_of field;
-  ranges = admitted (top_of field) (field_numbers n t field) (words_of field t);
+  ranges = ranges_or_all (top_of field) (field_numbers n t field) (words_of field t);
 }
 
 unfoldable pub sets_of : Naming → RawTerm → Sets

@@ -45,18 +45,18 @@ PolicyDecides n target today (t ∷ ts) p o =
 
 -- A platform that cannot reject shows a rejection and a reset as a denial: Cisco access lists permit and deny alone
 -- (Cisco IOS command reference, ip access-list).
-abbrev pub denied : Verdict → Verdict
-denied verdicts.Accept = verdicts.Accept
-denied verdicts.Deny = verdicts.Deny
-denied verdicts.Reject = verdicts.Deny
-denied verdicts.Reset = verdicts.Deny
-denied verdicts.Left = verdicts.Left
+abbrev pub cisco_verdict : Verdict → Verdict
+cisco_verdict verdicts.Accept = verdicts.Accept
+cisco_verdict verdicts.Deny = verdicts.Deny
+cisco_verdict verdicts.Reject = verdicts.Deny
+cisco_verdict verdicts.Reset = verdicts.Deny
+cisco_verdict verdicts.Left = verdicts.Left
 
-abbrev pub shown : Kind → Outcome → Outcome
-shown Cisco o = record { verdict = denied o.verdict; logged = o.logged }
-shown Juniper o = o
-shown Iptables o = o
-shown Nftables o = o
+abbrev pub expressed_on : Kind → Outcome → Outcome
+expressed_on Cisco o = record { verdict = cisco_verdict o.verdict; logged = o.logged }
+expressed_on Juniper o = o
+expressed_on Iptables o = o
+expressed_on Nftables o = o
 
 -- ---- of resolved terms
 

@@ -12,7 +12,7 @@ use Rattle.acl_policy.specs.declared.raw_terms.RawTerm.{RawTerm}
 use Rattle.acl_words.specs.declared.word_lists.Word.{Word}
 use Rattle.acl_naming.specs.Definitions.{Definition, Naming}
 use Rattle.acl_naming.specs.Ports.{top_port}
-use Rattle.acl_terms.specs.declared.resolving.Parts.{Parts}
+use Rattle.acl_terms.specs.declared.resolving.TermParts.{TermParts}
 use Rattle.acl_terms.specs.Matching.{Admits, IsPort, type_in}
 use Rattle.acl_terms.specs.Sets.{IsSetOf, Sets, by_field}
 use Rattle.acl_terms.specs.Slips.{first_unless, is_defined, network_slip, reaches_protocol, unless}
@@ -64,7 +64,7 @@ abbrev pub meet : Numbers → Numbers → Bool
 meet s other = list_any (λ r. holds s.ranges r.low) other.ranges || list_any (λ r. holds other.ranges r.low) s.ranges
 
 -- The sets of a term from its parts.
-abbrev pub sets_by : Parts → Sets
+abbrev pub sets_by : TermParts → Sets
 sets_by p = record {
   src4 = p.ends.src.v4;
   src6 = p.ends.src.v6;

@@ -45,7 +45,7 @@ is_protocol _ = false
 abbrev pub HaveField : Field → Numbers → Type 0
 HaveField field protos = (Only (has_field V4 field) protos → ⊥) → Only (has_field V6 field) protos
 
-pub record IsSound (name note : List ℕ) (src4 src6 dst4 dst6 addr4 addr6 : Numbers)
+pub record IsSoundTerm (name note : List ℕ) (src4 src6 dst4 dst6 addr4 addr6 : Numbers)
     (addr_named : Bool) (numbers : Field → Numbers) (dport_named : Bool) (ports : Numbers)
     (port_named : Bool) (option : Opt) (verdict : Verdict) : Type 0 where
   pub name_is : is_name name ≡ true

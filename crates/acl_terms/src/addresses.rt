@@ -58,7 +58,7 @@ fn add_word(
 }
 
 // The addresses that some of the words reach. A text that came before is not looked up again.
-fn named(alloc: Global, base: &Checked, words: &WordList) -> Result<Addresses, Refusal>
+fn addresses_of_words(alloc: Global, base: &Checked, words: &WordList) -> Result<Addresses, Refusal>
     ensures judged { Judges result (first_in (network_slip base.now.networks) words.now) }
     ensures v4 { IfOk result (λ a. IsSetOf (λ x. AnyOf (NamesAddress base.now V4 x) words.now)
         (top_address V4) a.v4) }
@@ -78,7 +78,7 @@ fn named(alloc: Global, base: &Checked, words: &WordList) -> Result<Addresses, R
 }
 
 // The same, or all where no word is written.
-fn admitted(alloc: Global, base: &Checked, words: &WordList) -> Result<Addresses, Refusal>
+fn admitted_addresses(alloc: Global, base: &Checked, words: &WordList) -> Result<Addresses, Refusal>
     ensures judged { Judges result (first_in (network_slip base.now.networks) words.now) }
     ensures v4 { IfOk result (λ a. IsSetOf (λ x. Admits (NamesAddress base.now V4 x) words.now)
         (top_address V4) a.v4) }
@@ -90,7 +90,7 @@ fn admitted(alloc: Global, base: &Checked, words: &WordList) -> Result<Addresses
             v4: RangeSet::all(alloc, Family::V4.top_address())?,
             v6: RangeSet::all(alloc, Family::V6.top_address())?,
         }),
-        Some(_) => named(alloc, base, words),
+        Some(_) => addresses_of_words(alloc, base, words),
     }
 }
 
@@ -108,11 +108,11 @@ fn end_of(
     ensures v6 { IfOk result (λ a. IsSetOf (IsAddress base.now V6 words.now excludes.now)
         (top_address V6) a.v6) }
 {
-    let taken = admitted(alloc, base, words)?;
+    let taken = admitted_addresses(alloc, base, words)?;
     match excludes.first() {
         None => Ok(taken),
         Some(_) => {
-            let excluded = named(alloc, base, excludes)?;
+            let excluded = addresses_of_words(alloc, base, excludes)?;
             Ok(Addresses {
                 v4: taken.v4.subtract(alloc, &excluded.v4)?,
                 v6: taken.v6.subtract(alloc, &excluded.v6)?,
@@ -131,7 +131,7 @@ fn by_ends(alloc: Global, base: &Checked, raw: &RawTerm) -> Result<Ends, Refusal
 {
     let src = end_of(alloc, base, &raw.sources, &raw.source_excludes)?;
     let dst = end_of(alloc, base, &raw.destinations, &raw.destination_excludes)?;
-    let either = admitted(alloc, base, &raw.addresses)?;
+    let either = admitted_addresses(alloc, base, &raw.addresses)?;
     Ok(Ends { src, dst, either })
 }
 

@@ -20,7 +20,7 @@ pub(crate) fn refusal_at(alloc: Global, code: Code, word: &WordRef<'_>) -> Refus
     Refusal::at(alloc, code, word.place(), word.text())
 }
 
-fn check(alloc: Global, passed: bool, code: Code, word: &WordRef<'_>) -> Result<(), Refusal>
+fn refuse_unless(alloc: Global, passed: bool, code: Code, word: &WordRef<'_>) -> Result<(), Refusal>
     ensures { Judges result (unless passed code word.now) }
 {
     if passed {
@@ -35,7 +35,7 @@ fn check_first(alloc: Global, passed: bool, code: Code, words: &WordList) -> Res
 {
     match words.first() {
         None => Ok(()),
-        Some(first) => check(alloc, passed, code, &first),
+        Some(first) => refuse_unless(alloc, passed, code, &first),
     }
 }
 
@@ -185,7 +185,7 @@ fn check_types(alloc: Global, family: Option<Family>, words: &WordList) -> Resul
 {
     for word in words.iter() {
         let passed = is_type_in(family, word.text());
-        check(alloc, passed, Code::IcmpProtocol, &word)?;
+        refuse_unless(alloc, passed, Code::IcmpProtocol, &word)?;
     }
     Ok(())
 }
@@ -195,7 +195,7 @@ fn check_same(alloc: Global, first: &WordRef<'_>, words: WordsLeft<'_>) -> Resul
 {
     for word in words {
         let passed = word.text() == first.text();
-        check(alloc, passed, Code::OptionClash, &word)?;
+        refuse_unless(alloc, passed, Code::OptionClash, &word)?;
     }
     Ok(())
 }
@@ -225,7 +225,7 @@ fn check_reset(alloc: Global, protos: &[u8], word: &WordRef<'_>) -> Result<(), R
     ensures { Judges result (reset_slip protos.now word.now) }
 {
     let verdict = verdict_of(word.text());
-    check(
+    refuse_unless(
         alloc,
         verdict_fits(verdict, protos),
         Code::ResetProtocol,

@@ -69,7 +69,7 @@ fn ports_by(
 }
 
 // The ports that some of the words reach. A text that came before is not looked up again.
-fn named(
+fn ports_of_words(
     alloc: Global,
     base: &Checked,
     protos: &[u8],
@@ -92,7 +92,7 @@ fn named(
 }
 
 // The same, or all where no word is written. A protocol that stands twice is not looked up again.
-fn admitted(
+fn admitted_ports(
     alloc: Global,
     base: &Checked,
     protos: &[u8],
@@ -108,7 +108,7 @@ fn admitted(
         None => Ok(RangeSet::all(alloc, TOP)?),
         Some(_) => {
             let protos = distinct(alloc, protos)?;
-            named(alloc, base, &protos, words)
+            ports_of_words(alloc, base, &protos, words)
         }
     }
 }
@@ -127,9 +127,9 @@ pub(crate) fn ports_of_term(
     ensures ports { IfOk result (λ p.
         IsPortSet base.now protos.now raw.now p.sports p.dports p.ports) }
 {
-    let sports = admitted(alloc, base, protos, &raw.source_ports)?;
-    let dports = admitted(alloc, base, protos, &raw.destination_ports)?;
-    let ports = admitted(alloc, base, protos, &raw.ports)?;
+    let sports = admitted_ports(alloc, base, protos, &raw.source_ports)?;
+    let dports = admitted_ports(alloc, base, protos, &raw.destination_ports)?;
+    let ports = admitted_ports(alloc, base, protos, &raw.ports)?;
     Ok(TermPorts {
         sports,
         dports,

@@ -22,7 +22,7 @@ use std::alloc::Global;
 
 // The sets of a term.
 #[derive(Drop)]
-struct Parts {
+struct TermParts {
     ends: Ends,
     protos: RangeSet,
     ports: TermPorts,
@@ -31,7 +31,7 @@ struct Parts {
 
 // The sets of the term, or its first slip.
 #[tactic(auto, unfolding(crate::specs::Slips::slip_of))]
-fn parts_of(alloc: Global, base: &Checked, raw: &RawTerm) -> Result<Parts, Refusal>
+fn parts_of(alloc: Global, base: &Checked, raw: &RawTerm) -> Result<TermParts, Refusal>
     ensures judged { Judges result (slip_of base.now raw.now) }
     ensures sets { IfOk result (λ p. AreSetsOf base.now raw.now (sets_by p)) }
 {
@@ -41,7 +41,7 @@ fn parts_of(alloc: Global, base: &Checked, raw: &RawTerm) -> Result<Parts, Refus
     let ports = ports_of_term(alloc, base, &protos, raw)?;
     check_words(alloc, &protos, raw)?;
     let family = icmp_family(&protos);
-    Ok(Parts {
+    Ok(TermParts {
         ends,
         protos: admitted_protocols(alloc, &raw.protocols, &protos)?,
         ports,
@@ -73,7 +73,7 @@ pub fn resolve(alloc: Global, base: &Checked, raw: &RawTerm) -> Result<Term, Ref
     ensures resolved { IfOk result (IsResolved base.now raw.now) }
 {
     let parts = parts_of(alloc, base, raw)?;
-    let Parts {
+    let TermParts {
         ends: Ends { src, dst, either },
         protos,
         ports: TermPorts {

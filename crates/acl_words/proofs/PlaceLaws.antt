@@ -10,7 +10,7 @@ use Rattle.acl_words.specs.declared.forms.Form.TheVariants as forms
 use Rattle.acl_words.specs.Tokens.{Token}
 use Rattle.acl_words.specs.Bytes.{in_run, first_bad, ends_in_colon}
 use Rattle.acl_words.specs.Places.{IsLinePlace, HaveLinePlaces}
-use Rattle.acl_words.specs.Words.{word, part_word, last_part, split_run, Mode, Between, Comment, Run, String, opened_mode, brace, mode_behind, words_at, words_in, mode_in, line_words, line_mode, words_at_end, words_from, words_of}
+use Rattle.acl_words.specs.Words.{word, part_word, last_part, split_run, OpenPart, Between, Comment, Run, String, opened_mode, brace, mode_behind, words_at, words_in, mode_in, line_words, line_mode, words_at_end, words_from, words_of}
 
 either : {A : Type 0} (Q : A → Type 0) (c : Bool) (x y : A) → Q x → Q y → Q (if c then x else y)
 either Q true x y h k = h
@@ -21,7 +21,7 @@ module _ (At : Place → Type 0) where
   Stand ws = All (λ (w : Token). At w.place) ws
 
   -- A word that stands open has such a place.
-  abbrev Stands : Mode → Type 0
+  abbrev Stands : OpenPart → Type 0
   Stands Between = Unit {0}
   Stands Comment = Unit {0}
   Stands (Run from text) = At from
@@ -62,42 +62,42 @@ module _ (At : Place → Type 0) where
   brace_stands place b h = either Stand (b == 123) _ _ (one (word place forms.Begin (b ∷ [])) h)
       (either Stand (b == 125) _ _ (one (word place forms.End (b ∷ [])) h) none)
 
-  behind_stands : (m : Mode) (place : Place) (b : ℕ) → Stands m → At place → Stands (mode_behind m place b)
+  behind_stands : (m : OpenPart) (place : Place) (b : ℕ) → Stands m → At place → Stands (mode_behind m place b)
   behind_stands Between place b m h = opened_stands place b h
   behind_stands Comment place b m h = either Stands (b == 10) _ _ tt tt
   behind_stands (Run from text) place b m h = either Stands (in_run b) _ _ m (opened_stands place b h)
   behind_stands (String from text) place b m h = either Stands (b == 34) _ _ tt m
 
-  words_stand : (m : Mode) (place : Place) (b : ℕ) → Stands m → At place → Stand (words_at m place b)
+  words_stand : (m : OpenPart) (place : Place) (b : ℕ) → Stands m → At place → Stand (words_at m place b)
   words_stand Between place b m h = brace_stands place b h
   words_stand Comment place b m h = none
   words_stand (Run from text) place b m h = either Stand (in_run b) _ _ none
       (both (split_run from [] text) (brace place b) (run_stands from [] text m) (brace_stands place b h))
   words_stand (String from text) place b m h = either Stand (b == 34) _ _ (one (word from forms.Quoted text) m) none
 
-  words_in_stand : (place : Place) (m : Mode) (bs : List ℕ) → Stands m → At place → Stand (words_in place m bs)
+  words_in_stand : (place : Place) (m : OpenPart) (bs : List ℕ) → Stands m → At place → Stand (words_in place m bs)
   words_in_stand place m [] s h = none
   words_in_stand place m (b ∷ bs) s h = both (words_at m place b) (words_in place (mode_behind m place b) bs)
       (words_stand m place b s h) (words_in_stand place (mode_behind m place b) bs (behind_stands m place b s h) h)
 
-  mode_in_stands : (place : Place) (m : Mode) (bs : List ℕ) → Stands m → At place → Stands (mode_in place m bs)
+  mode_in_stands : (place : Place) (m : OpenPart) (bs : List ℕ) → Stands m → At place → Stands (mode_in place m bs)
   mode_in_stands place m [] s h = s
   mode_in_stands place m (b ∷ bs) s h = mode_in_stands place (mode_behind m place b) bs (behind_stands m place b s h) h
 
-  line_stands : (l : Line) (m : Mode) → Stands m → At l.place → Stand (line_words l m)
+  line_stands : (l : Line) (m : OpenPart) → Stands m → At l.place → Stand (line_words l m)
   line_stands l m s h = both (words_in l.place m l.text) (words_at (mode_in l.place m l.text) l.place 10)
       (words_in_stand l.place m l.text s h) (words_stand (mode_in l.place m l.text) l.place 10 (mode_in_stands l.place m l.text s h) h)
 
-  line_mode_stands : (l : Line) (m : Mode) → Stands m → At l.place → Stands (line_mode l m)
+  line_mode_stands : (l : Line) (m : OpenPart) → Stands m → At l.place → Stands (line_mode l m)
   line_mode_stands l m s h = behind_stands (mode_in l.place m l.text) l.place 10 (mode_in_stands l.place m l.text s h) h
 
-  end_stands : (m : Mode) → Stands m → Stand (words_at_end m)
+  end_stands : (m : OpenPart) → Stands m → Stand (words_at_end m)
   end_stands Between h = none
   end_stands Comment h = none
   end_stands (Run from text) h = run_stands from [] text h
   end_stands (String from text) h = one (word from forms.Unclosed (34 ∷ [])) h
 
-  from_stand : (m : Mode) (ls : List Line) → Stands m → AllByRecursion (λ (l : Line). At l.place) ls → Stand (words_from m ls)
+  from_stand : (m : OpenPart) (ls : List Line) → Stands m → AllByRecursion (λ (l : Line). At l.place) ls → Stand (words_from m ls)
   from_stand m [] s h = end_stands m s
   from_stand m (l ∷ ls) s h = both (line_words l m) (words_from (line_mode l m) ls)
       (line_stands l m s h.0) (from_stand (line_mode l m) ls (line_mode_stands l m s h.0) h.1)

@@ -13,7 +13,7 @@ use Rattle.acl_words.specs.declared.forms.Form.{Form}
 use Rattle.acl_words.specs.declared.forms.Form.TheVariants as forms
 use Rattle.acl_words.specs.Tokens.{Token}
 use Rattle.acl_words.specs.Bytes.{in_run, ends_in_colon}
-use Rattle.acl_words.specs.Words.{word, part_word, split_run, Mode, Between, Comment, Run, String, opened_mode, brace, mode_behind, words_at, words_in, mode_in, line_mode, words_at_end, words_from, words_of}
+use Rattle.acl_words.specs.Words.{word, part_word, split_run, OpenPart, Between, Comment, Run, String, opened_mode, brace, mode_behind, words_at, words_in, mode_in, line_mode, words_at_end, words_from, words_of}
 use Rattle.acl_words.specs.ReadingSteps.{Reached, reached, next_reached, reached_behind, reached_past, words_on, is_blank, first_part}
 
 -- ---- white space
@@ -28,7 +28,7 @@ pub blank_read : (b : ℕ) (bs : List ℕ) (r : Reached) → is_blank b ≡ true
     → words_on Between r (b ∷ bs) ≡ words_on Between (reached_behind b r) bs
 blank_read b bs r h =
     ap (λ (ws : List Token). ws ++ words_on (opened_mode r.place b) (reached_behind b r) bs) (brace_blank r.place b h)
-    ∙ ap (λ (m : Mode). words_on m (reached_behind b r) bs) (opened_blank r.place b h)
+    ∙ ap (λ (m : OpenPart). words_on m (reached_behind b r) bs) (opened_blank r.place b h)
 
 -- ---- comments
 
@@ -103,7 +103,7 @@ run_begins : (bs : List ℕ) (b : ℕ) (r : Reached) → in_run b ≡ true
     → words_on Between r (b ∷ bs) ≡ words_on (Run r.place (b ∷ [])) r bs
 run_begins bs b r h =
     ap (λ (ws : List Token). ws ++ words_on (opened_mode r.place b) (reached_behind b r) bs) (brace_run r.place b h)
-    ∙ ap (λ (m : Mode). words_on m (reached_behind b r) bs) (opened_run r.place b h)
+    ∙ ap (λ (m : OpenPart). words_on m (reached_behind b r) bs) (opened_run r.place b h)
     ∙ ap (λ (q : Reached). words_on (Run r.place (b ∷ [])) q bs) (cond-false (b == 10) _ r (no_feed b h))
 
 run_ends : (text bs : List ℕ) (b : ℕ) (place : Place) (r : Reached) → in_run b ≡ false
@@ -111,12 +111,12 @@ run_ends : (text bs : List ℕ) (b : ℕ) (place : Place) (r : Reached) → in_r
 run_ends text bs b place r h =
     ap (λ (ws : List Token). ws ++ words_on (mode_behind (Run place text) r.place b) (reached_behind b r) bs)
     (cond-false (in_run b) [] (split_run place [] text ++ brace r.place b) h)
-    ∙ ap (λ (m : Mode). split_run place [] text ++ brace r.place b ++ words_on m (reached_behind b r) bs)
+    ∙ ap (λ (m : OpenPart). split_run place [] text ++ brace r.place b ++ words_on m (reached_behind b r) bs)
     (cond-false (in_run b) (Run place (text ++ b ∷ [])) (opened_mode r.place b) h)
     ∙ append_assoc (split_run place [] text) (brace r.place b) (words_on (opened_mode r.place b) (reached_behind b r) bs)
 
 -- A run is open where it has a byte.
-abbrev opened : Place → List ℕ → Mode
+abbrev opened : Place → List ℕ → OpenPart
 opened place [] = Between
 opened place (b ∷ bs) = Run place (b ∷ bs)
 
@@ -213,7 +213,7 @@ part_read b bs r h =
 regrouped : {A : Type 0} (ws xs ys zs : List A) → ws ++ (xs ++ ys ++ zs) ≡ ws ++ xs ++ ys ++ zs
 regrouped ws xs ys zs = sym (append_assoc ws (xs ++ ys) zs) ∙ ap (λ us. us ++ zs) (sym (append_assoc ws xs ys))
 
-on_line : (xs ys : List ℕ) (m : Mode) (r : Reached) → HasNoFeed xs
+on_line : (xs ys : List ℕ) (m : OpenPart) (r : Reached) → HasNoFeed xs
     → words_on m r (xs ++ 10 ∷ ys) ≡ words_in r.place m xs ++ words_at (mode_in r.place m xs) r.place 10
     ++ words_on (mode_behind (mode_in r.place m xs) r.place 10) (next_reached r.place r.later) ys
 on_line [] ys m r h = refl
@@ -225,7 +225,7 @@ on_line (x ∷ xs) ys m r h =
     (words_at (mode_in r.place (mode_behind m r.place x) xs) r.place 10)
     (words_on (mode_behind (mode_in r.place (mode_behind m r.place x) xs) r.place 10) (next_reached r.place r.later) ys)
 
-on_lines : (lines : List Line) (m : Mode) (r : Reached) → AllByRecursion (λ (l : Line). HasNoFeed l.text) lines
+on_lines : (lines : List Line) (m : OpenPart) (r : Reached) → AllByRecursion (λ (l : Line). HasNoFeed l.text) lines
     → words_on m (next_reached r.place (map (λ (l : Line). l.place) lines)) (text_of lines) ≡ words_from m lines
 on_lines [] m r h = refl
 on_lines (l ∷ ls) m r h =

@@ -1,12 +1,12 @@
 -- One more step.
 use Rattle.std.proofs.Common.{◌≡◌, zero, suc, List, [], ◌∷◌, ◌++◌, length, refl, ap, sym, ◌∙◌, arith}
 use Rattle.acl_text.specs.declared.faults.Place.{Place}
-use Rattle.acl_words.specs.declared.place_lists.Step.{Step}
-use Rattle.acl_words.specs.declared.place_lists.Step.TheVariants.{Same, Next, Own}
+use Rattle.acl_words.specs.declared.place_lists.PlaceStep.{PlaceStep}
+use Rattle.acl_words.specs.declared.place_lists.PlaceStep.TheVariants.{Same, Next, Own}
 use Rattle.acl_words.specs.PlaceSteps.{AreStepped, added, kept_by, last_by, next_line, place_by, places_by, start}
 
 -- What steps lead to, with one more behind them.
-pub record IsStepped (p : Place) (own : List Place) (steps : List Step) (s : Step) (q : Place) : Type 0 where
+pub record IsStepped (p : Place) (own : List Place) (steps : List PlaceStep) (s : PlaceStep) (q : Place) : Type 0 where
   pub places_are : places_by p (own ++ added s q) (steps ++ s ∷ []) ≡ places_by p own steps ++ q ∷ []
   pub last_is : last_by p (own ++ added s q) (steps ++ s ∷ []) ≡ q
   pub own_are : kept_by (steps ++ s ∷ []) ≡ length (own ++ added s q)
@@ -15,12 +15,12 @@ no_own : (own : List Place) → zero ≡ length own → own ≡ []
 no_own [] h = refl
 no_own (q ∷ own) h = absurd (omega (arith, h))
 
-kept-one : (s : Step) (q : Place) → kept_by (s ∷ []) ≡ length (added s q)
+kept-one : (s : PlaceStep) (q : Place) → kept_by (s ∷ []) ≡ length (added s q)
 kept-one Same q = refl
 kept-one Next q = refl
 kept-one Own q = refl
 
-first_step : (p : Place) (own : List Place) (s : Step) (q : Place) → own ≡ [] → place_by s p (added s q) ≡ q
+first_step : (p : Place) (own : List Place) (s : PlaceStep) (q : Place) → own ≡ [] → place_by s p (added s q) ≡ q
     → IsStepped p own [] s q
 first_step p own s q none is = rw (none) (record {
   places_are = ap (λ r. r ∷ []) is;
@@ -28,7 +28,7 @@ first_step p own s q none is = rw (none) (record {
   own_are = kept-one s q;
 })
 
-pub step_more : (p : Place) (own : List Place) (steps : List Step) (s : Step) (q : Place)
+pub step_more : (p : Place) (own : List Place) (steps : List PlaceStep) (s : PlaceStep) (q : Place)
     → kept_by steps ≡ length own → place_by s (last_by p own steps) (added s q) ≡ q → IsStepped p own steps s q
 step_more p own [] s q kept is = first_step p own s q (no_own own kept) is
 step_more p own (Same ∷ steps) s q kept is =
@@ -52,7 +52,7 @@ step_more p (o ∷ own) (Own ∷ steps) s q kept is =
     }
 
 -- What a list of places is behind one more.
-pub stepped_with : (last q : Place) (own own' : List Place) (steps steps' : List Step) (s : Step)
+pub stepped_with : (last q : Place) (own own' : List Place) (steps steps' : List PlaceStep) (s : PlaceStep)
     → AreStepped last own steps → place_by s last (added s q) ≡ q
     → own' ≡ own ++ added s q → steps' ≡ steps ++ s ∷ []
     → AreStepped q own' steps' × (places_by start own' steps' ≡ places_by start own steps ++ q ∷ [])

@@ -6,7 +6,7 @@ use Rattle.acl_words.specs.declared.forms.Form.{Form}
 use Rattle.acl_words.specs.declared.forms.Form.TheVariants.{Plain, Keyword}
 use Rattle.acl_words.specs.Tokens.{Token}
 use Rattle.acl_words.specs.Bytes.{in_run, ends_in_colon}
-use Rattle.acl_words.specs.Words.{Mode, words_at, mode_behind, words_at_end}
+use Rattle.acl_words.specs.Words.{OpenPart, words_at, mode_behind, words_at_end}
 
 -- The place of the line that is read, and the places of the lines behind it.
 pub record Reached : Type 0 where
@@ -31,7 +31,7 @@ reached_past [] r = r
 reached_past (b ∷ bs) r = reached_past bs (reached_behind b r)
 
 -- The words of a text, with what stands open before it.
-abbrev pub words_on : Mode → Reached → List ℕ → List Token
+abbrev pub words_on : OpenPart → Reached → List ℕ → List Token
 words_on m r [] = words_at_end m
 words_on m r (b ∷ bs) = words_at m r.place b ++ words_on (mode_behind m r.place b) (reached_behind b r) bs
 

@@ -33,14 +33,14 @@ split_run place part (b ∷ bs) =
     else split_run place (part ++ b ∷ []) bs
 
 -- What stands open between two bytes. A word has the place where it began.
-pub data Mode : Type 0 where
-  Between : Mode
-  Comment : Mode
-  Run : Place → List ℕ → Mode
-  String : Place → List ℕ → Mode
+pub data OpenPart : Type 0 where
+  Between : OpenPart
+  Comment : OpenPart
+  Run : Place → List ℕ → OpenPart
+  String : Place → List ℕ → OpenPart
 
 -- What a byte opens where no word stands open.
-abbrev pub opened_mode : Place → ℕ → Mode
+abbrev pub opened_mode : Place → ℕ → OpenPart
 opened_mode place b =
     if b == 34 then String place []
     else if b == 35 then Comment
@@ -55,7 +55,7 @@ brace place b =
     else []
 
 -- What stands open behind a byte. A comment runs to the end of its line, a string to the next `"`.
-abbrev pub mode_behind : Mode → Place → ℕ → Mode
+abbrev pub mode_behind : OpenPart → Place → ℕ → OpenPart
 mode_behind Between place b = opened_mode place b
 mode_behind Comment place b = if b == 10 then Between else Comment
 mode_behind (Run from text) place b =
@@ -64,36 +64,36 @@ mode_behind (Run from text) place b =
 mode_behind (String from text) place b = if b == 34 then Between else String from (text ++ b ∷ [])
 
 -- The words that end with a byte.
-abbrev pub words_at : Mode → Place → ℕ → List Token
+abbrev pub words_at : OpenPart → Place → ℕ → List Token
 words_at Between place b = brace place b
 words_at Comment place b = []
 words_at (Run from text) place b = if in_run b then [] else split_run from [] text ++ brace place b
 words_at (String from text) place b = if b == 34 then word from Quoted text ∷ [] else []
 
 -- The words that end within bytes, and what stands open behind them.
-abbrev pub words_in : Place → Mode → List ℕ → List Token
+abbrev pub words_in : Place → OpenPart → List ℕ → List Token
 words_in place m [] = []
 words_in place m (b ∷ bs) = words_at m place b ++ words_in place (mode_behind m place b) bs
 
-abbrev pub mode_in : Place → Mode → List ℕ → Mode
+abbrev pub mode_in : Place → OpenPart → List ℕ → OpenPart
 mode_in place m [] = m
 mode_in place m (b ∷ bs) = mode_in place (mode_behind m place b) bs
 
 -- A line is its bytes and a line feed.
-abbrev pub line_words : Line → Mode → List Token
+abbrev pub line_words : Line → OpenPart → List Token
 line_words l m = words_in l.place m l.text ++ words_at (mode_in l.place m l.text) l.place 10
 
-abbrev pub line_mode : Line → Mode → Mode
+abbrev pub line_mode : Line → OpenPart → OpenPart
 line_mode l m = mode_behind (mode_in l.place m l.text) l.place 10
 
 -- At the end of the text a string that is open has no end.
-abbrev pub words_at_end : Mode → List Token
+abbrev pub words_at_end : OpenPart → List Token
 words_at_end Between = []
 words_at_end Comment = []
 words_at_end (Run from text) = split_run from [] text
 words_at_end (String from text) = word from Unclosed (34 ∷ []) ∷ []
 
-abbrev pub words_from : Mode → List Line → List Token
+abbrev pub words_from : OpenPart → List Line → List Token
 words_from m [] = words_at_end m
 words_from m (l ∷ ls) = line_words l m ++ words_from (line_mode l m) ls
 

@@ -11,6 +11,6 @@ mod tokens;
 mod word_lists;
 
 pub use forms::Form;
-pub use policy_words::Words;
+pub use policy_words::PolicyWords;
 pub use tokens::Token;
 pub use word_lists::{Word, WordList, WordRef, WordsLeft};

@@ -7,7 +7,7 @@ use std::marker::Model;
 
 /// How the place of an item follows from that of the item before it.
 #[derive(Clone, Copy, Debug, PartialEq, Eq)]
-pub(crate) enum Step {
+pub(crate) enum PlaceStep {
     /// The same line.
     Same,
     /// The next line of the file.
@@ -19,7 +19,7 @@ pub(crate) enum Step {
 /// A list of places, most of which follow from the ones before them. A contract sees the list.
 #[derive(Debug, Drop)]
 pub(crate) struct PlaceList {
-    steps: Vec<Step>,
+    steps: Vec<PlaceStep>,
     own: Vec<Place>,
     last: Place,
 }
@@ -54,23 +54,23 @@ fn next_line(place: Place) -> Place
 }
 
 /// The step from one place to another.
-fn step_to(last: Place, place: Place) -> Step
+fn step_to(last: Place, place: Place) -> PlaceStep
     ensures { place_by result last (added result place) ≡ place }
 {
     if place == last {
-        Step::Same
+        PlaceStep::Same
     } else if place == next_line(last) {
-        Step::Next
+        PlaceStep::Next
     } else {
-        Step::Own
+        PlaceStep::Own
     }
 }
 
 /// Adds the step, and its place where that is kept. Where memory is wanted a step too many may stand at the end.
 fn push_step(
-    steps: &mut Vec<Step>,
+    steps: &mut Vec<PlaceStep>,
     own: &mut Vec<Place>,
-    step: Step,
+    step: PlaceStep,
     place: Place,
 ) -> Result<(), Memory>
     ensures steps { OnOk result (steps.new.items ≡ steps.old.items ++ step ∷ []) }
@@ -79,7 +79,7 @@ fn push_step(
     ensures old_own { OnErr result (own.new.items ≡ own.old.items) }
 {
     steps.push(step)?;
-    if step == Step::Own {
+    if step == PlaceStep::Own {
         own.push(place)?;
     }
     Ok(())
@@ -129,14 +129,14 @@ impl PlaceList {
 }
 
 /// The place to which the step leads, and the kept places that are left behind it.
-fn step_from(step: Step, here: Place, own: &[Place]) -> (Place, &[Place])
+fn step_from(step: PlaceStep, here: Place, own: &[Place]) -> (Place, &[Place])
     ensures place { result.0 ≡ place_by step here own.now }
     ensures left { result.1.now ≡ left_by step own.now }
 {
     match (step, own) {
-        (Step::Same, _) | (Step::Own, []) => (here, own),
-        (Step::Next, _) => (next_line(here), own),
-        (Step::Own, [first, behind @ ..]) => (*first, behind),
+        (PlaceStep::Same, _) | (PlaceStep::Own, []) => (here, own),
+        (PlaceStep::Next, _) => (next_line(here), own),
+        (PlaceStep::Own, [first, behind @ ..]) => (*first, behind),
     }
 }
 
@@ -144,7 +144,7 @@ fn step_from(step: Step, here: Place, own: &[Place]) -> (Place, &[Place])
 #[derive(Drop)]
 pub(crate) struct PlacesLeft<'a> {
     here: Place,
-    steps: &'a [Step],
+    steps: &'a [PlaceStep],
     own: &'a [Place],
 }
 

@@ -14,11 +14,11 @@ use std::marker::Model;
 /// refused here: a run with a byte that no word may have, and a string without an end, are words of forms
 /// of their own. Each word has the place of the line where it begins.
 #[derive(Drop)]
-pub struct Words<'a> {
+pub struct PolicyWords<'a> {
     scan: Scan<'a>,
 }
 
-impl<'a> Model for Words<'a> {
+impl<'a> Model for PolicyWords<'a> {
     ghost use Rattle.std.specs.Prelude.{List};
     ghost use Rattle.acl_words.specs.Tokens as spec;
     ghost use Rattle.acl_words.specs.ScanSteps.{words_left};
@@ -28,14 +28,14 @@ impl<'a> Model for Words<'a> {
     ghost view = { λ w. words_left w.scan };
 }
 
-impl<'a> Words<'a> {
+impl<'a> PolicyWords<'a> {
     /// The words of the lines.
     #[tactic(auto, using(crate::proofs::ReadingLaws::lines_read, crate::proofs::PlaceLaws::words_have_line_places))]
-    pub fn new(lines: &'a Lines) -> Words<'a>
+    pub fn new(lines: &'a Lines) -> PolicyWords<'a>
         ensures words { result ≡ words_of lines.now }
         ensures places { HaveLinePlaces lines.now result }
     {
-        Words {
+        PolicyWords {
             scan: Scan::new(lines.text(), lines.stretches()),
         }
     }

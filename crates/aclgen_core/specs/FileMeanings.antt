@@ -10,7 +10,7 @@ use Rattle.acl_host.specs.Files.{File, file_at}
 use Rattle.acl_target.specs.declared.targets.Kind.{Kind}
 use Rattle.acl_languages.specs.PlatformLanguages.{IsTextFor}
 use Rattle.acl_naming.specs.Definitions.{Naming}
-use Rattle.acl_terms.specs.Outcomes.{PolicyDecides, shown}
+use Rattle.acl_terms.specs.Outcomes.{PolicyDecides, expressed_on}
 use Rattle.aclgen_core.specs.AskedFilters.{FilterRequest, PlanFile}
 
 -- What decides packets decides those of the target's families as its block of the policy does, as far as the platform
@@ -19,7 +19,7 @@ abbrev pub DecidesAsPolicy : Naming → Day → FilterRequest → (Packet → Op
 DecidesAsPolicy naming today r outcome = (p : Packet) → IsPacket p
     → covers r.target.families p.family ≡ true
     → (o : Outcome) × PolicyDecides naming r.target today r.written p o
-    × (outcome p ≡ Some (shown r.target.kind o))
+    × (outcome p ≡ Some (expressed_on r.target.kind o))
 
 -- The text is one that the platform's language accepts as one document, with one section for each target, in order; and
 -- each section decides every packet of its target as the policy does.

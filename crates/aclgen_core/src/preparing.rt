@@ -23,7 +23,7 @@ use acl_expand::KnownRules;
 use acl_load::{Loaded, Terms};
 use acl_platform::Filter;
 use acl_policy::{Block, Kind, Target};
-use acl_render::check;
+use acl_render::count_within_limits;
 use acl_report::put_count;
 use acl_terms::Term;
 use acl_text::{Items, Memory, Refusal, Whole};
@@ -74,7 +74,7 @@ fn checked_filter(
     ensures known { OnOk result (AreKnown today terms.now known.new) }
 {
     let filter = known.expand(alloc, terms, target, today)?;
-    match check(&filter) {
+    match count_within_limits(&filter) {
         Ok(entries) => Ok((filter, entries)),
         Err(limit) => Err(limit_refusal(alloc, &filter, limit)),
     }

@@ -7,11 +7,11 @@ use Rattle.acl_packet.specs.declared.addresses.Family.{Family}
 use Rattle.acl_packet.specs.declared.addresses.Family.TheVariants.{V4, V6}
 use Rattle.acl_packet.specs.declared.addresses.Families.{Families}
 use Rattle.acl_packet.specs.declared.addresses.Families.TheVariants.{Inet, Inet6, Mixed}
-use Rattle.acl_grammar.specs.Rows.{Row}
-use Rattle.acl_grammar.specs.RowSteps.{row_in, document_in}
-use Rattle.acl_grammar.proofs.RowLaws.{fold-again, fold-members}
-use Rattle.acl_grammar.specs.RuleParts.{log_words}
-use Rattle.acl_grammar.specs.FamilyWords.{families_in}
+use Rattle.acl_rows.specs.Rows.{Row}
+use Rattle.acl_rows.specs.RowSteps.{row_in, document_in}
+use Rattle.acl_rows.proofs.RowLaws.{fold-again, fold-members}
+use Rattle.acl_rows.specs.RuleParts.{log_words}
+use Rattle.acl_rows.specs.FamilyWords.{families_in}
 use Rattle.cisco_lang.specs.declared.documents.Section.{Section}
 use Rattle.cisco_lang.specs.declared.documents.AccessList.{AccessList}
 use Rattle.cisco_lang.specs.declared.documents.Item.{Item}

@@ -20,8 +20,8 @@ use Rattle.acl_text.specs.Ipv6.{ipv6_in, side_in, groups_in, group_in, last_in, 
 use Rattle.acl_text.specs.AddressTexts.{address_in, address_text, spelled_prefix_in, prefix_in, full_in, block_in, prefix_text, wildcard_text}
 use Rattle.acl_text.proofs.AddressLaws.{address-again, spelled-again}
 use Rattle.acl_text.proofs.OptionStepLaws.{not_word}
-use Rattle.acl_grammar.specs.PortRanges.{IsPortRange}
-use Rattle.acl_grammar.specs.RuleParts.{log_words}
+use Rattle.acl_rows.specs.PortRanges.{IsPortRange}
+use Rattle.acl_rows.specs.RuleParts.{log_words}
 use Rattle.cisco_lang.specs.declared.documents.Entry.{Entry}
 use Rattle.cisco_lang.specs.declared.documents.Flags.{Flags}
 use Rattle.cisco_lang.specs.declared.documents.Flags.TheVariants.{Established, Rst, SynNotAck}

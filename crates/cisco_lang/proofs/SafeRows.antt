@@ -11,10 +11,10 @@ use Rattle.acl_packet.specs.Addresses.{IsPrefixOf}
 use Rattle.acl_packet.specs.Packets.{icmp_of}
 use Rattle.acl_packet.proofs.PrefixLaws.{first_fits}
 use Rattle.acl_text.proofs.ListLaws.{all_append}
-use Rattle.acl_grammar.specs.PortRanges.{IsPortRange}
-use Rattle.acl_grammar.specs.RowSteps.{begins, IsRow, IsWord, AreWords, AreRows}
-use Rattle.acl_grammar.proofs.ListLaws.{all_flat}
-use Rattle.acl_grammar.proofs.WordLaws.{word, decimal_word, address_word, wildcard_word, prefix_word, name_word, text_words, joined_word, both_words, either_word, either_words, log_safe}
+use Rattle.acl_rows.specs.PortRanges.{IsPortRange}
+use Rattle.acl_rows.specs.RowSteps.{begins, IsRow, IsWord, AreWords, AreRows}
+use Rattle.acl_rows.proofs.ListLaws.{all_flat}
+use Rattle.acl_rows.proofs.WordLaws.{word, decimal_word, address_word, wildcard_word, prefix_word, name_word, text_words, joined_word, both_words, either_word, either_words, log_safe}
 use Rattle.cisco_lang.specs.declared.documents.Section.{Section}
 use Rattle.cisco_lang.specs.declared.documents.AccessList.{AccessList}
 use Rattle.cisco_lang.specs.declared.documents.Item.{Item}

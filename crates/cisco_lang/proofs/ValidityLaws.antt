@@ -17,11 +17,11 @@ use Rattle.acl_packet.specs.Addresses.{same_family, IsPrefixOf}
 use Rattle.acl_text.specs.Cuts.{behind}
 use Rattle.acl_text.specs.Names.{is_filter_name}
 use Rattle.acl_text.proofs.CutLaws.{behind-found, behind-again}
-use Rattle.acl_grammar.specs.PrefixCheckSteps.{is_prefix_of}
-use Rattle.acl_grammar.specs.PortRanges.{IsPortRange}
-use Rattle.acl_grammar.specs.RuleParts.{number_fits}
-use Rattle.acl_grammar.proofs.DecisionLaws.{number_decides, type_decides, family_decides, prefix_decides, all_decides}
-use Rattle.acl_grammar.proofs.PortRangeLaws.{range_decides}
+use Rattle.acl_rows.specs.PrefixCheckSteps.{is_prefix_of}
+use Rattle.acl_rows.specs.PortRanges.{IsPortRange}
+use Rattle.acl_rows.specs.RuleParts.{number_fits}
+use Rattle.acl_rows.proofs.DecisionLaws.{number_decides, type_decides, family_decides, prefix_decides, all_decides}
+use Rattle.acl_rows.proofs.PortRangeLaws.{range_decides}
 use Rattle.cisco_lang.specs.declared.documents.Section.{Section}
 use Rattle.cisco_lang.specs.declared.documents.AccessList.{AccessList}
 use Rattle.cisco_lang.specs.declared.documents.Item.{Item}

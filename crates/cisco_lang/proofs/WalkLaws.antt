@@ -2,7 +2,7 @@
 use Rattle.std.proofs.Common.{◌≡◌, is_some}
 use Rattle.acl_packet.specs.declared.packets.Packet.{Packet}
 use Rattle.acl_packet.specs.Addresses.{covers}
-use Rattle.acl_grammar.proofs.OutcomeLaws.{some-where}
+use Rattle.acl_rows.proofs.OutcomeLaws.{some-where}
 use Rattle.cisco_lang.specs.declared.documents.Section.{Section}
 use Rattle.cisco_lang.specs.Walks.{items_of, section_outcome, walk}
 

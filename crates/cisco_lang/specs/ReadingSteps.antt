@@ -13,9 +13,9 @@ use Rattle.acl_packet.specs.Addresses.{width_of, everywhere}
 use Rattle.acl_packet.specs.Decimals.{number_in}
 use Rattle.acl_packet.specs.Packets.{icmp_of}
 use Rattle.acl_text.specs.AddressTexts.{address_in, spelled_prefix_in}
-use Rattle.acl_grammar.specs.RowSteps.{begins_with, few_in}
-use Rattle.acl_grammar.specs.Rows.{Row}
-use Rattle.acl_grammar.specs.FamilyWords.{families_in}
+use Rattle.acl_rows.specs.RowSteps.{begins_with, few_in}
+use Rattle.acl_rows.specs.Rows.{Row}
+use Rattle.acl_rows.specs.FamilyWords.{families_in}
 use Rattle.cisco_lang.specs.declared.documents.Section.{Section}
 use Rattle.cisco_lang.specs.declared.documents.AccessList.{AccessList}
 use Rattle.cisco_lang.specs.declared.documents.Item.{Item}

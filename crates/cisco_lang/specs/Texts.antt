@@ -11,7 +11,7 @@ use Rattle.acl_packet.specs.declared.addresses.Families.TheVariants.{Inet, Inet6
 use Rattle.acl_packet.specs.declared.addresses.Prefix.{Prefix}
 use Rattle.acl_packet.specs.Addresses.{width_of}
 use Rattle.acl_text.specs.AddressTexts.{address_text, prefix_text, wildcard_text}
-use Rattle.acl_grammar.specs.RuleParts.{log_words}
+use Rattle.acl_rows.specs.RuleParts.{log_words}
 use Rattle.cisco_lang.specs.declared.documents.Section.{Section}
 use Rattle.cisco_lang.specs.declared.documents.AccessList.{AccessList}
 use Rattle.cisco_lang.specs.declared.documents.Item.{Item}
@@ -20,8 +20,8 @@ use Rattle.cisco_lang.specs.declared.documents.Entry.{Entry}
 use Rattle.cisco_lang.specs.declared.documents.Flags.{Flags}
 use Rattle.cisco_lang.specs.declared.documents.Flags.TheVariants.{Established, Rst, SynNotAck}
 use Rattle.acl_packet.specs.Packets.{icmp_of}
-use Rattle.acl_grammar.specs.Documents.{IsSpelling}
-use Rattle.acl_grammar.specs.Rows.{Row, row, words_in, text_of_rows}
+use Rattle.acl_rows.specs.Documents.{IsSpelling}
+use Rattle.acl_rows.specs.Rows.{Row, row, words_in, text_of_rows}
 use Rattle.cisco_lang.specs.Documents.{IsDocument}
 
 abbrev pub action_word : Bool → List ℕ

@@ -14,8 +14,8 @@ use Rattle.acl_packet.specs.declared.filtering.Verdict.TheVariants.{Accept, Deny
 use Rattle.acl_packet.specs.Addresses.{covers, has_address, same_family}
 use Rattle.acl_packet.specs.Outcomes.{unlogged}
 use Rattle.acl_packet.specs.Packets.{has_flag, is_neighbour_discovery}
-use Rattle.acl_grammar.specs.Documents.{outcome_at}
-use Rattle.acl_grammar.specs.RuleParts.{number_holds}
+use Rattle.acl_rows.specs.Documents.{outcome_at}
+use Rattle.acl_rows.specs.RuleParts.{number_holds}
 use Rattle.cisco_lang.specs.declared.documents.Section.{Section}
 use Rattle.cisco_lang.specs.declared.documents.AccessList.{AccessList}
 use Rattle.cisco_lang.specs.declared.documents.Item.{Item}

@@ -10,7 +10,7 @@ mod lists_drafts;
 mod validity;
 mod walking;
 
-pub use acl_grammar::{outcome, read_document, sections};
+pub use acl_rows::{outcome, read_document, sections};
 pub use cisco::Cisco;
 pub use documents::{AccessList, Doc, Entry, Flags, Item, Section};
 pub use list_rows::{EntryRow, ListEnd, ListHead, RemarkRow, SectionHead};

@@ -1,14 +1,14 @@
 ghost use Rattle.std.specs.Prelude.{◌≡◌, ◌∷◌, [], codes, IsTrue};
 ghost use Rattle.acl_text.specs.Cuts.{views};
 ghost use Rattle.acl_text.specs.Puts.{Puts};
-ghost use Rattle.acl_grammar.specs.Rows.{row, spaced, text_of_rows, words_in};
-ghost use Rattle.acl_grammar.specs.RuleParts.{log_words};
+ghost use Rattle.acl_rows.specs.Rows.{row, spaced, text_of_rows, words_in};
+ghost use Rattle.acl_rows.specs.RuleParts.{log_words};
 ghost use Rattle.cisco_lang.specs.declared.documents.Item.TheVariants.{Entry as AnEntry};
 ghost use Rattle.cisco_lang.specs.Texts.{action_word, any_word, families_word, proto_word, masked_words, address_words, ports_words, type_words, flags_words, end_words, entry_words, item_rows, head_rows, end_rows, list_rows, section_row, section_rows};
 
 use crate::documents::{AccessList, Entry, Flags, Item, Section};
-use acl_grammar::{
-    Address, AsRows, Each, Form, FreeText, LogWord, Number, Piece, Row, Rows, Wildcard, Word,
+use acl_rows::{
+    Address, AsRows, Each, RowForm, FreeText, LogWord, Number, Piece, Row, Rows, Wildcard, OneWord,
     Words, put_words,
 };
 use acl_packet::{Families, Family, Prefix};
@@ -28,12 +28,12 @@ impl Rows for EntryRow {
     fn put_rows<O: Out>(&self, out: &mut O) -> Result<(), PutFault> {
         let family = self.family;
         let entry = self.entry;
-        let source = End {
+        let source = EndWords {
             family,
             place: entry.src,
             ports: entry.sport,
         };
-        let destination = End {
+        let destination = EndWords {
             family,
             place: entry.dst,
             ports: entry.dport,
@@ -42,9 +42,9 @@ impl Rows for EntryRow {
             IcmpType {
                 number: entry.itype,
             },
-            (Test { flags: entry.flags }, LogWord { log: entry.log }),
+            (FlagWords { flags: entry.flags }, LogWord { log: entry.log }),
         );
-        let protocol = Word {
+        let protocol = OneWord {
             piece: Protocol {
                 family,
                 number: entry.proto,
@@ -105,7 +105,7 @@ fn put_head<O: Out>(first: &[u8], rest: &[&[u8]], out: &mut O) -> Result<(), Put
     let removal = Row {
         indent: 0,
         first: b"no".as_slice(),
-        rest: (Word { piece: first }, rest),
+        rest: (OneWord { piece: first }, rest),
     };
     let head = Row {
         indent: 0,
@@ -148,12 +148,12 @@ impl<'a> Rows for SectionHead<'a> {
             indent: 0,
             first: b"!".as_slice(),
             rest: (
-                Word {
+                OneWord {
                     piece: b"cisco".as_slice(),
                 },
                 (
-                    Word { piece: self.name },
-                    Word {
+                    OneWord { piece: self.name },
+                    OneWord {
                         piece: families_word(self.families),
                     },
                 ),
@@ -216,32 +216,32 @@ impl Piece for Protocol {
 }
 
 #[derive(Drop)]
-struct End {
+struct EndWords {
     family: Family,
     place: Prefix,
     ports: Option<(u16, u16)>,
 }
 
-impl Words for End {
+impl Words for EndWords {
     ghost words = { λ e. end_words e.family e.place e.ports };
 
     #[tactic(auto, unfolding(crate::specs::Texts::end_words))]
     fn put_spaced<O: Out>(&self, out: &mut O) -> Result<(), PutFault> {
-        let place = Place {
+        let place = AddressWords {
             family: self.family,
             place: self.place,
         };
-        (place, Ports { ports: self.ports }).put_spaced(out)
+        (place, PortWords { ports: self.ports }).put_spaced(out)
     }
 }
 
 #[derive(Drop)]
-struct Place {
+struct AddressWords {
     family: Family,
     place: Prefix,
 }
 
-impl Words for Place {
+impl Words for AddressWords {
     ghost words = { λ p. address_words p.family p.place };
 
     #[tactic(auto, unfolding(crate::specs::Texts::address_words))]
@@ -249,21 +249,21 @@ impl Words for Place {
         if self.place.len == 0 {
             put_words(&[b"any"], out)
         } else if self.place.len == self.family.width() {
-            let host = Word {
+            let host = OneWord {
                 piece: b"host".as_slice(),
             };
             let address = Address {
                 family: self.family,
                 address: self.place.first,
             };
-            (host, Word { piece: address }).put_spaced(out)
+            (host, OneWord { piece: address }).put_spaced(out)
         } else {
             self.put_masked(out)
         }
     }
 }
 
-impl Place {
+impl AddressWords {
     fn put_masked<O: Out>(&self, out: &mut O) -> Result<(), PutFault>
         requires { IsTrue (O.is_open out.old) }
         ensures { Puts O.Out out.old out.new
@@ -278,19 +278,19 @@ impl Place {
                 let wildcard = Wildcard {
                     len: self.place.len,
                 };
-                (Word { piece: address }, Word { piece: wildcard }).put_spaced(out)
+                (OneWord { piece: address }, OneWord { piece: wildcard }).put_spaced(out)
             }
-            Family::V6 => Word { piece: self.place }.put_spaced(out),
+            Family::V6 => OneWord { piece: self.place }.put_spaced(out),
         }
     }
 }
 
 #[derive(Drop)]
-struct Ports {
+struct PortWords {
     ports: Option<(u16, u16)>,
 }
 
-impl Words for Ports {
+impl Words for PortWords {
     ghost words = { λ p. ports_words p.ports };
 
     #[tactic(auto, unfolding(crate::specs::Texts::ports_words))]
@@ -299,12 +299,12 @@ impl Words for Ports {
             None => Ok(()),
             Some((low, high)) => {
                 if low == high {
-                    let one = Word {
+                    let one = OneWord {
                         piece: b"eq".as_slice(),
                     };
                     (one, port(low)).put_spaced(out)
                 } else {
-                    let range = Word {
+                    let range = OneWord {
                         piece: b"range".as_slice(),
                     };
                     (range, (port(low), port(high))).put_spaced(out)
@@ -314,11 +314,11 @@ impl Words for Ports {
     }
 }
 
-fn port(number: u16) -> Word<Number>
+fn port(number: u16) -> OneWord<Number>
     ensures { result ≡ record { piece = record { number = number } } }
 {
     let number = u128::from(number);
-    Word {
+    OneWord {
         piece: Number { number },
     }
 }
@@ -341,11 +341,11 @@ impl Words for IcmpType {
 }
 
 #[derive(Drop)]
-struct Test {
+struct FlagWords {
     flags: Option<Flags>,
 }
 
-impl Words for Test {
+impl Words for FlagWords {
     ghost words = { λ t. flags_words t.flags };
 
     #[tactic(auto, unfolding(crate::specs::Texts::flags_words))]
@@ -365,7 +365,7 @@ struct OfFamily {
     family: Family,
 }
 
-impl Form<Item> for OfFamily {
+impl RowForm<Item> for OfFamily {
     ghost item_rows = { λ f i. item_rows f.family i };
 
     #[tactic(auto, unfolding(crate::specs::Texts::item_rows))]

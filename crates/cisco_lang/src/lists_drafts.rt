@@ -1,11 +1,11 @@
 ghost use Rattle.std.specs.Prelude.{◌≡◌, ◌∷◌, [], OnOk, IfOk, true};
 ghost use Rattle.acl_text.specs.Cuts.{views};
-ghost use Rattle.acl_grammar.specs.FamilyWords.{families_in};
+ghost use Rattle.acl_rows.specs.FamilyWords.{families_in};
 ghost use Rattle.cisco_lang.specs.ReadingSteps.{no_list, no_section, item_in, is_last, no_draft, end_section, end_list, begin_list, begin_section, take_four, take_outer, take_inner, take_row};
 
 use crate::documents::{AccessList, Doc, Item, Section};
 use crate::entry_reading::entry_of;
-use acl_grammar::{DocumentDraft, Draft, RowWords, families_of};
+use acl_rows::{DocumentDraft, Draft, RowWords, families_of};
 use acl_packet::{Families, Family};
 use acl_text::{Bytes, Items, Memory};
 use std::alloc::Global;

@@ -1,12 +1,12 @@
 ghost use Rattle.std.specs.Prelude.{◌≡◌, ◌++◌, IfOk, OnOk, bytes_eq, codes, flat_map};
 ghost use Rattle.std.specs.List.{list_all};
 ghost use Rattle.acl_text.specs.Cuts.{views};
-ghost use Rattle.acl_grammar.specs.RuleParts.{is_proto};
+ghost use Rattle.acl_rows.specs.RuleParts.{is_proto};
 ghost use Rattle.cisco_lang.specs.Documents.{flags_fit, list_names, match_all_fits, parts_fit, ports_fit, type_fits};
 ghost use Rattle.cisco_lang.specs.ValiditySteps.{are_headed, are_ports, is_end, is_entry, is_headed, is_item, is_list, is_section};
 
 use crate::documents::{AccessList, Entry, Flags, Item, Section};
-use acl_grammar::{is_port_range, is_prefix_of, is_proto, number_fits};
+use acl_rows::{is_port_range, is_prefix_of, is_proto, number_fits};
 use acl_packet::{Families, Family, Prefix};
 use acl_text::{Memory, behind, is_filter_name, is_safe_text};
 use std::alloc::Global;

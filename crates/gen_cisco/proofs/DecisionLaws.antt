@@ -14,7 +14,7 @@ use Rattle.acl_packet.specs.declared.packets.Packet.{Packet}
 use Rattle.acl_packet.specs.Addresses.{covers, has_address, same_family, width_of, everywhere}
 use Rattle.acl_packet.specs.Outcomes.{unlogged}
 use Rattle.acl_packet.specs.Packets.{IsPacket, is_neighbour_discovery}
-use Rattle.acl_grammar.proofs.DecisionLaws.{le_decides}
+use Rattle.acl_rows.proofs.DecisionLaws.{le_decides}
 use Rattle.acl_target.specs.declared.targets.Ending.{Ending}
 use Rattle.acl_target.specs.declared.targets.Ending.TheVariants.{Neighbours}
 use Rattle.acl_target.specs.declared.targets.Kind.TheVariants.{Cisco}
@@ -33,7 +33,7 @@ use Rattle.acl_platform.specs.SoundFilters.{has_test, has_verdict, IsSoundRule}
 use Rattle.acl_platform.proofs.CombinationLaws.{any-combination, any-same, some-combination}
 use Rattle.acl_platform.proofs.EntryLaws.{over-items}
 use Rattle.acl_platform.proofs.FieldLaws.{combination-told}
-use Rattle.acl_grammar.specs.RuleParts.{number_holds}
+use Rattle.acl_rows.specs.RuleParts.{number_holds}
 use Rattle.cisco_lang.specs.declared.documents.Item.{Item}
 use Rattle.cisco_lang.specs.declared.documents.Item.TheVariants.{Remark, Entry as AnEntry}
 use Rattle.cisco_lang.specs.Documents.{heads_of}

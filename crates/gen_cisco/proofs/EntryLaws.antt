@@ -10,7 +10,7 @@ use Rattle.acl_packet.specs.Addresses.{same_family}
 use Rattle.acl_packet.specs.Packets.{has_ports, icmp_of, is_icmp}
 use Rattle.acl_sets.specs.ComputableSets.{is_all}
 use Rattle.acl_sets.specs.Ranges.{holds, Numbers, Only}
-use Rattle.acl_grammar.specs.PortRanges.{IsPortRange}
+use Rattle.acl_rows.specs.PortRanges.{IsPortRange}
 use Rattle.acl_target.specs.declared.targets.Kind.TheVariants.{Cisco}
 use Rattle.acl_platform.specs.declared.combinations.Combination.{Combination}
 use Rattle.acl_platform.specs.declared.rules.Rule.{Rule}
@@ -21,7 +21,7 @@ use Rattle.acl_platform.specs.SoundFilters.{is_tcp, IsSoundRule, tests_flags}
 use Rattle.acl_platform.proofs.CombinationFacts.{IsCombinationOf, OfNumbers, OfRanges}
 use Rattle.acl_platform.proofs.NamedNumbers.{named, no-icmp, protocol-is, type-is}
 use Rattle.acl_platform.proofs.RuleNumbers.{no-destination, no-source, tcp-or-udp}
-use Rattle.acl_grammar.specs.RuleParts.{is_proto}
+use Rattle.acl_rows.specs.RuleParts.{is_proto}
 use Rattle.cisco_lang.specs.Documents.{flags_fit, IsEntry, match_all_fits, ports_fit, type_fits}
 use Rattle.gen_cisco.specs.Limits.{asks_initial, asks_initial_in_ipv6}
 use Rattle.gen_cisco.specs.Sections.{entry_of, flags_of}

@@ -9,8 +9,8 @@ use Rattle.acl_packet.specs.declared.addresses.Families.{Families}
 use Rattle.acl_packet.specs.declared.addresses.Families.TheVariants.{Inet, Inet6, Mixed}
 use Rattle.acl_text.specs.Output.{joined}
 use Rattle.acl_text.specs.Names.{in_common}
-use Rattle.acl_grammar.specs.Rows.{Row, row_text, text_of_rows}
-use Rattle.acl_grammar.proofs.NamingLaws.{distinct-append}
+use Rattle.acl_rows.specs.Rows.{Row, row_text, text_of_rows}
+use Rattle.acl_rows.proofs.NamingLaws.{distinct-append}
 use Rattle.acl_target.specs.declared.targets.Kind.{Kind}
 use Rattle.acl_target.specs.declared.targets.Kind.TheVariants.{Cisco}
 use Rattle.acl_target.specs.Clashes.{clash, is_mixed, list_names as target_lists, share_lists}

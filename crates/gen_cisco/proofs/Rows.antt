@@ -9,9 +9,9 @@ use Rattle.acl_packet.specs.declared.addresses.Families.TheVariants.{Mixed}
 use Rattle.acl_packet.specs.declared.addresses.Family.{Family}
 use Rattle.acl_packet.specs.declared.addresses.Family.TheVariants.{V4, V6}
 use Rattle.acl_packet.specs.Addresses.{same_family}
-use Rattle.acl_grammar.specs.Rows.{Row, text_of_rows}
-use Rattle.acl_grammar.proofs.DecisionLaws.{family_decides}
-use Rattle.acl_grammar.proofs.ListLaws.{flat_twice}
+use Rattle.acl_rows.specs.Rows.{Row, text_of_rows}
+use Rattle.acl_rows.proofs.DecisionLaws.{family_decides}
+use Rattle.acl_rows.proofs.ListLaws.{flat_twice}
 use Rattle.acl_platform.specs.declared.rules.Rule.{Rule}
 use Rattle.acl_platform.specs.Combinations.{combinations}
 use Rattle.acl_platform.specs.Remarks.{remarks}

@@ -12,7 +12,7 @@ use Rattle.acl_packet.specs.declared.addresses.Family.TheVariants.{V4, V6}
 use Rattle.acl_packet.specs.Addresses.{same_family}
 use Rattle.acl_packet.proofs.PrefixLaws.{everywhere_is}
 use Rattle.acl_text.specs.Names.{is_safe_text}
-use Rattle.acl_grammar.proofs.DecisionLaws.{family_decides}
+use Rattle.acl_rows.proofs.DecisionLaws.{family_decides}
 use Rattle.acl_text.proofs.ListLaws.{all_append}
 use Rattle.acl_target.specs.declared.targets.Ending.TheVariants.{Neighbours}
 use Rattle.acl_target.specs.declared.targets.Kind.TheVariants.{Cisco}

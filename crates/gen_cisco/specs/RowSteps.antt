@@ -2,7 +2,7 @@
 use Rattle.std.specs.Prelude.{List, ◌++◌, flat_map}
 use Rattle.acl_packet.specs.declared.addresses.Family.{Family}
 use Rattle.acl_platform.specs.declared.rules.Rule.{Rule}
-use Rattle.acl_grammar.specs.Rows.{Row}
+use Rattle.acl_rows.specs.Rows.{Row}
 use Rattle.cisco_lang.specs.declared.documents.Item.{Item}
 use Rattle.cisco_lang.specs.Texts.{end_rows, item_rows}
 use Rattle.gen_cisco.specs.Sections.{list_items}

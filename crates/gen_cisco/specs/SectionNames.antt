@@ -2,7 +2,7 @@
 use Rattle.std.specs.Prelude.{◌≡◌, Bool, List, [], ◌∷◌, ◌++◌, map, flat_map, codes}
 use Rattle.std.specs.List.{AllByRecursion, IsDistinct}
 use Rattle.std.specs.Str.{bytes_eq}
-use Rattle.acl_grammar.specs.Rows.{text_of_rows}
+use Rattle.acl_rows.specs.Rows.{text_of_rows}
 use Rattle.acl_target.specs.declared.targets.Kind.TheVariants.{Cisco}
 use Rattle.acl_target.specs.Clashes.{clash}
 use Rattle.acl_target.specs.TargetTexts.{target_text}

@@ -1,7 +1,7 @@
 ghost use Rattle.std.specs.Prelude.{◌≡◌, ◌++◌, ◌∷◌, [], codes, flat_map, map, IsTrue};
 ghost use Rattle.std.specs.List.{All};
 ghost use Rattle.acl_text.specs.Puts.{Puts};
-ghost use Rattle.acl_grammar.specs.Rows.{row, text_of_rows, words_in};
+ghost use Rattle.acl_rows.specs.Rows.{row, text_of_rows, words_in};
 ghost use Rattle.acl_packet.specs.declared.addresses.Family.TheVariants.{V6};
 ghost use Rattle.acl_platform.specs.Combinations.{IsSized, combinations};
 ghost use Rattle.cisco_lang.specs.declared.documents.Flags.{Flags};
@@ -20,7 +20,7 @@ ghost use Rattle.gen_cisco.specs.Sections.{
 };
 
 use crate::counts::{has_rule, is_of};
-use acl_grammar::{Form, Row, Rows, Word};
+use acl_rows::{RowForm, Row, Rows, OneWord};
 use acl_packet::{Families, Family, Prefix, Verdict};
 use acl_platform::{
     Combination, Filter, RemarkForm, RemarkRows, Rule, RuleForm, Test, put_combinations, put_rules,
@@ -86,13 +86,13 @@ impl<'a> Rows for MixedHead<'a> {
     ghost rows = { λ h. head_rows V6 (codes "ipv6-" ++ h.name.now) };
 
     fn put_rows<O: Out>(&self, out: &mut O) -> Result<(), PutFault> {
-        let list = Word {
+        let list = OneWord {
             piece: b"access-list".as_slice(),
         };
-        let name = Word {
+        let name = OneWord {
             piece: (b"ipv6-".as_slice(), self.name),
         };
-        let family = Word {
+        let family = OneWord {
             piece: b"ipv6".as_slice(),
         };
         let removal = Row {
@@ -219,7 +219,7 @@ struct OfRule<'a> {
     rule: &'a Rule,
 }
 
-impl<'a> Form<Combination> for OfRule<'a> {
+impl<'a> RowForm<Combination> for OfRule<'a> {
     ghost item_rows = { λ f c. item_rows f.rule.now.family (AnEntry (entry_of f.rule.now c)) };
 
     fn put_item<O: Out>(&self, item: &Combination, out: &mut O) -> Result<(), PutFault> {

@@ -3,7 +3,7 @@ use Rattle.std.proofs.Common.{◌≡◌, ℕ, ◌+◌, Bool, true, false, cond, 
 use Rattle.std.proofs.lemmas.List.Sums.{sum_by-append, sum_by-cons}
 use Rattle.acl_packet.specs.declared.addresses.Family.{Family}
 use Rattle.acl_packet.specs.declared.filtering.Hook.{Hook}
-use Rattle.acl_grammar.specs.Rows.{Row}
+use Rattle.acl_rows.specs.Rows.{Row}
 use Rattle.ipt_lang.specs.declared.documents.Chain.{Chain}
 use Rattle.ipt_lang.specs.declared.documents.Rule.{Rule}
 use Rattle.ipt_lang.specs.Texts.{chain_row, chain_rows, head_rows, jump_row, default_rows, remark_rows, rule_rows, section_rows, target_row}

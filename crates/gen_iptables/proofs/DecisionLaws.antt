@@ -12,7 +12,7 @@ use Rattle.acl_packet.specs.declared.packet_fields.Field.TheVariants.{Protocol, 
 use Rattle.acl_packet.specs.declared.packets.Packet.{Packet}
 use Rattle.acl_packet.specs.Addresses.{first_family, has_address, width_of}
 use Rattle.acl_packet.specs.Packets.{has_flag, is_initial, IsPacket}
-use Rattle.acl_grammar.proofs.DecisionLaws.{family_decides}
+use Rattle.acl_rows.proofs.DecisionLaws.{family_decides}
 use Rattle.acl_sets.specs.declared.sets.Range.{Range}
 use Rattle.acl_packet.specs.AddressLists.{any_has}
 use Rattle.acl_sets.specs.Ranges.{holds}
@@ -37,15 +37,15 @@ use Rattle.acl_platform.proofs.EntryLaws.{over-entries}
 use Rattle.acl_platform.proofs.FieldLaws.{sets-told}
 use Rattle.acl_platform.proofs.PairLaws.{any-pairs}
 use Rattle.acl_platform.proofs.SoundRules.{in-tops}
-use Rattle.acl_grammar.specs.RuleParts.{number_holds, state_holds}
+use Rattle.acl_rows.specs.RuleParts.{number_holds, state_holds}
 use Rattle.ipt_lang.specs.declared.documents.Act.TheVariants.{Log, Decide}
 use Rattle.ipt_lang.specs.declared.documents.Flags.{Flags}
 use Rattle.ipt_lang.specs.declared.documents.Rule.{Rule as ChainRule}
-use Rattle.ipt_lang.specs.Walks.{address_holds, chains_walk, flags_hold, go_on, is_left, met, policy_verdict, rules_walk, section_outcome, walk}
+use Rattle.ipt_lang.specs.Walks.{address_holds, chains_walk, flags_hold, go_on, is_left, outcome_so_far, policy_verdict, rules_walk, section_outcome, walk}
 use Rattle.gen_iptables.proofs.GroupLaws.{any-group, group_holds}
 use Rattle.gen_iptables.specs.Groups.{group_choices}
 use Rattle.gen_iptables.proofs.SectionLaws.{chain-target, IsTaken, one-family, sound-rules}
-use Rattle.gen_iptables.specs.Sections.{address_of, asks_state, Back, backs, chain_of, chain_rule, chain_rules, combinations, flag_choices, Front, fronts, Parts, policy_of, rules_for, section_of}
+use Rattle.gen_iptables.specs.Sections.{address_of, asks_state, Back, backs, chain_of, chain_rule, chain_rules, combinations, flag_choices, Front, fronts, ChainParts, policy_of, rules_for, section_of}
 
 -- ---- addresses
 
@@ -116,7 +116,7 @@ abbrev back_holds : Test → Packet → Back → Bool
 back_holds test p c = number_holds c.0 p.itype && (flags_hold c.1 p.flags && state_holds (asks_state test) p.conn)
 
 -- what a rule of the chain asks of a packet, whatever its act
-abbrev parts_hold : Rule → Packet → Parts → Bool
+abbrev parts_hold : Rule → Packet → ChainParts → Bool
 parts_hold r p c = front_holds p c.0 && ((group_holds p.sport c.1.0 && group_holds p.dport c.1.1.0) && back_holds r.test p c.1.1.1)
 
 and-assoc : (a b c : Bool) → ((a && b) && c) ≡ (a && (b && c))
@@ -171,7 +171,7 @@ any-parts families r p h k e =
     let back : Back → Bool = back_holds r.test p in
     let last : List Range × Back → Bool = λ c. into c.0 && back c.1 in
     let ports : List Range × (List Range × Back) → Bool = λ c. from c.0 && last c.1 in
-    let turned : Parts → Bool = λ c. front c.0 && ports c.1 in
+    let turned : ChainParts → Bool = λ c. front c.0 && ports c.1 in
     let sports = group_choices r.sports in
     let dports = group_choices r.dports in
     any-same (parts_hold r p) turned (λ c. ap (λ t. front c.0 && t) (and-assoc (from c.1.0) (into c.1.1.0) (back c.1.1.1))) (combinations r)
@@ -195,15 +195,15 @@ twice true d more rest = refl
 twice false d more rest = refl
 
 -- Where a combination is logged, its second rule meets the packets that its first one has marked.
-acts-by : (r : Rule) (c : Parts) (p : Packet) (more : List ChainRule) (b : Bool)
+acts-by : (r : Rule) (c : ChainParts) (p : Packet) (more : List ChainRule) (b : Bool)
     → rules_walk (map (chain_rule r c) (cond b (Log ∷ Decide r.verdict ∷ []) (Decide r.verdict ∷ [])) ++ more) p false
-    ≡ cond (parts_hold r p c) (met r.verdict b) (rules_walk more p false)
+    ≡ cond (parts_hold r p c) (outcome_so_far r.verdict b) (rules_walk more p false)
 unfolding rules_walk
 acts-by r c p more true =
     let b = parts_hold r p c in
     let rest = rules_walk more p false in
-    twice b (met r.verdict true) (rules_walk more p true) (cond b (met r.verdict false) rest)
-    ∙ skipped b (met r.verdict true) (met r.verdict false) rest
+    twice b (outcome_so_far r.verdict true) (rules_walk more p true) (cond b (outcome_so_far r.verdict false) rest)
+    ∙ skipped b (outcome_so_far r.verdict true) (outcome_so_far r.verdict false) rest
   where
     skipped : (b : Bool) (d e rest : Outcome) → cond b d (cond b e rest) ≡ cond b d rest
     skipped true d e rest = refl
@@ -211,7 +211,7 @@ acts-by r c p more true =
 acts-by r c p more false = refl
 
 over-chain : (families : Families) (r : Rule) (p : Packet) → IsSoundRule Iptables families r → IsPacket p → r.family ≡ p.family
-    → rules_walk (chain_rules r) p false ≡ cond (rule_holds r p) (decided_by r) (met Left false)
+    → rules_walk (chain_rules r) p false ≡ cond (rule_holds r p) (decided_by r) (outcome_so_far Left false)
 unfolding rules_walk
 over-chain families r p h k e =
     let walk_on : List ChainRule → Outcome = λ rules. rules_walk rules p false in
@@ -219,7 +219,7 @@ over-chain families r p h k e =
     let own = sets_hold r p && passes r.test p in
     ap walk_on (sym (append-nil (chain_rules r)))
     ∙ over-entries walk_on (rules_for r) (parts_hold r p) d (λ c more. acts-by r c p more r.log) (combinations r) []
-    ∙ ap (λ b. cond b d (met Left false)) (any-parts families r p h k e
+    ∙ ap (λ b. cond b d (outcome_so_far Left false)) (any-parts families r p h k e
     ∙ sym (ap (λ b. b && own) ((family_decides r.family p.family).1 e)))
 
 -- ---- all chains
@@ -235,11 +235,11 @@ stays : (d : Outcome) (next : Bool → Outcome) → is_left d.verdict ≡ false 
 stays d next e = ap (λ b. cond b (next d.logged) d) e
 
 gone-on : (b : Bool) (d : Outcome) (next end : Bool → Outcome) → is_left d.verdict ≡ false
-    → go_on (go_on (cond b d (met Left false)) next) end ≡ cond b d (go_on (next false) end)
+    → go_on (go_on (cond b d (outcome_so_far Left false)) next) end ≡ cond b d (go_on (next false) end)
 gone-on true d next end e = ap (λ o. go_on o end) (stays d next e) ∙ stays d end e
 gone-on false d next end e = refl
 
-ending-same : (ending : Ending) (p : Packet) → is_neighbours ending ≡ false → met (policy_verdict (policy_of ending)) false ≡ ending_outcome ending p
+ending-same : (ending : Ending) (p : Packet) → is_neighbours ending ≡ false → outcome_so_far (policy_verdict (policy_of ending)) false ≡ ending_outcome ending p
 unfolding ending_outcome
 ending-same endings.Accept p h = refl
 ending-same endings.Deny p h = refl
@@ -253,7 +253,7 @@ unfolding chains_walk rules_outcome
 over-rules families ending [] p m n h k e = ending-same ending p n
 over-rules families ending (r ∷ rules) p m n h k e =
     let next : Bool → Outcome = λ marked. chains_walk (map chain_of rules) p marked in
-    let end : Bool → Outcome = λ logged. met (policy_verdict (policy_of ending)) logged in
+    let end : Bool → Outcome = λ logged. outcome_so_far (policy_verdict (policy_of ending)) logged in
     let own = one-family families r.family m h.0.family ∙ sym e in
     ap (λ o. go_on (go_on o next) end) (over-chain families r p h.0 k own)
     ∙ gone-on (rule_holds r p) (decided_by r) next end (decides r.verdict h.0.verdict_known)

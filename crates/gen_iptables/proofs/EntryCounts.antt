@@ -9,11 +9,11 @@ use Rattle.acl_platform.proofs.PairLaws.{length-pairs, product-min}
 use Rattle.ipt_lang.specs.declared.documents.Act.TheVariants.{Log, Decide}
 use Rattle.gen_iptables.specs.CountSteps.{act_count, combination_count, rule_count}
 use Rattle.gen_iptables.specs.Groups.{group_choices}
-use Rattle.gen_iptables.specs.Sections.{backs, chain_of, chain_rule, chain_size, combinations, fronts, Parts, rules_for}
+use Rattle.gen_iptables.specs.Sections.{backs, chain_of, chain_rule, chain_size, combinations, fronts, ChainParts, rules_for}
 
 -- ---- a chain
 
-acts-by : (r : Rule) (c : Parts) (b : Bool)
+acts-by : (r : Rule) (c : ChainParts) (b : Bool)
     → length (map (chain_rule r c) (cond b (Log ∷ Decide r.verdict ∷ []) (Decide r.verdict ∷ []))) ≡ act_count b
 acts-by r c true = refl
 acts-by r c false = refl
@@ -21,7 +21,7 @@ acts-by r c false = refl
 times : (n a : ℕ) → a + n * a ≡ (n + 1) * a
 times n a = omega arith
 
-rules-counted : (r : Rule) (cs : List Parts) → length (flat_map (rules_for r) cs) ≡ length cs * act_count r.log
+rules-counted : (r : Rule) (cs : List ChainParts) → length (flat_map (rules_for r) cs) ≡ length cs * act_count r.log
 rules-counted r [] = omega arith
 rules-counted r (c ∷ cs) =
     let a = act_count r.log in

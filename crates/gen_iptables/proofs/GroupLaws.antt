@@ -6,7 +6,7 @@ use Rattle.std.proofs.lemmas.List.{length-drop, take-append-drop}
 use Rattle.std.proofs.Math.Seq.{take-length}
 use Rattle.std.proofs.lemmas.List.Folds.{list_any-append}
 use Rattle.std.proofs.lemmas.List.Sums.{sum_by-cons}
-use Rattle.acl_grammar.specs.PortRanges.{IsPortRange}
+use Rattle.acl_rows.specs.PortRanges.{IsPortRange}
 use Rattle.acl_sets.specs.declared.sets.Range.{Range}
 use Rattle.acl_sets.specs.ComputableSets.{is_all}
 use Rattle.acl_sets.specs.Groups.{group_length, weight, weight_of}
@@ -16,7 +16,7 @@ use Rattle.acl_sets.proofs.GroupLaws.{group_end-of}
 use Rattle.acl_platform.specs.SoundFilters.{IsFull}
 use Rattle.acl_platform.proofs.ChoiceLaws.{fit}
 use Rattle.acl_platform.proofs.CombinationFacts.{all-weaker, all-map}
-use Rattle.acl_grammar.specs.RuleParts.{has_port, set_holds}
+use Rattle.acl_rows.specs.RuleParts.{has_port, set_holds}
 use Rattle.ipt_lang.specs.Documents.{IsPortList, weight as ports_weight, weight_of as ports_weight_of}
 use Rattle.gen_iptables.specs.Groups.{behind_group, first_group, group_choices, groups, groups_up_to}
 use Rattle.gen_iptables.specs.Sections.{ends_of}

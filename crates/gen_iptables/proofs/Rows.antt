@@ -4,8 +4,8 @@ use Rattle.std.proofs.lemmas.List.Folds.{flat_map-map}
 use Rattle.acl_packet.specs.declared.addresses.Family.{Family}
 use Rattle.acl_packet.specs.declared.addresses.Prefix.{Prefix}
 use Rattle.acl_packet.specs.declared.filtering.Hook.{Hook}
-use Rattle.acl_grammar.specs.Rows.{Row, text_of_rows}
-use Rattle.acl_grammar.proofs.ListLaws.{flat_twice}
+use Rattle.acl_rows.specs.Rows.{Row, text_of_rows}
+use Rattle.acl_rows.proofs.ListLaws.{flat_twice}
 use Rattle.acl_platform.specs.declared.filters.Filter.{Filter}
 use Rattle.acl_platform.specs.declared.rules.Rule.{Rule}
 use Rattle.acl_platform.specs.Choices.{pairs}
@@ -19,11 +19,11 @@ use Rattle.ipt_lang.specs.Texts.{back_words, chain_row, chain_rows, front_words,
 use Rattle.gen_iptables.specs.Groups.{group_choices}
 use Rattle.gen_iptables.specs.ChainRowSteps.{combination_rows, head_of, rows_behind_front, rows_behind_sources}
 use Rattle.acl_packet.specs.Addresses.{first_family}
-use Rattle.gen_iptables.specs.Sections.{address_of, asks_state, Back, backs, chain_of, chain_rule, combinations, ends_of, Front, fronts, Parts, rules_for, section_of}
+use Rattle.gen_iptables.specs.Sections.{address_of, asks_state, Back, backs, chain_of, chain_rule, combinations, ends_of, Front, fronts, ChainParts, rules_for, section_of}
 
 -- ---- a rule of a chain
 
-pub rule-text : (hook : Hook) (family : Family) (r : Rule) (c : Parts) (act : Act) {name : List ℕ} {src dst : Option Prefix} {state : Bool}
+pub rule-text : (hook : Hook) (family : Family) (r : Rule) (c : ChainParts) (act : Act) {name : List ℕ} {src dst : Option Prefix} {state : Bool}
     → name ≡ r.name → src ≡ address_of c.0.1.0 → dst ≡ address_of c.0.1.1 → state ≡ asks_state r.test
     → text_of_rows (rule_row hook name (front_words family c.0.0 src dst
     ++ (ports_words (map (λ p. range_word (ends_of p)) c.1.0) (map (λ p. range_word (ends_of p)) c.1.1.0)
@@ -53,7 +53,7 @@ flat-same f g e (x ∷ xs) = ap (λ t. t ++ flat_map f xs) (e x) ∙ ap (λ t. g
 pub all-parts : (hook : Hook) (family : Family) (r : Rule)
     → flat_map (rows_behind_front hook family r) (fronts r) ≡ flat_map (combination_rows hook family r) (combinations r)
 all-parts hook family r =
-    let rows : Parts → List Row = combination_rows hook family r in
+    let rows : ChainParts → List Row = combination_rows hook family r in
     let sports = group_choices r.sports in
     let dports = group_choices r.dports in
     let of_front : Front → List Range × (List Range × Back) → List Row = λ front c. rows (front, c) in

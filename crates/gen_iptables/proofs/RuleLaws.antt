@@ -23,15 +23,15 @@ use Rattle.acl_platform.specs.SoundFilters.{has_verdict, is_tcp, IsSoundRule, te
 use Rattle.acl_platform.proofs.CombinationFacts.{all-numbers, all-prefixes, OfNumbers}
 use Rattle.acl_platform.proofs.PairLaws.{all-pairs}
 use Rattle.acl_platform.proofs.NamedNumbers.{named, no-icmp, protocol-is, type-is}
-use Rattle.acl_grammar.proofs.ListLaws.{all_flat}
-use Rattle.acl_grammar.specs.RuleParts.{IsAddresses, has_port_proto, is_empty, is_proto}
+use Rattle.acl_rows.proofs.ListLaws.{all_flat}
+use Rattle.acl_rows.specs.RuleParts.{IsAddresses, has_port_proto, is_empty, is_proto}
 use Rattle.ipt_lang.specs.declared.documents.Act.{Act}
 use Rattle.ipt_lang.specs.declared.documents.Act.TheVariants.{Log, Decide}
 use Rattle.ipt_lang.specs.declared.documents.Flags.{Flags}
 use Rattle.ipt_lang.specs.Documents.{act_fits, flags_fit, IsRule, ports_fit, type_fits}
 use Rattle.gen_iptables.proofs.GroupLaws.{all-groups, IsGroupOf}
 use Rattle.gen_iptables.specs.Groups.{group_choices}
-use Rattle.gen_iptables.specs.Sections.{address_of, Back, backs, chain_rule, chain_rules, combinations, ends_of, flag_choices, Front, fronts, Parts, rules_for}
+use Rattle.gen_iptables.specs.Sections.{address_of, Back, backs, chain_rule, chain_rules, combinations, ends_of, flag_choices, Front, fronts, ChainParts, rules_for}
 
 -- ---- what each combination is made of
 
@@ -52,7 +52,7 @@ OfFront r c = OfNumbers r.protos c.0 × (IsPrefixOf r.family c.1.0 × IsPrefixOf
 abbrev OfBack : Rule → Back → Type 0
 OfBack r c = OfNumbers r.itypes c.0 × OfTest r.test c.1
 
-abbrev pub OfParts : Rule → Parts → Type 0
+abbrev pub OfParts : Rule → ChainParts → Type 0
 OfParts r c = OfFront r c.0 × (IsGroupOf r.sports c.1.0 × (IsGroupOf r.dports c.1.1.0 × OfBack r c.1.1.1))
 
 pub parts-are : (families : Families) (r : Rule) → IsSoundRule Iptables families r → AllByRecursion (OfParts r) (combinations r)
@@ -126,7 +126,7 @@ decision-fits Left proto h k = absurd (false≢true h)
 
 -- ---- the rules
 
-rule-is : (families : Families) (r : Rule) (c : Parts) (act : Act) → IsSoundRule Iptables families r → OfParts r c → act_fits c.0.0 act ≡ true
+rule-is : (families : Families) (r : Rule) (c : ChainParts) (act : Act) → IsSoundRule Iptables families r → OfParts r c → act_fits c.0.0 act ≡ true
     → IsRule r.family (chain_rule r c act)
 rule-is families r c act h k fits =
     let rule = chain_rule r c act in
@@ -147,7 +147,7 @@ rule-is families r c act h k fits =
           (flags-fit-by r.test c.1.1.1.1 proto k.1.1.1.1 (λ t. only-tcp r.protos proto k.0.0 (h.flags_fit t))) fits);
     }
 
-logged-by : (families : Families) (r : Rule) (c : Parts) (b : Bool) → IsSoundRule Iptables families r → OfParts r c
+logged-by : (families : Families) (r : Rule) (c : ChainParts) (b : Bool) → IsSoundRule Iptables families r → OfParts r c
     → AllByRecursion (IsRule r.family) (map (chain_rule r c) (cond b (Log ∷ Decide r.verdict ∷ []) (Decide r.verdict ∷ [])))
 logged-by families r c true h k =
     let last = decision-fits r.verdict c.0.0 h.verdict_known (λ v. only-tcp r.protos c.0.0 k.0.0 (h.reset_fits v)) in

@@ -10,7 +10,7 @@ use Rattle.acl_packet.specs.declared.addresses.Family.{Family}
 use Rattle.acl_packet.specs.declared.addresses.Family.TheVariants.{V4, V6}
 use Rattle.acl_packet.specs.Addresses.{covers, first_family}
 use Rattle.acl_text.specs.Names.{is_name}
-use Rattle.acl_grammar.proofs.DecisionLaws.{le_decides}
+use Rattle.acl_rows.proofs.DecisionLaws.{le_decides}
 use Rattle.acl_target.specs.declared.targets.Kind.TheVariants.{Iptables}
 use Rattle.acl_target.specs.Clashes.{is_mixed}
 use Rattle.acl_target.specs.TargetData.{IsChain as IsChainTarget}

@@ -2,7 +2,7 @@
 use Rattle.std.specs.Prelude.{List, flat_map}
 use Rattle.acl_packet.specs.declared.addresses.Family.{Family}
 use Rattle.acl_packet.specs.declared.filtering.Hook.{Hook}
-use Rattle.acl_grammar.specs.Rows.{Row}
+use Rattle.acl_rows.specs.Rows.{Row}
 use Rattle.acl_sets.specs.declared.sets.Range.{Range}
 use Rattle.acl_platform.specs.declared.filters.Filter.{Filter}
 use Rattle.acl_platform.specs.declared.rules.Rule.{Rule}
@@ -10,7 +10,7 @@ use Rattle.ipt_lang.specs.declared.chain_rows.SectionHead.{SectionHead}
 use Rattle.ipt_lang.specs.Texts.{rule_rows}
 use Rattle.gen_iptables.specs.Groups.{group_choices}
 use Rattle.acl_packet.specs.Addresses.{first_family}
-use Rattle.gen_iptables.specs.Sections.{Back, backs, Front, Parts, policy_of, rules_for}
+use Rattle.gen_iptables.specs.Sections.{Back, backs, Front, ChainParts, policy_of, rules_for}
 
 abbrev pub head_of : Filter → SectionHead
 head_of f = record {
@@ -20,7 +20,7 @@ head_of f = record {
 }
 
 -- The rows of one combination.
-abbrev pub combination_rows : Hook → Family → Rule → Parts → List Row
+abbrev pub combination_rows : Hook → Family → Rule → ChainParts → List Row
 combination_rows hook family r c = flat_map (rule_rows hook family r.name) (rules_for r c)
 
 -- The rows of all combinations that begin with the parts that are given.

@@ -3,7 +3,7 @@
 use Rattle.std.specs.Prelude.{◌≡◌, ℕ, Bool, false, List, [], ◌∷◌, codes}
 use Rattle.std.specs.List.{count_by}
 use Rattle.std.specs.Str.{bytes_eq}
-use Rattle.acl_grammar.specs.Rows.{Row}
+use Rattle.acl_rows.specs.Rows.{Row}
 use Rattle.acl_platform.specs.declared.filters.Filter.{Filter}
 use Rattle.ipt_lang.specs.Texts.{section_rows}
 use Rattle.gen_iptables.specs.Sections.{entry_count, section_of}

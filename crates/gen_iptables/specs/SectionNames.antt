@@ -2,7 +2,7 @@
 use Rattle.std.specs.Prelude.{◌≡◌, Bool, false, List, ◌∷◌, [], ◌++◌, map, flat_map, codes}
 use Rattle.std.specs.List.{AllByRecursion, IsDistinct}
 use Rattle.std.specs.Str.{bytes_eq}
-use Rattle.acl_grammar.specs.Rows.{Row, text_of_rows}
+use Rattle.acl_rows.specs.Rows.{Row, text_of_rows}
 use Rattle.acl_target.specs.declared.targets.Kind.TheVariants.{Iptables}
 use Rattle.acl_target.specs.Clashes.{clash, is_mixed}
 use Rattle.acl_target.specs.TargetData.{IsTarget}

@@ -44,8 +44,8 @@ abbrev pub Back : Type 0
 Back = Option ℕ × Option Flags
 
 -- A choice of each part, with a group of source ports and one of destination ports.
-abbrev pub Parts : Type 0
-Parts = Front × (List Range × (List Range × Back))
+abbrev pub ChainParts : Type 0
+ChainParts = Front × (List Range × (List Range × Back))
 
 abbrev pub fronts : Rule → List Front
 fronts r = pairs (number_choices r.protos) (pairs r.src r.dst)
@@ -54,7 +54,7 @@ abbrev pub backs : Rule → List Back
 backs r = pairs (number_choices r.itypes) (flag_choices r.test)
 
 -- The protocol is outermost.
-abbrev pub combinations : Rule → List Parts
+abbrev pub combinations : Rule → List ChainParts
 combinations r = pairs (fronts r)
     (pairs (group_choices r.sports) (pairs (group_choices r.dports) (backs r)))
 
@@ -67,7 +67,7 @@ address_of p = if p.len == 0 then None else Some p
 abbrev pub ends_of : Range → ℕ × ℕ
 ends_of r = (r.low, r.high)
 
-abbrev pub chain_rule : Rule → Parts → Act → ChainRule
+abbrev pub chain_rule : Rule → ChainParts → Act → ChainRule
 chain_rule r c act = record {
   proto = c.0.0;
   src = address_of c.0.1.0;
@@ -84,7 +84,7 @@ chain_rule r c act = record {
 abbrev pub acts_of : Rule → List Act
 acts_of r = if r.log then Log ∷ Decide r.verdict ∷ [] else Decide r.verdict ∷ []
 
-abbrev pub rules_for : Rule → Parts → List ChainRule
+abbrev pub rules_for : Rule → ChainParts → List ChainRule
 rules_for r c = map (chain_rule r c) (acts_of r)
 
 abbrev pub chain_rules : Rule → List ChainRule

@@ -1,7 +1,7 @@
 ghost use Rattle.std.specs.Prelude.{◌≡◌, List, IsTrue, flat_map, length, min};
 ghost use Rattle.acl_text.specs.Output.{COUNT_END};
 ghost use Rattle.acl_text.specs.Puts.{Puts};
-ghost use Rattle.acl_grammar.specs.Rows.{Row, text_of_rows};
+ghost use Rattle.acl_rows.specs.Rows.{Row, text_of_rows};
 ghost use Rattle.acl_sets.specs.declared.sets.Range.{Range};
 ghost use Rattle.gen_iptables.specs.Groups.{group_choices, groups};
 

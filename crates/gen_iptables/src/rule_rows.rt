@@ -20,7 +20,7 @@ ghost use Rattle.gen_iptables.specs.Sections.{
 };
 
 use crate::groups::{GroupForm, put_groups};
-use acl_grammar::{Form, Piece, PortRange, Rows, WordForm};
+use acl_rows::{RowForm, Piece, PortRange, Rows, WordForm};
 use acl_packet::{Family, Hook, Prefix};
 use acl_platform::{Choices, NumberChoices, Rule, Test};
 use acl_sets::Range;
@@ -86,7 +86,7 @@ impl<'a> Rows for ChainRules<'a> {
 }
 
 // A protocol and addresses, with each group of source ports.
-impl<'a> Form<Front> for ChainRules<'a> {
+impl<'a> RowForm<Front> for ChainRules<'a> {
     ghost item_rows = { λ c front. rows_behind_front c.hook c.family c.rule.now front };
 
     #[tactic(auto, using(acl_platform::proofs::SoundRules::source_ports_small))]
@@ -153,7 +153,7 @@ struct BehindPorts<'a> {
     dports: &'a [Range],
 }
 
-impl<'a> Form<Back> for BehindPorts<'a> {
+impl<'a> RowForm<Back> for BehindPorts<'a> {
     ghost item_rows = { λ f back. combination_rows f.chain.now.hook f.chain.now.family
         f.chain.now.rule.now (f.front, (f.sports.now, (f.dports.now, back))) };
 

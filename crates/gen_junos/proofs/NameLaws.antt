@@ -8,7 +8,7 @@ use Rattle.acl_packet.specs.declared.addresses.Families.{Families}
 use Rattle.acl_packet.specs.declared.addresses.Families.TheVariants.{Inet, Inet6, Mixed}
 use Rattle.acl_packet.specs.Addresses.{first_family, same_family}
 use Rattle.acl_text.specs.Output.{joined}
-use Rattle.acl_grammar.specs.Rows.{Row, row, row_text, text_of_rows}
+use Rattle.acl_rows.specs.Rows.{Row, row, row_text, text_of_rows}
 use Rattle.acl_target.specs.declared.targets.Kind.{Kind}
 use Rattle.acl_target.specs.declared.targets.Kind.TheVariants.{Juniper}
 use Rattle.acl_target.specs.Clashes.{clash, is_mixed, same_families}

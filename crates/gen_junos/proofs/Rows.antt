@@ -7,7 +7,7 @@ use Rattle.std.proofs.lemmas.Bool.{eqb-true, false_from_ne_true, false≢true}
 use Rattle.std.proofs.lemmas.List.Elements.{All-head}
 use Rattle.acl_packet.specs.declared.addresses.Family.{Family}
 use Rattle.acl_packet.specs.declared.filtering.Verdict.TheVariants.{Deny}
-use Rattle.acl_grammar.specs.Rows.{Row, spaced, text_of_rows}
+use Rattle.acl_rows.specs.Rows.{Row, spaced, text_of_rows}
 use Rattle.acl_sets.specs.declared.sets.Range.{Range}
 use Rattle.acl_sets.specs.Ranges.{IsRange}
 use Rattle.acl_platform.specs.declared.filters.Filter.{Filter}
@@ -17,7 +17,7 @@ use Rattle.acl_platform.specs.Elements.{address_elements, number_elements, port_
 use Rattle.acl_platform.specs.Remarks.{notes}
 use Rattle.acl_platform.proofs.ChoiceLaws.{first-number}
 use Rattle.acl_platform.proofs.ElementLaws.{each-range}
-use Rattle.acl_grammar.specs.RuleParts.{is_empty}
+use Rattle.acl_rows.specs.RuleParts.{is_empty}
 use Rattle.junos_lang.specs.Documents.{family_word}
 use Rattle.junos_lang.specs.Texts.{address_rows, closing, condition_rows, end_rows, from_rows, head_rows, list_rows, note_row, note_rows, range_word, section_rows, term_row, term_rows, test_rows, text_of, then_rows}
 use Rattle.junos_lang.specs.ConditionSteps.{value_rows}

@@ -14,7 +14,7 @@ use Rattle.acl_platform.specs.Limits.{is_name_taken, names_sctp_ports}
 use Rattle.acl_platform.specs.Platforms.{IsAccepted}
 use Rattle.acl_platform.specs.SoundFilters.{IsSoundRule}
 use Rattle.acl_platform.proofs.AcceptedFilters.{names-differ, not-limited, rules-are, rules-within, short-name, target-fits}
-use Rattle.acl_grammar.specs.RuleParts.{is_empty}
+use Rattle.acl_rows.specs.RuleParts.{is_empty}
 use Rattle.junos_lang.specs.Documents.{IsTerm}
 use Rattle.junos_lang.specs.Texts.{Spells, text_of}
 use Rattle.gen_junos.proofs.DecisionLaws.{one-family}

@@ -27,7 +27,7 @@ use Rattle.acl_platform.proofs.ElementLaws.{addresses-are, alone, not-all, not-a
 use Rattle.acl_platform.proofs.NamedNumbers.{no-icmp}
 use Rattle.acl_platform.proofs.RuleNames.{rule-name}
 use Rattle.acl_platform.proofs.RuleNumbers.{no-destination, no-source, tcp-or-udp, type-most}
-use Rattle.acl_grammar.specs.RuleParts.{is_empty}
+use Rattle.acl_rows.specs.RuleParts.{is_empty}
 use Rattle.junos_lang.specs.Documents.{are_tcp_or_udp, is_alone, IsTerm, ports_fit, test_fits, types_fit, verdict_fits}
 use Rattle.gen_junos.specs.Sections.{note_of, term_of, test_of}
 

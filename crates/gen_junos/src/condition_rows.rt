@@ -1,18 +1,18 @@
 ghost use Rattle.std.specs.Prelude.{◌≡◌, ◌∷◌, [], decimal, map};
 ghost use Rattle.std.specs.List.{All};
-ghost use Rattle.acl_grammar.specs.Rows.{spaced};
+ghost use Rattle.acl_rows.specs.Rows.{spaced};
 ghost use Rattle.acl_sets.specs.Ranges.{IsRange};
 ghost use Rattle.acl_platform.specs.Choices.{numbers_of};
 ghost use Rattle.acl_platform.specs.Combinations.{IsSized};
 ghost use Rattle.junos_lang.specs.Texts.{condition_rows, from_rows, range_word};
 ghost use Rattle.gen_junos.specs.Sections.{term_of, test_of};
 
-use acl_grammar::{EachWord, Number, Piece, Rows, Word, WordForm, Words};
+use acl_rows::{EachWord, Number, Piece, Rows, OneWord, WordForm, Words};
 use acl_packet::Family;
 use acl_platform::{NumberForm, Rule, Test, address_elements, put_numbers, range_elements};
 use acl_sets::Range;
 use acl_text::{Out, PutFault};
-use junos_lang::{FromPart, JTest, PortRange, Values};
+use junos_lang::{FromPart, JTest, PortSpan, Values};
 
 /// The conditions of a rule's term in their block, or nothing where it has none.
 #[derive(Drop)]
@@ -92,7 +92,7 @@ impl NumberForm for BehindSpace {
 
     fn put_number<O: Out>(&self, number: u8, out: &mut O) -> Result<(), PutFault> {
         let number = u128::from(number);
-        let word = Word {
+        let word = OneWord {
             piece: Number { number },
         };
         word.put_spaced(out)
@@ -106,7 +106,7 @@ impl WordForm<Range> for AsRange {
     ghost item_text = { λ f r. range_word (r.low, r.high) };
 
     fn put_item_into<O: Out>(&self, range: &Range, out: &mut O) -> Result<(), PutFault> {
-        let range = PortRange {
+        let range = PortSpan {
             low: range.low,
             high: range.high,
         };

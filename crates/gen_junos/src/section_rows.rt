@@ -12,7 +12,7 @@ ghost use Rattle.gen_junos.specs.Sections.{
 };
 
 use crate::condition_rows::RuleConditions;
-use acl_grammar::Rows;
+use acl_rows::Rows;
 use acl_packet::{Family, Verdict};
 use acl_platform::{Filter, NoteRows, RemarkForm, Rule, RuleForm, put_rules};
 use acl_text::{Out, PutFault};

@@ -11,7 +11,7 @@ use Rattle.acl_packet.specs.declared.packets.Packet.{Packet}
 use Rattle.acl_packet.specs.Addresses.{has_address, same_family, width_of}
 use Rattle.acl_packet.specs.Outcomes.{unlogged}
 use Rattle.acl_packet.specs.Packets.{has_flag, is_initial, IsPacket}
-use Rattle.acl_grammar.proofs.DecisionLaws.{family_decides}
+use Rattle.acl_rows.proofs.DecisionLaws.{family_decides}
 use Rattle.acl_sets.specs.ComputableSets.{is_all}
 use Rattle.acl_packet.specs.AddressLists.{any_has}
 use Rattle.acl_sets.specs.Ranges.{holds, Numbers}
@@ -35,7 +35,7 @@ use Rattle.acl_platform.proofs.ElementLaws.{addresses-hold, is_nil, ports-hold}
 use Rattle.acl_platform.proofs.EntryLaws.{over-items}
 use Rattle.acl_platform.proofs.FieldLaws.{sets-told}
 use Rattle.acl_platform.proofs.SoundRules.{in-tops}
-use Rattle.acl_grammar.specs.RuleParts.{addresses_hold, has_port, number_holds, ports_hold, set_holds, state_holds}
+use Rattle.acl_rows.specs.RuleParts.{addresses_hold, has_port, number_holds, ports_hold, set_holds, state_holds}
 use Rattle.nft_lang.specs.declared.documents.Item.{Item}
 use Rattle.nft_lang.specs.declared.documents.Item.TheVariants.{Remark, Rule as ARule}
 use Rattle.nft_lang.specs.Walks.{first_holding, flags_hold, policy_verdict, rule_holds as chain_rule_holds, section_outcome, walk}

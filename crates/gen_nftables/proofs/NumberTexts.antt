@@ -6,7 +6,7 @@ use Rattle.std.proofs.Math.Seq.{take-length}
 use Rattle.std.proofs.lemmas.List.Elements.{All-drop, All-head, All-take}
 use Rattle.std.proofs.lemmas.Grind.{flat_map-append}
 use Rattle.acl_sets.specs.declared.sets.Range.{Range}
-use Rattle.acl_grammar.specs.Rows.{spaced}
+use Rattle.acl_rows.specs.Rows.{spaced}
 use Rattle.acl_sets.specs.Ranges.{IsRange, Numbers}
 use Rattle.acl_packet.specs.declared.addresses.Family.{Family}
 use Rattle.acl_platform.specs.Choices.{numbers_of}

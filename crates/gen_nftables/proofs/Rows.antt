@@ -3,8 +3,8 @@ use Rattle.std.proofs.Common.{◌≡◌, ℕ, Bool, List, [], ◌∷◌, ◌++�
 use Rattle.std.proofs.lemmas.List.Folds.{flat_map-map}
 use Rattle.std.proofs.lemmas.Grind.{flat_map-append}
 use Rattle.acl_packet.specs.declared.addresses.Families.{Families}
-use Rattle.acl_grammar.specs.Rows.{Row, text_of_rows}
-use Rattle.acl_grammar.proofs.ListLaws.{flat_twice}
+use Rattle.acl_rows.specs.Rows.{Row, text_of_rows}
+use Rattle.acl_rows.proofs.ListLaws.{flat_twice}
 use Rattle.acl_platform.specs.declared.filters.Filter.{Filter}
 use Rattle.acl_platform.specs.declared.rules.Rule.{Rule}
 use Rattle.acl_platform.specs.Choices.{number_choices}

@@ -27,8 +27,8 @@ use Rattle.acl_platform.proofs.CombinationFacts.{all-weaker, OfNumbers}
 use Rattle.acl_platform.proofs.ElementLaws.{addresses-are, numbers-are, ports-are}
 use Rattle.acl_platform.proofs.NamedNumbers.{named, no-icmp, protocol-is}
 use Rattle.acl_platform.proofs.RuleNumbers.{type-most}
-use Rattle.acl_grammar.specs.PortRanges.{IsPortRange}
-use Rattle.acl_grammar.specs.RuleParts.{IsAddresses, has_port_proto, is_empty, is_proto}
+use Rattle.acl_rows.specs.PortRanges.{IsPortRange}
+use Rattle.acl_rows.specs.RuleParts.{IsAddresses, has_port_proto, is_empty, is_proto}
 use Rattle.nft_lang.specs.Documents.{flags_fit, IsRule, IsSet, IsType, ports_fit, ports_overlap, prefixes_overlap, types_fit, verdict_fits}
 use Rattle.gen_nftables.specs.Sections.{chain_rule, flags_of}
 

@@ -4,7 +4,7 @@ use Rattle.std.specs.List.{AllByRecursion, IsDistinct}
 use Rattle.std.proofs.lemmas.Bool.{lt-ltb}
 use Rattle.std.proofs.Math.Nat.{le_trans, suc-le-suc_iff}
 use Rattle.acl_packet.specs.declared.addresses.Families.{Families}
-use Rattle.acl_grammar.proofs.DecisionLaws.{le_decides}
+use Rattle.acl_rows.proofs.DecisionLaws.{le_decides}
 use Rattle.acl_text.proofs.ListLaws.{all_append}
 use Rattle.acl_target.specs.declared.targets.Kind.TheVariants.{Nftables}
 use Rattle.acl_target.specs.TargetData.{IsHooked, IsPriority}

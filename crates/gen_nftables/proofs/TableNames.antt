@@ -12,7 +12,7 @@ use Rattle.acl_packet.specs.declared.addresses.Families.TheVariants.{Inet, Inet6
 use Rattle.acl_packet.specs.declared.filtering.Hook.{Hook}
 use Rattle.acl_packet.specs.declared.filtering.Hook.TheVariants.{Input, Output, Forward}
 use Rattle.acl_text.specs.Output.{joined}
-use Rattle.acl_grammar.specs.Rows.{row_text, text_of_rows}
+use Rattle.acl_rows.specs.Rows.{row_text, text_of_rows}
 use Rattle.acl_target.specs.declared.targets.Kind.{Kind}
 use Rattle.acl_target.specs.declared.targets.Kind.TheVariants.{Nftables}
 use Rattle.acl_target.specs.declared.targets.Target.{Target}

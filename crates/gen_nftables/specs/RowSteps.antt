@@ -2,7 +2,7 @@
 use Rattle.std.specs.Prelude.{ℕ, List, ◌++◌, flat_map, codes}
 use Rattle.std.specs.Fmt.{decimal}
 use Rattle.acl_packet.specs.declared.addresses.Families.{Families}
-use Rattle.acl_grammar.specs.Rows.{Row}
+use Rattle.acl_rows.specs.Rows.{Row}
 use Rattle.acl_platform.specs.declared.filters.Filter.{Filter}
 use Rattle.nft_lang.specs.declared.chain_rows.TableHead.{TableHead}
 use Rattle.nft_lang.specs.declared.documents.Item.{Item}

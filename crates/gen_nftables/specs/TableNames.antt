@@ -2,7 +2,7 @@
 use Rattle.std.specs.Prelude.{◌≡◌, ◌≢◌, ◌≤◌, Bool, List, [], ◌∷◌, ◌++◌, map, flat_map, codes, AllPairs}
 use Rattle.std.specs.List.{AllByRecursion, IsDistinct}
 use Rattle.std.specs.Str.{bytes_eq}
-use Rattle.acl_grammar.specs.Rows.{Row, text_of_rows}
+use Rattle.acl_rows.specs.Rows.{Row, text_of_rows}
 use Rattle.acl_target.specs.declared.targets.Kind.TheVariants.{Nftables}
 use Rattle.acl_target.specs.TargetData.{IsTarget}
 use Rattle.acl_target.specs.TargetTexts.{target_text}

@@ -5,11 +5,11 @@ ghost use Rattle.gen_nftables.specs.Sections.{asks_state, chain_rule, flags_of};
 
 use crate::sets::{AddressSet, PortSet};
 use crate::types::TypeSet;
-use acl_grammar::Words;
+use acl_rows::Words;
 use acl_packet::Families;
 use acl_platform::{Rule, Test};
 use acl_text::{Out, PutFault};
-use nft_lang::{Ending, FlagTest, Flags, PacketFamily, Protocol};
+use nft_lang::{RuleEnding, FlagTest, Flags, PacketFamily, Protocol};
 
 /// The words of a rule of a chain: a rule of a filter, for one of its protocols or for all of them.
 #[derive(Drop)]
@@ -67,7 +67,7 @@ impl<'a> Words for RuleWords<'a> {
         let flags = FlagTest {
             flags: flags_of(rule.test),
         };
-        let ending = Ending {
+        let ending = RuleEnding {
             state: asks_state(rule.test),
             log: rule.log,
             verdict: rule.verdict,

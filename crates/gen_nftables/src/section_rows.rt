@@ -13,7 +13,7 @@ ghost use Rattle.gen_nftables.specs.Sections.{
 };
 
 use crate::rule_words::RuleWords;
-use acl_grammar::{Form, Row, Rows};
+use acl_rows::{RowForm, Row, Rows};
 use acl_packet::Families;
 use acl_platform::{
     Choices, Filter, NumberChoices, RemarkForm, RemarkRows, Rule, RuleForm, put_rules,
@@ -146,7 +146,7 @@ struct OfRule<'a> {
     ghost sized: { IsSized rule.now },
 }
 
-impl<'a> Form<Option<u8>> for OfRule<'a> {
+impl<'a> RowForm<Option<u8>> for OfRule<'a> {
     ghost item_rows = { λ f proto. item_rows f.families (ARule (chain_rule f.rule.now proto)) };
 
     fn put_item<O: Out>(&self, item: &Option<u8>, out: &mut O) -> Result<(), PutFault> {

@@ -6,7 +6,7 @@ ghost use Rattle.nft_lang.specs.Texts.{icmp_word, types_words, with_commas};
 ghost use Rattle.gen_nftables.specs.RowSteps.{other_numbers};
 ghost use Rattle.acl_platform.specs.Elements.{number_elements};
 
-use acl_grammar::{Number, Piece, Words};
+use acl_rows::{Number, Piece, Words};
 use acl_packet::Family;
 use acl_platform::{NumberForm, put_numbers, put_numbers_from, range_elements};
 use acl_sets::{Range, RangeSet};
@@ -51,7 +51,7 @@ impl<'a> Words for NumberSet<'a> {
                 let ranges = self.ranges;
                 let key: &[&[u8]] = &[icmp_word(self.family), b"type", b"{"];
                 let end: &[&[u8]] = &[b"}"];
-                (key, (Numbers { ranges }, end)).put_spaced(out)
+                (key, (NumberList { ranges }, end)).put_spaced(out)
             }
         }
     }
@@ -59,12 +59,12 @@ impl<'a> Words for NumberSet<'a> {
 
 // The numbers of ranges, with a comma behind each but the last.
 #[derive(Drop)]
-struct Numbers<'a> {
+struct NumberList<'a> {
     ranges: &'a [Range],
     ghost small: { All (λ r. IsRange 255 r) ranges.now },
 }
 
-impl<'a> Words for Numbers<'a> {
+impl<'a> Words for NumberList<'a> {
     ghost words = { λ n. with_commas (map (λ number. decimal number) (numbers_of n.ranges.now)) };
 
     fn put_spaced<O: Out>(&self, out: &mut O) -> Result<(), PutFault> {

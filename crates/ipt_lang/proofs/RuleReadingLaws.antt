@@ -16,11 +16,11 @@ use Rattle.acl_text.specs.Cuts.{cut_at, has_byte}
 use Rattle.acl_text.specs.PortRanges.{ports_in}
 use Rattle.acl_text.proofs.AddressLaws.{spelled-again}
 use Rattle.acl_text.proofs.CutLaws.{cut-found, none-cut}
-use Rattle.acl_grammar.specs.PortRanges.{IsPortRange}
-use Rattle.acl_grammar.proofs.ListLaws.{all_map}
-use Rattle.acl_grammar.proofs.PortRangeLaws.{range-again, range-lacks}
-use Rattle.acl_grammar.proofs.RowLaws.{cut_none, cut_there}
-use Rattle.acl_grammar.specs.RuleParts.{IsAddresses}
+use Rattle.acl_rows.specs.PortRanges.{IsPortRange}
+use Rattle.acl_rows.proofs.ListLaws.{all_map}
+use Rattle.acl_rows.proofs.PortRangeLaws.{range-again, range-lacks}
+use Rattle.acl_rows.proofs.RowLaws.{cut_none, cut_there}
+use Rattle.acl_rows.specs.RuleParts.{IsAddresses}
 use Rattle.ipt_lang.specs.declared.documents.Rule.{Rule}
 use Rattle.ipt_lang.specs.declared.documents.Act.{Act}
 use Rattle.ipt_lang.specs.declared.documents.Act.TheVariants.{Log, Decide}

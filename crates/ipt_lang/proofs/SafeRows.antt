@@ -12,12 +12,12 @@ use Rattle.acl_packet.specs.declared.filtering.Verdict.TheVariants.{Accept, Deny
 use Rattle.acl_packet.specs.Packets.{icmp_of}
 use Rattle.acl_text.specs.Names.{is_name}
 use Rattle.acl_text.proofs.ListLaws.{all_append}
-use Rattle.acl_grammar.specs.PortRanges.{IsPortRange}
-use Rattle.acl_grammar.specs.RowSteps.{IsWord, AreWords, IsRow, AreRows}
-use Rattle.acl_grammar.proofs.ListLaws.{all_flat, all_map}
-use Rattle.acl_grammar.proofs.PortRangeLaws.{range_word as range_is_word}
-use Rattle.acl_grammar.proofs.WordLaws.{word, decimal_word, prefix_word, plain_word, text_words, joined_word, both_words, either_word}
-use Rattle.acl_grammar.specs.RuleParts.{IsAddresses}
+use Rattle.acl_rows.specs.PortRanges.{IsPortRange}
+use Rattle.acl_rows.specs.RowSteps.{IsWord, AreWords, IsRow, AreRows}
+use Rattle.acl_rows.proofs.ListLaws.{all_flat, all_map}
+use Rattle.acl_rows.proofs.PortRangeLaws.{range_word as range_is_word}
+use Rattle.acl_rows.proofs.WordLaws.{word, decimal_word, prefix_word, plain_word, text_words, joined_word, both_words, either_word}
+use Rattle.acl_rows.specs.RuleParts.{IsAddresses}
 use Rattle.ipt_lang.specs.declared.documents.Section.{Section}
 use Rattle.ipt_lang.specs.declared.documents.Chain.{Chain}
 use Rattle.ipt_lang.specs.declared.documents.Rule.{Rule}

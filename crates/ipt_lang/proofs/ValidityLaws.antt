@@ -8,12 +8,12 @@ use Rattle.std.proofs.lemmas.Bool.Decides.{Decides-and, Decides-like}
 use Rattle.acl_packet.specs.declared.addresses.Family.{Family}
 use Rattle.acl_packet.specs.declared.addresses.Prefix.{Prefix}
 use Rattle.acl_text.specs.Names.{is_safe_text}
-use Rattle.acl_grammar.specs.ApartSteps.{are_apart}
-use Rattle.acl_grammar.specs.PortRangeSteps.{is_port_range}
-use Rattle.acl_grammar.specs.RuleParts.{IsAddresses, number_fits}
-use Rattle.acl_grammar.proofs.DecisionLaws.{addresses_decide, le_decides, number_decides, type_decides, all_decides}
-use Rattle.acl_grammar.proofs.ApartLaws.{apart_decides}
-use Rattle.acl_grammar.proofs.PortRangeLaws.{ranges_decide}
+use Rattle.acl_rows.specs.ApartSteps.{are_apart}
+use Rattle.acl_rows.specs.PortRangeSteps.{is_port_range}
+use Rattle.acl_rows.specs.RuleParts.{IsAddresses, number_fits}
+use Rattle.acl_rows.proofs.DecisionLaws.{addresses_decide, le_decides, number_decides, type_decides, all_decides}
+use Rattle.acl_rows.proofs.ApartLaws.{apart_decides}
+use Rattle.acl_rows.proofs.PortRangeLaws.{ranges_decide}
 use Rattle.ipt_lang.specs.declared.documents.Section.{Section}
 use Rattle.ipt_lang.specs.declared.documents.Chain.{Chain}
 use Rattle.ipt_lang.specs.declared.documents.Rule.{Rule}

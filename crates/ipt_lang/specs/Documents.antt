@@ -12,9 +12,9 @@ use Rattle.acl_packet.specs.declared.filtering.Verdict.TheVariants.{Reset, Left}
 use Rattle.acl_packet.specs.Packets.{icmp_of}
 use Rattle.acl_packet.specs.PortWeights.{port_weight}
 use Rattle.acl_text.specs.Names.{is_name, is_safe_text}
-use Rattle.acl_grammar.specs.Documents.{IsDocumentOf}
-use Rattle.acl_grammar.specs.PortRanges.{IsPortRange}
-use Rattle.acl_grammar.specs.RuleParts.{IsAddresses, has_port_proto, is_empty, is_proto}
+use Rattle.acl_rows.specs.Documents.{IsDocumentOf}
+use Rattle.acl_rows.specs.PortRanges.{IsPortRange}
+use Rattle.acl_rows.specs.RuleParts.{IsAddresses, has_port_proto, is_empty, is_proto}
 use Rattle.ipt_lang.specs.declared.documents.Section.{Section}
 use Rattle.ipt_lang.specs.declared.documents.Chain.{Chain}
 use Rattle.ipt_lang.specs.declared.documents.Rule.{Rule}

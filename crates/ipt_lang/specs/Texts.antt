@@ -13,9 +13,9 @@ use Rattle.acl_packet.specs.declared.filtering.Hook.TheVariants.{Input, Output, 
 use Rattle.acl_packet.specs.declared.filtering.Verdict.TheVariants.{Accept, Deny, Reject, Reset, Left}
 use Rattle.acl_packet.specs.Packets.{icmp_of}
 use Rattle.acl_text.specs.AddressTexts.{prefix_text}
-use Rattle.acl_grammar.specs.Documents.{IsSpelling}
-use Rattle.acl_grammar.specs.PortRanges.{range_text}
-use Rattle.acl_grammar.specs.Rows.{Row, row, words_in, text_of_rows}
+use Rattle.acl_rows.specs.Documents.{IsSpelling}
+use Rattle.acl_rows.specs.PortRanges.{range_text}
+use Rattle.acl_rows.specs.Rows.{Row, row, words_in, text_of_rows}
 use Rattle.ipt_lang.specs.declared.documents.Section.{Section}
 use Rattle.ipt_lang.specs.declared.documents.Chain.{Chain}
 use Rattle.ipt_lang.specs.declared.documents.Rule.{Rule}

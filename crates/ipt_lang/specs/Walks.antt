@@ -10,8 +10,8 @@ use Rattle.acl_packet.specs.declared.filtering.Verdict.{Verdict}
 use Rattle.acl_packet.specs.declared.filtering.Verdict.TheVariants.{Accept, Deny, Left}
 use Rattle.acl_packet.specs.Addresses.{has_address, same_family}
 use Rattle.acl_packet.specs.Packets.{has_flag}
-use Rattle.acl_grammar.specs.Documents.{outcome_at}
-use Rattle.acl_grammar.specs.RuleParts.{number_holds, ports_hold, state_holds}
+use Rattle.acl_rows.specs.Documents.{outcome_at}
+use Rattle.acl_rows.specs.RuleParts.{number_holds, ports_hold, state_holds}
 use Rattle.ipt_lang.specs.declared.documents.Section.{Section}
 use Rattle.ipt_lang.specs.declared.documents.Chain.{Chain}
 use Rattle.ipt_lang.specs.declared.documents.Rule.{Rule}
@@ -46,17 +46,17 @@ abbrev pub rule_holds : Rule → Packet → Bool
 rule_holds r p = ends_hold r p && (ports_hold r.sports r.dports p && tests_hold r p)
 
 -- What a packet has met so far is an outcome, `Left` while no rule has decided.
-abbrev pub met : Verdict → Bool → Outcome
-met verdict logged = record { verdict = verdict; logged = logged }
+abbrev pub outcome_so_far : Verdict → Bool → Outcome
+outcome_so_far verdict logged = record { verdict = verdict; logged = logged }
 
 -- A rule that holds the packet decides, or logs it and lets it go on to the rest.
 abbrev pub acted : Act → Bool → Outcome → Outcome
 acted Log logged rest = rest
-acted (Decide verdict) logged rest = met verdict logged
+acted (Decide verdict) logged rest = outcome_so_far verdict logged
 
 -- The rules of a chain in order, on a packet that is logged already or not. Its end returns.
 unfoldable pub rules_walk : List Rule → Packet → Bool → Outcome
-rules_walk [] p logged = met Left logged
+rules_walk [] p logged = outcome_so_far Left logged
 rules_walk (r ∷ rules) p logged =
     if rule_holds r p then acted r.act logged (rules_walk rules p true)
     else rules_walk rules p logged
@@ -71,7 +71,7 @@ go_on o rest = if is_left o.verdict then rest o.logged else o
 
 -- The hook's jumps in order, each into its chain.
 unfoldable pub chains_walk : List Chain → Packet → Bool → Outcome
-chains_walk [] p logged = met Left logged
+chains_walk [] p logged = outcome_so_far Left logged
 chains_walk (c ∷ chains) p logged =
     go_on (rules_walk c.rules p logged) (λ marked. chains_walk chains p marked)
 
@@ -83,7 +83,7 @@ policy_verdict (Some false) = Deny
 
 abbrev pub walk : Option Bool → List Chain → Packet → Outcome
 walk accept chains p =
-    go_on (chains_walk chains p false) (λ logged. met (policy_verdict accept) logged)
+    go_on (chains_walk chains p false) (λ logged. outcome_so_far (policy_verdict accept) logged)
 
 -- What a section does, where the packet is of its family.
 abbrev pub section_outcome : Section → Packet → Option Outcome

@@ -5,7 +5,7 @@ ghost use Rattle.ipt_lang.specs.Texts.{back_words, chain_name, chain_row, chain_
 use crate::documents::{Act, Chain, Flags, Rule, Section};
 use crate::ports::PortLists;
 use crate::rule_words::{Back, Front};
-use acl_grammar::{Each, Form, FreeText, Piece, RangeWords, Row, Rows, Word, Words};
+use acl_rows::{Each, RowForm, FreeText, Piece, RangeWords, Row, Rows, OneWord, Words};
 use acl_packet::{Family, Hook, Prefix};
 use acl_text::{Bytes, Out, PutFault};
 
@@ -170,7 +170,7 @@ impl<'a> Rows for ChainHead<'a> {
         let row = Row {
             indent: 0,
             first: b"-N".as_slice(),
-            rest: Word { piece: name },
+            rest: OneWord { piece: name },
         };
         row.put_rows(out)
     }
@@ -195,7 +195,7 @@ impl<'a> Rows for JumpRow<'a> {
         let row = Row {
             indent: 0,
             first: b"-A".as_slice(),
-            rest: (words, Word { piece: name }),
+            rest: (words, OneWord { piece: name }),
         };
         row.put_rows(out)
     }
@@ -244,7 +244,7 @@ impl<'a, P: Words + Copy> Rows for RuleRow<'a, P> {
         let row = Row {
             indent: 0,
             first: b"-A".as_slice(),
-            rest: (Word { piece: name }, (front, (self.ports, back))),
+            rest: (OneWord { piece: name }, (front, (self.ports, back))),
         };
         row.put_rows(out)
     }
@@ -278,7 +278,7 @@ struct OfHook {
     family: Family,
 }
 
-impl Form<Chain> for OfHook {
+impl RowForm<Chain> for OfHook {
     ghost item_rows = { λ f c. chain_rows f.hook f.family c };
 
     #[tactic(auto, unfolding(crate::specs::Texts::chain_rows))]
@@ -305,7 +305,7 @@ impl Form<Chain> for OfHook {
 #[derive(Drop)]
 struct Remarks;
 
-impl Form<Bytes> for Remarks {
+impl RowForm<Bytes> for Remarks {
     ghost item_rows = { λ f text. remark_rows text };
 
     fn put_item<O: Out>(&self, text: &Bytes, out: &mut O) -> Result<(), PutFault> {
@@ -324,7 +324,7 @@ struct OfChain<'a> {
     name: &'a [u8],
 }
 
-impl<'a> Form<Rule> for OfChain<'a> {
+impl<'a> RowForm<Rule> for OfChain<'a> {
     ghost item_rows = { λ f r. rule_rows f.hook f.family f.name.now r };
 
     #[tactic(auto, unfolding(crate::specs::Texts::rule_rows, crate::specs::Texts::rule_words))]

@@ -1,12 +1,12 @@
 ghost use Rattle.std.specs.Prelude.{◌≡◌, OnOk};
 ghost use Rattle.acl_text.specs.Cuts.{views};
-ghost use Rattle.acl_grammar.specs.FamilyWords.{family_in};
+ghost use Rattle.acl_rows.specs.FamilyWords.{family_in};
 ghost use Rattle.ipt_lang.specs.ReadingSteps.{begin_section, end_chain, ended, hook_in, no_chain, no_draft, no_section, take_appended, take_few, take_name, take_named, take_policy, take_row, take_target, take_words, with_name, with_policy, with_remark, with_rule};
 
 use crate::chain_rows::hook_word;
 use crate::documents::{Chain, Doc, Section};
 use crate::rule_drafts::rule_of;
-use acl_grammar::{DocumentDraft, Draft, RowWords, family_named};
+use acl_rows::{DocumentDraft, Draft, RowWords, family_named};
 use acl_packet::{Family, Hook};
 use acl_text::{Bytes, Items, Memory};
 use std::alloc::Global;

@@ -12,7 +12,7 @@ mod rule_words;
 mod validity;
 mod walking;
 
-pub use acl_grammar::{outcome, read_document, sections};
+pub use acl_rows::{outcome, read_document, sections};
 pub use chain_rows::{ChainHead, JumpRow, RemarkRow, RuleRow, SectionHead};
 pub use documents::{Act, Chain, Doc, Flags, Rule, Section};
 pub use iptables::Iptables;

@@ -2,7 +2,7 @@ ghost use Rattle.std.specs.Prelude.{◌≡◌, ◌&&◌, List, ℕ, map};
 ghost use Rattle.std.specs.List.{join_with_byte};
 ghost use Rattle.ipt_lang.specs.Texts.{is_single, key_words, port_list_words, ports_words, range_word};
 
-use acl_grammar::{ItemsBehind, OneItem, Piece, PortRange, Word, WordForm, Words, put_words};
+use acl_rows::{ItemsBehind, OneItem, Piece, PortRange, OneWord, WordForm, Words, put_words};
 use acl_text::{Out, PutFault};
 
 /// The words of a rule's source and destination ports, each range in a form. The plain form is written
@@ -66,7 +66,7 @@ impl<'a, T, F: WordForm<T>> Words for PortList<'a, T, F> {
         match self.ranges {
             [] => Ok(()),
             [_, ..] => {
-                let list = Word {
+                let list = OneWord {
                     piece: Listing {
                         items: self.ranges,
                         form: self.form,
@@ -96,7 +96,7 @@ impl<'a> Words for KeyWords<'a> {
     #[tactic(auto, unfolding(crate::specs::Texts::key_words))]
     fn put_spaced<O: Out>(&self, out: &mut O) -> Result<(), PutFault> {
         if self.plain {
-            Word { piece: self.key }.put_spaced(out)
+            OneWord { piece: self.key }.put_spaced(out)
         } else {
             put_words(&[b"-m", b"multiport", self.keys], out)
         }

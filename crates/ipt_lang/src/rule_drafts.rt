@@ -3,7 +3,7 @@ ghost use Rattle.acl_text.specs.PortRanges.{ports_in};
 ghost use Rattle.ipt_lang.specs.ReadingSteps.{act_in, draft, flags_in, named_proto_in, next_in, no_rule, one_or_none, proto_in, ranges_in, rule_in, take_word, with_address, with_ports, with_value, with_word};
 
 use crate::documents::{Act, Flags, Rule};
-use acl_grammar::{End, RowWords};
+use acl_rows::{End, RowWords};
 use acl_packet::{Family, Verdict};
 use acl_text::{Items, Memory, read_ports, read_spelled_prefix, read_u8, split_at_byte};
 use std::alloc::Global;
@@ -130,7 +130,7 @@ impl Rule {
 }
 
 // The ranges of a word, with commas between.
-#[tactic(auto, using(crate::proofs::RuleReadingLaws::more_ranges, crate::proofs::RuleReadingLaws::last_range, acl_grammar::proofs::RowLaws::rest_is_shorter))]
+#[tactic(auto, using(crate::proofs::RuleReadingLaws::more_ranges, crate::proofs::RuleReadingLaws::last_range, acl_rows::proofs::RowLaws::rest_is_shorter))]
 fn ranges_of(alloc: Global, word: &[u8]) -> Result<Items<(u16, u16)>, Memory>
     ensures { IfOk result (λ ranges. ranges ≡ ranges_in word.now) }
 {

@@ -2,7 +2,7 @@ ghost use Rattle.std.specs.Prelude.{◌≡◌};
 ghost use Rattle.ipt_lang.specs.Texts.{act_words, address_words, back_words, flags_words, front_words, icmp_word, is_reset, mask_word, proto_word, proto_words, reset_words, set_word, state_words, target_word, type_key, type_words};
 
 use crate::documents::{Act, Flags};
-use acl_grammar::{Number, Piece, Word, Words, put_words};
+use acl_rows::{Number, Piece, OneWord, Words, put_words};
 use acl_packet::{Family, Prefix, Verdict};
 use acl_text::{Out, PutFault};
 
@@ -49,10 +49,10 @@ impl Words for Protocol {
     fn put_spaced<O: Out>(&self, out: &mut O) -> Result<(), PutFault> {
         match self.number {
             Some(number) => {
-                let key = Word {
+                let key = OneWord {
                     piece: b"-p".as_slice(),
                 };
-                let name = Word {
+                let name = OneWord {
                     piece: ProtocolName {
                         family: self.family,
                         number,
@@ -112,7 +112,7 @@ impl<'a> Words for AddressWords<'a> {
     #[tactic(auto, unfolding(crate::specs::Texts::address_words))]
     fn put_spaced<O: Out>(&self, out: &mut O) -> Result<(), PutFault> {
         match self.address {
-            Some(prefix) => (Word { piece: self.key }, Word { piece: prefix }).put_spaced(out),
+            Some(prefix) => (OneWord { piece: self.key }, OneWord { piece: prefix }).put_spaced(out),
             None => Ok(()),
         }
     }
@@ -157,11 +157,11 @@ impl Words for TypeWords {
     fn put_spaced<O: Out>(&self, out: &mut O) -> Result<(), PutFault> {
         match self.itype {
             Some(number) => {
-                let key = Word {
+                let key = OneWord {
                     piece: type_key(self.family),
                 };
                 let number = u128::from(number);
-                let itype = Word {
+                let itype = OneWord {
                     piece: Number { number },
                 };
                 (key, itype).put_spaced(out)

@@ -1,12 +1,12 @@
 ghost use Rattle.std.specs.Prelude.{◌≡◌, ◌&&◌, IfOk};
 ghost use Rattle.std.specs.List.{list_all};
-ghost use Rattle.acl_grammar.specs.ApartSteps.{are_apart};
-ghost use Rattle.acl_grammar.specs.RuleParts.{has_port_proto, is_proto};
+ghost use Rattle.acl_rows.specs.ApartSteps.{are_apart};
+ghost use Rattle.acl_rows.specs.RuleParts.{has_port_proto, is_proto};
 ghost use Rattle.ipt_lang.specs.Documents.{act_fits, chain_names, flags_fit, is_chain_name, name_of, parts_fit, ports_fit, type_fits, weight_of};
 ghost use Rattle.ipt_lang.specs.ValiditySteps.{are_addresses, are_numbers, are_ports, are_remarks, has_room, is_address, is_chain, is_port_list, is_rule, is_section};
 
 use crate::documents::{Act, Chain, Rule, Section};
-use acl_grammar::{
+use acl_rows::{
     Named, are_port_ranges, has_port_proto, have_distinct_names, is_addresses, is_proto,
     number_fits,
 };

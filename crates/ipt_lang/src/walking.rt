@@ -1,8 +1,8 @@
 ghost use Rattle.std.specs.Prelude.{◌≡◌};
-ghost use Rattle.ipt_lang.specs.Walks.{address_holds, chains_walk, ends_hold, flags_hold, met, policy_verdict, rule_holds, rules_walk, tests_hold, walk};
+ghost use Rattle.ipt_lang.specs.Walks.{address_holds, chains_walk, ends_hold, flags_hold, outcome_so_far, policy_verdict, rule_holds, rules_walk, tests_hold, walk};
 
 use crate::documents::{Act, Chain, Flags, Rule};
-use acl_grammar::{ACK, RST, SYN, admit_ports, number_holds, state_holds};
+use acl_rows::{ACK, RST, SYN, admit_ports, number_holds, state_holds};
 use acl_packet::{Outcome, Packet, Prefix, Verdict, has_flag};
 
 pub(crate) fn walk(accept: Option<bool>, chains: &[Chain], packet: &Packet) -> Outcome
@@ -10,7 +10,7 @@ pub(crate) fn walk(accept: Option<bool>, chains: &[Chain], packet: &Packet) -> O
 {
     let behind = chains_walk(chains, packet, false);
     match behind.verdict {
-        Verdict::Left => met(policy_verdict(accept), behind.logged),
+        Verdict::Left => outcome_so_far(policy_verdict(accept), behind.logged),
         _ => behind,
     }
 }
@@ -25,8 +25,8 @@ fn policy_verdict(accept: Option<bool>) -> Verdict
     }
 }
 
-fn met(verdict: Verdict, logged: bool) -> Outcome
-    ensures { result ≡ met verdict logged }
+fn outcome_so_far(verdict: Verdict, logged: bool) -> Outcome
+    ensures { result ≡ outcome_so_far verdict logged }
 {
     Outcome { verdict, logged }
 }
@@ -43,7 +43,7 @@ fn chains_walk(chains: &[Chain], packet: &Packet, logged: bool) -> Outcome
             _ => return behind,
         }
     }
-    met(Verdict::Left, logged)
+    outcome_so_far(Verdict::Left, logged)
 }
 
 #[tactic(auto, unfolding(crate::specs::Walks::rules_walk))]
@@ -54,12 +54,12 @@ fn rules_walk(rules: &[Rule], packet: &Packet, logged: bool) -> Outcome
     for rule in rules {
         if rule_holds(rule, packet) {
             match rule.act {
-                Act::Decide(verdict) => return met(verdict, logged),
+                Act::Decide(verdict) => return outcome_so_far(verdict, logged),
                 Act::Log => logged = true,
             }
         }
     }
-    met(Verdict::Left, logged)
+    outcome_so_far(Verdict::Left, logged)
 }
 
 fn rule_holds(rule: &Rule, packet: &Packet) -> bool

@@ -4,10 +4,10 @@ use Rattle.std.proofs.lemmas.Bool.{false≢true}
 use Rattle.std.specs.Fmt.{decimal}
 use Rattle.acl_packet.specs.declared.addresses.Family.{Family}
 use Rattle.acl_packet.specs.declared.addresses.Prefix.{Prefix}
-use Rattle.acl_grammar.specs.RuleParts.{is_empty}
+use Rattle.acl_rows.specs.RuleParts.{is_empty}
 use Rattle.junos_lang.specs.declared.documents.JTerm.{JTerm}
-use Rattle.acl_grammar.specs.Rows.{Row, row}
-use Rattle.acl_grammar.specs.declared.rule_parts.End.{End}
+use Rattle.acl_rows.specs.Rows.{Row, row}
+use Rattle.acl_rows.specs.declared.rule_parts.End.{End}
 use Rattle.junos_lang.specs.declared.conditions.Condition.{Condition}
 use Rattle.junos_lang.specs.Texts.{address_rows, closing, condition_rows, from_rows, list_row, list_rows, range_word}
 use Rattle.junos_lang.specs.ConditionSteps.{value_rows}

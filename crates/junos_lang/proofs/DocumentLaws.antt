@@ -20,19 +20,19 @@ use Rattle.acl_text.specs.PortRanges.{ports_in, port_in, port_pair_in}
 use Rattle.acl_text.proofs.AddressLaws.{prefix-lacks, spelled-again}
 use Rattle.acl_text.proofs.CutLaws.{cut-again}
 use Rattle.acl_text.proofs.Printed.{IsForeign}
-use Rattle.acl_grammar.specs.PortRanges.{IsPortRange}
-use Rattle.acl_grammar.specs.Rows.{Row, row}
-use Rattle.acl_grammar.specs.RowSteps.{document_in, row_in}
-use Rattle.acl_grammar.proofs.PortRangeLaws.{range-again}
-use Rattle.acl_grammar.proofs.RowLaws.{fold-again, fold-members, split_some}
-use Rattle.acl_grammar.specs.FamilyWords.{family_in}
+use Rattle.acl_rows.specs.PortRanges.{IsPortRange}
+use Rattle.acl_rows.specs.Rows.{Row, row}
+use Rattle.acl_rows.specs.RowSteps.{document_in, row_in}
+use Rattle.acl_rows.proofs.PortRangeLaws.{range-again}
+use Rattle.acl_rows.proofs.RowLaws.{fold-again, fold-members, split_some}
+use Rattle.acl_rows.specs.FamilyWords.{family_in}
 use Rattle.junos_lang.specs.declared.documents.Section.{Section}
 use Rattle.junos_lang.specs.declared.documents.JTerm.{JTerm}
 use Rattle.junos_lang.specs.declared.documents.JTest.{JTest}
 use Rattle.junos_lang.specs.declared.documents.JTest.TheVariants.{Established, Initial, Rst}
-use Rattle.acl_grammar.specs.declared.rule_parts.End.{End}
-use Rattle.acl_grammar.specs.declared.rule_parts.End.TheVariants.{Source, Destination}
-use Rattle.acl_grammar.specs.RuleParts.{IsAddresses}
+use Rattle.acl_rows.specs.declared.rule_parts.End.{End}
+use Rattle.acl_rows.specs.declared.rule_parts.End.TheVariants.{Source, Destination}
+use Rattle.acl_rows.specs.RuleParts.{IsAddresses}
 use Rattle.junos_lang.specs.declared.conditions.Condition.TheVariants.{SourcePort, DestinationPort, IcmpType}
 use Rattle.junos_lang.specs.declared.filters_drafts.FiltersDraft.{FiltersDraft}
 use Rattle.junos_lang.specs.Documents.{IsTerm, IsSection, ports_fit, types_fit, test_fits, verdict_fits, family_word}

@@ -10,19 +10,19 @@ use Rattle.acl_packet.specs.declared.filtering.Verdict.TheVariants.{Accept, Deny
 use Rattle.acl_text.specs.AddressTexts.{prefix_text}
 use Rattle.acl_text.specs.Names.{is_safe_text}
 use Rattle.acl_text.proofs.ListLaws.{all_append}
-use Rattle.acl_grammar.specs.PortRanges.{IsPortRange}
-use Rattle.acl_grammar.specs.Rows.{Row}
-use Rattle.acl_grammar.specs.RowSteps.{begins, IsRow, IsWord, AreWords, AreRows}
-use Rattle.acl_grammar.proofs.ListLaws.{all_flat, all_map}
-use Rattle.acl_grammar.proofs.PortRangeLaws.{range_word as range_is_word}
-use Rattle.acl_grammar.proofs.WordLaws.{word, decimal_word, prefix_word, name_word, plain_word, text_words, joined_word, both_words}
+use Rattle.acl_rows.specs.PortRanges.{IsPortRange}
+use Rattle.acl_rows.specs.Rows.{Row}
+use Rattle.acl_rows.specs.RowSteps.{begins, IsRow, IsWord, AreWords, AreRows}
+use Rattle.acl_rows.proofs.ListLaws.{all_flat, all_map}
+use Rattle.acl_rows.proofs.PortRangeLaws.{range_word as range_is_word}
+use Rattle.acl_rows.proofs.WordLaws.{word, decimal_word, prefix_word, name_word, plain_word, text_words, joined_word, both_words}
 use Rattle.junos_lang.specs.declared.documents.Section.{Section}
 use Rattle.junos_lang.specs.declared.documents.JTerm.{JTerm}
 use Rattle.junos_lang.specs.declared.documents.JTest.{JTest}
 use Rattle.junos_lang.specs.declared.documents.JTest.TheVariants.{Established, Initial, Rst}
-use Rattle.acl_grammar.specs.declared.rule_parts.End.{End}
-use Rattle.acl_grammar.specs.declared.rule_parts.End.TheVariants.{Source, Destination}
-use Rattle.acl_grammar.specs.RuleParts.{IsAddresses}
+use Rattle.acl_rows.specs.declared.rule_parts.End.{End}
+use Rattle.acl_rows.specs.declared.rule_parts.End.TheVariants.{Source, Destination}
+use Rattle.acl_rows.specs.RuleParts.{IsAddresses}
 use Rattle.junos_lang.specs.declared.conditions.Condition.{Condition}
 use Rattle.junos_lang.specs.declared.conditions.Condition.TheVariants.{Protocol, NextHeader, SourcePort, DestinationPort, IcmpType}
 use Rattle.junos_lang.specs.Documents.{IsTerm, IsSection, family_word}

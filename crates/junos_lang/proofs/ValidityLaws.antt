@@ -12,13 +12,13 @@ use Rattle.std.proofs.lemmas.Bool.Decides.{Decides-and, Decides-like, Decides-lt
 use Rattle.std.proofs.lemmas.Map.Text.{is_eq-slice_cmp}
 use Rattle.acl_packet.specs.declared.addresses.Family.{Family}
 use Rattle.acl_text.specs.Names.{is_name, is_filter_name, is_safe_text}
-use Rattle.acl_grammar.specs.ApartSteps.{are_apart}
-use Rattle.acl_grammar.specs.PortRangeSteps.{is_port_range}
-use Rattle.acl_grammar.specs.PrefixCheckSteps.{is_addresses}
-use Rattle.acl_grammar.proofs.DecisionLaws.{addresses_decide, le_decides, all_decides}
-use Rattle.acl_grammar.proofs.ApartLaws.{apart_decides, apart_like}
-use Rattle.acl_grammar.proofs.PortRangeLaws.{ranges_decide}
-use Rattle.acl_grammar.specs.RuleParts.{IsAddresses, is_empty}
+use Rattle.acl_rows.specs.ApartSteps.{are_apart}
+use Rattle.acl_rows.specs.PortRangeSteps.{is_port_range}
+use Rattle.acl_rows.specs.PrefixCheckSteps.{is_addresses}
+use Rattle.acl_rows.proofs.DecisionLaws.{addresses_decide, le_decides, all_decides}
+use Rattle.acl_rows.proofs.ApartLaws.{apart_decides, apart_like}
+use Rattle.acl_rows.proofs.PortRangeLaws.{ranges_decide}
+use Rattle.acl_rows.specs.RuleParts.{IsAddresses, is_empty}
 use Rattle.junos_lang.specs.declared.documents.Section.{Section}
 use Rattle.junos_lang.specs.declared.documents.JTerm.{JTerm}
 use Rattle.junos_lang.specs.Documents.{parts_fit, IsTerm, term_names, IsSection, name_of, filter_names}

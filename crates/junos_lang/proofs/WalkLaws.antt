@@ -2,7 +2,7 @@
 use Rattle.std.proofs.Common.{◌≡◌, is_some}
 use Rattle.acl_packet.specs.declared.packets.Packet.{Packet}
 use Rattle.acl_packet.specs.Addresses.{same_family}
-use Rattle.acl_grammar.proofs.OutcomeLaws.{some-where}
+use Rattle.acl_rows.proofs.OutcomeLaws.{some-where}
 use Rattle.junos_lang.specs.declared.documents.Section.{Section}
 use Rattle.junos_lang.specs.Walks.{section_outcome, walk}
 

@@ -11,9 +11,9 @@ use Rattle.acl_packet.specs.declared.filtering.Verdict.{Verdict}
 use Rattle.acl_packet.specs.declared.filtering.Verdict.TheVariants.{Reset, Left}
 use Rattle.acl_packet.specs.Packets.{icmp_of}
 use Rattle.acl_text.specs.Names.{is_name, is_filter_name, is_safe_text}
-use Rattle.acl_grammar.specs.Documents.{IsDocumentOf}
-use Rattle.acl_grammar.specs.PortRanges.{IsPortRange}
-use Rattle.acl_grammar.specs.RuleParts.{IsAddresses, is_empty}
+use Rattle.acl_rows.specs.Documents.{IsDocumentOf}
+use Rattle.acl_rows.specs.PortRanges.{IsPortRange}
+use Rattle.acl_rows.specs.RuleParts.{IsAddresses, is_empty}
 use Rattle.junos_lang.specs.declared.documents.Section.{Section}
 use Rattle.junos_lang.specs.declared.documents.JTerm.{JTerm}
 

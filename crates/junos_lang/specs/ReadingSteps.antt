@@ -11,14 +11,14 @@ use Rattle.acl_text.specs.AddressTexts.{spelled_prefix_in}
 use Rattle.acl_text.specs.Cuts.{cut_at}
 use Rattle.acl_text.specs.OptionSteps.{◌>>=◌}
 use Rattle.acl_text.specs.PortRanges.{ports_in}
-use Rattle.acl_grammar.specs.RowSteps.{few_in}
-use Rattle.acl_grammar.specs.Rows.{Row}
-use Rattle.acl_grammar.specs.FamilyWords.{family_in}
+use Rattle.acl_rows.specs.RowSteps.{few_in}
+use Rattle.acl_rows.specs.Rows.{Row}
+use Rattle.acl_rows.specs.FamilyWords.{family_in}
 use Rattle.junos_lang.specs.declared.documents.Section.{Section}
 use Rattle.junos_lang.specs.declared.documents.JTerm.{JTerm}
 use Rattle.junos_lang.specs.declared.documents.JTest.TheVariants.{Established, Initial, Rst}
-use Rattle.acl_grammar.specs.declared.rule_parts.End.{End}
-use Rattle.acl_grammar.specs.declared.rule_parts.End.TheVariants.{Source, Destination}
+use Rattle.acl_rows.specs.declared.rule_parts.End.{End}
+use Rattle.acl_rows.specs.declared.rule_parts.End.TheVariants.{Source, Destination}
 use Rattle.junos_lang.specs.declared.filters_drafts.FiltersDraft.{FiltersDraft}
 use Rattle.junos_lang.specs.Documents.{bare_term}
 

@@ -11,15 +11,15 @@ use Rattle.acl_packet.specs.declared.addresses.Prefix.{Prefix}
 use Rattle.acl_packet.specs.declared.filtering.Verdict.{Verdict}
 use Rattle.acl_packet.specs.declared.filtering.Verdict.TheVariants.{Accept, Deny, Reject, Reset, Left}
 use Rattle.acl_text.specs.AddressTexts.{prefix_text}
-use Rattle.acl_grammar.specs.Documents.{IsSpelling}
-use Rattle.acl_grammar.specs.PortRanges.{range_text}
-use Rattle.acl_grammar.specs.Rows.{Row, row, words_in, text_of_rows}
+use Rattle.acl_rows.specs.Documents.{IsSpelling}
+use Rattle.acl_rows.specs.PortRanges.{range_text}
+use Rattle.acl_rows.specs.Rows.{Row, row, words_in, text_of_rows}
 use Rattle.junos_lang.specs.declared.documents.Section.{Section}
 use Rattle.junos_lang.specs.declared.documents.JTerm.{JTerm}
 use Rattle.junos_lang.specs.declared.documents.JTest.{JTest}
 use Rattle.junos_lang.specs.declared.documents.JTest.TheVariants.{Established, Initial, Rst}
-use Rattle.acl_grammar.specs.declared.rule_parts.End.{End}
-use Rattle.acl_grammar.specs.declared.rule_parts.End.TheVariants.{Source, Destination}
+use Rattle.acl_rows.specs.declared.rule_parts.End.{End}
+use Rattle.acl_rows.specs.declared.rule_parts.End.TheVariants.{Source, Destination}
 use Rattle.junos_lang.specs.declared.conditions.Condition.{Condition}
 use Rattle.junos_lang.specs.declared.conditions.Condition.TheVariants.{Protocol, NextHeader, SourcePort, DestinationPort, IcmpType}
 use Rattle.junos_lang.specs.Documents.{family_word, IsDocument}

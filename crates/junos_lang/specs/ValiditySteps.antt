@@ -6,10 +6,10 @@ use Rattle.std.specs.Str.{bytes_eq}
 use Rattle.acl_packet.specs.declared.addresses.Family.{Family}
 use Rattle.acl_packet.specs.declared.addresses.Family.TheVariants.{V4, V6}
 use Rattle.acl_text.specs.Names.{is_name, is_filter_name, is_safe_text}
-use Rattle.acl_grammar.specs.ApartSteps.{are_apart}
-use Rattle.acl_grammar.specs.PortRangeSteps.{is_port_range}
-use Rattle.acl_grammar.specs.PrefixCheckSteps.{is_addresses}
-use Rattle.acl_grammar.specs.RuleParts.{is_empty}
+use Rattle.acl_rows.specs.ApartSteps.{are_apart}
+use Rattle.acl_rows.specs.PortRangeSteps.{is_port_range}
+use Rattle.acl_rows.specs.PrefixCheckSteps.{is_addresses}
+use Rattle.acl_rows.specs.RuleParts.{is_empty}
 use Rattle.junos_lang.specs.declared.documents.Section.{Section}
 use Rattle.junos_lang.specs.declared.documents.JTerm.{JTerm}
 use Rattle.junos_lang.specs.Documents.{family_word, parts_fit, term_names}

@@ -10,8 +10,8 @@ use Rattle.acl_packet.specs.declared.filtering.Verdict.TheVariants.{Deny}
 use Rattle.acl_packet.specs.Addresses.{same_family}
 use Rattle.acl_packet.specs.Outcomes.{unlogged}
 use Rattle.acl_packet.specs.Packets.{has_flag}
-use Rattle.acl_grammar.specs.Documents.{outcome_at}
-use Rattle.acl_grammar.specs.RuleParts.{addresses_hold, ports_hold, set_holds}
+use Rattle.acl_rows.specs.Documents.{outcome_at}
+use Rattle.acl_rows.specs.RuleParts.{addresses_hold, ports_hold, set_holds}
 use Rattle.junos_lang.specs.declared.documents.Section.{Section}
 use Rattle.junos_lang.specs.declared.documents.JTerm.{JTerm}
 use Rattle.junos_lang.specs.declared.documents.JTest.{JTest}

@@ -1,13 +1,13 @@
 ghost use Rattle.std.specs.Prelude.{◌≡◌, ◌∷◌, [], codes};
-ghost use Rattle.acl_grammar.specs.Rows.{row};
-ghost use Rattle.acl_grammar.specs.RuleParts.{is_empty};
+ghost use Rattle.acl_rows.specs.Rows.{row};
+ghost use Rattle.acl_rows.specs.RuleParts.{is_empty};
 ghost use Rattle.junos_lang.specs.ConditionSteps.{value_rows};
 ghost use Rattle.junos_lang.specs.Texts.{address_rows, closing, condition_word, end_word, from_rows, list_row, list_rows, prefix_row, range_word, test_rows, test_words};
 
 use crate::conditions::Condition;
 use crate::documents::JTest;
-use crate::filter_rows::{Closing, Line, put_word};
-use acl_grammar::{Each, EachWord, End, Form, Piece, Row, Rows, Word, WordForm, Words};
+use crate::filter_rows::{Closing, FixedLine, put_word};
+use acl_rows::{Each, EachWord, End, RowForm, Piece, Row, Rows, OneWord, WordForm, Words};
 use acl_packet::{Family, Prefix};
 use acl_text::{Out, PutFault};
 
@@ -72,7 +72,7 @@ impl<'a, N: Values + Copy, P: Values + Copy> Rows for FromPart<'a, N, P> {
         let test = TestRows { test: self.test };
         let ports = (source_ports, (destination_ports, (types, test)));
         let conditions = (sources, (destinations, (protocols, ports)));
-        Block { conditions }.put_rows(out)
+        ConditionBlock { conditions }.put_rows(out)
     }
 }
 
@@ -90,11 +90,11 @@ impl<A: Conditions, B: Conditions> Conditions for (A, B) {
 
 // Conditions in a block, or nothing where there are none.
 #[derive(Drop)]
-struct Block<C> {
+struct ConditionBlock<C> {
     conditions: C,
 }
 
-impl<C: Conditions + Copy> Rows for Block<C> {
+impl<C: Conditions + Copy> Rows for ConditionBlock<C> {
     ghost rows = { λ b. from_rows (C.rows b.conditions) };
 
     fn put_rows<O: Out>(&self, out: &mut O) -> Result<(), PutFault> {
@@ -114,7 +114,7 @@ impl Rows for FromHead {
     ghost rows = { λ h. row 16 (codes "from" ∷ codes "{" ∷ []) ∷ [] };
 
     fn put_rows<O: Out>(&self, out: &mut O) -> Result<(), PutFault> {
-        let line = Line {
+        let line = FixedLine {
             indent: 16,
             first: b"from",
             rest: &[b"{"],
@@ -150,7 +150,7 @@ impl<'a> Rows for AddressRows<'a> {
         if self.prefixes.is_empty() {
             return Ok(());
         }
-        let head = Line {
+        let head = FixedLine {
             indent: 20,
             first: end_word(self.end),
             rest: &[b"{"],
@@ -183,7 +183,7 @@ fn end_word(end: End) -> &'static [u8]
 #[derive(Drop)]
 struct InBlock;
 
-impl Form<Prefix> for InBlock {
+impl RowForm<Prefix> for InBlock {
     ghost item_rows = { λ f p. prefix_row p ∷ [] };
 
     fn put_item<O: Out>(&self, prefix: &Prefix, out: &mut O) -> Result<(), PutFault> {
@@ -239,10 +239,10 @@ impl<W: Words + Copy> Rows for ListRow<W> {
 
     #[tactic(auto, unfolding(crate::specs::Texts::list_row))]
     fn put_rows<O: Out>(&self, out: &mut O) -> Result<(), PutFault> {
-        let open = Word {
+        let open = OneWord {
             piece: b"[".as_slice(),
         };
-        let close = Word {
+        let close = OneWord {
             piece: b"];".as_slice(),
         };
         let row = Row {
@@ -268,16 +268,16 @@ fn condition_word(condition: Condition) -> &'static [u8]
 
 /// Ports from a low one to a high one: the one port where the two are the same.
 #[derive(Clone, Copy)]
-pub struct PortRange {
+pub struct PortSpan {
     pub low: u128,
     pub high: u128,
 }
 
-impl Piece for PortRange {
+impl Piece for PortSpan {
     ghost text = { λ r. range_word (r.low, r.high) };
 
     fn put_into<O: Out>(&self, out: &mut O) -> Result<(), PutFault> {
-        let range = acl_grammar::PortRange {
+        let range = acl_rows::PortRange {
             low: self.low,
             high: self.high,
             separator: b'-',
@@ -324,7 +324,7 @@ impl Rows for TestRow {
             JTest::Established => put_word(b"tcp-established;", out),
             JTest::Initial => put_word(b"tcp-initial;", out),
             JTest::Rst => {
-                let line = Line {
+                let line = FixedLine {
                     indent: 20,
                     first: b"tcp-flags",
                     rest: &[b"\"rst\";"],

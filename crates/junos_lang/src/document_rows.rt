@@ -4,7 +4,7 @@ ghost use Rattle.junos_lang.specs.Texts.{condition_rows, from_rows, note_rows, r
 use crate::condition_rows::FromPart;
 use crate::documents::{JTerm, Section};
 use crate::filter_rows::{NoteRow, SectionEnd, SectionHead, TermEnd, TermHead, ThenRows};
-use acl_grammar::{Each, EachWord, Form, Number, Piece, RangeWords, Rows, WordForm};
+use acl_rows::{Each, EachWord, RowForm, Number, Piece, RangeWords, Rows, WordForm};
 use acl_packet::Family;
 use acl_text::{Bytes, Out, PutFault};
 
@@ -33,7 +33,7 @@ struct OfFamily {
     family: Family,
 }
 
-impl Form<JTerm> for OfFamily {
+impl RowForm<JTerm> for OfFamily {
     ghost item_rows = { λ f t. term_rows f.family t };
 
     #[tactic(auto, unfolding(crate::specs::Texts::term_rows))]

@@ -1,23 +1,23 @@
 ghost use Rattle.std.specs.Prelude.{◌≡◌, ◌∷◌, [], codes, IsTrue};
 ghost use Rattle.acl_text.specs.Cuts.{views};
 ghost use Rattle.acl_text.specs.Puts.{Puts};
-ghost use Rattle.acl_grammar.specs.Rows.{row, text_of_rows};
+ghost use Rattle.acl_rows.specs.Rows.{row, text_of_rows};
 ghost use Rattle.junos_lang.specs.Documents.{family_word};
 ghost use Rattle.junos_lang.specs.Texts.{closing, end_rows, head_rows, note_row, syslog_rows, term_row, then_rows, verdict_words};
 
-use acl_grammar::{FreeText, Row, Rows, Word};
+use acl_rows::{FreeText, Row, Rows, OneWord};
 use acl_packet::{Family, Verdict};
 use acl_text::{Out, PutFault};
 
 /// A line of words that are as they are.
 #[derive(Drop)]
-pub(crate) struct Line<'a> {
+pub(crate) struct FixedLine<'a> {
     pub(crate) indent: usize,
     pub(crate) first: &'a [u8],
     pub(crate) rest: &'a [&'a [u8]],
 }
 
-impl<'a> Rows for Line<'a> {
+impl<'a> Rows for FixedLine<'a> {
     ghost rows = { λ l. row l.indent (l.first.now ∷ views l.rest.now) ∷ [] };
 
     fn put_rows<O: Out>(&self, out: &mut O) -> Result<(), PutFault> {
@@ -40,7 +40,7 @@ impl Rows for Closing {
     ghost rows = { λ c. closing c.indent ∷ [] };
 
     fn put_rows<O: Out>(&self, out: &mut O) -> Result<(), PutFault> {
-        let line = Line {
+        let line = FixedLine {
             indent: self.indent,
             first: b"}",
             rest: &[],
@@ -72,22 +72,22 @@ fn put_head<'a, O: Out>(family: &'a [u8], name: &'a [u8], out: &mut O) -> Result
     requires { IsTrue (O.is_open out.old) }
     ensures { Puts O.Out out.old out.new (text_of_rows (head_rows family.now name.now)) result }
 {
-    let comment = Line {
+    let comment = FixedLine {
         indent: 0,
         first: b"/*",
         rest: &[b"juniper", name, family, b"*/"],
     };
-    let firewall = Line {
+    let firewall = FixedLine {
         indent: 0,
         first: b"firewall",
         rest: &[b"{"],
     };
-    let of_family = Line {
+    let of_family = FixedLine {
         indent: 4,
         first: b"family",
         rest: &[family, b"{"],
     };
-    let filter = Line {
+    let filter = FixedLine {
         indent: 8,
         first: b"replace:",
         rest: &[b"filter", name, b"{"],
@@ -119,7 +119,7 @@ impl<'a> Rows for NoteRow<'a> {
 
     #[tactic(auto, unfolding(crate::specs::Texts::note_row))]
     fn put_rows<O: Out>(&self, out: &mut O) -> Result<(), PutFault> {
-        let end = Word {
+        let end = OneWord {
             piece: b"*/".as_slice(),
         };
         let row = Row {
@@ -141,7 +141,7 @@ impl<'a> Rows for TermHead<'a> {
     ghost rows = { λ h. term_row h.name.now ∷ [] };
 
     fn put_rows<O: Out>(&self, out: &mut O) -> Result<(), PutFault> {
-        let line = Line {
+        let line = FixedLine {
             indent: 12,
             first: b"term",
             rest: &[self.name, b"{"],
@@ -167,7 +167,7 @@ pub(crate) fn put_word<O: Out>(word: &[u8], out: &mut O) -> Result<(), PutFault>
     requires { IsTrue (O.is_open out.old) }
     ensures { Puts O.Out out.old out.new (text_of_rows (row 20 (word.now ∷ []) ∷ [])) result }
 {
-    let line = Line {
+    let line = FixedLine {
         indent: 20,
         first: word,
         rest: &[],
@@ -187,7 +187,7 @@ impl Rows for ThenRows {
 
     #[tactic(auto, unfolding(crate::specs::Texts::then_rows))]
     fn put_rows<O: Out>(&self, out: &mut O) -> Result<(), PutFault> {
-        let head = Line {
+        let head = FixedLine {
             indent: 16,
             first: b"then",
             rest: &[b"{"],
@@ -233,7 +233,7 @@ impl Rows for VerdictRow {
             Verdict::Deny | Verdict::Left => put_word(b"discard;", out),
             Verdict::Reject => put_word(b"reject;", out),
             Verdict::Reset => {
-                let line = Line {
+                let line = FixedLine {
                     indent: 20,
                     first: b"reject",
                     rest: &[b"tcp-reset;"],

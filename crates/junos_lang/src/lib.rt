@@ -12,8 +12,8 @@ mod junos;
 mod validity;
 mod walking;
 
-pub use acl_grammar::{outcome, read_document, sections};
-pub use condition_rows::{FromPart, PortRange, Values};
+pub use acl_rows::{outcome, read_document, sections};
+pub use condition_rows::{FromPart, PortSpan, Values};
 pub use documents::{Doc, JTerm, JTest, Section};
 pub use filter_rows::{NoteRow, SectionEnd, SectionHead, TermEnd, TermHead, ThenRows};
 pub use junos::Junos;

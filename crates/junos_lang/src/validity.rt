@@ -1,13 +1,13 @@
 ghost use Rattle.std.specs.Prelude.{◌≡◌, ◌==◌, ◌||◌, IfOk, map, nat_le, nat_lt};
 ghost use Rattle.std.specs.List.{list_all};
 ghost use Rattle.std.specs.Str.{bytes_eq};
-ghost use Rattle.acl_grammar.specs.ApartSteps.{are_apart};
-ghost use Rattle.acl_grammar.specs.PrefixCheckSteps.{is_addresses};
+ghost use Rattle.acl_rows.specs.ApartSteps.{are_apart};
+ghost use Rattle.acl_rows.specs.PrefixCheckSteps.{is_addresses};
 ghost use Rattle.junos_lang.specs.Documents.{are_tcp_or_udp, is_alone, name_of, parts_fit, ports_fit, test_fits, types_fit, verdict_fits};
 ghost use Rattle.junos_lang.specs.ValiditySteps.{are_addresses, are_named, are_numbers, are_ports, filter_name, is_note, is_section, is_term};
 
 use crate::documents::{JTerm, Section};
-use acl_grammar::{Named, are_distinct, are_port_ranges, have_distinct_names, is_addresses};
+use acl_rows::{Named, are_distinct, are_port_ranges, have_distinct_names, is_addresses};
 use acl_packet::{Family, Prefix, Verdict};
 use acl_text::{Bytes, Memory, is_filter_name, is_name, is_safe_text};
 use std::alloc::Global;

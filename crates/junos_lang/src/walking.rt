@@ -3,7 +3,7 @@ ghost use Rattle.std.specs.List.{list_any};
 ghost use Rattle.junos_lang.specs.Walks.{decided_by, headers_hold, number_holds, term_holds, test_holds, walk};
 
 use crate::documents::{JTerm, JTest};
-use acl_grammar::{ACK, RST, SYN, admit_addresses, admit_ports};
+use acl_rows::{ACK, RST, SYN, admit_addresses, admit_ports};
 use acl_packet::{Outcome, Packet, Verdict, has_flag};
 
 #[tactic(auto, unfolding(crate::specs::Walks::walk))]

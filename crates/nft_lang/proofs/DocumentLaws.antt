@@ -17,17 +17,17 @@ use Rattle.acl_text.specs.Cuts.{has_byte}
 use Rattle.acl_text.specs.SignedNumbers.{negative, below_zero_in, from_zero_in, signed_in}
 use Rattle.acl_text.proofs.CutLaws.{behind-again}
 use Rattle.acl_text.proofs.DigitLaws.{decimal-lacks}
-use Rattle.acl_grammar.specs.Rows.{Row}
-use Rattle.acl_grammar.specs.RowSteps.{row_in, document_in}
-use Rattle.acl_grammar.proofs.RowLaws.{fold-again, fold-members}
-use Rattle.acl_grammar.specs.FamilyWords.{families_in}
+use Rattle.acl_rows.specs.Rows.{Row}
+use Rattle.acl_rows.specs.RowSteps.{row_in, document_in}
+use Rattle.acl_rows.proofs.RowLaws.{fold-again, fold-members}
+use Rattle.acl_rows.specs.FamilyWords.{families_in}
 use Rattle.nft_lang.specs.declared.documents.Section.{Section}
 use Rattle.nft_lang.specs.declared.documents.Item.{Item}
 use Rattle.nft_lang.specs.declared.documents.Item.TheVariants.{Remark, Rule as ARule}
 use Rattle.nft_lang.specs.declared.tables_drafts.TablesDraft.{TablesDraft}
 use Rattle.nft_lang.specs.Documents.{IsItem, IsSection, fits_i32, table_name}
 use Rattle.nft_lang.specs.Texts.{hook_word, families_word, default_word, priority_word, rule_words, item_rows, head_rows, end_rows, section_rows, text_of}
-use Rattle.acl_grammar.specs.RowSteps.{few_in}
+use Rattle.acl_rows.specs.RowSteps.{few_in}
 use Rattle.nft_lang.specs.ReadingSteps.{no_section, no_draft, hook_in, table_in, priority_in, rule_in, item_in, with_item, take_four, take_outer, take_chain, take_inner, take_row}
 use Rattle.nft_lang.proofs.RuleReadingLaws.{rule_again, up_to_there}
 use Rattle.nft_lang.proofs.SafeRows.{plain_word, BeginsRule, rule_begins, signed_lacks, sections_safe}

@@ -9,9 +9,9 @@ use Rattle.std.proofs.lemmas.List.Folds.{list_all-map}
 use Rattle.std.proofs.lemmas.Nat.{pow_pos}
 use Rattle.acl_packet.specs.declared.addresses.Prefix.{Prefix}
 use Rattle.acl_packet.specs.Addresses.{has_address, size_of, width_of}
-use Rattle.acl_grammar.specs.ApartSteps.{are_apart, are_rising, TellsApart}
-use Rattle.acl_grammar.specs.PortRangeSteps.{is_port_range}
-use Rattle.acl_grammar.proofs.ApartLaws.{apart_like, sorted_tells}
+use Rattle.acl_rows.specs.ApartSteps.{are_apart, are_rising, TellsApart}
+use Rattle.acl_rows.specs.PortRangeSteps.{is_port_range}
+use Rattle.acl_rows.proofs.ApartLaws.{apart_like, sorted_tells}
 use Rattle.nft_lang.specs.Documents.{prefixes_overlap, ports_overlap}
 use Rattle.nft_lang.specs.ValiditySteps.{prefix_below, ports_below}
 

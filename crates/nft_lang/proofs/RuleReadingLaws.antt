@@ -24,13 +24,13 @@ use Rattle.acl_text.proofs.AddressLaws.{spelled-again, prefix-lacks}
 use Rattle.acl_text.proofs.CutLaws.{cut-again, cut-none}
 use Rattle.acl_text.proofs.DigitLaws.{decimal-lacks}
 use Rattle.acl_text.proofs.Printed.{IsForeign}
-use Rattle.acl_grammar.specs.PortRanges.{IsPortRange}
-use Rattle.acl_grammar.proofs.PortRangeLaws.{range-again, range-lacks}
-use Rattle.acl_grammar.specs.RuleParts.{IsAddresses, log_words}
+use Rattle.acl_rows.specs.PortRanges.{IsPortRange}
+use Rattle.acl_rows.proofs.PortRangeLaws.{range-again, range-lacks}
+use Rattle.acl_rows.specs.RuleParts.{IsAddresses, log_words}
 use Rattle.nft_lang.specs.declared.documents.Rule.{Rule}
 use Rattle.nft_lang.specs.declared.documents.Flags.{Flags}
 use Rattle.nft_lang.specs.declared.documents.Flags.TheVariants.{Rst, SynNotAck}
-use Rattle.acl_grammar.specs.declared.rule_parts.End.TheVariants.{Source, Destination}
+use Rattle.acl_rows.specs.declared.rule_parts.End.TheVariants.{Source, Destination}
 use Rattle.nft_lang.specs.declared.rule_drafts.Next.{Next}
 use Rattle.nft_lang.specs.declared.rule_drafts.Next.TheVariants.{Keyword, Addresses, Ports, Types}
 use Rattle.nft_lang.specs.declared.rule_drafts.RuleDraft.{RuleDraft}

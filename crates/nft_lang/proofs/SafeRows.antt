@@ -18,14 +18,14 @@ use Rattle.acl_text.specs.AddressTexts.{prefix_text}
 use Rattle.acl_text.specs.Cuts.{has_byte}
 use Rattle.acl_text.proofs.ListLaws.{all_append}
 use Rattle.acl_text.proofs.DigitLaws.{decimal-lacks}
-use Rattle.acl_grammar.specs.PortRanges.{IsPortRange}
-use Rattle.acl_grammar.specs.Rows.{row, text_of_rows}
-use Rattle.acl_grammar.specs.RowSteps.{begins, IsRow, IsWord, AreWords, AreRows}
-use Rattle.acl_grammar.proofs.ListLaws.{all_flat, all_map}
-use Rattle.acl_grammar.proofs.PortRangeLaws.{range_word}
-use Rattle.acl_grammar.proofs.RowLaws.{spaced_row}
-use Rattle.acl_grammar.proofs.WordLaws.{word, decimal_word, prefix_word, text_words, joined_word, both_words, either_word, log_safe}
-use Rattle.acl_grammar.specs.RuleParts.{IsAddresses, log_words}
+use Rattle.acl_rows.specs.PortRanges.{IsPortRange}
+use Rattle.acl_rows.specs.Rows.{row, text_of_rows}
+use Rattle.acl_rows.specs.RowSteps.{begins, IsRow, IsWord, AreWords, AreRows}
+use Rattle.acl_rows.proofs.ListLaws.{all_flat, all_map}
+use Rattle.acl_rows.proofs.PortRangeLaws.{range_word}
+use Rattle.acl_rows.proofs.RowLaws.{spaced_row}
+use Rattle.acl_rows.proofs.WordLaws.{word, decimal_word, prefix_word, text_words, joined_word, both_words, either_word, log_safe}
+use Rattle.acl_rows.specs.RuleParts.{IsAddresses, log_words}
 use Rattle.nft_lang.specs.declared.documents.Section.{Section}
 use Rattle.nft_lang.specs.declared.documents.Item.{Item}
 use Rattle.nft_lang.specs.declared.documents.Item.TheVariants.{Remark, Rule as ARule}

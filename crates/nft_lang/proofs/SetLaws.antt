@@ -1,7 +1,7 @@
 -- Sets as words: what is put of them, and the words that are theirs.
 use Rattle.std.proofs.Common.{◌≡◌, ℕ, ◌-◌, ◌<◌, ◌≤◌, List, [], ◌∷◌, ◌++◌, length, take, drop, get_or, map, flat_map, codes, refl, ap, sym, ◌∙◌, append_assoc, arith}
 use Rattle.std.proofs.Math.Seq.{take-length}
-use Rattle.acl_grammar.specs.Rows.{spaced}
+use Rattle.acl_rows.specs.Rows.{spaced}
 use Rattle.nft_lang.specs.Texts.{with_commas}
 
 abbrev behind_comma : {A : Type 0} → (A → List ℕ) → A → List ℕ

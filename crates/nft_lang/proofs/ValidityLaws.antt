@@ -12,14 +12,14 @@ use Rattle.std.proofs.lemmas.List.{append_cancel_left}
 use Rattle.std.proofs.lemmas.Slice.Eq.{bytes_eq-Decides}
 use Rattle.acl_packet.specs.declared.addresses.Families.{Families}
 use Rattle.acl_packet.specs.Addresses.{covers}
-use Rattle.acl_grammar.specs.ApartSteps.{are_apart}
-use Rattle.acl_grammar.specs.PortRangeSteps.{is_port_range}
-use Rattle.acl_grammar.specs.PortRanges.{IsPortRange}
-use Rattle.acl_grammar.specs.PrefixCheckSteps.{is_addresses}
-use Rattle.acl_grammar.specs.RuleParts.{IsAddresses, number_fits}
-use Rattle.acl_grammar.proofs.ApartLaws.{Apart, apart_decides, apart_like}
-use Rattle.acl_grammar.proofs.DecisionLaws.{addresses_decide, le_decides, number_decides, all_decides}
-use Rattle.acl_grammar.proofs.PortRangeLaws.{range_decides}
+use Rattle.acl_rows.specs.ApartSteps.{are_apart}
+use Rattle.acl_rows.specs.PortRangeSteps.{is_port_range}
+use Rattle.acl_rows.specs.PortRanges.{IsPortRange}
+use Rattle.acl_rows.specs.PrefixCheckSteps.{is_addresses}
+use Rattle.acl_rows.specs.RuleParts.{IsAddresses, number_fits}
+use Rattle.acl_rows.proofs.ApartLaws.{Apart, apart_decides, apart_like}
+use Rattle.acl_rows.proofs.DecisionLaws.{addresses_decide, le_decides, number_decides, all_decides}
+use Rattle.acl_rows.proofs.PortRangeLaws.{range_decides}
 use Rattle.nft_lang.specs.declared.documents.Section.{Section}
 use Rattle.nft_lang.specs.declared.documents.Item.{Item}
 use Rattle.nft_lang.specs.declared.documents.Item.TheVariants.{Remark, Rule as ARule}

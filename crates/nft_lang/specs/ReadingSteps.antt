@@ -17,16 +17,16 @@ use Rattle.acl_text.specs.AddressTexts.{spelled_prefix_in}
 use Rattle.acl_text.specs.Cuts.{behind, cut_at}
 use Rattle.acl_text.specs.PortRanges.{ports_in}
 use Rattle.acl_text.specs.SignedNumbers.{signed_in}
-use Rattle.acl_grammar.specs.RowSteps.{begins_with, few_in}
-use Rattle.acl_grammar.specs.Rows.{Row}
-use Rattle.acl_grammar.specs.FamilyWords.{families_in}
+use Rattle.acl_rows.specs.RowSteps.{begins_with, few_in}
+use Rattle.acl_rows.specs.Rows.{Row}
+use Rattle.acl_rows.specs.FamilyWords.{families_in}
 use Rattle.nft_lang.specs.declared.documents.Section.{Section}
 use Rattle.nft_lang.specs.declared.documents.Item.{Item}
 use Rattle.nft_lang.specs.declared.documents.Item.TheVariants.{Remark, Rule as ARule}
 use Rattle.nft_lang.specs.declared.documents.Rule.{Rule}
 use Rattle.nft_lang.specs.declared.documents.Flags.TheVariants.{Rst, SynNotAck}
-use Rattle.acl_grammar.specs.declared.rule_parts.End.{End}
-use Rattle.acl_grammar.specs.declared.rule_parts.End.TheVariants.{Source, Destination}
+use Rattle.acl_rows.specs.declared.rule_parts.End.{End}
+use Rattle.acl_rows.specs.declared.rule_parts.End.TheVariants.{Source, Destination}
 use Rattle.nft_lang.specs.declared.rule_drafts.Next.{Next}
 use Rattle.nft_lang.specs.declared.rule_drafts.Next.TheVariants.{Keyword, PacketFamily, Protocol, Addresses, Ports, Types}
 use Rattle.nft_lang.specs.declared.rule_drafts.RuleDraft.{RuleDraft}

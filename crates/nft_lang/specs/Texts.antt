@@ -13,10 +13,10 @@ use Rattle.acl_packet.specs.declared.filtering.Hook.TheVariants.{Input, Output, 
 use Rattle.acl_packet.specs.declared.filtering.Verdict.{Verdict}
 use Rattle.acl_packet.specs.declared.filtering.Verdict.TheVariants.{Accept, Deny, Reject, Reset, Left}
 use Rattle.acl_text.specs.AddressTexts.{prefix_text}
-use Rattle.acl_grammar.specs.Documents.{IsSpelling}
-use Rattle.acl_grammar.specs.PortRanges.{range_text}
-use Rattle.acl_grammar.specs.Rows.{Row, row, words_in, text_of_rows}
-use Rattle.acl_grammar.specs.RuleParts.{log_words}
+use Rattle.acl_rows.specs.Documents.{IsSpelling}
+use Rattle.acl_rows.specs.PortRanges.{range_text}
+use Rattle.acl_rows.specs.Rows.{Row, row, words_in, text_of_rows}
+use Rattle.acl_rows.specs.RuleParts.{log_words}
 use Rattle.nft_lang.specs.declared.documents.Section.{Section}
 use Rattle.nft_lang.specs.declared.documents.Item.{Item}
 use Rattle.nft_lang.specs.declared.documents.Item.TheVariants.{Remark, Rule as ARule}

@@ -6,10 +6,10 @@ use Rattle.acl_packet.specs.declared.addresses.Families.{Families}
 use Rattle.acl_packet.specs.declared.addresses.Prefix.{Prefix}
 use Rattle.acl_packet.specs.Addresses.{covers, has_address}
 use Rattle.acl_text.specs.Names.{is_safe_text}
-use Rattle.acl_grammar.specs.ApartSteps.{are_apart}
-use Rattle.acl_grammar.specs.PortRangeSteps.{is_port_range}
-use Rattle.acl_grammar.specs.PrefixCheckSteps.{is_addresses}
-use Rattle.acl_grammar.specs.RuleParts.{number_fits}
+use Rattle.acl_rows.specs.ApartSteps.{are_apart}
+use Rattle.acl_rows.specs.PortRangeSteps.{is_port_range}
+use Rattle.acl_rows.specs.PrefixCheckSteps.{is_addresses}
+use Rattle.acl_rows.specs.RuleParts.{number_fits}
 use Rattle.nft_lang.specs.declared.documents.Section.{Section}
 use Rattle.nft_lang.specs.declared.documents.Item.{Item}
 use Rattle.nft_lang.specs.declared.documents.Item.TheVariants.{Remark, Rule as ARule}

@@ -1,6 +1,6 @@
 ghost use Rattle.std.specs.Prelude.{◌≡◌, ◌∷◌, [], IsTrue, codes};
 ghost use Rattle.acl_text.specs.Puts.{Puts};
-ghost use Rattle.acl_grammar.specs.Rows.{row, text_of_rows, words_in};
+ghost use Rattle.acl_rows.specs.Rows.{row, text_of_rows, words_in};
 ghost use Rattle.nft_lang.specs.declared.documents.Item.TheVariants.{Rule as ARule};
 ghost use Rattle.nft_lang.specs.RuleRowSteps.{rule_of_row};
 ghost use Rattle.nft_lang.specs.Texts.{address_word, end_rows, families_word, head_rows, hook_word, icmp_word, addresses_words, ports_words, table_rows, target_row, table_row, start_row, chain_rows, types_words, item_rows, default_word, port_word, priority_word, rule_words, section_rows, table_word};
@@ -8,10 +8,10 @@ ghost use Rattle.nft_lang.specs.Documents.{table_name};
 
 use crate::documents::{Flags, Item, Rule, Section};
 use crate::rule_words::{
-    Ending, FlagTest, PacketFamily, Protocol, address_word, icmp_word, port_word,
+    RuleEnding, FlagTest, PacketFamily, Protocol, address_word, icmp_word, port_word,
 };
 use crate::sets::{ElementSet, PrefixWord, TypeWord};
-use acl_grammar::{Each, Form, FreeText, Number, Piece, RangeWords, Row, Rows, Word, Words};
+use acl_rows::{Each, RowForm, FreeText, Number, Piece, RangeWords, Row, Rows, OneWord, Words};
 use acl_packet::{Families, Family, Hook, Prefix, Verdict};
 use acl_text::{Out, PutFault};
 use itoa::Buffer;
@@ -59,7 +59,7 @@ impl<'a> Rows for RuleRow<'a> {
             itypes: self.itypes,
         };
         let test = FlagTest { flags: self.flags };
-        let ending = Ending {
+        let ending = RuleEnding {
             state: self.state,
             log: self.log,
             verdict: self.verdict,
@@ -202,7 +202,7 @@ impl<'a> Rows for TableRow<'a> {
 
     fn put_rows<O: Out>(&self, out: &mut O) -> Result<(), PutFault> {
         let table: &[&[u8]] = &[b"table", table_word(self.families)];
-        let name = Word {
+        let name = OneWord {
             piece: TableName {
                 number: self.number,
             },
@@ -226,15 +226,15 @@ impl Rows for TableStart {
     ghost rows = { λ t. start_row t.families t.number ∷ [] };
 
     fn put_rows<O: Out>(&self, out: &mut O) -> Result<(), PutFault> {
-        let family = Word {
+        let family = OneWord {
             piece: table_word(self.families),
         };
-        let name = Word {
+        let name = OneWord {
             piece: TableName {
                 number: self.number,
             },
         };
-        let brace = Word {
+        let brace = OneWord {
             piece: b"{".as_slice(),
         };
         let row = Row {
@@ -261,7 +261,7 @@ impl Rows for ChainHead {
         let opening: &[&[u8]] = &[hook, b"{"];
         let kind: &[&[u8]] = &[b"filter", b"hook", hook, b"priority"];
         let policy: &[&[u8]] = &[b"policy", default_word(self.accept)];
-        let priority = Word {
+        let priority = OneWord {
             piece: Priority {
                 priority: self.priority,
             },
@@ -450,7 +450,7 @@ struct OfFamilies {
     families: Families,
 }
 
-impl Form<Item> for OfFamilies {
+impl RowForm<Item> for OfFamilies {
     ghost item_rows = { λ f i. item_rows f.families i };
 
     #[tactic(auto, unfolding(crate::specs::Texts::item_rows))]

@@ -13,11 +13,11 @@ mod tables_drafts;
 mod validity;
 mod walking;
 
-pub use acl_grammar::{outcome, read_document, sections};
+pub use acl_rows::{outcome, read_document, sections};
 pub use chain_rows::{CommentRow, RuleRow, SectionEnd, TableHead};
 pub use documents::{Doc, Flags, Item, Rule, Section};
 pub use nftables::Nftables;
 pub use rule_words::{
-    Ending, FlagTest, PacketFamily, Protocol, address_word, icmp_word, port_word,
+    RuleEnding, FlagTest, PacketFamily, Protocol, address_word, icmp_word, port_word,
 };
 pub use sets::{ElementSet, PrefixWord};

@@ -1,7 +1,7 @@
 ghost use Rattle.std.specs.Prelude.{◌≡◌, ◌≤◌, ℕ, Bool, true, IfOk, map};
 ghost use Rattle.std.specs.List.{list_all};
-ghost use Rattle.acl_grammar.specs.ApartSteps.{are_apart, are_rising, is_below_first, TellsApart};
-ghost use Rattle.acl_grammar.specs.PortRangeSteps.{is_port_range};
+ghost use Rattle.acl_rows.specs.ApartSteps.{are_apart, are_rising, is_below_first, TellsApart};
+ghost use Rattle.acl_rows.specs.PortRangeSteps.{is_port_range};
 ghost use Rattle.nft_lang.specs.Documents.{ports_overlap, prefixes_overlap};
 ghost use Rattle.nft_lang.specs.ValiditySteps.{ports_below, prefix_below};
 
@@ -97,7 +97,7 @@ fn references<'a, T>(alloc: Global, elements: &'a [T]) -> Result<Vec<&'a T>, Mem
 }
 
 // Whether each element is below the next one.
-#[tactic(auto, unfolding(acl_grammar::specs::ApartSteps::are_rising))]
+#[tactic(auto, unfolding(acl_rows::specs::ApartSteps::are_rising))]
 fn are_rising<T: Element>(elements: &[&T]) -> bool
     ensures { result ≡ are_rising (λ x y. T.below x.now y.now) elements.now }
 {

@@ -2,7 +2,7 @@ ghost use Rattle.std.specs.Prelude.{◌≡◌};
 ghost use Rattle.nft_lang.specs.Texts.{address_word, ending_words, family_word, family_words, flags_words, icmp_word, port_word, proto_words, state_words, verdict_words};
 
 use crate::documents::Flags;
-use acl_grammar::{LogWord, Number, Word, Words, put_words};
+use acl_rows::{LogWord, Number, OneWord, Words, put_words};
 use acl_packet::{Families, Family, Verdict};
 use acl_text::{Out, PutFault};
 
@@ -21,7 +21,7 @@ impl Words for PacketFamily {
         match self.families {
             Families::Mixed => {
                 let key: &[&[u8]] = &[b"meta", b"nfproto"];
-                let family = Word {
+                let family = OneWord {
                     piece: family_word(self.family),
                 };
                 (key, family).put_spaced(out)
@@ -56,7 +56,7 @@ impl Words for Protocol {
             Some(number) => {
                 let key: &[&[u8]] = &[b"meta", b"l4proto"];
                 let number = u128::from(number);
-                let number = Word {
+                let number = OneWord {
                     piece: Number { number },
                 };
                 (key, number).put_spaced(out)
@@ -123,20 +123,20 @@ impl Words for FlagTest {
 
 /// The words that end a rule: whether known connections are asked for, the log, and the verdict.
 #[derive(Drop)]
-pub struct Ending {
+pub struct RuleEnding {
     pub state: bool,
     pub log: bool,
     pub verdict: Verdict,
 }
 
-impl Words for Ending {
+impl Words for RuleEnding {
     ghost words = { λ e. ending_words e.state e.log e.verdict };
 
     #[tactic(auto, unfolding(crate::specs::Texts::ending_words))]
     fn put_spaced<O: Out>(&self, out: &mut O) -> Result<(), PutFault> {
-        let state = State { state: self.state };
+        let state = StateWords { state: self.state };
         let log = LogWord { log: self.log };
-        let decision = Decision {
+        let decision = VerdictWords {
             verdict: self.verdict,
         };
         (state, (log, decision)).put_spaced(out)
@@ -144,11 +144,11 @@ impl Words for Ending {
 }
 
 #[derive(Drop)]
-struct State {
+struct StateWords {
     state: bool,
 }
 
-impl Words for State {
+impl Words for StateWords {
     ghost words = { λ s. state_words s.state };
 
     #[tactic(auto, unfolding(crate::specs::Texts::state_words))]
@@ -165,11 +165,11 @@ impl Words for State {
 }
 
 #[derive(Drop)]
-struct Decision {
+struct VerdictWords {
     verdict: Verdict,
 }
 
-impl Words for Decision {
+impl Words for VerdictWords {
     ghost words = { λ d. verdict_words d.verdict };
 
     #[tactic(auto, unfolding(crate::specs::Texts::verdict_words))]

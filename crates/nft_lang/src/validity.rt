@@ -1,13 +1,13 @@
 ghost use Rattle.std.specs.Prelude.{◌≡◌, ◌&&◌, ◌^◌, IfOk, map, nat_le, nat_lt};
 ghost use Rattle.std.specs.List.{list_all};
-ghost use Rattle.acl_grammar.specs.PrefixCheckSteps.{is_addresses};
-ghost use Rattle.acl_grammar.specs.RuleParts.{has_port_proto, is_empty, is_proto};
+ghost use Rattle.acl_rows.specs.PrefixCheckSteps.{is_addresses};
+ghost use Rattle.acl_rows.specs.RuleParts.{has_port_proto, is_empty, is_proto};
 ghost use Rattle.nft_lang.specs.Documents.{fits_i32, flags_fit, parts_fit, ports_fit, types_fit, verdict_fits};
 ghost use Rattle.nft_lang.specs.ValiditySteps.{are_addresses, are_ports, are_types, has_addresses, has_ports, has_sets, is_item, is_rule, is_section};
 
 use crate::documents::{Item, Rule, Section};
 use crate::overlaps::are_apart;
-use acl_grammar::{
+use acl_rows::{
     are_distinct, are_port_ranges, has_port_proto, is_addresses, is_empty, is_proto, number_fits,
 };
 use acl_packet::{Families, Family, Prefix, Verdict};
@@ -97,7 +97,7 @@ fn has_ports(alloc: Global, rule: &Rule) -> Result<bool, Memory>
     Ok(are_ports(alloc, rule.sports.as_slice())? && are_ports(alloc, rule.dports.as_slice())?)
 }
 
-#[tactic(auto, using(acl_grammar::proofs::ApartLaws::all_true))]
+#[tactic(auto, using(acl_rows::proofs::ApartLaws::all_true))]
 fn are_addresses(alloc: Global, family: Family, prefixes: &[Prefix]) -> Result<bool, Memory>
     ensures { IfOk result (λ b. b ≡ are_addresses family prefixes.now) }
 {

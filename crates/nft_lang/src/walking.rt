@@ -1,10 +1,10 @@
 ghost use Rattle.std.specs.Prelude.{◌≡◌, ◌==◌};
 ghost use Rattle.std.specs.List.{list_any};
-ghost use Rattle.acl_grammar.specs.RuleParts.{number_holds, set_holds, state_holds};
+ghost use Rattle.acl_rows.specs.RuleParts.{number_holds, set_holds, state_holds};
 ghost use Rattle.nft_lang.specs.Walks.{flags_hold, protocol_holds, tests_hold, rule_holds, policy_verdict, decided_by, first_holding, walk};
 
 use crate::documents::{Flags, Item, Rule};
-use acl_grammar::{
+use acl_rows::{
     ACK, RST, SYN, admit_addresses, admit_ports, is_empty, number_holds, state_holds,
 };
 use acl_packet::{Outcome, Packet, Verdict, has_flag};

@@ -14,7 +14,7 @@ use Rattle.acl_target.specs.declared.targets.Target.{Target}
 use Rattle.acl_target.specs.Clashes.{clash, same_kind}
 use Rattle.acl_policy.specs.declared.blocks.Block.{Block}
 use Rattle.acl_policy.specs.ReadingParts.{Header, InHeader, HeaderEnd, TermEnd}
-use Rattle.acl_policy.specs.ReadingParts.{State}
+use Rattle.acl_policy.specs.ReadingParts.{PolicyState}
 use Rattle.acl_policy.specs.declared.values.Takes.TheVariants as takes
 use Rattle.acl_policy.specs.Conditions.{Each, StandsBehind, NameIsNew, targets_of, terms_of}
 use Rattle.acl_policy.specs.Policies.{start, with_number, with_target, behind_target, behind_header_keyword, behind_word, behind_keyword, behind_begin, behind_end, values_of, last_place, end_of, policy_of}
@@ -63,7 +63,7 @@ number_given earlier place n l h =
 fewer : (n : ℕ) → n < 64 → nat_le 64 n ≡ false
 fewer n h = grind (arith, nat_tests)
 
-target_read : (s : State) (k : Token) (t : TargetText) → k.place ≡ t.place → StandsBehind s.earlier (target_meant t)
+target_read : (s : PolicyState) (k : Token) (t : TargetText) → k.place ≡ t.place → StandsBehind s.earlier (target_meant t)
     → length s.earlier < 64
     → behind_target s k (line_named k.place t.line) ≡ Ok (with_target s (target_meant t))
 unfolding behind_target
@@ -77,14 +77,14 @@ target_read s k t e h room = subst (λ p. (if list_any (λ x. clash x (line_mean
     ∙ ap (λ x. Ok (with_target s x))
     (number_given s.earlier t.place t.number t.line (number_same t.place t.number t.line ∙ h.number_is)))
 
-abbrev pub with_targets : State → List Target → State
+abbrev pub with_targets : PolicyState → List Target → PolicyState
 with_targets s ts = record s { earlier = s.earlier ++ ts; targets = s.targets ++ ts }
 
-remark_read : (s : State) (k : Token) (first : Token) (more : List Token) → list_all (is_value takes.String) (first ∷ more) ≡ true
+remark_read : (s : PolicyState) (k : Token) (first : Token) (more : List Token) → list_all (is_value takes.String) (first ∷ more) ≡ true
     → (some_values takes.String k (first ∷ more) >>= λ _. Ok s) ≡ Ok s
 remark_read s k first more h = ap (λ r. r >>= λ _. Ok s) (all_read takes.String (first ∷ more) h)
 
-header_item_read : (s : State) (i : HeaderItem) (more : List Target) (rest : List Token) → s.part ≡ InHeader → HeaderItemStands i
+header_item_read : (s : PolicyState) (i : HeaderItem) (more : List Target) (rest : List Token) → s.part ≡ InHeader → HeaderItemStands i
     → Each StandsBehind s.earlier (header_item_targets i ++ more) → length s.earlier + length (header_item_targets i) ≤ 64
     → values_of rest ≡ []
     → walk s (header_item_words i ++ rest) ≡ walk (with_targets s (header_item_targets i)) rest
@@ -115,7 +115,7 @@ each_behind R before [] ys h = subst (λ b. Each R b ys) (sym (append-nil before
 each_behind R before (x ∷ xs) ys h =
     subst (λ b. Each R b ys) (append_assoc before (x ∷ []) xs) (each_behind R (before ++ x ∷ []) xs ys h.1)
 
-header_read : (s : State) (items : List HeaderItem) (more : List Target) (rest : List Token) → s.part ≡ InHeader
+header_read : (s : PolicyState) (items : List HeaderItem) (more : List Target) (rest : List Token) → s.part ≡ InHeader
     → AllByRecursion HeaderItemStands items
     → Each StandsBehind s.earlier (flat_map header_item_targets items ++ more)
     → length s.earlier + length (flat_map header_item_targets items) ≤ 64 → values_of rest ≡ []
@@ -135,7 +135,7 @@ header_read s (i ∷ is) more rest p h each room e =
     ∙ (λ j. walk (record s { earlier = append_assoc s.earlier ts us j; targets = append_assoc s.targets ts us j }) rest)
 
 -- The reader behind `header`, and behind the last term of a block.
-abbrev pub at_header : List Block → List Target → ℕ → State
+abbrev pub at_header : List Block → List Target → ℕ → PolicyState
 at_header blocks earlier count = record {
   blocks = blocks;
   earlier = earlier;
@@ -146,7 +146,7 @@ at_header blocks earlier count = record {
   draft = no_draft;
 }
 
-abbrev pub at_block_end : List Block → List Target → Block → ℕ → State
+abbrev pub at_block_end : List Block → List Target → Block → ℕ → PolicyState
 at_block_end blocks earlier b count = record {
   blocks = blocks;
   earlier = earlier;
@@ -166,15 +166,15 @@ block_rest b =
 some_targets : (n : ℕ) → 0 < n → (n == 0) ≡ false
 some_targets n h = grind (arith, nat_tests)
 
-header_ended : (s : State) (m : Token) → 0 < length s.targets → behind_end InHeader s m ≡ Ok (record s { part = HeaderEnd })
+header_ended : (s : PolicyState) (m : Token) → 0 < length s.targets → behind_end InHeader s m ≡ Ok (record s { part = HeaderEnd })
 unfolding behind_end
 header_ended s m h = if_false (length s.targets == 0) _ _ (some_targets (length s.targets) h)
 
-terms_may_stand : (s : State) → TermMayStand (record s { part = HeaderEnd })
+terms_may_stand : (s : PolicyState) → TermMayStand (record s { part = HeaderEnd })
 unfolding behind_word
 terms_may_stand s place = refl
 
-block_terms_read : (s : State) (ts : List TermText) (rest : List Token) → 0 < length ts → TermMayStand s
+block_terms_read : (s : PolicyState) (ts : List TermText) (rest : List Token) → 0 < length ts → TermMayStand s
     → AllByRecursion TermStands ts
     → Each NameIsNew s.terms (map term_meant ts) → s.term_count + length ts ≤ 1024
     → walk s (flat_map term_words ts ++ rest) ≡ walk (behind_terms s ts) rest
@@ -191,8 +191,8 @@ block_read blocks earlier more count b rest h each room few =
     let end : Token = word b.end forms.End (codes "}") in
     let items : List Token = flat_map header_item_words b.items in
     let terms : List Token = flat_map term_words b.terms in
-    let s : State = record (at_header blocks earlier count) { part = InHeader } in
-    let inside : State = with_targets s (block_meant b).targets in
+    let s : PolicyState = record (at_header blocks earlier count) { part = InHeader } in
+    let inside : PolicyState = with_targets s (block_meant b).targets in
     walk_begin (at_header blocks earlier count) b.begin (codes "{") (((items ++ end ∷ []) ++ terms) ++ rest)
     ∙ ap (walk s) (append_assoc (items ++ end ∷ []) terms rest ∙ append_assoc items (end ∷ []) (terms ++ rest))
     ∙ header_read s b.items more (end ∷ terms ++ rest) refl h.items_stand each room refl
@@ -220,7 +220,7 @@ blocks_read blocks earlier count b (c ∷ cs) place h each room few =
     let more : List Target = targets_of (blocks_meant (c ∷ cs)) in
     let counts : count + length b.terms + length (terms_of (blocks_meant (c ∷ cs))) ≤ 1024 =
     omega (arith, few, length-append (map term_meant b.terms) (terms_of (blocks_meant (c ∷ cs))), length-map b.terms term_meant) in
-    let end : State = at_block_end blocks (earlier ++ ts) (block_meant b) (count + length b.terms) in
+    let end : PolicyState = at_block_end blocks (earlier ++ ts) (block_meant b) (count + length b.terms) in
     ap (λ r. r >>= λ t. end_of t.part t place)
     (block_read blocks earlier more count b (text_words (c ∷ cs)) h.0 each (omega (arith, room, length-append ts more))
     (omega (arith, counts))

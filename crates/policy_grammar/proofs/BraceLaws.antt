@@ -8,7 +8,7 @@ use Rattle.acl_words.specs.declared.forms.Form.{Form}
 use Rattle.acl_words.specs.declared.forms.Form.TheVariants as forms
 use Rattle.acl_words.specs.Tokens.{Token}
 use Rattle.acl_words.specs.Bytes.{in_run, first_bad, ends_in_colon}
-use Rattle.acl_words.specs.Words.{word, part_word, last_part, split_run, Mode, Between, Comment, Run, String, brace, mode_behind, words_at, words_in, mode_in, line_words, line_mode, words_at_end, words_from, words_of}
+use Rattle.acl_words.specs.Words.{word, part_word, last_part, split_run, OpenPart, Between, Comment, Run, String, brace, mode_behind, words_at, words_in, mode_in, line_words, line_mode, words_at_end, words_from, words_of}
 use Rattle.policy_grammar.specs.ReadingLaws.{IsBraceText}
 
 abbrev All : List Token → Type 0
@@ -62,25 +62,25 @@ brace_are place b = either (b == 123) _ _
     (λ c. (record { begin_is = λ e. cc; end_is = λ _. ap (λ x. x ∷ []) (eqb-true b 125 c) }, tt))
     (λ _. tt))
 
-words_are : (m : Mode) (place : Place) (b : ℕ) → All (words_at m place b)
+words_are : (m : OpenPart) (place : Place) (b : ℕ) → All (words_at m place b)
 words_are Between place b = brace_are place b
 words_are Comment place b = tt
 words_are (Run from text) place b = either (in_run b) _ _ (λ _. tt)
     (λ _. both (split_run from [] text) (brace place b) (run_are from [] text) (brace_are place b))
 words_are (String from text) place b = either (b == 34) _ _ (λ _. (quoted_are from text, tt)) (λ _. tt)
 
-words_in_are : (place : Place) (m : Mode) (bs : List ℕ) → All (words_in place m bs)
+words_in_are : (place : Place) (m : OpenPart) (bs : List ℕ) → All (words_in place m bs)
 words_in_are place m [] = tt
 words_in_are place m (b ∷ bs) = both (words_at m place b) (words_in place (mode_behind m place b) bs)
     (words_are m place b) (words_in_are place (mode_behind m place b) bs)
 
-end_are : (m : Mode) → All (words_at_end m)
+end_are : (m : OpenPart) → All (words_at_end m)
 end_are Between = tt
 end_are Comment = tt
 end_are (Run from text) = run_are from [] text
 end_are (String from text) = (unclosed_are from (34 ∷ []), tt)
 
-from_are : (m : Mode) (ls : List Line) → All (words_from m ls)
+from_are : (m : OpenPart) (ls : List Line) → All (words_from m ls)
 from_are m [] = end_are m
 from_are m (l ∷ ls) = both (line_words l m) (words_from (line_mode l m) ls)
     (both (words_in l.place m l.text) (words_at (mode_in l.place m l.text) l.place 10)

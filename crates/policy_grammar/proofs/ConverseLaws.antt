@@ -23,9 +23,9 @@ use Rattle.acl_policy.specs.declared.raw_terms.RawTerm.{RawTerm}
 use Rattle.acl_words.specs.declared.word_lists.Word.{Word}
 use Rattle.acl_policy.specs.ReadingParts.{Part}
 use Rattle.acl_policy.specs.ReadingParts.{Start, Header, InHeader, HeaderEnd, Term, Named, InTerm, TermEnd}
-use Rattle.acl_policy.specs.ReadingParts.{State}
+use Rattle.acl_policy.specs.ReadingParts.{PolicyState}
 use Rattle.acl_policy.specs.ReadingParts.{NamedTarget}
-use Rattle.acl_policy.specs.ReadingParts.{Draft}
+use Rattle.acl_policy.specs.ReadingParts.{TermDraft}
 use Rattle.acl_policy.specs.declared.values.Takes.TheVariants as takes
 use Rattle.acl_policy.specs.Conditions.{Each, StandsBehind, NameIsNew, targets_of, terms_of}
 use Rattle.acl_policy.specs.Policies.{start, with_number, with_target, behind_target, behind_header_keyword, behind_name, with_block, behind_word, behind_words, behind_keyword, behind_begin, behind_end, behind_mark, is_mark, values_of, behind_marks, behind_all, last_place, end_of, policy_of}
@@ -59,7 +59,7 @@ is_term_name w h =
 fewer_terms : (n : ℕ) → nat_le 1024 n ≡ false → n + 1 ≤ 1024
 fewer_terms n h = grind (arith, nat_tests)
 
-same_block : (s t : State) (b : BlockText) → t.targets ≡ s.targets → t.terms ≡ s.terms → BlockOpen s b → BlockOpen t b
+same_block : (s t : PolicyState) (b : BlockText) → t.targets ≡ s.targets → t.terms ≡ s.terms → BlockOpen s b → BlockOpen t b
 same_block s t b e f o = record {
   items_stand = o.items_stand;
   targets_are = e ∙ o.targets_are;
@@ -69,7 +69,7 @@ same_block s t b e f o = record {
   names_differ = o.names_differ;
 }
 
-name_reads : (s : State) (ws : List Token) (w : Token) → ReadsAt Term s ws → IfOk (behind_name s w) (Reads (ws ++ w ∷ []))
+name_reads : (s : PolicyState) (ws : List Token) (w : Token) → ReadsAt Term s ws → IfOk (behind_name s w) (Reads (ws ++ w ∷ []))
 unfolding behind_name
 name_reads s ws w h = if_ok (Reads (ws ++ w ∷ [])) (not (is_value takes.Name w)) _ _ (λ _. tt)
     (λ n. if_ok (Reads (ws ++ w ∷ [])) (list_any (λ (t : RawTerm). bytes_eq t.name.text w.text) s.terms) _ _ (λ _. tt)
@@ -101,7 +101,7 @@ name_reads s ws w h = if_ok (Reads (ws ++ w ∷ [])) (not (is_value takes.Name w
     })))
 
 -- The block that ends.
-ended_block : (s : State) (b : BlockText) → BlockOpen s b → 0 < length b.terms → BlockStands b
+ended_block : (s : PolicyState) (b : BlockText) → BlockOpen s b → 0 < length b.terms → BlockStands b
 ended_block s b o some = record {
   items_stand = o.items_stand;
   some_target = subst (λ (xs : List Target). 0 < length xs) o.targets_are o.some_target;
@@ -110,7 +110,7 @@ ended_block s b o some = record {
   names_differ = o.names_differ;
 }
 
-ended_blocks : (s : State) (bs : List BlockText) (b : BlockText) → BlocksKept s bs → BlockOpen s b
+ended_blocks : (s : PolicyState) (bs : List BlockText) (b : BlockText) → BlocksKept s bs → BlockOpen s b
     → s.blocks ++ record { targets = s.targets; terms = s.terms } ∷ [] ≡ blocks_meant (bs ++ b ∷ [])
 ended_blocks s bs b k o =
     (λ i. k.blocks_are i ++ record { targets = o.targets_are i; terms = o.terms_are i } ∷ [])
@@ -132,7 +132,7 @@ terms_more bs b =
 words_more : (bs : List BlockText) (b : BlockText) → text_words (bs ++ b ∷ []) ≡ text_words bs ++ block_words b
 words_more bs b = flat_push block_words bs b
 
-block_kept : (s : State) (bs : List BlockText) (b : BlockText) → BlocksKept s bs → BlockOpen s b → 0 < length b.terms
+block_kept : (s : PolicyState) (bs : List BlockText) (b : BlockText) → BlocksKept s bs → BlockOpen s b → 0 < length b.terms
     → BlocksKept (record (with_block s) { part = Header }) (bs ++ b ∷ [])
 block_kept s bs b k o some = record {
   blocks_are = ended_blocks s bs b k o;
@@ -147,7 +147,7 @@ block_kept s bs b k o some = record {
   few_terms = k.few_terms;
 }
 
-same_kept : (s t : State) (bs : List BlockText) → t.blocks ≡ s.blocks → t.earlier ≡ s.earlier → t.targets ≡ s.targets
+same_kept : (s t : PolicyState) (bs : List BlockText) → t.blocks ≡ s.blocks → t.earlier ≡ s.earlier → t.targets ≡ s.targets
     → t.term_count ≡ s.term_count
     → BlocksKept s bs → BlocksKept t bs
 same_kept s t bs a b c d k = record {
@@ -159,7 +159,7 @@ same_kept s t bs a b c d k = record {
   few_terms = subst (λ n. n ≤ 1024) (sym d) k.few_terms;
 }
 
-term_word_reads : (p : Part) (s : State) (ws : List Token) (w : Token) (h : ReadsAt p s ws) (b : BlockText) → open_terms p ≡ 0
+term_word_reads : (p : Part) (s : PolicyState) (ws : List Token) (w : Token) (h : ReadsAt p s ws) (b : BlockText) → open_terms p ≡ 0
     → BlockOpen s b → ws ≡ text_words h.blocks ++ block_words b → is_word w (codes "term") ≡ true
     → Reads (ws ++ w ∷ []) (record s { part = Term })
 term_word_reads p s ws w h b e o words c = record {
@@ -174,7 +174,7 @@ term_word_reads p s ws w h b e o words c = record {
   };
 }
 
-word_reads : (p : Part) (s : State) (ws : List Token) (w : Token) → ReadsAt p s ws → IfOk (behind_word p s w) (Reads (ws ++ w ∷ []))
+word_reads : (p : Part) (s : PolicyState) (ws : List Token) (w : Token) → ReadsAt p s ws → IfOk (behind_word p s w) (Reads (ws ++ w ∷ []))
 unfolding behind_word
 word_reads Start s ws w h = if_ok (Reads (ws ++ w ∷ [])) (is_word w (codes "header")) _ _
     (λ c. record {
@@ -221,7 +221,7 @@ word_reads TermEnd s ws w h = if_ok (Reads (ws ++ w ∷ [])) (is_word w (codes "
     (λ _. tt))
 word_reads _ s ws w h = tt
 
-words_read : (s : State) (before ws : List Token) → Reads before s → IfOk (behind_words s ws) (Reads (before ++ ws))
+words_read : (s : PolicyState) (before ws : List Token) → Reads before s → IfOk (behind_words s ws) (Reads (before ++ ws))
 words_read s before [] h = subst (λ xs. Reads xs s) (sym (append-nil before)) h
 words_read s before (w ∷ ws) h =
     bind_ok (Reads (before ++ w ∷ [])) (Reads (before ++ w ∷ ws)) (behind_word s.part s w) (λ t. behind_words t ws)
@@ -239,7 +239,7 @@ bytes_are a b h = (bytes_eq-Decides a b).0 h
 fewer : (n : ℕ) → nat_le 64 n ≡ false → n + 1 ≤ 64
 fewer n h = grind (arith, nat_tests)
 
-item_more : (s : State) (ws : List Token) (h : ReadsAt InHeader s ws) (i : HeaderItem) (k : Token) (vs : List Token)
+item_more : (s : PolicyState) (ws : List Token) (h : ReadsAt InHeader s ws) (i : HeaderItem) (k : Token) (vs : List Token)
     → k ∷ vs ≡ header_item_words i
     → ws ++ k ∷ vs ≡ text_words h.blocks ++
     (plain h.is_open.place (codes "header") ∷ word h.is_open.begin forms.Begin (codes "{") ∷ flat_map header_item_words
@@ -250,7 +250,7 @@ item_more s ws h i k vs e =
     ∙ append_assoc (text_words h.blocks) (front ++ flat_map header_item_words h.is_open.items) (header_item_words i)
     ∙ ap (λ xs. text_words h.blocks ++ xs) (sym (flat_step header_item_words h.is_open.items i front))
 
-remark_reads : (s : State) (ws : List Token) (k : Token) (vs : List Token) → s.part ≡ InHeader → ReadsAt InHeader s ws
+remark_reads : (s : PolicyState) (ws : List Token) (k : Token) (vs : List Token) → s.part ≡ InHeader → ReadsAt InHeader s ws
     → k.form ≡ forms.Keyword
     → k.text ≡ codes "comment::" → IfOk (some_values takes.String k vs >>= λ _. Ok s) (Reads (ws ++ k ∷ vs))
 remark_reads s ws k vs p h f t =
@@ -285,7 +285,7 @@ stands_behind earlier place l n c m = record {
 abbrev count_of : List Target → Kind → ℕ
 count_of earlier kind = count_by (λ (e : Target). same_kind e.kind kind) earlier + 1
 
-target_reads : (s : State) (ws : List Token) (k : Token) (vs : List Token) → s.part ≡ InHeader → ReadsAt InHeader s ws
+target_reads : (s : PolicyState) (ws : List Token) (k : Token) (vs : List Token) → s.part ≡ InHeader → ReadsAt InHeader s ws
     → k.form ≡ forms.Keyword
     → k.text ≡ codes "target::" → IfOk (target_line k vs >>= λ n. behind_target s k n) (Reads (ws ++ k ∷ vs))
 unfolding behind_target
@@ -347,7 +347,7 @@ target_reads s ws k vs p h f t =
         t_text : k.text ≡ codes "target::"
         t_text = t
 
-header_keyword_reads : (s : State) (ws : List Token) (k : Token) (vs : List Token) → s.part ≡ InHeader → ReadsAt InHeader s ws
+header_keyword_reads : (s : PolicyState) (ws : List Token) (k : Token) (vs : List Token) → s.part ≡ InHeader → ReadsAt InHeader s ws
     → k.form ≡ forms.Keyword
     → IfOk (behind_header_keyword s k vs) (Reads (ws ++ k ∷ vs))
 unfolding behind_header_keyword
@@ -357,7 +357,7 @@ header_keyword_reads s ws k vs p h f = if_ok (Reads (ws ++ k ∷ vs)) (bytes_eq 
     (λ c. target_reads s ws k vs p h f (bytes_are k.text (codes "target::") c)) (λ _. tt))
 
 -- A keyword of a term.
-record ItemRead (name : Word) (items : List Item) (k : Token) (vs : List Token) (d : Draft) : Type 0 where
+record ItemRead (name : Word) (items : List Item) (k : Token) (vs : List Token) (d : TermDraft) : Type 0 where
   pub item : Item
   pub stands : ItemStands items item
   pub words_are : k ∷ vs ≡ item_words item
@@ -367,7 +367,7 @@ item_of : (name : Word) (items : List Item) (k : Token) (vs : List Token) → Da
     → IfOk (draft_behind (draft_from name (values_at items)) k vs) (ItemRead name items k vs)
 item_of name items k vs days f = by_key (draft_behind d k vs) refl (keyword_known d k vs)
   where
-    d : Draft
+    d : TermDraft
     d = draft_from name (values_at items)
 
     keyed : (key : Keyword) → k.text ≡ (entry key).text → IfOk (draft_behind d k vs) (ItemRead name items k vs)
@@ -383,12 +383,12 @@ item_of name items k vs days f = by_key (draft_behind d k vs) refl (keyword_know
               ∙ ap (draft_from name) (values_push items i);
         }))
 
-    by_key : (r : Result Draft Slip) → draft_behind d k vs ≡ r → IfOk r (λ _. (key : Keyword) × (k.text ≡ (entry key).text))
+    by_key : (r : Result TermDraft Slip) → draft_behind d k vs ≡ r → IfOk r (λ _. (key : Keyword) × (k.text ≡ (entry key).text))
         → IfOk (draft_behind d k vs) (ItemRead name items k vs)
     by_key (Ok x) e h = keyed h.0 h.1
     by_key (Err x) e h = subst (λ r. IfOk r (ItemRead name items k vs)) (sym e) tt
 
-item_reads_on : (s : State) (ws : List Token) (k : Token) (vs : List Token) → s.part ≡ InTerm → ReadsAt InTerm s ws
+item_reads_on : (s : PolicyState) (ws : List Token) (k : Token) (vs : List Token) → s.part ≡ InTerm → ReadsAt InTerm s ws
     → k.form ≡ forms.Keyword
     → IfOk (draft_behind s.draft k vs >>= λ d. Ok (record s { draft = d })) (Reads (ws ++ k ∷ vs))
 item_reads_on s ws k vs p h f =
@@ -398,7 +398,7 @@ item_reads_on s ws k vs p h f =
     (item_of h.is_open.name h.is_open.items k vs h.is_open.days_fit f))
     (λ d r. subst (λ q. ReadsAt q (record s { draft = d }) (ws ++ k ∷ vs)) (sym p) (taken d r))
   where
-    taken : (d : Draft) → ItemRead h.is_open.name h.is_open.items k vs d → ReadsAt InTerm (record s { draft = d }) (ws ++ k ∷ vs)
+    taken : (d : TermDraft) → ItemRead h.is_open.name h.is_open.items k vs d → ReadsAt InTerm (record s { draft = d }) (ws ++ k ∷ vs)
     taken d r =
         let o : AtItems s h.blocks ws = h.is_open in
         let front : List Token = plain o.place (codes "term") ∷ plain o.name.place o.name.text ∷ word o.begin forms.Begin
@@ -427,7 +427,7 @@ item_reads_on s ws k vs p h f =
           };
         }
 
-keyword_reads : (p : Part) (s : State) (ws : List Token) (k : Token) (vs : List Token) → s.part ≡ p → ReadsAt p s ws
+keyword_reads : (p : Part) (s : PolicyState) (ws : List Token) (k : Token) (vs : List Token) → s.part ≡ p → ReadsAt p s ws
     → k.form ≡ forms.Keyword
     → IfOk (behind_keyword p s k vs) (Reads (ws ++ k ∷ vs))
 unfolding behind_keyword
@@ -436,7 +436,7 @@ keyword_reads InTerm s ws k vs e h f = item_reads_on s ws k vs e h f
 keyword_reads _ s ws k vs e h f = tt
 
 -- Braces.
-begin_reads : (p : Part) (s : State) (ws : List Token) (m : Token) → ReadsAt p s ws → m ≡ word m.place forms.Begin (codes "{")
+begin_reads : (p : Part) (s : PolicyState) (ws : List Token) (m : Token) → ReadsAt p s ws → m ≡ word m.place forms.Begin (codes "{")
     → IfOk (behind_begin p s m) (Reads (ws ++ m ∷ []))
 unfolding behind_begin
 begin_reads Header s ws m h e = record {
@@ -484,7 +484,7 @@ begin_reads _ s ws m h e = tt
 some_is : (n : ℕ) → (n == 0) ≡ false → 0 < n
 some_is n h = grind (arith, nat_tests)
 
-header_closes : (s : State) (ws : List Token) (m : Token) → ReadsAt InHeader s ws → m ≡ word m.place forms.End (codes "}")
+header_closes : (s : PolicyState) (ws : List Token) (m : Token) → ReadsAt InHeader s ws → m ≡ word m.place forms.End (codes "}")
     → (length s.targets == 0) ≡ false
     → Reads (ws ++ m ∷ []) (record s { part = HeaderEnd })
 header_closes s ws m h e c =
@@ -513,7 +513,7 @@ header_closes s ws m h e c =
       };
     }
 
-term_closes : (s : State) (ws : List Token) (m : Token) → ReadsAt InTerm s ws → m ≡ word m.place forms.End (codes "}")
+term_closes : (s : PolicyState) (ws : List Token) (m : Token) → ReadsAt InTerm s ws → m ≡ word m.place forms.End (codes "}")
     → s.draft.has_action ≡ true
     → Reads (ws ++ m ∷ []) (record s { terms = s.terms ++ s.draft.term ∷ []; draft = no_draft; part = TermEnd })
 term_closes s ws m h e acted =
@@ -524,8 +524,8 @@ term_closes s ws m h e acted =
     let front : List Token = plain o.place (codes "term") ∷ plain o.name.place o.name.text ∷ word o.begin forms.Begin
     (codes "{") ∷ [] in
     let outer : List Token = text_words h.blocks ++ block_words b in
-    let next : State = record s { terms = s.terms ++ s.draft.term ∷ []; draft = no_draft; part = TermEnd } in
-    let term_is : s.draft.term ≡ term_meant t = ap (λ (d : Draft). d.term) o.draft_is in
+    let next : PolicyState = record s { terms = s.terms ++ s.draft.term ∷ []; draft = no_draft; part = TermEnd } in
+    let term_is : s.draft.term ≡ term_meant t = ap (λ (d : TermDraft). d.term) o.draft_is in
     let more : map term_meant (b.terms ++ t ∷ []) ≡ map term_meant b.terms ++ term_meant t ∷ [] = map_push term_meant b.terms t in
     let new : NameIsNew (map term_meant b.terms) (term_meant t) =
     subst (λ xs. NameIsNew xs (term_meant t)) o.is_open.terms_are o.name_is_new in
@@ -543,7 +543,7 @@ term_closes s ws m h e acted =
           terms_stand = all_push TermStands b.terms t o.is_open.terms_stand (record {
             name_is = o.name_is;
             items_stand = o.items_stand;
-            has_action = ap (λ (d : Draft). d.has_action) (sym o.draft_is) ∙ acted;
+            has_action = ap (λ (d : TermDraft). d.has_action) (sym o.draft_is) ∙ acted;
           });
           names_differ = subst (Each NameIsNew []) (sym more)
               (each_push NameIsNew [] (map term_meant b.terms) (term_meant t) o.is_open.names_differ new);
@@ -557,7 +557,7 @@ term_closes s ws m h e acted =
       };
     }
 
-end_reads : (p : Part) (s : State) (ws : List Token) (m : Token) → ReadsAt p s ws → m ≡ word m.place forms.End (codes "}")
+end_reads : (p : Part) (s : PolicyState) (ws : List Token) (m : Token) → ReadsAt p s ws → m ≡ word m.place forms.End (codes "}")
     → IfOk (behind_end p s m) (Reads (ws ++ m ∷ []))
 unfolding behind_end
 end_reads InHeader s ws m h e = if_ok (Reads (ws ++ m ∷ [])) (length s.targets == 0) _ _ (λ _. tt) (λ c. header_closes s ws m h e c)
@@ -565,12 +565,12 @@ end_reads InTerm s ws m h e = if_ok (Reads (ws ++ m ∷ [])) s.draft.has_action 
 end_reads _ s ws m h e = tt
 
 -- A keyword or a brace, and the words behind it.
-brace_reads : (ws : List Token) (m : Token) (vs : List Token) (r : Result State Slip) → IfOk r (Reads (ws ++ m ∷ []))
+brace_reads : (ws : List Token) (m : Token) (vs : List Token) (r : Result PolicyState Slip) → IfOk r (Reads (ws ++ m ∷ []))
     → IfOk (r >>= λ t. behind_words t vs) (Reads (ws ++ m ∷ vs))
 brace_reads ws m vs r h = bind_ok (Reads (ws ++ m ∷ [])) (Reads (ws ++ m ∷ vs)) r (λ t. behind_words t vs) h
     (λ t g. subst (λ xs. IfOk (behind_words t vs) (Reads xs)) (append_assoc ws (m ∷ []) vs) (words_read t (ws ++ m ∷ []) vs g))
 
-mark_reads : (f : Form) (s : State) (ws : List Token) (m : Token) (vs : List Token) → Reads ws s → m.form ≡ f → is_mark f ≡ true
+mark_reads : (f : Form) (s : PolicyState) (ws : List Token) (m : Token) (vs : List Token) → Reads ws s → m.form ≡ f → is_mark f ≡ true
     → IsBraceText m
     → IfOk (behind_mark f s m vs) (Reads (ws ++ m ∷ vs))
 unfolding behind_mark
@@ -596,13 +596,13 @@ cut_words (w ∷ ws) = by_mark (is_mark w.form) (cut_words ws)
     by_mark true e = refl
     by_mark false e = ap (λ xs. w ∷ xs) e
 
-marks_read : (s : State) (before ws : List Token) → Reads before s → AllByRecursion IsBraceText ws
+marks_read : (s : PolicyState) (before ws : List Token) → Reads before s → AllByRecursion IsBraceText ws
     → IfOk (behind_marks s ws) (Reads (before ++ from_mark ws))
 marks_read s before [] h b = subst (λ xs. Reads xs s) (sym (append-nil before)) h
 marks_read s before (w ∷ ws) h b = by_mark (is_mark w.form) refl (λ t ts g. marks_read t ts ws g b.1)
   where
     by_mark : (c : Bool) → is_mark w.form ≡ c
-        → ((t : State) (ts : List Token) → Reads ts t → IfOk (behind_marks t ws) (Reads (ts ++ from_mark ws)))
+        → ((t : PolicyState) (ts : List Token) → Reads ts t → IfOk (behind_marks t ws) (Reads (ts ++ from_mark ws)))
         → IfOk (if c then (behind_mark w.form s w (values_of ws) >>= λ t. behind_marks t ws) else behind_marks s ws)
         (Reads (before ++ (if c then w ∷ ws else from_mark ws)))
     by_mark true e go = bind_ok (Reads (before ++ w ∷ values_of ws)) (Reads (before ++ w ∷ ws))
@@ -618,7 +618,7 @@ all_read_words ws b = bind_ok (Reads (values_of ws)) (Reads ws) (behind_words st
     (words_read start [] (values_of ws) start_reads)
     (λ s g. subst (λ xs. IfOk (behind_marks s ws) (Reads xs)) (cut_words ws) (marks_read s (values_of ws) ws g b))
 
-ended_text : (s : State) (ws : List Token) → ReadsAt TermEnd s ws → HasText ws (record { blocks = (with_block s).blocks })
+ended_text : (s : PolicyState) (ws : List Token) → ReadsAt TermEnd s ws → HasText ws (record { blocks = (with_block s).blocks })
 ended_text s ws h =
     let o : AtTermEnd s h.blocks ws = h.is_open in
     let k : BlocksKept (record (with_block s) { part = Header }) (h.blocks ++ o.block ∷ []) =
@@ -645,7 +645,7 @@ ended_text s ws h =
       means = ap (λ xs. record { blocks = xs }) (ended_blocks s h.blocks o.block h.kept o.is_open);
     }
 
-end_has_text : (p : Part) (s : State) (ws : List Token) (place : Place) → ReadsAt p s ws → IfOk (end_of p s place) (HasText ws)
+end_has_text : (p : Part) (s : PolicyState) (ws : List Token) (place : Place) → ReadsAt p s ws → IfOk (end_of p s place) (HasText ws)
 unfolding end_of
 end_has_text TermEnd s ws place h = ended_text s ws h
 end_has_text _ s ws place h = tt

@@ -7,7 +7,7 @@ use Rattle.acl_text.specs.declared.faults.Place.{Place}
 use Rattle.acl_text.specs.declared.file_lines.Line.{Line}
 use Rattle.acl_text.proofs.ListLaws.{all_append}
 use Rattle.acl_lines.specs.LineTexts.{HasNoFeed}
-use Rattle.acl_words.specs.Words.{Mode, Between, line_mode, line_words, mode_behind, mode_in, words_at, words_from, words_in, words_of}
+use Rattle.acl_words.specs.Words.{OpenPart, Between, line_mode, line_words, mode_behind, mode_in, words_at, words_from, words_in, words_of}
 
 -- The text before the first feed, and the texts behind the feeds.
 abbrev first_part : List ℕ → List ℕ
@@ -31,21 +31,21 @@ split_lines (l ∷ ls) = split_line l ++ split_lines ls
 -- ---- words
 
 -- The first byte of a line, before the rest of the line.
-line_goes_on : (place : Place) (b : ℕ) (text : List ℕ) (m : Mode) (ls : List Line)
+line_goes_on : (place : Place) (b : ℕ) (text : List ℕ) (m : OpenPart) (ls : List Line)
     → words_from m (line_at place (b ∷ text) ∷ ls)
     ≡ words_at m place b ++ words_from (mode_behind m place b) (line_at place text ∷ ls)
 line_goes_on place b text m ls =
-    let n : Mode = mode_behind m place b in
+    let n : OpenPart = mode_behind m place b in
     let at_end = words_at (mode_in place n text) place 10 in
     let behind = words_from (mode_behind (mode_in place n text) place 10) ls in
     ap (λ ws. ws ++ behind) (append_assoc (words_at m place b) (words_in place n text) at_end)
     ∙ append_assoc (words_at m place b) (words_in place n text ++ at_end) behind
 
-parts_words : (place : Place) (text : List ℕ) (m : Mode) (ls : List Line)
+parts_words : (place : Place) (text : List ℕ) (m : OpenPart) (ls : List Line)
     → words_from m (split_line (line_at place text) ++ ls) ≡ words_from m (line_at place text ∷ ls)
 parts_words place [] m ls = refl
 parts_words place (b ∷ bs) m ls = by (λ n. parts_words place bs n ls) (b == 10) refl where
-  by : ((n : Mode) → words_from n (split_line (line_at place bs) ++ ls) ≡ words_from n (line_at place bs ∷ ls))
+  by : ((n : OpenPart) → words_from n (split_line (line_at place bs) ++ ls) ≡ words_from n (line_at place bs ∷ ls))
       → (c : Bool) → (b == 10) ≡ c
       → words_from m (map (line_at place) ((if c then [] else b ∷ first_part bs)
       ∷ (if c then first_part bs ∷ later_parts bs else later_parts bs)) ++ ls)
@@ -60,7 +60,7 @@ parts_words place (b ∷ bs) m ls = by (λ n. parts_words place bs n ls) (b == 1
       ∙ ap (λ ws. words_at m place b ++ ws) (rest (mode_behind m place b))
       ∙ sym (line_goes_on place b bs m ls)
 
-split_words : (m : Mode) (ls : List Line) → words_from m (split_lines ls) ≡ words_from m ls
+split_words : (m : OpenPart) (ls : List Line) → words_from m (split_lines ls) ≡ words_from m ls
 split_words m [] = refl
 split_words m (l ∷ ls) =
     parts_words l.place l.text m (split_lines ls)

@@ -10,7 +10,7 @@ use Rattle.acl_words.specs.Tokens.{Token}
 use Rattle.acl_words.specs.declared.word_lists.Word.{Word}
 use Rattle.acl_policy.specs.declared.keywords.Keyword.{Keyword}
 use Rattle.acl_policy.specs.declared.keywords.Keyword.TheVariants as keywords
-use Rattle.acl_policy.specs.ReadingParts.{Draft}
+use Rattle.acl_policy.specs.ReadingParts.{TermDraft}
 use Rattle.acl_policy.specs.declared.values.Takes.{Takes}
 use Rattle.acl_policy.specs.declared.values.Takes.TheVariants as takes
 use Rattle.acl_policy.specs.Keywords.{entry, row_named, row_of}
@@ -22,7 +22,7 @@ use Rattle.policy_grammar.specs.TermTexts.{same_keyword, comment_text, first_wor
 use Rattle.policy_grammar.proofs.Outcomes.{if_ok, weaker_ok, and_left, and_right, and_both, if_true}
 
 -- A term that is open, by the values of each keyword so far.
-abbrev pub draft_from : Word → (Keyword → List Word) → Draft
+abbrev pub draft_from : Word → (Keyword → List Word) → TermDraft
 draft_from name at = record {
   term = term_from name at;
   has_comment = some_word (at keywords.Comment);
@@ -50,7 +50,7 @@ abbrev pub DayFits : (Keyword → List Word) → Type 0
 DayFits at = is_some (day_meant (at keywords.Expiration)) ≡ some_word (at keywords.Expiration)
 
 -- A keyword that stands once.
-one_read : (kind : Takes) (k : Token) (ws : List Token) (next : List Token → Draft) (F : List Word → Draft)
+one_read : (kind : Takes) (k : Token) (ws : List Token) (next : List Token → TermDraft) (F : List Word → TermDraft)
     → ((w : Token) → next (w ∷ []) ≡ F (word_of w ∷ []))
     → (one_value kind k ws >>= λ _. Ok (next ws)) ≡ (one_value kind k ws >>= λ _. Ok (F (map word_of ws)))
 one_read kind k [] next F h = refl
@@ -73,7 +73,7 @@ one_read kind k (w ∷ v ∷ ws) next F h = tested (is_value kind w)
     tested true = refl
     tested false = refl
 
-once_read : (b : List Word) (kind : Takes) (k : Token) (ws : List Token) (next : List Token → Draft) (F : List Word → Draft)
+once_read : (b : List Word) (kind : Takes) (k : Token) (ws : List Token) (next : List Token → TermDraft) (F : List Word → TermDraft)
     → ((w : Token) → next (w ∷ []) ≡ F (word_of w ∷ []))
     → ((if some_word b then Err (slip_of Repeated k) else one_value kind k ws) >>= λ _. Ok (next ws))
     ≡ ((if some_word b then Err (slip_of Repeated k) else one_value kind k ws) >>= λ _. Ok (F (b ++ map word_of ws)))
@@ -93,10 +93,10 @@ comment_behind (x ∷ xs) w =
     ∙ sym (append_assoc x.text (flat_map (λ (v : Word). 32 ∷ v.text) xs) (32 ∷ w.text))
     ∙ sym (append_assoc (x.text ++ flat_map (λ (v : Word). 32 ∷ v.text) xs) (32 ∷ []) w.text)
 
-abbrev commented : Draft → List Word → Draft
+abbrev commented : TermDraft → List Word → TermDraft
 commented d b = record d { term = record d.term { comments = comment_text b }; has_comment = some_word b }
 
-comments_read : (d : Draft) (b : List Word) (ws : List Token) → with_comments (commented d b) ws ≡ commented d (b ++ map word_of ws)
+comments_read : (d : TermDraft) (b : List Word) (ws : List Token) → with_comments (commented d b) ws ≡ commented d (b ++ map word_of ws)
 comments_read d b [] = ap (commented d) (sym (append-nil b))
 comments_read d b (w ∷ ws) =
     (λ i. with_comments (record d {
@@ -138,7 +138,7 @@ logging_reads name at k ws h =
 expiration_reads : KeyReads keywords.Expiration
 unfolding item_behind
 expiration_reads name at k ws h =
-    let next : List Token → Draft = λ ws. with_values (draft_from name at) keywords.Expiration ws in
+    let next : List Token → TermDraft = λ ws. with_values (draft_from name at) keywords.Expiration ws in
     ap (λ b. (if b then Err (slip_of Repeated k) else one_value takes.Day k ws) >>= λ _. Ok (next ws)) h
     ∙ once_read (at keywords.Expiration) takes.Day k ws next
     (λ b. record (draft_from name at) { term = record (term_from name at) { expires = day_meant b } }) (λ _. refl)

@@ -10,7 +10,7 @@ use Rattle.acl_words.specs.declared.forms.Form.{Form}
 use Rattle.acl_words.specs.declared.forms.Form.TheVariants as forms
 use Rattle.acl_words.specs.Tokens.{Token}
 use Rattle.acl_words.specs.Bytes.{is_mark, in_run, is_printed, first_bad, ends_in_colon}
-use Rattle.acl_words.specs.Words.{word, part_word, last_part, split_run, Mode, Between, Run, String, opened_mode, brace, mode_behind, words_at, words_in, mode_in, line_words, line_mode, words_from, words_of}
+use Rattle.acl_words.specs.Words.{word, part_word, last_part, split_run, OpenPart, Between, Run, String, opened_mode, brace, mode_behind, words_at, words_in, mode_in, line_words, line_mode, words_from, words_of}
 use Rattle.acl_policy.specs.Conditions.{Each}
 use Rattle.acl_policy.specs.Policies.{policy_of}
 use Rattle.policy_grammar.specs.PrintedWords.{begins_with_colon, has_colons, is_word_byte, IsPlainText, IsQuotedText, TextIs, IsPrintable, printed, SpacedWord, spaced_text, IsSpaced, PrintedLine, printed_line, LineIsPrinted, printed_words, PrintedTextsAreRead}
@@ -18,28 +18,28 @@ use Rattle.policy_grammar.proofs.Outcomes.{and_left, and_right, if_true, if_fals
 use Rattle.policy_grammar.proofs.BlockLaws.{text_read}
 
 -- Bytes that are read from one mode to another, and the words that end within them.
-record Reads (p : Place) (m : Mode) (bytes : List ℕ) (ws : List Token) (n : Mode) : Type 0 where
+record Reads (p : Place) (m : OpenPart) (bytes : List ℕ) (ws : List Token) (n : OpenPart) : Type 0 where
   words_are : words_in p m bytes ≡ ws
   mode_is : mode_in p m bytes ≡ n
 
-words_on : (p : Place) (m : Mode) (xs ys : List ℕ) → words_in p m (xs ++ ys) ≡ words_in p m xs ++ words_in p (mode_in p m xs) ys
+words_on : (p : Place) (m : OpenPart) (xs ys : List ℕ) → words_in p m (xs ++ ys) ≡ words_in p m xs ++ words_in p (mode_in p m xs) ys
 words_on p m [] ys = refl
 words_on p m (x ∷ xs) ys =
     ap (λ ws. words_at m p x ++ ws) (words_on p (mode_behind m p x) xs ys)
     ∙ sym (append_assoc (words_at m p x) (words_in p (mode_behind m p x) xs) (words_in p (mode_in p (mode_behind m p x) xs) ys))
 
-mode_on : (p : Place) (m : Mode) (xs ys : List ℕ) → mode_in p m (xs ++ ys) ≡ mode_in p (mode_in p m xs) ys
+mode_on : (p : Place) (m : OpenPart) (xs ys : List ℕ) → mode_in p m (xs ++ ys) ≡ mode_in p (mode_in p m xs) ys
 mode_on p m [] ys = refl
 mode_on p m (x ∷ xs) ys = mode_on p (mode_behind m p x) xs ys
 
-reads_then : (p : Place) (m n o : Mode) (xs ys : List ℕ) (vs ws : List Token) → Reads p m xs vs n → Reads p n ys ws o
+reads_then : (p : Place) (m n o : OpenPart) (xs ys : List ℕ) (vs ws : List Token) → Reads p m xs vs n → Reads p n ys ws o
     → Reads p m (xs ++ ys) (vs ++ ws) o
 reads_then p m n o xs ys vs ws h k = record {
   words_are = words_on p m xs ys ∙ (λ i. h.words_are i ++ words_in p (h.mode_is i) ys) ∙ ap (λ us. vs ++ us) k.words_are;
   mode_is = mode_on p m xs ys ∙ ap (λ q. mode_in p q ys) h.mode_is ∙ k.mode_is;
 }
 
-reads_byte : (p : Place) (m n o : Mode) (b : ℕ) (bs : List ℕ) (ws : List Token) → words_at m p b ≡ [] → mode_behind m p b ≡ n
+reads_byte : (p : Place) (m n o : OpenPart) (b : ℕ) (bs : List ℕ) (ws : List Token) → words_at m p b ≡ [] → mode_behind m p b ≡ n
     → Reads p n bs ws o
     → Reads p m (b ∷ bs) ws o
 reads_byte p m n o b bs ws e f h = record {

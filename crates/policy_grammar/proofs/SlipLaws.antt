@@ -13,11 +13,11 @@ use Rattle.acl_words.specs.Tokens.{Token}
 use Rattle.acl_target.specs.declared.targets.Kind.{Kind}
 use Rattle.acl_target.specs.declared.targets.Kind.TheVariants.{Cisco, Juniper, Iptables, Nftables}
 use Rattle.acl_target.specs.Clashes.{clash}
-use Rattle.acl_policy.specs.ReadingParts.{Choices}
+use Rattle.acl_policy.specs.ReadingParts.{TargetChoices}
 use Rattle.acl_policy.specs.ReadingParts.{Part}
 use Rattle.acl_policy.specs.ReadingParts.{InHeader, InTerm}
-use Rattle.acl_policy.specs.ReadingParts.{State}
-use Rattle.acl_policy.specs.ReadingParts.{Draft, Row}
+use Rattle.acl_policy.specs.ReadingParts.{PolicyState}
+use Rattle.acl_policy.specs.ReadingParts.{TermDraft, KeywordRow}
 use Rattle.acl_policy.specs.declared.values.Takes.{Takes}
 use Rattle.acl_policy.specs.declared.values.Takes.TheVariants as takes
 use Rattle.acl_policy.specs.Policies.{start, with_number, with_target, behind_target, behind_header_keyword, behind_word, behind_words, behind_keyword, behind_begin, behind_end, behind_mark, is_mark, values_of, behind_marks, behind_all, last_place, end_of, policy_of}
@@ -31,7 +31,7 @@ use Rattle.policy_grammar.specs.ReadingLaws.{may_be_mended}
 use Rattle.policy_grammar.proofs.Outcomes.{bind_assoc, bind_same}
 
 -- The words up to a place, and those behind it.
-words_on : (s : State) (xs ys : List Token) → behind_words s (xs ++ ys) ≡ (behind_words s xs >>= λ t. behind_words t ys)
+words_on : (s : PolicyState) (xs ys : List Token) → behind_words s (xs ++ ys) ≡ (behind_words s xs >>= λ t. behind_words t ys)
 words_on s [] ys = refl
 words_on s (x ∷ xs) ys =
     bind_same (behind_word s.part s x) (λ t. behind_words t (xs ++ ys)) (λ t. behind_words t xs >>= λ u. behind_words u ys)
@@ -43,12 +43,12 @@ values_kept : (ws more : List Token) → values_of more ≡ [] → values_of (ws
 values_kept [] more h = h
 values_kept (w ∷ ws) more h = ap (λ xs. if is_mark w.form then [] else w ∷ xs) (values_kept ws more h)
 
-marks_on : (s : State) (ws more : List Token) → values_of more ≡ []
+marks_on : (s : PolicyState) (ws more : List Token) → values_of more ≡ []
     → behind_marks s (ws ++ more) ≡ (behind_marks s ws >>= λ t. behind_marks t more)
 marks_on s [] more h = refl
 marks_on s (w ∷ ws) more h = by_mark (is_mark w.form) (λ t. marks_on t ws more h)
   where
-    by_mark : (b : Bool) → ((t : State) → behind_marks t (ws ++ more) ≡ (behind_marks t ws >>= λ u. behind_marks u more))
+    by_mark : (b : Bool) → ((t : PolicyState) → behind_marks t (ws ++ more) ≡ (behind_marks t ws >>= λ u. behind_marks u more))
         → (if b then (behind_mark w.form s w (values_of (ws ++ more)) >>= λ t. behind_marks t (ws ++ more)) else behind_marks s
         (ws ++ more))
         ≡ ((if b then (behind_mark w.form s w
@@ -138,20 +138,20 @@ one_stays kind k (w ∷ []) (v ∷ ys) =
 one_stays kind k (w ∷ v ∷ ws) ys = same _
 
 -- Keywords of terms.
-item_stays : (r : Row) (d : Draft) (k : Token) (xs ys : List Token)
+item_stays : (r : KeywordRow) (d : TermDraft) (k : Token) (xs ys : List Token)
     → Stays (item_checked r d k xs) (item_checked r d k (xs ++ ys))
 item_stays r d k xs ys = if_stays r.once _ _ _ _
     (if_stays (has_stood d r.keyword) _ _ _ _ (same _) (one_stays r.takes k xs ys))
     (some_stay r.takes k xs ys)
 
-row_stays : (o : Option Row) (d : Draft) (k : Token) (xs ys : List Token)
+row_stays : (o : Option KeywordRow) (d : TermDraft) (k : Token) (xs ys : List Token)
     → Stays (row_behind o d k xs) (row_behind o d k (xs ++ ys))
 unfolding item_behind
 row_stays None d k xs ys = same _
 row_stays (Some r) d k xs ys = first_stays (item_checked r d k xs) (item_checked r d k (xs ++ ys)) _ _ (item_stays r d k xs ys)
     (never (λ _. with_values d r.keyword xs))
 
-draft_stays : (d : Draft) (k : Token) (xs ys : List Token) → Stays (draft_behind d k xs) (draft_behind d k (xs ++ ys))
+draft_stays : (d : TermDraft) (k : Token) (xs ys : List Token) → Stays (draft_behind d k xs) (draft_behind d k (xs ++ ys))
 unfolding draft_behind
 draft_stays d k xs ys = row_stays (row_named k.text) d k xs ys
 
@@ -168,7 +168,7 @@ device_stays kind k p (n ∷ xs) ys = if_stays (name_word n) _ _ _ _
     (first_stays (last_family kind xs) _ _ _ (family_stays kind xs ys) (never (λ f. named_target n (device_target k n kind f))))
     (same _)
 
-choices_stay : (kind : Kind) (c : Choices) (xs ys : List Token) → Stays (choices_from kind c xs) (choices_from kind c (xs ++ ys))
+choices_stay : (kind : Kind) (c : TargetChoices) (xs ys : List Token) → Stays (choices_from kind c xs) (choices_from kind c (xs ++ ys))
 choices_stay kind c [] ys = λ e p k. no_slip c e (choices_from kind c []) refl p
 choices_stay kind c (x ∷ xs) ys = then_stays (or_slip x (choice kind c x)) _ _ (λ d. choices_stay kind d xs ys)
 
@@ -198,11 +198,11 @@ line_stays k (p ∷ xs) ys =
     (if_stays (is_word p (codes "nftables")) _ _ _ _ (nftables_stays k p xs ys) (same _))))
 
 -- A clash and a target too many may be mended: a further word may make the line another one.
-target_mends : (s : State) (k : Token) → Mends (behind_target s k)
+target_mends : (s : PolicyState) (k : Token) → Mends (behind_target s k)
 unfolding behind_target
 target_mends s k n e p = by_tests (list_any (λ x. clash x n.target) s.earlier) (nat_le 64 (length s.earlier)) p
   where
-    next : State
+    next : PolicyState
     next = with_target s (with_number s.earlier n.target)
 
     by_tests : (b c : Bool)
@@ -210,11 +210,11 @@ target_mends s k n e p = by_tests (list_any (λ x. clash x n.target) s.earlier) 
         (slip_of codes_of.TooMany k) else Ok next) ≡ Err e
         → may_be_mended e.code ≡ true
     by_tests true c p = ap (λ z. may_be_mended z.code)
-        (sym (one_slip {A = State} _ (slip codes_of.FilterTwice n.place n.target.name) e refl p))
-    by_tests false true p = ap (λ z. may_be_mended z.code) (sym (one_slip {A = State} _ (slip_of codes_of.TooMany k) e refl p))
+        (sym (one_slip {A = PolicyState} _ (slip codes_of.FilterTwice n.place n.target.name) e refl p))
+    by_tests false true p = ap (λ z. may_be_mended z.code) (sym (one_slip {A = PolicyState} _ (slip_of codes_of.TooMany k) e refl p))
     by_tests false false p = no_slip next e _ refl p
 
-header_stays : (s : State) (k : Token) (xs ys : List Token)
+header_stays : (s : PolicyState) (k : Token) (xs ys : List Token)
     → Stays (behind_header_keyword s k xs) (behind_header_keyword s k (xs ++ ys))
 unfolding behind_header_keyword
 header_stays s k xs ys =
@@ -223,7 +223,7 @@ header_stays s k xs ys =
     (if_stays (bytes_eq k.text (codes "target::")) _ _ _ _
     (first_stays (target_line k xs) _ _ _ (line_stays k xs ys) (target_mends s k)) (same _))
 
-keyword_stays : (p : Part) (s : State) (k : Token) (xs ys : List Token)
+keyword_stays : (p : Part) (s : PolicyState) (k : Token) (xs ys : List Token)
     → Stays (behind_keyword p s k xs) (behind_keyword p s k (xs ++ ys))
 unfolding behind_keyword
 keyword_stays InHeader s k xs ys = header_stays s k xs ys
@@ -232,14 +232,14 @@ keyword_stays InTerm s k xs ys =
 keyword_stays _ s k xs ys = same _
 
 -- Words, braces and all.
-run_stays : (s : State) (xs ys : List Token) → Stays (behind_words s xs) (behind_words s (xs ++ ys))
+run_stays : (s : PolicyState) (xs ys : List Token) → Stays (behind_words s xs) (behind_words s (xs ++ ys))
 run_stays s xs ys = λ e p k. words_on s xs ys ∙ ap (λ r. r >>= λ t. behind_words t ys) p
 
-end_stays : (s : State) (m : Token) (xs ys : List Token)
+end_stays : (s : PolicyState) (m : Token) (xs ys : List Token)
     → Stays (behind_end s.part s m >>= λ t. behind_words t xs) (behind_end s.part s m >>= λ t. behind_words t (xs ++ ys))
 end_stays s m xs ys = then_stays (behind_end s.part s m) _ _ (λ t. run_stays t xs ys)
 
-mark_stays : (f : Form) (s : State) (m : Token) (xs ys : List Token) → Stays (behind_mark f s m xs) (behind_mark f s m (xs ++ ys))
+mark_stays : (f : Form) (s : PolicyState) (m : Token) (xs ys : List Token) → Stays (behind_mark f s m xs) (behind_mark f s m (xs ++ ys))
 unfolding behind_mark
 mark_stays forms.Keyword s m xs ys = keyword_stays s.part s m xs ys
 mark_stays forms.Begin s m xs ys = then_stays (behind_begin s.part s m) _ _ (λ t. run_stays t xs ys)
@@ -268,7 +268,7 @@ values_run (w ∷ ws) more h = by_mark (is_mark w.form) h (values_run ws more)
     by_mark true h go = not_both true refl h
     by_mark false h go = ap (λ xs. w ∷ xs) (go h)
 
-marks_none : (s : State) (ws : List Token) → has_mark ws ≡ false → behind_marks s ws ≡ Ok s
+marks_none : (s : PolicyState) (ws : List Token) → has_mark ws ≡ false → behind_marks s ws ≡ Ok s
 marks_none s [] h = refl
 marks_none s (w ∷ ws) h = by_mark (is_mark w.form) h (marks_none s ws)
   where
@@ -277,13 +277,13 @@ marks_none s (w ∷ ws) h = by_mark (is_mark w.form) h (marks_none s ws)
     by_mark true h go = not_both true refl h
     by_mark false h go = go h
 
-none_mends : (ws : List Token) → has_mark ws ≡ false → Mends (λ (s : State). behind_marks s ws)
+none_mends : (ws : List Token) → has_mark ws ≡ false → Mends (λ (s : PolicyState). behind_marks s ws)
 none_mends ws h s e p = no_slip s e (behind_marks s ws) (marks_none s ws h) p
 
 -- A step at the values before the first mark, and the marks behind it.
-values_stay : (step : List Token → Result State Slip) (ws more : List Token)
+values_stay : (step : List Token → Result PolicyState Slip) (ws more : List Token)
     → ((xs ys : List Token) → Stays (step xs) (step (xs ++ ys)))
-    → ((t : State) → Stays (behind_marks t ws) (behind_marks t (ws ++ more)))
+    → ((t : PolicyState) → Stays (behind_marks t ws) (behind_marks t (ws ++ more)))
     → Stays (step (values_of ws) >>= λ t. behind_marks t ws) (step (values_of (ws ++ more)) >>= λ t. behind_marks t (ws ++ more))
 values_stay step ws more here behind = by_rest (has_mark ws) refl
   where
@@ -296,7 +296,7 @@ values_stay step ws more here behind = by_rest (has_mark ws) refl
         (first_stays (step (values_of ws)) (step (values_of ws ++ values_of more)) (λ t. behind_marks t ws) _
         (here (values_of ws) (values_of more)) (none_mends ws h))
 
-marks_stay : (s : State) (ws more : List Token) → Stays (behind_marks s ws) (behind_marks s (ws ++ more))
+marks_stay : (s : PolicyState) (ws more : List Token) → Stays (behind_marks s ws) (behind_marks s (ws ++ more))
 marks_stay s [] more = λ e p k. no_slip s e (behind_marks s []) refl p
 marks_stay s (w ∷ ws) more =
     if_stays (is_mark w.form) _ _ _ _

@@ -27,7 +27,7 @@ use Rattle.acl_target.specs.declared.targets.Kind.TheVariants.{Cisco, Juniper, I
 use Rattle.acl_target.specs.Clashes.{is_mixed}
 use Rattle.acl_target.specs.TargetData.{chain_text, hook_text}
 use Rattle.acl_target.specs.TargetTexts.{families_text}
-use Rattle.acl_policy.specs.ReadingParts.{Choices}
+use Rattle.acl_policy.specs.ReadingParts.{TargetChoices}
 use Rattle.acl_policy.specs.Conditions.{Each}
 use Rattle.acl_policy.specs.Targets.{is_word, or_slip, single_family, family_word, chain_word, hook_word, name_word, priority_word, no_choices, unless_some, with_policy, with_mark, with_families, with_priority, iptables_choice, nftables_choice, choice, choices_from, last_family, device_line, device_target, named_target, default_ending, iptables_target, iptables_line, nftables_target, hooked_line, nftables_line, target_line}
 use Rattle.acl_policy.specs.Values.{is_plain}
@@ -100,7 +100,7 @@ own_mark _ Choice.NostateWord h = absurd h
 own_mark _ _ h = refl
 
 -- What the reader keeps of the words so far, and with one more of them.
-abbrev chosen : Kind → List Choice → Choices
+abbrev chosen : Kind → List Choice → TargetChoices
 chosen kind cs = record {
   accept = said policy_said cs;
   marked = list_any (is_mark_of kind) cs;
@@ -108,7 +108,7 @@ chosen kind cs = record {
   priority = said priority_said cs;
 }
 
-abbrev with_word : Choice → Choices → Choices
+abbrev with_word : Choice → TargetChoices → TargetChoices
 with_word c x = record {
   accept = option_or (policy_said c) x.accept;
   marked = is_some_mark c || x.marked;
@@ -319,7 +319,7 @@ word_family kind w =
     (λ _. some_if (WordFamily kind w) (is_word w (codes "inet6")) _ _ (λ e. (word_is w (codes "inet6") e, refl)) (λ _. tt))
 
 -- The word is a choice of the page, and d is what is kept with it.
-record IsChoice (kind : Kind) (before : List Choice) (w : Token) (d : Choices) : Type 0 where
+record IsChoice (kind : Kind) (before : List Choice) (w : Token) (d : TargetChoices) : Type 0 where
   pub says : Choice
   pub word_is : w ≡ plain w.place (choice_text says)
   pub takes : IsWordOf kind says
@@ -332,7 +332,7 @@ is_choice kind before w c e h n =
     record { says = c; word_is = e; takes = h; new = n; keeps = word_kept kind before c h n }
 
 -- Both platforms have `ACCEPT`, `DROP` and a mark, and then words of their own.
-shared_chose : (kind : Kind) (before : List Choice) (w : Token) (mark : Choice) (others : Option Choices)
+shared_chose : (kind : Kind) (before : List Choice) (w : Token) (mark : Choice) (others : Option TargetChoices)
     → IsWordOf kind Choice.AcceptWord → IsWordOf kind Choice.DropWord
     → (w ≡ plain w.place (choice_text mark) → list_any (is_mark_of kind) before ≡ false
     → IsChoice kind before w (record (chosen kind before) { marked = true }))
@@ -341,7 +341,7 @@ shared_chose : (kind : Kind) (before : List Choice) (w : Token) (mark : Choice) 
     else if is_word w (codes "DROP") then with_policy (chosen kind before) false
     else if is_word w (choice_text mark) then with_mark (chosen kind before) else others) (IsChoice kind before w)
 shared_chose kind before w mark others accept drop marked h =
-    let Q : Choices → Type 0 = IsChoice kind before w in
+    let Q : TargetChoices → Type 0 = IsChoice kind before w in
     some_if Q (is_word w (codes "ACCEPT")) _ _
     (λ e. free_some Q (said policy_said before) _
     (is_choice kind before w Choice.AcceptWord (word_is w (codes "ACCEPT") e) accept))
@@ -386,13 +386,13 @@ nftables_chose before w =
     (is_choice Nftables before w (Choice.PriorityWord w.text z) e.0 e.1)))
 
 -- The words are choices of the page.
-record AreChoices (kind : Kind) (before : List Choice) (ws : List Token) (d : Choices) : Type 0 where
+record AreChoices (kind : Kind) (before : List Choice) (ws : List Token) (d : TargetChoices) : Type 0 where
   pub choices : List (Place × Choice)
   pub stand : Each (λ b c. IsWordOf kind c × SaysNew b c) before (map (λ c. c.1) choices)
   pub words_are : ws ≡ choice_words choices
   pub keeps : d ≡ chosen kind (before ++ map (λ c. c.1) choices)
 
-more_choices : (kind : Kind) (before : List Choice) (w : Token) (ws : List Token) (d e : Choices)
+more_choices : (kind : Kind) (before : List Choice) (w : Token) (ws : List Token) (d e : TargetChoices)
     → (c : IsChoice kind before w d) → AreChoices kind (before ++ c.says ∷ []) ws e → AreChoices kind before (w ∷ ws) e
 more_choices kind before w ws d e c m = record {
   choices = (w.place, c.says) ∷ m.choices;

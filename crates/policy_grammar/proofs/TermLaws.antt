@@ -17,8 +17,8 @@ use Rattle.acl_policy.specs.declared.keywords.Keyword.TheVariants as keywords
 use Rattle.acl_policy.specs.declared.raw_terms.RawTerm.{RawTerm}
 use Rattle.acl_words.specs.declared.word_lists.Word.{Word}
 use Rattle.acl_policy.specs.ReadingParts.{Term, Named, InTerm, TermEnd}
-use Rattle.acl_policy.specs.ReadingParts.{State}
-use Rattle.acl_policy.specs.ReadingParts.{Draft}
+use Rattle.acl_policy.specs.ReadingParts.{PolicyState}
+use Rattle.acl_policy.specs.ReadingParts.{TermDraft}
 use Rattle.acl_policy.specs.declared.values.Takes.{Takes}
 use Rattle.acl_policy.specs.declared.values.Takes.TheVariants as takes
 use Rattle.acl_policy.specs.Conditions.{Each, NameIsNew}
@@ -91,10 +91,10 @@ day_fits before i h d = subst DayFits (values_push before i)
     (day_pushed i.key (values_at before) i.first i.more h.values_are h.first_time d)
 
 -- The reader inside a term.
-abbrev pub in_term : State → Word → (Keyword → List Word) → State
+abbrev pub in_term : PolicyState → Word → (Keyword → List Word) → PolicyState
 in_term s name at = record s { part = InTerm; draft = draft_from name at }
 
-item_read : (s : State) (name : Word) (before : List Item) (i : Item) (rest : List Token) → ItemStands before i
+item_read : (s : PolicyState) (name : Word) (before : List Item) (i : Item) (rest : List Token) → ItemStands before i
     → DayFits (values_at before)
     → values_of rest ≡ []
     → walk (in_term s name (values_at before)) (item_words i ++ rest) ≡ walk (in_term s name (values_at (before ++ i ∷ []))) rest
@@ -102,7 +102,7 @@ unfolding behind_keyword
 item_read s name before i rest h d e =
     let at : Keyword → List Word = values_at before in
     let k : Token = word i.place forms.Keyword (entry i.key).text in
-    let next : Draft = draft_from name (pushed at i.key (map word_of (item_values i))) in
+    let next : TermDraft = draft_from name (pushed at i.key (map word_of (item_values i))) in
     let drafted : draft_behind (draft_from name at) k (item_values i) ≡ Ok next =
     item_reads name at k i.key (item_values i) d refl
     ∙ ap (λ r. r >>= λ _. Ok next) (item_stands i.key at k i.first i.more h.values_are h.one_value h.first_time) in
@@ -115,7 +115,7 @@ no_values_before : (items : List Item) (rest : List Token) → values_of rest �
 no_values_before [] rest e = e
 no_values_before (i ∷ is) rest e = refl
 
-items_read : (s : State) (name : Word) (before items : List Item) (rest : List Token) → Each ItemStands before items
+items_read : (s : PolicyState) (name : Word) (before items : List Item) (rest : List Token) → Each ItemStands before items
     → DayFits (values_at before)
     → values_of rest ≡ []
     → walk (in_term s name (values_at before)) (items_words items ++ rest) ≡ walk
@@ -128,10 +128,10 @@ items_read s name before (i ∷ is) rest h d e =
     ∙ ap (λ xs. walk (in_term s name (values_at xs)) rest) (append_assoc before (i ∷ []) is)
 
 -- `term` may stand there.
-abbrev pub TermMayStand : State → Type 0
+abbrev pub TermMayStand : PolicyState → Type 0
 TermMayStand s = (place : Place) → behind_word s.part s (plain place (codes "term")) ≡ Ok (record s { part = Term })
 
-abbrev pub behind_term : State → TermText → State
+abbrev pub behind_term : PolicyState → TermText → PolicyState
 behind_term s t = record s {
   terms = s.terms ++ term_meant t ∷ [];
   term_count = s.term_count + 1;
@@ -142,7 +142,7 @@ behind_term s t = record s {
 few_terms : (n : ℕ) → n < 1024 → nat_le 1024 n ≡ false
 few_terms n h = grind (arith, nat_tests)
 
-name_read : (s : State) (name : Word) → is_name name.text ≡ true
+name_read : (s : PolicyState) (name : Word) → is_name name.text ≡ true
     → list_any (λ (t : RawTerm). bytes_eq t.name.text name.text) s.terms ≡ false
     → s.term_count < 1024
     → behind_name s (plain name.place name.text) ≡ Ok
@@ -153,19 +153,19 @@ name_read s name n new few =
     ∙ if_false (list_any (λ (t : RawTerm). bytes_eq t.name.text name.text) s.terms) _ _ new
     ∙ if_false (nat_le 1024 s.term_count) _ _ (few_terms s.term_count few)
 
-term_ended : (s : State) (t : TermText) → some_word (values_at t.items keywords.Action) ≡ true → (m : Token)
+term_ended : (s : PolicyState) (t : TermText) → some_word (values_at t.items keywords.Action) ≡ true → (m : Token)
     → behind_end InTerm (in_term s t.name (values_at t.items)) m ≡ Ok (with_term (in_term s t.name (values_at t.items)))
 unfolding behind_end
 term_ended s t h m = if_true (some_word (values_at t.items keywords.Action)) _ _ h
 
-term_read : (s : State) (t : TermText) (rest : List Token) → TermMayStand s → TermStands t → NameIsNew s.terms (term_meant t)
+term_read : (s : PolicyState) (t : TermText) (rest : List Token) → TermMayStand s → TermStands t → NameIsNew s.terms (term_meant t)
     → s.term_count < 1024 → walk s (term_words t ++ rest) ≡ walk (behind_term s t) rest
 unfolding behind_word behind_begin
 term_read s t rest may h new few =
     let end : Token = word t.end forms.End (codes "}") in
     let inside : List Token = (items_words t.items ++ end ∷ []) ++ rest in
     let begun : List Token = word t.begin forms.Begin (codes "{") ∷ inside in
-    let named : State = record s { draft = draft_of t.name; term_count = s.term_count + 1; part = Named } in
+    let named : PolicyState = record s { draft = draft_of t.name; term_count = s.term_count + 1; part = Named } in
     walk_word s (plain t.place (codes "term")) (plain t.name.place t.name.text ∷ begun) refl
     ∙ ap (λ r. r >>= λ u. walk u (plain t.name.place t.name.text ∷ begun)) (may t.place)
     ∙ walk_word (record s { part = Term }) (plain t.name.place t.name.text) begun refl
@@ -177,7 +177,7 @@ term_read s t rest may h new few =
     ∙ ap (λ r. r >>= λ u. walk u rest) (term_ended named t h.has_action end)
 
 -- Behind the terms of a block.
-abbrev pub behind_terms : State → List TermText → State
+abbrev pub behind_terms : PolicyState → List TermText → PolicyState
 behind_terms s ts = record s {
   terms = s.terms ++ map term_meant ts;
   term_count = s.term_count + length ts;
@@ -185,11 +185,11 @@ behind_terms s ts = record s {
   part = TermEnd;
 }
 
-more_may_stand : (s : State) (t : TermText) → TermMayStand (behind_term s t)
+more_may_stand : (s : PolicyState) (t : TermText) → TermMayStand (behind_term s t)
 unfolding behind_word
 more_may_stand s t place = refl
 
-behind_more : (s : State) (t u : TermText) (us : List TermText)
+behind_more : (s : PolicyState) (t u : TermText) (us : List TermText)
     → behind_terms (behind_term s t) (u ∷ us) ≡ behind_terms s (t ∷ u ∷ us)
 behind_more s t u us =
     let count : s.term_count + 1 + length (u ∷ us) ≡ s.term_count + length (t ∷ u ∷ us) = omega arith in
@@ -200,7 +200,7 @@ behind_more s t u us =
       part = TermEnd;
     }
 
-pub terms_read : (s : State) (t : TermText) (ts : List TermText) (rest : List Token) → TermMayStand s
+pub terms_read : (s : PolicyState) (t : TermText) (ts : List TermText) (rest : List Token) → TermMayStand s
     → AllByRecursion TermStands (t ∷ ts)
     → Each NameIsNew s.terms (map term_meant (t ∷ ts)) → s.term_count + length (t ∷ ts) ≤ 1024
     → walk s (flat_map term_words (t ∷ ts) ++ rest) ≡ walk (behind_terms s (t ∷ ts)) rest

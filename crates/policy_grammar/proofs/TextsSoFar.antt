@@ -13,7 +13,7 @@ use Rattle.acl_policy.specs.declared.raw_terms.RawTerm.{RawTerm}
 use Rattle.acl_words.specs.declared.word_lists.Word.{Word}
 use Rattle.acl_policy.specs.ReadingParts.{Part}
 use Rattle.acl_policy.specs.ReadingParts.{Start, Header, InHeader, HeaderEnd, Term, Named, InTerm, TermEnd}
-use Rattle.acl_policy.specs.ReadingParts.{State}
+use Rattle.acl_policy.specs.ReadingParts.{PolicyState}
 use Rattle.acl_policy.specs.Conditions.{Each, StandsBehind, NameIsNew, targets_of, terms_of}
 use Rattle.acl_policy.specs.Policies.{start}
 use Rattle.policy_grammar.specs.TargetTexts.{plain}
@@ -43,7 +43,7 @@ pub flat_step : {A B : Type 0} (f : A → List B) (xs : List A) (x : A) (front :
 flat_step f xs x front = ap (λ ys. front ++ ys) (flat_push f xs x) ∙ sym (append_assoc front (flat_map f xs) (f x))
 
 -- What is kept of a block that is open: its header has ended, and it has these terms so far.
-pub record BlockOpen (s : State) (b : BlockText) : Type 0 where
+pub record BlockOpen (s : PolicyState) (b : BlockText) : Type 0 where
   pub items_stand : AllByRecursion HeaderItemStands b.items
   pub targets_are : s.targets ≡ (block_meant b).targets
   pub some_target : 0 < length s.targets
@@ -52,19 +52,19 @@ pub record BlockOpen (s : State) (b : BlockText) : Type 0 where
   pub names_differ : Each NameIsNew [] (map term_meant b.terms)
 
 -- The words of a text so far, by the part where the reader stands.
-pub record AtStart (s : State) (bs : List BlockText) (ws : List Token) : Type 0 where
+pub record AtStart (s : PolicyState) (bs : List BlockText) (ws : List Token) : Type 0 where
   pub none_yet : bs ≡ []
   pub words_are : ws ≡ []
   pub no_targets : s.targets ≡ []
   pub no_terms : s.terms ≡ []
 
-pub record AtHeader (s : State) (bs : List BlockText) (ws : List Token) : Type 0 where
+pub record AtHeader (s : PolicyState) (bs : List BlockText) (ws : List Token) : Type 0 where
   pub place : Place
   pub words_are : ws ≡ text_words bs ++ plain place (codes "header") ∷ []
   pub no_targets : s.targets ≡ []
   pub no_terms : s.terms ≡ []
 
-pub record AtHeaderItems (s : State) (bs : List BlockText) (ws : List Token) : Type 0 where
+pub record AtHeaderItems (s : PolicyState) (bs : List BlockText) (ws : List Token) : Type 0 where
   pub place : Place
   pub begin : Place
   pub items : List HeaderItem
@@ -74,18 +74,18 @@ pub record AtHeaderItems (s : State) (bs : List BlockText) (ws : List Token) : T
   pub words_are : ws ≡ text_words bs ++
       (plain place (codes "header") ∷ word begin forms.Begin (codes "{") ∷ flat_map header_item_words items)
 
-pub record AtHeaderEnd (s : State) (bs : List BlockText) (ws : List Token) : Type 0 where
+pub record AtHeaderEnd (s : PolicyState) (bs : List BlockText) (ws : List Token) : Type 0 where
   pub block : BlockText
   pub is_open : BlockOpen s block
   pub words_are : ws ≡ text_words bs ++ block_words block
 
-pub record AtTerm (s : State) (bs : List BlockText) (ws : List Token) : Type 0 where
+pub record AtTerm (s : PolicyState) (bs : List BlockText) (ws : List Token) : Type 0 where
   pub block : BlockText
   pub place : Place
   pub is_open : BlockOpen s block
   pub words_are : ws ≡ (text_words bs ++ block_words block) ++ plain place (codes "term") ∷ []
 
-pub record AtName (s : State) (bs : List BlockText) (ws : List Token) : Type 0 where
+pub record AtName (s : PolicyState) (bs : List BlockText) (ws : List Token) : Type 0 where
   pub block : BlockText
   pub place : Place
   pub name : Word
@@ -95,7 +95,7 @@ pub record AtName (s : State) (bs : List BlockText) (ws : List Token) : Type 0 w
   pub draft_is : s.draft ≡ draft_from name (values_at [])
   pub words_are : ws ≡ (text_words bs ++ block_words block) ++ (plain place (codes "term") ∷ plain name.place name.text ∷ [])
 
-pub record AtItems (s : State) (bs : List BlockText) (ws : List Token) : Type 0 where
+pub record AtItems (s : PolicyState) (bs : List BlockText) (ws : List Token) : Type 0 where
   pub block : BlockText
   pub place : Place
   pub name : Word
@@ -110,13 +110,13 @@ pub record AtItems (s : State) (bs : List BlockText) (ws : List Token) : Type 0 
   pub words_are : ws ≡ (text_words bs ++ block_words block) ++
       (plain place (codes "term") ∷ plain name.place name.text ∷ word begin forms.Begin (codes "{") ∷ items_words items)
 
-pub record AtTermEnd (s : State) (bs : List BlockText) (ws : List Token) : Type 0 where
+pub record AtTermEnd (s : PolicyState) (bs : List BlockText) (ws : List Token) : Type 0 where
   pub block : BlockText
   pub is_open : BlockOpen s block
   pub some_term : 0 < length block.terms
   pub words_are : ws ≡ text_words bs ++ block_words block
 
-abbrev pub OpenAt : Part → State → List BlockText → List Token → Type 0
+abbrev pub OpenAt : Part → PolicyState → List BlockText → List Token → Type 0
 OpenAt Start s bs ws = AtStart s bs ws
 OpenAt Header s bs ws = AtHeader s bs ws
 OpenAt InHeader s bs ws = AtHeaderItems s bs ws
@@ -133,7 +133,7 @@ open_terms InTerm = 1
 open_terms _ = 0
 
 -- What is kept of the blocks that have ended, and of all targets and terms.
-pub record BlocksKept (s : State) (bs : List BlockText) : Type 0 where
+pub record BlocksKept (s : PolicyState) (bs : List BlockText) : Type 0 where
   pub blocks_are : s.blocks ≡ blocks_meant bs
   pub blocks_stand : AllByRecursion BlockStands bs
   pub earlier_is : s.earlier ≡ targets_of (blocks_meant bs) ++ s.targets
@@ -142,13 +142,13 @@ pub record BlocksKept (s : State) (bs : List BlockText) : Type 0 where
   pub few_terms : s.term_count ≤ 1024
 
 -- The words are those of a text so far, which means what the reader has kept.
-pub record ReadsAt (p : Part) (s : State) (ws : List Token) : Type 0 where
+pub record ReadsAt (p : Part) (s : PolicyState) (ws : List Token) : Type 0 where
   pub blocks : List BlockText
   pub kept : BlocksKept s blocks
   pub counted : length (terms_of (blocks_meant blocks)) + length s.terms + open_terms p ≤ s.term_count
   pub is_open : OpenAt p s blocks ws
 
-abbrev pub Reads : List Token → State → Type 0
+abbrev pub Reads : List Token → PolicyState → Type 0
 Reads ws s = ReadsAt s.part s ws
 
 pub start_reads : Reads [] start

@@ -10,7 +10,7 @@ use Rattle.std.proofs.lemmas.Slice.Eq.{bytes_eq-Decides}
 use Rattle.jiff_core.proofs.CalendarLemmas.{days_in_month_bounds}
 use Rattle.acl_packet.specs.declared.addresses.Family.TheVariants.{V4, V6}
 use Rattle.acl_packet.specs.Decimals.{IsNumber}
-use Rattle.acl_packet.specs.NumberWords.{Row, protocols, icmp_types, icmpv6_types, row_of, IsNumberWord, protocol_in, icmp_in}
+use Rattle.acl_packet.specs.NumberWords.{NumberWord, protocols, icmp_types, icmpv6_types, row_of, IsNumberWord, protocol_in, icmp_in}
 use Rattle.acl_packet.proofs.DecimalLaws.{number-is, number-again}
 use Rattle.acl_packet.proofs.NumberWordLaws.{word-some}
 use Rattle.acl_text.specs.Names.{is_letter, is_name_byte, is_name, is_filter_name}
@@ -159,19 +159,19 @@ logging_plain bs =
     (is_text bs (codes "syslog") refl)
 
 -- Protocols and types: words of a table, and numbers.
-row_plain : (table : List Row) (bs : List ℕ) (n : ℕ) → list_all (λ (r : Row). plain_test r.0) table ≡ true
+row_plain : (table : List NumberWord) (bs : List ℕ) (n : ℕ) → list_all (λ (r : NumberWord). plain_test r.0) table ≡ true
     → row_of table bs ≡ Some n → IsPlainText bs
 row_plain [] bs n h e = absurd (none-some n e)
 row_plain (r ∷ rs) bs n h e =
-    by_row (bytes_eq bs r.0) refl e (row_plain rs bs n (and_right (plain_test r.0) (list_all (λ (x : Row). plain_test x.0) rs) h))
+    by_row (bytes_eq bs r.0) refl e (row_plain rs bs n (and_right (plain_test r.0) (list_all (λ (x : NumberWord). plain_test x.0) rs) h))
   where
     by_row : (b : Bool) → bytes_eq bs r.0 ≡ b → (if b then Some r.1 else row_of rs bs) ≡ Some n
         → (row_of rs bs ≡ Some n → IsPlainText bs) → IsPlainText bs
-    by_row true c e go = is_text bs r.0 (and_left (plain_test r.0) (list_all (λ (x : Row). plain_test x.0) rs) h) c
+    by_row true c e go = is_text bs r.0 (and_left (plain_test r.0) (list_all (λ (x : NumberWord). plain_test x.0) rs) h) c
     by_row false c e go = go e
 
-number_word_plain : (table : List Row) (least most : ℕ) (bs : List ℕ) (n : ℕ)
-    → list_all (λ (r : Row). plain_test r.0) table ≡ true → most < 256
+number_word_plain : (table : List NumberWord) (least most : ℕ) (bs : List ℕ) (n : ℕ)
+    → list_all (λ (r : NumberWord). plain_test r.0) table ≡ true → most < 256
     → IsNumberWord table least most bs n → IsPlainText bs
 number_word_plain table least most bs n t m h = elim h [
   | inl e ↦ row_plain table bs n t e
@@ -179,8 +179,8 @@ number_word_plain table least most bs n t m h = elim h [
       (number_plain (decimal n) n (number-is most n (decimal n) (number-again most n (omega (arith, p.3)) p.3)).0)
 ]
 
-some_word_plain : (table : List Row) (least most : ℕ) (bs : List ℕ) (o : Option ℕ)
-    → list_all (λ (r : Row). plain_test r.0) table ≡ true → most < 256
+some_word_plain : (table : List NumberWord) (least most : ℕ) (bs : List ℕ) (o : Option ℕ)
+    → list_all (λ (r : NumberWord). plain_test r.0) table ≡ true → most < 256
     → IfSome o (λ n. IsNumberWord table least most bs n) → is_some o ≡ true → IsPlainText bs
 some_word_plain table least most bs (Some n) t m h e = number_word_plain table least most bs n t m h
 some_word_plain table least most bs None t m h e = cc

@@ -15,7 +15,7 @@ use Rattle.acl_naming.specs.declared.item_words.NamingKind.{NamingKind}
 use Rattle.acl_naming.specs.declared.naming_items.Item.{Item}
 use Rattle.acl_naming.specs.Definitions.{Definition, index_of, items_count}
 use Rattle.acl_naming.specs.ItemWords.{item_in}
-use Rattle.acl_naming.specs.NamingFiles.{Outcome, bad_byte, item_added, item_put, items_added, line_added, most, split_added, trimmed, with_definition, with_items}
+use Rattle.acl_naming.specs.NamingFiles.{TableOrSlip, bad_byte, item_added, item_put, items_added, line_added, most, split_added, trimmed, with_definition, with_items}
 use Rattle.acl_naming.specs.Tables.{with_item}
 use Rattle.acl_naming.proofs.TableLaws.{items_more}
 use Rattle.workload_laws.proofs.RangeLaws.{head_or, tail_of}
@@ -69,12 +69,12 @@ items_put kind place ds d (w ∷ ws) (item ∷ items) e room =
 good_line : (kind : NamingKind) (place : Place) (is_open : Bool) (ds : List Definition) (text : List ℕ) → bad_byte text ≡ None
     → line_added kind place is_open ds text ≡ split_added kind place is_open ds text
 good_line kind place is_open ds text good =
-    ap (λ o. option_map_or {U = Outcome} (λ b. Err (slip codes.BadByte place (b ∷ []))) o (split_added kind place is_open ds text)) good
+    ap (λ o. option_map_or {U = TableOrSlip} (λ b. Err (slip codes.BadByte place (b ∷ []))) o (split_added kind place is_open ds text)) good
 
 cut_line : (kind : NamingKind) (place : Place) (is_open : Bool) (ds : List Definition) (text front rest : List ℕ) → cut_at 61 text ≡ Some (front, rest)
     → split_added kind place is_open ds text ≡ with_definition kind place ds (trimmed front) rest
 cut_line kind place is_open ds text front rest cut =
-    ap (λ o. option_map_or {U = Outcome} (λ p. with_definition kind place ds (trimmed p.0) p.1) o (with_items kind place is_open ds (words_of text))) cut
+    ap (λ o. option_map_or {U = TableOrSlip} (λ p. with_definition kind place ds (trimmed p.0) p.1) o (with_items kind place is_open ds (words_of text))) cut
 
 -- a line with a new name, and items behind `=`
 pub line_defines : (kind : NamingKind) (place : Place) (is_open : Bool) (ds : List Definition) (text front rest name : List ℕ) (items : List Item)

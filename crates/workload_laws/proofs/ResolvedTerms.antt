@@ -32,7 +32,7 @@ use Rattle.acl_terms.specs.Living.{platforms_of}
 use Rattle.acl_terms.specs.Resolved.{IsResolved}
 use Rattle.acl_terms.specs.Sets.{AreSetsOf, Sets, by_field}
 use Rattle.acl_terms.specs.Slips.{address_words, port_protocol_slip, port_words, reaches_protocol, slip_of, unless, words_slips}
-use Rattle.acl_terms.specs.Soundness.{HaveField, IsSound, is_protocol}
+use Rattle.acl_terms.specs.Soundness.{HaveField, IsSoundTerm, is_protocol}
 use Rattle.acl_terms.proofs.ComputedLaws.{computed-sets}
 use Rattle.acl_terms.proofs.FieldLaws.{told-same}
 use Rattle.acl_terms.proofs.TermLaws.{term-with-resolved}
@@ -116,7 +116,7 @@ tcp_or_udp test six seventeen x h = elim (either (nat_le 6 x && nat_le x 6) _ h)
   ]
 ]
 
-pub is_sound : (i : ℕ) → i < 1024 → IsSound (term_name i) [] (term_sets i).src4 (term_sets i).src6 (term_sets i).dst4 (term_sets i).dst6
+pub is_sound : (i : ℕ) → i < 1024 → IsSoundTerm (term_name i) [] (term_sets i).src4 (term_sets i).src6 (term_sets i).dst4 (term_sets i).dst6
     (term_sets i).addr4 (term_sets i).addr6 false (term_sets i).numbers true (term_sets i).ports false Plain Accept
 is_sound i below = let numbers : Field → Numbers = (term_sets i).numbers in record {
   name_is = term_names i below;

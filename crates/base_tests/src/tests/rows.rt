@@ -1,6 +1,6 @@
-use acl_grammar::{
-    Address, Each, EachWord, Form, FreeText, Named, Number, Piece, PortRange, Row, RowWords, Rows,
-    Wildcard, Word, WordForm, are_distinct, are_distinct_names, are_port_ranges,
+use acl_rows::{
+    Address, Each, EachWord, RowForm, FreeText, Named, Number, Piece, PortRange, Row, RowWords, Rows,
+    Wildcard, OneWord, WordForm, are_distinct, are_distinct_names, are_port_ranges,
     have_distinct_names, is_port_range, is_prefix_of, is_text_of,
 };
 use acl_packet::{Family, Prefix};
@@ -12,9 +12,9 @@ use std::test::Fail;
 #[derive(Drop)]
 struct Numbered;
 
-impl Form<u8> for Numbered {
+impl RowForm<u8> for Numbered {
     ghost use Rattle.std.specs.Prelude.{decimal, codes, [], ◌∷◌};
-    ghost use Rattle.acl_grammar.specs.Rows.{row};
+    ghost use Rattle.acl_rows.specs.Rows.{row};
 
     ghost item_rows = { λ f n. row 2 (codes "number" ∷ decimal n ∷ []) ∷ [] };
 
@@ -25,7 +25,7 @@ impl Form<u8> for Numbered {
         let row = Row {
             indent: 2,
             first: b"number".as_slice(),
-            rest: Word { piece: number },
+            rest: OneWord { piece: number },
         };
         row.put_rows(out)
     }
@@ -76,13 +76,13 @@ fn compares_rows_with_a_text(rt: HostRuntime) {
         first: (b"a".as_slice(), b"b".as_slice()),
         rest: (
             (
-                Word { piece: address },
-                Word {
+                OneWord { piece: address },
+                OneWord {
                     piece: Wildcard { len: 24 },
                 },
             ),
             (
-                Some(Word { piece: prefix }),
+                Some(OneWord { piece: prefix }),
                 (literals, FreeText { text: b"to all" }),
             ),
         ),
@@ -203,7 +203,7 @@ fn writes_words_and_tells_items(rt: HostRuntime) {
             high: 80,
             separator: b':',
         },
-        rest: Word {
+        rest: OneWord {
             piece: PortRange {
                 low: 22,
                 high: 22,

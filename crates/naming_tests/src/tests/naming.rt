@@ -1,5 +1,5 @@
 use acl_naming::{
-    Base, Checked, Lookup, check, networks_of, ports_of, read_networks, read_services,
+    Base, Checked, Lookup, check_base, networks_of, ports_of, read_networks, read_services,
 };
 use acl_packet::Family;
 use acl_sets::{Range, RangeSet};
@@ -237,7 +237,7 @@ fn expect_service_slip(rt: &impl Abort, alloc: Global, case: &Case) {
 
 fn expect_check_slip(rt: &impl Abort, alloc: Global, case: &Case) -> Result<(), Fail> {
     let base = networks(rt, Base::new(alloc), 5, case.text)?;
-    expect_slip(rt, check(base), 5, case.code, case.line, case.word);
+    expect_slip(rt, check_base(base), 5, case.code, case.line, case.word);
     Ok(())
 }
 
@@ -258,7 +258,7 @@ fn expect_none(rt: &impl Abort, answer: Result<RangeSet, Lookup>, lookup: Lookup
 fn example(rt: &impl Abort, alloc: Global, first: &[u8], second: &[u8]) -> Result<Checked, Fail> {
     let base = networks(rt, Base::new(alloc), 0, first)?;
     let base = services(rt, base, 1, second)?;
-    Ok(check(base)?)
+    Ok(check_base(base)?)
 }
 
 #[test]
@@ -403,7 +403,7 @@ fn expect_long_slip(
     word: &[u8],
 ) -> Result<(), Fail> {
     let base = networks(rt, Base::new(alloc), 0, text)?;
-    expect_slip(rt, check(base), 0, code, line, word);
+    expect_slip(rt, check_base(base), 0, code, line, word);
     Ok(())
 }
 

@@ -1,7 +1,7 @@
 use crate::tests::generators::are_written;
 use crate::tests::samples::{HEAD, Head, filter};
 use acl_packet::Families;
-use acl_platform::{Rules, check};
+use acl_platform::{Rules, count_within_limits};
 use acl_target::{Ending, Kind};
 use gen_cisco::Cisco;
 use std::test::Fail;
@@ -46,7 +46,7 @@ fn writes_one_section_after_another(rt: HostRuntime) -> Result<(), Fail> {
     let alloc = rt.alloc();
     let core = filter(alloc, &CORE_HEAD, Rules::new(alloc))?;
     let rim = filter(alloc, &RIM_HEAD, Rules::new(alloc))?;
-    assert_eq!(rt; check(&Cisco, &core), Ok(4));
+    assert_eq!(rt; count_within_limits(&Cisco, &core), Ok(4));
     let text = format!(in alloc; "{CORE}{RIM}")?;
     assert!(rt; are_written(alloc, &Cisco, &[core, rim], text.as_str())?);
     Ok(())

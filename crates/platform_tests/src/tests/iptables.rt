@@ -1,7 +1,7 @@
 use crate::tests::generators::are_written;
 use crate::tests::samples::{HEAD, Head, filter};
 use acl_packet::Families;
-use acl_platform::{Rules, check};
+use acl_platform::{Rules, count_within_limits};
 use acl_target::Ending;
 use gen_iptables::Iptables;
 use std::test::Fail;
@@ -27,7 +27,7 @@ fn writes_one_section_after_another(rt: HostRuntime) -> Result<(), Fail> {
     let alloc = rt.alloc();
     let own = filter(alloc, &DENYING, Rules::new(alloc))?;
     let other = filter(alloc, &OF_SIX, Rules::new(alloc))?;
-    assert_eq!(rt; check(&Iptables, &own), Ok(0));
+    assert_eq!(rt; count_within_limits(&Iptables, &own), Ok(0));
     assert!(rt; are_written(alloc, &Iptables, &[own, other], EMPTY)?);
     Ok(())
 }

@@ -1,7 +1,7 @@
 use crate::tests::generators::are_written;
 use crate::tests::samples::{HEAD, Head, filter};
 use acl_packet::{Families, Hook};
-use acl_platform::{Rules, check};
+use acl_platform::{Rules, count_within_limits};
 use acl_target::{Ending, Kind};
 use gen_nftables::Nftables;
 use std::test::Fail;
@@ -45,7 +45,7 @@ fn writes_one_section_after_another(rt: HostRuntime) -> Result<(), Fail> {
     let alloc = rt.alloc();
     let own = filter(alloc, &INPUT, Rules::new(alloc))?;
     let routed = filter(alloc, &FORWARD, Rules::new(alloc))?;
-    assert_eq!(rt; check(&Nftables, &own), Ok(0));
+    assert_eq!(rt; count_within_limits(&Nftables, &own), Ok(0));
     assert!(rt; are_written(alloc, &Nftables, &[own, routed], EMPTY)?);
     Ok(())
 }

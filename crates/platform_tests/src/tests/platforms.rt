@@ -1,9 +1,9 @@
 ghost use Rattle.std.specs.Prelude.{[], ◌∷◌, IfOk, decimal, unwrap_or};
-ghost use Rattle.acl_grammar.specs.Rows.{row};
+ghost use Rattle.acl_rows.specs.Rows.{row};
 ghost use Rattle.acl_platform.specs.Combinations.{IsSized};
 
 use crate::tests::samples::{HEAD, Head, filter};
-use acl_grammar::{Form, Number, Row, Rows, Word};
+use acl_rows::{RowForm, Number, Row, Rows, OneWord};
 use acl_packet::{Conn, Family, Outcome, Packet, Prefix, Verdict};
 use acl_platform::{
     Combination, Rule, Rules, Test, count_combinations, filter_outcome, put_combinations,
@@ -58,7 +58,7 @@ fn web(alloc: Global) -> Result<Rule, Memory>
 // The source, the protocol, and the first port of the destination.
 struct InNumbers;
 
-impl Form<Combination> for InNumbers {
+impl RowForm<Combination> for InNumbers {
     ghost item_rows = { λ f c. row 0 (decimal c.src.first ∷ decimal (unwrap_or c.proto 0)
         ∷ decimal (unwrap_or c.dport (0, 0)).0 ∷ []) ∷ [] };
 
@@ -68,10 +68,10 @@ impl Form<Combination> for InNumbers {
         let first = Number {
             number: item.src.first,
         };
-        let proto = Word {
+        let proto = OneWord {
             piece: Number { number: proto },
         };
-        let port = Word {
+        let port = OneWord {
             piece: Number {
                 number: u128::from(port),
             },

@@ -2,7 +2,7 @@ use crate::tests::samples::{HEAD, Head, filter};
 use acl_host::Tree;
 use acl_memory::MemTree;
 use acl_platform::Rules;
-use acl_render::{check, render};
+use acl_render::{count_within_limits, render};
 use acl_target::{Ending, Kind};
 use acl_text::Whole;
 use std::test::Fail;
@@ -23,7 +23,7 @@ const EDGE: &[u8] =
 fn a_file_holds_what_is_rendered(rt: HostRuntime) -> Result<(), Fail> {
     let alloc = rt.alloc();
     let edge = filter(alloc, &EDGE_HEAD, Rules::new(alloc))?;
-    assert_eq!(rt; check(&edge), Ok(1));
+    assert_eq!(rt; count_within_limits(&edge), Ok(1));
     let mut text = Whole::new(alloc);
     let mut tree = MemTree::new(alloc);
     tree.begin("out/a.acl")?;

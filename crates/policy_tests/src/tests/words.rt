@@ -3,7 +3,7 @@ ghost use Rattle.acl_lines.specs.LineTexts.{HasNoFeed};
 use crate::tests::splices::text;
 use acl_lines::Lines;
 use acl_text::{Memory, Place};
-use acl_words::{Form, Token, Words};
+use acl_words::{Form, Token, PolicyWords};
 use std::alloc::Global;
 use std::test::Fail;
 
@@ -27,7 +27,7 @@ fn words_of(alloc: Global, first: &[u8], second: &[u8]) -> Result<String, Memory
     let mut lines = Lines::new(alloc);
     lines.push(Place { file: 0, line: 1 }, first)?;
     lines.push(Place { file: 0, line: 2 }, second)?;
-    let mut words = Words::new(&lines);
+    let mut words = PolicyWords::new(&lines);
     let mut all = String::new(alloc);
     while let Some(word) = words.next() {
         let part = shown(alloc, &word)?;

@@ -5,7 +5,7 @@ ghost use Rattle.acl_policy.specs.Conditions.{IsPolicy, IsRawTerm};
 use acl_days::{Day, read_day};
 use acl_host::Tree;
 use acl_memory::MemTree;
-use acl_naming::{Base, Checked, check, read_networks, read_services};
+use acl_naming::{Base, Checked, check_base, read_networks, read_services};
 use acl_policy::{Policy, RawTerm, gather, parse};
 use acl_terms::{Term, resolve};
 use acl_text::{Items, Memory, Refusal, Slip};
@@ -38,7 +38,7 @@ ANY = 0-65535/tcp 0-65535/udp
 
 pub(crate) fn base(alloc: Global) -> Result<Checked, Refusal> {
     let base = read_networks(Base::new(alloc), 1, NETWORKS)?;
-    check(read_services(base, 2, SERVICES)?)
+    check_base(read_services(base, 2, SERVICES)?)
 }
 
 // The policy at the path `a.pol`, whatever the tree.

@@ -3,7 +3,7 @@ use Rattle.std.proofs.lemmas.Result.{err_from_is_err_and}
 use Rattle.acl_text.specs.declared.faults.Place.{Place}
 use Rattle.acl_text.specs.declared.faults.Slip.{Slip}
 use Rattle.acl_naming.specs.Definitions.{Definition}
-use Rattle.acl_naming.specs.NamingFiles.{Outcome, without_comment, opens, line_added, lines_added, file_added}
+use Rattle.acl_naming.specs.NamingFiles.{TableOrSlip, without_comment, opens, line_added, lines_added, file_added}
 use Rattle.acl_text.proofs.AnswerLaws.{step_stops, stops_whole}
 use Rattle.acl_text.specs.Answers.{slip_told}
 use Rattle.acl_text.specs.Steps.{◌>>=◌}
@@ -22,7 +22,7 @@ returns-in_err-is_open c =
     let place_is : c.place-place.result ≡ place =
     c.place-place.ensures ∙ ap (λ (f : ℕ). record { file = f; line = c.line.new.self.line }) (c.in-Some.ensures.2 ∙ c.loop-line.invariant.place)
     ∙ ap (λ (n : ℕ). record { file = file; line = n }) c.in-Some.ensures.1 in
-    let rest : List Definition → Outcome = λ more. lines_added kind file ((cursor.line + 1) + 1) (opens is_open text) more c.line.new.self.lines in
+    let rest : List Definition → TableOrSlip = λ more. lines_added kind file ((cursor.line + 1) + 1) (opens is_open text) more c.line.new.self.lines in
     let whole : file_added kind file c.args.table.now c.args.bytes.now ≡ (line_added kind place is_open table text >>= rest) =
     sym c.loop-line.invariant.goes ∙ ap (lines_added kind file (cursor.line + 1) is_open table) c.in-Some.ensures.0 in
     let same : line_added kind c.place-place.result is_open table c.without_comment.result.now ≡ line_added kind place is_open table text =

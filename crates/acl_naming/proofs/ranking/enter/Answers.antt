@@ -2,8 +2,8 @@ use Rattle.std.proofs.Common.{◌≡◌, ◌+◌, ◌≤◌, suc, true, [], ◌�
 use Rattle.std.proofs.lemmas.List.{length-map}
 use Rattle.std.proofs.lemmas.List.Elements.{All-append, All-map, All-push, All-same}
 use Rattle.std.proofs.lemmas.Result.{on_ok_weaker}
-use Rattle.acl_naming.specs.declared.ranking.Step.{Step}
-use Rattle.acl_naming.specs.declared.ranking.Step.TheVariants.{Enter, Leave}
+use Rattle.acl_naming.specs.declared.ranking.SearchStep.{SearchStep}
+use Rattle.acl_naming.specs.declared.ranking.SearchStep.TheVariants.{Enter, Leave}
 use Rattle.acl_naming.specs.Definitions.{items_at}
 use Rattle.acl_naming.specs.RankSteps.{IsStepOf, steps_left}
 use Rattle.acl_naming.proofs.CheckLaws.{left_entered, links_few}
@@ -14,7 +14,7 @@ returns-clause-steps c =
     let n = length c.args.table.now in
     let old = c.args.steps.now.items in
     let links = c.links_at.result.now in
-    let left : List Step = old ++ Leave c.args.index ∷ [] in
+    let left : List SearchStep = old ++ Leave c.args.index ∷ [] in
     on_ok_weaker c.push_links.result (λ (e : c.push_links.new.steps.items ≡ c.push-2.new.self.items ++ map Enter links).
     All-same (IsStepOf n) c.push_links.new.steps.items (c.push-2.new.self.items ++ map Enter links) e
     (All-append (IsStepOf n) c.push-2.new.self.items (map Enter links)

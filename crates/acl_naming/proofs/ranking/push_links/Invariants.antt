@@ -1,5 +1,5 @@
 use Rattle.std.proofs.Common.{◌≡◌, ◌++◌, map, take}
-use Rattle.acl_naming.specs.declared.ranking.Step.TheVariants.{Enter}
+use Rattle.acl_naming.specs.declared.ranking.SearchStep.TheVariants.{Enter}
 use Rattle.acl_naming.proofs.ranking.push_links.Given as goal
 
 abbrev pub invariant-loop-link : goal.invariant-loop-link

@@ -1,6 +1,6 @@
 use Rattle.std.proofs.Common.{◌+◌, drop, flat_map, get_or, Some, ap}
-use Rattle.acl_grammar.specs.Rows.{text_of_rows}
-use Rattle.acl_grammar.proofs.PutLaws.{each_split, retold}
+use Rattle.acl_rows.specs.Rows.{text_of_rows}
+use Rattle.acl_rows.proofs.PutLaws.{each_split, retold}
 use Rattle.acl_sets.specs.declared.sets.Range.{Range}
 use Rattle.acl_platform.specs.ChoiceSteps.{range_rows}
 use Rattle.acl_platform.proofs.TextFronts.{refused}
@@ -8,7 +8,7 @@ use Rattle.acl_platform.proofs.choices.put_ranges.Goals as goal
 
 pub returns-in_err-put_item : goal.returns-in_err-put_item
 returns-in_err-put_item g c =
-    let rows = g.F.Form.item_rows c.args.form.now in
+    let rows = g.F.RowForm.item_rows c.args.form.now in
     let all = c.args.ranges.now in
     let i = c.loop-range.range-index in
     let none : Range = record { low = 0; high = 0 } in

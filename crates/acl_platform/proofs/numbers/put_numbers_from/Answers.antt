@@ -1,7 +1,7 @@
 use Rattle.std.proofs.Common.{◌+◌, ◌-◌, flat_map}
 use Rattle.std.specs.List.{range_with_len}
 use Rattle.acl_text.proofs.Putting.{goes_on}
-use Rattle.acl_grammar.proofs.PutLaws.{retold}
+use Rattle.acl_rows.proofs.PutLaws.{retold}
 use Rattle.acl_platform.proofs.NumberLaws.{number-on, numbers-split}
 use Rattle.acl_platform.proofs.TextFronts.{refused}
 use Rattle.acl_platform.proofs.numbers.put_numbers_from.Goals as goal

@@ -1,5 +1,5 @@
 use Rattle.std.proofs.Common.{◌+◌, drop, flat_map}
-use Rattle.acl_grammar.specs.Rows.{text_of_rows}
+use Rattle.acl_rows.specs.Rows.{text_of_rows}
 use Rattle.acl_platform.proofs.TextFronts.{item-split, refused}
 use Rattle.acl_platform.proofs.rule_rows.put_rules.Goals as goal
 

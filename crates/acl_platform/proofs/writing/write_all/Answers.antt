@@ -1,6 +1,6 @@
 use Rattle.std.proofs.Common.{◌+◌, drop, flat_map, map, ap, ◌∙◌, ℕ, List, ◌++◌, take, ◌∷◌, []}
 use Rattle.std.proofs.lemmas.List.Elements.{recursion_from_All}
-use Rattle.acl_grammar.specs.Rows.{text_of_rows}
+use Rattle.acl_rows.specs.Rows.{text_of_rows}
 use Rattle.acl_platform.specs.declared.filters.Filter.{Filter}
 use Rattle.acl_platform.specs.Limits.{filter_limit}
 use Rattle.acl_platform.specs.Platforms.{IsAccepted}

@@ -1,7 +1,7 @@
 use Rattle.std.proofs.Common.{flat_map, map, take}
 use Rattle.acl_text.specs.Puts.{Puts}
 use Rattle.acl_text.proofs.Putting.{done}
-use Rattle.acl_grammar.specs.Rows.{text_of_rows}
+use Rattle.acl_rows.specs.Rows.{text_of_rows}
 use Rattle.acl_platform.proofs.writing.write_all.Given as goal
 
 -- the sections of the filters so far were put

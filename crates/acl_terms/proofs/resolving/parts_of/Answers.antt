@@ -1,6 +1,6 @@
 use Rattle.std.proofs.Common.{◌≡◌, ℕ, List, Option, ap, subst, ◌∙◌}
 use Rattle.acl_packet.specs.declared.addresses.Family.{Family}
-use Rattle.acl_terms.specs.declared.resolving.Parts.{Parts}
+use Rattle.acl_terms.specs.declared.resolving.TermParts.{TermParts}
 use Rattle.acl_terms.specs.Matching.{icmp_family, protocols_of}
 use Rattle.acl_terms.specs.Sets.{IsSetOf}
 use Rattle.acl_terms.specs.SetSteps.{IsPortSet, IsType}
@@ -11,7 +11,7 @@ pub returns-clause-sets : goal.returns-clause-sets
 returns-clause-sets c =
     let n = c.args.base.now in
     let raw = c.args.raw.now in
-    let p : Parts = record {
+    let p : TermParts = record {
       ends = c.in_ok-ends.ends;
       protos = c.in_ok-admitted_protocols.field-0;
       ports = c.in_ok-ports.ports;

@@ -1,7 +1,7 @@
 use Rattle.std.proofs.Common.{◌≤◌, List, [], ◌∷◌, ◌++◌, length, drop, flat_map, refl, append-nil, ap, sym, subst, ◌∙◌, arith}
 use Rattle.acl_text.proofs.Putting.{goes_on, puts-nothing}
-use Rattle.acl_grammar.specs.Rows.{text_of_rows}
-use Rattle.acl_grammar.proofs.PutLaws.{retold}
+use Rattle.acl_rows.specs.Rows.{text_of_rows}
+use Rattle.acl_rows.proofs.PutLaws.{retold}
 use Rattle.acl_sets.specs.declared.sets.Range.{Range}
 use Rattle.acl_platform.proofs.TextFronts.{refused}
 use Rattle.gen_iptables.specs.Groups.{first_group, groups}

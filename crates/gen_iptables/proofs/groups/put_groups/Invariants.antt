@@ -1,7 +1,7 @@
 use Rattle.std.proofs.Common.{◌≡◌, ◌-◌, ◌≤◌, List, ◌++◌, length, drop, flat_map}
 use Rattle.acl_text.specs.Puts.{Puts}
 use Rattle.acl_text.proofs.Putting.{done}
-use Rattle.acl_grammar.specs.Rows.{text_of_rows}
+use Rattle.acl_rows.specs.Rows.{text_of_rows}
 use Rattle.acl_sets.specs.declared.sets.Range.{Range}
 use Rattle.gen_iptables.specs.Groups.{groups}
 use Rattle.gen_iptables.proofs.groups.put_groups.Given as goal

@@ -1,7 +1,7 @@
 use Rattle.std.proofs.Common.{ℕ, List, ◌++◌, flat_map, ap, ◌∙◌}
 use Rattle.acl_packet.specs.declared.addresses.Family.{Family}
-use Rattle.acl_grammar.specs.Rows.{text_of_rows}
-use Rattle.acl_grammar.proofs.PutLaws.{retold}
+use Rattle.acl_rows.specs.Rows.{text_of_rows}
+use Rattle.acl_rows.proofs.PutLaws.{retold}
 use Rattle.acl_platform.specs.declared.rules.Rule.{Rule}
 use Rattle.junos_lang.specs.Documents.{family_word}
 use Rattle.junos_lang.specs.Texts.{end_rows, head_rows, term_rows}

@@ -1,6 +1,6 @@
 use Rattle.std.proofs.Common.{◌∙◌, ap, rules}
 use Rattle.std.proofs.lemmas.List.Sorted.{IsNonDecreasingBy-from_sort_by_key}
-use Rattle.acl_grammar.specs.ApartSteps.{are_rising}
+use Rattle.acl_rows.specs.ApartSteps.{are_rising}
 use Rattle.nft_lang.proofs.OverlapLaws.{sorted_elements}
 use Rattle.nft_lang.proofs.overlaps.are_apart.Goals as goal
 

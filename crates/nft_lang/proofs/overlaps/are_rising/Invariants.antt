@@ -1,5 +1,5 @@
 use Rattle.std.proofs.Common.{◌≡◌, drop}
-use Rattle.acl_grammar.specs.ApartSteps.{are_rising}
+use Rattle.acl_rows.specs.ApartSteps.{are_rising}
 use Rattle.nft_lang.proofs.overlaps.are_rising.Given as goal
 
 abbrev pub invariant-loop-i : goal.invariant-loop-i

@@ -7,13 +7,13 @@ use Rattle.acl_text.specs.Cursors.{words_of, word_at}
 use Rattle.acl_text.proofs.CursorLaws.{words_next, words_none}
 use Rattle.acl_naming.specs.declared.item_words.NamingKind.{NamingKind}
 use Rattle.acl_naming.specs.Definitions.{Definition}
-use Rattle.acl_naming.specs.NamingFiles.{Outcome, item_added, items_added}
+use Rattle.acl_naming.specs.NamingFiles.{TableOrSlip, item_added, items_added}
 use Rattle.acl_text.proofs.AnswerLaws.{step_stops, stops_whole}
 use Rattle.acl_text.specs.Answers.{slip_told}
 use Rattle.acl_text.specs.Steps.{◌>>=◌}
 use Rattle.acl_naming.proofs.naming_files.LineReader.add_items.Goals as goal
 
-abbrev added_behind : NamingKind → Place → List ℕ → ℕ → List Definition → Outcome
+abbrev added_behind : NamingKind → Place → List ℕ → ℕ → List Definition → TableOrSlip
 added_behind kind place text end more = items_added kind place more (words_of (drop end text))
 
 -- the next word, and those behind it
@@ -25,9 +25,9 @@ next_added kind place ds text from start end h e = ap (items_added kind place ds
 pub returns-in_err-add_item-clause-gives : goal.returns-in_err-add_item-clause-gives
 returns-in_err-add_item-clause-gives c =
     let text = c.args.text.now in
-    let part : Outcome = item_added c.args.self.kind c.args.self.place c.loop-start.table (slice_range text c.in-Some.start c.in-Some.end) in
-    let rest : List Definition → Outcome = added_behind c.args.self.kind c.args.self.place text c.in-Some.end in
-    let all : Outcome = items_added c.args.self.kind c.args.self.place c.args.table.now (words_of text) in
+    let part : TableOrSlip = item_added c.args.self.kind c.args.self.place c.loop-start.table (slice_range text c.in-Some.start c.in-Some.end) in
+    let rest : List Definition → TableOrSlip = added_behind c.args.self.kind c.args.self.place text c.in-Some.end in
+    let all : TableOrSlip = items_added c.args.self.kind c.args.self.place c.args.table.now (words_of text) in
     let whole : all ≡ (part >>= rest) =
     sym c.loop-start.invariant.goes
     ∙ next_added c.args.self.kind c.args.self.place c.loop-start.table text c.loop-start.from c.in-Some.start c.in-Some.end c.loop-start.invariant.within c.in-Some.ensures.exact in
@@ -39,7 +39,7 @@ pub loop-start-preserved : goal.loop-start-preserved
 loop-start-preserved c = record {
   within = (words_next c.args.text.now c.loop-start.from c.in-Some.start c.in-Some.end c.loop-start.invariant.within c.in-Some.ensures.exact).1;
   filled = c.in_ok-add_item.ensures.filled;
-  goes = sym (ap (λ (o : Outcome). o >>= added_behind c.args.self.kind c.args.self.place c.args.text.now c.in-Some.end) c.in_ok-add_item.ensures.gives)
+  goes = sym (ap (λ (o : TableOrSlip). o >>= added_behind c.args.self.kind c.args.self.place c.args.text.now c.in-Some.end) c.in_ok-add_item.ensures.gives)
       ∙ sym (next_added c.args.self.kind c.args.self.place c.loop-start.table c.args.text.now c.loop-start.from c.in-Some.start c.in-Some.end c.loop-start.invariant.within c.in-Some.ensures.exact)
       ∙ c.loop-start.invariant.goes;
 }

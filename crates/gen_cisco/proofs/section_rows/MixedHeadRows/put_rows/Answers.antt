@@ -1,6 +1,6 @@
 use Rattle.std.proofs.Common.{ℕ, List, [], ◌∷◌, ◌++◌, codes, ap, ◌∙◌}
-use Rattle.acl_grammar.specs.Rows.{row, text_of_rows}
-use Rattle.acl_grammar.proofs.PutLaws.{retold}
+use Rattle.acl_rows.specs.Rows.{row, text_of_rows}
+use Rattle.acl_rows.proofs.PutLaws.{retold}
 use Rattle.gen_cisco.proofs.section_rows.MixedHeadRows.put_rows.Goals as goal
 
 pub returns : goal.returns

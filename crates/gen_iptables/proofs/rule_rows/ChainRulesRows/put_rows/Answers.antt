@@ -1,6 +1,6 @@
 use Rattle.std.proofs.Common.{List, flat_map, ap, ◌∙◌}
-use Rattle.acl_grammar.specs.Rows.{text_of_rows}
-use Rattle.acl_grammar.proofs.PutLaws.{retold}
+use Rattle.acl_rows.specs.Rows.{text_of_rows}
+use Rattle.acl_rows.proofs.PutLaws.{retold}
 use Rattle.gen_iptables.specs.ChainRowSteps.{rows_behind_front}
 use Rattle.gen_iptables.specs.Sections.{Front}
 use Rattle.gen_iptables.proofs.Rows.{all-parts}

@@ -1,4 +1,4 @@
-use Rattle.acl_grammar.proofs.PutLaws.{retold}
+use Rattle.acl_rows.proofs.PutLaws.{retold}
 use Rattle.gen_iptables.proofs.Rows.{rule-text}
 use Rattle.gen_iptables.proofs.rule_rows.OneRuleRows.put_rows.Goals as goal
 

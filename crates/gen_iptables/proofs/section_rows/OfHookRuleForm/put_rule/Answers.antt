@@ -1,4 +1,4 @@
-use Rattle.acl_grammar.proofs.PutLaws.{retold}
+use Rattle.acl_rows.proofs.PutLaws.{retold}
 use Rattle.gen_iptables.proofs.Rows.{chain-text}
 use Rattle.gen_iptables.proofs.section_rows.OfHookRuleForm.put_rule.Goals as goal
 

@@ -1,4 +1,4 @@
-use Rattle.acl_grammar.proofs.PutLaws.{retold}
+use Rattle.acl_rows.proofs.PutLaws.{retold}
 use Rattle.acl_platform.specs.Choices.{numbers_of}
 use Rattle.gen_junos.proofs.Rows.{all-words}
 use Rattle.gen_junos.proofs.condition_rows.NumberWordsWords.put_spaced.Goals as goal

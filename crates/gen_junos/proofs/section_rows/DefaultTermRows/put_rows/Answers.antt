@@ -1,7 +1,7 @@
 use Rattle.std.proofs.Common.{false, ◌∷◌, [], ◌++◌, ap, ◌∙◌}
 use Rattle.acl_packet.specs.declared.filtering.Verdict.TheVariants.{Deny}
-use Rattle.acl_grammar.specs.Rows.{text_of_rows}
-use Rattle.acl_grammar.proofs.PutLaws.{retold}
+use Rattle.acl_rows.specs.Rows.{text_of_rows}
+use Rattle.acl_rows.proofs.PutLaws.{retold}
 use Rattle.junos_lang.specs.Texts.{closing, term_row, then_rows}
 use Rattle.gen_junos.proofs.Rows.{default-rows}
 use Rattle.gen_junos.proofs.section_rows.DefaultTermRows.put_rows.Goals as goal

@@ -1,4 +1,4 @@
-use Rattle.acl_grammar.proofs.PutLaws.{retold}
+use Rattle.acl_rows.proofs.PutLaws.{retold}
 use Rattle.gen_junos.proofs.Rows.{term-text}
 use Rattle.gen_junos.proofs.section_rows.InFamilyRuleForm.put_rule.Goals as goal
 

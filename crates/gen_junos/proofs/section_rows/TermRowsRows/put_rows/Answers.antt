@@ -1,6 +1,6 @@
 use Rattle.std.proofs.Common.{ap, sym, ◌∙◌}
-use Rattle.acl_grammar.specs.Rows.{text_of_rows}
-use Rattle.acl_grammar.proofs.PutLaws.{retold}
+use Rattle.acl_rows.specs.Rows.{text_of_rows}
+use Rattle.acl_rows.proofs.PutLaws.{retold}
 use Rattle.gen_junos.proofs.Rows.{some-terms}
 use Rattle.gen_junos.proofs.section_rows.TermRowsRows.put_rows.Goals as goal
 

@@ -1,4 +1,4 @@
-use Rattle.acl_grammar.proofs.PutLaws.{retold}
+use Rattle.acl_rows.proofs.PutLaws.{retold}
 use Rattle.gen_nftables.proofs.Rows.{section-text}
 use Rattle.gen_nftables.proofs.nftables.NftablesPlatform.put_section.Goals as goal
 

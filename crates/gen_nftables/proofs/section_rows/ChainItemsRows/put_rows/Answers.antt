@@ -1,6 +1,6 @@
 use Rattle.std.proofs.Common.{ap}
-use Rattle.acl_grammar.specs.Rows.{text_of_rows}
-use Rattle.acl_grammar.proofs.PutLaws.{retold}
+use Rattle.acl_rows.specs.Rows.{text_of_rows}
+use Rattle.acl_rows.proofs.PutLaws.{retold}
 use Rattle.gen_nftables.proofs.Rows.{all-rows}
 use Rattle.gen_nftables.proofs.section_rows.ChainItemsRows.put_rows.Goals as goal
 

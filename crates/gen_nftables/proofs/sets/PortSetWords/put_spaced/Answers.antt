@@ -1,4 +1,4 @@
-use Rattle.acl_grammar.proofs.PutLaws.{retold}
+use Rattle.acl_rows.proofs.PutLaws.{retold}
 use Rattle.gen_nftables.proofs.NumberTexts.{port-words}
 use Rattle.gen_nftables.proofs.sets.PortSetWords.put_spaced.Goals as goal
 

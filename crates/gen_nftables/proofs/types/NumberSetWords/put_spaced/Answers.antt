@@ -1,6 +1,6 @@
 use Rattle.std.proofs.Common.{arith}
 use Rattle.acl_text.proofs.Putting.{puts-nothing}
-use Rattle.acl_grammar.proofs.PutLaws.{retold}
+use Rattle.acl_rows.proofs.PutLaws.{retold}
 use Rattle.gen_nftables.proofs.NumberTexts.{no-types, some-types}
 use Rattle.gen_nftables.proofs.types.NumberSetWords.put_spaced.Goals as goal
 

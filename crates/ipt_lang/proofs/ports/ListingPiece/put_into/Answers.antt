@@ -1,6 +1,6 @@
 use Rattle.std.proofs.Common.{arith}
 use Rattle.acl_text.proofs.Putting.{puts-nothing}
-use Rattle.acl_grammar.proofs.PutLaws.{retold}
+use Rattle.acl_rows.proofs.PutLaws.{retold}
 use Rattle.ipt_lang.proofs.PortWords.{joined_all, no_items}
 use Rattle.ipt_lang.proofs.ports.ListingPiece.put_into.Goals as goal
 

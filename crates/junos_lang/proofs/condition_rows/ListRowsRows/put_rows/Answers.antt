@@ -1,7 +1,7 @@
 use Rattle.std.proofs.Common.{ap, sym, ◌∙◌}
 use Rattle.acl_text.proofs.Putting.{puts-nothing}
-use Rattle.acl_grammar.specs.Rows.{text_of_rows}
-use Rattle.acl_grammar.proofs.PutLaws.{retold}
+use Rattle.acl_rows.specs.Rows.{text_of_rows}
+use Rattle.acl_rows.proofs.PutLaws.{retold}
 use Rattle.junos_lang.proofs.ConditionLaws.{a_list, no_list}
 use Rattle.junos_lang.proofs.condition_rows.ListRowsRows.put_rows.Goals as goal
 

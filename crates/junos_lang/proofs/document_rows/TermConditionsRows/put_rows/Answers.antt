@@ -1,6 +1,6 @@
 use Rattle.std.proofs.Common.{ap}
-use Rattle.acl_grammar.specs.Rows.{text_of_rows}
-use Rattle.acl_grammar.proofs.PutLaws.{retold}
+use Rattle.acl_rows.specs.Rows.{text_of_rows}
+use Rattle.acl_rows.proofs.PutLaws.{retold}
 use Rattle.junos_lang.specs.Texts.{from_rows}
 use Rattle.junos_lang.proofs.ConditionLaws.{conditions_are}
 use Rattle.junos_lang.proofs.document_rows.TermConditionsRows.put_rows.Goals as goal

@@ -1,4 +1,4 @@
-use Rattle.acl_grammar.proofs.PutLaws.{retold}
+use Rattle.acl_rows.proofs.PutLaws.{retold}
 use Rattle.nft_lang.specs.Texts.{rule_words}
 use Rattle.nft_lang.specs.RuleRowSteps.{rule_of_row}
 use Rattle.nft_lang.proofs.SafeRows.{row_begun}

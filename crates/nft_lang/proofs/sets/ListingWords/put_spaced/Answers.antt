@@ -1,6 +1,6 @@
 use Rattle.std.proofs.Common.{arith}
 use Rattle.acl_text.proofs.Putting.{puts-nothing}
-use Rattle.acl_grammar.proofs.PutLaws.{retold}
+use Rattle.acl_rows.proofs.PutLaws.{retold}
 use Rattle.nft_lang.proofs.SetLaws.{commas_all, no_elements}
 use Rattle.nft_lang.proofs.sets.ListingWords.put_spaced.Goals as goal
 

@@ -1,9 +1,0 @@
-use Rattle.std.proofs.Common.{◌∙◌}
-use Rattle.acl_grammar.proofs.NamingLaws.{names_apart, names_decide}
-use Rattle.acl_grammar.proofs.apart.are_distinct_names.Goals as goal
-
-pub returns-clause-is : goal.returns-clause-is
-returns-clause-is c = names_decide c.args.names.items _ c.are_distinct.ensures
-
-pub returns-clause-exact : goal.returns-clause-exact
-returns-clause-exact c = c.are_distinct.ensures ∙ names_apart c.args.names.items

@@ -1,0 +1,127 @@
+ghost use Rattle.std.specs.Prelude.{◌≡◌, [], ◌∷◌, ◌++◌, List, IsTrue, replicate, flat_map};
+ghost use Rattle.acl_text.specs.Puts.{Puts};
+ghost use Rattle.acl_rows.specs.Rows.{Row as LineRow, row, row_text, text_of_rows};
+
+use crate::pieces::{Piece, Words};
+use acl_text::{Out, PutFault};
+
+/// A line: an indent, a first word and more words.
+#[derive(Clone, Copy)]
+pub struct Row<P, W> {
+    pub indent: usize,
+    pub first: P,
+    pub rest: W,
+}
+
+/// No put has bytes of two lines.
+impl<P: Piece, W: Words> Piece for Row<P, W> {
+    ghost text = { λ r. row_text (row r.indent (P.text r.first ∷ W.words r.rest)) };
+
+    fn put_into<O: Out>(&self, out: &mut O) -> Result<(), PutFault> {
+        put_spaces(self.indent, out)?;
+        self.first.put_into(out)?;
+        self.rest.put_spaced(out)?;
+        out.put(b"\n")
+    }
+}
+
+const SPACES: [u8; 32] = [b' '; 32];
+
+// Puts so many spaces, by one put where they are as few as rows of a device have.
+fn put_spaces<O: Out>(count: usize, out: &mut O) -> Result<(), PutFault>
+    requires { IsTrue (O.is_open out.old) }
+    ensures { Puts O.Out out.old out.new (replicate count 32) result }
+{
+    if count <= 32 {
+        out.put(&SPACES[..count])
+    } else {
+        put_each_space(count, out)
+    }
+}
+
+fn put_each_space<O: Out>(count: usize, out: &mut O) -> Result<(), PutFault>
+    requires { IsTrue (O.is_open out.old) }
+    ensures { Puts O.Out out.old out.new (replicate count 32) result }
+{
+    for _space in 0..count {
+        out.put(b" ")?;
+    }
+    Ok(())
+}
+
+/// A value that is written as rows.
+pub trait Rows {
+    ghost rows: { Self → List LineRow };
+
+    /// Puts the lines of the rows. No put has bytes of two lines.
+    fn put_rows<O: Out>(&self, out: &mut O) -> Result<(), PutFault>
+        requires { IsTrue (O.is_open out.old) }
+        ensures { Puts O.Out out.old out.new (text_of_rows (rows self.now)) result };
+}
+
+/// One row.
+impl<P: Piece, W: Words> Rows for Row<P, W> {
+    ghost rows = { λ r. row r.indent (P.text r.first ∷ W.words r.rest) ∷ [] };
+
+    fn put_rows<O: Out>(&self, out: &mut O) -> Result<(), PutFault> {
+        self.put_into(out)
+    }
+}
+
+/// The rows of the one, then those of the other.
+impl<A: Rows, B: Rows> Rows for (A, B) {
+    ghost rows = { λ p. A.rows p.0 ++ B.rows p.1 };
+
+    fn put_rows<O: Out>(&self, out: &mut O) -> Result<(), PutFault> {
+        self.0.put_rows(out)?;
+        self.1.put_rows(out)
+    }
+}
+
+/// How items of a list are written as rows.
+pub trait RowForm<T> {
+    ghost item_rows: { Self → T → List LineRow };
+
+    /// Puts the lines of the item's rows.
+    fn put_item<O: Out>(&self, item: &T, out: &mut O) -> Result<(), PutFault>
+        requires { IsTrue (O.is_open out.old) }
+        ensures { Puts O.Out out.old out.new (text_of_rows (item_rows self.now item.now)) result };
+}
+
+/// Items that are rows are written as their own.
+#[derive(Clone, Copy)]
+pub struct AsRows;
+
+impl<T: Rows> RowForm<T> for AsRows {
+    ghost item_rows = { λ f item. T.rows item };
+
+    fn put_item<O: Out>(&self, item: &T, out: &mut O) -> Result<(), PutFault> {
+        item.put_rows(out)
+    }
+}
+
+/// Items in a form, one behind the other.
+#[derive(Clone, Copy)]
+pub struct Each<'a, T, F> {
+    pub items: &'a [T],
+    pub form: F,
+}
+
+impl<'a, T, F: RowForm<T>> Rows for Each<'a, T, F> {
+    ghost rows = { λ e. flat_map (F.item_rows e.form) e.items.now };
+
+    fn put_rows<O: Out>(&self, out: &mut O) -> Result<(), PutFault> {
+        put_each(self.items, &self.form, out)
+    }
+}
+
+fn put_each<T, F: RowForm<T>, O: Out>(items: &[T], form: &F, out: &mut O) -> Result<(), PutFault>
+    requires { IsTrue (O.is_open out.old) }
+    ensures { Puts O.Out out.old out.new
+        (text_of_rows (flat_map (F.item_rows form.now) items.now)) result }
+{
+    for item in items {
+        form.put_item(item, out)?;
+    }
+    Ok(())
+}

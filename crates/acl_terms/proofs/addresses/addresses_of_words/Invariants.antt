@@ -1,0 +1,20 @@
+use Rattle.std.proofs.Common.{◌≡◌, length}
+use Rattle.acl_packet.specs.declared.addresses.Family.TheVariants.{V4, V6}
+use Rattle.acl_packet.specs.Addresses.{top_address}
+use Rattle.acl_text.specs.Refusals.{first_in}
+use Rattle.acl_terms.specs.Matching.{AnyOf, NamesAddress}
+use Rattle.acl_terms.specs.Slips.{network_slip}
+use Rattle.acl_terms.proofs.GatheredLaws.{IsGathered}
+use Rattle.acl_terms.proofs.addresses.addresses_of_words.Given as goal
+
+abbrev pub invariant-loop-left : goal.invariant-loop-left
+invariant-loop-left l = record {
+  v4 : IsGathered (λ x. AnyOf (NamesAddress l.base V4 x) l.words) (λ x. AnyOf (NamesAddress l.base V4 x) l.left)
+      (top_address V4) l.v4.items;
+  v6 : IsGathered (λ x. AnyOf (NamesAddress l.base V6 x) l.words) (λ x. AnyOf (NamesAddress l.base V6 x) l.left)
+      (top_address V6) l.v6.items;
+  judged : first_in (network_slip l.base.networks) l.left ≡ first_in (network_slip l.base.networks) l.words;
+}
+
+abbrev pub decreases-loop-left : goal.decreases-loop-left
+decreases-loop-left l = length l.left
