@@ -7,6 +7,7 @@ use Rattle.acl_packet.specs.declared.addresses.Families.{Families}
 use Rattle.acl_packet.specs.declared.addresses.Families.TheVariants.{Inet, Inet6, Mixed}
 use Rattle.acl_packet.specs.declared.addresses.Family.{Family}
 use Rattle.acl_packet.specs.declared.addresses.Family.TheVariants.{V4, V6}
+use Rattle.acl_packet.specs.declared.packet_fields.Field.TheVariants.{SourcePort, DestinationPort}
 use Rattle.acl_packet.specs.declared.packets.Packet.{Packet}
 use Rattle.acl_packet.specs.Addresses.{covers, same_family, top_address, width_of}
 use Rattle.acl_packet.specs.Packets.{IsPacket}
@@ -25,16 +26,18 @@ use Rattle.acl_terms.specs.declared.sides.SidePair.{SidePair}
 use Rattle.acl_terms.specs.declared.terms.Term.{Term}
 use Rattle.acl_terms.specs.Options as terms
 use Rattle.acl_terms.specs.Outcomes.{decides, mode_of}
-use Rattle.acl_terms.specs.Resolved.{IsPairEmpty, addresses_match, destination_in, destinations_on, dports_on, either_in, has_none, has_protocol, in_both, is_pair_empty, is_term_live, matches, matches_in, pairs_of, ports_match, side_pairs, sides_of, source_in, sources_on, sports_on}
+use Rattle.acl_terms.specs.Resolved.{IsPairEmpty, addresses_match, destination_in, destinations_on, dports_on, either_in, has_none, has_protocol, in_both, is_pair_empty, is_term_live, matches, matches_in, pairs_of, side_pairs, sides_of, source_in, sources_on, sports_on}
 use Rattle.acl_terms.specs.Slips.{is_tcp_or_udp}
 use Rattle.acl_terms.specs.Soundness.{is_established}
 use Rattle.acl_terms.proofs.EmptyLaws.{pair-empty-law}
+use Rattle.acl_terms.proofs.FieldLaws.{by-parts, icmp_match, ports_match}
 use Rattle.acl_terms.proofs.SideLaws.{both-holds, destination-normal, source-normal}
 use Rattle.acl_platform.specs.declared.rules.Rule.{Rule}
 use Rattle.acl_platform.specs.declared.rules.Test.{Test}
 use Rattle.acl_platform.specs.declared.rules.Test.TheVariants as tests
 use Rattle.acl_platform.specs.Rules as rules
-use Rattle.acl_platform.specs.Rules.{rule_holds, sets_hold}
+use Rattle.acl_platform.specs.Rules.{rule_holds}
+use Rattle.acl_platform.proofs.FieldLaws.{sets-parted}
 use Rattle.acl_expand.specs.declared.conditions.Conditions.{Conditions}
 use Rattle.acl_expand.specs.TermRules.{conditions_by, established_conditions, family_rules, members, pair_rules, rule_of, tcp_half, term_rules, udp_alone, udp_half, udp_ports, whole, with_ports}
 use Rattle.acl_expand.proofs.AnyLaws.{any-as, any-flat, any-left, any-map, any-right}
@@ -56,8 +59,8 @@ address-within V6 x h = omega (arith, h)
 pub in-range : (p : Packet) → IsPacket p → IsInRange p
 in-range p is = record {
   source = address-within p.family p.src is.source;
-  source_port = is.source_port;
-  destination_port = is.destination_port;
+  source_port = let top = is.numbers SourcePort in omega (arith, top);
+  destination_port = let top = is.numbers DestinationPort in omega (arith, top);
 }
 
 -- ---- one rule
@@ -66,7 +69,7 @@ in-range p is = record {
 abbrev pub with-sets : Family → Term → SidePair → Packet → Bool → Bool → Bool
 with-sets f t pair p proto dport = proto && (holds (sources_on pair.addresses f t).ranges p.src
     && (holds (destinations_on pair.addresses f t).ranges p.dst && (holds (sports_on pair.ports t).ranges p.sport && (dport
-    && holds t.itypes.ranges p.itype))))
+    && icmp_match f t p))))
 
 -- The same with a test, as it is asked of the term: the protocol and the addresses, then the ports.
 abbrev addresses-on : Family → Term → Packet → Side → Bool
@@ -77,7 +80,7 @@ ports-on t p side = holds (sports_on side t).ranges p.sport && holds (dports_on 
 
 abbrev on-pair : Family → Term → Packet → Bool → SidePair → Bool
 on-pair f t p o pair = (has_protocol f t p.proto && addresses-on f t p pair.addresses)
-    && (ports-on t p pair.ports && (holds t.itypes.ranges p.itype && o))
+    && (ports-on t p pair.ports && (icmp_match f t p && o))
 
 pub rule-sets : (kind : Kind) (f : Family) (t : Term) (pair : SidePair) (c : Conditions) (p : Packet)
     → rule_holds (rule_of kind f t pair c) p
@@ -87,9 +90,10 @@ rule-sets kind f t pair c p =
     let side = pair.addresses in
     let src = least-holds f (sources_on side f t) (sources-top side f t) (sources-normal side f t) p.src in
     let dst = least-holds f (destinations_on side f t) (destinations-top side f t) (destinations-normal side f t) p.dst in
-    let tail : Bool = holds (sports_on pair.ports t).ranges p.sport && (holds c.dports.ranges p.dport && holds t.itypes.ranges p.itype) in
+    let tail : Bool = holds (sports_on pair.ports t).ranges p.sport && (holds c.dports.ranges p.dport && icmp_match f t p) in
     let proto : Bool = holds c.protos.ranges p.proto in
-    ap (λ s. same_family f p.family && ((proto && (s && (any_has (rule_of kind f t pair c).dst p.dst && tail))) && rules.passes c.test p)) src
+    ap (λ b. same_family f p.family && (b && rules.passes c.test p)) (sets-parted (rule_of kind f t pair c) p)
+    ∙ ap (λ s. same_family f p.family && ((proto && (s && (any_has (rule_of kind f t pair c).dst p.dst && tail))) && rules.passes c.test p)) src
     ∙ ap (λ d. same_family f p.family && ((proto && (holds (sources_on side f t).ranges p.src && (d && tail))) && rules.passes c.test p)) dst
 
 -- One rule's conditions, and those of its term.
@@ -117,7 +121,7 @@ single kind f t pair c p u o proto dport e =
     ∙ ap (λ h. same_family f p.family && (with-sets f t pair p (has_protocol f t p.proto) h && rules.passes c.test p)) dport
     ∙ ap (λ x. same_family f p.family && x)
     (one (has_protocol f t p.proto) (holds (sources_on pair.addresses f t).ranges p.src) (holds (destinations_on pair.addresses f t).ranges p.dst)
-    (holds (sports_on pair.ports t).ranges p.sport) (holds (dports_on pair.ports t).ranges p.dport) (holds t.itypes.ranges p.itype)
+    (holds (sports_on pair.ports t).ranges p.sport) (holds (dports_on pair.ports t).ranges p.dport) (icmp_match f t p)
     u (rules.passes c.test p) o e)
 
 -- The rule with the term's own sets.
@@ -152,7 +156,7 @@ ports-kept kind f t pair c p = by (has_none c.dports) refl
         (empty-holds c.dports.ranges p.dport e)
         ∙ no-port (same_family f p.family) (holds c.protos.ranges p.proto) (holds (sources_on pair.addresses f t).ranges p.src)
         (holds (destinations_on pair.addresses f t).ranges p.dst) (holds (sports_on pair.ports t).ranges p.sport)
-        (holds t.itypes.ranges p.itype) (rules.passes c.test p))
+        (icmp_match f t p) (rules.passes c.test p))
     by false e = refl
 
 -- ---- `established` where connections are not known
@@ -209,7 +213,7 @@ established-step kind f t pair p true true is only e d =
     let dst : Bool = holds (destinations_on pair.addresses f t).ranges p.dst in
     let sp : Bool = holds (sports_on side t).ranges p.sport in
     let dp : Bool = holds (dports_on side t).ranges p.dport in
-    let ty : Bool = holds t.itypes.ranges p.itype in
+    let ty : Bool = icmp_match f t p in
     let ack : Bool = rules.passes tests.AckOrRst p in
     let u : Bool = t.dport_named || nat_le 1024 p.dport in
     let same : Bool = same_family f p.family in
@@ -273,7 +277,7 @@ pair-shut f t p o pair w =
     let d : Bool = holds (destinations_on pair.addresses f t).ranges p.dst in
     let sp : Bool = holds (sports_on pair.ports t).ranges p.sport in
     let dp : Bool = holds (dports_on pair.ports t).ranges p.dport in
-    let rest : Bool = holds t.itypes.ranges p.itype && o in
+    let rest : Bool = icmp_match f t p && o in
     elim w [
       | inl sets ↦ elim sets [
         | inl e ↦ and_left (h && (s && d)) ((sp && dp) && rest) (and_right h (s && d) (and_left s d (e p.src)))
@@ -358,9 +362,9 @@ ports-any t p true e within =
     let s : Bool = holds t.sports.ranges p.sport in
     let d : Bool = holds t.dports.ranges p.dport in
     ap (λ x. (x && d) || ((s && holds (in_both t.dports t.ports).ranges p.dport) || false))
-    (both-holds t.sports t.ports p.sport t.sound.sports_normal)
+    (both-holds t.sports t.ports p.sport (t.sound.normal SourcePort))
     ∙ ap (λ x. ((s && holds t.ports.ranges p.sport) && d) || ((s && x) || false))
-    (both-holds t.dports t.ports p.dport t.sound.dports_normal)
+    (both-holds t.dports t.ports p.dport (t.sound.normal DestinationPort))
     ∙ either-way s d (holds t.ports.ranges p.sport) (holds t.ports.ranges p.dport)
 ports-any t p false e within =
     let s : Bool = holds t.sports.ranges p.sport in
@@ -386,7 +390,7 @@ unfolding family_rules
 family-step target t f p is =
     let same : Bool = same_family f p.family in
     let h : Bool = has_protocol f t p.proto in
-    let k : Bool = holds t.itypes.ranges p.itype && passed-by target t p in
+    let k : Bool = icmp_match f t p && passed-by target t p in
     let ports : Bool = list_any (ports-on t p) (sides_of t.port_named) in
     let sport = is.source_port in
     any-flat (λ r. rule_holds r p) (pair_rules target t f) (pairs_of t)
@@ -396,7 +400,8 @@ family-step target t f p is =
     ∙ where-same same ((h && list_any (addresses-on f t p) (sides_of t.addr_named)) && (ports && k)) (matches_in f (mode_of target) t p) (λ e.
     ap (λ x. (h && x) && (ports && k)) (addresses-any f t p t.addr_named refl
     (subst (λ g. p.src ≤ top_address g) (family-is f p.family e) is.source))
-    ∙ ap (λ x. (h && addresses_match f t p) && (x && k)) (ports-any t p t.port_named refl (omega (arith, sport))))
+    ∙ ap (λ x. (h && addresses_match f t p) && (x && k)) (ports-any t p t.port_named refl (omega (arith, sport)))
+    ∙ sym (by-parts f (mode_of target) t p))
 
 -- ---- all families of a target
 

@@ -8,6 +8,7 @@ use Rattle.acl_packet.specs.declared.addresses.Families.TheVariants.{Inet, Inet6
 use Rattle.acl_packet.specs.declared.addresses.Family.{Family}
 use Rattle.acl_packet.specs.declared.addresses.Family.TheVariants.{V4, V6}
 use Rattle.acl_packet.specs.declared.packets.Conn.TheVariants as conns
+use Rattle.acl_packet.specs.declared.packet_fields.Field.TheVariants.{IcmpType}
 use Rattle.acl_packet.specs.declared.packets.Packet.{Packet}
 use Rattle.acl_packet.specs.Addresses.{covers, same_family}
 use Rattle.acl_days.specs.declared.days.Day.{Day}
@@ -23,6 +24,7 @@ use Rattle.acl_terms.specs.declared.sides.SidePair.{SidePair}
 use Rattle.acl_terms.specs.declared.terms.Term.{Term}
 use Rattle.acl_terms.specs.Outcomes.{mode_of}
 use Rattle.acl_terms.specs.Resolved.{destinations_on, is_pair_empty, is_term_live, pairs_of, sources_on, sports_on}
+use Rattle.acl_terms.proofs.FieldLaws.{icmp_match}
 use Rattle.acl_platform.specs.declared.rules.Rule.{Rule}
 use Rattle.acl_platform.specs.declared.rules.Test.{Test}
 use Rattle.acl_platform.specs.declared.rules.Test.TheVariants as tests
@@ -74,17 +76,17 @@ rule-packet kind families f t pair c covered some fits more =
     let sport = held-in (sports_on pair.ports t).top (sports_on pair.ports t).ranges (sports-normal pair.ports t) (some-ranges (sports_on pair.ports t) has.sports) in
     let dport = held-in 65535 c.dports.ranges fits.dports.normal fits.dports.some in
     let proto = held-in 255 c.protos.ranges fits.protos.full.normal fits.protos.full.some in
-    let itype = held-in t.itypes.top t.itypes.ranges t.sound.itypes_normal t.sound.itypes_some in
+    let itype = held-in t.itypes.top t.itypes.ranges (t.sound.normal IcmpType) (t.sound.some IcmpType refl) in
     let p : Packet = record { family = f; src = src.0; dst = dst.0; proto = proto.0; sport = sport.0; dport = dport.0; flags = 6; itype = itype.0; conn = conns.Established } in
     let src_top = sources-top side f t in
     let sport_top = sports-top pair.ports t in
     let dports : Bool = holds c.dports.ranges dport.0 in
-    let types : Bool = holds t.itypes.ranges itype.0 in
-    let tail = and_from dports types dport.1 itype.1 in
-    let ports = and_from (holds (sports_on pair.ports t).ranges sport.0) (dports && types) sport.1 tail in
-    let to = and_from (holds (destinations_on side f t).ranges dst.0) (holds (sports_on pair.ports t).ranges sport.0 && (dports && types)) dst.1 ports in
+    let icmp : Bool = icmp_match f t p in
+    let tail = and_from dports icmp dport.1 (and_from (holds t.itypes.ranges itype.0) true itype.1 refl) in
+    let ports = and_from (holds (sports_on pair.ports t).ranges sport.0) (dports && icmp) sport.1 tail in
+    let to = and_from (holds (destinations_on side f t).ranges dst.0) (holds (sports_on pair.ports t).ranges sport.0 && (dports && icmp)) dst.1 ports in
     let from = and_from (holds (sources_on side f t).ranges src.0)
-    (holds (destinations_on side f t).ranges dst.0 && (holds (sports_on pair.ports t).ranges sport.0 && (dports && types))) src.1 to in
+    (holds (destinations_on side f t).ranges dst.0 && (holds (sports_on pair.ports t).ranges sport.0 && (dports && icmp))) src.1 to in
     let sets = and_from (holds c.protos.ranges proto.0) _ proto.1 from in (
       p,
       record {

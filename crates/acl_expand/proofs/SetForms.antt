@@ -8,6 +8,7 @@ use Rattle.std.proofs.lemmas.Bool.{and_left, or_from, both_ways, false_from_ne_t
 use Rattle.acl_packet.specs.declared.addresses.Family.{Family}
 use Rattle.acl_packet.specs.declared.addresses.Family.TheVariants.{V4, V6}
 use Rattle.acl_packet.specs.declared.addresses.Prefix.{Prefix}
+use Rattle.acl_packet.specs.declared.packet_fields.Field.TheVariants.{Protocol}
 use Rattle.acl_packet.specs.Addresses.{top_address, width_of, everywhere}
 use Rattle.acl_sets.specs.declared.sets.Range.{Range}
 use Rattle.acl_sets.specs.ComputableLeastLists.{halved_space, last_of}
@@ -133,7 +134,7 @@ all-or-not : (f : Family) (t : Term) (n : ℕ) (b : Bool) → is_all t.protos �
 all-or-not f t n true e = sym (and-true (holds t.protos.ranges n))
 all-or-not f t n false e =
     let k = foreign_of f in
-    cut_all-holds 0 t.protos.top k (just k ∷ []) t.protos.ranges n (just-range k) t.sound.protos_normal
+    cut_all-holds 0 t.protos.top k (just k ∷ []) t.protos.ranges n (just-range k) (t.sound.normal Protocol)
     ∙ ap (λ b. holds t.protos.ranges n && not b) (just-holds k n)
 
 pub protocol-holds : (f : Family) (t : Term) (n : ℕ) → holds (protocols_in f t).ranges n ≡ has_protocol f t n

@@ -3,6 +3,7 @@ use Rattle.std.proofs.Common.{◌≡◌, ◌≢◌, ℕ, ◌+◌, ◌^◌, ◌�
 use Rattle.std.proofs.lemmas.Bool.{both_ways, or_parts}
 use Rattle.acl_packet.specs.declared.addresses.Family.{Family}
 use Rattle.acl_packet.specs.declared.addresses.Family.TheVariants.{V4, V6}
+use Rattle.acl_packet.specs.declared.packet_fields.Field.TheVariants.{SourcePort, DestinationPort}
 use Rattle.acl_packet.specs.Addresses.{top_address, width_of}
 use Rattle.acl_packet.specs.Packets.{has_ports}
 use Rattle.acl_sets.specs.ComputableSets.{is_all}
@@ -50,10 +51,10 @@ pub destinations-top : (side : Side) (f : Family) (t : Term) → (destinations_o
 destinations-top side f t = destination-cut-top side (destination_in f t) (either_in f t) ∙ destination-top f t
 
 pub sports-top : (side : Side) (t : Term) → (sports_on side t).top ≡ 65535
-sports-top side t = source-cut-top side t.sports t.ports ∙ t.sound.sports_top
+sports-top side t = source-cut-top side t.sports t.ports ∙ t.sound.tops SourcePort
 
 pub dports_top : (side : Side) (t : Term) → (dports_on side t).top ≡ 65535
-dports_top side t = destination-cut-top side t.dports t.ports ∙ t.sound.dports_top
+dports_top side t = destination-cut-top side t.dports t.ports ∙ t.sound.tops DestinationPort
 
 -- ---- normal forms
 
@@ -65,10 +66,10 @@ destinations-normal side f t =
     destination-cut-normal side (destination_in f t) (either_in f t) (destination_tops f t) (destination-normal f t) (either-normal f t)
 
 pub sports-normal : (side : Side) (t : Term) → IsNormal 0 (sports_on side t).top (sports_on side t).ranges
-sports-normal side t = source-cut-normal side t.sports t.ports (sport_tops t) t.sound.sports_normal t.sound.ports_normal
+sports-normal side t = source-cut-normal side t.sports t.ports (sport_tops t) (t.sound.normal SourcePort) t.sound.ports_normal
 
 pub dports-normal : (side : Side) (t : Term) → IsNormal 0 (dports_on side t).top (dports_on side t).ranges
-dports-normal side t = destination-cut-normal side t.dports t.ports (dport_tops t) t.sound.dports_normal t.sound.ports_normal
+dports-normal side t = destination-cut-normal side t.dports t.ports (dport_tops t) (t.sound.normal DestinationPort) t.sound.ports_normal
 
 -- ---- sets that are all
 
@@ -92,19 +93,33 @@ both-fit P s e tops n m left right part = by (is_all s) (is_all e) refl refl
     by true false p q = right q
     by true true p q = absurd (both_ways (is_all (in_both s e)) part (both-all s e tops n m p q))
 
+-- A fact that holds in one of two ways, which are the same.
+once : (test : ℕ → Bool) (s : Numbers) → ((Only test s → ⊥) → Only test s) → Only test s
+once test s h x e = by (test x) refl
+  where
+    by : (b : Bool) → test x ≡ b → test x ≡ true
+    by true q = q
+    by false q = h (λ only. both_ways (test x) q (only x e)) x e
+
+sports-own : (t : Term) → is_all t.sports ≡ false → Only has_ports t.protos
+sports-own t e = once has_ports t.protos (t.sound.fit SourcePort e)
+
+dports-own : (t : Term) → is_all t.dports ≡ false → Only has_ports t.protos
+dports-own t e = once has_ports t.protos (t.sound.fit DestinationPort e)
+
 pub sports-fit : (side : Side) (t : Term) → is_all (sports_on side t) ≡ false → Only has_ports t.protos
-sports-fit Whole t e = t.sound.sports_fit e
+sports-fit Whole t e = sports-own t e
 sports-fit Source t e =
-    both-fit (Only has_ports t.protos) t.sports t.ports (sport_tops t) t.sound.sports_normal t.sound.ports_normal
-    t.sound.sports_fit t.sound.ports_fit e
-sports-fit Destination t e = t.sound.sports_fit e
+    both-fit (Only has_ports t.protos) t.sports t.ports (sport_tops t) (t.sound.normal SourcePort) t.sound.ports_normal
+    (sports-own t) t.sound.ports_fit e
+sports-fit Destination t e = sports-own t e
 
 pub dports-fit : (side : Side) (t : Term) → is_all (dports_on side t) ≡ false → Only has_ports t.protos
-dports-fit Whole t e = t.sound.dports_fit e
-dports-fit Source t e = t.sound.dports_fit e
+dports-fit Whole t e = dports-own t e
+dports-fit Source t e = dports-own t e
 dports-fit Destination t e =
-    both-fit (Only has_ports t.protos) t.dports t.ports (dport_tops t) t.sound.dports_normal t.sound.ports_normal
-    t.sound.dports_fit t.sound.ports_fit e
+    both-fit (Only has_ports t.protos) t.dports t.ports (dport_tops t) (t.sound.normal DestinationPort) t.sound.ports_normal
+    (dports-own t) t.sound.ports_fit e
 
 -- Where nothing is asked of either address, each is one of which it might be.
 pub either-all : (f : Family) (t : Term) (x : ℕ) → t.addr_named ≡ false → x ≤ top_address f → holds (either_in f t).ranges x ≡ true

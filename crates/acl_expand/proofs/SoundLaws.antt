@@ -6,10 +6,13 @@ use Rattle.std.proofs.lemmas.Bool.{and_from, and_parts, or_from, or_left, both_w
 use Rattle.acl_packet.specs.declared.addresses.Families.{Families}
 use Rattle.acl_packet.specs.declared.addresses.Family.{Family}
 use Rattle.acl_packet.specs.declared.addresses.Family.TheVariants.{V4, V6}
+use Rattle.acl_packet.specs.declared.packet_fields.Field.{Field}
+use Rattle.acl_packet.specs.declared.packet_fields.Field.TheVariants.{Protocol, IcmpType}
 use Rattle.acl_packet.specs.declared.filtering.Verdict.{Verdict}
 use Rattle.acl_packet.specs.declared.filtering.Verdict.TheVariants.{Accept, Deny, Reject, Reset, Left}
 use Rattle.acl_packet.specs.Addresses.{covers, top_address}
-use Rattle.acl_packet.specs.Packets.{has_ports, is_extension_header, is_icmp, foreign_of}
+use Rattle.acl_packet.specs.Packets.{foreign_of, has_field, has_ports, is_extension_header, is_icmp, top_of}
+use Rattle.acl_packet.proofs.FieldLaws.{by-field}
 use Rattle.acl_sets.specs.declared.sets.Range.{Range}
 use Rattle.acl_sets.specs.ComputableSets.{cut_all, is_all}
 use Rattle.acl_sets.specs.LeastLists.{IsLeastList}
@@ -27,13 +30,14 @@ use Rattle.acl_terms.specs.declared.sides.Side.{Side}
 use Rattle.acl_terms.specs.declared.sides.Side.TheVariants.{Whole, Source, Destination}
 use Rattle.acl_terms.specs.declared.sides.SidePair.{SidePair}
 use Rattle.acl_terms.specs.declared.terms.Term.{Term}
-use Rattle.acl_terms.specs.Resolved.{destinations_on, dports_on, has_none, has_protocol, in_both, is_pair_empty, sources_on, sports_on}
+use Rattle.acl_terms.specs.Resolved.{destinations_on, dports_on, has_none, has_protocol, in_both, is_pair_empty, set_in, sources_on, sports_on}
 use Rattle.acl_terms.specs.Slips.{is_tcp_or_udp}
-use Rattle.acl_terms.specs.Soundness.{is_established, is_left, is_reset, needs_tcp}
+use Rattle.acl_terms.specs.Soundness.{HaveField, is_established, is_left, is_protocol, is_reset, needs_tcp}
 use Rattle.acl_terms.proofs.EmptyLaws.{pair-empty-law}
 use Rattle.acl_terms.proofs.SideLaws.{both-normal, none-held}
 use Rattle.acl_platform.specs.declared.rules.Test.{Test}
 use Rattle.acl_platform.specs.declared.rules.Test.TheVariants as tests
+use Rattle.acl_platform.specs.Rules.{set_of}
 use Rattle.acl_platform.specs.SoundFilters.{has_test, has_verdict, IsFull, IsFullList, IsOneOf, IsSoundRule, address_suffixes, is_named_protocol, is_tcp, port_suffixes, protocol_suffixes, tests_flags}
 use Rattle.acl_expand.specs.declared.conditions.Conditions.{Conditions}
 use Rattle.acl_expand.specs.ExpansionSlips.{extension_headers, header_named}
@@ -62,6 +66,9 @@ full-list f s top n some = record {
 full : (top : ℕ) (s : Numbers) → s.top ≡ top → IsNormal 0 s.top s.ranges → s.ranges ≢ [] → IsFull top s
 full top s e n some = record { top_is = e; normal = subst (λ k. IsNormal 0 k s.ranges) e n; some = some }
 
+own-full : (t : Term) (field : Field) → is_protocol field ≡ false → IsFull (top_of field) (set_in field t)
+own-full t field e = full (top_of field) (set_in field t) (t.sound.tops field) (t.sound.normal field) (t.sound.some field e)
+
 -- The protocols of a rule are some of its term's.
 pub record AreProtocols (f : Family) (t : Term) (s : Numbers) : Type 0 where
   pub full : IsFull 255 s
@@ -70,15 +77,15 @@ pub record AreProtocols (f : Family) (t : Term) (s : Numbers) : Type 0 where
 
 family-normal : (f : Family) (t : Term) (b : Bool)
     → IsNormal 0 t.protos.top (cond b t.protos (record { top = t.protos.top; ranges = cut_all (just (foreign_of f) ∷ []) t.protos.ranges })).ranges
-family-normal f t true = t.sound.protos_normal
+family-normal f t true = t.sound.normal Protocol
 family-normal f t false =
     let k = foreign_of f in
-    cut_all-normal 0 t.protos.top k (just k ∷ []) t.protos.ranges (just-range k) t.sound.protos_normal
+    cut_all-normal 0 t.protos.top k (just k ∷ []) t.protos.ranges (just-range k) (t.sound.normal Protocol)
 
 family-top : (f : Family) (t : Term) (b : Bool)
     → (cond b t.protos (record { top = t.protos.top; ranges = cut_all (just (foreign_of f) ∷ []) t.protos.ranges })).top ≡ 255
-family-top f t true = t.sound.protos_top
-family-top f t false = t.sound.protos_top
+family-top f t true = t.sound.tops Protocol
+family-top f t false = t.sound.tops Protocol
 
 family-named : (f : Family) (t : Term) (b : Bool) → is_all t.protos ≡ b
     → is_all (cond b t.protos (record { top = t.protos.top; ranges = cut_all (just (foreign_of f) ∷ []) t.protos.ranges })) ≡ false
@@ -90,7 +97,7 @@ family-protocols : (f : Family) (t : Term) (pair : SidePair) → is_pair_empty f
 family-protocols f t pair h = record {
   full = record {
     top_is = family-top f t (is_all t.protos);
-    normal = subst (λ k. IsNormal 0 k (protocols_in f t).ranges) t.sound.protos_top (family-normal f t (is_all t.protos));
+    normal = subst (λ k. IsNormal 0 k (protocols_in f t).ranges) (t.sound.tops Protocol) (family-normal f t (is_all t.protos));
     some = λ empty. both_ways (is_pair_empty f t pair) h ((pair-empty-law f t pair).1 (inr (λ x.
         sym (protocol-holds f t x) ∙ ap (λ rs. holds rs x) empty)));
   };
@@ -189,25 +196,25 @@ names-protocol V6 t x h all e =
     (true-not (is_extension_header x) (no-header t x h all held))
     (true-not (x == 1) (not-foreign V6 t x all e))
 
--- ---- types
+-- ---- fields of ICMP
 
-icmp-left : (t : Term) (x : ℕ) → is_all t.itypes ≡ false → holds t.protos.ranges x ≡ true → (x == 1) ≡ false → (x == 58) ≡ true
-icmp-left t x types held n = t.sound.itypes_fit types (λ only. both_ways (x == 1) n (only x held)) x held
+icmp-left : (t : Term) (x : ℕ) → HaveField IcmpType t.protos → holds t.protos.ranges x ≡ true → (x == 1) ≡ false → (x == 58) ≡ true
+icmp-left t x fit held n = fit (λ only. both_ways (x == 1) n (only x held)) x held
 
-typed-not-all : (t : Term) → is_all t.itypes ≡ false → is_all t.protos ≡ false
-typed-not-all t types =
+icmp-not-all : (t : Term) → HaveField IcmpType t.protos → is_all t.protos ≡ false
+icmp-not-all t fit =
     false_from_ne_true (is_all t.protos)
-    (λ e. both_ways false refl (icmp-left t 0 types (all-held t.protos 0 e (omega arith)) refl))
+    (λ e. both_ways false refl (icmp-left t 0 fit (all-held t.protos 0 e (omega arith)) refl))
 
-first-icmp : (t : Term) (x : ℕ) (b : Bool) → (x == 1) ≡ b → is_all t.itypes ≡ false → holds t.protos.ranges x ≡ true
+first-icmp : (t : Term) (x : ℕ) (b : Bool) → (x == 1) ≡ b → HaveField IcmpType t.protos → holds t.protos.ranges x ≡ true
     → (x == 58) ≡ false → (x == 1) ≡ true
-first-icmp t x true e types held n = e
-first-icmp t x false e types held n = absurd (both_ways (x == 58) n (icmp-left t x types held e))
+first-icmp t x true e fit held n = e
+first-icmp t x false e fit held n = absurd (both_ways (x == 58) n (icmp-left t x fit held e))
 
-types-family : (f : Family) (t : Term) (x : ℕ) → is_all t.itypes ≡ false → holds t.protos.ranges x ≡ true
+icmp-family : (f : Family) (t : Term) (x : ℕ) → HaveField IcmpType t.protos → holds t.protos.ranges x ≡ true
     → has_protocol f t x ≡ true → is_icmp f x ≡ true
-types-family V4 t x types held e = first-icmp t x (x == 1) refl types held (not-foreign V4 t x (typed-not-all t types) e)
-types-family V6 t x types held e = icmp-left t x types held (not-foreign V6 t x (typed-not-all t types) e)
+icmp-family V4 t x fit held e = first-icmp t x (x == 1) refl fit held (not-foreign V4 t x (icmp-not-all t fit) e)
+icmp-family V6 t x fit held e = icmp-left t x fit held (not-foreign V6 t x (icmp-not-all t fit) e)
 
 -- ---- verdicts
 
@@ -276,14 +283,13 @@ rule-sound kind families f t pair c covered some header fits =
       note = s.note_is;
       sources = full-list f (sources_on side f t) (sources-top side f t) (sources-normal side f t) has.sources;
       destinations = full-list f (destinations_on side f t) (destinations-top side f t) (destinations-normal side f t) has.destinations;
-      protocols = p.full;
-      source_ports = full 65535 (sports_on pair.ports t) (sports-top pair.ports t) (sports-normal pair.ports t) (some-ranges (sports_on pair.ports t) has.sports);
-      destination_ports = fits.dports;
-      types = full 255 t.itypes s.itypes_top s.itypes_normal s.itypes_some;
+      numbers = by-field (λ field. IsFull (top_of field) (set_of field (rule_of kind f t pair c))) p.full
+          (full 65535 (sports_on pair.ports t) (sports-top pair.ports t) (sports-normal pair.ports t) (some-ranges (sports_on pair.ports t) has.sports))
+          fits.dports (own-full t IcmpType refl);
+      numbers_fit = by-field (λ field. is_all (set_of field (rule_of kind f t pair c)) ≡ false → Only (has_field f field) c.protos)
+          (λ _ _ _. refl) (λ e. fewer f t c.protos has_ports p (sports-fit pair.ports t e)) fits.dports_fit
+          (λ e x h. icmp-family f t x (s.fit IcmpType e) (term-holds f t c.protos p x h) (p.held x h));
       protocols_named = λ e x h. names-protocol f t x header (p.named e) (p.held x h);
-      source_ports_fit = λ e. fewer f t c.protos has_ports p (sports-fit pair.ports t e);
-      destination_ports_fit = fits.dports_fit;
-      types_fit = λ e x h. types-family f t x e (term-holds f t c.protos p x h) (p.held x h);
       types_named = s.itypes_lack_255;
       flags_fit = fits.flags;
       reset_fits = λ e. fewer f t c.protos is_tcp p (s.reset_fits (resets kind t.verdict e));

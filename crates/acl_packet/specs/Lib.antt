@@ -1,6 +1,7 @@
 pub mod AddressLists
 pub mod Addresses
 pub mod Decimals
+pub mod FieldSteps
 pub mod NumberWordSteps
 pub mod NumberWords
 pub mod Outcomes

@@ -1,7 +1,9 @@
 -- What a packet is: one that is no fragment, with each field that its protocol has not at 0.
-use Rattle.std.specs.Prelude.{◌≡◌, ◌≢◌, ℕ, ◌<◌, ◌^◌, Bool, true, false, not, ◌&&◌, ◌||◌, ◌==◌, bit_and}
+use Rattle.std.specs.Prelude.{◌≡◌, ◌≢◌, ℕ, ◌<◌, ◌≤◌, ◌^◌, Bool, true, false, not, ◌&&◌, ◌||◌, ◌==◌, bit_and, List, [], ◌∷◌}
 use Rattle.acl_packet.specs.declared.addresses.Family.{Family}
 use Rattle.acl_packet.specs.declared.addresses.Family.TheVariants.{V4, V6}
+use Rattle.acl_packet.specs.declared.packet_fields.Field.{Field}
+use Rattle.acl_packet.specs.declared.packet_fields.Field.TheVariants.{Protocol, SourcePort, DestinationPort, IcmpType}
 use Rattle.acl_packet.specs.declared.packets.Conn.{Conn}
 use Rattle.acl_packet.specs.declared.packets.Conn.TheVariants.{New, Established, Related, Invalid}
 use Rattle.acl_packet.specs.declared.packets.Packet.{Packet}
@@ -23,6 +25,34 @@ foreign_of V6 = 1
 
 abbrev pub is_icmp : Family → ℕ → Bool
 is_icmp family proto = proto == icmp_of family
+
+-- The numbers of a packet, beside its addresses, that a filter has sets of: the last ones are those of ICMP.
+abbrev pub icmp_fields : List Field
+icmp_fields = IcmpType ∷ []
+
+abbrev pub fields : List Field
+fields = Protocol ∷ SourcePort ∷ DestinationPort ∷ icmp_fields
+
+abbrev pub number_of : Field → Packet → ℕ
+number_of Protocol p = p.proto
+number_of SourcePort p = p.sport
+number_of DestinationPort p = p.dport
+number_of IcmpType p = p.itype
+
+-- The greatest number of a field: ports have 16 bits (RFC 9293 section 3.1, RFC 768, RFC 9260 section 3.1), protocols
+-- (RFC 791 section 3.1, RFC 8200 section 3) and types (RFC 792, RFC 4443 section 2.1) have 8.
+abbrev pub top_of : Field → ℕ
+top_of Protocol = 255
+top_of SourcePort = 65535
+top_of DestinationPort = 65535
+top_of IcmpType = 255
+
+-- Packets of the family and the protocol have the field.
+abbrev pub has_field : Family → Field → ℕ → Bool
+has_field family Protocol proto = true
+has_field family SourcePort proto = has_ports proto
+has_field family DestinationPort proto = has_ports proto
+has_field family IcmpType proto = is_icmp family proto
 
 -- A flag of TCP is set: FIN 1, SYN 2, RST 4, PSH 8, ACK 16, URG 32 (RFC 9293 section 3.1).
 abbrev pub has_flag : ℕ → ℕ → Bool
@@ -57,12 +87,8 @@ is_extension_header proto = proto == 0 || proto == 43 || proto == 44 || proto ==
 pub record IsPacket (p : Packet) : Type 0 where
   pub source : p.src < 2 ^ width_of p.family
   pub destination : p.dst < 2 ^ width_of p.family
-  pub protocol : p.proto < 256
   pub no_header : p.family ≡ V6 → is_extension_header p.proto ≡ false
-  pub source_port : p.sport < 65536
-  pub destination_port : p.dport < 65536
-  pub ports : has_ports p.proto ≡ false → (p.sport ≡ 0) × (p.dport ≡ 0)
+  pub numbers : (field : Field) → number_of field p ≤ top_of field
+  pub absent : (field : Field) → has_field p.family field p.proto ≡ false → number_of field p ≡ 0
   pub flags_fit : p.flags < 64
   pub flags_of_tcp : p.proto ≢ 6 → p.flags ≡ 0
-  pub type_fits : p.itype < 256
-  pub type_of_icmp : is_icmp p.family p.proto ≡ false → p.itype ≡ 0

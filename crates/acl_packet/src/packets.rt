@@ -9,6 +9,7 @@ ghost use Rattle.acl_packet.specs.Packets.{
 };
 
 use crate::addresses::Family;
+use crate::packet_fields::are_fitting;
 
 /// What connection tracking says of a packet's connection.
 #[derive(Clone, Copy, Debug, PartialEq, Eq)]
@@ -80,12 +81,12 @@ pub fn is_packet(p: &Packet) -> bool
     let Packet {
         src,
         dst,
-        sport,
-        dport,
+        sport: _,
+        dport: _,
         family,
         proto,
         flags,
-        itype,
+        itype: _,
         conn: _,
     } = *p;
     if !is_address(family, src) || !is_address(family, dst) {
@@ -94,16 +95,10 @@ pub fn is_packet(p: &Packet) -> bool
     if family == Family::V6 && is_extension_header(proto) {
         return false;
     }
-    if !has_ports(proto) && (sport != 0 || dport != 0) {
-        return false;
-    }
     if flags >= 64 || (proto != 6 && flags != 0) {
         return false;
     }
-    if !is_icmp(family, proto) && itype != 0 {
-        return false;
-    }
-    true
+    are_fitting(p)
 }
 
 /// Whether the flag, one of the bits of `Packet::flags`, is set among the flags.
@@ -129,7 +124,8 @@ pub fn has_ports(proto: u8) -> bool
     proto == 6 || proto == 17 || proto == 132
 }
 
-fn is_icmp(family: Family, proto: u8) -> bool
+/// Whether packets of the protocol are ICMP of the family.
+pub(crate) fn is_icmp(family: Family, proto: u8) -> bool
     ensures { result ≡ is_icmp family proto }
 {
     proto == family.icmp_number()

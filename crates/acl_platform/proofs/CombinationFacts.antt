@@ -5,6 +5,7 @@ use Rattle.std.specs.List.{AllByRecursion, list_any}
 use Rattle.std.proofs.lemmas.Bool.{or_left, or_right}
 use Rattle.std.proofs.lemmas.Bool.Decides.{Decides-eqb}
 use Rattle.std.proofs.lemmas.List.Elements.{recursion_from_All}
+use Rattle.acl_packet.specs.declared.packet_fields.Field.TheVariants.{SourcePort, DestinationPort}
 use Rattle.acl_packet.specs.declared.addresses.Families.{Families}
 use Rattle.acl_packet.specs.declared.addresses.Family.{Family}
 use Rattle.acl_packet.specs.declared.addresses.Prefix.{Prefix}
@@ -100,9 +101,9 @@ combination-facts kind families r h =
     (all-numbers r.protos)
     (all-pairs P Third r.src (pairs r.dst (pairs sports (pairs dports types))) (all-prefixes r.family r.src h.sources)
     (all-pairs P Ports r.dst (pairs sports (pairs dports types)) (all-prefixes r.family r.dst h.destinations)
-    (all-pairs (OfRanges r.sports) Last sports (pairs dports types) (all-ranges 0 65535 r.sports h.source_ports.top_is h.source_ports.normal)
+    (all-pairs (OfRanges r.sports) Last sports (pairs dports types) (all-ranges 0 65535 r.sports (h.numbers SourcePort).top_is (h.numbers SourcePort).normal)
     (all-pairs (OfRanges r.dports) (OfNumbers r.itypes) dports types
-    (all-ranges 0 65535 r.dports h.destination_ports.top_is h.destination_ports.normal) (all-numbers r.itypes))))) in
+    (all-ranges 0 65535 r.dports (h.numbers DestinationPort).top_is (h.numbers DestinationPort).normal) (all-numbers r.itypes))))) in
     all-map (IsCombinationOf r) combination_of (parts_of r)
     (all-weaker (λ c k. record {
       protocol = k.0;

@@ -1,18 +1,24 @@
 -- The combinations of a rule hold what its sets hold, and a sound rule has one.
-use Rattle.std.proofs.Common.{◌≡◌, ℕ, Bool, ◌&&◌, ◌||◌, List, [], ◌∷◌, map, Option, refl, ap, ◌∙◌}
+use Rattle.std.proofs.Common.{◌≡◌, ℕ, Bool, ◌&&◌, ◌||◌, List, [], ◌∷◌, map, Option, refl, ap, sym, ◌∙◌}
 use Rattle.std.specs.List.{list_any}
+use Rattle.acl_packet.specs.declared.packet_fields.Field.TheVariants.{Protocol, SourcePort, DestinationPort, IcmpType}
 use Rattle.acl_packet.specs.declared.addresses.Prefix.{Prefix}
 use Rattle.acl_packet.specs.Addresses.{has_address}
 use Rattle.acl_packet.specs.AddressLists.{any_has}
 use Rattle.acl_platform.specs.Choices.{in_range, is_chosen, number_choices, pairs, range_choices}
 use Rattle.acl_platform.specs.Combinations.{combination_holds, combination_of, CombinationsHold, parts_of, SomeCombination}
 use Rattle.acl_platform.proofs.ChoiceLaws.{any-number, any-range, some-map, some-number, some-range}
+use Rattle.acl_platform.proofs.FieldLaws.{combination-told, sets-told}
 use Rattle.acl_platform.proofs.PairLaws.{any-pairs, some-pair}
 use Rattle.acl_platform.proofs.SoundRules.{in-tops}
 
 any-map : {A B : Type 0} (test : B → Bool) (f : A → B) (xs : List A) → list_any test (map f xs) ≡ list_any (λ x. test (f x)) xs
 any-map test f [] = refl
 any-map test f (x ∷ xs) = ap (λ t. test (f x) || t) (any-map test f xs)
+
+pub any-same : {A : Type 0} (f g : A → Bool) → ((x : A) → f x ≡ g x) → (xs : List A) → list_any f xs ≡ list_any g xs
+any-same f g e [] = refl
+any-same f g e (x ∷ xs) = ap (λ t. t || list_any f xs) (e x) ∙ ap (λ t. g x || t) (any-same f g e xs)
 
 four-same : {a d e f : Bool} (b c : Bool) {w x y z : Bool} → a ≡ w → d ≡ x → e ≡ y → f ≡ z
     → a && (b && (c && (d && (e && f)))) ≡ w && (b && (c && (x && (y && z))))
@@ -38,13 +44,16 @@ any-combination kind families r p h k =
     let protos = number_choices r.protos in
     let tops = in-tops kind families r p h k in
     any-map (combination_holds p) combination_of (parts_of r)
+    ∙ any-same (λ c. combination_holds p (combination_of c)) (λ c. proto c.0 && second c.1)
+    (λ c. combination-told p (combination_of c)) (parts_of r)
     ∙ any-pairs proto second protos (pairs r.src (pairs r.dst (pairs sports (pairs dports types))))
     ∙ ap (λ t. list_any proto protos && t) (any-pairs src third r.src (pairs r.dst (pairs sports (pairs dports types)))
     ∙ ap (λ t. any_has r.src p.src && t) (any-pairs dst ports r.dst (pairs sports (pairs dports types))
     ∙ ap (λ t. any_has r.dst p.dst && t) (any-pairs from last sports (pairs dports types)
     ∙ ap (λ t. list_any from sports && t) (any-pairs into type_ dports types))))
-    ∙ four-same (any_has r.src p.src) (any_has r.dst p.dst) (any-number r.protos p.proto tops.protocol) (any-range r.sports p.sport tops.source_port)
-    (any-range r.dports p.dport tops.destination_port) (any-number r.itypes p.itype tops.type_of_icmp)
+    ∙ four-same (any_has r.src p.src) (any_has r.dst p.dst) (any-number r.protos p.proto (tops Protocol)) (any-range r.sports p.sport (tops SourcePort))
+    (any-range r.dports p.dport (tops DestinationPort)) (any-number r.itypes p.itype (tops IcmpType))
+    ∙ sym (sets-told r p)
 
 pub some-combination : SomeCombination
 some-combination kind families r h =
@@ -53,9 +62,9 @@ some-combination kind families r h =
     let sports = range_choices r.sports in
     let protos = number_choices r.protos in
     some-map combination_of (parts_of r) (some-pair protos (pairs r.src (pairs r.dst (pairs sports (pairs dports types))))
-    (some-number 0 255 r.protos h.protocols.normal h.protocols.some)
+    (some-number 0 255 r.protos (h.numbers Protocol).normal (h.numbers Protocol).some)
     (some-pair r.src (pairs r.dst (pairs sports (pairs dports types))) h.sources.some
     (some-pair r.dst (pairs sports (pairs dports types)) h.destinations.some
-    (some-pair sports (pairs dports types) (some-range r.sports h.source_ports.some)
-    (some-pair dports types (some-range r.dports h.destination_ports.some)
-    (some-number 0 255 r.itypes h.types.normal h.types.some))))))
+    (some-pair sports (pairs dports types) (some-range r.sports (h.numbers SourcePort).some)
+    (some-pair dports types (some-range r.dports (h.numbers DestinationPort).some)
+    (some-number 0 255 r.itypes (h.numbers IcmpType).normal (h.numbers IcmpType).some))))))

@@ -3,6 +3,7 @@ pub mod ChoiceLaws
 pub mod CombinationFacts
 pub mod CombinationLaws
 pub mod ElementLaws
+pub mod FieldLaws
 pub mod EntryLaws
 mod NameSlotLaws
 pub mod NamedNumbers

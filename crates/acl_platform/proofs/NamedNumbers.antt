@@ -3,6 +3,7 @@ use Rattle.std.proofs.Common.{◌≡◌, ℕ, zero, suc, ◌≤◌, zero-le, Boo
 use Rattle.std.specs.Option.{IfSome}
 use Rattle.std.proofs.Math.Nat.{suc-le-suc_iff}
 use Rattle.std.proofs.lemmas.Bool.{false≢true}
+use Rattle.acl_packet.specs.declared.packet_fields.Field.TheVariants.{Protocol, IcmpType}
 use Rattle.acl_packet.specs.declared.addresses.Families.{Families}
 use Rattle.acl_packet.specs.declared.addresses.Family.{Family}
 use Rattle.acl_packet.specs.declared.addresses.Family.TheVariants.{V4, V6}
@@ -25,12 +26,12 @@ pub protocol-is : (kind : Kind) (families : Families) (r : Rule) (o : Option ℕ
     → IfSome o (λ n. (1 ≤ n) × (n ≤ 255))
 protocol-is kind families r None h k = tt
 protocol-is kind families r (Some n) h k =
-    (named-positive r.family n (h.protocols_named k.0 n k.1), at_top 0 255 r.protos.ranges n h.protocols.normal k.1)
+    (named-positive r.family n (h.protocols_named k.0 n k.1), at_top 0 255 r.protos.ranges n (h.numbers Protocol).normal k.1)
 
 pub type-is : (kind : Kind) (families : Families) (r : Rule) (o : Option ℕ) → IsSoundRule kind families r → OfNumbers r.itypes o
     → IfSome o (λ n. n ≤ 254)
 type-is kind families r None h k = tt
-type-is kind families r (Some n) h k = type-most r.itypes n h.types.normal (h.types_named k.0) k.1
+type-is kind families r (Some n) h k = type-most r.itypes n (h.numbers IcmpType).normal (h.types_named k.0) k.1
 
 -- a number is named, which the set holds and which passes the test
 abbrev pub Named : (ℕ → Bool) → Numbers → Option ℕ → Type 0

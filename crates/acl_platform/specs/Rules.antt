@@ -1,11 +1,14 @@
 -- Rules of a filter, and what the filter does to a packet, with nothing said of any device.
 use Rattle.std.specs.Prelude.{Bool, true, ◌&&◌, if◌then◌else◌, List, [], ◌∷◌}
+use Rattle.std.specs.List.{list_all}
+use Rattle.acl_packet.specs.declared.packet_fields.Field.{Field}
+use Rattle.acl_packet.specs.declared.packet_fields.Field.TheVariants.{Protocol, SourcePort, DestinationPort, IcmpType}
 use Rattle.acl_packet.specs.declared.packets.Packet.{Packet}
 use Rattle.acl_packet.specs.declared.filtering.Outcome.{Outcome}
 use Rattle.acl_packet.specs.Addresses.{same_family}
-use Rattle.acl_packet.specs.Packets.{has_ack_or_rst, has_flag, is_initial, is_tracked}
+use Rattle.acl_packet.specs.Packets.{fields, has_ack_or_rst, has_flag, is_initial, is_tracked, number_of}
 use Rattle.acl_packet.specs.AddressLists.{any_has}
-use Rattle.acl_sets.specs.Ranges.{holds}
+use Rattle.acl_sets.specs.Ranges.{Numbers, holds}
 use Rattle.acl_target.specs.declared.targets.Ending.{Ending}
 use Rattle.acl_target.specs.FilterEndings.{ending_outcome}
 use Rattle.acl_platform.specs.declared.filters.Filter.{Filter}
@@ -22,11 +25,17 @@ passes SynNotAck p = is_initial p
 passes Rst p = has_flag p.flags 4
 passes State p = is_tracked p.conn
 
--- Each set of a rule holds its part of the packet: protocol, addresses, ports, and type.
+-- The rule's set of a field.
+abbrev pub set_of : Field → Rule → Numbers
+set_of Protocol r = r.protos
+set_of SourcePort r = r.sports
+set_of DestinationPort r = r.dports
+set_of IcmpType r = r.itypes
+
+-- The rule's addresses are those of the packet, and its set of each field holds the packet's number there.
 abbrev pub sets_hold : Rule → Packet → Bool
-sets_hold r p = holds r.protos.ranges p.proto && (any_has r.src p.src && (any_has r.dst p.dst
-    && (holds r.sports.ranges p.sport && (holds r.dports.ranges p.dport
-    && holds r.itypes.ranges p.itype))))
+sets_hold r p = any_has r.src p.src && (any_has r.dst p.dst
+    && list_all (λ field. holds (set_of field r).ranges (number_of field p)) fields)
 
 -- A rule holds a packet of its family where its sets and its test do.
 abbrev pub rule_holds : Rule → Packet → Bool

@@ -6,10 +6,11 @@ use Rattle.acl_packet.specs.declared.addresses.Families.{Families}
 use Rattle.acl_packet.specs.declared.addresses.Family.{Family}
 use Rattle.acl_packet.specs.declared.addresses.Family.TheVariants.{V4, V6}
 use Rattle.acl_packet.specs.declared.addresses.Prefix.{Prefix}
+use Rattle.acl_packet.specs.declared.packet_fields.Field.{Field}
 use Rattle.acl_packet.specs.declared.filtering.Verdict.{Verdict}
 use Rattle.acl_packet.specs.declared.filtering.Verdict.TheVariants.{Accept, Deny, Reset, Left}
 use Rattle.acl_packet.specs.Addresses.{covers}
-use Rattle.acl_packet.specs.Packets.{has_ports, is_extension_header, is_icmp}
+use Rattle.acl_packet.specs.Packets.{has_field, is_extension_header, top_of}
 use Rattle.acl_text.specs.Names.{is_name}
 use Rattle.acl_text.specs.Notes.{is_note}
 use Rattle.acl_sets.specs.ComputableSets.{is_all}
@@ -24,6 +25,7 @@ use Rattle.acl_platform.specs.declared.filters.Filter.{Filter}
 use Rattle.acl_platform.specs.declared.rules.Rule.{Rule}
 use Rattle.acl_platform.specs.declared.rules.Test.{Test}
 use Rattle.acl_platform.specs.declared.rules.Test.TheVariants.{Plain, AckOrRst, SynNotAck, Rst, State}
+use Rattle.acl_platform.specs.Rules.{set_of}
 
 -- A set with a top and a number, in normal form.
 pub record IsFull (top : ℕ) (s : Numbers) : Type 0 where
@@ -97,22 +99,18 @@ IsRuleName name = (term address port protocol : List ℕ) × (is_name term ≡ t
     × IsOneOf address address_suffixes × IsOneOf port port_suffixes
     × IsOneOf protocol protocol_suffixes × (name ≡ term ++ (address ++ (port ++ protocol)))
 
--- Ports belong to TCP, UDP and SCTP, types to the family's ICMP, flags and resets to TCP. A type
--- that is named is below 255, so that a document can write it on each platform.
+-- Where numbers of a field are named, all protocols have the field: ports belong to TCP, UDP and SCTP,
+-- types to the family's ICMP. Flags and resets belong to TCP. A type that is named is below 255, so
+-- that a document can write it on each platform.
 pub record IsSoundRule (kind : Kind) (families : Families) (r : Rule) : Type 0 where
   pub family : covers families r.family ≡ true
   pub name : IsRuleName r.name
   pub note : is_note r.note ≡ true
   pub sources : IsFullList r.family r.src
   pub destinations : IsFullList r.family r.dst
-  pub protocols : IsFull 255 r.protos
-  pub source_ports : IsFull 65535 r.sports
-  pub destination_ports : IsFull 65535 r.dports
-  pub types : IsFull 255 r.itypes
+  pub numbers : (field : Field) → IsFull (top_of field) (set_of field r)
+  pub numbers_fit : (field : Field) → is_all (set_of field r) ≡ false → Only (has_field r.family field) r.protos
   pub protocols_named : is_all r.protos ≡ false → Only (is_named_protocol r.family) r.protos
-  pub source_ports_fit : is_all r.sports ≡ false → Only has_ports r.protos
-  pub destination_ports_fit : is_all r.dports ≡ false → Only has_ports r.protos
-  pub types_fit : is_all r.itypes ≡ false → Only (is_icmp r.family) r.protos
   pub types_named : is_all r.itypes ≡ false → holds r.itypes.ranges 255 ≡ false
   pub flags_fit : tests_flags r.test ≡ true → Only is_tcp r.protos
   pub reset_fits : r.verdict ≡ Reset → Only is_tcp r.protos

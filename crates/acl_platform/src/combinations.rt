@@ -6,8 +6,8 @@ ghost use Rattle.acl_platform.specs.Combinations.{IsSized, combination_of, combi
 
 use crate::choices::{Choices, NumberChoices, RangeChoices};
 use crate::rules::Rule;
-use acl_packet::Prefix;
 use acl_rows::RowForm;
+use acl_packet::Prefix;
 use acl_text::{Out, PutFault};
 
 /// A choice of each part of a rule; `None` is no condition.
@@ -68,6 +68,7 @@ type PartChoices<'a> = (
     ),
 );
 
+#[tactic(auto, using(crate::proofs::SoundRules::protocols_small, crate::proofs::SoundRules::source_ports_small, crate::proofs::SoundRules::destination_ports_small, crate::proofs::SoundRules::types_small))]
 fn choices_of(rule: &Rule) -> PartChoices<'_>
     requires { IsSized rule.now }
     ensures { ⟦<PartChoices<'static> as Choices>⟧.items result ≡ parts_of rule.now }

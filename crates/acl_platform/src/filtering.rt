@@ -1,4 +1,7 @@
 ghost use Rattle.std.specs.Prelude.{◌≡◌};
+ghost use Rattle.std.specs.List.{list_all};
+ghost use Rattle.acl_sets.specs.Ranges.{holds};
+ghost use Rattle.acl_packet.specs.Packets.{fields, number_of};
 ghost use Rattle.acl_packet.specs.Outcomes.{unlogged};
 ghost use Rattle.acl_target.specs.FilterEndings.{ending_verdict};
 ghost use Rattle.acl_platform.specs.Rules.{
@@ -6,12 +9,13 @@ ghost use Rattle.acl_platform.specs.Rules.{
   filter_outcome,
   passes,
   rule_holds,
+  set_of,
   sets_hold,
 };
 
 use crate::filters::Filter;
-use crate::rules::{Rule, Test};
-use acl_packet::{Family, Outcome, Packet, Verdict, any_has, has_flag};
+use crate::rules::{Rule, Test, set_of};
+use acl_packet::{Family, Outcome, Packet, Verdict, any_has, fields, has_flag};
 use acl_target::Ending;
 
 /// What the filter does with the packet: the first rule that holds it decides, else the ending,
@@ -36,12 +40,16 @@ fn rule_holds(rule: &Rule, packet: &Packet) -> bool
 fn sets_hold(rule: &Rule, packet: &Packet) -> bool
     ensures { result ≡ sets_hold rule.now packet.now }
 {
-    rule.protos.contains(u128::from(packet.proto))
-        && any_has(rule.src.as_slice(), packet.src)
+    any_has(rule.src.as_slice(), packet.src)
         && any_has(rule.dst.as_slice(), packet.dst)
-        && rule.sports.contains(u128::from(packet.sport))
-        && rule.dports.contains(u128::from(packet.dport))
-        && rule.itypes.contains(u128::from(packet.itype))
+        && numbers_hold(rule, packet)
+}
+
+fn numbers_hold(rule: &Rule, packet: &Packet) -> bool
+    ensures { result ≡ list_all (λ field. holds (set_of field rule.now).ranges
+        (number_of field packet.now)) fields }
+{
+    fields().iter().all(|field| set_of(*field, rule).contains(u128::from(field.number_in(packet))))
 }
 
 fn passes(test: Test, packet: &Packet) -> bool

@@ -31,6 +31,6 @@ pub use platforms::{Platform, count_within_limits};
 pub use remarks::{NoteRows, RemarkForm, RemarkRows};
 pub use rule_counts::{RuleCount, count_rules};
 pub use rule_rows::{RuleForm, put_rules};
-pub use rules::{Rule, Rules, Test};
+pub use rules::{Rule, Rules, Test, set_of};
 pub use shared_rules::SharedRules;
 pub use writing::write_all;

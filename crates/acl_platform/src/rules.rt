@@ -1,4 +1,7 @@
-use acl_packet::{Family, Verdict};
+ghost use Rattle.std.specs.Prelude.{◌≡◌};
+ghost use Rattle.acl_platform.specs.Rules.{set_of};
+
+use acl_packet::{Family, Field, Verdict};
 use acl_sets::{Prefixes, RangeSet};
 use acl_text::{Bytes, Items, Place};
 
@@ -40,3 +43,15 @@ pub struct Rule {
 
 /// Rules, in order.
 pub type Rules = Items<Rule>;
+
+/// The rule's set of the field.
+pub fn set_of(field: Field, rule: &Rule) -> &RangeSet
+    ensures { result.now ≡ set_of field rule.now }
+{
+    match field {
+        Field::Protocol => &rule.protos,
+        Field::SourcePort => &rule.sports,
+        Field::DestinationPort => &rule.dports,
+        Field::IcmpType => &rule.itypes,
+    }
+}

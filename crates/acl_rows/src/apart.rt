@@ -15,7 +15,8 @@ pub fn are_distinct_names(names: Vec<&[u8]>) -> bool
 
 /// Whether no two of the keys are the same. Sorted, each is below the next one.
 pub fn are_distinct<K: Ord + Drop>(keys: Vec<K>) -> bool
-    ensures { result ≡ are_apart (eq_by_cmp K.cmp) keys.items }
+    ensures is { IsTrue result ↔ IsDistinct (eq_by_cmp K.cmp) keys.items }
+    ensures exact { result ≡ are_apart (eq_by_cmp K.cmp) keys.items }
 {
     let mut sorted = keys;
     sorted.sort_unstable();

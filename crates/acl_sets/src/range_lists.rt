@@ -6,9 +6,10 @@ use acl_text::Memory;
 use std::alloc::Global;
 use std::marker::Model;
 
-// Most sets have one range, which stands in its place. Where there are none or more, their list is shared.
+// Most sets have one range, which stands in its place, and one without ranges takes no memory. The list of more is shared.
 #[derive(Debug, Drop)]
 enum Held {
+    None([Range; 0]),
     One([Range; 1]),
     Others(SharedList<Range>),
 }
@@ -38,6 +39,14 @@ impl Drop for RangeList {
 }
 
 impl RangeList {
+    pub(crate) fn of_none() -> RangeList
+        ensures { result ≡ [] }
+    {
+        RangeList {
+            held: Held::None([]),
+        }
+    }
+
     pub(crate) fn of_one(range: Range) -> RangeList
         ensures { result ≡ range ∷ [] }
     {
@@ -62,6 +71,7 @@ impl RangeList {
         ensures { IfOk result (λ l. l ≡ self.now) }
     {
         let held = match &self.held {
+            Held::None(none) => Held::None(*none),
             Held::One(one) => Held::One(*one),
             Held::Others(list) => Held::Others(list.share()?),
         };
@@ -72,6 +82,7 @@ impl RangeList {
         ensures { result.now ≡ self.now }
     {
         match &self.held {
+            Held::None(none) => none,
             Held::One(one) => one,
             Held::Others(list) => list.as_slice(),
         }

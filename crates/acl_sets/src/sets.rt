@@ -39,16 +39,16 @@ impl Model for RangeSet {
 
 impl RangeSet {
     /// No number.
-    pub fn empty(alloc: Global, top: u128) -> Result<RangeSet, Memory>
-        ensures top { IfOk result (λ s. s.top ≡ top) }
-        ensures normal { IfOk result (λ s. IsNormal 0 s.top s.ranges) }
-        ensures exact { IfOk result (λ s. (x : ℕ) → holds s.ranges x ≡ false) }
-        ensures computed { IfOk result (λ s. s.ranges ≡ []) }
+    pub fn empty(alloc: Global, top: u128) -> RangeSet
+        ensures top { result.top ≡ top }
+        ensures normal { IsNormal 0 result.top result.ranges }
+        ensures exact { (x : ℕ) → holds result.ranges x ≡ false }
+        ensures computed { result.ranges ≡ [] }
     {
-        Ok(RangeSet {
+        RangeSet {
             limit: top,
-            list: RangeList::new(alloc, Vec::new(alloc))?,
-        })
+            list: RangeList::of_none(),
+        }
     }
 
     /// All numbers up to the top.

@@ -1,5 +1,5 @@
 -- Chosen places of a block, and the terms that are shaded there.
-use Rattle.std.proofs.Common.{◌≡◌, ℕ, zero, suc, ◌+◌, ◌<◌, Bool, true, false, cond, List, [], ◌∷◌, ◌++◌, length, take, get_or, Option, None, Some, refl, ap, sym, ◌∙◌, subst, append_assoc, arith}
+use Rattle.std.proofs.Common.{◌≡◌, ℕ, zero, suc, ◌+◌, ◌<◌, Bool, true, false, List, [], ◌∷◌, ◌++◌, length, take, get_or, Option, None, Some, refl, ap, sym, ◌∙◌, subst, append_assoc, arith}
 use Rattle.std.specs.Prelude.{if◌then◌else◌, slice_get}
 use Rattle.std.specs.List.{list_any, position}
 use Rattle.std.specs.Option.{is_some, option_and_then}
@@ -11,8 +11,8 @@ use Rattle.std.proofs.lemmas.Option.{slice_get-get_or}
 use Rattle.acl_days.specs.declared.days.Day.{Day}
 use Rattle.acl_target.specs.declared.targets.Target.{Target}
 use Rattle.acl_terms.specs.declared.terms.Term.{Term}
-use Rattle.acl_shade.specs.ComputableShading.{is_shaded, shades, shading_term, unshaded, unshaded_behind}
-use Rattle.acl_shade.specs.Deletions.{AreShaded, ToldTermsGo, without, without_from}
+use Rattle.acl_shade.specs.ComputableShading.{is_shaded, shades, shading_term, unshaded_behind}
+use Rattle.acl_shade.specs.Deletions.{AreShaded, ToldTermsGo, without_from}
 use Rattle.acl_shade.specs.Shading.{Shades, ShadesAt}
 use Rattle.acl_shade.proofs.PlaceLaws.{fails-where-none, of-places}
 use Rattle.acl_shade.proofs.ShadingLaws.{shading-law}

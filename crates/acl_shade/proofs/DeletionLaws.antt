@@ -5,8 +5,10 @@ use Rattle.std.specs.List.{AllByRecursion, list_any}
 use Rattle.std.proofs.lemmas.Bool.{and_from, and_parts, both_ways, cases_Bool, false_from_ne_true, or_cases, or_from, or_left, or_right}
 use Rattle.std.proofs.lemmas.List.Folds.{list_any-append}
 use Rattle.acl_packet.specs.declared.addresses.Family.{Family}
+use Rattle.acl_packet.specs.declared.packet_fields.Field.TheVariants.{SourcePort, DestinationPort}
 use Rattle.acl_packet.specs.declared.packets.Packet.{Packet}
-use Rattle.acl_packet.specs.Packets.{has_ack_or_rst}
+use Rattle.acl_packet.specs.Packets.{has_ack_or_rst, number_of}
+use Rattle.acl_packet.proofs.FieldLaws.{all-fields}
 use Rattle.acl_days.specs.declared.days.Day.{Day}
 use Rattle.acl_sets.specs.Ranges.{Numbers, holds}
 use Rattle.acl_target.specs.declared.targets.Target.{Target}
@@ -18,7 +20,7 @@ use Rattle.acl_terms.specs.declared.options.Opt.TheVariants.{Plain, Established,
 use Rattle.acl_terms.specs.declared.terms.Term.{Term}
 use Rattle.acl_terms.specs.Options.{passes}
 use Rattle.acl_terms.specs.Outcomes.{decides, mode_of, outcome_of, policy_outcome}
-use Rattle.acl_terms.specs.Resolved.{addresses_match, destination_in, either_in, ends_match, has_protocol, holds_either, is_term_live, matches, ports_match, source_in}
+use Rattle.acl_terms.specs.Resolved.{addresses_match, destination_in, either_in, has_number, holds_either, is_term_live, matches, numbers_match, source_in}
 use Rattle.acl_terms.proofs.LifeLaws.{live-law}
 use Rattle.acl_terms.proofs.PairLaws.{matched-some}
 use Rattle.acl_shade.specs.ComputableShading.{is_shaded, shades, unshaded, unshaded_behind}
@@ -79,48 +81,39 @@ either-too a s d other x y w hs hd ha =
       ]
     ]
 
-ends-too : (f : Family) (i j : Term) (p : Packet) → LiesWithinIn f i j → ends_match f j p ≡ true
-    → ends_match f i p ≡ true
-ends-too f i j p w h =
-    let a = and_parts (has_protocol f j p.proto) (addresses_match f j p) h in
-    let b = and_parts (holds (source_in f j).ranges p.src)
-    (holds (destination_in f j).ranges p.dst && holds_either (either_in f j) p.src p.dst) a.1 in
-    let c = and_parts (holds (destination_in f j).ranges p.dst) (holds_either (either_in f j) p.src p.dst) b.1 in
-    and_from (has_protocol f i p.proto) (addresses_match f i p) (w.protocols p.proto a.0)
-    (and_from (holds (source_in f i).ranges p.src)
-    (holds (destination_in f i).ranges p.dst && holds_either (either_in f i) p.src p.dst) (w.source p.src b.0)
+addresses-too : (f : Family) (i j : Term) (p : Packet) → LiesWithinIn f i j → addresses_match f j p ≡ true
+    → addresses_match f i p ≡ true
+addresses-too f i j p w h =
+    let a = and_parts (holds (source_in f j).ranges p.src)
+    (holds (destination_in f j).ranges p.dst && holds_either (either_in f j) p.src p.dst) h in
+    let b = and_parts (holds (destination_in f j).ranges p.dst) (holds_either (either_in f j) p.src p.dst) a.1 in
+    and_from (holds (source_in f i).ranges p.src)
+    (holds (destination_in f i).ranges p.dst && holds_either (either_in f i) p.src p.dst) (w.source p.src a.0)
     (and_from (holds (destination_in f i).ranges p.dst) (holds_either (either_in f i) p.src p.dst)
-    (w.destination p.dst c.0)
-    (either-too (either_in f j) (source_in f j) (destination_in f j) (either_in f i) p.src p.dst w.either b.0 c.0 c.1)))
+    (w.destination p.dst b.0)
+    (either-too (either_in f j) (source_in f j) (destination_in f j) (either_in f i) p.src p.dst w.either a.0 b.0 b.1))
 
-ports-too : (targets : List Target) (today : Day) (i j : Term) (p : Packet) → Shades targets today i j
-    → ports_match j p ≡ true → ports_match i p ≡ true
-ports-too targets today i j p s h =
-    let a = and_parts (holds j.sports.ranges p.sport)
-    (holds j.dports.ranges p.dport && holds_either j.ports p.sport p.dport) h in
-    let b = and_parts (holds j.dports.ranges p.dport) (holds_either j.ports p.sport p.dport) a.1 in
-    and_from (holds i.sports.ranges p.sport) (holds i.dports.ranges p.dport && holds_either i.ports p.sport p.dport)
-    (s.source_ports p.sport a.0)
-    (and_from (holds i.dports.ranges p.dport) (holds_either i.ports p.sport p.dport) (s.destination_ports p.dport b.0)
-    (either-too j.ports j.sports j.dports i.ports p.sport p.dport s.either_ports a.0 b.0 b.1))
+numbers-too : (f : Family) (i j : Term) (p : Packet) → LiesWithinIn f i j → numbers_match f j p ≡ true
+    → numbers_match f i p ≡ true
+numbers-too f i j p w h = (all-fields (λ field. has_number f i field (number_of field p))).1 (λ field.
+    w.numbers field (number_of field p) ((all-fields (λ other. has_number f j other (number_of other p))).0 h field))
 
 matches-too : (targets : List Target) (today : Day) (mode : Mode) (i j : Term) (p : Packet)
     → Shades targets today i j → matches mode j p ≡ true → matches mode i p ≡ true
 unfolding matches
 matches-too targets today mode i j p s h =
     let f = p.family in
-    let a = and_parts (ends_match f j p) (ports_match j p
-    && (holds j.itypes.ranges p.itype && passes j.option mode j.dport_named p)) h in
-    let b = and_parts (ports_match j p)
-    (holds j.itypes.ranges p.itype && passes j.option mode j.dport_named p) a.1 in
-    let d = and_parts (holds j.itypes.ranges p.itype) (passes j.option mode j.dport_named p) b.1 in
-    and_from (ends_match f i p) (ports_match i p
-    && (holds i.itypes.ranges p.itype && passes i.option mode i.dport_named p))
-    (ends-too f i j p (s.addresses.each f (matched-some f j p a.0 b.0)) a.0)
-    (and_from (ports_match i p) (holds i.itypes.ranges p.itype && passes i.option mode i.dport_named p)
-    (ports-too targets today i j p s b.0)
-    (and_from (holds i.itypes.ranges p.itype) (passes i.option mode i.dport_named p)
-    (s.types p.itype d.0) (option-passes mode i j p s.option d.1)))
+    let last : Term → Bool = λ t. holds_either t.ports p.sport p.dport && passes t.option mode t.dport_named p in
+    let a = and_parts (addresses_match f j p) (numbers_match f j p && last j) h in
+    let b = and_parts (numbers_match f j p) (last j) a.1 in
+    let d = and_parts (holds_either j.ports p.sport p.dport) (passes j.option mode j.dport_named p) b.1 in
+    let w = s.packets.each f (matched-some f mode j p h) in
+    let numbers = all-fields (λ field. has_number f j field (number_of field p)) in
+    and_from (addresses_match f i p) (numbers_match f i p && last i) (addresses-too f i j p w a.0)
+    (and_from (numbers_match f i p) (last i) (numbers-too f i j p w b.0)
+    (and_from (holds_either i.ports p.sport p.dport) (passes i.option mode i.dport_named p)
+    (either-too j.ports j.sports j.dports i.ports p.sport p.dport s.either_ports (numbers.0 b.0 SourcePort)
+    (numbers.0 b.0 DestinationPort) d.0) (option-passes mode i j p s.option d.1)))
 
 pub decides-too : (targets : List Target) (today : Day) (target : Target) (p : Packet) → Contains targets target
     → (i j : Term) → Shades targets today i j → decides target today p j ≡ true → decides target today p i ≡ true

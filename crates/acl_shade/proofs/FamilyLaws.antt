@@ -1,9 +1,11 @@
 -- When the sets of one term lie within those of another: what is computed says what the relation says.
-use Rattle.std.proofs.Common.{◌≡◌, ◌↔◌, ℕ, zero, suc, ◌+◌, ◌-◌, ◌<◌, ◌≤◌, min, max, Bool, true, false, not, ◌&&◌, ◌||◌, ◌==◌, nat_le, List, [], ◌∷◌, length, get_or, inl, inr, refl, ap, subst, ◌∙◌, arith}
+use Rattle.std.proofs.Common.{◌≡◌, ◌↔◌, ℕ, zero, suc, ◌+◌, ◌-◌, ◌<◌, ◌≤◌, min, max, Bool, true, false, not, ◌&&◌, ◌||◌, ◌==◌, nat_le, List, [], ◌∷◌, length, get_or, inl, inr, refl, ap, sym, subst, ◌∙◌, arith}
 use Rattle.std.specs.List.{list_all}
 use Rattle.std.proofs.lemmas.Bool.{and_from, and_parts, both_ways, cases_Bool, cases_lt, eq-eqb, eqb-false, false_from_ne_true, le-leb, leb-true, ne_eqb, or_cases, or_left, or_right}
 use Rattle.acl_packet.specs.declared.addresses.Family.{Family}
 use Rattle.acl_packet.specs.declared.addresses.Family.TheVariants.{V4, V6}
+use Rattle.acl_packet.specs.declared.packet_fields.Field.{Field}
+use Rattle.acl_packet.specs.declared.packet_fields.Field.TheVariants.{Protocol}
 use Rattle.acl_packet.specs.Addresses.{top_address}
 use Rattle.acl_sets.specs.declared.sets.Range.{Range}
 use Rattle.acl_sets.specs.Ranges.{IsNormal, Numbers, holds, inside}
@@ -11,12 +13,12 @@ use Rattle.acl_sets.specs.ComputableSets.{all_covered, covers, is_all}
 use Rattle.acl_sets.proofs.RangeLaws.{at_top, ends_of, in_range}
 use Rattle.acl_sets.proofs.ComputableSetLaws.{covered-subset, covers-holds, holds-covers, subset-covered}
 use Rattle.acl_terms.specs.declared.terms.Term.{Term}
-use Rattle.acl_packet.specs.Packets.{foreign_of}
-use Rattle.acl_terms.specs.Resolved.{IsEmptyIn, destination_in, either_in, has_protocol, is_empty_in, source_in}
+use Rattle.acl_packet.specs.Packets.{foreign_of, top_of}
+use Rattle.acl_terms.specs.Resolved.{IsEmptyIn, destination_in, either_in, has_protocol, is_empty_in, set_in, source_in}
 use Rattle.acl_terms.proofs.EmptyLaws.{empty-law}
 use Rattle.acl_terms.proofs.TestLaws.{true-not}
 use Rattle.acl_shade.specs.ComputableShading.{addresses_within, fits_in, has_above, has_below, has_others, lies_within, lies_within_in, lies_within_in_each, protocols_within, some_within}
-use Rattle.acl_shade.specs.Shading.{LiesWithin, LiesWithinIn, LiesWithinInEach, SomeLiesWithin}
+use Rattle.acl_shade.specs.Shading.{LiesWithin, SomeLiesWithin}
 
 -- ---- sets
 
@@ -29,6 +31,16 @@ within-law top s other n m = (
   λ h x held. covered-subset s.ranges other.ranges x h held,
   λ h. subset-covered 0 0 top s.ranges other.ranges n m (λ x _ held. h x held),
 )
+
+pub field_tops : (i j : Term) (field : Field) → (set_in field j).top ≡ (set_in field i).top
+field_tops i j field = j.sound.tops field ∙ sym (i.sound.tops field)
+
+pub field-normal : (t : Term) (field : Field) → IsNormal 0 (top_of field) (set_in field t).ranges
+field-normal t field = normal-at (set_in field t) (top_of field) (t.sound.tops field) (t.sound.normal field)
+
+pub and_true : (b : Bool) → b ≡ (b && true)
+and_true true = refl
+and_true false = refl
 
 -- The first number of each range is in the set.
 holds-at : (floor top : ℕ) (rs : List Range) (k : ℕ) (d : Range) → k < length rs → IsNormal floor top rs
@@ -249,17 +261,26 @@ foreign-fits V6 top e = omega arith
 protocols-law : (f : Family) (i j : Term)
     → (protocols_within f i j ≡ true) ↔ ((n : ℕ) → has_protocol f j n ≡ true → has_protocol f i n ≡ true)
 protocols-law f i j =
-    let left = i.sound.protos_top in
-    let right = j.sound.protos_top in
-    let tops : i.protos.top ≡ j.protos.top = omega arith in (
-      λ h. but-held (foreign_of f) i.protos j.protos tops j.sound.protos_normal h,
-      λ h. but-back (foreign_of f) i.protos j.protos tops (foreign-fits f j.protos.top right)
-          i.sound.protos_normal j.sound.protos_normal h,
+    let tops = field_tops j i Protocol in (
+      λ h. but-held (foreign_of f) i.protos j.protos tops (j.sound.normal Protocol) h,
+      λ h. but-back (foreign_of f) i.protos j.protos tops (foreign-fits f j.protos.top (j.sound.tops Protocol))
+          (i.sound.normal Protocol) (j.sound.normal Protocol) h,
     )
 
 -- ---- families
 
-in-law : (f : Family) (i j : Term) → (lies_within_in f i j ≡ true) ↔ LiesWithinIn f i j
+-- What the tests by family say: all of `LiesWithinIn` but for the other fields.
+pub record AddressesWithin (f : Family) (i j : Term) : Type 0 where
+  pub source : LiesWithin (source_in f j) (source_in f i)
+  pub destination : LiesWithin (destination_in f j) (destination_in f i)
+  pub either : SomeLiesWithin (either_in f j ∷ source_in f j ∷ destination_in f j ∷ []) (either_in f i)
+  pub protocols : (n : ℕ) → has_protocol f j n ≡ true → has_protocol f i n ≡ true
+
+pub record AddressesWithinInEach (i j : Term) : Type 0 where
+  pub some : (IsEmptyIn V4 j × IsEmptyIn V6 j) → ⊥
+  pub each : (f : Family) → (IsEmptyIn f j → ⊥) → AddressesWithin f i j
+
+in-law : (f : Family) (i j : Term) → (lies_within_in f i j ≡ true) ↔ AddressesWithin f i j
 in-law f i j =
     let a = lies_within (source_in f j) (source_in f i) in
     let b = lies_within (destination_in f j) (destination_in f i) in
@@ -284,7 +305,7 @@ in-law f i j =
           (protocols.1 w.protocols),
     )
 
-fits-law : (f : Family) (i j : Term) → (fits_in f i j ≡ true) ↔ ((IsEmptyIn f j → ⊥) → LiesWithinIn f i j)
+fits-law : (f : Family) (i j : Term) → (fits_in f i j ≡ true) ↔ ((IsEmptyIn f j → ⊥) → AddressesWithin f i j)
 fits-law f i j =
     let empty = empty-law f j in
     let within = in-law f i j in (
@@ -303,7 +324,7 @@ in-both : (P : Family → Type 0) → P V4 → P V6 → (f : Family) → P f
 in-both P p q V4 = p
 in-both P p q V6 = q
 
-pub each-law : (i j : Term) → (lies_within_in_each i j ≡ true) ↔ LiesWithinInEach i j
+pub each-law : (i j : Term) → (lies_within_in_each i j ≡ true) ↔ AddressesWithinInEach i j
 each-law i j =
     let empty : Bool = is_empty_in V4 j && is_empty_in V6 j in
     let fits : Bool = fits_in V4 i j && fits_in V6 i j in (
@@ -312,7 +333,7 @@ each-law i j =
           record {
             some = λ e. both_ways empty ((true-not empty).0 p.0)
                 (and_from (is_empty_in V4 j) (is_empty_in V6 j) ((empty-law V4 j).1 e.0) ((empty-law V6 j).1 e.1));
-            each = in-both (λ f. (IsEmptyIn f j → ⊥) → LiesWithinIn f i j) ((fits-law V4 i j).0 q.0)
+            each = in-both (λ f. (IsEmptyIn f j → ⊥) → AddressesWithin f i j) ((fits-law V4 i j).0 q.0)
                 ((fits-law V6 i j).0 q.1);
           },
       λ w. and_from (not empty) fits

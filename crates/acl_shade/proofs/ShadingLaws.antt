@@ -1,46 +1,89 @@
 -- When a term shades another: the function says what the relation says.
-use Rattle.std.proofs.Common.{◌≡◌, ◌↔◌, ◌⊎◌, Bool, true, false, not, ◌&&◌, ◌||◌, List, [], ◌∷◌, get_or, inl, inr, refl, sym, subst}
+use Rattle.std.proofs.Common.{◌≡◌, ◌↔◌, ◌⊎◌, Bool, true, false, not, ◌&&◌, ◌||◌, List, [], ◌∷◌, get_or, ℕ, inl, inr, refl, sym, subst, ◌∙◌}
 use Rattle.std.specs.List.{list_all, list_any}
-use Rattle.std.proofs.lemmas.Bool.{and_from, and_parts, both_ways, or_cases, or_left, or_right}
+use Rattle.std.proofs.lemmas.Bool.{and_from, and_parts, both_ways, cases_Bool, or_cases, or_left, or_right}
 use Rattle.std.proofs.lemmas.List.Elements.{All-contains, Contains-get_or}
 use Rattle.std.proofs.lemmas.List.Folds.{Any-from_list_any, list_any-from_Any}
 use Rattle.std.proofs.lemmas.List.Sums.{AllPass-from_list_all, list_all-from_AllPass}
+use Rattle.acl_packet.specs.declared.addresses.Family.{Family}
+use Rattle.acl_packet.specs.declared.addresses.Family.TheVariants.{V4, V6}
+use Rattle.acl_packet.specs.declared.packet_fields.Field.{Field}
+use Rattle.acl_packet.specs.declared.packet_fields.Field.TheVariants.{Protocol, SourcePort, DestinationPort}
+use Rattle.acl_packet.specs.Packets.{icmp_fields, top_of}
 use Rattle.acl_days.specs.declared.days.Day.{Day}
 use Rattle.acl_naming.specs.Ports.{top_port}
 use Rattle.acl_target.specs.declared.targets.Target.{Target}
 use Rattle.acl_terms.specs.declared.options.Opt.{Opt}
 use Rattle.acl_terms.specs.declared.options.Opt.TheVariants.{Plain, Established, TcpEstablished, TcpInitial, Rst}
 use Rattle.acl_terms.specs.declared.terms.Term.{Term}
-use Rattle.acl_terms.specs.Resolved.{IsTermLive, is_term_live}
+use Rattle.acl_terms.specs.Resolved.{IsEmptyIn, IsTermLive, has_number, is_empty_in, is_term_live, set_in}
+use Rattle.acl_terms.specs.Soundness.{is_protocol}
+use Rattle.acl_terms.proofs.EmptyLaws.{empty-law}
+use Rattle.acl_terms.proofs.FieldLaws.{others-held, others-pass, protocol-alone}
 use Rattle.acl_terms.proofs.LifeLaws.{live-law}
 use Rattle.acl_terms.proofs.TestLaws.{true-not}
-use Rattle.acl_shade.specs.ComputableShading.{is_live_where, lies_within, lies_within_in_each, numbers_within, option_covers, ports_within, shades, some_within}
-use Rattle.acl_shade.specs.Shading.{IsLiveWhere, LiesWithin, OptionCovers, PortsNamed, Shades, SomeLiesWithin}
-use Rattle.acl_shade.proofs.FamilyLaws.{each-law, normal-at, some-law, within-law}
+use Rattle.acl_shade.specs.ComputableShading.{field_within, is_live_where, lies_within_in_each, option_covers, shades, some_within}
+use Rattle.acl_shade.specs.Shading.{IsLiveWhere, LiesWithin, LiesWithinInEach, OptionCovers, PortsNamed, Shades, SomeLiesWithin}
+use Rattle.acl_shade.proofs.FamilyLaws.{AddressesWithin, each-law, field-normal, normal-at, some-law, within-law}
 
--- ---- ports and types
+-- ---- fields
 
-dports-law : (i j : Term) → (lies_within j.dports i.dports ≡ true) ↔ LiesWithin j.dports i.dports
-dports-law i j = within-law top_port j.dports i.dports
-    (normal-at j.dports top_port j.sound.dports_top j.sound.dports_normal)
-    (normal-at i.dports top_port i.sound.dports_top i.sound.dports_normal)
-
-sports-law : (i j : Term) → (lies_within j.sports i.sports ≡ true) ↔ LiesWithin j.sports i.sports
-sports-law i j = within-law top_port j.sports i.sports
-    (normal-at j.sports top_port j.sound.sports_top j.sound.sports_normal)
-    (normal-at i.sports top_port i.sound.sports_top i.sound.sports_normal)
+field-law : (i j : Term) (field : Field) → (field_within i j field ≡ true) ↔ LiesWithin (set_in field j) (set_in field i)
+field-law i j field = within-law (top_of field) (set_in field j) (set_in field i) (field-normal j field) (field-normal i field)
 
 either-ports-law : (i j : Term) → (some_within (j.ports ∷ j.sports ∷ j.dports ∷ []) i.ports ≡ true)
     ↔ SomeLiesWithin (j.ports ∷ j.sports ∷ j.dports ∷ []) i.ports
 either-ports-law i j = some-law top_port j.ports j.sports j.dports i.ports
     (normal-at j.ports top_port j.sound.ports_top j.sound.ports_normal)
-    (normal-at j.sports top_port j.sound.sports_top j.sound.sports_normal)
-    (normal-at j.dports top_port j.sound.dports_top j.sound.dports_normal)
+    (field-normal j SourcePort) (field-normal j DestinationPort)
     (normal-at i.ports top_port i.sound.ports_top i.sound.ports_normal)
 
-types-law : (i j : Term) → (lies_within j.itypes i.itypes ≡ true) ↔ LiesWithin j.itypes i.itypes
-types-law i j = within-law 255 j.itypes i.itypes (normal-at j.itypes 255 j.sound.itypes_top j.sound.itypes_normal)
-    (normal-at i.itypes 255 i.sound.itypes_top i.sound.itypes_normal)
+-- ---- families
+
+each-number : (f : Family) (i j : Term) → AddressesWithin f i j
+    → ((field : Field) → is_protocol field ≡ false → field_within i j field ≡ true)
+    → (field : Field) (n : ℕ) → has_number f j field n ≡ true → has_number f i field n ≡ true
+each-number f i j w others field n h = elim (cases_Bool (is_protocol field)) [
+  | inl e ↦ subst (λ g. has_number f j g n ≡ true → has_number f i g n ≡ true) (sym (protocol-alone field e)) (w.protocols n) h
+  | inr e ↦ others-held f i field n e
+      ∙ (field-law i j field).0 (others field e) n (sym (others-held f j field n e) ∙ h)
+]
+
+-- A family in which the term is not empty.
+some-family : (j : Term) → ((IsEmptyIn V4 j × IsEmptyIn V6 j) → ⊥) → (f : Family) × (IsEmptyIn f j → ⊥)
+some-family j some = elim (cases_Bool (is_empty_in V4 j)) [
+  | inl e ↦ (V6, λ empty. some ((empty-law V4 j).0 e, empty))
+  | inr e ↦ (V4, λ empty. both_ways (is_empty_in V4 j) e ((empty-law V4 j).1 empty))
+]
+
+packets-law : (i j : Term)
+    → (((lies_within_in_each i j) ≡ true) × ((field : Field) → is_protocol field ≡ false → field_within i j field ≡ true))
+    ↔ LiesWithinInEach i j
+packets-law i j = (
+  λ h. let e = (each-law i j).0 h.0 in record {
+    some = e.some;
+    each = λ f some. let w = e.each f some in record {
+      source = w.source;
+      destination = w.destination;
+      either = w.either;
+      numbers = each-number f i j w h.1;
+    };
+  },
+  λ w. (
+    (each-law i j).1 (record {
+      some = w.some;
+      each = λ f some. let v = w.each f some in record {
+        source = v.source;
+        destination = v.destination;
+        either = v.either;
+        protocols = v.numbers Protocol;
+      };
+    }),
+    λ field e. let f = some-family j w.some in
+        (field-law i j field).1 (λ n h. sym (others-held f.0 i field n e)
+        ∙ (w.each f.0 f.1).numbers field n (others-held f.0 j field n e ∙ h)),
+  ),
+)
 
 -- ---- options
 
@@ -116,35 +159,47 @@ life-law targets today i j =
 
 -- ---- shading
 
+-- what is asked first and what is asked of packets
+regrouped : (d s k t o e l : Bool) → ((((((d && s) && k) && t) && o) && (e && l)) ≡ true)
+    ↔ ((((d && s) && t) ≡ true) × ((k ≡ true) × ((o ≡ true) × ((e ≡ true) × (l ≡ true)))))
+regrouped d s k t o e l = (
+  λ h. let p = and_parts ((((d && s) && k) && t) && o) (e && l) h in
+      let q = and_parts (((d && s) && k) && t) o p.0 in
+      let n = and_parts ((d && s) && k) t q.0 in
+      let u = and_parts (d && s) k n.0 in
+      let r = and_parts e l p.1 in
+      (and_from (d && s) t u.0 n.1, (u.1, (q.1, (r.0, r.1)))),
+  λ w. let a = and_parts (d && s) t w.0 in
+      and_from ((((d && s) && k) && t) && o) (e && l)
+      (and_from (((d && s) && k) && t) o (and_from ((d && s) && k) t (and_from (d && s) k a.0 w.1.0) a.1) w.1.1.0)
+      (and_from e l w.1.1.1.0 w.1.1.1.1),
+)
+
 pub shading-law : (targets : List Target) (today : Day) (i j : Term)
     → (shades targets today i j ≡ true) ↔ Shades targets today i j
 unfolding shades
 shading-law targets today i j =
-    let d = lies_within j.dports i.dports in
-    let s = lies_within j.sports i.sports in
-    let k = some_within (j.ports ∷ j.sports ∷ j.dports ∷ []) i.ports in
-    let t = lies_within j.itypes i.itypes in
-    let o = option_covers i.option i.dport_named j.option j.dport_named in
-    let e = lies_within_in_each i j in
-    let l = is_live_where targets today i j in (
-      λ h. let p = and_parts (numbers_within i j && o) (e && l) h in
-          let q = and_parts (numbers_within i j) o p.0 in
-          let n = and_parts (ports_within i j) t q.0 in
-          let u = and_parts (d && s) k n.0 in
-          let m = and_parts d s u.0 in
-          let r = and_parts e l p.1 in
-          record {
-            live = (life-law targets today i j).0 r.1;
-            addresses = (each-law i j).0 r.0;
-            source_ports = (sports-law i j).0 m.1;
-            destination_ports = (dports-law i j).0 m.0;
-            either_ports = (either-ports-law i j).0 u.1;
-            types = (types-law i j).0 n.1;
-            option = (option-law i j).0 q.1;
-          },
-      λ w. and_from (numbers_within i j && o) (e && l)
-          (and_from (numbers_within i j) o (and_from (ports_within i j) t (and_from (d && s) k
-          (and_from d s ((dports-law i j).1 w.destination_ports) ((sports-law i j).1 w.source_ports))
-          ((either-ports-law i j).1 w.either_ports)) ((types-law i j).1 w.types)) ((option-law i j).1 w.option))
-          (and_from e l ((each-law i j).1 w.addresses) ((life-law targets today i j).1 w.live)),
+    let law = regrouped (field_within i j DestinationPort) (field_within i j SourcePort)
+    (some_within (j.ports ∷ j.sports ∷ j.dports ∷ []) i.ports) (list_all (field_within i j) icmp_fields)
+    (option_covers i.option i.dport_named j.option j.dport_named) (lies_within_in_each i j)
+    (is_live_where targets today i j) in
+    let fields = others-pass (field_within i j) in
+    let packets = packets-law i j in (
+      λ h. let p = law.0 h in record {
+        live = (life-law targets today i j).0 p.1.1.1.1;
+        packets = packets.0 (p.1.1.1.0, fields.0 p.0);
+        either_ports = (either-ports-law i j).0 p.1.0;
+        option = (option-law i j).0 p.1.1.0;
+      },
+      λ w. let p = packets.1 w.packets in
+          law.1 (
+            fields.1 p.1,
+            (
+              (either-ports-law i j).1 w.either_ports,
+              (
+                (option-law i j).1 w.option,
+                (p.0, (life-law targets today i j).1 w.live),
+              ),
+            ),
+          ),
     )

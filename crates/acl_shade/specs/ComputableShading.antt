@@ -4,6 +4,8 @@ use Rattle.std.specs.List.{list_all, list_any, position}
 use Rattle.std.specs.Option.{option_and_then}
 use Rattle.acl_packet.specs.declared.addresses.Family.{Family}
 use Rattle.acl_packet.specs.declared.addresses.Family.TheVariants.{V4, V6}
+use Rattle.acl_packet.specs.declared.packet_fields.Field.{Field}
+use Rattle.acl_packet.specs.declared.packet_fields.Field.TheVariants.{SourcePort, DestinationPort}
 use Rattle.acl_days.specs.declared.days.Day.{Day}
 use Rattle.acl_sets.specs.declared.sets.Range.{Range}
 use Rattle.acl_sets.specs.ComputableSets.{all_covered, covers, is_all}
@@ -12,11 +14,11 @@ use Rattle.acl_target.specs.declared.targets.Target.{Target}
 use Rattle.acl_terms.specs.declared.options.Opt.{Opt}
 use Rattle.acl_terms.specs.declared.options.Opt.TheVariants.{Plain, Established, TcpEstablished, TcpInitial, Rst}
 use Rattle.acl_terms.specs.declared.terms.Term.{Term}
-use Rattle.acl_packet.specs.Packets.{foreign_of}
-use Rattle.acl_terms.specs.Resolved.{destination_in, either_in, is_empty_in, is_term_live, source_in}
+use Rattle.acl_packet.specs.Packets.{foreign_of, icmp_fields}
+use Rattle.acl_terms.specs.Resolved.{destination_in, either_in, is_empty_in, is_term_live, set_in, source_in}
 use Rattle.acl_shade.specs.Shading.{Shades}
 
--- ---- ports, types and options
+-- ---- ports, fields of ICMP and options
 
 abbrev pub lies_within : Numbers → Numbers → Bool
 lies_within s other = all_covered s.ranges other.ranges
@@ -24,14 +26,18 @@ lies_within s other = all_covered s.ranges other.ranges
 abbrev pub some_within : List Numbers → Numbers → Bool
 some_within sets other = list_any (λ s. lies_within s other) sets
 
--- The ports of the term j lie within those of the term i: from which, to which, and of either.
+-- The numbers of a field that the term j has lie within those of the term i.
+abbrev pub field_within : Term → Term → Field → Bool
+field_within i j field = lies_within (set_in field j) (set_in field i)
+
+-- The ports do: to which, from which, and of either.
 abbrev pub ports_within : Term → Term → Bool
-ports_within i j = lies_within j.dports i.dports && lies_within j.sports i.sports
+ports_within i j = field_within i j DestinationPort && field_within i j SourcePort
     && some_within (j.ports ∷ j.sports ∷ j.dports ∷ []) i.ports
 
--- The ports and the types do.
+-- The ports and the fields of ICMP do.
 abbrev pub numbers_within : Term → Term → Bool
-numbers_within i j = ports_within i j && lies_within j.itypes i.itypes
+numbers_within i j = ports_within i j && list_all (field_within i j) icmp_fields
 
 -- The one option asks for nothing, or for what the other asks for. The flags say whether a destination port is named.
 abbrev pub option_covers : Opt → Bool → Opt → Bool → Bool

@@ -3,6 +3,7 @@
 use Rattle.std.specs.Prelude.{◌≡◌, ◌⊎◌, ℕ, ◌<◌, true, false, List, [], ◌∷◌, IsSomeAnd, slice_get, Contains}
 use Rattle.acl_packet.specs.declared.addresses.Family.{Family}
 use Rattle.acl_packet.specs.declared.addresses.Family.TheVariants.{V4, V6}
+use Rattle.acl_packet.specs.declared.packet_fields.Field.{Field}
 use Rattle.acl_days.specs.declared.days.Day.{Day}
 use Rattle.acl_sets.specs.Ranges.{Numbers, holds}
 use Rattle.acl_target.specs.declared.targets.Target.{Target}
@@ -10,7 +11,7 @@ use Rattle.acl_terms.specs.declared.options.Opt.{Opt}
 use Rattle.acl_terms.specs.declared.options.Opt.TheVariants.{Plain, Established}
 use Rattle.acl_terms.specs.declared.terms.Term.{Term}
 use Rattle.acl_terms.specs.Matching.{AnyOf}
-use Rattle.acl_terms.specs.Resolved.{IsEmptyIn, IsTermLive, destination_in, either_in, has_protocol, source_in}
+use Rattle.acl_terms.specs.Resolved.{IsEmptyIn, IsTermLive, destination_in, either_in, has_number, source_in}
 
 -- ---- life
 
@@ -29,13 +30,14 @@ LiesWithin s other = (x : ℕ) → holds s.ranges x ≡ true → holds other.ran
 abbrev pub SomeLiesWithin : List Numbers → Numbers → Type 0
 SomeLiesWithin sets other = AnyOf (λ s. LiesWithin s other) sets
 
--- Of a family, the sources, the destinations and the protocols of the one term lie within those of the other. So does
--- what it asks of either address, or its sources, or its destinations, within what the other asks of either.
+-- Of a family, the sources and the destinations of the one term, and its numbers of each field, lie within those of the
+-- other. So does what it asks of either address, or its sources, or its destinations, within what the other asks of
+-- either.
 pub record LiesWithinIn (f : Family) (i j : Term) : Type 0 where
   pub source : LiesWithin (source_in f j) (source_in f i)
   pub destination : LiesWithin (destination_in f j) (destination_in f i)
   pub either : SomeLiesWithin (either_in f j ∷ source_in f j ∷ destination_in f j ∷ []) (either_in f i)
-  pub protocols : (n : ℕ) → has_protocol f j n ≡ true → has_protocol f i n ≡ true
+  pub numbers : (field : Field) (n : ℕ) → has_number f j field n ≡ true → has_number f i field n ≡ true
 
 -- So it is in each family in which the term is not empty, and there is such a family. All families are asked, whatever
 -- the families of the targets.
@@ -60,11 +62,8 @@ OptionCovers i j = (i.option ≡ Plain) ⊎ ((i.option ≡ j.option) × PortsNam
 -- The term i shades the later term j, in a block with these targets.
 pub record Shades (targets : List Target) (today : Day) (i j : Term) : Type 0 where
   pub live : IsLiveWhere targets today i j
-  pub addresses : LiesWithinInEach i j
-  pub source_ports : LiesWithin j.sports i.sports
-  pub destination_ports : LiesWithin j.dports i.dports
+  pub packets : LiesWithinInEach i j
   pub either_ports : SomeLiesWithin (j.ports ∷ j.sports ∷ j.dports ∷ []) i.ports
-  pub types : LiesWithin j.itypes i.itypes
   pub option : OptionCovers i j
 
 -- The term at the place k shades the one at the later place.

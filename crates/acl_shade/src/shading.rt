@@ -1,9 +1,11 @@
 ghost use Rattle.std.specs.Prelude.{◌≡◌, ℕ, ◌<◌, ◌&&◌, ◌||◌, false, [], ◌∷◌, IfNone, IfSome, length, not};
 ghost use Rattle.std.specs.List.{list_all, list_any, position};
 ghost use Rattle.acl_sets.specs.ComputableSets.{covers};
-ghost use Rattle.acl_terms.specs.Resolved.{destination_in, either_in, source_in, is_term_live};
+ghost use Rattle.acl_packet.specs.Packets.{icmp_fields};
+ghost use Rattle.acl_terms.specs.Resolved.{destination_in, either_in, set_in, source_in, is_term_live};
 ghost use Rattle.acl_shade.specs.ComputableShading.{
   addresses_within,
+  field_within,
   fits_in,
   has_above,
   has_below,
@@ -23,29 +25,18 @@ ghost use Rattle.acl_shade.specs.ComputableShading.{
 ghost use Rattle.acl_shade.specs.Shading.{IsShadedBy, ShadesAt};
 
 use acl_days::Day;
-use acl_packet::Family;
+use acl_packet::{Family, Field};
 use acl_sets::{Range, RangeSet};
 use acl_target::Target;
-use acl_terms::{Opt, Term, destination_in, either_in, is_empty_in, is_live, source_in};
+use acl_terms::{Opt, Term, destination_in, either_in, is_empty_in, is_live, set_in, source_in};
 
-// ---- ports, types and options
+// ---- ports, fields of ICMP and options
 
-fn dports_within(earlier: &Term, term: &Term) -> bool
-    ensures { result ≡ lies_within term.now.dports earlier.now.dports }
+#[tactic(auto, using(crate::proofs::FamilyLaws::field_tops))]
+fn field_within(earlier: &Term, term: &Term, field: Field) -> bool
+    ensures { result ≡ field_within earlier.now term.now field }
 {
-    term.dports.subset_of(&earlier.dports)
-}
-
-fn sports_within(earlier: &Term, term: &Term) -> bool
-    ensures { result ≡ lies_within term.now.sports earlier.now.sports }
-{
-    term.sports.subset_of(&earlier.sports)
-}
-
-fn types_within(earlier: &Term, term: &Term) -> bool
-    ensures { result ≡ lies_within term.now.itypes earlier.now.itypes }
-{
-    term.itypes.subset_of(&earlier.itypes)
+    set_in(field, term).subset_of(set_in(field, earlier))
 }
 
 // Whether one of three sets lies within the other: what is asked of either side, and what of each.
@@ -74,15 +65,22 @@ fn either_ports_within(earlier: &Term, term: &Term) -> bool
 fn ports_within(earlier: &Term, term: &Term) -> bool
     ensures { result ≡ ports_within earlier.now term.now }
 {
-    dports_within(earlier, term)
-        && sports_within(earlier, term)
+    field_within(earlier, term, Field::DestinationPort)
+        && field_within(earlier, term, Field::SourcePort)
         && either_ports_within(earlier, term)
+}
+
+#[tactic(auto, using(crate::proofs::FamilyLaws::and_true))]
+fn icmp_within(earlier: &Term, term: &Term) -> bool
+    ensures { result ≡ list_all (field_within earlier.now term.now) icmp_fields }
+{
+    field_within(earlier, term, Field::IcmpType)
 }
 
 fn numbers_within(earlier: &Term, term: &Term) -> bool
     ensures { result ≡ numbers_within earlier.now term.now }
 {
-    ports_within(earlier, term) && types_within(earlier, term)
+    ports_within(earlier, term) && icmp_within(earlier, term)
 }
 
 fn option_covers(earlier: &Term, term: &Term) -> bool

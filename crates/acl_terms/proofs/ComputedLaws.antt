@@ -6,8 +6,12 @@ use Rattle.std.proofs.lemmas.Bool.{or_cases, or_left, or_right, both_ways, cases
 use Rattle.std.proofs.lemmas.List.Folds.{list_any-append}
 use Rattle.acl_packet.specs.declared.addresses.Family.{Family}
 use Rattle.acl_packet.specs.declared.addresses.Family.TheVariants.{V4, V6}
+use Rattle.acl_packet.specs.declared.packet_fields.Field.{Field}
+use Rattle.acl_packet.specs.declared.packet_fields.Field.TheVariants.{SourcePort, DestinationPort}
 use Rattle.acl_packet.specs.Addresses.{top_address}
 use Rattle.acl_packet.specs.NumberWords.{protocol_in}
+use Rattle.acl_packet.specs.Packets.{top_of}
+use Rattle.acl_packet.proofs.FieldLaws.{by-field}
 use Rattle.acl_sets.specs.declared.sets.Range.{Range}
 use Rattle.acl_sets.specs.Ranges.{Numbers, IsNormal, IsRange, holds, inside}
 use Rattle.acl_sets.proofs.ComputableSetLaws.{put_all-normal, put_all-holds, cut_all-normal, cut_all-holds}
@@ -21,7 +25,7 @@ use Rattle.acl_naming.specs.Reach.{ReachesPort}
 use Rattle.acl_naming.proofs.ComputedReachLaws.{addresses_computed, ports_computed}
 use Rattle.acl_naming.specs.ComputableReach.{ports_reached}
 use Rattle.acl_terms.specs.ComputableTerms.{ranges_or_all, ranges_of, address_set, named_address_set, number_set, port_set, sets_of, word_addresses, word_numbers, word_ports}
-use Rattle.acl_terms.specs.Matching.{Admits, AnyOf, IsAddress, IsNamedAddress, IsPort, NamesAddress, NamesPort, icmp_family, protocols_of, type_in}
+use Rattle.acl_terms.specs.Matching.{Admits, AnyOf, IsAddress, IsNamedAddress, IsNumber, IsPort, NamesAddress, NamesPort, icmp_family, protocols_of, type_in}
 use Rattle.acl_terms.specs.Sets.{AreSetsOf, IsSetOf, Sets}
 use Rattle.acl_terms.specs.SetSteps.{single}
 use Rattle.acl_terms.proofs.NumberLaws.{one-number, single-held}
@@ -63,11 +67,9 @@ one-of-sets n t s u h k =
     let d = one-set (IsAddress n V6 t.destinations t.destination_excludes) (top_address V6) s.dst6 u.dst6 h.ipv6.1 k.ipv6.1 in
     let k4 = one-set (IsNamedAddress n V4 t.addresses) (top_address V4) s.addr4 u.addr4 h.ipv4.2 k.ipv4.2 in
     let k6 = one-set (IsNamedAddress n V6 t.addresses) (top_address V6) s.addr6 u.addr6 h.ipv6.2 k.ipv6.2 in
-    let e = one-set (λ x. Admits (λ w. protocol_in w.text ≡ Some x) t.protocols) 255 s.protos u.protos h.protos_are k.protos_are in
-    let f = one-set (IsPort n qs t.source_ports) top_port s.sports u.sports h.ports.0 k.ports.0 in
-    let g = one-set (IsPort n qs t.destination_ports) top_port s.dports u.dports h.ports.1 k.ports.1 in
-    let p = one-set (IsPort n qs t.ports) top_port s.ports u.ports h.ports.2 k.ports.2 in
-    let i = one-set (λ x. Admits (λ w. type_in (icmp_family qs) w.text ≡ Some x) t.icmp_types) 255 s.itypes u.itypes h.itypes_are k.itypes_are in
+    let p = one-set (IsPort n qs t.ports) top_port s.ports u.ports h.either_ports k.either_ports in
+    let numbers = λ (field : Field). one-set (IsNumber n t field) (top_of field) (s.numbers field) (u.numbers field)
+    (h.numbers_are field) (k.numbers_are field) in
     λ j. record {
       src4 = a j;
       src6 = b j;
@@ -75,11 +77,8 @@ one-of-sets n t s u h k =
       dst6 = d j;
       addr4 = k4 j;
       addr6 = k6 j;
-      protos = e j;
-      sports = f j;
-      dports = g j;
+      numbers = λ field. numbers field j;
       ports = p j;
-      itypes = i j;
     }
 
 -- ---- the ranges of many items
@@ -180,42 +179,52 @@ word-held o x =
     let b = one-number o x in (λ h. b.0 (a.0 h), λ e. a.1 (b.1 e))
 
 number-is : (number : Word → Option ℕ) (words : List Word) → ((w : Word) (k : ℕ) → number w ≡ Some k → k ≤ 255)
-    → IsSetOf (λ x. Admits (λ w. number w ≡ Some x) words) 255 (number_set number words)
+    → IsSetOf (λ x. Admits (λ w. number w ≡ Some x) words) 255
+    (record { top = 255; ranges = ranges_or_all 255 (word_numbers number) words })
 number-is number words within = admitted-set (λ x w. number w ≡ Some x) 255 (word_numbers number) words
     (λ w. word-fits (number w) (within w)) (λ w x _. word-held (number w) x)
 
+field-is : (n : Naming) (t : RawTerm) (field : Field) → IsSetOf (IsNumber n t field) (top_of field) (number_set n t field)
+field-is n t =
+    let qs = protocols_of t.protocols in
+    by-field (λ field. IsSetOf (IsNumber n t field) (top_of field) (number_set n t field))
+    (number-is (λ w. protocol_in w.text) t.protocols (λ w k e. (protocol-within k w.text e).1))
+    (port-is n qs t.source_ports) (port-is n qs t.destination_ports)
+    (number-is (λ w. type_in (icmp_family qs) w.text) t.icmp_types
+    (λ w k e. let l = type-within (icmp_family qs) k w.text e in omega arith))
+
 -- The sets that are computed, where ports are some.
-pub computed-sets : (n : Naming) (t : RawTerm) → (sets_of n t).sports.ranges ≢ [] → (sets_of n t).dports.ranges ≢ []
-    → (sets_of n t).ports.ranges ≢ [] → AreSetsOf n t (sets_of n t)
+pub computed-sets : (n : Naming) (t : RawTerm) → (number_set n t SourcePort).ranges ≢ []
+    → (number_set n t DestinationPort).ranges ≢ [] → (sets_of n t).ports.ranges ≢ [] → AreSetsOf n t (sets_of n t)
 unfolding sets_of
-computed-sets n t from into either =
-    let qs = protocols_of t.protocols in record {
-      ipv4 = (
-        address-is n V4 t.sources t.source_excludes,
-        address-is n V4 t.destinations t.destination_excludes,
-        named-address-is n V4 t.addresses,
-      );
-      ipv6 = (
-        address-is n V6 t.sources t.source_excludes,
-        address-is n V6 t.destinations t.destination_excludes,
-        named-address-is n V6 t.addresses,
-      );
-      protos_are = number-is (λ w. protocol_in w.text) t.protocols (λ w k e. (protocol-within k w.text e).1);
-      ports = (port-is n qs t.source_ports, port-is n qs t.destination_ports, port-is n qs t.ports, from, into, either);
-      itypes_are = number-is (λ w. type_in (icmp_family qs) w.text) t.icmp_types
-          (λ w k e. let l = type-within (icmp_family qs) k w.text e in omega arith);
-    }
+computed-sets n t from into either = record {
+  ipv4 = (
+    address-is n V4 t.sources t.source_excludes,
+    address-is n V4 t.destinations t.destination_excludes,
+    named-address-is n V4 t.addresses,
+  );
+  ipv6 = (
+    address-is n V6 t.sources t.source_excludes,
+    address-is n V6 t.destinations t.destination_excludes,
+    named-address-is n V6 t.addresses,
+  );
+  numbers_are = field-is n t;
+  either_ports = port-is n (protocols_of t.protocols) t.ports;
+  some_from = from;
+  some_to = into;
+  some_of_either = either;
+}
 
 -- The sets of a term are those that are computed.
 pub sets_computed : (n : Naming) (t : RawTerm) (s : Sets) → AreSetsOf n t s → s ≡ sets_of n t
 unfolding sets_of
 sets_computed n t s h =
     let qs = protocols_of t.protocols in
-    let from = same-ranges (IsPort n qs t.source_ports) top_port s.sports (port_set n qs t.source_ports)
-    h.ports.0 (port-is n qs t.source_ports) in
-    let into = same-ranges (IsPort n qs t.destination_ports) top_port s.dports (port_set n qs t.destination_ports)
-    h.ports.1 (port-is n qs t.destination_ports) in
+    let same : (field : Field) → (s.numbers field).ranges ≡ (number_set n t field).ranges =
+    λ field. same-ranges (IsNumber n t field) (top_of field) (s.numbers field) (number_set n t field) (h.numbers_are field)
+    (field-is n t field) in
     let either = same-ranges (IsPort n qs t.ports) top_port s.ports (port_set n qs t.ports)
-    h.ports.2 (port-is n qs t.ports) in
+    h.either_ports (port-is n qs t.ports) in
     one-of-sets n t s (sets_of n t) h
-    (computed-sets n t (λ e. h.ports.3 (from ∙ e)) (λ e. h.ports.4 (into ∙ e)) (λ e. h.ports.5 (either ∙ e)))
+    (computed-sets n t (λ e. h.some_from (same SourcePort ∙ e)) (λ e. h.some_to (same DestinationPort ∙ e))
+    (λ e. h.some_of_either (either ∙ e)))

@@ -6,6 +6,7 @@ use Rattle.std.proofs.lemmas.Bool.{and_from, and_parts, or_cases, or_left, or_ri
 use Rattle.std.proofs.lemmas.List.Elements.{All-contains, Contains-get_or}
 use Rattle.std.proofs.lemmas.List.Sums.{AllPass-from_list_all, list_all-from_AllPass}
 use Rattle.acl_packet.specs.declared.addresses.Family.{Family}
+use Rattle.acl_packet.specs.declared.packet_fields.Field.TheVariants.{Protocol, SourcePort, DestinationPort}
 use Rattle.acl_sets.specs.declared.sets.Range.{Range}
 use Rattle.acl_sets.specs.Ranges.{Numbers, IsNormal, holds, inside}
 use Rattle.acl_sets.proofs.RangeLaws.{ends_of, in_range, first-holds}
@@ -122,9 +123,9 @@ pair-empty-law f t pair =
     (source-cut-normal a (source_in f t) either (source_tops f t) (source-normal f t) (either-normal f t))
     (destination-cut-normal a (destination_in f t) either (destination_tops f t) (destination-normal f t)
     (either-normal f t))
-    (source-cut-normal p t.sports t.ports (sport_tops t) t.sound.sports_normal t.sound.ports_normal)
-    (destination-cut-normal p t.dports t.ports (dport_tops t) t.sound.dports_normal t.sound.ports_normal) in
-    let c = no-protocol (foreign_of f) t.protos t.sound.protos_normal in
+    (source-cut-normal p t.sports t.ports (sport_tops t) (t.sound.normal SourcePort) t.sound.ports_normal)
+    (destination-cut-normal p t.dports t.ports (dport_tops t) (t.sound.normal DestinationPort) t.sound.ports_normal) in
+    let c = no-protocol (foreign_of f) t.protos (t.sound.normal Protocol) in
     let none : Bool = list_any has_none (pair_sets f t pair) in (
       λ h. elim (or_cases none (has_no_protocol f t) h) [ inl l ↦ inl (sets.0 l) | inr r ↦ inr (c.0 r) ],
       λ w. elim w [

@@ -2,6 +2,7 @@ pub mod AnsweredSlips
 pub mod ComputedLaws
 pub mod DistinctLaws
 pub mod EmptyLaws
+pub mod FieldLaws
 pub mod GatheredLaws
 pub mod LifeLaws
 pub mod MatchLaws

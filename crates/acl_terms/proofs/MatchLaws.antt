@@ -3,10 +3,13 @@ use Rattle.std.proofs.Common.{◌≡◌, ◌↔◌, ℕ, ◌^◌, ◌<◌, ◌�
 use Rattle.std.proofs.lemmas.Bool.{and_from, and_parts, or_cases, or_left, or_right, both_ways, false_from_ne_true}
 use Rattle.acl_packet.specs.declared.addresses.Family.{Family}
 use Rattle.acl_packet.specs.declared.addresses.Family.TheVariants.{V4, V6}
+use Rattle.acl_packet.specs.declared.packet_fields.Field.{Field}
+use Rattle.acl_packet.specs.declared.packet_fields.Field.TheVariants.{Protocol, SourcePort, DestinationPort, IcmpType}
 use Rattle.acl_packet.specs.declared.packets.Packet.{Packet}
 use Rattle.acl_packet.specs.Addresses.{width_of}
 use Rattle.acl_packet.specs.NumberWords.{protocol_in}
-use Rattle.acl_packet.specs.Packets.{IsPacket, foreign_of}
+use Rattle.acl_packet.specs.Packets.{IsPacket, foreign_of, number_of}
+use Rattle.acl_packet.proofs.FieldLaws.{all-are, by-field}
 use Rattle.acl_sets.specs.Ranges.{Numbers, holds}
 use Rattle.acl_sets.proofs.ComputableSetLaws.{covers-holds}
 use Rattle.acl_words.specs.declared.word_lists.Word.{Word}
@@ -14,9 +17,9 @@ use Rattle.acl_policy.specs.declared.raw_terms.RawTerm.{RawTerm}
 use Rattle.acl_naming.specs.Definitions.{Naming}
 use Rattle.acl_terms.specs.declared.options.Mode.{Mode}
 use Rattle.acl_terms.specs.declared.terms.Term.{Term}
-use Rattle.acl_terms.specs.Matching.{Admits, AnyOf, IsAddress, IsNamedAddress, IsProtocol, IsProtocolIn, Matches, NamesAddress, NamesPort, is_written, protocols_of}
+use Rattle.acl_terms.specs.Matching.{Admits, AnyOf, IsAddress, IsNamedAddress, IsNumberIn, IsProtocol, IsProtocolIn, Matches, NamesAddress, NamesPort, is_written, protocols_of}
 use Rattle.acl_terms.specs.Options.{option_of, passes}
-use Rattle.acl_terms.specs.Resolved.{IsResolved, addresses_match, destination_in, either_in, ends_match, has_protocol, holds_either, matches, ports_match, sets_in, source_in}
+use Rattle.acl_terms.specs.Resolved.{IsResolved, addresses_match, destination_in, either_in, has_number, holds_either, matches, numbers_match, sets_in, source_in}
 use Rattle.acl_terms.specs.Sets.{AreSetsOf, IsSetOf}
 use Rattle.acl_sets.specs.ComputableSets.{is_all}
 use Rattle.acl_terms.proofs.SoundLaws.{named-number, no-zero, whole}
@@ -97,6 +100,16 @@ protocol-is (w ∷ ws) f s x h l =
     both (holds s.ranges x) (is_all s || not (x == foreign_of f)) (h.exact x l)
     (not-is (x == foreign_of f) (is_all s) (not-all ws w s h))
 
+-- The numbers of a field that the term takes are those that its words name.
+number-is : (n : Naming) (raw : RawTerm) (t : Term) (f : Family) (p : Packet) → IsPacket p → AreSetsOf n raw (sets_in t)
+    → (field : Field) → (has_number f t field (number_of field p) ≡ true) ↔ IsNumberIn n raw f field (number_of field p)
+number-is n raw t f p fits are = by-field
+    (λ field. (has_number f t field (number_of field p) ≡ true) ↔ IsNumberIn n raw f field (number_of field p))
+    (protocol-is raw.protocols f t.protos p.proto (are.numbers_are Protocol) (fits.numbers Protocol))
+    ((are.numbers_are SourcePort).exact p.sport (fits.numbers SourcePort))
+    ((are.numbers_are DestinationPort).exact p.dport (fits.numbers DestinationPort))
+    ((are.numbers_are IcmpType).exact p.itype (fits.numbers IcmpType))
+
 option-is : (n : Naming) (raw : RawTerm) (t : Term) (mode : Mode) (p : Packet) → IsResolved n raw t
     → passes t.option mode t.dport_named p ≡ passes (option_of raw.options) mode (is_written raw.destination_ports) p
 option-is n raw t mode p is =
@@ -112,19 +125,17 @@ match-as-written n raw t mode p fits is =
     let f = p.family in
     let s = fits.source in
     let d = fits.destination in
-    let proto = protocol-is raw.protocols f t.protos p.proto are.protos_are (let l = fits.protocol in omega arith) in
     let source = source-is n raw t f p.src are s in
     let destination = destination-is n raw t f p.dst are d in
-    let sport = are.ports.0.exact p.sport (let l = fits.source_port in omega arith) in
-    let dport = are.ports.1.exact p.dport (let l = fits.destination_port in omega arith) in
     let either_address = either-is (NamesAddress n f p.src) (NamesAddress n f p.dst) raw.addresses
     (holds (either_in f t).ranges p.src) (holds (either_in f t).ranges p.dst) (named-is n raw t f p.src are s)
     (named-is n raw t f p.dst are d) in
+    let numbers = all-are (λ field. has_number f t field (number_of field p))
+    (λ field. IsNumberIn n raw f field (number_of field p)) (number-is n raw t f p fits are) in
     let either_port = either-is (NamesPort n qs p.sport) (NamesPort n qs p.dport) raw.ports
     (holds t.ports.ranges p.sport) (holds t.ports.ranges p.dport)
-    (are.ports.2.exact p.sport (let l = fits.source_port in omega arith))
-    (are.ports.2.exact p.dport (let l = fits.destination_port in omega arith)) in
-    let itype = are.itypes_are.exact p.itype (let l = fits.type_fits in omega arith) in
+    (are.either_ports.exact p.sport (fits.numbers SourcePort))
+    (are.either_ports.exact p.dport (fits.numbers DestinationPort)) in
     let same = option-is n raw t mode p is in
     let option : (passes t.option mode t.dport_named p ≡ true)
     ↔ (passes (option_of raw.options) mode (is_written raw.destination_ports) p ≡ true) =
@@ -133,27 +144,17 @@ match-as-written n raw t mode p fits is =
     (holds (destination_in f t).ranges p.dst && holds_either (either_in f t) p.src p.dst) source
     (both (holds (destination_in f t).ranges p.dst) (holds_either (either_in f t) p.src p.dst) destination
     either_address) in
-    let ends = both (has_protocol f t p.proto) (addresses_match f t p) proto addresses in
-    let ports = both (holds t.sports.ranges p.sport)
-    (holds t.dports.ranges p.dport && holds_either t.ports p.sport p.dport) sport
-    (both (holds t.dports.ranges p.dport) (holds_either t.ports p.sport p.dport) dport either_port) in
-    let last = both (holds t.itypes.ranges p.itype) (passes t.option mode t.dport_named p) itype option in
-    let law = both (ends_match f t p) (ports_match t p
-    && (holds t.itypes.ranges p.itype && passes t.option mode t.dport_named p)) ends
-    (both (ports_match t p) (holds t.itypes.ranges p.itype && passes t.option mode t.dport_named p) ports last) in (
+    let passed = passes t.option mode t.dport_named p in
+    let last = both (holds_either t.ports p.sport p.dport) passed either_port option in
+    let law = both (addresses_match f t p) (numbers_match f t p && (holds_either t.ports p.sport p.dport && passed)) addresses
+    (both (numbers_match f t p) (holds_either t.ports p.sport p.dport && passed) numbers last) in (
       λ h. let r = law.0 h in record {
-        source = r.0.1.0;
-        destination = r.0.1.1.0;
-        either_address = r.0.1.1.1;
-        protocol = r.0.0;
-        source_port = r.1.0.0;
-        destination_port = r.1.0.1.0;
-        either_port = r.1.0.1.1;
-        icmp_type = r.1.1.0;
+        source = r.0.0;
+        destination = r.0.1.0;
+        either_address = r.0.1.1;
+        numbers = r.1.0;
+        either_port = r.1.1.0;
         option = r.1.1.1;
       },
-      λ m. law.1 (
-        (m.protocol, (m.source, (m.destination, m.either_address))),
-        ((m.source_port, (m.destination_port, m.either_port)), (m.icmp_type, m.option)),
-      ),
+      λ m. law.1 ((m.source, (m.destination, m.either_address)), (m.numbers, (m.either_port, m.option))),
     )

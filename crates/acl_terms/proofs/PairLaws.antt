@@ -1,10 +1,11 @@
 -- A term has the addresses and ports of a packet where one of its pairs of sides does.
-use Rattle.std.proofs.Common.{◌≡◌, ℕ, Bool, true, false, ◌&&◌, ◌||◌, List, [], ◌∷◌, inl, inr, refl, ap, sym, ◌∙◌, arith}
+use Rattle.std.proofs.Common.{◌≡◌, ℕ, Bool, true, false, ◌&&◌, ◌||◌, inl, inr, refl, ap, sym, ◌∙◌, arith}
 use Rattle.std.specs.List.{list_any}
 use Rattle.std.proofs.lemmas.Bool.{and_from, and_parts, both_ways, false_from_ne_true}
 use Rattle.std.proofs.lemmas.List.Folds.{Any-from_list_any}
 use Rattle.acl_packet.specs.declared.addresses.Family.{Family}
 use Rattle.acl_packet.specs.declared.addresses.Family.TheVariants.{V4, V6}
+use Rattle.acl_packet.specs.declared.packet_fields.Field.TheVariants.{SourcePort, DestinationPort}
 use Rattle.acl_packet.specs.declared.packets.Packet.{Packet}
 use Rattle.acl_sets.specs.Ranges.{Numbers, IsNormal, holds}
 use Rattle.acl_sets.specs.ComputableSets.{is_all}
@@ -16,8 +17,9 @@ use Rattle.acl_terms.specs.declared.sides.Side.TheVariants.{Whole, Source, Desti
 use Rattle.acl_terms.specs.declared.sides.SidePair.{SidePair}
 use Rattle.acl_terms.specs.declared.terms.Term.{Term}
 use Rattle.acl_terms.specs.Options.{passes}
-use Rattle.acl_terms.specs.Resolved.{IsEmptyIn, addresses_match, destination_cut, destination_in, destinations_on, dports_on, either_in, ends_match, has_protocol, holds_either, in_both, matches, pairs_of, ports_match, side_pairs, sides_of, source_cut, source_in, sources_on, sports_on}
-use Rattle.acl_terms.proofs.SideLaws.{both-holds, destination-normal, destination_tops, dport_tops, source-normal, source_tops, sport_tops}
+use Rattle.acl_terms.specs.Resolved.{IsEmptyIn, addresses_match, destination_cut, destination_in, destinations_on, dports_on, either_in, has_protocol, holds_either, in_both, matches, matches_in, pairs_of, side_pairs, sides_of, source_cut, source_in, sources_on, sports_on}
+use Rattle.acl_terms.proofs.FieldLaws.{by-parts, ends_match, icmp_match, ports_match}
+use Rattle.acl_terms.proofs.SideLaws.{both-holds, destination-normal, source-normal, source_tops, sport_tops}
 
 -- ---- sides
 
@@ -76,7 +78,7 @@ addresses-by-sides f t p = by-sides t.addr_named (source_in f t) (destination_in
 pub ports-by-sides : (t : Term) (p : Packet)
     → ports_match t p ≡ list_any (side_has_ports t p) (sides_of t.port_named)
 ports-by-sides t p = by-sides t.port_named t.sports t.dports t.ports p.sport p.dport (sport_tops t)
-    t.sound.sports_normal t.sound.dports_normal t.sound.ports_named
+    (t.sound.normal SourcePort) (t.sound.normal DestinationPort) t.sound.ports_named
 
 -- ---- pairs
 
@@ -133,10 +135,12 @@ match-by-pairs f t p =
 -- ---- emptiness
 
 -- A term that has the addresses, the ports and the protocol of a packet is not empty in its family.
-pub matched-some : (f : Family) (t : Term) (p : Packet) → ends_match f t p ≡ true → ports_match t p ≡ true
-    → IsEmptyIn f t → ⊥
-matched-some f t p ends ports empty =
-    let a = and_parts (has_protocol f t p.proto) (addresses_match f t p) ends in
+pub matched-some : (f : Family) (mode : Mode) (t : Term) (p : Packet) → matches_in f mode t p ≡ true → IsEmptyIn f t → ⊥
+matched-some f mode t p h empty =
+    let last : Bool = icmp_match f t p && passes t.option mode t.dport_named p in
+    let whole = and_parts (ends_match f t p) (ports_match t p && last) (sym (by-parts f mode t p) ∙ h) in
+    let ports = (and_parts (ports_match t p) last whole.1).0 in
+    let a = and_parts (has_protocol f t p.proto) (addresses_match f t p) whole.0 in
     let any = sym (match-by-pairs f t p) ∙ and_from (addresses_match f t p) (ports_match t p) a.1 ports in
     let some = Any-from_list_any (pair_has f t p) (pairs_of t) any in
     let pair = some.1 in
@@ -164,9 +168,4 @@ matched-some f t p ends ports empty =
 
 pub empty_matches_none : (mode : Mode) (t : Term) (p : Packet) → IsEmptyIn p.family t → matches mode t p ≡ false
 unfolding matches
-empty_matches_none mode t p empty =
-    let last : Bool = holds t.itypes.ranges p.itype && passes t.option mode t.dport_named p in
-    false_from_ne_true (matches mode t p) (λ h.
-    let a = and_parts (ends_match p.family t p) (ports_match t p && last) h in
-    let b = and_parts (ports_match t p) last a.1 in
-    matched-some p.family t p a.0 b.0 empty)
+empty_matches_none mode t p empty = false_from_ne_true (matches mode t p) (λ h. matched-some p.family mode t p h empty)

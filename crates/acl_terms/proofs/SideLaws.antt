@@ -1,9 +1,10 @@
 -- What two sets share, and the sets of a term on its sides.
-use Rattle.std.proofs.Common.{◌≡◌, ◌↔◌, ℕ, ◌+◌, ◌<◌, ◌≤◌, Bool, true, false, not, ◌&&◌, ◌||◌, List, [], ◌∷◌, inl, inr, refl, sym, ◌∙◌, subst, arith}
+use Rattle.std.proofs.Common.{◌≡◌, ◌↔◌, ℕ, ◌+◌, ◌≤◌, Bool, true, false, not, ◌&&◌, ◌||◌, List, [], ◌∷◌, inl, inr, refl, sym, ◌∙◌, subst, arith}
 use Rattle.std.specs.List.{list_any}
 use Rattle.std.proofs.lemmas.Bool.{and_from, and_parts, or_cases, or_left, or_right, both_ways, false_from_ne_true, cases_lt}
 use Rattle.acl_packet.specs.declared.addresses.Family.{Family}
 use Rattle.acl_packet.specs.declared.addresses.Family.TheVariants.{V4, V6}
+use Rattle.acl_packet.specs.declared.packet_fields.Field.TheVariants.{SourcePort, DestinationPort}
 use Rattle.acl_sets.specs.declared.sets.Range.{Range}
 use Rattle.acl_sets.specs.Ranges.{Numbers, IsNormal, holds, inside}
 use Rattle.acl_sets.specs.ComputableSets.{shared_all}
@@ -138,7 +139,7 @@ destination_tops V4 t = t.sound.dst4_top ∙ sym t.sound.addr4_top
 destination_tops V6 t = t.sound.dst6_top ∙ sym t.sound.addr6_top
 
 pub sport_tops : (t : Term) → t.sports.top ≡ t.ports.top
-sport_tops t = t.sound.sports_top ∙ sym t.sound.ports_top
+sport_tops t = t.sound.tops SourcePort ∙ sym t.sound.ports_top
 
 pub dport_tops : (t : Term) → t.dports.top ≡ t.ports.top
-dport_tops t = t.sound.dports_top ∙ sym t.sound.ports_top
+dport_tops t = t.sound.tops DestinationPort ∙ sym t.sound.ports_top

@@ -8,9 +8,11 @@ use Rattle.acl_packet.specs.declared.addresses.Family.{Family}
 use Rattle.acl_packet.specs.declared.addresses.Family.TheVariants.{V4, V6}
 use Rattle.acl_packet.specs.declared.filtering.Verdict.{Verdict}
 use Rattle.acl_packet.specs.declared.filtering.Verdict.TheVariants as verdicts
+use Rattle.acl_packet.specs.declared.packet_fields.Field.TheVariants.{Protocol, SourcePort, DestinationPort, IcmpType}
 use Rattle.acl_packet.specs.Addresses.{top_address}
 use Rattle.acl_packet.specs.NumberWords.{protocol_in}
 use Rattle.acl_packet.specs.Packets.{has_ports}
+use Rattle.acl_packet.proofs.FieldLaws.{by-field}
 use Rattle.acl_text.specs.declared.faults.Code.{Code}
 use Rattle.acl_text.specs.declared.faults.Code.TheVariants as codes
 use Rattle.acl_text.specs.Names.{is_name}
@@ -24,13 +26,14 @@ use Rattle.acl_naming.specs.Definitions.{Naming}
 use Rattle.acl_naming.specs.Ports.{top_port}
 use Rattle.acl_terms.specs.declared.options.Opt.{Opt}
 use Rattle.acl_terms.specs.declared.options.Opt.TheVariants.{Plain, Established, TcpEstablished, TcpInitial, Rst}
-use Rattle.acl_terms.specs.Matching.{AnyOf, Admits, IsProtocol, IsType, NamesAddress, NamesPort, only, is_number, icmp_family, type_in, protocols_of, is_written}
+use Rattle.acl_terms.specs.Matching.{AnyOf, Admits, IsProtocol, NamesAddress, NamesPort, only, is_number, icmp_family, type_in, protocols_of, is_written}
 use Rattle.acl_terms.specs.Options.{option_of, verdict_of}
 use Rattle.acl_terms.specs.Sets.{IsSetOf, Sets, AreSetsOf}
+use Rattle.acl_terms.specs.SetSteps.{IsType}
 use Rattle.acl_terms.specs.Slips.{first_unless, slip_of, type_slip, option_fits, verdict_fits, is_tcp_or_udp, port_words, networks_slip, port_protocol_slip, services_slip, words_slips, types_slip, clash_slip, option_slip, reset_slip}
 use Rattle.acl_sets.specs.ComputableSets.{is_all}
 use Rattle.acl_sets.specs.Ranges.{Only}
-use Rattle.acl_terms.specs.Soundness.{IsSoundTerm, is_established, needs_tcp, is_reset, is_left}
+use Rattle.acl_terms.specs.Soundness.{HaveField, IsSoundTerm, is_established, is_protocol, needs_tcp, is_reset, is_left}
 use Rattle.acl_text.specs.Notes.{is_note, note_of}
 use Rattle.acl_text.specs.Refusals.{first_in, first_some}
 use Rattle.acl_terms.proofs.WordLaws.{protocol-within, type-within, parts, passed, first-passed, none-more, left-some, right-some, only-all, any-passes, any-number}
@@ -207,13 +210,17 @@ not-written (w ∷ ws) P top s h e = absurd (both_ways true e refl)
 pub sound : (n : Naming) (t : RawTerm) (s : Sets) → is_name t.name.text ≡ true
     → is_note (note_of t.comments) ≡ true → slip_of n t ≡ None → AreSetsOf n t s
     → IsSoundTerm t.name.text (note_of t.comments) s.src4 s.src6 s.dst4 s.dst6 s.addr4 s.addr6
-    (is_written t.addresses) s.protos s.sports s.dports (is_written t.destination_ports) s.ports (is_written t.ports)
-    s.itypes (option_of t.options) (verdict_of t.action.text)
+    (is_written t.addresses) s.numbers (is_written t.destination_ports) s.ports (is_written t.ports)
+    (option_of t.options) (verdict_of t.action.text)
 sound n t s name note clean are =
     let qs = protocols_of t.protocols in
     let p = passes-all n t clean in
-    let named = NamesPort n qs in
     let ends = t.source_ports ++ t.destination_ports in
+    let protos = s.numbers Protocol in
+    let itypes = s.numbers IcmpType in
+    let protos_are = are.numbers_are Protocol in
+    let itypes_are = are.numbers_are IcmpType in
+    let held = λ (test : ℕ → Bool). only-held test t.protocols protos protos_are in
     record {
       name_is = name;
       note_is = note;
@@ -231,44 +238,36 @@ sound n t s name note clean are =
       addr6_top = are.ipv6.2.top_is;
       addr6_normal = are.ipv6.2.normal;
       addr6_named = not-written t.addresses (NamesAddress n V6) (top_address V6) s.addr6 are.ipv6.2;
-      protos_top = are.protos_are.top_is;
-      protos_normal = are.protos_are.normal;
-      protos_lack_0 = lack-zero t.protocols s.protos are.protos_are;
-      sports_top = are.ports.0.top_is;
-      sports_normal = are.ports.0.normal;
-      sports_some = are.ports.3;
-      sports_fit = λ e. only-held has_ports t.protocols s.protos are.protos_are
-          (ports-fit n (NamesPort n qs) top_port t.source_ports s.sports (only has_ports qs) codes.PortProtocol (port_words t)
-          are.ports.0 (λ h. left-some ends t.ports (left-some t.source_ports t.destination_ports h)) p.ports e);
-      dports_top = are.ports.1.top_is;
-      dports_normal = are.ports.1.normal;
-      dports_some = are.ports.4;
-      dports_fit = λ e. only-held has_ports t.protocols s.protos are.protos_are
-          (ports-fit n (NamesPort n qs) top_port t.destination_ports s.dports (only has_ports qs) codes.PortProtocol (port_words t)
-          are.ports.1 (λ h. left-some ends t.ports (right-some t.source_ports t.destination_ports h)) p.ports e);
-      dports_named = not-written t.destination_ports (NamesPort n qs) top_port s.dports are.ports.1;
-      ports_top = are.ports.2.top_is;
-      ports_normal = are.ports.2.normal;
-      ports_some = are.ports.5;
-      ports_fit = λ e. only-held has_ports t.protocols s.protos are.protos_are
-          (ports-fit n (NamesPort n qs) top_port t.ports s.ports (only has_ports qs) codes.PortProtocol (port_words t)
-          are.ports.2 (right-some ends t.ports) p.ports e);
-      ports_named = not-written t.ports (NamesPort n qs) top_port s.ports are.ports.2;
-      itypes_top = are.itypes_are.top_is;
-      itypes_normal = are.itypes_are.normal;
-      itypes_some = types-some (icmp_family qs) t.icmp_types s.itypes are.itypes_are p.types;
-      itypes_lack_255 = lack-255 (icmp_family qs) t.icmp_types s.itypes are.itypes_are;
-      itypes_fit = λ e none. only-held (is_number 58) t.protocols s.protos are.protos_are
-          (one-icmp (only (is_number 1) qs) (only (is_number 58) qs)
+      tops = λ field. (are.numbers_are field).top_is;
+      normal = λ field. (are.numbers_are field).normal;
+      some = by-field (λ field. is_protocol field ≡ false → (s.numbers field).ranges ≢ [])
+          (λ h. absurd (both_ways true h refl)) (λ _. are.some_from) (λ _. are.some_to)
+          (λ _. types-some (icmp_family qs) t.icmp_types itypes itypes_are p.types);
+      fit = by-field (λ field. is_all (s.numbers field) ≡ false → HaveField field protos) (λ _ _ _ _. refl)
+          (λ e _. held has_ports (ports-fit n (NamesPort n qs) top_port t.source_ports (s.numbers SourcePort)
+          (only has_ports qs) codes.PortProtocol (port_words t) (are.numbers_are SourcePort)
+          (λ h. left-some ends t.ports (left-some t.source_ports t.destination_ports h)) p.ports e))
+          (λ e _. held has_ports (ports-fit n (NamesPort n qs) top_port t.destination_ports (s.numbers DestinationPort)
+          (only has_ports qs) codes.PortProtocol (port_words t) (are.numbers_are DestinationPort)
+          (λ h. left-some ends t.ports (right-some t.source_ports t.destination_ports h)) p.ports e))
+          (λ e none. held (is_number 58) (one-icmp (only (is_number 1) qs) (only (is_number 58) qs)
           (is-family (icmp_family qs) t.icmp_types
-          (not-whole (λ x w. type_in (icmp_family qs) w.text ≡ Some x) 255 t.icmp_types s.itypes are.itypes_are e) p.types)
-          (λ o. none (only-held (is_number 1) t.protocols s.protos are.protos_are o)));
-      established_fits = λ e. only-held is_tcp_or_udp t.protocols s.protos are.protos_are
-          (established-only (option_of t.options) qs p.option e);
-      flags_fit = λ e. only-held (is_number 6) t.protocols s.protos are.protos_are
-          (flags-only (option_of t.options) qs p.option e);
-      reset_fits = λ e. only-held (is_number 6) t.protocols s.protos are.protos_are
-          (reset-only (verdict_of t.action.text) qs p.verdict e);
+          (not-whole (λ x w. type_in (icmp_family qs) w.text ≡ Some x) 255 t.icmp_types itypes itypes_are e) p.types)
+          (λ o. none (held (is_number 1) o))));
+      protos_lack_0 = lack-zero t.protocols protos protos_are;
+      itypes_lack_255 = lack-255 (icmp_family qs) t.icmp_types itypes itypes_are;
+      dports_named = not-written t.destination_ports (NamesPort n qs) top_port (s.numbers DestinationPort)
+          (are.numbers_are DestinationPort);
+      ports_top = are.either_ports.top_is;
+      ports_normal = are.either_ports.normal;
+      ports_some = are.some_of_either;
+      ports_fit = λ e. held has_ports
+          (ports-fit n (NamesPort n qs) top_port t.ports s.ports (only has_ports qs) codes.PortProtocol (port_words t)
+          are.either_ports (right-some ends t.ports) p.ports e);
+      ports_named = not-written t.ports (NamesPort n qs) top_port s.ports are.either_ports;
+      established_fits = λ e. held is_tcp_or_udp (established-only (option_of t.options) qs p.option e);
+      flags_fit = λ e. held (is_number 6) (flags-only (option_of t.options) qs p.option e);
+      reset_fits = λ e. held (is_number 6) (reset-only (verdict_of t.action.text) qs p.verdict e);
       verdict_is = never-left (bytes_eq t.action.text (codes_of "accept")) (bytes_eq t.action.text (codes_of "deny"))
           (bytes_eq t.action.text (codes_of "reject"));
     }
@@ -280,7 +279,7 @@ pub sound-fields : (n : Naming) (t : RawTerm) (s : Sets) (name note : List ℕ) 
     → dport_named ≡ is_written t.destination_ports → port_named ≡ is_written t.ports
     → option ≡ option_of t.options → verdict ≡ verdict_of t.action.text
     → is_name t.name.text ≡ true → is_note note ≡ true → slip_of n t ≡ None → AreSetsOf n t s
-    → IsSoundTerm name note s.src4 s.src6 s.dst4 s.dst6 s.addr4 s.addr6 addr_named s.protos s.sports s.dports dport_named
-    s.ports port_named s.itypes option verdict
+    → IsSoundTerm name note s.src4 s.src6 s.dst4 s.dst6 s.addr4 s.addr6 addr_named s.numbers dport_named
+    s.ports port_named option verdict
 sound-fields n t s name note addr_named dport_named port_named option verdict e1 e2 e3 e4 e5 e6 e7 is safe clean are =
     rw (e1, e2, e3, e4, e5, e6, e7) (sound n t s is (sym (ap is_note e2) ∙ safe) clean are)

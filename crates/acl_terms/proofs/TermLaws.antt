@@ -4,6 +4,8 @@ use Rattle.std.proofs.Props.{props}
 use Rattle.std.specs.List.{list_all}
 use Rattle.std.proofs.lemmas.Bool.{and_parts}
 use Rattle.acl_packet.specs.declared.filtering.Verdict.{Verdict}
+use Rattle.acl_packet.specs.declared.packet_fields.Field.{Field}
+use Rattle.acl_packet.specs.declared.packet_fields.Field.TheVariants.{Protocol, SourcePort, DestinationPort, IcmpType}
 use Rattle.acl_packet.specs.Packets.{has_ports}
 use Rattle.acl_text.specs.declared.faults.Code.TheVariants as codes
 use Rattle.acl_text.specs.declared.faults.Place.{Place}
@@ -14,6 +16,7 @@ use Rattle.acl_days.specs.declared.days.Day.{Day}
 use Rattle.acl_policy.specs.declared.raw_terms.RawTerm.{RawTerm}
 use Rattle.acl_words.specs.declared.word_lists.Word.{Word}
 use Rattle.acl_policy.specs.Conditions.{IsRawTerm}
+use Rattle.acl_sets.specs.Ranges.{Numbers}
 use Rattle.acl_naming.specs.Definitions.{Naming}
 use Rattle.acl_naming.specs.PortLaws.{PortsAreSome}
 use Rattle.acl_naming.specs.Ports.{top_port}
@@ -33,6 +36,7 @@ use Rattle.acl_terms.specs.Soundness.{IsSoundTerm, normal-prop}
 use Rattle.acl_terms.proofs.ComputedLaws.{computed-sets, one-of-sets, port-is}
 use Rattle.acl_terms.proofs.PortLaws.{protocol-tested}
 use Rattle.acl_terms.proofs.SetLaws.{holds-some}
+use Rattle.acl_terms.proofs.FieldLaws.{told, told-same}
 use Rattle.acl_terms.proofs.SlipLaws.{first-in-append, ports-some}
 use Rattle.acl_terms.proofs.SoundLaws.{passes-all, some-range, sound}
 use Rattle.acl_terms.proofs.WordLaws.{left-some, none-more, parts, passed, right-some}
@@ -57,8 +61,7 @@ record Fields : Type 0 where
 
 AreSound : Fields → Type 0
 AreSound f = IsSoundTerm f.name f.note f.sets.src4 f.sets.src6 f.sets.dst4 f.sets.dst6 f.sets.addr4 f.sets.addr6
-    f.addr_named f.sets.protos f.sets.sports f.sets.dports f.dport_named f.sets.ports f.port_named f.sets.itypes
-    f.option f.verdict
+    f.addr_named (told f.sets.numbers) f.dport_named f.sets.ports f.port_named f.option f.verdict
 
 fields-of : Term → Fields
 fields-of t = record {
@@ -90,13 +93,13 @@ term-of f sound = record {
   addr4 = f.sets.addr4;
   addr6 = f.sets.addr6;
   addr_named = f.addr_named;
-  protos = f.sets.protos;
-  sports = f.sets.sports;
-  dports = f.sets.dports;
+  protos = f.sets.numbers Protocol;
+  sports = f.sets.numbers SourcePort;
+  dports = f.sets.numbers DestinationPort;
   dport_named = f.dport_named;
   ports = f.sets.ports;
   port_named = f.port_named;
-  itypes = f.sets.itypes;
+  itypes = f.sets.numbers IcmpType;
   option = f.option;
   verdict = f.verdict;
   log = f.log;
@@ -110,8 +113,7 @@ one-proof : (f : Fields) (p q : AreSound f) → p ≡ q
 unfolding AreSound
 one-proof f p q =
     let prop : IsProp (IsSoundTerm f.name f.note f.sets.src4 f.sets.src6 f.sets.dst4 f.sets.dst6 f.sets.addr4 f.sets.addr6
-    f.addr_named f.sets.protos f.sets.sports f.sets.dports f.dport_named f.sets.ports f.port_named f.sets.itypes
-    f.option f.verdict) = hlevel (props, normal-prop) in prop p q
+    f.addr_named (told f.sets.numbers) f.dport_named f.sets.ports f.port_named f.option f.verdict) = hlevel (props, normal-prop) in prop p q
 
 same-term : (f g : Fields) → f ≡ g → (p : AreSound f) (q : AreSound g) → term-of f p ≡ term-of g q
 same-term f g e p =
@@ -184,10 +186,13 @@ sets-there n raw some clean =
     (λ h. named (left-some ends raw.ports (right-some raw.source_ports raw.destination_ports h))) both.1)
     (port-some n qs raw.ports some (λ h. named (right-some ends raw.ports h)) all.1)
 
+abbrev pub IsSoundWith : RawTerm → Sets → (Field → Numbers) → Type 0
+IsSoundWith raw s numbers = IsSoundTerm raw.name.text (note_of raw.comments) s.src4 s.src6 s.dst4 s.dst6 s.addr4 s.addr6
+    (is_written raw.addresses) numbers (is_written raw.destination_ports) s.ports
+    (is_written raw.ports) (option_of raw.options) (verdict_of raw.action.text)
+
 abbrev pub IsWrittenSound : RawTerm → Sets → Type 0
-IsWrittenSound raw s = IsSoundTerm raw.name.text (note_of raw.comments) s.src4 s.src6 s.dst4 s.dst6 s.addr4 s.addr6
-    (is_written raw.addresses) s.protos s.sports s.dports (is_written raw.destination_ports) s.ports
-    (is_written raw.ports) s.itypes (option_of raw.options) (verdict_of raw.action.text)
+IsWrittenSound raw s = IsSoundWith raw s (told s.numbers)
 
 -- The written term, with these sets.
 abbrev pub term-with : (raw : RawTerm) (s : Sets) → IsWrittenSound raw s → Term
@@ -202,13 +207,13 @@ term-with raw s sound = record {
   addr4 = s.addr4;
   addr6 = s.addr6;
   addr_named = is_written raw.addresses;
-  protos = s.protos;
-  sports = s.sports;
-  dports = s.dports;
+  protos = s.numbers Protocol;
+  sports = s.numbers SourcePort;
+  dports = s.numbers DestinationPort;
   dport_named = is_written raw.destination_ports;
   ports = s.ports;
   port_named = is_written raw.ports;
-  itypes = s.itypes;
+  itypes = s.numbers IcmpType;
   option = option_of raw.options;
   verdict = verdict_of raw.action.text;
   log = raw.logging;
@@ -222,7 +227,7 @@ term-with raw s sound = record {
 pub term-with-resolved : (n : Naming) (raw : RawTerm) (s : Sets) (sound : IsWrittenSound raw s) → AreSetsOf n raw s
     → IsResolved n raw (term-with raw s sound)
 term-with-resolved n raw s sound are = record {
-  sets = are;
+  sets = subst (λ (numbers : Field → Numbers). AreSetsOf n raw (record s { numbers = numbers })) (sym (told-same s.numbers)) are;
   fields = record {
     name = refl;
     place = refl;
@@ -244,5 +249,7 @@ pub term-there : (n : Naming) (raw : RawTerm) → PortsAreSome n.services → Is
 term-there n raw some fits clean =
     let s = sets_of n raw in
     let are = sets-there n raw some clean in
-    let is_sound : IsWrittenSound raw s = sound n raw s fits.name_is (note_is_safe raw.comments) clean are in
+    let is_sound : IsWrittenSound raw s =
+    subst (IsSoundWith raw s) (sym (told-same s.numbers))
+    (sound n raw s fits.name_is (note_is_safe raw.comments) clean are) in
     (term-with raw s is_sound, term-with-resolved n raw s is_sound are)

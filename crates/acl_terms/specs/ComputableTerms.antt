@@ -3,8 +3,11 @@
 use Rattle.std.specs.Prelude.{◌≡◌, ℕ, List, [], ◌∷◌, None, map, flat_map, option_to_list, Option}
 use Rattle.acl_packet.specs.declared.addresses.Family.{Family}
 use Rattle.acl_packet.specs.declared.addresses.Family.TheVariants.{V4, V6}
+use Rattle.acl_packet.specs.declared.packet_fields.Field.{Field}
+use Rattle.acl_packet.specs.declared.packet_fields.Field.TheVariants.{Protocol, SourcePort, DestinationPort, IcmpType}
 use Rattle.acl_packet.specs.Addresses.{top_address}
 use Rattle.acl_packet.specs.NumberWords.{protocol_in}
+use Rattle.acl_packet.specs.Packets.{top_of}
 use Rattle.acl_sets.specs.declared.sets.Range.{Range}
 use Rattle.acl_sets.specs.Ranges.{Numbers}
 use Rattle.acl_sets.specs.ComputableSets.{cut_all, put_all}
@@ -16,7 +19,7 @@ use Rattle.acl_naming.specs.Definitions.{Naming}
 use Rattle.acl_naming.specs.PortLaws.{PortsAreSome}
 use Rattle.acl_naming.specs.Ports.{top_port}
 use Rattle.acl_terms.specs.declared.terms.Term.{Term}
-use Rattle.acl_terms.specs.Matching.{icmp_family, protocols_of, type_in}
+use Rattle.acl_terms.specs.Matching.{icmp_family, protocols_of, type_in, words_of}
 use Rattle.acl_terms.specs.Resolved.{IsResolved}
 use Rattle.acl_terms.specs.Sets.{Sets}
 use Rattle.acl_terms.specs.SetSteps.{single}
@@ -58,8 +61,18 @@ port_set n protos words = record {
 abbrev pub word_numbers : (Word → Option ℕ) → Word → List Range
 word_numbers number w = map single (option_to_list (number w))
 
-abbrev pub number_set : (Word → Option ℕ) → List Word → Numbers
-number_set number words = record { top = 255; ranges = ranges_or_all 255 (word_numbers number) words }
+-- The numbers that a word of a field names.
+abbrev pub field_numbers : Naming → RawTerm → Field → Word → List Range
+field_numbers n t Protocol w = word_numbers (λ v. protocol_in v.text) w
+field_numbers n t SourcePort w = word_ports n (protocols_of t.protocols) w
+field_numbers n t DestinationPort w = word_ports n (protocols_of t.protocols) w
+field_numbers n t IcmpType w = word_numbers (λ v. type_in (icmp_family (protocols_of t.protocols)) v.text) w
+
+abbrev pub number_set : Naming → RawTerm → Field → Numbers
+number_set n t field = record {
+  top = top_of field;
+  ranges = ranges_or_all (top_of field) (field_numbers n t field) (words_of field t);
+}
 
 unfoldable pub sets_of : Naming → RawTerm → Sets
 sets_of n t = record {
@@ -69,11 +82,8 @@ sets_of n t = record {
   dst6 = address_set n V6 t.destinations t.destination_excludes;
   addr4 = named_address_set n V4 t.addresses;
   addr6 = named_address_set n V6 t.addresses;
-  protos = number_set (λ w. protocol_in w.text) t.protocols;
-  sports = port_set n (protocols_of t.protocols) t.source_ports;
-  dports = port_set n (protocols_of t.protocols) t.destination_ports;
+  numbers = λ field. number_set n t field;
   ports = port_set n (protocols_of t.protocols) t.ports;
-  itypes = number_set (λ w. type_in (icmp_family (protocols_of t.protocols)) w.text) t.icmp_types;
 }
 
 -- A written term is resolved in one way.

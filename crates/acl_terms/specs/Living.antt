@@ -1,5 +1,5 @@
 -- When a term is live: it is meant for the platform, and it has not expired.
-use Rattle.std.specs.Prelude.{◌≡◌, ℕ, ◌<ℤ◌, Bool, true, false, List, [], ◌∷◌, Option, None, Some}
+use Rattle.std.specs.Prelude.{◌≡◌, ◌<ℤ◌, Bool, true, false, List, [], ◌∷◌, Option, None, Some}
 use Rattle.std.specs.List.{list_any}
 use Rattle.std.specs.Str.{bytes_eq}
 use Rattle.acl_days.specs.declared.days.Day.{Day}

@@ -2,9 +2,11 @@
 -- made.
 use Rattle.std.specs.Prelude.{◌≡◌, ℕ, Bool, true, false, ◌==◌, ◌⊎◌, if◌then◌else◌, List, [], ◌∷◌, Option, None, Some, flat_map, option_to_list}
 use Rattle.std.specs.List.{list_all}
-use Rattle.acl_packet.specs.Packets.{foreign_of}
+use Rattle.acl_packet.specs.Packets.{foreign_of, number_of}
 use Rattle.acl_packet.specs.declared.addresses.Family.{Family}
 use Rattle.acl_packet.specs.declared.addresses.Family.TheVariants.{V4, V6}
+use Rattle.acl_packet.specs.declared.packet_fields.Field.{Field}
+use Rattle.acl_packet.specs.declared.packet_fields.Field.TheVariants.{Protocol, SourcePort, DestinationPort, IcmpType}
 use Rattle.acl_packet.specs.declared.packets.Packet.{Packet}
 use Rattle.acl_packet.specs.NumberWords.{protocol_in, icmp_in}
 use Rattle.acl_words.specs.declared.word_lists.Word.{Word}
@@ -90,8 +92,30 @@ abbrev pub type_in : Option Family → List ℕ → Option ℕ
 type_in None text = None
 type_in (Some f) text = icmp_in f text
 
-abbrev pub IsType : Option Family → List Word → ℕ → Type 0
-IsType family words x = Admits (λ w. type_in family w.text ≡ Some x) words
+-- ---- fields
+
+-- The words that name numbers of a field.
+abbrev pub words_of : Field → RawTerm → List Word
+words_of Protocol t = t.protocols
+words_of SourcePort t = t.source_ports
+words_of DestinationPort t = t.destination_ports
+words_of IcmpType t = t.icmp_types
+
+-- A word of the field names the number.
+abbrev pub NamesNumber : Naming → RawTerm → Field → ℕ → Word → Type 0
+NamesNumber n t Protocol x w = protocol_in w.text ≡ Some x
+NamesNumber n t SourcePort x w = NamesPort n (protocols_of t.protocols) x w
+NamesNumber n t DestinationPort x w = NamesPort n (protocols_of t.protocols) x w
+NamesNumber n t IcmpType x w = type_in (icmp_family (protocols_of t.protocols)) w.text ≡ Some x
+
+-- One of the field's words does, where any is written.
+abbrev pub IsNumber : Naming → RawTerm → Field → ℕ → Type 0
+IsNumber n t field x = Admits (NamesNumber n t field x) (words_of field t)
+
+-- So it is for a packet of a family.
+abbrev pub IsNumberIn : Naming → RawTerm → Family → Field → ℕ → Type 0
+IsNumberIn n t f Protocol x = IsProtocolIn f t.protocols x
+IsNumberIn n t f field x = IsNumber n t field x
 
 -- ---- the whole term
 
@@ -104,9 +128,6 @@ pub record Matches (n : Naming) (t : RawTerm) (mode : Mode) (p : Packet) : Type 
   pub source : IsAddress n p.family t.sources t.source_excludes p.src
   pub destination : IsAddress n p.family t.destinations t.destination_excludes p.dst
   pub either_address : IsEitherAddress n p.family t.addresses p.src p.dst
-  pub protocol : IsProtocolIn p.family t.protocols p.proto
-  pub source_port : IsPort n (protocols_of t.protocols) t.source_ports p.sport
-  pub destination_port : IsPort n (protocols_of t.protocols) t.destination_ports p.dport
+  pub numbers : (field : Field) → IsNumberIn n t p.family field (number_of field p)
   pub either_port : IsEitherPort n (protocols_of t.protocols) t.ports p.sport p.dport
-  pub icmp_type : IsType (icmp_family (protocols_of t.protocols)) t.icmp_types p.itype
   pub option : passes (option_of t.options) mode (is_written t.destination_ports) p ≡ true

@@ -4,6 +4,8 @@ use Rattle.std.specs.List.{list_all, list_any}
 use Rattle.std.specs.Int.Signed.{lt_z}
 use Rattle.acl_packet.specs.declared.addresses.Family.{Family}
 use Rattle.acl_packet.specs.declared.addresses.Family.TheVariants.{V4, V6}
+use Rattle.acl_packet.specs.declared.packet_fields.Field.{Field}
+use Rattle.acl_packet.specs.declared.packet_fields.Field.TheVariants.{Protocol}
 use Rattle.acl_packet.specs.declared.packets.Packet.{Packet}
 use Rattle.acl_text.specs.declared.faults.Refusal.{Refusal}
 use Rattle.acl_text.specs.declared.faults.Refusal.TheVariants as refusals
@@ -20,11 +22,15 @@ use Rattle.acl_terms.specs.declared.sides.SidePair.{SidePair}
 use Rattle.acl_terms.specs.declared.terms.Term.{Term}
 use Rattle.acl_terms.specs.Living.{IsUnexpired, allows, has_platform, platforms_of, some_platforms}
 use Rattle.acl_terms.specs.Matching.{AnyOf, is_written}
-use Rattle.acl_packet.specs.Packets.{foreign_of}
+use Rattle.acl_packet.specs.Packets.{fields, foreign_of, number_of}
 use Rattle.acl_terms.specs.Options.{option_of, passes, verdict_of}
-use Rattle.acl_terms.specs.Sets.{AreSetsOf, Sets}
+use Rattle.acl_terms.specs.Sets.{AreSetsOf, Sets, by_field}
 use Rattle.acl_sets.specs.ComputableSets.{is_all, shared_all}
 use Rattle.acl_text.specs.Notes.{note_of}
+
+-- The term's set of a field.
+abbrev pub set_in : Field → Term → Numbers
+set_in field t = by_field t.protos t.sports t.dports t.itypes field
 
 abbrev pub sets_in : Term → Sets
 sets_in t = record {
@@ -34,11 +40,8 @@ sets_in t = record {
   dst6 = t.dst6;
   addr4 = t.addr4;
   addr6 = t.addr6;
-  protos = t.protos;
-  sports = t.sports;
-  dports = t.dports;
+  numbers = λ field. set_in field t;
   ports = t.ports;
-  itypes = t.itypes;
 }
 
 -- The other fields are those of the term as it is written.
@@ -89,21 +92,22 @@ holds_either s x y = holds s.ranges x || holds s.ranges y
 abbrev pub has_protocol : Family → Term → ℕ → Bool
 has_protocol f t n = holds t.protos.ranges n && (is_all t.protos || not (n == foreign_of f))
 
+-- The numbers of a field that the term takes from packets of the family.
+abbrev pub has_number : Family → Term → Field → ℕ → Bool
+has_number f t Protocol n = has_protocol f t n
+has_number f t field n = holds (set_in field t).ranges n
+
+abbrev pub numbers_match : Family → Term → Packet → Bool
+numbers_match f t p = list_all (λ field. has_number f t field (number_of field p)) fields
+
 abbrev pub addresses_match : Family → Term → Packet → Bool
 addresses_match f t p = holds (source_in f t).ranges p.src
     && (holds (destination_in f t).ranges p.dst && holds_either (either_in f t) p.src p.dst)
 
-abbrev pub ends_match : Family → Term → Packet → Bool
-ends_match f t p = has_protocol f t p.proto && addresses_match f t p
-
-abbrev pub ports_match : Term → Packet → Bool
-ports_match t p = holds t.sports.ranges p.sport
-    && (holds t.dports.ranges p.dport && holds_either t.ports p.sport p.dport)
-
 -- The same with the family apart from the packet.
 abbrev pub matches_in : Family → Mode → Term → Packet → Bool
-matches_in f mode t p = ends_match f t p
-    && (ports_match t p && (holds t.itypes.ranges p.itype && passes t.option mode t.dport_named p))
+matches_in f mode t p = addresses_match f t p && (numbers_match f t p
+    && (holds_either t.ports p.sport p.dport && passes t.option mode t.dport_named p))
 
 unfoldable pub matches : Mode → Term → Packet → Bool
 matches mode t p = matches_in p.family mode t p

@@ -1,5 +1,5 @@
 -- What private functions give on the way to a term's sets.
-use Rattle.std.specs.Prelude.{ℕ, Bool, ◌||◌, List, Option, flat_map, option_to_list}
+use Rattle.std.specs.Prelude.{◌≡◌, ◌≢◌, ℕ, Bool, ◌||◌, List, [], Option, Some, flat_map, option_to_list}
 use Rattle.std.specs.List.{list_any}
 use Rattle.std.specs.Option.{option_or}
 use Rattle.acl_packet.specs.declared.addresses.Family.{Family}
@@ -10,15 +10,29 @@ use Rattle.acl_text.specs.declared.faults.Slip.{Slip}
 use Rattle.acl_text.specs.Refusals.{first_in}
 use Rattle.acl_policy.specs.declared.raw_terms.RawTerm.{RawTerm}
 use Rattle.acl_words.specs.declared.word_lists.Word.{Word}
-use Rattle.acl_naming.specs.Definitions.{Definition}
+use Rattle.acl_naming.specs.Definitions.{Definition, Naming}
+use Rattle.acl_naming.specs.Ports.{top_port}
 use Rattle.acl_terms.specs.declared.resolving.TermParts.{TermParts}
-use Rattle.acl_terms.specs.Matching.{type_in}
-use Rattle.acl_terms.specs.Sets.{Sets}
+use Rattle.acl_terms.specs.Matching.{Admits, IsPort, type_in}
+use Rattle.acl_terms.specs.Sets.{IsSetOf, Sets, by_field}
 use Rattle.acl_terms.specs.Slips.{first_unless, is_defined, network_slip, reaches_protocol, unless}
 
 -- The numbers of the words of `icmp-type::`.
 abbrev pub types_of : Option Family → List Word → List ℕ
 types_of family words = flat_map (λ w. option_to_list (type_in family w.text)) words
+
+-- The type is one of theirs, where any is written.
+abbrev pub IsType : Option Family → List Word → ℕ → Type 0
+IsType family words x = Admits (λ w. type_in family w.text ≡ Some x) words
+
+-- The ports with the protocols: from which, to which, and those of either. They are some, where some protocol is named
+-- wherever ports are.
+abbrev pub IsPortSet : Naming → List ℕ → RawTerm → Numbers → Numbers → Numbers → Type 0
+IsPortSet n protos t sports dports ports =
+    IsSetOf (IsPort n protos t.source_ports) top_port sports
+    × IsSetOf (IsPort n protos t.destination_ports) top_port dports
+    × IsSetOf (IsPort n protos t.ports) top_port ports
+    × (sports.ranges ≢ []) × (dports.ranges ≢ []) × (ports.ranges ≢ [])
 
 abbrev pub single : ℕ → Range
 single n = record { low = n; high = n }
@@ -58,9 +72,6 @@ sets_by p = record {
   dst6 = p.ends.dst.v6;
   addr4 = p.ends.either.v4;
   addr6 = p.ends.either.v6;
-  protos = p.protos;
-  sports = p.ports.sports;
-  dports = p.ports.dports;
+  numbers = by_field p.protos p.ports.sports p.ports.dports p.itypes;
   ports = p.ports.ports;
-  itypes = p.itypes;
 }

@@ -1,13 +1,16 @@
 -- The sets of a term: they hold exactly the numbers that the words of the term name.
-use Rattle.std.specs.Prelude.{◌≡◌, ◌≢◌, ◌↔◌, ℕ, ◌≤◌, true, List, []}
+use Rattle.std.specs.Prelude.{◌≡◌, ◌≢◌, ◌↔◌, ℕ, ◌≤◌, true, []}
 use Rattle.acl_packet.specs.declared.addresses.Family.{Family}
 use Rattle.acl_packet.specs.declared.addresses.Family.TheVariants.{V4, V6}
+use Rattle.acl_packet.specs.declared.packet_fields.Field.{Field}
+use Rattle.acl_packet.specs.declared.packet_fields.Field.TheVariants.{Protocol, SourcePort, DestinationPort, IcmpType}
 use Rattle.acl_packet.specs.Addresses.{top_address}
+use Rattle.acl_packet.specs.Packets.{top_of}
 use Rattle.acl_sets.specs.Ranges.{Numbers, IsNormal, holds}
 use Rattle.acl_policy.specs.declared.raw_terms.RawTerm.{RawTerm}
 use Rattle.acl_naming.specs.Definitions.{Naming}
 use Rattle.acl_naming.specs.Ports.{top_port}
-use Rattle.acl_terms.specs.Matching.{IsAddress, IsNamedAddress, IsPort, IsProtocol, IsType, protocols_of, icmp_family}
+use Rattle.acl_terms.specs.Matching.{IsAddress, IsNamedAddress, IsNumber, IsPort, protocols_of}
 
 -- The set holds, up to its top, exactly the numbers of which the fact holds.
 pub record IsSetOf (P : ℕ → Type 0) (top : ℕ) (s : Numbers) : Type 0 where
@@ -22,16 +25,14 @@ IsAddressSet n f t src dst either =
     × IsSetOf (IsAddress n f t.destinations t.destination_excludes) (top_address f) dst
     × IsSetOf (IsNamedAddress n f t.addresses) (top_address f) either
 
--- The ports with the protocols: from which, to which, and those of either. They are some, where some protocol is named
--- wherever ports are.
-abbrev pub IsPortSet : Naming → List ℕ → RawTerm → Numbers → Numbers → Numbers → Type 0
-IsPortSet n protos t sports dports ports =
-    IsSetOf (IsPort n protos t.source_ports) top_port sports
-    × IsSetOf (IsPort n protos t.destination_ports) top_port dports
-    × IsSetOf (IsPort n protos t.ports) top_port ports
-    × (sports.ranges ≢ []) × (dports.ranges ≢ []) × (ports.ranges ≢ [])
+-- The sets of the fields, one after the other.
+abbrev pub by_field : Numbers → Numbers → Numbers → Numbers → Field → Numbers
+by_field protos sports dports itypes Protocol = protos
+by_field protos sports dports itypes SourcePort = sports
+by_field protos sports dports itypes DestinationPort = dports
+by_field protos sports dports itypes IcmpType = itypes
 
--- The sets of a term: addresses by family, protocols, ports and types.
+-- The sets of a term: addresses by family, the numbers of each field, and the ports of either side.
 pub record Sets : Type 0 where
   pub src4 : Numbers
   pub src6 : Numbers
@@ -39,16 +40,15 @@ pub record Sets : Type 0 where
   pub dst6 : Numbers
   pub addr4 : Numbers
   pub addr6 : Numbers
-  pub protos : Numbers
-  pub sports : Numbers
-  pub dports : Numbers
+  pub numbers : Field → Numbers
   pub ports : Numbers
-  pub itypes : Numbers
 
 pub record AreSetsOf (n : Naming) (t : RawTerm) (s : Sets) : Type 0 where
   pub ipv4 : IsAddressSet n V4 t s.src4 s.dst4 s.addr4
   pub ipv6 : IsAddressSet n V6 t s.src6 s.dst6 s.addr6
-  pub protos_are : IsSetOf (IsProtocol t.protocols) 255 s.protos
-  pub ports : IsPortSet n (protocols_of t.protocols) t s.sports s.dports s.ports
-  pub itypes_are : IsSetOf (IsType (icmp_family (protocols_of t.protocols)) t.icmp_types) 255
-      s.itypes
+  pub numbers_are : (field : Field) → IsSetOf (IsNumber n t field) (top_of field) (s.numbers field)
+  pub either_ports : IsSetOf (IsPort n (protocols_of t.protocols) t.ports) top_port s.ports
+  -- some protocol is named wherever ports are
+  pub some_from : (s.numbers SourcePort).ranges ≢ []
+  pub some_to : (s.numbers DestinationPort).ranges ≢ []
+  pub some_of_either : s.ports.ranges ≢ []

@@ -2,10 +2,12 @@
 use Rattle.std.specs.Prelude.{◌≡◌, ◌≢◌, ℕ, ◌+◌, Bool, true, false, List, [], ◌∷◌}
 use Rattle.std.proofs.Math.Bridge.{le_prop}
 use Rattle.acl_packet.specs.declared.addresses.Family.TheVariants.{V4, V6}
+use Rattle.acl_packet.specs.declared.packet_fields.Field.{Field}
+use Rattle.acl_packet.specs.declared.packet_fields.Field.TheVariants.{Protocol, DestinationPort, IcmpType}
 use Rattle.acl_packet.specs.declared.filtering.Verdict.{Verdict}
 use Rattle.acl_packet.specs.declared.filtering.Verdict.TheVariants as verdicts
 use Rattle.acl_packet.specs.Addresses.{top_address}
-use Rattle.acl_packet.specs.Packets.{has_ports}
+use Rattle.acl_packet.specs.Packets.{has_field, has_ports, top_of}
 use Rattle.acl_text.specs.Names.{is_name}
 use Rattle.acl_sets.specs.declared.sets.Range.{Range}
 use Rattle.acl_sets.specs.Ranges.{IsNormal, Numbers, Only, holds}
@@ -35,9 +37,17 @@ abbrev pub is_left : Verdict → Bool
 is_left verdicts.Left = true
 is_left _ = false
 
+abbrev pub is_protocol : Field → Bool
+is_protocol Protocol = true
+is_protocol _ = false
+
+-- All these protocols have the field in IPv4, or all have it in IPv6.
+abbrev pub HaveField : Field → Numbers → Type 0
+HaveField field protos = (Only (has_field V4 field) protos → ⊥) → Only (has_field V6 field) protos
+
 pub record IsSoundTerm (name note : List ℕ) (src4 src6 dst4 dst6 addr4 addr6 : Numbers)
-    (addr_named : Bool) (protos sports dports : Numbers) (dport_named : Bool) (ports : Numbers)
-    (port_named : Bool) (itypes : Numbers) (option : Opt) (verdict : Verdict) : Type 0 where
+    (addr_named : Bool) (numbers : Field → Numbers) (dport_named : Bool) (ports : Numbers)
+    (port_named : Bool) (option : Opt) (verdict : Verdict) : Type 0 where
   pub name_is : is_name name ≡ true
   pub note_is : is_note note ≡ true
   pub src4_top : src4.top ≡ top_address V4
@@ -54,33 +64,21 @@ pub record IsSoundTerm (name note : List ℕ) (src4 src6 dst4 dst6 addr4 addr6 :
   pub addr6_top : addr6.top ≡ top_address V6
   pub addr6_normal : IsNormal 0 addr6.top addr6.ranges
   pub addr6_named : addr_named ≡ false → is_all addr6 ≡ true
-  pub protos_top : protos.top ≡ 255
-  pub protos_normal : IsNormal 0 protos.top protos.ranges
-  pub protos_lack_0 : is_all protos ≡ false → holds protos.ranges 0 ≡ false
-  pub sports_top : sports.top ≡ top_port
-  pub sports_normal : IsNormal 0 sports.top sports.ranges
-  pub sports_some : sports.ranges ≢ []
-  pub sports_fit : is_all sports ≡ false → Only has_ports protos
-  pub dports_top : dports.top ≡ top_port
-  pub dports_normal : IsNormal 0 dports.top dports.ranges
-  pub dports_some : dports.ranges ≢ []
-  pub dports_fit : is_all dports ≡ false → Only has_ports protos
-  pub dports_named : dport_named ≡ false → is_all dports ≡ true
+  pub tops : (field : Field) → (numbers field).top ≡ top_of field
+  pub normal : (field : Field) → IsNormal 0 (numbers field).top (numbers field).ranges
+  pub some : (field : Field) → is_protocol field ≡ false → (numbers field).ranges ≢ []
+  pub fit : (field : Field) → is_all (numbers field) ≡ false → HaveField field (numbers Protocol)
+  pub protos_lack_0 : is_all (numbers Protocol) ≡ false → holds (numbers Protocol).ranges 0 ≡ false
+  pub itypes_lack_255 : is_all (numbers IcmpType) ≡ false → holds (numbers IcmpType).ranges 255 ≡ false
+  pub dports_named : dport_named ≡ false → is_all (numbers DestinationPort) ≡ true
   pub ports_top : ports.top ≡ top_port
   pub ports_normal : IsNormal 0 ports.top ports.ranges
   pub ports_some : ports.ranges ≢ []
-  pub ports_fit : is_all ports ≡ false → Only has_ports protos
+  pub ports_fit : is_all ports ≡ false → Only has_ports (numbers Protocol)
   pub ports_named : port_named ≡ false → is_all ports ≡ true
-  pub itypes_top : itypes.top ≡ 255
-  pub itypes_normal : IsNormal 0 itypes.top itypes.ranges
-  pub itypes_some : itypes.ranges ≢ []
-  pub itypes_lack_255 : is_all itypes ≡ false → holds itypes.ranges 255 ≡ false
-  -- ICMP of one family alone: 1 or 58
-  pub itypes_fit : is_all itypes ≡ false → (Only (is_number 1) protos → ⊥)
-      → Only (is_number 58) protos
-  pub established_fits : is_established option ≡ true → Only is_tcp_or_udp protos
-  pub flags_fit : needs_tcp option ≡ true → Only (is_number 6) protos
-  pub reset_fits : is_reset verdict ≡ true → Only (is_number 6) protos
+  pub established_fits : is_established option ≡ true → Only is_tcp_or_udp (numbers Protocol)
+  pub flags_fit : needs_tcp option ≡ true → Only (is_number 6) (numbers Protocol)
+  pub reset_fits : is_reset verdict ≡ true → Only (is_number 6) (numbers Protocol)
   pub verdict_is : is_left verdict ≡ false
 
 -- A list is in normal form in one way: the facts on its ranges are orders.

@@ -97,7 +97,6 @@ fn lacks_addresses(term: &Term, family: Family, side: Side) -> bool
         || has_no_destination(side, destination_in(family, term), either)
 }
 
-#[tactic(auto, using(crate::proofs::SideLaws::sport_tops, crate::proofs::SideLaws::dport_tops))]
 fn lacks_ports(term: &Term, side: Side) -> bool
     ensures { result ≡ (has_none (sports_on side term.now) || has_none (dports_on side term.now)) }
 {

@@ -23,7 +23,7 @@ pub use laws::{
     terms_live_as_written, terms_match_as_written,
 };
 pub use living::is_live;
-pub use matching::{destination_in, either_in, matches, source_in};
+pub use matching::{destination_in, either_in, matches, set_in, source_in};
 pub use options::{Mode, Opt};
 pub use resolving::resolve;
 pub use side_sets::{dports_on, pairs_of, sports_on};

@@ -4,17 +4,18 @@ ghost use Rattle.acl_terms.specs.Resolved.{
   addresses_match,
   destination_in,
   either_in,
-  ends_match,
+  has_number,
   has_protocol,
   holds_either,
   matches,
-  ports_match,
+  numbers_match,
+  set_in,
   source_in,
 };
 
 use crate::options::{Mode, Opt};
 use crate::terms::Term;
-use acl_packet::{Family, Packet, has_flag};
+use acl_packet::{Family, Field, Packet, fields, has_flag};
 use acl_sets::RangeSet;
 
 // ---- options
@@ -75,11 +76,38 @@ pub fn either_in(family: Family, term: &Term) -> &RangeSet
     }
 }
 
-fn has_protocol(family: Family, term: &Term, proto: u8) -> bool
+/// The term's set of the field.
+pub fn set_in(field: Field, term: &Term) -> &RangeSet
+    ensures { result.now ≡ set_in field term.now }
+{
+    match field {
+        Field::Protocol => &term.protos,
+        Field::SourcePort => &term.sports,
+        Field::DestinationPort => &term.dports,
+        Field::IcmpType => &term.itypes,
+    }
+}
+
+fn has_protocol(family: Family, term: &Term, proto: u16) -> bool
     ensures { result ≡ has_protocol family term.now proto }
 {
     term.protos.contains(u128::from(proto))
-        && (term.protos.is_all() || proto != family.foreign_number())
+        && (term.protos.is_all() || proto != u16::from(family.foreign_number()))
+}
+
+fn has_number(family: Family, term: &Term, field: Field, number: u16) -> bool
+    ensures { result ≡ has_number family term.now field number }
+{
+    match field {
+        Field::Protocol => has_protocol(family, term, number),
+        _ => set_in(field, term).contains(u128::from(number)),
+    }
+}
+
+fn numbers_match(term: &Term, packet: &Packet) -> bool
+    ensures { result ≡ numbers_match packet.now.family term.now packet.now }
+{
+    fields().iter().all(|field| has_number(packet.family, term, *field, field.number_in(packet)))
 }
 
 fn holds_either(set: &RangeSet, first: u128, second: u128) -> bool
@@ -96,31 +124,19 @@ fn addresses_match(term: &Term, packet: &Packet) -> bool
         && holds_either(either_in(packet.family, term), packet.src, packet.dst)
 }
 
-fn ends_match(term: &Term, packet: &Packet) -> bool
-    ensures { result ≡ ends_match packet.now.family term.now packet.now }
-{
-    has_protocol(packet.family, term, packet.proto) && addresses_match(term, packet)
-}
-
-fn ports_match(term: &Term, packet: &Packet) -> bool
-    ensures { result ≡ ports_match term.now packet.now }
-{
-    let sport = u128::from(packet.sport);
-    let dport = u128::from(packet.dport);
-    term.sports.contains(sport)
-        && term.dports.contains(dport)
-        && holds_either(&term.ports, sport, dport)
-}
-
 /// Whether the term matches the packet: the family's source and destination hold its addresses, what is asked of
-/// either address one of them, the family's protocols its protocol, the port sets its ports, what is asked of either
-/// port one of them, the types its ICMP type, and it passes the option.
+/// either address one of them, the term's set of each field its number there, what is asked of either port one of its
+/// ports, and it passes the option. Where protocols are named, none of them is the other family's ICMP.
 #[tactic(auto, unfolding(crate::specs::Resolved::matches))]
 pub fn matches(term: &Term, mode: Mode, packet: &Packet) -> bool
     ensures { result ≡ matches mode term.now packet.now }
 {
-    ends_match(term, packet)
-        && ports_match(term, packet)
-        && term.itypes.contains(u128::from(packet.itype))
+    addresses_match(term, packet)
+        && numbers_match(term, packet)
+        && holds_either(
+            &term.ports,
+            u128::from(packet.sport),
+            u128::from(packet.dport),
+        )
         && passes(term.option, mode, term.dport_named, packet)
 }

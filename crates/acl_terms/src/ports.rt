@@ -3,8 +3,8 @@ ghost use Rattle.acl_text.specs.Refusals.{Judges, first_in};
 ghost use Rattle.acl_naming.specs.Ports.{top_port};
 ghost use Rattle.acl_naming.specs.Reach.{ReachesPort};
 ghost use Rattle.acl_terms.specs.Matching.{Admits, AnyOf, IsPort, NamesPort};
-ghost use Rattle.acl_terms.specs.Sets.{IsPortSet, IsSetOf};
-ghost use Rattle.acl_terms.specs.SetSteps.{protocol_slip};
+ghost use Rattle.acl_terms.specs.Sets.{IsSetOf};
+ghost use Rattle.acl_terms.specs.SetSteps.{IsPortSet, protocol_slip};
 ghost use Rattle.acl_terms.specs.Slips.{port_words, service_slip, services_slip};
 
 use crate::checks::refusal_at;
@@ -60,7 +60,7 @@ fn ports_by(
         IsSetOf (λ x. NamesPort base.now protos.now x word.now) top_port s) }
     ensures some { IfOk result (λ s. s.ranges ≢ []) }
 {
-    let mut out = RangeSet::empty(alloc, TOP)?;
+    let mut out = RangeSet::empty(alloc, TOP);
     for proto in protos {
         let more = ports_at(alloc, base, *proto, word)?;
         out = out.union(alloc, &more)?;
@@ -82,7 +82,7 @@ fn ports_of_words(
         IsSetOf (λ x. AnyOf (NamesPort base.now protos.now x) words.now) top_port s) }
     ensures some { IfOk result (λ s. words.now ≢ [] → s.ranges ≢ []) }
 {
-    let mut out = RangeSet::empty(alloc, TOP)?;
+    let mut out = RangeSet::empty(alloc, TOP);
     let mut left = NewWords::new(alloc, words);
     while let Some(word) = left.next()? {
         let more = ports_by(alloc, base, protos, &word)?;

@@ -1,9 +1,9 @@
 ghost use Rattle.std.specs.Prelude.{◌≡◌, ◌++◌, OnOk, IfOk, option_to_list, map};
 ghost use Rattle.acl_sets.specs.Ranges.{IsRange};
 ghost use Rattle.std.specs.List.{All};
-ghost use Rattle.acl_terms.specs.Matching.{AnyOf, IsProtocol, IsType, protocols_of, type_in};
+ghost use Rattle.acl_terms.specs.Matching.{AnyOf, IsProtocol, protocols_of, type_in};
 ghost use Rattle.acl_terms.specs.Sets.{IsSetOf};
-ghost use Rattle.acl_terms.specs.SetSteps.{single, types_of};
+ghost use Rattle.acl_terms.specs.SetSteps.{IsType, single, types_of};
 
 use crate::checks::type_in;
 use crate::distinct::distinct;

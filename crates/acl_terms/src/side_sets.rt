@@ -59,7 +59,6 @@ pub fn pairs_of(term: &Term) -> &'static [SidePair]
 }
 
 /// The source ports of the term on the side.
-#[tactic(auto, using(crate::proofs::SideLaws::sport_tops))]
 pub fn sports_on(alloc: Global, side: Side, term: &Term) -> Result<RangeSet, Memory>
     ensures { IfOk result (λ s. s ≡ sports_on side term.now) }
 {
@@ -70,7 +69,6 @@ pub fn sports_on(alloc: Global, side: Side, term: &Term) -> Result<RangeSet, Mem
 }
 
 /// The destination ports of the term on the side.
-#[tactic(auto, using(crate::proofs::SideLaws::dport_tops))]
 pub fn dports_on(alloc: Global, side: Side, term: &Term) -> Result<RangeSet, Memory>
     ensures { IfOk result (λ s. s ≡ dports_on side term.now) }
 {

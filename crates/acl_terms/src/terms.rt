@@ -14,6 +14,7 @@ pub struct Platforms {
 }
 
 ghost use Rattle.std.proofs.Props.{props};
+ghost use Rattle.acl_terms.specs.Sets.{by_field};
 ghost use Rattle.acl_terms.specs.Soundness.{IsSoundTerm, normal-prop};
 
 /// A term whose words stand for numbers.
@@ -48,6 +49,6 @@ pub struct Term {
     pub expires: Option<Day>,
     pub only: Option<Platforms>,
     pub never: Platforms,
-    pub ghost sound: { IsSoundTerm name note src4 src6 dst4 dst6 addr4 addr6 addr_named protos sports
-        dports dport_named ports port_named itypes option verdict } by { Prim.hlevel (props, normal-prop) },
+    pub ghost sound: { IsSoundTerm name note src4 src6 dst4 dst6 addr4 addr6 addr_named
+        (by_field protos sports dports itypes) dport_named ports port_named option verdict } by { Prim.hlevel (props, normal-prop) },
 }

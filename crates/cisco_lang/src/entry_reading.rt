@@ -3,8 +3,8 @@ ghost use Rattle.std.specs.Str.{bytes_eq};
 ghost use Rattle.cisco_lang.specs.ReadingSteps.{wildcard_length, proto_in, next_word, take_address, take_masked, take_place, take_port, take_ports, take_type, take_flags, entry_in};
 
 use crate::documents::{Entry, Flags};
-use acl_packet::{Family, Prefix};
 use acl_rows::RowWords;
+use acl_packet::{Family, Prefix};
 use acl_text::{read_address, read_spelled_prefix, read_u8, read_u16};
 
 /// The entry of the words, each of which is told by its place. No words are refused.

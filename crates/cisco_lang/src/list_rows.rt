@@ -7,11 +7,11 @@ ghost use Rattle.cisco_lang.specs.declared.documents.Item.TheVariants.{Entry as 
 ghost use Rattle.cisco_lang.specs.Texts.{action_word, any_word, families_word, proto_word, masked_words, address_words, ports_words, type_words, flags_words, end_words, entry_words, item_rows, head_rows, end_rows, list_rows, section_row, section_rows};
 
 use crate::documents::{AccessList, Entry, Flags, Item, Section};
-use acl_packet::{Families, Family, Prefix};
 use acl_rows::{
-    Address, AsRows, Each, FreeText, LogWord, Number, OneWord, Piece, Row, RowForm, Rows, Wildcard,
+    Address, AsRows, Each, RowForm, FreeText, LogWord, Number, Piece, Row, Rows, Wildcard, OneWord,
     Words, put_words,
 };
+use acl_packet::{Families, Family, Prefix};
 use acl_text::{Out, PutFault};
 
 /// The row of an entry of a list of the family.

@@ -6,8 +6,8 @@ ghost use Rattle.cisco_lang.specs.Documents.{flags_fit, list_names, match_all_fi
 ghost use Rattle.cisco_lang.specs.ValiditySteps.{are_headed, are_ports, is_end, is_entry, is_headed, is_item, is_list, is_section};
 
 use crate::documents::{AccessList, Entry, Flags, Item, Section};
-use acl_packet::{Families, Family, Prefix};
 use acl_rows::{is_port_range, is_prefix_of, is_proto, number_fits};
+use acl_packet::{Families, Family, Prefix};
 use acl_text::{Memory, behind, is_filter_name, is_safe_text};
 use std::alloc::Global;
 

@@ -4,8 +4,8 @@ ghost use Rattle.acl_rows.specs.RuleParts.{number_holds};
 ghost use Rattle.cisco_lang.specs.Walks.{port_holds, flags_hold, entry_holds, ends_hold, ports_hold, tests_hold, is_entry, verdict_of, decided_by, ending, first_holding, has_entries, walk, items_of, section_outcome, outcome_of};
 
 use crate::documents::{AccessList, Doc, Entry, Flags, Item, Section};
-use acl_packet::{Family, Outcome, Packet, Verdict, has_flag};
 use acl_rows::{ACK, RST, SYN, number_holds};
+use acl_packet::{Family, Outcome, Packet, Verdict, has_flag};
 
 #[tactic(auto, unfolding(crate::specs::Walks::items_of))]
 pub(crate) fn items_of(family: Family, lists: &[AccessList]) -> &[Item]

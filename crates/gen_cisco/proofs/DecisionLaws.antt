@@ -30,8 +30,9 @@ use Rattle.acl_platform.specs.Platforms.{DecidesAs, IsAccepted}
 use Rattle.acl_platform.specs.Remarks.{remarks}
 use Rattle.acl_platform.specs.Rules.{decided_by, passes, rule_holds, rules_outcome, sets_hold}
 use Rattle.acl_platform.specs.SoundFilters.{has_test, has_verdict, IsSoundRule}
-use Rattle.acl_platform.proofs.CombinationLaws.{any-combination, some-combination}
+use Rattle.acl_platform.proofs.CombinationLaws.{any-combination, any-same, some-combination}
 use Rattle.acl_platform.proofs.EntryLaws.{over-items}
+use Rattle.acl_platform.proofs.FieldLaws.{combination-told}
 use Rattle.acl_rows.specs.RuleParts.{number_holds}
 use Rattle.cisco_lang.specs.declared.documents.Item.{Item}
 use Rattle.cisco_lang.specs.declared.documents.Item.TheVariants.{Remark, Entry as AnEntry}
@@ -72,6 +73,7 @@ entry-same r p c =
     (number-same c.proto p.proto) (ports-same c.sport p.sport) (ports-same c.dport p.dport) (number-same c.itype p.itype)
     ∙ regrouped (is_chosen c.proto p.proto) (has_address c.src p.src) (has_address c.dst p.dst) (in_range c.sport p.sport)
     (in_range c.dport p.dport) (is_chosen c.itype p.itype) (flags_hold (flags_of r.test) p.flags)
+    ∙ ap (λ b. b && flags_hold (flags_of r.test) p.flags) (sym (combination-told p c))
 
 test-same : (test : Test) (p : Packet) → has_test Cisco test ≡ true → flags_hold (flags_of test) p.flags ≡ passes test p
 test-same Plain p h = refl
@@ -94,10 +96,6 @@ decision-same : (v : Verdict) (log : Bool) → has_verdict Cisco v ≡ true → 
 decision-same v log h = ap (with_log log) (verdict-same v h)
 
 -- ---- a rule
-
-any-same : {A : Type 0} (f g : A → Bool) → ((x : A) → f x ≡ g x) → (xs : List A) → list_any f xs ≡ list_any g xs
-any-same f g e [] = refl
-any-same f g e (x ∷ xs) = ap (λ t. t || list_any f xs) (e x) ∙ ap (λ t. g x || t) (any-same f g e xs)
 
 out-of : (here later b : Bool) → ((here && b) || (later && b)) ≡ ((here || later) && b)
 out-of true true true = refl

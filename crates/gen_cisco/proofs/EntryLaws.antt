@@ -2,6 +2,7 @@
 use Rattle.std.proofs.Common.{subst, ◌≡◌, ℕ, ◌≤◌, true, false, ◌&&◌, ◌||◌, Option, None, Some, IfSome, is_none, refl, ap, sym, ◌∙◌}
 use Rattle.std.proofs.lemmas.Bool.{and_from, false≢true}
 use Rattle.std.proofs.Math.Nat.{suc-le-suc_iff}
+use Rattle.acl_packet.specs.declared.packet_fields.Field.TheVariants.{SourcePort, DestinationPort, IcmpType}
 use Rattle.acl_packet.specs.declared.addresses.Families.{Families}
 use Rattle.acl_packet.specs.declared.addresses.Family.{Family}
 use Rattle.acl_packet.specs.declared.addresses.Family.TheVariants.{V4, V6}
@@ -31,7 +32,7 @@ types-fit : (families : Families) (r : Rule) (proto o : Option ℕ) → IsSoundR
     → (is_none o || is_proto proto (icmp_of r.family)) ≡ true
 types-fit families r proto None h p k = refl
 types-fit families r proto (Some n) h p k =
-    let one = named (is_icmp r.family) r.protos proto p (no-icmp r.family) (h.types_fit k.0) in
+    let one = named (is_icmp r.family) r.protos proto p (no-icmp r.family) (h.numbers_fit IcmpType k.0) in
     ap (λ x. is_proto x (icmp_of r.family)) one.1.0 ∙ one.1.1.1
 
 -- ---- ports
@@ -47,10 +48,10 @@ ports-fit : (families : Families) (r : Rule) (proto : Option ℕ) (sport dport :
     → (is_none sport && is_none dport || (is_proto proto 6 || is_proto proto 17)) ≡ true
 ports-fit families r proto None None h u p k l = refl
 ports-fit families r proto (Some q) dport h u p k l =
-    either r.protos proto p (h.source_ports_fit k.0)
+    either r.protos proto p (h.numbers_fit SourcePort k.0)
     (no-source (holds r.protos.ranges 132) (is_all r.sports) (is_all r.dports) u k.0)
 ports-fit families r proto None (Some q) h u p k l =
-    either r.protos proto p (h.destination_ports_fit l.0)
+    either r.protos proto p (h.numbers_fit DestinationPort l.0)
     (no-destination (holds r.protos.ranges 132) (is_all r.sports) (is_all r.dports) u l.0)
 
 range-is : (s : Numbers) (o : Option (ℕ × ℕ)) → s.top ≡ 65535 → OfRanges s o → IfSome o IsPortRange
@@ -94,9 +95,9 @@ entry-is families r c h u k =
     record {
       protocol = protocol-is Cisco families r c.proto h k.protocol;
       source = k.source;
-      source_ports = range-is r.sports c.sport h.source_ports.top_is k.source_ports;
+      source_ports = range-is r.sports c.sport (h.numbers SourcePort).top_is k.source_ports;
       destination = k.destination;
-      destination_ports = range-is r.dports c.dport h.destination_ports.top_is k.destination_ports;
+      destination_ports = range-is r.dports c.dport (h.numbers DestinationPort).top_is k.destination_ports;
       icmp_type = type-is Cisco families r c.itype h k.type_of_icmp;
       fit = and_from (ports_fit e) (type_fits r.family e && flags_fit r.family e)
           (ports-fit families r c.proto c.sport c.dport h u.ports k.protocol k.source_ports k.destination_ports)

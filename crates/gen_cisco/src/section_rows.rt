@@ -20,11 +20,11 @@ ghost use Rattle.gen_cisco.specs.Sections.{
 };
 
 use crate::counts::{has_rule, is_of};
+use acl_rows::{RowForm, Row, Rows, OneWord};
 use acl_packet::{Families, Family, Prefix, Verdict};
 use acl_platform::{
     Combination, Filter, RemarkForm, RemarkRows, Rule, RuleForm, Test, put_combinations, put_rules,
 };
-use acl_rows::{OneWord, Row, RowForm, Rows};
 use acl_text::{Out, PutFault};
 use cisco_lang::{Entry, EntryRow, Flags, ListEnd, ListHead, RemarkRow, SectionHead};
 

@@ -8,6 +8,7 @@ use Rattle.acl_packet.specs.declared.addresses.Prefix.{Prefix}
 use Rattle.acl_packet.specs.declared.filtering.Outcome.{Outcome}
 use Rattle.acl_packet.specs.declared.filtering.Verdict.{Verdict}
 use Rattle.acl_packet.specs.declared.filtering.Verdict.TheVariants.{Accept, Deny, Reject, Reset, Left}
+use Rattle.acl_packet.specs.declared.packet_fields.Field.TheVariants.{Protocol, SourcePort, DestinationPort, IcmpType}
 use Rattle.acl_packet.specs.declared.packets.Packet.{Packet}
 use Rattle.acl_packet.specs.Addresses.{first_family, has_address, width_of}
 use Rattle.acl_packet.specs.Packets.{has_flag, is_initial, IsPacket}
@@ -30,8 +31,10 @@ use Rattle.acl_platform.specs.Platforms.{DecidesAs}
 use Rattle.acl_platform.specs.Rules.{decided_by, passes, rule_holds, rules_outcome, sets_hold}
 use Rattle.acl_platform.specs.SoundFilters.{has_verdict, IsFullList, IsSoundRule}
 use Rattle.acl_platform.proofs.ChoiceLaws.{any-number}
+use Rattle.acl_platform.proofs.CombinationLaws.{any-same}
 use Rattle.acl_platform.proofs.ElementLaws.{addresses-hold, is_nil}
 use Rattle.acl_platform.proofs.EntryLaws.{over-entries}
+use Rattle.acl_platform.proofs.FieldLaws.{sets-told}
 use Rattle.acl_platform.proofs.PairLaws.{any-pairs}
 use Rattle.acl_platform.proofs.SoundRules.{in-tops}
 use Rattle.acl_rows.specs.RuleParts.{number_holds, state_holds}
@@ -78,10 +81,6 @@ address-any : (f : Family) (ps : List Prefix) (a : ℕ) → IsFullList f ps → 
 address-any f ps a h k = address-by f ps a h k (list_any (λ p. p.len == 0) ps) refl
 
 -- ---- protocols, types and tests
-
-any-same : {A : Type 0} (f g : A → Bool) → ((x : A) → f x ≡ g x) → (xs : List A) → list_any f xs ≡ list_any g xs
-any-same f g e [] = refl
-any-same f g e (x ∷ xs) = ap (λ t. t || list_any f xs) (e x) ∙ ap (λ t. g x || t) (any-same f g e xs)
 
 number-same : (o : Option ℕ) (n : ℕ) → number_holds o n ≡ is_chosen o n
 number-same None n = refl
@@ -179,14 +178,15 @@ any-parts families r p h k e =
     ∙ any-pairs front ports (fronts r) (pairs sports (pairs dports (backs r)))
     ∙ ap (λ t. list_any front (fronts r) && t) (any-pairs from last sports (pairs dports (backs r))
     ∙ ap (λ t. list_any from sports && t) (any-pairs into back dports (backs r)
-    ∙ ap (λ t. t && list_any back (backs r)) (any-group r.dports p.dport tops.destination_port)
-    ∙ ap (λ t. holds r.dports.ranges p.dport && t) (back-any r p tops.type_of_icmp))
+    ∙ ap (λ t. t && list_any back (backs r)) (any-group r.dports p.dport (tops DestinationPort))
+    ∙ ap (λ t. holds r.dports.ranges p.dport && t) (back-any r p (tops IcmpType)))
     ∙ ap (λ t. t && (holds r.dports.ranges p.dport && (holds r.itypes.ranges p.itype && passes r.test p)))
-    (any-group r.sports p.sport tops.source_port))
+    (any-group r.sports p.sport (tops SourcePort)))
     ∙ ap (λ t. t && (holds r.sports.ranges p.sport && (holds r.dports.ranges p.dport && (holds r.itypes.ranges p.itype && passes r.test p))))
-    (front-any r p tops.protocol h.sources h.destinations (top p.src k.source) (top p.dst k.destination))
+    (front-any r p (tops Protocol) h.sources h.destinations (top p.src k.source) (top p.dst k.destination))
     ∙ regrouped (holds r.protos.ranges p.proto) (any_has r.src p.src) (any_has r.dst p.dst) (holds r.sports.ranges p.sport)
     (holds r.dports.ranges p.dport) (holds r.itypes.ranges p.itype) (passes r.test p)
+    ∙ ap (λ b. b && passes r.test p) (sym (sets-told r p))
 
 -- ---- a chain
 

@@ -3,6 +3,7 @@ use Rattle.std.proofs.Common.{zero-le, ◌≡◌, ℕ, zero, suc, ◌≤◌, Boo
 use Rattle.std.specs.List.{AllByRecursion}
 use Rattle.std.proofs.lemmas.Bool.{and_from, false≢true, or_right}
 use Rattle.std.proofs.Math.Nat.{suc-le-suc_iff}
+use Rattle.acl_packet.specs.declared.packet_fields.Field.TheVariants.{SourcePort, DestinationPort, IcmpType}
 use Rattle.acl_packet.specs.declared.addresses.Families.{Families}
 use Rattle.acl_packet.specs.declared.addresses.Family.{Family}
 use Rattle.acl_packet.specs.declared.addresses.Prefix.{Prefix}
@@ -63,8 +64,8 @@ parts-are families r h =
     all-pairs (OfFront r) Ports (fronts r) (pairs (group_choices r.sports) (pairs (group_choices r.dports) (backs r)))
     (all-pairs (OfNumbers r.protos) Ends (number_choices r.protos) (pairs r.src r.dst) (all-numbers r.protos)
     (all-pairs P P r.src r.dst (all-prefixes r.family r.src h.sources) (all-prefixes r.family r.dst h.destinations)))
-    (all-pairs (IsGroupOf r.sports) Last (group_choices r.sports) (pairs (group_choices r.dports) (backs r)) (all-groups r.sports h.source_ports)
-    (all-pairs (IsGroupOf r.dports) (OfBack r) (group_choices r.dports) (backs r) (all-groups r.dports h.destination_ports)
+    (all-pairs (IsGroupOf r.sports) Last (group_choices r.sports) (pairs (group_choices r.dports) (backs r)) (all-groups r.sports (h.numbers SourcePort))
+    (all-pairs (IsGroupOf r.dports) (OfBack r) (group_choices r.dports) (backs r) (all-groups r.dports (h.numbers DestinationPort))
     (all-pairs (OfNumbers r.itypes) (OfTest r.test) (number_choices r.itypes) (flag_choices r.test) (all-numbers r.itypes) (flags-are r.test))))
 
 -- ---- addresses
@@ -140,8 +141,8 @@ rule-is families r c act h k fits =
       fit = and_from (ports_fit rule && type_fits r.family rule) (flags_fit rule && act_fits proto act)
           (and_from (ports_fit rule) (type_fits r.family rule)
           (ports-fit-by r.sports r.dports r.protos proto c.1.0 c.1.1.0 (is_all r.sports) (is_all r.dports) refl refl k.0.0 k.1.0 k.1.1.0
-          h.source_ports_fit h.destination_ports_fit)
-          (type-fits-by r.family r.itypes r.protos proto c.1.1.1.0 k.0.0 k.1.1.1.0 h.types_fit))
+          (h.numbers_fit SourcePort) (h.numbers_fit DestinationPort))
+          (type-fits-by r.family r.itypes r.protos proto c.1.1.1.0 k.0.0 k.1.1.1.0 (h.numbers_fit IcmpType)))
           (and_from (flags_fit rule) (act_fits proto act)
           (flags-fit-by r.test c.1.1.1.1 proto k.1.1.1.1 (λ t. only-tcp r.protos proto k.0.0 (h.flags_fit t))) fits);
     }

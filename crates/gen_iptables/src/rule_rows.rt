@@ -20,9 +20,9 @@ ghost use Rattle.gen_iptables.specs.Sections.{
 };
 
 use crate::groups::{GroupForm, put_groups};
+use acl_rows::{RowForm, Piece, PortRange, Rows, WordForm};
 use acl_packet::{Family, Hook, Prefix};
 use acl_platform::{Choices, NumberChoices, Rule, Test};
-use acl_rows::{Piece, PortRange, RowForm, Rows, WordForm};
 use acl_sets::Range;
 use acl_text::{Out, PutFault};
 use ipt_lang::{Act, Flags, PortLists, RuleRow};
@@ -37,6 +37,7 @@ type FrontChoices<'a> = (NumberChoices<'a>, (&'a [Prefix], &'a [Prefix]));
 type BackChoices<'a> = (NumberChoices<'a>, &'static [Option<Flags>]);
 
 /// The protocols and addresses of a rule.
+#[tactic(auto, using(acl_platform::proofs::SoundRules::protocols_small))]
 pub(crate) fn fronts_of(rule: &Rule) -> FrontChoices<'_>
     requires { IsSized rule.now }
     ensures { ⟦<FrontChoices<'static> as Choices>⟧.items result ≡ fronts rule.now }
@@ -46,6 +47,7 @@ pub(crate) fn fronts_of(rule: &Rule) -> FrontChoices<'_>
 }
 
 /// The types and flags of a rule.
+#[tactic(auto, using(acl_platform::proofs::SoundRules::types_small))]
 pub(crate) fn backs_of(rule: &Rule) -> BackChoices<'_>
     requires { IsSized rule.now }
     ensures { ⟦<BackChoices<'static> as Choices>⟧.items result ≡ backs rule.now }
@@ -87,6 +89,7 @@ impl<'a> Rows for ChainRules<'a> {
 impl<'a> RowForm<Front> for ChainRules<'a> {
     ghost item_rows = { λ c front. rows_behind_front c.hook c.family c.rule.now front };
 
+    #[tactic(auto, using(acl_platform::proofs::SoundRules::source_ports_small))]
     fn put_item<O: Out>(&self, front: &Front, out: &mut O) -> Result<(), PutFault> {
         let form = BehindFront {
             chain: self,
@@ -107,6 +110,7 @@ impl<'a> GroupForm for BehindFront<'a> {
     ghost group_rows = { λ f sports. rows_behind_sources f.chain.now.hook f.chain.now.family
         f.chain.now.rule.now f.front sports };
 
+    #[tactic(auto, using(acl_platform::proofs::SoundRules::destination_ports_small))]
     fn put_group<O: Out>(&self, group: &[Range], out: &mut O) -> Result<(), PutFault> {
         let form = BehindSources {
             chain: self.chain,

@@ -8,6 +8,7 @@ use Rattle.acl_packet.specs.declared.addresses.Family.{Family}
 use Rattle.acl_packet.specs.declared.addresses.Family.TheVariants.{V4, V6}
 use Rattle.acl_packet.specs.declared.filtering.Outcome.{Outcome}
 use Rattle.acl_packet.specs.declared.filtering.Verdict.TheVariants as verdicts
+use Rattle.acl_packet.specs.declared.packet_fields.Field.TheVariants.{Protocol, SourcePort, DestinationPort, IcmpType}
 use Rattle.acl_packet.specs.declared.packets.Packet.{Packet}
 use Rattle.acl_packet.specs.Addresses.{covers, first_family, same_family, width_of}
 use Rattle.acl_packet.specs.Outcomes.{unlogged}
@@ -28,6 +29,7 @@ use Rattle.acl_platform.specs.Rules.{decided_by, passes, rule_holds, rules_outco
 use Rattle.acl_platform.specs.SoundFilters.{has_test, IsSoundRule}
 use Rattle.acl_platform.proofs.AcceptedFilters.{rules-are, target-fits}
 use Rattle.acl_platform.proofs.ElementLaws.{addresses-hold, numbers-hold, ports-hold}
+use Rattle.acl_platform.proofs.FieldLaws.{sets-told}
 use Rattle.acl_platform.proofs.SoundRules.{in-tops}
 use Rattle.junos_lang.specs.Walks.{section_outcome, term_holds, test_holds, walk}
 use Rattle.gen_junos.specs.Limits.{is_for_junos, limit_of}
@@ -74,11 +76,12 @@ term-same families r p h k e =
     let destination = subst (λ f. p.dst < 2 ^ width_of f) e k.destination in
     let tops = in-tops Juniper families r p h k in
     seven-same (addresses-hold r.family r.src p.src h.sources source) (addresses-hold r.family r.dst p.dst h.destinations destination)
-    (ports-hold r.sports p.sport h.source_ports.some tops.source_port) (ports-hold r.dports p.dport h.destination_ports.some tops.destination_port)
-    (numbers-hold 255 r.protos p.proto h.protocols tops.protocol) (numbers-hold 255 r.itypes p.itype h.types tops.type_of_icmp)
+    (ports-hold r.sports p.sport (h.numbers SourcePort).some (tops SourcePort)) (ports-hold r.dports p.dport (h.numbers DestinationPort).some (tops DestinationPort))
+    (numbers-hold 255 r.protos p.proto (h.numbers Protocol) (tops Protocol)) (numbers-hold 255 r.itypes p.itype (h.numbers IcmpType) (tops IcmpType))
     (test-same r.test p h.test_known)
     ∙ regrouped (holds r.protos.ranges p.proto) (any_has r.src p.src) (any_has r.dst p.dst) (holds r.sports.ranges p.sport)
     (holds r.dports.ranges p.dport) (holds r.itypes.ranges p.itype) (passes r.test p)
+    ∙ ap (λ b. b && passes r.test p) (sym (sets-told r p))
 
 -- ---- families
 

@@ -4,6 +4,7 @@ use Rattle.std.specs.List.{AllByRecursion, list_all}
 use Rattle.std.proofs.Math.Nat.{le_trans}
 use Rattle.std.proofs.lemmas.Bool.{and_from, false≢true, or_right}
 use Rattle.std.proofs.lemmas.Bool.Decides.{Decides-eqb}
+use Rattle.acl_packet.specs.declared.packet_fields.Field.TheVariants.{Protocol, SourcePort, DestinationPort, IcmpType}
 use Rattle.acl_packet.specs.declared.addresses.Families.{Families}
 use Rattle.acl_packet.specs.declared.filtering.Verdict.{Verdict}
 use Rattle.acl_packet.specs.declared.filtering.Verdict.TheVariants.{Accept, Deny, Reject, Reset, Left}
@@ -67,11 +68,11 @@ ports-by families r h u true true e f =
     ∙ ap (λ ps. is_empty ps || t) (no-ports r.dports f)
 ports-by families r h u true false e f =
     or_right (is_empty (port_elements r.sports) && is_empty (port_elements r.dports)) (are_tcp_or_udp (number_elements r.protos))
-    (ports-known r.protos h.protocols (h.destination_ports_fit f)
+    (ports-known r.protos (h.numbers Protocol) (h.numbers_fit DestinationPort f)
     (no-destination (holds r.protos.ranges 132) (is_all r.sports) (is_all r.dports) u f))
 ports-by families r h u false dports e f =
     or_right (is_empty (port_elements r.sports) && is_empty (port_elements r.dports)) (are_tcp_or_udp (number_elements r.protos))
-    (ports-known r.protos h.protocols (h.source_ports_fit e)
+    (ports-known r.protos (h.numbers Protocol) (h.numbers_fit SourcePort e)
     (no-source (holds r.protos.ranges 132) (is_all r.sports) (is_all r.dports) u e))
 
 -- ---- types, tests and verdicts
@@ -81,7 +82,7 @@ types-by families r h true e =
     ap (λ b. is_empty (numbers_of (cond b [] r.itypes.ranges)) || is_alone (number_elements r.protos) (icmp_of r.family)) e
 types-by families r h false e =
     or_right (is_empty (number_elements r.itypes)) (is_alone (number_elements r.protos) (icmp_of r.family))
-    (is-alone r.protos (icmp_of r.family) h.protocols (no-icmp r.family) (h.types_fit e))
+    (is-alone r.protos (icmp_of r.family) (h.numbers Protocol) (no-icmp r.family) (h.numbers_fit IcmpType e))
 
 test-by : (test : Test) (protos : List ℕ) → (tests_flags test ≡ true → is_alone protos 6 ≡ true)
     → (is_none (test_of test) || is_alone protos 6) ≡ true
@@ -108,16 +109,16 @@ pub term-is : (families : Families) (r : Rule) → IsSoundRule Juniper families 
     → IsTerm r.family (term_of r)
 term-is families r h short u =
     let t = term_of r in
-    let tcp = is-alone r.protos 6 h.protocols refl in
+    let tcp = is-alone r.protos 6 (h.numbers Protocol) refl in
     record {
       noted = note-safe r.note h.note;
       named = rule-name r.name h.name (le_trans short (lit≤ tt));
       sources = addresses-are r.family r.src h.sources;
       destinations = addresses-are r.family r.dst h.destinations;
-      protocols = numbers-small r.protos h.protocols;
-      source_ports = ports-are r.sports h.source_ports;
-      destination_ports = ports-are r.dports h.destination_ports;
-      icmp_types = all-weaker (λ n k. type-most r.itypes n h.types.normal (h.types_named k.0) k.1)
+      protocols = numbers-small r.protos (h.numbers Protocol);
+      source_ports = ports-are r.sports (h.numbers SourcePort);
+      destination_ports = ports-are r.dports (h.numbers DestinationPort);
+      icmp_types = all-weaker (λ n k. type-most r.itypes n (h.numbers IcmpType).normal (h.types_named k.0) k.1)
           (number_elements r.itypes) (numbers-are r.itypes);
       fit = and_from (ports_fit t) (types_fit r.family t && (test_fits t && verdict_fits t.verdict t.protos))
           (ports-by families r h u (is_all r.sports) (is_all r.dports) refl refl)

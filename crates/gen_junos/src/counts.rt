@@ -32,6 +32,7 @@ fn address_count(rule: &Rule) -> u64
     sources.saturating_add(destinations)
 }
 
+#[tactic(auto, using(acl_platform::proofs::SoundRules::protocols_small, acl_platform::proofs::SoundRules::types_small))]
 fn number_count(rule: &Rule) -> u64
     requires { IsSized rule.now }
     ensures { result ≡ min (length (number_elements rule.now.protos)

@@ -2,11 +2,11 @@
 use Rattle.std.proofs.Common.{zero-le, ◌≡◌, ◌≢◌, ℕ, suc, ◌^◌, ◌<◌, ◌≤◌, Bool, true, false, ◌&&◌, ◌||◌, ◌==◌, cond, unwrap_or, List, [], ◌∷◌, ◌++◌, map, flat_map, Option, None, Some, refl, ap, sym, subst, ◌∙◌, append_assoc}
 use Rattle.std.specs.List.{AllByRecursion, list_any}
 use Rattle.std.proofs.lemmas.Bool.{false≢true}
-use Rattle.std.proofs.Math.Nat.{le_of_suc-le-suc}
 use Rattle.acl_packet.specs.declared.addresses.Families.{Families}
 use Rattle.acl_packet.specs.declared.addresses.Family.{Family}
 use Rattle.acl_packet.specs.declared.addresses.Prefix.{Prefix}
 use Rattle.acl_packet.specs.declared.filtering.Outcome.{Outcome}
+use Rattle.acl_packet.specs.declared.packet_fields.Field.TheVariants.{Protocol, SourcePort, DestinationPort, IcmpType}
 use Rattle.acl_packet.specs.declared.packets.Packet.{Packet}
 use Rattle.acl_packet.specs.Addresses.{has_address, same_family, width_of}
 use Rattle.acl_packet.specs.Outcomes.{unlogged}
@@ -33,6 +33,8 @@ use Rattle.acl_platform.specs.SoundFilters.{has_test, IsFull, IsFullList, IsSoun
 use Rattle.acl_platform.proofs.ChoiceLaws.{any-number, numbers-any, some-numbers}
 use Rattle.acl_platform.proofs.ElementLaws.{addresses-hold, is_nil, ports-hold}
 use Rattle.acl_platform.proofs.EntryLaws.{over-items}
+use Rattle.acl_platform.proofs.FieldLaws.{sets-told}
+use Rattle.acl_platform.proofs.SoundRules.{in-tops}
 use Rattle.acl_rows.specs.RuleParts.{addresses_hold, has_port, number_holds, ports_hold, set_holds, state_holds}
 use Rattle.nft_lang.specs.declared.documents.Item.{Item}
 use Rattle.nft_lang.specs.declared.documents.Item.TheVariants.{Remark, Rule as ARule}
@@ -125,9 +127,6 @@ five-same family proto tests {b = b} {c = c} {d = d} {e = e} {v = v} {w = w} {x 
     ∙ ap (λ t. (family && proto) && ((v && w) && ((x && t) && (e && tests)))) k
     ∙ ap (λ t. (family && proto) && ((v && w) && ((x && y) && (t && tests)))) l
 
-at-most : {top most x : ℕ} → top ≡ most → x < suc most → x ≤ top
-at-most {x = x} e h = subst (λ n. x ≤ n) (sym e) (le_of_suc-le-suc h)
-
 -- what the rules of the chain test, but for family and protocol
 abbrev rest_holds : Rule → Packet → Bool
 rest_holds r p = addresses_hold (address_elements r.src) (address_elements r.dst) p
@@ -138,14 +137,16 @@ of-family : (families : Families) (r : Rule) (p : Packet) → IsSoundRule Nftabl
     → ((same_family r.family p.family && holds r.protos.ranges p.proto) && rest_holds r p) ≡ rule_holds r p
 of-family families r p h k e =
     let top : (a : ℕ) → a < 2 ^ width_of p.family → a < 2 ^ width_of r.family = λ a l. subst (λ f. a < 2 ^ width_of f) (sym e) l in
+    let tops = in-tops Nftables families r p h k in
     five-same (same_family r.family p.family) (holds r.protos.ranges p.proto) (flags_hold (flags_of r.test) p.flags && state_holds (asks_state r.test) p.conn)
     (addresses-same r.family r.src p.src h.sources (top p.src k.source))
     (addresses-same r.family r.dst p.dst h.destinations (top p.dst k.destination))
-    (ports-same r.sports p.sport h.source_ports.some (at-most h.source_ports.top_is k.source_port))
-    (ports-same r.dports p.dport h.destination_ports.some (at-most h.destination_ports.top_is k.destination_port))
-    (types-by r.itypes p.itype (is_all r.itypes) refl h.types (at-most h.types.top_is k.type_fits))
+    (ports-same r.sports p.sport (h.numbers SourcePort).some (tops SourcePort))
+    (ports-same r.dports p.dport (h.numbers DestinationPort).some (tops DestinationPort))
+    (types-by r.itypes p.itype (is_all r.itypes) refl (h.numbers IcmpType) (tops IcmpType))
     ∙ regrouped (same_family r.family p.family) (holds r.protos.ranges p.proto) (any_has r.src p.src) (any_has r.dst p.dst)
     (holds r.sports.ranges p.sport) (holds r.dports.ranges p.dport) (holds r.itypes.ranges p.itype) (test-same r.test p h.test_known)
+    ∙ ap (λ b. same_family r.family p.family && (b && passes r.test p)) (sym (sets-told r p))
 
 family-by : (families : Families) (r : Rule) (p : Packet) (b : Bool) → same_family r.family p.family ≡ b → IsSoundRule Nftables families r → IsPacket p
     → ((same_family r.family p.family && holds r.protos.ranges p.proto) && rest_holds r p) ≡ rule_holds r p
@@ -158,7 +159,7 @@ rule-any : (families : Families) (r : Rule) (p : Packet) → IsSoundRule Nftable
     → list_any (λ o. chain_rule_holds (chain_rule r o) p) (number_choices r.protos) ≡ rule_holds r p
 rule-any families r p h k =
     any-protocol (same_family r.family p.family) (rest_holds r p) p.proto (number_choices r.protos)
-    ∙ ap (λ t. (same_family r.family p.family && t) && rest_holds r p) (any-number r.protos p.proto (at-most h.protocols.top_is k.protocol))
+    ∙ ap (λ t. (same_family r.family p.family && t) && rest_holds r p) (any-number r.protos p.proto (in-tops Nftables families r p h k Protocol))
     ∙ family-by families r p (same_family r.family p.family) refl h k
 
 past-remarks : (texts : List (List ℕ)) (items : List Item) (p : Packet) → first_holding (map (λ text. Remark text) texts ++ items) p ≡ first_holding items p

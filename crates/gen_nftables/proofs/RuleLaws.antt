@@ -4,6 +4,7 @@ use Rattle.std.specs.List.{AllByRecursion, IsDistinct, list_any, range_with_len}
 use Rattle.std.proofs.lemmas.Bool.{and_from, eqb-true, false_from_ne_true, false≢true, le-ltb, lt-leb, or_right}
 use Rattle.std.proofs.lemmas.Nat.{pow_pos}
 use Rattle.std.proofs.Math.Nat.{add-le-add, add-sub_of_le, add-suc, add_assoc, le-add_right, le_refl, le_trans, not-suc-le_self, suc-add}
+use Rattle.acl_packet.specs.declared.packet_fields.Field.TheVariants.{SourcePort, DestinationPort, IcmpType}
 use Rattle.acl_packet.specs.declared.addresses.Families.{Families}
 use Rattle.acl_packet.specs.declared.addresses.Family.{Family}
 use Rattle.acl_packet.specs.declared.addresses.Prefix.{Prefix}
@@ -210,14 +211,14 @@ rule-is families r o h k =
       protocol = protocol-is Nftables families r o h k;
       sources = addresses-set r.family r.src h.sources;
       destinations = addresses-set r.family r.dst h.destinations;
-      source_ports = ports-set r.sports h.source_ports;
-      destination_ports = ports-set r.dports h.destination_ports;
-      icmp_types = types-set r.itypes h.types h.types_named;
+      source_ports = ports-set r.sports (h.numbers SourcePort);
+      destination_ports = ports-set r.dports (h.numbers DestinationPort);
+      icmp_types = types-set r.itypes (h.numbers IcmpType) h.types_named;
       fit = and_from (ports_fit c && types_fit c) (flags_fit c && verdict_fits o r.verdict)
           (and_from (ports_fit c) (types_fit c)
           (ports-fit-by r.sports r.dports r.protos o r.sports.ranges r.dports.ranges (is_all r.sports) (is_all r.dports)
-          refl refl k h.source_ports_fit h.destination_ports_fit)
-          (types-fit-by r.family r.itypes r.protos o r.itypes.ranges (is_all r.itypes) refl k h.types_fit))
+          refl refl k (h.numbers_fit SourcePort) (h.numbers_fit DestinationPort))
+          (types-fit-by r.family r.itypes r.protos o r.itypes.ranges (is_all r.itypes) refl k (h.numbers_fit IcmpType)))
           (and_from (flags_fit c) (verdict_fits o r.verdict)
           (flags-fit-by r.test o (λ t. only-tcp r.protos o k (h.flags_fit t)))
           (verdict-fits-by r.verdict o h.verdict_known (λ v. only-tcp r.protos o k (h.reset_fits v))));

@@ -12,6 +12,7 @@ use acl_platform::{
 impl RuleCount for Nftables {
     ghost entries = { λ n rule. rule_count rule };
 
+    #[tactic(auto, using(acl_platform::proofs::SoundRules::protocols_small))]
     fn count_rule(&self, rule: &Rule) -> u64 {
         let protocols = NumberChoices { set: &rule.protos };
         protocols.count().saturating_mul(rule_size(rule))
@@ -19,6 +20,7 @@ impl RuleCount for Nftables {
 }
 
 // The rule is as great for each of its protocols.
+#[tactic(auto, using(acl_platform::proofs::SoundRules::types_small))]
 fn rule_size(rule: &Rule) -> u64
     requires { IsSized rule.now }
     ensures { result ≡ min (rule_size (chain_rule rule.now None)) COUNT_END }

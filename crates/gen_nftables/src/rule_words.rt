@@ -5,11 +5,11 @@ ghost use Rattle.gen_nftables.specs.Sections.{asks_state, chain_rule, flags_of};
 
 use crate::sets::{AddressSet, PortSet};
 use crate::types::TypeSet;
+use acl_rows::Words;
 use acl_packet::Families;
 use acl_platform::{Rule, Test};
-use acl_rows::Words;
 use acl_text::{Out, PutFault};
-use nft_lang::{FlagTest, Flags, PacketFamily, Protocol, RuleEnding};
+use nft_lang::{RuleEnding, FlagTest, Flags, PacketFamily, Protocol};
 
 /// The words of a rule of a chain: a rule of a filter, for one of its protocols or for all of them.
 #[derive(Drop)]
@@ -23,7 +23,7 @@ pub(crate) struct RuleWords<'a> {
 impl<'a> Words for RuleWords<'a> {
     ghost words = { λ w. rule_words w.families (chain_rule w.rule.now w.proto) };
 
-    #[tactic(auto, unfolding(nft_lang::specs::Texts::rule_words, nft_lang::specs::Texts::addresses_words, nft_lang::specs::Texts::ports_words))]
+    #[tactic(auto, unfolding(nft_lang::specs::Texts::rule_words, nft_lang::specs::Texts::addresses_words, nft_lang::specs::Texts::ports_words), using(acl_platform::proofs::SoundRules::source_ports_small, acl_platform::proofs::SoundRules::destination_ports_small, acl_platform::proofs::SoundRules::types_small))]
     fn put_spaced<O: Out>(&self, out: &mut O) -> Result<(), PutFault> {
         let rule = self.rule;
         let proto = self.proto;

@@ -13,11 +13,11 @@ ghost use Rattle.gen_nftables.specs.Sections.{
 };
 
 use crate::rule_words::RuleWords;
+use acl_rows::{RowForm, Row, Rows};
 use acl_packet::Families;
 use acl_platform::{
     Choices, Filter, NumberChoices, RemarkForm, RemarkRows, Rule, RuleForm, put_rules,
 };
-use acl_rows::{Row, RowForm, Rows};
 use acl_target::Ending;
 use acl_text::{Out, PutFault};
 use nft_lang::{CommentRow, TableHead};
@@ -125,6 +125,7 @@ impl<'a> Rows for ChainRules<'a> {
         (λ proto. item_rows c.families (ARule (chain_rule c.rule.now proto)))
         (number_choices c.rule.now.protos) };
 
+    #[tactic(auto, using(acl_platform::proofs::SoundRules::protocols_small))]
     fn put_rows<O: Out>(&self, out: &mut O) -> Result<(), PutFault> {
         let protocols = NumberChoices {
             set: &self.rule.protos,

@@ -6,9 +6,9 @@ ghost use Rattle.nft_lang.specs.Texts.{icmp_word, types_words, with_commas};
 ghost use Rattle.gen_nftables.specs.RowSteps.{other_numbers};
 ghost use Rattle.acl_platform.specs.Elements.{number_elements};
 
+use acl_rows::{Number, Piece, Words};
 use acl_packet::Family;
 use acl_platform::{NumberForm, put_numbers, put_numbers_from, range_elements};
-use acl_rows::{Number, Piece, Words};
 use acl_sets::{Range, RangeSet};
 use acl_text::{Out, PutFault};
 use nft_lang::icmp_word;

@@ -5,8 +5,8 @@ ghost use Rattle.ipt_lang.specs.Texts.{back_words, chain_name, chain_row, chain_
 use crate::documents::{Act, Chain, Flags, Rule, Section};
 use crate::ports::PortLists;
 use crate::rule_words::{Back, Front};
+use acl_rows::{Each, RowForm, FreeText, Piece, RangeWords, Row, Rows, OneWord, Words};
 use acl_packet::{Family, Hook, Prefix};
-use acl_rows::{Each, FreeText, OneWord, Piece, RangeWords, Row, RowForm, Rows, Words};
 use acl_text::{Bytes, Out, PutFault};
 
 /// The rows that begin a section: its target, and the policy where one is said.

@@ -3,8 +3,8 @@ ghost use Rattle.acl_text.specs.PortRanges.{ports_in};
 ghost use Rattle.ipt_lang.specs.ReadingSteps.{act_in, draft, flags_in, named_proto_in, next_in, no_rule, one_or_none, proto_in, ranges_in, rule_in, take_word, with_address, with_ports, with_value, with_word};
 
 use crate::documents::{Act, Flags, Rule};
-use acl_packet::{Family, Verdict};
 use acl_rows::{End, RowWords};
+use acl_packet::{Family, Verdict};
 use acl_text::{Items, Memory, read_ports, read_spelled_prefix, read_u8, split_at_byte};
 use std::alloc::Global;
 

@@ -2,8 +2,8 @@ ghost use Rattle.std.specs.Prelude.{◌≡◌};
 ghost use Rattle.ipt_lang.specs.Texts.{act_words, address_words, back_words, flags_words, front_words, icmp_word, is_reset, mask_word, proto_word, proto_words, reset_words, set_word, state_words, target_word, type_key, type_words};
 
 use crate::documents::{Act, Flags};
+use acl_rows::{Number, Piece, OneWord, Words, put_words};
 use acl_packet::{Family, Prefix, Verdict};
-use acl_rows::{Number, OneWord, Piece, Words, put_words};
 use acl_text::{Out, PutFault};
 
 /// What stands before the ports of a rule: its protocol and addresses.
@@ -112,9 +112,7 @@ impl<'a> Words for AddressWords<'a> {
     #[tactic(auto, unfolding(crate::specs::Texts::address_words))]
     fn put_spaced<O: Out>(&self, out: &mut O) -> Result<(), PutFault> {
         match self.address {
-            Some(prefix) => (OneWord { piece: self.key }, OneWord { piece: prefix }).put_spaced(
-                out,
-            ),
+            Some(prefix) => (OneWord { piece: self.key }, OneWord { piece: prefix }).put_spaced(out),
             None => Ok(()),
         }
     }

@@ -6,11 +6,11 @@ ghost use Rattle.ipt_lang.specs.Documents.{act_fits, chain_names, flags_fit, is_
 ghost use Rattle.ipt_lang.specs.ValiditySteps.{are_addresses, are_numbers, are_ports, are_remarks, has_room, is_address, is_chain, is_port_list, is_rule, is_section};
 
 use crate::documents::{Act, Chain, Rule, Section};
-use acl_packet::{Family, Hook, Prefix, Verdict};
 use acl_rows::{
     Named, are_port_ranges, has_port_proto, have_distinct_names, is_addresses, is_proto,
     number_fits,
 };
+use acl_packet::{Family, Hook, Prefix, Verdict};
 use acl_text::{Bytes, Memory, is_name, is_safe_text};
 use std::alloc::Global;
 

@@ -2,8 +2,8 @@ ghost use Rattle.std.specs.Prelude.{◌≡◌};
 ghost use Rattle.ipt_lang.specs.Walks.{address_holds, chains_walk, ends_hold, flags_hold, outcome_so_far, policy_verdict, rule_holds, rules_walk, tests_hold, walk};
 
 use crate::documents::{Act, Chain, Flags, Rule};
-use acl_packet::{Outcome, Packet, Prefix, Verdict, has_flag};
 use acl_rows::{ACK, RST, SYN, admit_ports, number_holds, state_holds};
+use acl_packet::{Outcome, Packet, Prefix, Verdict, has_flag};
 
 pub(crate) fn walk(accept: Option<bool>, chains: &[Chain], packet: &Packet) -> Outcome
     ensures { result ≡ walk accept chains.now packet.now }

@@ -8,11 +8,11 @@ ghost use Rattle.nft_lang.specs.Documents.{table_name};
 
 use crate::documents::{Flags, Item, Rule, Section};
 use crate::rule_words::{
-    FlagTest, PacketFamily, Protocol, RuleEnding, address_word, icmp_word, port_word,
+    RuleEnding, FlagTest, PacketFamily, Protocol, address_word, icmp_word, port_word,
 };
 use crate::sets::{ElementSet, PrefixWord, TypeWord};
+use acl_rows::{Each, RowForm, FreeText, Number, Piece, RangeWords, Row, Rows, OneWord, Words};
 use acl_packet::{Families, Family, Hook, Prefix, Verdict};
-use acl_rows::{Each, FreeText, Number, OneWord, Piece, RangeWords, Row, RowForm, Rows, Words};
 use acl_text::{Out, PutFault};
 use itoa::Buffer;
 

@@ -2,8 +2,8 @@ ghost use Rattle.std.specs.Prelude.{◌≡◌, IfOk, OnOk};
 ghost use Rattle.nft_lang.specs.ReadingSteps.{draft, no_rule, up_to, nfproto_in, next_in, with_test, with_verdict, with_address, with_ports, with_type, in_set, take_address, take_ports, take_type, take_as, take_word, rule_in};
 
 use crate::documents::{Flags, Rule};
-use acl_packet::{Families, Family, Prefix, Verdict};
 use acl_rows::{End, RowWords};
+use acl_packet::{Families, Family, Prefix, Verdict};
 use acl_text::{Items, Memory, read_ports, read_spelled_prefix, read_u8, split_at_byte};
 use std::alloc::Global;
 

@@ -2,8 +2,8 @@ ghost use Rattle.std.specs.Prelude.{decimal, map};
 ghost use Rattle.acl_text.specs.AddressTexts.{prefix_text};
 ghost use Rattle.nft_lang.specs.Texts.{set_words, with_commas};
 
-use acl_packet::Prefix;
 use acl_rows::{ItemsBehind, Number, OneItem, Piece, WordForm, Words};
+use acl_packet::Prefix;
 use acl_text::{Out, PutFault, put_prefix};
 
 /// A prefix as an element of a set.

@@ -7,10 +7,10 @@ ghost use Rattle.nft_lang.specs.ValiditySteps.{are_addresses, are_ports, are_typ
 
 use crate::documents::{Item, Rule, Section};
 use crate::overlaps::are_apart;
-use acl_packet::{Families, Family, Prefix, Verdict};
 use acl_rows::{
     are_distinct, are_port_ranges, has_port_proto, is_addresses, is_empty, is_proto, number_fits,
 };
+use acl_packet::{Families, Family, Prefix, Verdict};
 use acl_text::{Memory, is_safe_text};
 use std::alloc::Global;
 

@@ -4,8 +4,10 @@ ghost use Rattle.acl_rows.specs.RuleParts.{number_holds, set_holds, state_holds}
 ghost use Rattle.nft_lang.specs.Walks.{flags_hold, protocol_holds, tests_hold, rule_holds, policy_verdict, decided_by, first_holding, walk};
 
 use crate::documents::{Flags, Item, Rule};
+use acl_rows::{
+    ACK, RST, SYN, admit_addresses, admit_ports, is_empty, number_holds, state_holds,
+};
 use acl_packet::{Outcome, Packet, Verdict, has_flag};
-use acl_rows::{ACK, RST, SYN, admit_addresses, admit_ports, is_empty, number_holds, state_holds};
 
 pub(crate) fn walk(accept: bool, items: &[Item], packet: &Packet) -> Outcome
     ensures { result ≡ walk accept items.now packet.now }

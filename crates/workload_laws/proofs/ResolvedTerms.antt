@@ -7,16 +7,19 @@ use Rattle.std.specs.Option.{option_or}
 use Rattle.acl_packet.specs.declared.addresses.Family.{Family}
 use Rattle.acl_packet.specs.declared.addresses.Family.TheVariants.{V4, V6}
 use Rattle.acl_packet.specs.declared.filtering.Verdict.TheVariants.{Accept}
+use Rattle.acl_packet.specs.declared.packet_fields.Field.{Field}
+use Rattle.acl_packet.specs.declared.packet_fields.Field.TheVariants.{Protocol, SourcePort, DestinationPort, IcmpType}
 use Rattle.acl_packet.specs.Addresses.{top_address}
 use Rattle.acl_packet.specs.NumberWords.{protocol_in, row_or_number}
-use Rattle.acl_packet.specs.Packets.{has_ports}
+use Rattle.acl_packet.specs.Packets.{has_ports, top_of}
+use Rattle.acl_packet.proofs.FieldLaws.{by-field}
 use Rattle.acl_text.specs.declared.faults.Code.TheVariants as codes_of
 use Rattle.acl_text.specs.declared.faults.Slip.{Slip}
 use Rattle.acl_text.specs.Notes.{note_of, safe_words}
 use Rattle.acl_text.specs.Refusals.{first_in, first_some}
 use Rattle.acl_sets.specs.declared.sets.Range.{Range}
-use Rattle.acl_sets.specs.ComputableSets.{cut_all, put_all}
-use Rattle.acl_sets.specs.Ranges.{Only}
+use Rattle.acl_sets.specs.ComputableSets.{cut_all, is_all, put_all}
+use Rattle.acl_sets.specs.Ranges.{IsNormal, Numbers, Only}
 use Rattle.acl_naming.specs.declared.naming_items.Item.{Item}
 use Rattle.acl_naming.specs.ComputableReach.{addresses_of, addresses_reached, items_reached, ports_of, ports_reached}
 use Rattle.acl_naming.specs.Definitions.{index_of}
@@ -27,10 +30,11 @@ use Rattle.acl_terms.specs.declared.terms.Term.{Term}
 use Rattle.acl_terms.specs.ComputableTerms.{sets_of}
 use Rattle.acl_terms.specs.Living.{platforms_of}
 use Rattle.acl_terms.specs.Resolved.{IsResolved}
-use Rattle.acl_terms.specs.Sets.{AreSetsOf, Sets}
+use Rattle.acl_terms.specs.Sets.{AreSetsOf, Sets, by_field}
 use Rattle.acl_terms.specs.Slips.{address_words, port_protocol_slip, port_words, reaches_protocol, slip_of, unless, words_slips}
-use Rattle.acl_terms.specs.Soundness.{IsSoundTerm}
+use Rattle.acl_terms.specs.Soundness.{HaveField, IsSoundTerm, is_protocol}
 use Rattle.acl_terms.proofs.ComputedLaws.{computed-sets}
+use Rattle.acl_terms.proofs.FieldLaws.{told-same}
 use Rattle.acl_terms.proofs.TermLaws.{term-with-resolved}
 use Rattle.workload_laws.specs.WorkloadNames.{each, network_items, service, service_items, service_name, workload_naming}
 use Rattle.workload_laws.specs.WorkloadPolicies.{at_line, lines_before, term_name}
@@ -78,11 +82,8 @@ sets_by networks services = record {
   dst6 = all_to (top_address V6);
   addr4 = all_to (top_address V4);
   addr6 = all_to (top_address V6);
-  protos = protocols;
-  sports = all_to top_port;
-  dports = record { top = top_port; ranges = ports_in services };
+  numbers = by_field protocols (all_to top_port) (record { top = top_port; ranges = ports_in services }) (all_to 255);
   ports = all_to top_port;
-  itypes = all_to 255;
 }
 
 sets_written : SameBelow 1024 (λ i. sets_by (network_items i) (service_items i)) term_sets
@@ -91,7 +92,9 @@ sets_written = computed 1024 _ _ refl
 pub sets_are : (n i : ℕ) → i < n → n ≤ 1024 → sets_of (workload_naming n) (raw_at i) ≡ term_sets i
 unfolding sets_of addresses_reached ports_reached protocol_in row_or_number
 sets_are n i below few =
-    ap (λ items. sets_by items (items_reached (each service n) (service_name i))) (network_reaches n i below few)
+    let sets = sets_of (workload_naming n) (raw_at i) in
+    ap (λ (numbers : Field → Numbers). record sets { numbers = numbers }) (sym (told-same sets.numbers))
+    ∙ ap (λ items. sets_by items (items_reached (each service n) (service_name i))) (network_reaches n i below few)
     ∙ ap (sets_by (network_items i)) (service_reaches n i below few)
     ∙ sets_written i (omega (arith, below, few))
 
@@ -114,9 +117,8 @@ tcp_or_udp test six seventeen x h = elim (either (nat_le 6 x && nat_le x 6) _ h)
 ]
 
 pub is_sound : (i : ℕ) → i < 1024 → IsSoundTerm (term_name i) [] (term_sets i).src4 (term_sets i).src6 (term_sets i).dst4 (term_sets i).dst6
-    (term_sets i).addr4 (term_sets i).addr6 false (term_sets i).protos (term_sets i).sports (term_sets i).dports true
-    (term_sets i).ports false (term_sets i).itypes Plain Accept
-is_sound i below = record {
+    (term_sets i).addr4 (term_sets i).addr6 false (term_sets i).numbers true (term_sets i).ports false Plain Accept
+is_sound i below = let numbers : Field → Numbers = (term_sets i).numbers in record {
   name_is = term_names i below;
   note_is = refl;
   src4_top = refl;
@@ -133,28 +135,23 @@ is_sound i below = record {
   addr6_top = refl;
   addr6_normal = (omega arith, omega arith, omega arith, tt);
   addr6_named = λ h. refl;
-  protos_top = refl;
-  protos_normal = (omega arith, omega arith, omega arith, (omega arith, omega arith, omega arith, tt));
+  tops = by-field (λ field. (numbers field).top ≡ top_of field) refl refl refl refl;
+  normal = by-field (λ field. IsNormal 0 (numbers field).top (numbers field).ranges)
+      (omega arith, omega arith, omega arith, (omega arith, omega arith, omega arith, tt))
+      (omega arith, omega arith, omega arith, tt) (omega arith, omega arith, omega (arith, below), tt)
+      (omega arith, omega arith, omega arith, tt);
+  some = by-field (λ field. is_protocol field ≡ false → (numbers field).ranges ≡ [] → ⊥) (λ h. absurd (false≢true (sym h)))
+      (λ _ e. cc) (λ _ e. cc) (λ _ e. cc);
+  fit = by-field (λ field. is_all (numbers field) ≡ false → HaveField field protocols) (λ _ _ _ _. refl)
+      (λ h. absurd (false≢true (sym h))) (λ _ _. tcp_or_udp has_ports refl refl) (λ h. absurd (false≢true (sym h)));
   protos_lack_0 = λ h. refl;
-  sports_top = refl;
-  sports_normal = (omega arith, omega arith, omega arith, tt);
-  sports_some = λ e. cc;
-  sports_fit = λ h. absurd (false≢true (sym h));
-  dports_top = refl;
-  dports_normal = (omega arith, omega arith, omega (arith, below), tt);
-  dports_some = λ e. cc;
-  dports_fit = λ h. tcp_or_udp has_ports refl refl;
+  itypes_lack_255 = λ h. absurd (false≢true (sym h));
   dports_named = λ h. absurd (false≢true (sym h));
   ports_top = refl;
   ports_normal = (omega arith, omega arith, omega arith, tt);
   ports_some = λ e. cc;
   ports_fit = λ h. absurd (false≢true (sym h));
   ports_named = λ h. refl;
-  itypes_top = refl;
-  itypes_normal = (omega arith, omega arith, omega arith, tt);
-  itypes_some = λ e. cc;
-  itypes_lack_255 = λ h. absurd (false≢true (sym h));
-  itypes_fit = λ h k. absurd (false≢true (sym h));
   established_fits = λ h. absurd (false≢true h);
   flags_fit = λ h. absurd (false≢true h);
   reset_fits = λ h. absurd (false≢true h);
@@ -173,13 +170,13 @@ resolved_term i below = record {
   addr4 = (term_sets i).addr4;
   addr6 = (term_sets i).addr6;
   addr_named = false;
-  protos = (term_sets i).protos;
-  sports = (term_sets i).sports;
-  dports = (term_sets i).dports;
+  protos = (term_sets i).numbers Protocol;
+  sports = (term_sets i).numbers SourcePort;
+  dports = (term_sets i).numbers DestinationPort;
   dport_named = true;
   ports = (term_sets i).ports;
   port_named = false;
-  itypes = (term_sets i).itypes;
+  itypes = (term_sets i).numbers IcmpType;
   option = Plain;
   verdict = Accept;
   log = false;
@@ -190,13 +187,13 @@ resolved_term i below = record {
 }
 
 pub is_resolved : (n i : ℕ) (below : i < n) (few : n ≤ 1024) (small : i < 1024) → IsResolved (workload_naming n) (raw_at i) (resolved_term i small)
-unfolding note_of safe_words
+unfolding note_of safe_words sets_of
 is_resolved n i below few small =
     term-with-resolved (workload_naming n) (raw_at i) (term_sets i) (is_sound i small)
     (subst (AreSetsOf (workload_naming n) (raw_at i)) (sets_are n i below few)
     (computed-sets (workload_naming n) (raw_at i)
-    (λ e. some (sym (ap (λ (s : Sets). s.sports.ranges) (sets_are n i below few)) ∙ e))
-    (λ e. some_port (sym (ap (λ (s : Sets). s.dports.ranges) (sets_are n i below few)) ∙ e))
+    (λ e. some (sym (ap (λ (s : Sets). (s.numbers SourcePort).ranges) (sets_are n i below few)) ∙ e))
+    (λ e. some_port (sym (ap (λ (s : Sets). (s.numbers DestinationPort).ranges) (sets_are n i below few)) ∙ e))
     (λ e. some (sym (ap (λ (s : Sets). s.ports.ranges) (sets_are n i below few)) ∙ e))))
   where
     some : (all_to top_port).ranges ≡ [] → ⊥

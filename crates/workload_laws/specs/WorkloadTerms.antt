@@ -5,7 +5,7 @@ use Rattle.acl_packet.specs.Addresses.{top_address}
 use Rattle.acl_sets.specs.declared.sets.Range.{Range}
 use Rattle.acl_sets.specs.Ranges.{Numbers}
 use Rattle.acl_naming.specs.Ports.{top_port}
-use Rattle.acl_terms.specs.Sets.{Sets}
+use Rattle.acl_terms.specs.Sets.{Sets, by_field}
 
 abbrev pub range : ℕ → ℕ → Range
 range low high = record { low = low; high = high }
@@ -36,9 +36,6 @@ term_sets i = record {
   dst6 = all_to (top_address V6);
   addr4 = all_to (top_address V4);
   addr6 = all_to (top_address V6);
-  protos = protocols;
-  sports = all_to top_port;
-  dports = record { top = top_port; ranges = ports i };
+  numbers = by_field protocols (all_to top_port) (record { top = top_port; ranges = ports i }) (all_to 255);
   ports = all_to top_port;
-  itypes = all_to 255;
 }

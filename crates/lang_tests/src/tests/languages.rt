@@ -1,5 +1,5 @@
-use acl_packet::{Conn, Family, Outcome, Packet, Verdict, is_packet};
 use acl_rows::{Language, outcome, read_document, sections};
+use acl_packet::{Conn, Family, Outcome, Packet, Verdict, is_packet};
 use acl_text::Memory;
 use std::alloc::Global;
 use std::process::Abort;

@@ -3,4 +3,4 @@ use Rattle.junos_lang.proofs.ValidityLaws.{filters_apart}
 use Rattle.junos_lang.proofs.validity.have_distinct_filters.Goals as goal
 
 pub returns : goal.returns
-returns c = c.are_distinct.ensures ∙ filters_apart c.in_ok-filters_of.field-0.items c.args.sections.now c.in_ok-filters_of.ensures
+returns c = c.are_distinct.ensures.exact ∙ filters_apart c.in_ok-filters_of.field-0.items c.args.sections.now c.in_ok-filters_of.ensures

@@ -1,10 +1,4 @@
-use Rattle.std.proofs.Common.{sym, ap, subst, ◌∙◌, Option, Some, IfSome, List}
-use Rattle.std.specs.Option.{option_copied}
-use Rattle.std.specs.Prelude.{◌≡◌, None}
-use Rattle.acl_platform.specs.declared.rules.Rule.{Rule}
-use Rattle.acl_expand.specs.ExpansionSlips.{first_slip}
-use Rattle.acl_expand.specs.KnownRuleSteps.{rules_for}
-use Rattle.acl_expand.specs.TermRules.{rules_of}
+use Rattle.std.proofs.Common.{◌∙◌}
 use Rattle.acl_expand.proofs.KnownLaws.{known-found, known-more}
 use Rattle.acl_expand.proofs.known_rules.KnownRules.rules_of.Goals as goal
 
