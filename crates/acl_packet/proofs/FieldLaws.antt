@@ -4,17 +4,18 @@ use Rattle.std.specs.List.{list_all}
 use Rattle.std.proofs.lemmas.Bool.{and_from, and_parts, both_ways, eqb-true}
 use Rattle.std.proofs.lemmas.Bool.Decides.{Decides-eqb}
 use Rattle.acl_packet.specs.declared.packet_fields.Field.{Field}
-use Rattle.acl_packet.specs.declared.packet_fields.Field.TheVariants.{Protocol, SourcePort, DestinationPort, IcmpType}
+use Rattle.acl_packet.specs.declared.packet_fields.Field.TheVariants.{Protocol, SourcePort, DestinationPort, IcmpType, IcmpCode}
 use Rattle.acl_packet.specs.declared.packets.Packet.{Packet}
 use Rattle.acl_packet.specs.FieldSteps.{is_fitting}
 use Rattle.acl_packet.specs.Packets.{fields, has_field, number_of, top_of}
 
 -- What holds of one field after the other holds of each.
-pub by-field : (P : Field → Type 0) → P Protocol → P SourcePort → P DestinationPort → P IcmpType → (field : Field) → P field
-by-field P a b c d Protocol = a
-by-field P a b c d SourcePort = b
-by-field P a b c d DestinationPort = c
-by-field P a b c d IcmpType = d
+pub by-field : (P : Field → Type 0) → P Protocol → P SourcePort → P DestinationPort → P IcmpType → P IcmpCode → (field : Field) → P field
+by-field P a b c d e Protocol = a
+by-field P a b c d e SourcePort = b
+by-field P a b c d e DestinationPort = c
+by-field P a b c d e IcmpType = d
+by-field P a b c d e IcmpCode = e
 
 -- All fields pass a test where each does.
 pub all-fields : (test : Field → Bool) → (list_all test fields ≡ true) ↔ ((field : Field) → test field ≡ true)
@@ -22,17 +23,19 @@ all-fields test = (forth, back)
   where
     forth : list_all test fields ≡ true → (field : Field) → test field ≡ true
     forth h =
-        let a = and_parts (test Protocol) (list_all test (SourcePort ∷ DestinationPort ∷ IcmpType ∷ [])) h in
-        let b = and_parts (test SourcePort) (list_all test (DestinationPort ∷ IcmpType ∷ [])) a.1 in
-        let c = and_parts (test DestinationPort) (list_all test (IcmpType ∷ [])) b.1 in
-        let d = and_parts (test IcmpType) (list_all test []) c.1 in
-        by-field (λ field. test field ≡ true) a.0 b.0 c.0 d.0
+        let a = and_parts (test Protocol) (list_all test (SourcePort ∷ DestinationPort ∷ IcmpType ∷ IcmpCode ∷ [])) h in
+        let b = and_parts (test SourcePort) (list_all test (DestinationPort ∷ IcmpType ∷ IcmpCode ∷ [])) a.1 in
+        let c = and_parts (test DestinationPort) (list_all test (IcmpType ∷ IcmpCode ∷ [])) b.1 in
+        let d = and_parts (test IcmpType) (list_all test (IcmpCode ∷ [])) c.1 in
+        let e = and_parts (test IcmpCode) (list_all test []) d.1 in
+        by-field (λ field. test field ≡ true) a.0 b.0 c.0 d.0 e.0
 
     back : ((field : Field) → test field ≡ true) → list_all test fields ≡ true
-    back h = and_from (test Protocol) (list_all test (SourcePort ∷ DestinationPort ∷ IcmpType ∷ [])) (h Protocol)
-        (and_from (test SourcePort) (list_all test (DestinationPort ∷ IcmpType ∷ [])) (h SourcePort)
-        (and_from (test DestinationPort) (list_all test (IcmpType ∷ [])) (h DestinationPort)
-        (and_from (test IcmpType) (list_all test []) (h IcmpType) refl)))
+    back h = and_from (test Protocol) (list_all test (SourcePort ∷ DestinationPort ∷ IcmpType ∷ IcmpCode ∷ [])) (h Protocol)
+        (and_from (test SourcePort) (list_all test (DestinationPort ∷ IcmpType ∷ IcmpCode ∷ [])) (h SourcePort)
+        (and_from (test DestinationPort) (list_all test (IcmpType ∷ IcmpCode ∷ [])) (h DestinationPort)
+        (and_from (test IcmpType) (list_all test (IcmpCode ∷ [])) (h IcmpType)
+        (and_from (test IcmpCode) (list_all test []) (h IcmpCode) refl))))
 
 -- So do facts that tests decide.
 pub all-are : (test : Field → Bool) (P : Field → Type 0) → ((field : Field) → (test field ≡ true) ↔ P field)
@@ -52,6 +55,6 @@ absent_law p = all-are (is_fitting p) (λ field. has_field p.family field p.prot
     (λ field. zero-or (has_field p.family field p.proto) (number_of field p))
 
 pub numbers_fit : (p : Packet) → p.proto < 256 → p.sport < 65536 → p.dport < 65536 → p.itype < 256
-    → (field : Field) → number_of field p ≤ top_of field
-numbers_fit p proto sport dport itype = by-field (λ field. number_of field p ≤ top_of field) (omega (arith, proto))
-    (omega (arith, sport)) (omega (arith, dport)) (omega (arith, itype))
+    → p.icode < 256 → (field : Field) → number_of field p ≤ top_of field
+numbers_fit p proto sport dport itype icode = by-field (λ field. number_of field p ≤ top_of field) (omega (arith, proto))
+    (omega (arith, sport)) (omega (arith, dport)) (omega (arith, itype)) (omega (arith, icode))

@@ -3,7 +3,7 @@ use Rattle.std.specs.Prelude.{◌≡◌, ◌≢◌, ℕ, ◌<◌, ◌≤◌, ◌
 use Rattle.acl_packet.specs.declared.addresses.Family.{Family}
 use Rattle.acl_packet.specs.declared.addresses.Family.TheVariants.{V4, V6}
 use Rattle.acl_packet.specs.declared.packet_fields.Field.{Field}
-use Rattle.acl_packet.specs.declared.packet_fields.Field.TheVariants.{Protocol, SourcePort, DestinationPort, IcmpType}
+use Rattle.acl_packet.specs.declared.packet_fields.Field.TheVariants.{Protocol, SourcePort, DestinationPort, IcmpType, IcmpCode}
 use Rattle.acl_packet.specs.declared.packets.Conn.{Conn}
 use Rattle.acl_packet.specs.declared.packets.Conn.TheVariants.{New, Established, Related, Invalid}
 use Rattle.acl_packet.specs.declared.packets.Packet.{Packet}
@@ -28,7 +28,7 @@ is_icmp family proto = proto == icmp_of family
 
 -- The numbers of a packet, beside its addresses, that a filter has sets of: the last ones are those of ICMP.
 abbrev pub icmp_fields : List Field
-icmp_fields = IcmpType ∷ []
+icmp_fields = IcmpType ∷ IcmpCode ∷ []
 
 abbrev pub fields : List Field
 fields = Protocol ∷ SourcePort ∷ DestinationPort ∷ icmp_fields
@@ -38,14 +38,17 @@ number_of Protocol p = p.proto
 number_of SourcePort p = p.sport
 number_of DestinationPort p = p.dport
 number_of IcmpType p = p.itype
+number_of IcmpCode p = p.icode
 
 -- The greatest number of a field: ports have 16 bits (RFC 9293 section 3.1, RFC 768, RFC 9260 section 3.1), protocols
--- (RFC 791 section 3.1, RFC 8200 section 3) and types (RFC 792, RFC 4443 section 2.1) have 8.
+-- (RFC 791 section 3.1, RFC 8200 section 3) and types
+-- and codes (RFC 792, RFC 4443 section 2.1) have 8.
 abbrev pub top_of : Field → ℕ
 top_of Protocol = 255
 top_of SourcePort = 65535
 top_of DestinationPort = 65535
 top_of IcmpType = 255
+top_of IcmpCode = 255
 
 -- Packets of the family and the protocol have the field.
 abbrev pub has_field : Family → Field → ℕ → Bool
@@ -53,6 +56,7 @@ has_field family Protocol proto = true
 has_field family SourcePort proto = has_ports proto
 has_field family DestinationPort proto = has_ports proto
 has_field family IcmpType proto = is_icmp family proto
+has_field family IcmpCode proto = is_icmp family proto
 
 -- A flag of TCP is set: FIN 1, SYN 2, RST 4, PSH 8, ACK 16, URG 32 (RFC 9293 section 3.1).
 abbrev pub has_flag : ℕ → ℕ → Bool

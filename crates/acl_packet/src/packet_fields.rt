@@ -14,6 +14,7 @@ pub enum Field {
     SourcePort,
     DestinationPort,
     IcmpType,
+    IcmpCode,
 }
 
 /// Each field once.
@@ -25,6 +26,7 @@ pub fn fields() -> &'static [Field]
         Field::SourcePort,
         Field::DestinationPort,
         Field::IcmpType,
+        Field::IcmpCode,
     ]
 }
 
@@ -38,6 +40,7 @@ impl Field {
             Field::SourcePort => packet.sport,
             Field::DestinationPort => packet.dport,
             Field::IcmpType => u16::from(packet.itype),
+            Field::IcmpCode => u16::from(packet.icode),
         }
     }
 
@@ -47,7 +50,7 @@ impl Field {
     {
         match self {
             Field::SourcePort | Field::DestinationPort => 65535,
-            Field::Protocol | Field::IcmpType => 255,
+            Field::Protocol | Field::IcmpType | Field::IcmpCode => 255,
         }
     }
 
@@ -58,7 +61,7 @@ impl Field {
         match self {
             Field::Protocol => true,
             Field::SourcePort | Field::DestinationPort => has_ports(proto),
-            Field::IcmpType => is_icmp(family, proto),
+            Field::IcmpType | Field::IcmpCode => is_icmp(family, proto),
         }
     }
 }
@@ -83,7 +86,14 @@ pub(crate) fn are_fitting(packet: &Packet) -> bool
         sport: _sport,
         dport: _dport,
         itype: _itype,
+        icode: _icode,
         ..
     } = *packet;
+    each_is_fitting(packet)
+}
+
+fn each_is_fitting(packet: &Packet) -> bool
+    ensures { result ≡ list_all (is_fitting packet.now) fields }
+{
     fields().iter().all(|field| is_fitting(*field, packet))
 }

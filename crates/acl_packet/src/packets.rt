@@ -45,6 +45,7 @@ pub struct Packet {
     pub proto: u8,
     pub flags: u8,
     pub itype: u8,
+    pub icode: u8,
     pub conn: Conn,
 }
 
@@ -87,6 +88,7 @@ pub fn is_packet(p: &Packet) -> bool
         proto,
         flags,
         itype: _,
+        icode: _,
         conn: _,
     } = *p;
     if !is_address(family, src) || !is_address(family, dst) {

@@ -4,3 +4,4 @@ use Rattle.acl_packet.proofs.packet_fields.are_fitting.Goals as goal
 
 pub returns-clause-numbers : goal.returns-clause-numbers
 returns-clause-numbers c = numbers_fit c.args.packet.now (omega arith) (omega arith) (omega arith) (omega arith)
+    (omega arith)
