@@ -1,12 +1,13 @@
 -- What is wrong with terms on a target has a code that `aclgen` answers.
-use Rattle.std.proofs.Common.{ℕ, nat_le, List, [], ◌∷◌, Option, None, Some}
+use Rattle.std.proofs.Common.{ℕ, nat_le, List, [], ◌∷◌, ◌++◌, Option, None, Some}
 use Rattle.acl_text.specs.AnsweredCodes.{SlipIsAnswered}
 use Rattle.acl_text.specs.declared.faults.Slip.{Slip}
 use Rattle.acl_text.proofs.AnsweredLaws.{either, either_answered}
 use Rattle.acl_days.specs.declared.days.Day.{Day}
 use Rattle.acl_target.specs.declared.targets.Target.{Target}
 use Rattle.acl_terms.specs.declared.terms.Term.{Term}
-use Rattle.acl_expand.specs.ExpansionSlips.{first_slip, header_at, header_named, header_slip, is_for_ipv6, most_prefixes, prefix_slip, prefixes_with, slip_behind, term_slip}
+use Rattle.acl_expand.specs.ExpansionSlips.{first_slip, header_at, header_named, header_slip, is_for_ipv6, most_prefixes, prefix_slip, prefixes_of, slip_behind, term_slip}
+use Rattle.acl_expand.specs.TermRules.{rules_of}
 
 abbrev Good : Option Slip → Type 0
 Good o = SlipIsAnswered o
@@ -22,14 +23,15 @@ header_good target today t = either Good (is_for_ipv6 target today t) _ _ (heade
 prefix_good : (t : Term) (prefixes : ℕ) → Good (prefix_slip t prefixes)
 prefix_good t prefixes = either Good (nat_le prefixes most_prefixes) _ _ tt tt
 
-behind_good : (target : Target) (today : Day) (before : ℕ) (terms : List Term) → Good (slip_behind target today before terms)
-behind_good target today before [] = tt
-behind_good target today before (t ∷ ts) =
-    either_answered (term_slip target today before t) (slip_behind target today (prefixes_with target today before t) ts)
-    (either_answered (header_slip target today t) (prefix_slip t (prefixes_with target today before t))
-    (header_good target today t) (prefix_good t (prefixes_with target today before t)))
-    (behind_good target today (prefixes_with target today before t) ts)
+behind_good : (target : Target) (today : Day) (earlier terms : List Term) → Good (slip_behind target today earlier terms)
+behind_good target today earlier [] = tt
+behind_good target today earlier (t ∷ ts) =
+    let all = earlier ++ t ∷ [] in
+    let prefixes = prefixes_of (rules_of target today all) in
+    either_answered (term_slip target today earlier t) (slip_behind target today all ts)
+    (either_answered (header_slip target today t) (prefix_slip t prefixes) (header_good target today t) (prefix_good t prefixes))
+    (behind_good target today all ts)
 
 pub expansion_answered : (target : Target) (today : Day) (terms : List Term) → SlipIsAnswered (first_slip target today terms)
 unfolding first_slip
-expansion_answered target today terms = behind_good target today 0 terms
+expansion_answered target today terms = behind_good target today [] terms

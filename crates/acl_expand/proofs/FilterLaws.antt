@@ -22,7 +22,7 @@ use Rattle.acl_terms.proofs.WordLaws.{parts}
 use Rattle.acl_platform.specs.declared.rules.Rule.{Rule}
 use Rattle.acl_platform.specs.SoundFilters.{IsSound, IsSoundRule}
 use Rattle.acl_expand.specs.Expansions.{filter_of}
-use Rattle.acl_expand.specs.ExpansionSlips.{first_slip, header_at, header_named, header_slip, is_for_ipv6, prefix_slip, prefixes_with, slip_behind}
+use Rattle.acl_expand.specs.ExpansionSlips.{first_slip, header_at, header_named, header_slip, is_for_ipv6, prefix_slip, prefixes_of, slip_behind}
 use Rattle.acl_expand.specs.TermRules.{conditions_by, family_rules, members, pair_rules, rule_of, rules_of, term_rules}
 use Rattle.acl_expand.proofs.SoundLaws.{KnowsTests, NoHeader, pair-sound}
 
@@ -109,23 +109,23 @@ term-sound target today t is none =
     (λ live. over-members (IsSoundRule target.kind target.families) (family_rules target t) target.families
     (λ f covered. rules-sound target t f is covered (λ some. lacks-header target today t f none live covered some)))
 
-terms-sound : (target : Target) (today : Day) (before : ℕ) (terms : List Term) → IsTarget target
-    → slip_behind target today before terms ≡ None
+terms-sound : (target : Target) (today : Day) (earlier terms : List Term) → IsTarget target
+    → slip_behind target today earlier terms ≡ None
     → AllByRecursion (IsSoundRule target.kind target.families) (rules_of target today terms)
-terms-sound target today before [] is none = tt
-terms-sound target today before (t ∷ terms) is none =
-    let with_ = prefixes_with target today before t in
+terms-sound target today earlier [] is none = tt
+terms-sound target today earlier (t ∷ terms) is none =
+    let all = earlier ++ t ∷ [] in
     let here = header_slip target today t in
-    let count = prefix_slip t with_ in
-    let p = parts (option_or here count) (slip_behind target today with_ terms) none in
+    let count = prefix_slip t (prefixes_of (rules_of target today all)) in
+    let p = parts (option_or here count) (slip_behind target today all terms) none in
     let q = parts here count p.0 in
     joined (IsSoundRule target.kind target.families) (term_rules target today t) (rules_of target today terms)
-    (term-sound target today t is q.0) (terms-sound target today with_ terms is p.1)
+    (term-sound target today t is q.0) (terms-sound target today all terms is p.1)
 
 pub filter-sound : (target : Target) (today : Day) (terms : List Term) → IsTarget target
     → first_slip target today terms ≡ None → IsSound (filter_of target today terms)
 unfolding first_slip
 filter-sound target today terms is none = record {
   target = (target.stateful, is);
-  rules = terms-sound target today 0 terms is none;
+  rules = terms-sound target today [] terms is none;
 }

@@ -20,7 +20,7 @@ use Rattle.acl_terms.specs.Outcomes.{mode_of}
 use Rattle.acl_terms.specs.Resolved.{is_empty_in, is_pair_empty, is_term_live, pairs_of}
 use Rattle.acl_platform.specs.declared.rules.Rule.{Rule}
 use Rattle.acl_platform.proofs.AcceptedFilters.{same-kind-is}
-use Rattle.acl_expand.specs.ExpansionSlips.{first_slip, header_at, header_named, header_slip, prefix_slip, prefixes_of, prefixes_with, slip_behind, term_slip}
+use Rattle.acl_expand.specs.ExpansionSlips.{first_slip, header_at, header_named, header_slip, prefix_slip, prefixes_of, slip_behind, term_slip}
 use Rattle.acl_expand.specs.KnownRules.{AlikeHaveTheSameRules, AreAlike, IsKnown, fits, same_answer}
 use Rattle.acl_expand.specs.KnownRuleSteps.{rules_for, target_rules}
 use Rattle.acl_expand.specs.TermRules.{conditions_by, family_rules, members, pair_rules, rule_of, rules_of, term_rules}
@@ -61,20 +61,20 @@ header-same a b h today t =
     ap (λ k. cond (is_term_live t k today && (covers a.families V6 && not (is_empty_in V6 t))) (header_at t (header_named t)) None) h.kind_is
     ∙ ap (λ fs. cond (is_term_live t b.kind today && (covers fs V6 && not (is_empty_in V6 t))) (header_at t (header_named t)) None) h.families_are
 
-slips-same : (a b : Target) → AreAlike a b → (today : Day) (before : ℕ) (terms : List Term)
-    → slip_behind a today before terms ≡ slip_behind b today before terms
-slips-same a b h today before [] = refl
-slips-same a b h today before (t ∷ ts) =
-    let last = prefixes_with b today before t in
-    ap (λ s. option_or (option_or s (prefix_slip t (prefixes_with a today before t))) (slip_behind a today (prefixes_with a today before t) ts))
+slips-same : (a b : Target) → AreAlike a b → (today : Day) (earlier terms : List Term)
+    → slip_behind a today earlier terms ≡ slip_behind b today earlier terms
+slips-same a b h today earlier [] = refl
+slips-same a b h today earlier (t ∷ ts) =
+    let all = earlier ++ t ∷ [] in
+    ap (λ s. option_or (option_or s (prefix_slip t (prefixes_of (rules_of a today all)))) (slip_behind a today all ts))
     (header-same a b h today t)
-    ∙ ap (λ rules. option_or (option_or (header_slip b today t) (prefix_slip t (before + prefixes_of rules))) (slip_behind a today (before + prefixes_of rules) ts))
-    (term-same a b h today t)
-    ∙ ap (λ s. option_or (term_slip b today before t) s) (slips-same a b h today last ts)
+    ∙ ap (λ rules. option_or (option_or (header_slip b today t) (prefix_slip t (prefixes_of rules))) (slip_behind a today all ts))
+    (rules-same a b h today all)
+    ∙ ap (λ s. option_or (term_slip b today earlier t) s) (slips-same a b h today all ts)
 
 first-same : (a b : Target) → AreAlike a b → (today : Day) (terms : List Term) → first_slip a today terms ≡ first_slip b today terms
 unfolding first_slip
-first-same a b h today terms = slips-same a b h today 0 terms
+first-same a b h today terms = slips-same a b h today [] terms
 
 pub alike_have_the_same_rules : AlikeHaveTheSameRules
 alike_have_the_same_rules a b today terms h = (rules-same a b h today terms, first-same a b h today terms)

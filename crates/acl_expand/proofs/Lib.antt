@@ -7,4 +7,5 @@ pub mod KnownLaws
 pub mod RuleLaws
 pub mod SetForms
 pub mod SideForms
+pub mod SlipLaws
 pub mod SoundLaws

@@ -1,5 +1,5 @@
--- The first slip of terms on a target: the first of the questions on them that has an answer.
-use Rattle.std.specs.Prelude.{ℕ, ◌+◌, Bool, not, ◌&&◌, nat_le, if◌then◌else◌, List, [], ◌∷◌, length, sum_by, decimal, Option, None, Some}
+-- The first slip of terms on a target: that of the first term that has one.
+use Rattle.std.specs.Prelude.{ℕ, ◌+◌, Bool, not, ◌&&◌, nat_le, if◌then◌else◌, List, [], ◌∷◌, ◌++◌, length, sum_by, decimal, Option, None, Some}
 use Rattle.std.specs.List.{find}
 use Rattle.std.specs.Option.{option_or}
 use Rattle.acl_packet.specs.declared.addresses.Family.TheVariants.{V6}
@@ -14,7 +14,7 @@ use Rattle.acl_target.specs.declared.targets.Target.{Target}
 use Rattle.acl_terms.specs.declared.terms.Term.{Term}
 use Rattle.acl_terms.specs.Resolved.{is_empty_in, is_term_live}
 use Rattle.acl_platform.specs.declared.rules.Rule.{Rule}
-use Rattle.acl_expand.specs.TermRules.{term_rules}
+use Rattle.acl_expand.specs.TermRules.{rules_of}
 
 -- ---- extension headers
 
@@ -53,7 +53,7 @@ rule_prefixes r = length r.src + length r.dst
 abbrev pub prefixes_of : List Rule → ℕ
 prefixes_of rules = sum_by rule_prefixes rules
 
--- Does a filter have too many prefixes, once it has the rules of the term?
+-- Are so many prefixes too many? Then that is said at the term with whose rules the filter has them.
 abbrev pub prefix_slip : Term → ℕ → Option Slip
 prefix_slip t prefixes =
     if nat_le prefixes most_prefixes then None
@@ -61,20 +61,18 @@ prefix_slip t prefixes =
 
 -- ---- terms
 
--- The prefixes of a filter with the rules of the term, behind the ones before it.
-abbrev pub prefixes_with : Target → Day → ℕ → Term → ℕ
-prefixes_with target today before t = before + prefixes_of (term_rules target today t)
+-- A term's slip, behind the terms before it: its extension header, else that the filter of all of them up to and
+-- with it has too many prefixes.
+abbrev pub term_slip : Target → Day → List Term → Term → Option Slip
+term_slip target today earlier t =
+    option_or (header_slip target today t)
+    (prefix_slip t (prefixes_of (rules_of target today (earlier ++ t ∷ []))))
 
-abbrev pub term_slip : Target → Day → ℕ → Term → Option Slip
-term_slip target today before t =
-    option_or (header_slip target today t) (prefix_slip t (prefixes_with target today before t))
-
--- The first slip of terms, where the filter has so many prefixes before them.
-abbrev pub slip_behind : Target → Day → ℕ → List Term → Option Slip
-slip_behind target today before [] = None
-slip_behind target today before (t ∷ ts) =
-    option_or (term_slip target today before t)
-    (slip_behind target today (prefixes_with target today before t) ts)
+-- The slip of the first of the terms that has one, behind the terms before them.
+abbrev pub slip_behind : Target → Day → List Term → List Term → Option Slip
+slip_behind target today earlier [] = None
+slip_behind target today earlier (t ∷ ts) =
+    option_or (term_slip target today earlier t) (slip_behind target today (earlier ++ t ∷ []) ts)
 
 unfoldable pub first_slip : Target → Day → List Term → Option Slip
-first_slip target today terms = slip_behind target today 0 terms
+first_slip target today terms = slip_behind target today [] terms

@@ -3,7 +3,8 @@ ghost use Rattle.acl_text.specs.Refusals.{Judges};
 ghost use Rattle.acl_target.specs.TargetData.{IsTarget};
 ghost use Rattle.acl_platform.specs.SoundFilters.{IsSound};
 ghost use Rattle.acl_expand.specs.Expansions.{DecidesAsTerms, filter_of, filter_with};
-ghost use Rattle.acl_expand.specs.ExpansionSlips.{first_slip, most_prefixes, prefixes_with, term_slip};
+ghost use Rattle.acl_expand.specs.ExpansionSlips.{first_slip, most_prefixes};
+ghost use Rattle.acl_expand.specs.SlipSteps.{counted_term, prefixes_with};
 ghost use Rattle.acl_expand.specs.TermRules.{rules_of, term_rules};
 
 use crate::known_lists::KnownLists;
@@ -26,7 +27,7 @@ fn add_term(
     today: Day,
     term: &Term,
 ) -> Result<u64, Refusal>
-    ensures judged { Judges result (term_slip target.now today prefixes term.now) }
+    ensures judged { Judges result (counted_term target.now today prefixes term.now) }
     ensures rules { OnOk result (rules.new ≡ rules.old ++ term_rules target.now today term.now) }
     ensures count { IfOk result (λ n. n ≡ prefixes_with target.now today prefixes term.now) }
 {
@@ -39,7 +40,7 @@ fn add_term(
 }
 
 /// The rules of the terms, or their first slip.
-#[tactic(auto, unfolding(crate::specs::ExpansionSlips::first_slip))]
+#[tactic(auto, using(crate::proofs::SlipLaws::first_slip_is_counted))]
 pub(crate) fn rules_of(
     alloc: Global,
     lists: &mut KnownLists,

@@ -27,11 +27,13 @@ use Rattle.acl_terms.proofs.PolicyLaws.{decide-as-written}
 use Rattle.acl_platform.specs.declared.filters.Filter.{Filter}
 use Rattle.acl_platform.specs.declared.filters.Limit.{Limit}
 use Rattle.acl_expand.specs.Expansions.{filter_of}
-use Rattle.acl_expand.specs.ExpansionSlips.{first_slip, header_slip, most_prefixes, prefix_slip, prefixes_with, slip_behind, term_slip}
+use Rattle.acl_expand.specs.ExpansionSlips.{first_slip, header_slip, most_prefixes, prefix_slip}
+use Rattle.acl_expand.specs.SlipSteps.{counted_slip, counted_term, prefixes_with}
 use Rattle.acl_expand.specs.TermRules.{rules_of, term_rules}
 use Rattle.acl_expand.proofs.AnyLaws.{any-flat}
 use Rattle.acl_expand.proofs.HoldLaws.{term-step}
 use Rattle.acl_expand.proofs.RuleLaws.{holds-in-family, of_family, term-packet}
+use Rattle.acl_expand.proofs.SlipLaws.{first_slip_is_counted}
 use Rattle.acl_shade.specs.ComputableShading.{is_shaded, unshaded, unshaded_behind}
 use Rattle.acl_shade.specs.Shading.{Shades}
 use Rattle.acl_shade.proofs.DeletionLaws.{decides-too, shaded-go, shading-stays}
@@ -110,22 +112,22 @@ more-prefixes : (target : Target) (today : Day) (less more : ℕ) (t : Term) →
 more-prefixes target today less more t h = omega (arith, h)
 
 slips-none : (target : Target) (today : Day) (less more : ℕ) (xs ys : List Term) → less ≤ more → IsLeftOf xs ys
-    → slip_behind target today more ys ≡ None → slip_behind target today less xs ≡ None
+    → counted_slip target today more ys ≡ None → counted_slip target today less xs ≡ None
 slips-none target today less more [] ys h left none = refl
 slips-none target today less more (x ∷ xs) [] h left none = absurd left
 slips-none target today less more (x ∷ xs) (y ∷ ys) h (inl left) none =
-    let p = first-none (term_slip target today more y) (slip_behind target today (prefixes_with target today more y) ys) none in
+    let p = first-none (counted_term target today more y) (counted_slip target today (prefixes_with target today more y) ys) none in
     let q = first-none (header_slip target today y) (prefix_slip y (prefixes_with target today more y)) p.0 in
     let fewer = more-prefixes target today less more y h in
-    let here : term_slip target today less y ≡ None =
+    let here : counted_term target today less y ≡ None =
     both-none (header_slip target today y) (prefix_slip y (prefixes_with target today less y)) q.0
     (prefix-less y (prefixes_with target today less y) (prefixes_with target today more y) fewer q.1) in
-    let rest : slip_behind target today (prefixes_with target today less y) xs ≡ None =
+    let rest : counted_slip target today (prefixes_with target today less y) xs ≡ None =
     slips-none target today (prefixes_with target today less y) (prefixes_with target today more y) xs ys fewer left.1 p.1 in
-    subst (λ z. slip_behind target today less (z ∷ xs) ≡ None) (sym left.0)
-    (both-none (term_slip target today less y) (slip_behind target today (prefixes_with target today less y) xs) here rest)
+    subst (λ z. counted_slip target today less (z ∷ xs) ≡ None) (sym left.0)
+    (both-none (counted_term target today less y) (counted_slip target today (prefixes_with target today less y) xs) here rest)
 slips-none target today less more (x ∷ xs) (y ∷ ys) h (inr left) none =
-    let p = first-none (term_slip target today more y) (slip_behind target today (prefixes_with target today more y) ys) none in
+    let p = first-none (counted_term target today more y) (counted_slip target today (prefixes_with target today more y) ys) none in
     slips-none target today less (prefixes_with target today more y) (x ∷ xs) ys (omega (arith, h)) left p.1
 
 -- ---- of which families there are rules
@@ -180,12 +182,12 @@ no-check f e = ap (option_map (limit_slip f)) e
 
 target-none : (targets : List Target) (today : Day) (written kept : List RawTerm) (terms : List Term) (target : Target) → Contains targets target
     → request_slip today (request_of written terms target) ≡ None → request_slip today (request_of kept (unshaded targets today terms) target) ≡ None
-unfolding first_slip
 target-none targets today written kept terms target there none =
     let left = unshaded targets today terms in
     let p = first-none (first_slip target today terms) (check_slip (filter_of target today terms)) none in
     both-none (first_slip target today left) (check_slip (filter_of target today left))
-    (slips-none target today 0 0 left terms (omega arith) (unshaded-left (λ t. t) targets today [] terms) p.0)
+    (first_slip_is_counted target today left
+    ∙ slips-none target today 0 0 left terms (omega arith) (unshaded-left (λ t. t) targets today [] terms) (sym (first_slip_is_counted target today terms) ∙ p.0))
     (no-check (filter_of target today left) (filter-none targets today terms target there (no-limit (filter_of target today terms) p.1)))
 
 -- What holds of each target that stands in a list holds of all of them.

@@ -9,7 +9,7 @@ use Rattle.std.proofs.lemmas.List.Sums.{sum_by-cons}
 use Rattle.acl_rows.specs.PortRanges.{IsPortRange}
 use Rattle.acl_sets.specs.declared.sets.Range.{Range}
 use Rattle.acl_sets.specs.ComputableSets.{is_all}
-use Rattle.acl_sets.specs.Groups.{group_length, weight, weight_of}
+use Rattle.acl_sets.specs.Groups.{IsGroupEnd, group_length, weight, weight_of}
 use Rattle.acl_sets.specs.Ranges.{holds, inside, Numbers}
 use Rattle.acl_sets.proofs.ComputableSetLaws.{covers-holds}
 use Rattle.acl_sets.proofs.GroupLaws.{group_end-of}
@@ -39,7 +39,7 @@ pub behind-is : (r : Range) (rs : List Range)
     → behind_group (r ∷ rs) ≡ drop (group_length (15 - weight_of r) rs) rs
 behind-is r rs = ap (λ k. drop k (r ∷ rs)) (one-at-least r rs)
 
-behind-shorter : (r : Range) (rs : List Range) (n : ℕ) → length (r ∷ rs) ≤ suc n → length (behind_group (r ∷ rs)) ≤ n
+pub behind-shorter : (r : Range) (rs : List Range) (n : ℕ) → length (r ∷ rs) ≤ suc n → length (behind_group (r ∷ rs)) ≤ n
 behind-shorter r rs n h =
     let size = ap length (behind-is r rs) in
     let less = length-drop (group_length (15 - weight_of r) rs) rs in
@@ -120,14 +120,19 @@ all-left P zero xs h = h
 all-left P (suc n) [] h = tt
 all-left P (suc n) (x ∷ xs) h = all-left P n xs h.1
 
-first-light : (rs : List Range) → weight (first_group rs) ≤ 15
-first-light rs =
+pub first-end : (rs : List Range) → IsGroupEnd rs 0 15 (group_length 15 rs)
+first-end rs =
     let k = group_length 15 rs in
     let size : length rs - 0 ≡ length rs = omega arith in
     let whole : take (length rs - 0) rs ≡ rs = ap (λ n. take n rs) size ∙ take-length rs in
-    let end = group_end-of rs rs 0 15 k refl (omega arith) (ap (group_length 15) (sym whole)) in
-    let same : 0 + k - 0 ≡ k = omega arith in
-    subst (λ n. weight (take n rs) ≤ 15) same end.fits
+    let same : 0 + k ≡ k = omega arith in
+    subst (IsGroupEnd rs 0 15) same (group_end-of rs rs 0 15 k refl (omega arith) (ap (group_length 15) (sym whole)))
+
+first-light : (rs : List Range) → weight (first_group rs) ≤ 15
+first-light rs =
+    let k = group_length 15 rs in
+    let same : k - 0 ≡ k = omega arith in
+    subst (λ n. weight (take n rs) ≤ 15) same (first-end rs).fits
 
 abbrev IsPort : Range → Type 0
 IsPort r = IsPortRange (ends_of r)

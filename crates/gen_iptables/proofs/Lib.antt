@@ -1,6 +1,7 @@
 pub mod AppendRows
 pub mod DecisionLaws
 pub mod EntryCounts
+pub mod GroupEnds
 pub mod GroupLaws
 pub mod GroupSteps
 pub mod NameLaws

@@ -1,4 +1,5 @@
 ghost use Rattle.gen_iptables.specs.EntryRows.{CountIsOfAppends};
+ghost use Rattle.gen_iptables.specs.Groups.{OneListOfGroups};
 ghost use Rattle.gen_iptables.specs.SectionNames.{FirstLine, SectionsDiffer};
 
 /// A law: a section's first line is `## ` and the text of its target.
@@ -15,4 +16,10 @@ pub fn targets_without_clash_have_different_sections()
 #[tactic(auto, using(crate::proofs::AppendRows::count_is_of_appends))]
 pub fn entries_are_rows_that_append()
     ensures { CountIsOfAppends }
+{}
+
+/// A law: the ports of a rule have one list of groups, each as long as one match takes.
+#[tactic(auto, using(crate::proofs::GroupEnds::one_list_of_groups))]
+pub fn ports_have_one_list_of_groups()
+    ensures { OneListOfGroups }
 {}

@@ -20,7 +20,9 @@ use Rattle.acl_terms.specs.Resolved.{is_empty_in, is_term_live}
 use Rattle.acl_platform.specs.declared.rules.Rule.{Rule}
 use Rattle.acl_platform.specs.declared.rules.Test.TheVariants.{Plain}
 use Rattle.acl_expand.specs.TermRules.{family_rules, just, pair_rules, rules_of, term_rules, verdict_on}
-use Rattle.acl_expand.specs.ExpansionSlips.{first_slip, header_slip, prefix_slip, prefixes_of, prefixes_with, slip_behind}
+use Rattle.acl_expand.specs.ExpansionSlips.{first_slip, header_slip, prefix_slip, prefixes_of}
+use Rattle.acl_expand.specs.SlipSteps.{counted_slip, prefixes_with}
+use Rattle.acl_expand.proofs.SlipLaws.{first_slip_is_counted}
 use Rattle.policy_grammar.specs.TargetTexts.{LineText, line_meant}
 use Rattle.policy_grammar.specs.TargetTexts.{Choice}
 use Rattle.acl_packet.specs.declared.addresses.Families.TheVariants.{Inet, Mixed}
@@ -167,23 +169,23 @@ all_rules target rules_at h today a (suc n) room =
 is_few : (n m : ℕ) → n ≤ m → nat_le n m ≡ true
 is_few n m h = grind (arith, nat_tests)
 
-no_slip_behind : (target : Target) (rules_at : ℕ → List Rule) → Expands target rules_at → (today : Day) (a n before : ℕ) (room : a + n ≤ 1024)
-    → before ≤ 4 * a → slip_behind target today before (terms_from a n room) ≡ None
+no_counted_slip : (target : Target) (rules_at : ℕ → List Rule) → Expands target rules_at → (today : Day) (a n before : ℕ) (room : a + n ≤ 1024)
+    → before ≤ 4 * a → counted_slip target today before (terms_from a n room) ≡ None
 unfolding terms_from
-no_slip_behind target rules_at h today a zero before room so_far = refl
-no_slip_behind target rules_at h today a (suc n) before room so_far =
+no_counted_slip target rules_at h today a zero before room so_far = refl
+no_counted_slip target rules_at h today a (suc n) before room so_far =
     let below = first_small a n room in
     let t = resolved_term a below in
     let rest = terms_from (a + 1) n (rest_small a n room) in
     let counted : prefixes_of (term_rules target today t) ≡ prefixes_of (rules_at a) = ap prefixes_of (h.rules_are today a below) in
     let sum : prefixes_with target today before t ≤ 4 * (a + 1) = omega (arith, counted, h.few_prefixes a, so_far) in
-    ap (λ o. option_or (option_or o (prefix_slip t (prefixes_with target today before t))) (slip_behind target today (prefixes_with target today before t) rest))
+    ap (λ o. option_or (option_or o (prefix_slip t (prefixes_with target today before t))) (counted_slip target today (prefixes_with target today before t) rest))
     (h.no_header today a below)
-    ∙ ap (λ o. option_or o (slip_behind target today (prefixes_with target today before t) rest))
+    ∙ ap (λ o. option_or o (counted_slip target today (prefixes_with target today before t) rest))
     (cond-true (nat_le (prefixes_with target today before t) 200000) None _ (is_few (prefixes_with target today before t) 200000 (omega (arith, sum, below))))
-    ∙ no_slip_behind target rules_at h today (a + 1) n (prefixes_with target today before t) (rest_small a n room) sum
+    ∙ no_counted_slip target rules_at h today (a + 1) n (prefixes_with target today before t) (rest_small a n room) sum
 
 pub no_first_slip : (target : Target) (rules_at : ℕ → List Rule) → Expands target rules_at → (today : Day) (n : ℕ) (room : 0 + n ≤ 1024)
     → first_slip target today (terms_from 0 n room) ≡ None
-unfolding first_slip
-no_first_slip target rules_at h today n room = no_slip_behind target rules_at h today 0 n 0 room (omega arith)
+no_first_slip target rules_at h today n room =
+    first_slip_is_counted target today (terms_from 0 n room) ∙ no_counted_slip target rules_at h today 0 n 0 room (omega arith)

@@ -1,0 +1,24 @@
+-- The first slip of terms, where the prefixes of the filter are counted term by term.
+use Rattle.std.specs.Prelude.{ℕ, ◌+◌, List, [], ◌∷◌, Option, None}
+use Rattle.std.specs.Option.{option_or}
+use Rattle.acl_text.specs.declared.faults.Slip.{Slip}
+use Rattle.acl_days.specs.declared.days.Day.{Day}
+use Rattle.acl_target.specs.declared.targets.Target.{Target}
+use Rattle.acl_terms.specs.declared.terms.Term.{Term}
+use Rattle.acl_expand.specs.ExpansionSlips.{header_slip, prefix_slip, prefixes_of}
+use Rattle.acl_expand.specs.TermRules.{term_rules}
+
+-- The prefixes of a filter with the rules of the term, behind the ones before it.
+abbrev pub prefixes_with : Target → Day → ℕ → Term → ℕ
+prefixes_with target today before t = before + prefixes_of (term_rules target today t)
+
+abbrev pub counted_term : Target → Day → ℕ → Term → Option Slip
+counted_term target today before t =
+    option_or (header_slip target today t) (prefix_slip t (prefixes_with target today before t))
+
+-- The first slip of terms, where the filter has so many prefixes before them.
+abbrev pub counted_slip : Target → Day → ℕ → List Term → Option Slip
+counted_slip target today before [] = None
+counted_slip target today before (t ∷ ts) =
+    option_or (counted_term target today before t)
+    (counted_slip target today (prefixes_with target today before t) ts)
