@@ -8,7 +8,7 @@ use Rattle.acl_packet.specs.declared.addresses.Families.TheVariants.{Inet, Inet6
 use Rattle.acl_packet.specs.declared.addresses.Family.{Family}
 use Rattle.acl_packet.specs.declared.addresses.Family.TheVariants.{V4, V6}
 use Rattle.acl_packet.specs.declared.packets.Conn.TheVariants as conns
-use Rattle.acl_packet.specs.declared.packet_fields.Field.TheVariants.{IcmpType}
+use Rattle.acl_packet.specs.declared.packet_fields.Field.TheVariants.{IcmpType, IcmpCode}
 use Rattle.acl_packet.specs.declared.packets.Packet.{Packet}
 use Rattle.acl_packet.specs.Addresses.{covers, same_family}
 use Rattle.acl_days.specs.declared.days.Day.{Day}
@@ -55,13 +55,13 @@ itself V4 = refl
 itself V6 = refl
 
 -- Of a packet with SYN and RST, in a connection that is known, no test asks more.
-passed : (test : Test) (f : Family) (src dst proto sport dport itype : ℕ)
-    → passes test (record { family = f; src = src; dst = dst; proto = proto; sport = sport; dport = dport; flags = 6; itype = itype; conn = conns.Established }) ≡ true
-passed tests.Plain f src dst proto sport dport itype = refl
-passed tests.AckOrRst f src dst proto sport dport itype = refl
-passed tests.SynNotAck f src dst proto sport dport itype = refl
-passed tests.Rst f src dst proto sport dport itype = refl
-passed tests.State f src dst proto sport dport itype = refl
+passed : (test : Test) (f : Family) (src dst proto sport dport itype icode : ℕ)
+    → passes test (record { family = f; src = src; dst = dst; proto = proto; sport = sport; dport = dport; flags = 6; itype = itype; icode = icode; conn = conns.Established }) ≡ true
+passed tests.Plain f src dst proto sport dport itype icode = refl
+passed tests.AckOrRst f src dst proto sport dport itype icode = refl
+passed tests.SynNotAck f src dst proto sport dport itype icode = refl
+passed tests.Rst f src dst proto sport dport itype icode = refl
+passed tests.State f src dst proto sport dport itype icode = refl
 
 -- A rule of a term holds some packet.
 rule-packet : (kind : Kind) (families : Families) (f : Family) (t : Term) (pair : SidePair) (c : Conditions) → covers families f ≡ true
@@ -77,12 +77,15 @@ rule-packet kind families f t pair c covered some fits more =
     let dport = held-in 65535 c.dports.ranges fits.dports.normal fits.dports.some in
     let proto = held-in 255 c.protos.ranges fits.protos.full.normal fits.protos.full.some in
     let itype = held-in t.itypes.top t.itypes.ranges (t.sound.normal IcmpType) (t.sound.some IcmpType refl) in
-    let p : Packet = record { family = f; src = src.0; dst = dst.0; proto = proto.0; sport = sport.0; dport = dport.0; flags = 6; itype = itype.0; conn = conns.Established } in
+    let icode = held-in t.icodes.top t.icodes.ranges (t.sound.normal IcmpCode) (t.sound.some IcmpCode refl) in
+    let p : Packet = record { family = f; src = src.0; dst = dst.0; proto = proto.0; sport = sport.0; dport = dport.0; flags = 6; itype = itype.0; icode = icode.0; conn = conns.Established } in
     let src_top = sources-top side f t in
     let sport_top = sports-top pair.ports t in
     let dports : Bool = holds c.dports.ranges dport.0 in
     let icmp : Bool = icmp_match f t p in
-    let tail = and_from dports icmp dport.1 (and_from (holds t.itypes.ranges itype.0) true itype.1 refl) in
+    let codes : Bool = holds t.icodes.ranges icode.0 in
+    let tail = and_from dports icmp dport.1
+    (and_from (holds t.itypes.ranges itype.0) (codes && true) itype.1 (and_from codes true icode.1 refl)) in
     let ports = and_from (holds (sports_on pair.ports t).ranges sport.0) (dports && icmp) sport.1 tail in
     let to = and_from (holds (destinations_on side f t).ranges dst.0) (holds (sports_on pair.ports t).ranges sport.0 && (dports && icmp)) dst.1 ports in
     let from = and_from (holds (sources_on side f t).ranges src.0)
@@ -100,7 +103,7 @@ rule-packet kind families f t pair c covered some fits more =
           (rule-sets kind f t pair c p
           ∙ and_from (same_family f f) (with-sets f t pair p (holds c.protos.ranges proto.0) dports && passes c.test p) (itself f)
           (and_from (with-sets f t pair p (holds c.protos.ranges proto.0) dports) (passes c.test p) sets
-          (passed c.test f src.0 dst.0 proto.0 sport.0 dport.0 itype.0))),
+          (passed c.test f src.0 dst.0 proto.0 sport.0 dport.0 itype.0 icode.0))),
     )
 
 -- ---- all rules of a term

@@ -7,7 +7,7 @@ use Rattle.acl_packet.specs.declared.addresses.Families.{Families}
 use Rattle.acl_packet.specs.declared.addresses.Family.{Family}
 use Rattle.acl_packet.specs.declared.addresses.Family.TheVariants.{V4, V6}
 use Rattle.acl_packet.specs.declared.packet_fields.Field.{Field}
-use Rattle.acl_packet.specs.declared.packet_fields.Field.TheVariants.{Protocol, IcmpType}
+use Rattle.acl_packet.specs.declared.packet_fields.Field.TheVariants.{Protocol, IcmpType, IcmpCode}
 use Rattle.acl_packet.specs.declared.filtering.Verdict.{Verdict}
 use Rattle.acl_packet.specs.declared.filtering.Verdict.TheVariants.{Accept, Deny, Reject, Reset, Left}
 use Rattle.acl_packet.specs.Addresses.{covers, top_address}
@@ -285,12 +285,14 @@ rule-sound kind families f t pair c covered some header fits =
       destinations = full-list f (destinations_on side f t) (destinations-top side f t) (destinations-normal side f t) has.destinations;
       numbers = by-field (λ field. IsFull (top_of field) (set_of field (rule_of kind f t pair c))) p.full
           (full 65535 (sports_on pair.ports t) (sports-top pair.ports t) (sports-normal pair.ports t) (some-ranges (sports_on pair.ports t) has.sports))
-          fits.dports (own-full t IcmpType refl);
+          fits.dports (own-full t IcmpType refl) (own-full t IcmpCode refl);
       numbers_fit = by-field (λ field. is_all (set_of field (rule_of kind f t pair c)) ≡ false → Only (has_field f field) c.protos)
           (λ _ _ _. refl) (λ e. fewer f t c.protos has_ports p (sports-fit pair.ports t e)) fits.dports_fit
-          (λ e x h. icmp-family f t x (s.fit IcmpType e) (term-holds f t c.protos p x h) (p.held x h));
+          (λ e x h. icmp-family f t x (s.fit IcmpType e) (term-holds f t c.protos p x h) (p.held x h))
+          (λ e x h. icmp-family f t x (s.fit IcmpCode e) (term-holds f t c.protos p x h) (p.held x h));
       protocols_named = λ e x h. names-protocol f t x header (p.named e) (p.held x h);
       types_named = s.itypes_lack_255;
+      codes_named = s.one_itype;
       flags_fit = fits.flags;
       reset_fits = λ e. fewer f t c.protos is_tcp p (s.reset_fits (resets kind t.verdict e));
       test_known = fits.known;

@@ -86,6 +86,7 @@ rule_of kind f t pair c = record {
   sports = sports_on pair.ports t;
   dports = c.dports;
   itypes = t.itypes;
+  icodes = t.icodes;
   test = c.test;
   verdict = verdict_on kind t.verdict;
   log = t.log;

@@ -160,6 +160,7 @@ impl<'a> PairTerm<'a> {
             sports: sports_on(alloc, self.pair.ports, term)?,
             dports: conditions.dports,
             itypes: term.itypes.share()?,
+            icodes: term.icodes.share()?,
             test: conditions.test,
             verdict: verdict_on(self.kind, term.verdict),
             log: term.log,

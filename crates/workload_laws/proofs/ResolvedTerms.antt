@@ -8,7 +8,7 @@ use Rattle.acl_packet.specs.declared.addresses.Family.{Family}
 use Rattle.acl_packet.specs.declared.addresses.Family.TheVariants.{V4, V6}
 use Rattle.acl_packet.specs.declared.filtering.Verdict.TheVariants.{Accept}
 use Rattle.acl_packet.specs.declared.packet_fields.Field.{Field}
-use Rattle.acl_packet.specs.declared.packet_fields.Field.TheVariants.{Protocol, SourcePort, DestinationPort, IcmpType}
+use Rattle.acl_packet.specs.declared.packet_fields.Field.TheVariants.{Protocol, SourcePort, DestinationPort, IcmpType, IcmpCode}
 use Rattle.acl_packet.specs.Addresses.{top_address}
 use Rattle.acl_packet.specs.NumberWords.{protocol_in, row_or_number}
 use Rattle.acl_packet.specs.Packets.{has_ports, top_of}
@@ -82,7 +82,8 @@ sets_by networks services = record {
   dst6 = all_to (top_address V6);
   addr4 = all_to (top_address V4);
   addr6 = all_to (top_address V6);
-  numbers = by_field protocols (all_to top_port) (record { top = top_port; ranges = ports_in services }) (all_to 255);
+  numbers = by_field protocols (all_to top_port) (record { top = top_port; ranges = ports_in services }) (all_to 255)
+      (all_to 255);
   ports = all_to top_port;
 }
 
@@ -135,17 +136,19 @@ is_sound i below = let numbers : Field → Numbers = (term_sets i).numbers in re
   addr6_top = refl;
   addr6_normal = (omega arith, omega arith, omega arith, tt);
   addr6_named = λ h. refl;
-  tops = by-field (λ field. (numbers field).top ≡ top_of field) refl refl refl refl;
+  tops = by-field (λ field. (numbers field).top ≡ top_of field) refl refl refl refl refl;
   normal = by-field (λ field. IsNormal 0 (numbers field).top (numbers field).ranges)
       (omega arith, omega arith, omega arith, (omega arith, omega arith, omega arith, tt))
       (omega arith, omega arith, omega arith, tt) (omega arith, omega arith, omega (arith, below), tt)
-      (omega arith, omega arith, omega arith, tt);
+      (omega arith, omega arith, omega arith, tt) (omega arith, omega arith, omega arith, tt);
   some = by-field (λ field. is_protocol field ≡ false → (numbers field).ranges ≡ [] → ⊥) (λ h. absurd (false≢true (sym h)))
-      (λ _ e. cc) (λ _ e. cc) (λ _ e. cc);
+      (λ _ e. cc) (λ _ e. cc) (λ _ e. cc) (λ _ e. cc);
   fit = by-field (λ field. is_all (numbers field) ≡ false → HaveField field protocols) (λ _ _ _ _. refl)
-      (λ h. absurd (false≢true (sym h))) (λ _ _. tcp_or_udp has_ports refl refl) (λ h. absurd (false≢true (sym h)));
+      (λ h. absurd (false≢true (sym h))) (λ _ _. tcp_or_udp has_ports refl refl) (λ h. absurd (false≢true (sym h)))
+      (λ h. absurd (false≢true (sym h)));
   protos_lack_0 = λ h. refl;
   itypes_lack_255 = λ h. absurd (false≢true (sym h));
+  one_itype = λ h. absurd (false≢true (sym h));
   dports_named = λ h. absurd (false≢true (sym h));
   ports_top = refl;
   ports_normal = (omega arith, omega arith, omega arith, tt);
@@ -177,6 +180,7 @@ resolved_term i below = record {
   ports = (term_sets i).ports;
   port_named = false;
   itypes = (term_sets i).numbers IcmpType;
+  icodes = (term_sets i).numbers IcmpCode;
   option = Plain;
   verdict = Accept;
   log = false;

@@ -84,6 +84,7 @@ rule_at kind i f src dst = record {
   sports = all_to top_port;
   dports = record { top = top_port; ranges = ports i };
   itypes = all_to 255;
+  icodes = all_to 255;
   test = Plain;
   verdict = verdict_on kind Accept;
   log = false;

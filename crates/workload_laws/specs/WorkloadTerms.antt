@@ -36,6 +36,7 @@ term_sets i = record {
   dst6 = all_to (top_address V6);
   addr4 = all_to (top_address V4);
   addr6 = all_to (top_address V6);
-  numbers = by_field protocols (all_to top_port) (record { top = top_port; ranges = ports i }) (all_to 255);
+  numbers = by_field protocols (all_to top_port) (record { top = top_port; ranges = ports i }) (all_to 255)
+      (all_to 255);
   ports = all_to top_port;
 }
