@@ -115,7 +115,7 @@ const WORKLOAD: Case = Case {
     ..CASE
 };
 
-static CASES: [Case; 8] = [
+static CASES: [Case; 10] = [
     Case {
         policy: TWO_BLOCKS,
         file: Some(SECTIONS),
