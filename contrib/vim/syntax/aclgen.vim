@@ -20,7 +20,7 @@ syntax keyword aclgenTermWord term contained
 
 " What stands behind `::` is a word of its own: address::NAME.
 syntax match aclgenUnknown /[^[:space:]{}"#:]\+::/
-syntax match aclgenKeyword /\<\%(comment\|owner\|action\|expiration\|logging\|protocol\|option\|icmp-type\)::/
+syntax match aclgenKeyword /\<\%(comment\|owner\|action\|expiration\|logging\|protocol\|option\|icmp-type\|icmp-code\)::/
 syntax match aclgenKeyword /\<\%(\%(source\|destination\)-\%(address\|exclude\|port\)\|address\|port\)::/
 syntax match aclgenKeyword /\<platform\%(-exclude\)\?::/
 syntax match aclgenKeyword /\<target::/ nextgroup=aclgenPlatform,aclgenBadPlatform skipwhite skipempty

@@ -53,6 +53,7 @@ list_put P t keywords.SourcePort keywords.SourcePort xs h k = h
 list_put P t keywords.DestinationPort keywords.DestinationPort xs h k = h
 list_put P t keywords.Port keywords.Port xs h k = h
 list_put P t keywords.IcmpType keywords.IcmpType xs h k = h
+list_put P t keywords.IcmpCode keywords.IcmpCode xs h k = h
 list_put P t keywords.Opt keywords.Opt xs h k = h
 list_put P t keywords.Platform keywords.Platform xs h k = h
 list_put P t keywords.PlatformExclude keywords.PlatformExclude xs h k = h

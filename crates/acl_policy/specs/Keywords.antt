@@ -34,6 +34,7 @@ entry keywords.SourcePort = repeats (codes "source-port::") takes.Name
 entry keywords.DestinationPort = repeats (codes "destination-port::") takes.Name
 entry keywords.Port = repeats (codes "port::") takes.Name
 entry keywords.IcmpType = repeats (codes "icmp-type::") takes.IcmpType
+entry keywords.IcmpCode = repeats (codes "icmp-code::") takes.IcmpCode
 entry keywords.Opt = repeats (codes "option::") takes.Opt
 entry keywords.Logging = stands_once (codes "logging::") takes.Logging
 entry keywords.Expiration = stands_once (codes "expiration::") takes.Day
@@ -47,7 +48,7 @@ all_keywords =
     ∷ keywords.DestinationAddress ∷ keywords.DestinationExclude
     ∷ keywords.Address
     ∷ keywords.Protocol ∷ keywords.SourcePort ∷ keywords.DestinationPort ∷ keywords.Port
-    ∷ keywords.IcmpType
+    ∷ keywords.IcmpType ∷ keywords.IcmpCode
     ∷ keywords.Opt ∷ keywords.Logging ∷ keywords.Expiration
     ∷ keywords.Platform ∷ keywords.PlatformExclude ∷ []
 

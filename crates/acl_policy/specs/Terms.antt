@@ -34,6 +34,7 @@ empty_term name = record {
   destination_ports = [];
   ports = [];
   icmp_types = [];
+  icmp_codes = [];
   options = [];
   logging = false;
   expires = None;
@@ -79,6 +80,7 @@ list_at t keywords.SourcePort = t.source_ports
 list_at t keywords.DestinationPort = t.destination_ports
 list_at t keywords.Port = t.ports
 list_at t keywords.IcmpType = t.icmp_types
+list_at t keywords.IcmpCode = t.icmp_codes
 list_at t keywords.Opt = t.options
 list_at t keywords.Platform = t.platforms
 list_at t keywords.PlatformExclude = t.not_platforms
@@ -95,6 +97,7 @@ with_list t keywords.SourcePort ws = record t { source_ports = ws }
 with_list t keywords.DestinationPort ws = record t { destination_ports = ws }
 with_list t keywords.Port ws = record t { ports = ws }
 with_list t keywords.IcmpType ws = record t { icmp_types = ws }
+with_list t keywords.IcmpCode ws = record t { icmp_codes = ws }
 with_list t keywords.Opt ws = record t { options = ws }
 with_list t keywords.Platform ws = record t { platforms = ws }
 with_list t keywords.PlatformExclude ws = record t { not_platforms = ws }

@@ -3,6 +3,7 @@ use Rattle.std.specs.Prelude.{◌≡◌, ℕ, Bool, true, false, ◌&&◌, ◌||
 use Rattle.std.specs.List.{All}
 use Rattle.std.specs.Str.{bytes_eq}
 use Rattle.acl_packet.specs.declared.addresses.Family.TheVariants.{V4, V6}
+use Rattle.acl_packet.specs.Decimals.{number_in}
 use Rattle.acl_packet.specs.NumberWords.{protocol_in, icmp_in}
 use Rattle.acl_text.specs.declared.faults.Code.TheVariants.{Missing, Value}
 use Rattle.acl_text.specs.declared.faults.Slip.{Slip}
@@ -33,6 +34,10 @@ is_logging bs =
 abbrev pub is_icmp_type : List ℕ → Bool
 is_icmp_type bs = is_some (icmp_in V4 bs) || is_some (icmp_in V6 bs)
 
+-- A code of ICMP is a number of 8 bits (RFC 792; RFC 4443 section 2.1).
+abbrev pub is_icmp_code : List ℕ → Bool
+is_icmp_code bs = is_some (number_in 255 bs)
+
 abbrev pub is_plain : Form → Bool
 is_plain Plain = true
 is_plain _ = false
@@ -49,6 +54,7 @@ text_fits takes.Name bs = is_name bs
 text_fits takes.Action bs = is_action bs
 text_fits takes.Protocol bs = is_some (protocol_in bs)
 text_fits takes.IcmpType bs = is_icmp_type bs
+text_fits takes.IcmpCode bs = is_icmp_code bs
 text_fits takes.Opt bs = is_option bs
 text_fits takes.Logging bs = is_logging bs
 text_fits takes.Day bs = is_some (day_named bs)

@@ -21,6 +21,7 @@ pub enum Keyword {
     /// `port::`: of either side.
     Port,
     IcmpType,
+    IcmpCode,
     Opt,
     Logging,
     Expiration,
@@ -47,7 +48,7 @@ const AGAIN: bool = false;
 const NAMES: Values = (Takes::Name, AGAIN);
 
 /// The keywords: how each is written, what its values are, and whether it may stand again.
-const TABLE: [(&[u8], Keyword, Values); 18] = [
+const TABLE: [(&[u8], Keyword, Values); 19] = [
     (b"comment::", Keyword::Comment, (Takes::String, AGAIN)),
     (b"owner::", Keyword::Owner, (Takes::Any, ONCE)),
     (b"action::", Keyword::Action, (Takes::Action, ONCE)),
@@ -61,6 +62,7 @@ const TABLE: [(&[u8], Keyword, Values); 18] = [
     (b"destination-port::", Keyword::DestinationPort, NAMES),
     (b"port::", Keyword::Port, NAMES),
     (b"icmp-type::", Keyword::IcmpType, (Takes::IcmpType, AGAIN)),
+    (b"icmp-code::", Keyword::IcmpCode, (Takes::IcmpCode, AGAIN)),
     (b"option::", Keyword::Opt, (Takes::Opt, AGAIN)),
     (b"logging::", Keyword::Logging, (Takes::Logging, ONCE)),
     (b"expiration::", Keyword::Expiration, (Takes::Day, ONCE)),

@@ -21,6 +21,7 @@ pub struct RawTerm {
     /// The words of `port::`: of either side.
     pub ports: WordList,
     pub icmp_types: WordList,
+    pub icmp_codes: WordList,
     pub options: WordList,
     pub logging: bool,
     pub expires: Option<Day>,

@@ -44,6 +44,7 @@ pub(crate) fn draft_of(alloc: Global, name: Word) -> TermDraft
         destination_ports: WordList::new(alloc),
         ports: WordList::new(alloc),
         icmp_types: WordList::new(alloc),
+        icmp_codes: WordList::new(alloc),
         options: WordList::new(alloc),
         logging: false,
         expires: None,

@@ -75,6 +75,7 @@ fn put_values(
         Keyword::DestinationPort => push_all(&mut draft.term.destination_ports, values),
         Keyword::Port => push_all(&mut draft.term.ports, values),
         Keyword::IcmpType => push_all(&mut draft.term.icmp_types, values),
+        Keyword::IcmpCode => push_all(&mut draft.term.icmp_codes, values),
         Keyword::Opt => push_all(&mut draft.term.options, values),
         Keyword::Logging => {
             draft.term.logging = true;

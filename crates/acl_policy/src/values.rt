@@ -6,6 +6,7 @@ ghost use Rattle.acl_policy.specs.Values.{
   is_option,
   is_logging,
   is_icmp_type,
+  is_icmp_code,
   is_plain,
   is_quoted,
   text_fits,
@@ -21,7 +22,7 @@ ghost use Rattle.acl_policy.specs.Values.{
 use crate::clauses::Clause;
 use crate::word_slips::{refusal_at, refusal_for};
 use acl_days::read_day;
-use acl_packet::{Family, icmp_number, protocol_number};
+use acl_packet::{Family, icmp_number, protocol_number, read_u8};
 use acl_text::{Bytes, Code, Memory, Refusal, is_name};
 use acl_words::{Form, Token, Word, WordList};
 use std::alloc::Global;
@@ -37,6 +38,7 @@ pub enum Takes {
     Action,
     Protocol,
     IcmpType,
+    IcmpCode,
     Opt,
     Logging,
     Day,
@@ -79,6 +81,12 @@ fn is_icmp_type(text: &[u8]) -> bool
     icmp_number(Family::V4, text).is_some() || icmp_number(Family::V6, text).is_some()
 }
 
+fn is_icmp_code(text: &[u8]) -> bool
+    ensures { result ≡ is_icmp_code text.now }
+{
+    read_u8(text, u8::MAX).is_some()
+}
+
 fn text_fits(kind: Takes, text: &[u8]) -> bool
     ensures { result ≡ text_fits kind text.now }
 {
@@ -89,6 +97,7 @@ fn text_fits(kind: Takes, text: &[u8]) -> bool
         Takes::Action => is_action(text),
         Takes::Protocol => protocol_number(text).is_some(),
         Takes::IcmpType => is_icmp_type(text),
+        Takes::IcmpCode => is_icmp_code(text),
         Takes::Opt => is_option(text),
         Takes::Logging => is_logging(text),
         Takes::Day => read_day(text).is_some(),

@@ -10,9 +10,9 @@ use Rattle.acl_text.proofs.AnsweredLaws.{either_answered, first_answered}
 use Rattle.acl_words.specs.declared.word_lists.Word.{Word}
 use Rattle.acl_policy.specs.declared.raw_terms.RawTerm.{RawTerm}
 use Rattle.acl_naming.specs.Definitions.{Definition, Naming}
-use Rattle.acl_terms.specs.Matching.{icmp_family, only, protocols_of, type_in}
+use Rattle.acl_terms.specs.Matching.{icmp_family, only, protocols_of, type_in, types_of}
 use Rattle.acl_terms.specs.Options.{option_of, verdict_of}
-use Rattle.acl_terms.specs.Slips.{clash_slip, first_unless, is_defined, network_slip, networks_slip, option_fits, option_slip, port_protocol_slip, port_words, reaches_protocol, reset_slip, same_slip, service_slip, services_slip, slip_of, type_slip, types_slip, unless, verdict_fits}
+use Rattle.acl_terms.specs.Slips.{are_one, clash_slip, codes_slip, first_unless, is_defined, network_slip, networks_slip, option_fits, option_slip, port_protocol_slip, port_words, reaches_protocol, reset_slip, same_slip, service_slip, services_slip, slip_of, type_slip, types_slip, unless, verdict_fits}
 
 unless_answered : (c : Bool) (code : Code) (w : Word) → IsAnswered code → SlipIsAnswered (unless c code w)
 unless_answered true code w h = tt
@@ -33,19 +33,26 @@ clash_answered : (ws : List Word) → SlipIsAnswered (clash_slip ws)
 clash_answered [] = tt
 clash_answered (w ∷ ws) = first_answered (same_slip w) ws (λ v. unless_answered _ codes.OptionClash v tt)
 
--- the questions on words, from the clash of options on
-words_answered : (protos : List ℕ) (t : RawTerm) → SlipIsAnswered (first_some (clash_slip t.options ∷ option_slip protos t.options ∷ reset_slip protos t.action ∷ []))
-words_answered protos t =
+-- the questions on options, and on the action
+options_answered : (protos : List ℕ) (t : RawTerm) → SlipIsAnswered (first_some (clash_slip t.options ∷ option_slip protos t.options ∷ reset_slip protos t.action ∷ []))
+options_answered protos t =
     either_answered (clash_slip t.options) (first_some (option_slip protos t.options ∷ reset_slip protos t.action ∷ [])) (clash_answered t.options)
     (either_answered (option_slip protos t.options) (first_some (reset_slip protos t.action ∷ []))
     (first_unless_answered (option_fits (option_of t.options) protos) codes.OptionProtocol t.options tt)
     (either_answered (reset_slip protos t.action) (first_some []) (unless_answered (verdict_fits (verdict_of t.action.text) protos) codes.ResetProtocol t.action tt) tt))
 
+-- the questions on words, from codes on
+words_answered : (protos : List ℕ) (t : RawTerm) → SlipIsAnswered (first_some (codes_slip protos t ∷ clash_slip t.options ∷ option_slip protos t.options ∷ reset_slip protos t.action ∷ []))
+words_answered protos t =
+    either_answered (codes_slip protos t) (first_some (clash_slip t.options ∷ option_slip protos t.options ∷ reset_slip protos t.action ∷ []))
+    (first_unless_answered (are_one (types_of (icmp_family protos) t.icmp_types)) codes.IcmpCode t.icmp_codes tt)
+    (options_answered protos t)
+
 pub term_answered : (n : Naming) (t : RawTerm) → SlipIsAnswered (slip_of n t)
 unfolding slip_of
 term_answered n t =
     let protos = protocols_of t.protocols in
-    let words = clash_slip t.options ∷ option_slip protos t.options ∷ reset_slip protos t.action ∷ [] in
+    let words = codes_slip protos t ∷ clash_slip t.options ∷ option_slip protos t.options ∷ reset_slip protos t.action ∷ [] in
     either_answered (networks_slip n.networks t) (first_some (port_protocol_slip protos t ∷ services_slip n.services protos t ∷ types_slip protos t ∷ words))
     (first_answered (network_slip n.networks) _ (λ w. unless_answered (is_defined n.networks w.text) codes.UnknownName w tt))
     (either_answered (port_protocol_slip protos t) (first_some (services_slip n.services protos t ∷ types_slip protos t ∷ words))

@@ -25,12 +25,12 @@ use Rattle.acl_naming.specs.Reach.{ReachesPort}
 use Rattle.acl_naming.proofs.ComputedReachLaws.{addresses_computed, ports_computed}
 use Rattle.acl_naming.specs.ComputableReach.{ports_reached}
 use Rattle.acl_terms.specs.ComputableTerms.{ranges_or_all, ranges_of, address_set, named_address_set, number_set, port_set, sets_of, word_addresses, word_numbers, word_ports}
-use Rattle.acl_terms.specs.Matching.{Admits, AnyOf, IsAddress, IsNamedAddress, IsNumber, IsPort, NamesAddress, NamesPort, icmp_family, protocols_of, type_in}
+use Rattle.acl_terms.specs.Matching.{Admits, AnyOf, IsAddress, IsNamedAddress, IsNumber, IsPort, NamesAddress, NamesPort, code_in, icmp_family, protocols_of, type_in}
 use Rattle.acl_terms.specs.Sets.{AreSetsOf, IsSetOf, Sets}
 use Rattle.acl_terms.specs.SetSteps.{single}
 use Rattle.acl_terms.proofs.NumberLaws.{one-number, single-held}
 use Rattle.acl_terms.proofs.SetLaws.{less-set}
-use Rattle.acl_terms.proofs.WordLaws.{protocol-within, type-within}
+use Rattle.acl_terms.proofs.WordLaws.{code-within, protocol-within, type-within}
 
 -- ---- one set for a fact
 
@@ -192,6 +192,7 @@ field-is n t =
     (port-is n qs t.source_ports) (port-is n qs t.destination_ports)
     (number-is (λ w. type_in (icmp_family qs) w.text) t.icmp_types
     (λ w k e. let l = type-within (icmp_family qs) k w.text e in omega arith))
+    (number-is (λ w. code_in w.text) t.icmp_codes (λ w k e. code-within k w.text e))
 
 -- The sets that are computed, where ports are some.
 pub computed-sets : (n : Naming) (t : RawTerm) → (number_set n t SourcePort).ranges ≢ []

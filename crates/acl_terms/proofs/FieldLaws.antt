@@ -1,11 +1,11 @@
 -- The fields of a term: its sets, and a match by its parts.
-use Rattle.std.proofs.Common.{◌≡◌, ◌↔◌, ℕ, Bool, true, false, ◌&&◌, [], refl}
+use Rattle.std.proofs.Common.{◌≡◌, ◌↔◌, ℕ, Bool, true, false, ◌&&◌, [], ◌∷◌, refl}
 use Rattle.std.specs.List.{list_all}
 use Rattle.std.proofs.lemmas.Bool.{and_from, and_parts, both_ways}
 use Rattle.acl_packet.specs.declared.addresses.Family.{Family}
 use Rattle.acl_packet.specs.declared.addresses.Family.TheVariants.{V4, V6}
 use Rattle.acl_packet.specs.declared.packet_fields.Field.{Field}
-use Rattle.acl_packet.specs.declared.packet_fields.Field.TheVariants.{Protocol, SourcePort, DestinationPort, IcmpType}
+use Rattle.acl_packet.specs.declared.packet_fields.Field.TheVariants.{Protocol, SourcePort, DestinationPort, IcmpType, IcmpCode}
 use Rattle.acl_packet.specs.declared.packets.Packet.{Packet}
 use Rattle.acl_packet.specs.Packets.{icmp_fields, number_of, top_of}
 use Rattle.acl_packet.proofs.FieldLaws.{by-field}
@@ -19,15 +19,16 @@ use Rattle.acl_terms.specs.Matching.{IsNumber, IsProtocol, icmp_family, protocol
 use Rattle.acl_terms.specs.Options.{passes}
 use Rattle.acl_terms.specs.Resolved.{addresses_match, has_number, has_protocol, holds_either, matches_in, set_in}
 use Rattle.acl_terms.specs.Sets.{AreSetsOf, IsAddressSet, IsSetOf, by_field}
-use Rattle.acl_terms.specs.SetSteps.{IsPortSet, IsType, sets_by}
+use Rattle.acl_terms.specs.SetSteps.{IsCode, IsPortSet, IsType, sets_by}
 use Rattle.acl_terms.specs.Soundness.{is_protocol}
 
 -- Sets by field are those of the fields, one after the other.
 abbrev pub told : (Field → Numbers) → Field → Numbers
 told numbers = by_field (numbers Protocol) (numbers SourcePort) (numbers DestinationPort) (numbers IcmpType)
+    (numbers IcmpCode)
 
 pub told-same : (numbers : Field → Numbers) → told numbers ≡ numbers
-told-same numbers = λ j field. by-field (λ f. told numbers f ≡ numbers f) refl refl refl refl field j
+told-same numbers = λ j field. by-field (λ f. told numbers f ≡ numbers f) refl refl refl refl refl field j
 
 -- The sets of a term's parts, where each is what its words name.
 pub sets_are : (n : Naming) (raw : RawTerm) (p : TermParts)
@@ -36,12 +37,13 @@ pub sets_are : (n : Naming) (raw : RawTerm) (p : TermParts)
     → IsSetOf (IsProtocol raw.protocols) 255 p.protos
     → IsPortSet n (protocols_of raw.protocols) raw p.ports.sports p.ports.dports p.ports.ports
     → IsSetOf (IsType (icmp_family (protocols_of raw.protocols)) raw.icmp_types) 255 p.itypes
+    → IsSetOf (IsCode raw.icmp_codes) 255 p.icodes
     → AreSetsOf n raw (sets_by p)
-sets_are n raw p four six protos ports itypes = record {
+sets_are n raw p four six protos ports itypes icodes = record {
   ipv4 = four;
   ipv6 = six;
   numbers_are = by-field (λ field. IsSetOf (IsNumber n raw field) (top_of field) ((sets_by p).numbers field)) protos ports.0
-      ports.1 itypes;
+      ports.1 itypes icodes;
   either_ports = ports.2;
   some_from = ports.3;
   some_to = ports.4;
@@ -82,13 +84,14 @@ by-parts f mode t p = parted (addresses_match f t p) (has_protocol f t p.proto) 
 pub protocol-alone : (field : Field) → is_protocol field ≡ true → field ≡ Protocol
 protocol-alone = by-field (λ field. is_protocol field ≡ true → field ≡ Protocol) (λ _. refl)
     (λ e. absurd (both_ways false refl e)) (λ e. absurd (both_ways false refl e)) (λ e. absurd (both_ways false refl e))
+    (λ e. absurd (both_ways false refl e))
 
 -- Of a field that is not the protocol, a term takes the numbers of its set.
 pub others-held : (f : Family) (t : Term) (field : Field) (n : ℕ) → is_protocol field ≡ false
     → has_number f t field n ≡ holds (set_in field t).ranges n
 others-held f t field n = by-field
     (λ g. is_protocol g ≡ false → has_number f t g n ≡ holds (set_in g t).ranges n)
-    (λ e. absurd (both_ways true e refl)) (λ _. refl) (λ _. refl) (λ _. refl) field
+    (λ e. absurd (both_ways true e refl)) (λ _. refl) (λ _. refl) (λ _. refl) (λ _. refl) field
 
 -- Tests of the ports and of the fields of ICMP are those of all fields but the protocol.
 pub others-pass : (test : Field → Bool) → (((test DestinationPort && test SourcePort) && list_all test icmp_fields) ≡ true)
@@ -96,10 +99,12 @@ pub others-pass : (test : Field → Bool) → (((test DestinationPort && test So
 others-pass test = (
   λ h. let a = and_parts (test DestinationPort && test SourcePort) (list_all test icmp_fields) h in
       let b = and_parts (test DestinationPort) (test SourcePort) a.0 in
-      let c = and_parts (test IcmpType) (list_all test []) a.1 in
+      let c = and_parts (test IcmpType) (list_all test (IcmpCode ∷ [])) a.1 in
+      let d = and_parts (test IcmpCode) (list_all test []) c.1 in
       by-field (λ field. is_protocol field ≡ false → test field ≡ true) (λ e. absurd (both_ways true e refl))
-      (λ _. b.1) (λ _. b.0) (λ _. c.0),
+      (λ _. b.1) (λ _. b.0) (λ _. c.0) (λ _. d.0),
   λ k. and_from (test DestinationPort && test SourcePort) (list_all test icmp_fields)
       (and_from (test DestinationPort) (test SourcePort) (k DestinationPort refl) (k SourcePort refl))
-      (and_from (test IcmpType) (list_all test []) (k IcmpType refl) refl),
+      (and_from (test IcmpType) (list_all test (IcmpCode ∷ [])) (k IcmpType refl)
+      (and_from (test IcmpCode) (list_all test []) (k IcmpCode refl) refl)),
 )

@@ -4,7 +4,7 @@ use Rattle.std.proofs.lemmas.Bool.{and_from, and_parts, or_cases, or_left, or_ri
 use Rattle.acl_packet.specs.declared.addresses.Family.{Family}
 use Rattle.acl_packet.specs.declared.addresses.Family.TheVariants.{V4, V6}
 use Rattle.acl_packet.specs.declared.packet_fields.Field.{Field}
-use Rattle.acl_packet.specs.declared.packet_fields.Field.TheVariants.{Protocol, SourcePort, DestinationPort, IcmpType}
+use Rattle.acl_packet.specs.declared.packet_fields.Field.TheVariants.{Protocol, SourcePort, DestinationPort, IcmpType, IcmpCode}
 use Rattle.acl_packet.specs.declared.packets.Packet.{Packet}
 use Rattle.acl_packet.specs.Addresses.{width_of}
 use Rattle.acl_packet.specs.NumberWords.{protocol_in}
@@ -109,6 +109,7 @@ number-is n raw t f p fits are = by-field
     ((are.numbers_are SourcePort).exact p.sport (fits.numbers SourcePort))
     ((are.numbers_are DestinationPort).exact p.dport (fits.numbers DestinationPort))
     ((are.numbers_are IcmpType).exact p.itype (fits.numbers IcmpType))
+    ((are.numbers_are IcmpCode).exact p.icode (fits.numbers IcmpCode))
 
 option-is : (n : Naming) (raw : RawTerm) (t : Term) (mode : Mode) (p : Packet) → IsResolved n raw t
     → passes t.option mode t.dport_named p ≡ passes (option_of raw.options) mode (is_written raw.destination_ports) p

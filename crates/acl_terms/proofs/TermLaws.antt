@@ -5,7 +5,7 @@ use Rattle.std.specs.List.{list_all}
 use Rattle.std.proofs.lemmas.Bool.{and_parts}
 use Rattle.acl_packet.specs.declared.filtering.Verdict.{Verdict}
 use Rattle.acl_packet.specs.declared.packet_fields.Field.{Field}
-use Rattle.acl_packet.specs.declared.packet_fields.Field.TheVariants.{Protocol, SourcePort, DestinationPort, IcmpType}
+use Rattle.acl_packet.specs.declared.packet_fields.Field.TheVariants.{Protocol, SourcePort, DestinationPort, IcmpType, IcmpCode}
 use Rattle.acl_packet.specs.Packets.{has_ports}
 use Rattle.acl_text.specs.declared.faults.Code.TheVariants as codes
 use Rattle.acl_text.specs.declared.faults.Place.{Place}
@@ -32,7 +32,7 @@ use Rattle.acl_terms.specs.Options.{option_of, verdict_of}
 use Rattle.acl_terms.specs.Resolved.{IsResolved, sets_in}
 use Rattle.acl_terms.specs.Sets.{AreSetsOf, Sets}
 use Rattle.acl_terms.specs.Slips.{is_defined, port_words, reaches_protocol, service_slip, slip_of, unless}
-use Rattle.acl_terms.specs.Soundness.{IsSoundTerm, normal-prop}
+use Rattle.acl_terms.specs.Soundness.{IsSoundTerm, normal-prop, one-number-prop}
 use Rattle.acl_terms.proofs.ComputedLaws.{computed-sets, one-of-sets, port-is}
 use Rattle.acl_terms.proofs.PortLaws.{protocol-tested}
 use Rattle.acl_terms.proofs.SetLaws.{holds-some}
@@ -100,6 +100,7 @@ term-of f sound = record {
   ports = f.sets.ports;
   port_named = f.port_named;
   itypes = f.sets.numbers IcmpType;
+  icodes = f.sets.numbers IcmpCode;
   option = f.option;
   verdict = f.verdict;
   log = f.log;
@@ -113,7 +114,7 @@ one-proof : (f : Fields) (p q : AreSound f) → p ≡ q
 unfolding AreSound
 one-proof f p q =
     let prop : IsProp (IsSoundTerm f.name f.note f.sets.src4 f.sets.src6 f.sets.dst4 f.sets.dst6 f.sets.addr4 f.sets.addr6
-    f.addr_named (told f.sets.numbers) f.dport_named f.sets.ports f.port_named f.option f.verdict) = hlevel (props, normal-prop) in prop p q
+    f.addr_named (told f.sets.numbers) f.dport_named f.sets.ports f.port_named f.option f.verdict) = hlevel (props, normal-prop, one-number-prop) in prop p q
 
 same-term : (f g : Fields) → f ≡ g → (p : AreSound f) (q : AreSound g) → term-of f p ≡ term-of g q
 same-term f g e p =
@@ -214,6 +215,7 @@ term-with raw s sound = record {
   ports = s.ports;
   port_named = is_written raw.ports;
   itypes = s.numbers IcmpType;
+  icodes = s.numbers IcmpCode;
   option = option_of raw.options;
   verdict = verdict_of raw.action.text;
   log = raw.logging;

@@ -10,10 +10,11 @@ use Rattle.acl_packet.specs.declared.addresses.Family.{Family}
 use Rattle.acl_packet.specs.declared.addresses.Family.TheVariants.{V4, V6}
 use Rattle.acl_packet.specs.NumberWords.{NumberWord, row_of, row_or_number, protocols, types_of, protocol_in, icmp_in}
 use Rattle.acl_packet.proofs.ChoiceLaws.{chosen}
+use Rattle.acl_packet.proofs.DecimalLaws.{number-is}
 use Rattle.acl_packet.proofs.NumberWordLaws.{word-some}
 use Rattle.acl_text.specs.declared.faults.Code.{Code}
 use Rattle.acl_words.specs.declared.word_lists.Word.{Word}
-use Rattle.acl_terms.specs.Matching.{AnyOf, only, type_in}
+use Rattle.acl_terms.specs.Matching.{AnyOf, code_in, only, type_in}
 use Rattle.acl_terms.specs.Slips.{unless, first_unless}
 
 -- ---- the numbers of words
@@ -50,6 +51,9 @@ icmp-within V6 n word e = (within (types_of V6) 0 254 n word (omega arith) refl 
 pub type-within : (f : Option Family) (n : ℕ) (word : List ℕ) → type_in f word ≡ Some n → n ≤ 254
 type-within None n word e = absurd (none-some n e)
 type-within (Some f) n word e = icmp-within f n word e
+
+pub code-within : (n : ℕ) (word : List ℕ) → code_in word ≡ Some n → n ≤ 255
+code-within n word e = (number-is 255 n word e).1
 
 -- ---- answers that are none
 

@@ -4,7 +4,7 @@ use Rattle.std.specs.Prelude.{◌≡◌, ℕ, List, [], ◌∷◌, None, map, fl
 use Rattle.acl_packet.specs.declared.addresses.Family.{Family}
 use Rattle.acl_packet.specs.declared.addresses.Family.TheVariants.{V4, V6}
 use Rattle.acl_packet.specs.declared.packet_fields.Field.{Field}
-use Rattle.acl_packet.specs.declared.packet_fields.Field.TheVariants.{Protocol, SourcePort, DestinationPort, IcmpType}
+use Rattle.acl_packet.specs.declared.packet_fields.Field.TheVariants.{Protocol, SourcePort, DestinationPort, IcmpType, IcmpCode}
 use Rattle.acl_packet.specs.Addresses.{top_address}
 use Rattle.acl_packet.specs.NumberWords.{protocol_in}
 use Rattle.acl_packet.specs.Packets.{top_of}
@@ -19,7 +19,7 @@ use Rattle.acl_naming.specs.Definitions.{Naming}
 use Rattle.acl_naming.specs.PortLaws.{PortsAreSome}
 use Rattle.acl_naming.specs.Ports.{top_port}
 use Rattle.acl_terms.specs.declared.terms.Term.{Term}
-use Rattle.acl_terms.specs.Matching.{icmp_family, protocols_of, type_in, words_of}
+use Rattle.acl_terms.specs.Matching.{code_in, icmp_family, protocols_of, type_in, words_of}
 use Rattle.acl_terms.specs.Resolved.{IsResolved}
 use Rattle.acl_terms.specs.Sets.{Sets}
 use Rattle.acl_terms.specs.SetSteps.{single}
@@ -67,6 +67,7 @@ field_numbers n t Protocol w = word_numbers (λ v. protocol_in v.text) w
 field_numbers n t SourcePort w = word_ports n (protocols_of t.protocols) w
 field_numbers n t DestinationPort w = word_ports n (protocols_of t.protocols) w
 field_numbers n t IcmpType w = word_numbers (λ v. type_in (icmp_family (protocols_of t.protocols)) v.text) w
+field_numbers n t IcmpCode w = word_numbers (λ v. code_in v.text) w
 
 abbrev pub number_set : Naming → RawTerm → Field → Numbers
 number_set n t field = record {

@@ -2,11 +2,12 @@
 -- made.
 use Rattle.std.specs.Prelude.{◌≡◌, ℕ, Bool, true, false, ◌==◌, ◌⊎◌, if◌then◌else◌, List, [], ◌∷◌, Option, None, Some, flat_map, option_to_list}
 use Rattle.std.specs.List.{list_all}
+use Rattle.acl_packet.specs.Decimals.{number_in}
 use Rattle.acl_packet.specs.Packets.{foreign_of, number_of}
 use Rattle.acl_packet.specs.declared.addresses.Family.{Family}
 use Rattle.acl_packet.specs.declared.addresses.Family.TheVariants.{V4, V6}
 use Rattle.acl_packet.specs.declared.packet_fields.Field.{Field}
-use Rattle.acl_packet.specs.declared.packet_fields.Field.TheVariants.{Protocol, SourcePort, DestinationPort, IcmpType}
+use Rattle.acl_packet.specs.declared.packet_fields.Field.TheVariants.{Protocol, SourcePort, DestinationPort, IcmpType, IcmpCode}
 use Rattle.acl_packet.specs.declared.packets.Packet.{Packet}
 use Rattle.acl_packet.specs.NumberWords.{protocol_in, icmp_in}
 use Rattle.acl_words.specs.declared.word_lists.Word.{Word}
@@ -70,7 +71,7 @@ abbrev pub IsEitherPort : Naming → List ℕ → List Word → ℕ → ℕ → 
 IsEitherPort n protos words x y =
     Admits (λ w. NamesPort n protos x w ⊎ NamesPort n protos y w) words
 
--- ---- ICMP types
+-- ---- ICMP types and codes
 
 -- Some protocol is named, and each that is passes the test.
 abbrev pub only : (ℕ → Bool) → List ℕ → Bool
@@ -92,6 +93,14 @@ abbrev pub type_in : Option Family → List ℕ → Option ℕ
 type_in None text = None
 type_in (Some f) text = icmp_in f text
 
+-- The numbers of these words.
+abbrev pub types_of : Option Family → List Word → List ℕ
+types_of family words = flat_map (λ w. option_to_list (type_in family w.text)) words
+
+-- The number of a word of `icmp-code::`: 0 to 255 (RFC 792, RFC 4443 section 2.1).
+abbrev pub code_in : List ℕ → Option ℕ
+code_in text = number_in 255 text
+
 -- ---- fields
 
 -- The words that name numbers of a field.
@@ -100,6 +109,7 @@ words_of Protocol t = t.protocols
 words_of SourcePort t = t.source_ports
 words_of DestinationPort t = t.destination_ports
 words_of IcmpType t = t.icmp_types
+words_of IcmpCode t = t.icmp_codes
 
 -- A word of the field names the number.
 abbrev pub NamesNumber : Naming → RawTerm → Field → ℕ → Word → Type 0
@@ -107,6 +117,7 @@ NamesNumber n t Protocol x w = protocol_in w.text ≡ Some x
 NamesNumber n t SourcePort x w = NamesPort n (protocols_of t.protocols) x w
 NamesNumber n t DestinationPort x w = NamesPort n (protocols_of t.protocols) x w
 NamesNumber n t IcmpType x w = type_in (icmp_family (protocols_of t.protocols)) w.text ≡ Some x
+NamesNumber n t IcmpCode x w = code_in w.text ≡ Some x
 
 -- One of the field's words does, where any is written.
 abbrev pub IsNumber : Naming → RawTerm → Field → ℕ → Type 0

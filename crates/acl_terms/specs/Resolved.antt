@@ -30,7 +30,7 @@ use Rattle.acl_text.specs.Notes.{note_of}
 
 -- The term's set of a field.
 abbrev pub set_in : Field → Term → Numbers
-set_in field t = by_field t.protos t.sports t.dports t.itypes field
+set_in field t = by_field t.protos t.sports t.dports t.itypes t.icodes field
 
 abbrev pub sets_in : Term → Sets
 sets_in t = record {

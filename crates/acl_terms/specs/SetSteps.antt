@@ -13,17 +13,21 @@ use Rattle.acl_words.specs.declared.word_lists.Word.{Word}
 use Rattle.acl_naming.specs.Definitions.{Definition, Naming}
 use Rattle.acl_naming.specs.Ports.{top_port}
 use Rattle.acl_terms.specs.declared.resolving.TermParts.{TermParts}
-use Rattle.acl_terms.specs.Matching.{Admits, IsPort, type_in}
+use Rattle.acl_terms.specs.Matching.{Admits, IsPort, code_in, type_in}
 use Rattle.acl_terms.specs.Sets.{IsSetOf, Sets, by_field}
 use Rattle.acl_terms.specs.Slips.{first_unless, is_defined, network_slip, reaches_protocol, unless}
-
--- The numbers of the words of `icmp-type::`.
-abbrev pub types_of : Option Family → List Word → List ℕ
-types_of family words = flat_map (λ w. option_to_list (type_in family w.text)) words
 
 -- The type is one of theirs, where any is written.
 abbrev pub IsType : Option Family → List Word → ℕ → Type 0
 IsType family words x = Admits (λ w. type_in family w.text ≡ Some x) words
+
+-- The code is.
+abbrev pub IsCode : List Word → ℕ → Type 0
+IsCode words x = Admits (λ w. code_in w.text ≡ Some x) words
+
+-- The numbers of the words of `icmp-code::`.
+abbrev pub codes_of : List Word → List ℕ
+codes_of words = flat_map (λ w. option_to_list (code_in w.text)) words
 
 -- The ports with the protocols: from which, to which, and those of either. They are some, where some protocol is named
 -- wherever ports are.
@@ -72,6 +76,6 @@ sets_by p = record {
   dst6 = p.ends.dst.v6;
   addr4 = p.ends.either.v4;
   addr6 = p.ends.either.v6;
-  numbers = by_field p.protos p.ports.sports p.ports.dports p.itypes;
+  numbers = by_field p.protos p.ports.sports p.ports.dports p.itypes p.icodes;
   ports = p.ports.ports;
 }

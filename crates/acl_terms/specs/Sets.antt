@@ -3,7 +3,7 @@ use Rattle.std.specs.Prelude.{◌≡◌, ◌≢◌, ◌↔◌, ℕ, ◌≤◌, t
 use Rattle.acl_packet.specs.declared.addresses.Family.{Family}
 use Rattle.acl_packet.specs.declared.addresses.Family.TheVariants.{V4, V6}
 use Rattle.acl_packet.specs.declared.packet_fields.Field.{Field}
-use Rattle.acl_packet.specs.declared.packet_fields.Field.TheVariants.{Protocol, SourcePort, DestinationPort, IcmpType}
+use Rattle.acl_packet.specs.declared.packet_fields.Field.TheVariants.{Protocol, SourcePort, DestinationPort, IcmpType, IcmpCode}
 use Rattle.acl_packet.specs.Addresses.{top_address}
 use Rattle.acl_packet.specs.Packets.{top_of}
 use Rattle.acl_sets.specs.Ranges.{Numbers, IsNormal, holds}
@@ -26,11 +26,12 @@ IsAddressSet n f t src dst either =
     × IsSetOf (IsNamedAddress n f t.addresses) (top_address f) either
 
 -- The sets of the fields, one after the other.
-abbrev pub by_field : Numbers → Numbers → Numbers → Numbers → Field → Numbers
-by_field protos sports dports itypes Protocol = protos
-by_field protos sports dports itypes SourcePort = sports
-by_field protos sports dports itypes DestinationPort = dports
-by_field protos sports dports itypes IcmpType = itypes
+abbrev pub by_field : Numbers → Numbers → Numbers → Numbers → Numbers → Field → Numbers
+by_field protos sports dports itypes icodes Protocol = protos
+by_field protos sports dports itypes icodes SourcePort = sports
+by_field protos sports dports itypes icodes DestinationPort = dports
+by_field protos sports dports itypes icodes IcmpType = itypes
+by_field protos sports dports itypes icodes IcmpCode = icodes
 
 -- The sets of a term: addresses by family, the numbers of each field, and the ports of either side.
 pub record Sets : Type 0 where

@@ -17,7 +17,7 @@ use Rattle.acl_naming.specs.Definitions.{Definition, Naming, index_of}
 use Rattle.acl_naming.specs.Reach.{is_service_of}
 use Rattle.acl_terms.specs.declared.options.Opt.{Opt}
 use Rattle.acl_terms.specs.declared.options.Opt.TheVariants.{Plain, Established}
-use Rattle.acl_terms.specs.Matching.{protocols_of, only, is_number, icmp_family, type_in}
+use Rattle.acl_terms.specs.Matching.{protocols_of, only, is_number, icmp_family, type_in, types_of}
 use Rattle.acl_terms.specs.Options.{option_of, verdict_of}
 use Rattle.acl_naming.specs.ComputableReach.{items_reached}
 
@@ -80,6 +80,15 @@ type_slip family w = unless (is_some (type_in family w.text)) codes.IcmpProtocol
 abbrev pub types_slip : List ℕ → RawTerm → Option Slip
 types_slip protos t = first_in (type_slip (icmp_family protos)) t.icmp_types
 
+-- Are codes named, though the numbers of the types are not exactly one? The slip is at the first of them.
+abbrev pub are_one : List ℕ → Bool
+are_one [] = false
+are_one (n ∷ ns) = list_all (is_number n) ns
+
+abbrev pub codes_slip : List ℕ → RawTerm → Option Slip
+codes_slip protos t =
+    first_unless (are_one (types_of (icmp_family protos) t.icmp_types)) codes.IcmpCode t.icmp_codes
+
 -- Which option is the first that is another than the first one?
 abbrev pub same_slip : Word → Word → Option Slip
 same_slip w v = unless (bytes_eq v.text w.text) codes.OptionClash v
@@ -113,8 +122,8 @@ reset_slip protos w = unless (verdict_fits (verdict_of w.text) protos) codes.Res
 
 -- The questions on its words and not on names.
 abbrev pub words_slips : List ℕ → RawTerm → List (Option Slip)
-words_slips protos t = types_slip protos t ∷ clash_slip t.options ∷ option_slip protos t.options
-    ∷ reset_slip protos t.action ∷ []
+words_slips protos t = types_slip protos t ∷ codes_slip protos t ∷ clash_slip t.options
+    ∷ option_slip protos t.options ∷ reset_slip protos t.action ∷ []
 
 -- All questions, in the order in which they are asked.
 abbrev pub questions : Naming → List ℕ → RawTerm → List (Option Slip)

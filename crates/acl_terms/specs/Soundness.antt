@@ -1,15 +1,18 @@
 -- What every resolved term fulfils, whatever it was made from.
 use Rattle.std.specs.Prelude.{◌≡◌, ◌≢◌, ℕ, ◌+◌, Bool, true, false, List, [], ◌∷◌}
+use Rattle.std.specs.Coded.{Coded-set, code_by, coded_list, coded_ℕ, coded×}
 use Rattle.std.proofs.Math.Bridge.{le_prop}
+use Rattle.std.proofs.Math.Path.{Σ_path, ap, refl, sym, to_path_p, ◌∙◌}
 use Rattle.acl_packet.specs.declared.addresses.Family.TheVariants.{V4, V6}
 use Rattle.acl_packet.specs.declared.packet_fields.Field.{Field}
-use Rattle.acl_packet.specs.declared.packet_fields.Field.TheVariants.{Protocol, DestinationPort, IcmpType}
+use Rattle.acl_packet.specs.declared.packet_fields.Field.TheVariants.{Protocol, DestinationPort, IcmpType, IcmpCode}
 use Rattle.acl_packet.specs.declared.filtering.Verdict.{Verdict}
 use Rattle.acl_packet.specs.declared.filtering.Verdict.TheVariants as verdicts
 use Rattle.acl_packet.specs.Addresses.{top_address}
 use Rattle.acl_packet.specs.Packets.{has_field, has_ports, top_of}
 use Rattle.acl_text.specs.Names.{is_name}
 use Rattle.acl_sets.specs.declared.sets.Range.{Range}
+use Rattle.acl_sets.specs.OneNumber.{IsOneNumber}
 use Rattle.acl_sets.specs.Ranges.{IsNormal, Numbers, Only, holds}
 use Rattle.acl_sets.specs.ComputableSets.{is_all}
 use Rattle.acl_naming.specs.Ports.{top_port}
@@ -70,6 +73,7 @@ pub record IsSoundTerm (name note : List ℕ) (src4 src6 dst4 dst6 addr4 addr6 :
   pub fit : (field : Field) → is_all (numbers field) ≡ false → HaveField field (numbers Protocol)
   pub protos_lack_0 : is_all (numbers Protocol) ≡ false → holds (numbers Protocol).ranges 0 ≡ false
   pub itypes_lack_255 : is_all (numbers IcmpType) ≡ false → holds (numbers IcmpType).ranges 255 ≡ false
+  pub one_itype : is_all (numbers IcmpCode) ≡ false → IsOneNumber (numbers IcmpType)
   pub dports_named : dport_named ≡ false → is_all (numbers DestinationPort) ≡ true
   pub ports_top : ports.top ≡ top_port
   pub ports_normal : IsNormal 0 ports.top ports.ranges
@@ -85,3 +89,16 @@ pub record IsSoundTerm (name note : List ℕ) (src4 src6 dst4 dst6 addr4 addr6 :
 pub normal-prop : (floor top : ℕ) (rs : List Range) → IsProp (IsNormal floor top rs)
 normal-prop floor top [] = hlevel []
 normal-prop floor top (r ∷ rs) = hlevel (le_prop, normal-prop (r.high + 2) top rs)
+
+-- So the set has one number in one way.
+ranges-set : IsSet (List Range)
+ranges-set = Coded-set (coded_list (code_by (ℕ × ℕ) (coded× coded_ℕ coded_ℕ) (λ r. (r.low, r.high))
+    (λ p. record { low = p.0; high = p.1 }) (λ _. refl)))
+
+first-low : List Range → ℕ
+first-low [] = 0
+first-low (r ∷ rs) = r.low
+
+pub one-number-prop : (s : Numbers) → IsProp (IsOneNumber s)
+one-number-prop s = λ a b. let same : a.0 ≡ b.0 = ap first-low (sym a.1 ∙ b.1) in
+    Σ_path same (to_path_p (λ i. s.ranges ≡ record { low = same i; high = same i } ∷ []) (ranges-set _ _ _ _))

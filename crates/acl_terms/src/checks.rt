@@ -2,12 +2,13 @@ ghost use Rattle.std.specs.Prelude.{◌≡◌, is_some};
 ghost use Rattle.std.specs.List.{list_all};
 ghost use Rattle.acl_packet.specs.Packets.{has_ports};
 ghost use Rattle.acl_text.specs.Refusals.{IsRefusalBy, Judges, first_in, first_some};
-ghost use Rattle.acl_terms.specs.Matching.{icmp_family, is_number, only, type_in};
+ghost use Rattle.acl_terms.specs.Matching.{icmp_family, is_number, only, type_in, types_of};
 ghost use Rattle.acl_terms.specs.Options.{option_of, opt_named, verdict_of};
 ghost use Rattle.acl_terms.specs.SetSteps.{ports_by_ends_slip};
-ghost use Rattle.acl_terms.specs.Slips.{clash_slip, first_unless, is_tcp_or_udp, option_fits, option_slip, port_protocol_slip, reset_slip, same_slip, slip_at, type_slip, types_slip, unless, verdict_fits, words_slips};
+ghost use Rattle.acl_terms.specs.Slips.{are_one, clash_slip, codes_slip, first_unless, is_tcp_or_udp, option_fits, option_slip, port_protocol_slip, reset_slip, same_slip, slip_at, type_slip, types_slip, unless, verdict_fits, words_slips};
 
 use crate::options::Opt;
+use crate::protocols::types_of;
 use acl_packet::{Family, Verdict, has_ports, icmp_number};
 use acl_policy::{RawTerm, WordList, WordRef, WordsLeft};
 use acl_text::{Code, Refusal};
@@ -118,6 +119,15 @@ fn is_type_in(family: Option<Family>, text: &[u8]) -> bool
     }
 }
 
+fn are_one(numbers: &[u8]) -> bool
+    ensures { result ≡ are_one numbers.now }
+{
+    match numbers {
+        [] => false,
+        [first, rest @ ..] => are_number(rest, *first),
+    }
+}
+
 // ---- words that stand for one thing
 
 fn opt_named(text: &[u8]) -> Opt
@@ -190,6 +200,20 @@ fn check_types(alloc: Global, family: Option<Family>, words: &WordList) -> Resul
     Ok(())
 }
 
+// The types are asked only where a code is written.
+fn check_codes(alloc: Global, family: Option<Family>, raw: &RawTerm) -> Result<(), Refusal>
+    ensures { Judges result (first_unless (are_one (types_of family raw.now.icmp_types))
+        Code.IcmpCode raw.now.icmp_codes) }
+{
+    match raw.icmp_codes.first() {
+        None => Ok(()),
+        Some(first) => {
+            let types = types_of(alloc, family, &raw.icmp_types)?;
+            refuse_unless(alloc, are_one(&types), Code::IcmpCode, &first)
+        }
+    }
+}
+
 fn check_same(alloc: Global, first: &WordRef<'_>, words: WordsLeft<'_>) -> Result<(), Refusal>
     ensures { Judges result (first_in (same_slip first.now) words.entry) }
 {
@@ -253,11 +277,12 @@ pub(crate) fn check_port_protocol(
     check_ports_by_ends(alloc, only_ports(protos), raw)
 }
 
-/// The questions on words that are no names: ICMP types, options, the action.
+/// The questions on words that are no names: ICMP types and codes, options, the action.
 pub(crate) fn check_words(alloc: Global, protos: &[u8], raw: &RawTerm) -> Result<(), Refusal>
     ensures { Judges result (first_some (words_slips protos.now raw.now)) }
 {
     check_types(alloc, icmp_family(protos), &raw.icmp_types)?;
+    check_codes(alloc, icmp_family(protos), raw)?;
     check_clash(alloc, &raw.options)?;
     check_option(alloc, protos, &raw.options)?;
     check_reset(alloc, protos, &raw.action.borrowed())

@@ -85,6 +85,7 @@ pub fn set_in(field: Field, term: &Term) -> &RangeSet
         Field::SourcePort => &term.sports,
         Field::DestinationPort => &term.dports,
         Field::IcmpType => &term.itypes,
+        Field::IcmpCode => &term.icodes,
     }
 }
 

@@ -1,19 +1,19 @@
 ghost use Rattle.std.specs.Prelude.{◌≡◌, ◌++◌, OnOk, IfOk, option_to_list, map};
 ghost use Rattle.acl_sets.specs.Ranges.{IsRange};
 ghost use Rattle.std.specs.List.{All};
-ghost use Rattle.acl_terms.specs.Matching.{AnyOf, IsProtocol, protocols_of, type_in};
+ghost use Rattle.acl_terms.specs.Matching.{AnyOf, IsProtocol, protocols_of, type_in, types_of};
 ghost use Rattle.acl_terms.specs.Sets.{IsSetOf};
-ghost use Rattle.acl_terms.specs.SetSteps.{IsType, single, types_of};
+ghost use Rattle.acl_terms.specs.SetSteps.{IsCode, IsType, codes_of, single};
 
 use crate::checks::type_in;
 use crate::distinct::distinct;
-use acl_packet::{Family, protocol_number};
+use acl_packet::{Family, protocol_number, read_u8};
 use acl_policy::WordList;
 use acl_sets::{Range, RangeSet};
 use acl_text::Memory;
 use std::alloc::Global;
 
-// The greatest number of a protocol, and of a type.
+// The greatest number of a protocol, of a type and of a code.
 const TOP: u128 = 255;
 
 fn push_some(out: &mut Vec<u8>, number: Option<u8>) -> Result<(), Memory>
@@ -36,12 +36,27 @@ pub(crate) fn protocols_of(alloc: Global, words: &WordList) -> Result<Vec<u8>, M
     Ok(out)
 }
 
-fn types_of(alloc: Global, family: Option<Family>, words: &WordList) -> Result<Vec<u8>, Memory>
+/// The numbers of the words of `icmp-type::`.
+pub(crate) fn types_of(
+    alloc: Global,
+    family: Option<Family>,
+    words: &WordList,
+) -> Result<Vec<u8>, Memory>
     ensures { IfOk result (λ v. v.items ≡ types_of family words.now) }
 {
     let mut out = Vec::new(alloc);
     for word in words.iter() {
         push_some(&mut out, type_in(family, word.text()))?;
+    }
+    Ok(out)
+}
+
+fn codes_of(alloc: Global, words: &WordList) -> Result<Vec<u8>, Memory>
+    ensures { IfOk result (λ v. v.items ≡ codes_of words.now) }
+{
+    let mut out = Vec::new(alloc);
+    for word in words.iter() {
+        push_some(&mut out, read_u8(word.text(), u8::MAX))?;
     }
     Ok(out)
 }
@@ -97,6 +112,19 @@ pub(crate) fn admitted_types(
         None => RangeSet::all(alloc, TOP),
         Some(_) => {
             let numbers = types_of(alloc, family, words)?;
+            numbers_in(alloc, &numbers)
+        }
+    }
+}
+
+/// The ICMP codes of a term: all where no word is written.
+pub(crate) fn admitted_codes(alloc: Global, words: &WordList) -> Result<RangeSet, Memory>
+    ensures { IfOk result (λ s. IsSetOf (IsCode words.now) TOP s) }
+{
+    match words.first() {
+        None => RangeSet::all(alloc, TOP),
+        Some(_) => {
+            let numbers = codes_of(alloc, words)?;
             numbers_in(alloc, &numbers)
         }
     }

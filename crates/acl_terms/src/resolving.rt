@@ -12,7 +12,7 @@ use crate::addresses::{Ends, ends_of};
 use crate::checks::{check_port_protocol, check_words, icmp_family, option_of, verdict_of};
 use crate::living::{platforms_of, some_platforms};
 use crate::ports::{TermPorts, ports_of_term};
-use crate::protocols::{admitted_protocols, admitted_types, protocols_of};
+use crate::protocols::{admitted_codes, admitted_protocols, admitted_types, protocols_of};
 use crate::terms::Term;
 use acl_naming::Checked;
 use acl_policy::{RawTerm, WordList};
@@ -27,6 +27,7 @@ struct TermParts {
     protos: RangeSet,
     ports: TermPorts,
     itypes: RangeSet,
+    icodes: RangeSet,
 }
 
 // The sets of the term, or its first slip.
@@ -46,6 +47,7 @@ fn parts_of(alloc: Global, base: &Checked, raw: &RawTerm) -> Result<TermParts, R
         protos: admitted_protocols(alloc, &raw.protocols, &protos)?,
         ports,
         itypes: admitted_types(alloc, family, &raw.icmp_types)?,
+        icodes: admitted_codes(alloc, &raw.icmp_codes)?,
     })
 }
 
@@ -61,8 +63,8 @@ fn is_written(words: &WordList) -> bool
 /// The term with its words read as numbers, or its first slip.
 ///
 /// Slips, in this order: `UnknownName` at a name of addresses, `PortProtocol`, `UnknownName` and
-/// `NoPortForProtocol` at names of ports word by word, `IcmpProtocol`, `OptionClash`, `OptionProtocol`,
-/// `ResetProtocol`.
+/// `NoPortForProtocol` at names of ports word by word, `IcmpProtocol`, `IcmpCode`, `OptionClash`,
+/// `OptionProtocol`, `ResetProtocol`.
 pub fn resolve(alloc: Global, base: &Checked, raw: &RawTerm) -> Result<Term, Refusal>
     requires { IsRawTerm raw.now }
     ensures slip { Judges result (slip_of base.now raw.now) }
@@ -82,6 +84,7 @@ pub fn resolve(alloc: Global, base: &Checked, raw: &RawTerm) -> Result<Term, Ref
             ports,
         },
         itypes,
+        icodes,
     } = parts;
     let name = Bytes::from_slice(alloc, raw.name.text.as_slice())?;
     let note = note(alloc, raw.comments.as_slice())?;
@@ -103,6 +106,7 @@ pub fn resolve(alloc: Global, base: &Checked, raw: &RawTerm) -> Result<Term, Ref
         ports,
         port_named: is_written(&raw.ports),
         itypes,
+        icodes,
         option: option_of(&raw.options),
         verdict: verdict_of(raw.action.text.as_slice()),
         log: raw.logging,

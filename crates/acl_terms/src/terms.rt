@@ -15,14 +15,14 @@ pub struct Platforms {
 
 ghost use Rattle.std.proofs.Props.{props};
 ghost use Rattle.acl_terms.specs.Sets.{by_field};
-ghost use Rattle.acl_terms.specs.Soundness.{IsSoundTerm, normal-prop};
+ghost use Rattle.acl_terms.specs.Soundness.{IsSoundTerm, normal-prop, one-number-prop};
 
 /// A term whose words stand for numbers.
 ///
 /// `src4` to `dst6` are the addresses of a family, less the excluded ones. `addr4` and `addr6` are those of
 /// `address::`, of which a packet has one at least, as its source or its destination; `ports` are those of `port::`
-/// likewise. These, `protos`, `sports`, `dports` and `itypes` are all numbers where none are named. `addr_named`,
-/// `dport_named` and `port_named` say that `address::`, `destination-port::` and `port::` are written. `only` has the
+/// likewise. These, `protos`, `sports`, `dports`, `itypes` and `icodes` are all numbers where none are named.
+/// `addr_named`, `dport_named` and `port_named` say that `address::`, `destination-port::` and `port::` are written. `only` has the
 /// platforms of `platform::`, where it is written, and `never` those of `platform-exclude::`.
 #[derive(Debug, Drop)]
 pub struct Term {
@@ -43,6 +43,7 @@ pub struct Term {
     pub ports: RangeSet,
     pub port_named: bool,
     pub itypes: RangeSet,
+    pub icodes: RangeSet,
     pub option: Opt,
     pub verdict: Verdict,
     pub log: bool,
@@ -50,5 +51,5 @@ pub struct Term {
     pub only: Option<Platforms>,
     pub never: Platforms,
     pub ghost sound: { IsSoundTerm name note src4 src6 dst4 dst6 addr4 addr6 addr_named
-        (by_field protos sports dports itypes) dport_named ports port_named option verdict } by { Prim.hlevel (props, normal-prop) },
+        (by_field protos sports dports itypes icodes) dport_named ports port_named option verdict } by { Prim.hlevel (props, normal-prop, one-number-prop) },
 }

@@ -1,15 +1,14 @@
 -- The codes of the faults that `aclgen` answers.
 --
--- The others are of questions that it does not ask: on ICMP codes, on a filter without a policy, on a text by itself, and
--- on lists that have a number.
+-- The others are of questions that it does not ask: on a filter without a policy, on a text by itself, and on lists that
+-- have a number.
 use Rattle.std.specs.Prelude.{Option, Result, IfSome, IfErr}
 use Rattle.acl_text.specs.declared.faults.Code.{Code}
-use Rattle.acl_text.specs.declared.faults.Code.TheVariants.{IcmpCode, NoPolicy, NoDocument, NoSection, NumberRange}
+use Rattle.acl_text.specs.declared.faults.Code.TheVariants.{NoPolicy, NoDocument, NoSection, NumberRange}
 use Rattle.acl_text.specs.declared.faults.Fault.{Fault}
 use Rattle.acl_text.specs.declared.faults.Slip.{Slip}
 
 abbrev pub IsAnswered : Code → Type 0
-IsAnswered IcmpCode = ⊥
 IsAnswered NoPolicy = ⊥
 IsAnswered NoDocument = ⊥
 IsAnswered NoSection = ⊥

@@ -39,6 +39,7 @@ token_fits takes.Name w h = h
 token_fits takes.Action w h = h
 token_fits takes.Protocol w h = h
 token_fits takes.IcmpType w h = h
+token_fits takes.IcmpCode w h = h
 token_fits takes.Opt w h = h
 token_fits takes.Logging w h = h
 token_fits takes.Day w h = h

@@ -9,7 +9,7 @@ use Rattle.std.proofs.lemmas.Option.{none-some}
 use Rattle.std.proofs.lemmas.Slice.Eq.{bytes_eq-Decides}
 use Rattle.jiff_core.proofs.CalendarLemmas.{days_in_month_bounds}
 use Rattle.acl_packet.specs.declared.addresses.Family.TheVariants.{V4, V6}
-use Rattle.acl_packet.specs.Decimals.{IsNumber}
+use Rattle.acl_packet.specs.Decimals.{IsNumber, number_in}
 use Rattle.acl_packet.specs.NumberWords.{NumberWord, protocols, icmp_types, icmpv6_types, row_of, IsNumberWord, protocol_in, icmp_in}
 use Rattle.acl_packet.proofs.DecimalLaws.{number-is, number-again}
 use Rattle.acl_packet.proofs.NumberWordLaws.{word-some}
@@ -27,7 +27,7 @@ use Rattle.acl_policy.specs.declared.keywords.Keyword.TheVariants as keywords
 use Rattle.acl_policy.specs.declared.values.Takes.{Takes}
 use Rattle.acl_policy.specs.declared.values.Takes.TheVariants as takes
 use Rattle.acl_policy.specs.Keywords.{entry}
-use Rattle.acl_policy.specs.Values.{is_action, is_option, is_logging, is_icmp_type, is_plain, is_value, text_fits, form_fits}
+use Rattle.acl_policy.specs.Values.{is_action, is_option, is_logging, is_icmp_type, is_icmp_code, is_plain, is_value, text_fits, form_fits}
 use Rattle.policy_grammar.specs.PrintedWords.{begins_with_colon, has_colons, is_word_byte, IsPlainText, IsKeywordText, TextIs}
 use Rattle.policy_grammar.proofs.Outcomes.{and_left, and_right, and_both}
 use Rattle.policy_grammar.proofs.TargetLineLaws.{plain_is}
@@ -198,6 +198,13 @@ icmp_plain bs = either_plain bs (is_some (icmp_in V4 bs)) (is_some (icmp_in V6 b
     (some_word_plain icmpv6_types 0 254 bs (icmp_in V6 bs) refl (omega arith)
     (word-some icmpv6_types 0 254 bs (icmp_in V6 bs) (omega arith) refl))
 
+code_plain : (bs : List ℕ) → is_icmp_code bs ≡ true → IsPlainText bs
+code_plain bs = by_number (number_in 255 bs) refl
+  where
+    by_number : (o : Option ℕ) → number_in 255 bs ≡ o → is_some o ≡ true → IsPlainText bs
+    by_number (Some n) e h = number_plain bs n (number-is 255 n bs e).0
+    by_number None e h = cc
+
 -- Days.
 digit_byte : (x : ℕ) → x ≤ 9 → is_clean (48 + x) ≡ true
 digit_byte x h = grind (arith, nat_tests)
@@ -239,6 +246,7 @@ text_plain takes.Name bs e h = name_plain bs h
 text_plain takes.Action bs e h = action_plain bs h
 text_plain takes.Protocol bs e h = protocol_plain bs h
 text_plain takes.IcmpType bs e h = icmp_plain bs h
+text_plain takes.IcmpCode bs e h = code_plain bs h
 text_plain takes.Opt bs e h = option_plain bs h
 text_plain takes.Logging bs e h = logging_plain bs h
 text_plain takes.Day bs e h = day_plain bs h
@@ -250,6 +258,7 @@ only_plain takes.Name f e h = h
 only_plain takes.Action f e h = h
 only_plain takes.Protocol f e h = h
 only_plain takes.IcmpType f e h = h
+only_plain takes.IcmpCode f e h = h
 only_plain takes.Opt f e h = h
 only_plain takes.Logging f e h = h
 only_plain takes.Day f e h = h

@@ -79,6 +79,7 @@ term_from name at = record {
   destination_ports = at keywords.DestinationPort;
   ports = at keywords.Port;
   icmp_types = at keywords.IcmpType;
+  icmp_codes = at keywords.IcmpCode;
   options = at keywords.Opt;
   logging = some_word (at keywords.Logging);
   expires = day_meant (at keywords.Expiration);

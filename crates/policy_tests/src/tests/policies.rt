@@ -37,6 +37,7 @@ fn add_lists(all: &mut String, term: &RawTerm) -> Result<(), Memory> {
         &term.destination_ports,
         &term.ports,
         &term.icmp_types,
+        &term.icmp_codes,
         &term.options,
         &term.platforms,
         &term.not_platforms,
@@ -115,7 +116,7 @@ fn shown(alloc: Global, policy: &[u8]) -> Result<String, Memory> {
 }
 
 // A keyword that stands once is repeated; a word that is none of the table is no keyword.
-static POLICIES: [(&[u8], &str); 43] = [
+static POLICIES: [(&[u8], &str); 48] = [
     // one fault
     (b"", "0:0 Missing header"),
     (
@@ -226,6 +227,26 @@ static POLICIES: [(&[u8], &str); 43] = [
         "0:3 Missing port::",
     ),
     (
+        b"header { target:: cisco e }\nterm t {\n icmp-code:: 0 255\n 256 }",
+        "0:4 Value 256",
+    ),
+    (
+        b"header { target:: cisco e }\nterm t {\n icmp-code:: 04 }",
+        "0:3 Value 04",
+    ),
+    (
+        b"header { target:: cisco e }\nterm t {\n icmp-code:: +4 }",
+        "0:3 Value +4",
+    ),
+    (
+        b"header { target:: cisco e }\nterm t {\n icmp-code:: port-unreachable }",
+        "0:3 Value port-unreachable",
+    ),
+    (
+        b"header { target:: cisco e }\nterm t {\n icmp-code::\n action:: deny }",
+        "0:3 Missing icmp-code::",
+    ),
+    (
         b"header { target:: cisco e }\nterm t {\n target:: cisco f }",
         "0:3 Keyword target::",
     ),
@@ -240,19 +261,19 @@ static POLICIES: [(&[u8], &str); 43] = [
     // targets and terms
     (
         b"header { target:: cisco e }\r\nterm t {\r\n action:: deny\r\n}\r\n",
-        "cisco e extended 1 0 Neighbours false;t|||||||||||||||deny false none",
+        "cisco e extended 1 0 Neighbours false;t||||||||||||||||deny false none",
     ),
     (
         b"header { comment:: \"x\" target:: cisco e target:: juniper e target:: iptables INPUT target:: nftables inet6 output -5 target:: cisco f mixed target:: iptables OUTPUT nostate inet6 DROP } term t { action:: deny }",
-        "cisco e extended 1 0 Neighbours false;juniper e inet 1 0 Deny false;iptables INPUT inet 1 0 Left true;nftables output inet6 1 -5 Deny true;cisco f mixed 2 0 Neighbours false;iptables OUTPUT inet6 2 0 Deny false;t|||||||||||||||deny false none",
+        "cisco e extended 1 0 Neighbours false;juniper e inet 1 0 Deny false;iptables INPUT inet 1 0 Left true;nftables output inet6 1 -5 Deny true;cisco f mixed 2 0 Neighbours false;iptables OUTPUT inet6 2 0 Deny false;t||||||||||||||||deny false none",
     ),
     (
         b"header { target:: cisco e }\nterm t { source-address:: A B# c\n comment:: \"\" \"a # b\" source-address::C protocol:: 6 tcp destination-port:: term icmp-type:: echo-reply packet-too-big option:: rst owner:: \"me\" logging:: True expiration:: 2026-01-15 platform:: arista comment:: \"c\" action:: reject }",
-        "cisco e extended 1 0 Neighbours false;t| a # b c|A B C |||||6 tcp ||term ||echo-reply packet-too-big |rst |arista ||reject true 20468",
+        "cisco e extended 1 0 Neighbours false;t| a # b c|A B C |||||6 tcp ||term ||echo-reply packet-too-big ||rst |arista ||reject true 20468",
     ),
     (
-        b"header { target:: cisco e }\nterm t { source-address:: A source-exclude:: B destination-address:: C destination-exclude:: D address:: E protocol:: tcp source-port:: F destination-port:: G port:: H icmp-type:: echo-reply option:: rst platform:: cisco platform-exclude:: juniper source-exclude:: b address:: e1 e2 port:: h platform-exclude:: iptables action:: deny }",
-        "cisco e extended 1 0 Neighbours false;t||A |B b |C |D |E e1 e2 |tcp |F |G |H h |echo-reply |rst |cisco |juniper iptables |deny false none",
+        b"header { target:: cisco e }\nterm t { source-address:: A source-exclude:: B destination-address:: C destination-exclude:: D address:: E protocol:: tcp source-port:: F destination-port:: G port:: H icmp-type:: echo-reply icmp-code:: 0 4 option:: rst platform:: cisco platform-exclude:: juniper source-exclude:: b address:: e1 e2 port:: h icmp-code:: 255 0 platform-exclude:: iptables action:: deny }",
+        "cisco e extended 1 0 Neighbours false;t||A |B b |C |D |E e1 e2 |tcp |F |G |H h |echo-reply |0 4 255 0 |rst |cisco |juniper iptables |deny false none",
     ),
 ];
 
