@@ -503,7 +503,10 @@ fn packets_are_matched(rt: HostRuntime) -> Result<(), Fail> {
 
 // A term with the first so many codes of a type.
 fn with_codes(alloc: Global, base: &Checked, count: u16) -> Result<Term, Refusal> {
-    let mut items = String::from_str(alloc, "protocol:: icmp icmp-type:: 3 action:: deny icmp-code::")?;
+    let mut items = String::from_str(
+        alloc,
+        "protocol:: icmp icmp-type:: 3 action:: deny icmp-code::",
+    )?;
     for code in 0..count {
         let word = format!(in alloc; " {code}")?;
         items.push_str(word.as_str())?;
