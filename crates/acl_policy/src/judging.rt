@@ -154,7 +154,11 @@ fn judge_start(alloc: Global, state: &mut PolicyState, word: &Token<'_>) -> Resu
 }
 
 #[tactic(auto, unfolding(crate::specs::Policies::behind_word))]
-fn judge_behind_header(alloc: Global, state: &mut PolicyState, word: &Token<'_>) -> Result<(), Refusal>
+fn judge_behind_header(
+    alloc: Global,
+    state: &mut PolicyState,
+    word: &Token<'_>,
+) -> Result<(), Refusal>
     ensures { Leaves slip_told state.new result (behind_word Part.HeaderEnd state.old word.now) }
 {
     if is_word(word, b"term") {
@@ -168,7 +172,11 @@ fn judge_behind_header(alloc: Global, state: &mut PolicyState, word: &Token<'_>)
 }
 
 #[tactic(auto, unfolding(crate::specs::Policies::behind_word))]
-fn judge_behind_term(alloc: Global, state: &mut PolicyState, word: &Token<'_>) -> Result<(), Refusal>
+fn judge_behind_term(
+    alloc: Global,
+    state: &mut PolicyState,
+    word: &Token<'_>,
+) -> Result<(), Refusal>
     ensures { Leaves slip_told state.new result (behind_word Part.TermEnd state.old word.now) }
 {
     if is_word(word, b"term") {
@@ -184,7 +192,12 @@ fn judge_behind_term(alloc: Global, state: &mut PolicyState, word: &Token<'_>) -
 }
 
 #[tactic(auto, unfolding(crate::specs::Policies::behind_word))]
-fn judge_word(alloc: Global, part: Part, state: &mut PolicyState, word: &Token<'_>) -> Result<(), Refusal>
+fn judge_word(
+    alloc: Global,
+    part: Part,
+    state: &mut PolicyState,
+    word: &Token<'_>,
+) -> Result<(), Refusal>
     ensures { Leaves slip_told state.new result (behind_word part state.old word.now) }
 {
     match part {
@@ -253,7 +266,11 @@ fn judge_begin(
 }
 
 #[tactic(auto, unfolding(crate::specs::Policies::behind_end))]
-fn judge_header_end(alloc: Global, state: &mut PolicyState, brace: &Token<'_>) -> Result<(), Refusal>
+fn judge_header_end(
+    alloc: Global,
+    state: &mut PolicyState,
+    brace: &Token<'_>,
+) -> Result<(), Refusal>
     ensures { Leaves slip_told state.new result (behind_end Part.InHeader state.old brace.now) }
 {
     if state.targets.as_slice().is_empty() {
@@ -275,7 +292,12 @@ fn judge_term_end(alloc: Global, state: &mut PolicyState, brace: &Token<'_>) -> 
 }
 
 #[tactic(auto, unfolding(crate::specs::Policies::behind_end))]
-fn judge_end(alloc: Global, part: Part, state: &mut PolicyState, brace: &Token<'_>) -> Result<(), Refusal>
+fn judge_end(
+    alloc: Global,
+    part: Part,
+    state: &mut PolicyState,
+    brace: &Token<'_>,
+) -> Result<(), Refusal>
     ensures { Leaves slip_told state.new result (behind_end part state.old brace.now) }
 {
     match part {

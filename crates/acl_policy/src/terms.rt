@@ -103,7 +103,12 @@ fn has_stood(draft: &TermDraft, keyword: Keyword) -> bool
     }
 }
 
-fn check_item(alloc: Global, row: KeywordRow, draft: &TermDraft, clause: &Clause<'_>) -> Result<(), Refusal>
+fn check_item(
+    alloc: Global,
+    row: KeywordRow,
+    draft: &TermDraft,
+    clause: &Clause<'_>,
+) -> Result<(), Refusal>
     ensures { Gives slip_told result
         (item_checked row draft.now clause.now.keyword.now clause.now.values.now) }
 {

@@ -85,6 +85,11 @@ packets-law i j = (
   ),
 )
 
+-- Of a field that is not the protocol, the numbers of the one lie within those of the other.
+pub others-within : (i j : Term) → LiesWithinInEach i j → (field : Field) → is_protocol field ≡ false
+    → LiesWithin (set_in field j) (set_in field i)
+others-within i j w field e = (field-law i j field).0 (((packets-law i j).1 w).1 field e)
+
 -- ---- options
 
 option-forth : (o q : Opt) (i j : Term) → option_covers o i.dport_named q j.dport_named ≡ true

@@ -14,19 +14,20 @@ use Rattle.acl_sets.specs.Ranges.{Numbers, holds}
 use Rattle.acl_target.specs.declared.targets.Target.{Target}
 use Rattle.acl_terms.specs.declared.terms.Term.{Term}
 use Rattle.acl_terms.specs.Resolved.{destination_in, is_empty_in, is_term_live, source_in}
+use Rattle.acl_terms.specs.Soundness.{is_protocol}
 use Rattle.acl_terms.proofs.EmptyLaws.{empty-law}
 use Rattle.acl_terms.proofs.TestLaws.{true-not}
 use Rattle.acl_shade.specs.ComputableShading.{is_live_where, lies_within_in_each, numbers_within, option_covers, shaded_by, shades}
 use Rattle.acl_shade.specs.Shading.{LiesWithin, LiesWithinIn}
 use Rattle.acl_shade.specs.declared.parts.Part.{Part}
-use Rattle.acl_shade.specs.declared.parts.Part.TheVariants.{DestinationPorts, SourcePorts, Types, Source, Destination, Either}
+use Rattle.acl_shade.specs.declared.parts.Part.TheVariants.{Numbered, Source, Destination, Either}
 use Rattle.acl_shade.specs.Sifting.{AreMarked, KeepsShading, KeepsWithin, LeavesShading, RowHas, asks_either_alone, is_asked, part_of}
 use Rattle.acl_shade.specs.declared.marks.Marks.{Marks}
 use Rattle.acl_shade.specs.Marking.{KeepsBeside, MarksMore}
 use Rattle.acl_shade.proofs.BitLaws.{from-row, to-row}
 use Rattle.acl_shade.proofs.FamilyLaws.{either-alone}
 use Rattle.acl_shade.proofs.PlaceLaws.{place-is}
-use Rattle.acl_shade.proofs.ShadingLaws.{shading-law}
+use Rattle.acl_shade.proofs.ShadingLaws.{others-within, shading-law}
 
 -- ---- what a shading term has
 
@@ -43,15 +44,14 @@ shading-lives targets today i j h =
 within-in : (targets : List Target) (today : Day) (i j : Term) (f : Family) → shades targets today i j ≡ true
     → not (is_empty_in f j) ≡ true → LiesWithinIn f i j
 within-in targets today i j f h some =
-    ((shading-law targets today i j).0 h).addresses.each f
+    ((shading-law targets today i j).0 h).packets.each f
     (λ e. both_ways (is_empty_in f j) ((true-not (is_empty_in f j)).0 some) ((empty-law f j).1 e))
 
 -- So do the parts that are asked.
 pub part-within : (targets : List Target) (today : Day) (part : Part) (i j : Term) → shades targets today i j ≡ true
     → is_asked part j ≡ true → LiesWithin (part_of part j) (part_of part i)
-part-within targets today DestinationPorts i j h asked = ((shading-law targets today i j).0 h).destination_ports
-part-within targets today SourcePorts i j h asked = ((shading-law targets today i j).0 h).source_ports
-part-within targets today Types i j h asked = ((shading-law targets today i j).0 h).types
+part-within targets today (Numbered field) i j h asked =
+    others-within i j ((shading-law targets today i j).0 h).packets field ((true-not (is_protocol field)).0 asked)
 part-within targets today (Source f) i j h asked = (within-in targets today i j f h asked).source
 part-within targets today (Destination f) i j h asked = (within-in targets today i j f h asked).destination
 part-within targets today (Either f) i j h asked =

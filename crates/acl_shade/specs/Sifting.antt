@@ -8,18 +8,17 @@ use Rattle.acl_sets.specs.ComputableSets.{is_all}
 use Rattle.acl_sets.specs.Ranges.{Numbers, holds}
 use Rattle.acl_target.specs.declared.targets.Target.{Target}
 use Rattle.acl_terms.specs.declared.terms.Term.{Term}
-use Rattle.acl_terms.specs.Resolved.{destination_in, either_in, is_empty_in, source_in}
+use Rattle.acl_terms.specs.Resolved.{destination_in, either_in, is_empty_in, set_in, source_in}
+use Rattle.acl_terms.specs.Soundness.{is_protocol}
 use Rattle.acl_shade.specs.ComputableShading.{shades}
 use Rattle.acl_shade.specs.declared.parts.Part.{Part}
-use Rattle.acl_shade.specs.declared.parts.Part.TheVariants.{DestinationPorts, SourcePorts, Types, Source, Destination, Either}
+use Rattle.acl_shade.specs.declared.parts.Part.TheVariants.{Numbered, Source, Destination, Either}
 use Rattle.acl_shade.specs.Shading.{LiesWithin}
 
 -- ---- parts of a term
 
 abbrev pub part_of : Part → Term → Numbers
-part_of DestinationPorts t = t.dports
-part_of SourcePorts t = t.sports
-part_of Types t = t.itypes
+part_of (Numbered field) t = set_in field t
 part_of (Source f) t = source_in f t
 part_of (Destination f) t = destination_in f t
 part_of (Either f) t = either_in f t
@@ -28,12 +27,12 @@ part_of (Either f) t = either_in f t
 abbrev pub asks_either_alone : Family → Term → Bool
 asks_either_alone f t = is_all (source_in f t) && is_all (destination_in f t)
 
--- A term that shades this one has the numbers of this part of it.
+-- A term that shades this one has the numbers of this part of it. Protocols go by family.
 abbrev pub is_asked : Part → Term → Bool
+is_asked (Numbered field) t = not (is_protocol field)
 is_asked (Source f) t = not (is_empty_in f t)
 is_asked (Destination f) t = not (is_empty_in f t)
 is_asked (Either f) t = not (is_empty_in f t) && asks_either_alone f t
-is_asked part t = true
 
 -- ---- rows of bits
 

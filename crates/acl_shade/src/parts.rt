@@ -1,16 +1,14 @@
 ghost use Rattle.std.specs.Prelude.{◌≡◌};
 ghost use Rattle.acl_shade.specs.Sifting.{asks_either_alone, is_asked, part_of};
 
-use acl_packet::Family;
+use acl_packet::{Family, Field};
 use acl_sets::RangeSet;
-use acl_terms::{Term, destination_in, either_in, is_empty_in, source_in};
+use acl_terms::{Term, destination_in, either_in, is_empty_in, set_in, source_in};
 
 /// One of the sets of numbers that a term has.
 #[derive(Clone, Copy)]
 pub(crate) enum Part {
-    DestinationPorts,
-    SourcePorts,
-    Types,
+    Numbered(Field),
     Source(Family),
     Destination(Family),
     Either(Family),
@@ -21,9 +19,7 @@ pub(crate) fn part_of(part: Part, term: &Term) -> &RangeSet
     ensures { result.now ≡ part_of part term.now }
 {
     match part {
-        Part::DestinationPorts => &term.dports,
-        Part::SourcePorts => &term.sports,
-        Part::Types => &term.itypes,
+        Part::Numbered(field) => set_in(field, term),
         Part::Source(family) => source_in(family, term),
         Part::Destination(family) => destination_in(family, term),
         Part::Either(family) => either_in(family, term),
@@ -37,14 +33,15 @@ fn asks_either_alone(family: Family, term: &Term) -> bool
     source_in(family, term).is_all() && destination_in(family, term).is_all()
 }
 
-/// Whether a term that shades this one has the numbers of this part of it. Addresses of a family in which the term is
-/// empty are not asked, and what it asks of either side only where it asks nothing of each.
+/// Whether a term that shades this one has the numbers of this part of it. Protocols are not asked, since each family
+/// has its own. Addresses of a family in which the term is empty are not asked, and what it asks of either side only
+/// where it asks nothing of each.
 pub(crate) fn is_asked(part: Part, term: &Term) -> bool
     ensures { result ≡ is_asked part term.now }
 {
     match part {
         Part::Source(family) | Part::Destination(family) => !is_empty_in(term, family),
         Part::Either(family) => !is_empty_in(term, family) && asks_either_alone(family, term),
-        _ => true,
+        Part::Numbered(field) => !matches!(field, Field::Protocol),
     }
 }

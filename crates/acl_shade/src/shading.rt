@@ -74,7 +74,7 @@ fn ports_within(earlier: &Term, term: &Term) -> bool
 fn icmp_within(earlier: &Term, term: &Term) -> bool
     ensures { result ≡ list_all (field_within earlier.now term.now) icmp_fields }
 {
-    field_within(earlier, term, Field::IcmpType)
+    field_within(earlier, term, Field::IcmpType) && field_within(earlier, term, Field::IcmpCode)
 }
 
 fn numbers_within(earlier: &Term, term: &Term) -> bool

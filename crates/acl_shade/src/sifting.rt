@@ -7,7 +7,7 @@ use crate::marks::Marks;
 use crate::parts::{Part, is_asked, part_of};
 use crate::points::points_of;
 use acl_days::Day;
-use acl_packet::Family;
+use acl_packet::{Family, Field};
 use acl_target::Target;
 use acl_terms::Term;
 use acl_text::Memory;
@@ -17,16 +17,17 @@ use std::alloc::Global;
 const FEW: usize = 64;
 
 // The parts by which terms are told apart: first those in which most differ.
-const PARTS: [Part; 9] = [
-    Part::DestinationPorts,
+const PARTS: [Part; 10] = [
+    Part::Numbered(Field::DestinationPort),
     Part::Source(Family::V4),
     Part::Destination(Family::V4),
     Part::Source(Family::V6),
     Part::Destination(Family::V6),
     Part::Either(Family::V4),
     Part::Either(Family::V6),
-    Part::SourcePorts,
-    Part::Types,
+    Part::Numbered(Field::SourcePort),
+    Part::Numbered(Field::IcmpType),
+    Part::Numbered(Field::IcmpCode),
 ];
 
 // Takes from what is left for each term the earlier terms that lack a number of the part.

@@ -47,7 +47,7 @@ one-number (Some n) x = (
 )
 
 -- The numbers of words.
-any-flat : (f : Word → Option ℕ) (ws : List Word) (x : ℕ)
+pub any-flat : (f : Word → Option ℕ) (ws : List Word) (x : ℕ)
     → AnyOf (λ n. n ≡ x) (flat_map (λ w. option_to_list (f w)) ws) ↔ AnyOf (λ w. f w ≡ Some x) ws
 any-flat f [] x = (λ a. a, λ a. a)
 any-flat f (w ∷ ws) x =

@@ -1,14 +1,16 @@
 -- The sets of a term without a slip fulfil what every term does.
-use Rattle.std.proofs.Common.{◌≡◌, ◌≢◌, ℕ, ◌≤◌, Bool, true, false, cond, List, [], ◌∷◌, ◌++◌, Option, None, Some, inl, refl, ap, sym, ◌∙◌, arith}
+use Rattle.std.proofs.Common.{◌≡◌, ◌≢◌, ℕ, ◌≤◌, Bool, true, false, cond, List, [], ◌∷◌, ◌++◌, Option, None, Some, inl, inr, refl, ap, sym, subst, ◌∙◌, ◌↔◌, arith}
 use Rattle.std.specs.Prelude.{is_some, codes as codes_of}
+use Rattle.std.specs.List.{All, list_all}
 use Rattle.std.specs.Str.{bytes_eq}
-use Rattle.std.proofs.lemmas.Bool.{both_ways, false_from_ne_true}
+use Rattle.std.proofs.lemmas.Bool.{and_parts, both_ways, eqb-true, false_from_ne_true}
+use Rattle.std.proofs.lemmas.List.Elements.{All-head}
 use Rattle.std.proofs.lemmas.Option.{none-some}
 use Rattle.acl_packet.specs.declared.addresses.Family.{Family}
 use Rattle.acl_packet.specs.declared.addresses.Family.TheVariants.{V4, V6}
 use Rattle.acl_packet.specs.declared.filtering.Verdict.{Verdict}
 use Rattle.acl_packet.specs.declared.filtering.Verdict.TheVariants as verdicts
-use Rattle.acl_packet.specs.declared.packet_fields.Field.TheVariants.{Protocol, SourcePort, DestinationPort, IcmpType}
+use Rattle.acl_packet.specs.declared.packet_fields.Field.TheVariants.{Protocol, SourcePort, DestinationPort, IcmpType, IcmpCode}
 use Rattle.acl_packet.specs.Addresses.{top_address}
 use Rattle.acl_packet.specs.NumberWords.{protocol_in}
 use Rattle.acl_packet.specs.Packets.{has_ports}
@@ -17,6 +19,7 @@ use Rattle.acl_text.specs.declared.faults.Code.{Code}
 use Rattle.acl_text.specs.declared.faults.Code.TheVariants as codes
 use Rattle.acl_text.specs.Names.{is_name}
 use Rattle.acl_sets.specs.declared.sets.Range.{Range}
+use Rattle.acl_sets.specs.OneNumber.{IsOneNumber}
 use Rattle.acl_sets.specs.Ranges.{Numbers, holds}
 use Rattle.acl_sets.proofs.RangeLaws.{at_top}
 use Rattle.acl_sets.proofs.ComputableSetLaws.{holds-covers}
@@ -26,17 +29,20 @@ use Rattle.acl_naming.specs.Definitions.{Naming}
 use Rattle.acl_naming.specs.Ports.{top_port}
 use Rattle.acl_terms.specs.declared.options.Opt.{Opt}
 use Rattle.acl_terms.specs.declared.options.Opt.TheVariants.{Plain, Established, TcpEstablished, TcpInitial, Rst}
-use Rattle.acl_terms.specs.Matching.{AnyOf, Admits, IsProtocol, NamesAddress, NamesPort, only, is_number, icmp_family, type_in, protocols_of, is_written}
+use Rattle.acl_terms.specs.Matching.{AnyOf, Admits, IsProtocol, NamesAddress, NamesPort, only, is_number, code_in, icmp_family, type_in, types_of, protocols_of, is_written}
 use Rattle.acl_terms.specs.Options.{option_of, verdict_of}
 use Rattle.acl_terms.specs.Sets.{IsSetOf, Sets, AreSetsOf}
-use Rattle.acl_terms.specs.SetSteps.{IsType}
-use Rattle.acl_terms.specs.Slips.{first_unless, slip_of, type_slip, option_fits, verdict_fits, is_tcp_or_udp, port_words, networks_slip, port_protocol_slip, services_slip, words_slips, types_slip, clash_slip, option_slip, reset_slip}
+use Rattle.acl_terms.specs.SetSteps.{IsCode, IsType, single}
+use Rattle.acl_terms.specs.Slips.{are_one, first_unless, slip_of, type_slip, option_fits, verdict_fits, is_tcp_or_udp, port_words, networks_slip, port_protocol_slip, services_slip, words_slips, types_slip, codes_slip, clash_slip, option_slip, reset_slip}
 use Rattle.acl_sets.specs.ComputableSets.{is_all}
 use Rattle.acl_sets.specs.Ranges.{Only}
 use Rattle.acl_terms.specs.Soundness.{HaveField, IsSoundTerm, is_established, is_protocol, needs_tcp, is_reset, is_left}
 use Rattle.acl_text.specs.Notes.{is_note, note_of}
 use Rattle.acl_text.specs.Refusals.{first_in, first_some}
-use Rattle.acl_terms.proofs.WordLaws.{protocol-within, type-within, parts, passed, first-passed, none-more, left-some, right-some, only-all, any-passes, any-number}
+use Rattle.acl_terms.proofs.ComputedLaws.{one-set}
+use Rattle.acl_terms.proofs.NumberLaws.{any-flat, numbers-set}
+use Rattle.acl_terms.proofs.SetLaws.{same-set}
+use Rattle.acl_terms.proofs.WordLaws.{code-within, protocol-within, type-within, parts, passed, first-passed, none-more, left-some, right-some, only-all, any-passes, any-number}
 
 -- ---- all numbers
 
@@ -136,6 +142,60 @@ one-icmp true b h other = absurd (other refl)
 one-icmp false true h other = refl
 one-icmp false false h other = absurd (h refl)
 
+-- ---- codes
+
+-- Each word is a number.
+codes-some : (ws : List Word) (s : Numbers) → IsSetOf (IsCode ws) 255 s
+    → All (λ w. is_some (code_in w.text) ≡ true) ws → s.ranges ≢ []
+codes-some [] s h fit = whole-some s (whole 255 s h)
+codes-some (w ∷ ws) s h fit =
+    let t = some-there (code_in w.text) (All-head (λ v. is_some (code_in v.text) ≡ true) w ws fit) in
+    let law = h.exact t.0 (code-within t.0 w.text t.1) in
+    some-range s.ranges t.0 (law.1 (inl t.1))
+
+-- Numbers that are one are those of the first of them.
+same-number : (n x : ℕ) (ns : List ℕ) → list_all (is_number n) ns ≡ true → AnyOf (λ m. m ≡ x) ns → n ≡ x
+same-number n x [] same a = absurd a
+same-number n x (m ∷ ms) same a =
+    let p = and_parts (is_number n m) (list_all (is_number n) ms) same in elim a [
+      | inl e ↦ sym (eqb-true m n p.0) ∙ e
+      | inr r ↦ same-number n x ms p.1 r
+    ]
+
+one-any : (n x : ℕ) (ns : List ℕ) → list_all (is_number n) ns ≡ true
+    → AnyOf (λ m. m ≡ x) (n ∷ ns) ↔ AnyOf (λ m. m ≡ x) (n ∷ [])
+one-any n x ns same = (
+  λ a. elim a [ inl e ↦ inl e | inr r ↦ inl (same-number n x ns same r) ],
+  λ a. elim a [ inl e ↦ inl e | inr b ↦ absurd b ],
+)
+
+one-type : (f : Option Family) (ws : List Word) (s : Numbers) (ns : List ℕ) → types_of f ws ≡ ns
+    → IsSetOf (IsType f ws) 255 s → are_one ns ≡ true → IsOneNumber s
+one-type f ws s [] e h one = absurd (both_ways false refl one)
+one-type f [] s (n ∷ ns) e h one = absurd (none-more n ns (sym e))
+one-type f (w ∷ ws) s (n ∷ ns) e h one =
+    let type : Word → Option ℕ = λ v. type_in f v.text in
+    let told : (x : ℕ) → AnyOf (λ m. m ≡ x) (n ∷ ns) ↔ IsType f (w ∷ ws) x =
+    λ x. subst (λ (ms : List ℕ). AnyOf (λ m. m ≡ x) ms ↔ IsType f (w ∷ ws) x) e (any-flat type (w ∷ ws) x) in
+    let first = told n in
+    let l : n ≤ 254 = any-number type (λ k. k ≤ 254) (w ∷ ws) n (λ v q. type-within f n v.text q) (first.0 (inl refl)) in
+    let alone : Numbers = record { top = 255; ranges = single n ∷ [] } in
+    let is = λ (x : ℕ). AnyOf (λ m. m ≡ x) (n ∷ []) in
+    let given = same-set (IsType f (w ∷ ws)) is 255 s
+    (λ x. let t = told x in let o = one-any n x ns one in (λ a. o.0 (t.1 a), λ b. t.0 (o.1 b))) h in
+    let made = numbers-set (n ∷ []) 255 (single n ∷ []) alone refl refl (omega arith, omega arith, omega arith, tt)
+    (λ x. refl) in
+    (n, ap (λ (v : Numbers). v.ranges) (one-set is 255 s alone given made))
+
+-- Some type is named only in a family.
+no-types : (ws : List Word) → types_of None ws ≡ []
+no-types [] = refl
+no-types (w ∷ ws) = no-types ws
+
+one-family : (f : Option Family) (ws : List Word) → are_one (types_of f ws) ≡ true → f ≢ None
+one-family f ws one = λ e.
+    both_ways false refl (sym (ap are_one (no-types ws)) ∙ sym (ap (λ g. are_one (types_of g ws)) e) ∙ one)
+
 -- ---- options and verdicts
 
 established-only : (o : Opt) (qs : List ℕ) → option_fits o qs ≡ true → is_established o ≡ true
@@ -180,6 +240,8 @@ pub record Passed (n : Naming) (t : RawTerm) : Type 0 where
   pub ports : first_unless (only has_ports (protocols_of t.protocols)) codes.PortProtocol (port_words t) ≡ None
   pub services : services_slip n.services (protocols_of t.protocols) t ≡ None
   pub types : first_in (type_slip (icmp_family (protocols_of t.protocols))) t.icmp_types ≡ None
+  pub codes : first_unless (are_one (types_of (icmp_family (protocols_of t.protocols)) t.icmp_types)) codes.IcmpCode
+      t.icmp_codes ≡ None
   pub option : option_fits (option_of t.options) (protocols_of t.protocols) ≡ true
   pub verdict : verdict_fits (verdict_of t.action.text) (protocols_of t.protocols) ≡ true
 
@@ -190,16 +252,19 @@ passes-all n t h =
     let a = parts (networks_slip n.networks t) (first_some (port_protocol_slip qs t ∷ services_slip n.services qs t ∷ words_slips qs t)) h in
     let b = parts (port_protocol_slip qs t) (first_some (services_slip n.services qs t ∷ words_slips qs t)) a.1 in
     let c = parts (services_slip n.services qs t) (first_some (words_slips qs t)) b.1 in
-    let d = parts (types_slip qs t) (first_some (clash_slip t.options ∷ option_slip qs t.options ∷ reset_slip qs t.action ∷ [])) c.1 in
-    let e = parts (clash_slip t.options) (first_some (option_slip qs t.options ∷ reset_slip qs t.action ∷ [])) d.1 in
-    let f = parts (option_slip qs t.options) (first_some (reset_slip qs t.action ∷ [])) e.1 in
-    let g = parts (reset_slip qs t.action) None f.1 in
+    let options = clash_slip t.options ∷ option_slip qs t.options ∷ reset_slip qs t.action ∷ [] in
+    let d = parts (types_slip qs t) (first_some (codes_slip qs t ∷ options)) c.1 in
+    let e = parts (codes_slip qs t) (first_some options) d.1 in
+    let f = parts (clash_slip t.options) (first_some (option_slip qs t.options ∷ reset_slip qs t.action ∷ [])) e.1 in
+    let g = parts (option_slip qs t.options) (first_some (reset_slip qs t.action ∷ [])) f.1 in
+    let i = parts (reset_slip qs t.action) None g.1 in
     record {
       ports = b.0;
       services = c.0;
       types = d.0;
-      option = option-fitting qs t.options f.0;
-      verdict = passed (verdict_fits (verdict_of t.action.text) qs) codes.ResetProtocol t.action g.0;
+      codes = e.0;
+      option = option-fitting qs t.options g.0;
+      verdict = passed (verdict_fits (verdict_of t.action.text) qs) codes.ResetProtocol t.action i.0;
     }
 
 not-written : (ws : List Word) (P : ℕ → Word → Type 0) (top : ℕ) (s : Numbers) → IsSetOf (λ x. Admits (P x) ws) top s
@@ -208,11 +273,12 @@ not-written [] P top s h e = whole top s h
 not-written (w ∷ ws) P top s h e = absurd (both_ways true e refl)
 
 pub sound : (n : Naming) (t : RawTerm) (s : Sets) → is_name t.name.text ≡ true
-    → is_note (note_of t.comments) ≡ true → slip_of n t ≡ None → AreSetsOf n t s
+    → is_note (note_of t.comments) ≡ true → All (λ w. is_some (code_in w.text) ≡ true) t.icmp_codes
+    → slip_of n t ≡ None → AreSetsOf n t s
     → IsSoundTerm t.name.text (note_of t.comments) s.src4 s.src6 s.dst4 s.dst6 s.addr4 s.addr6
     (is_written t.addresses) s.numbers (is_written t.destination_ports) s.ports (is_written t.ports)
     (option_of t.options) (verdict_of t.action.text)
-sound n t s name note clean are =
+sound n t s name note fits clean are =
     let qs = protocols_of t.protocols in
     let p = passes-all n t clean in
     let ends = t.source_ports ++ t.destination_ports in
@@ -220,7 +286,16 @@ sound n t s name note clean are =
     let itypes = s.numbers IcmpType in
     let protos_are = are.numbers_are Protocol in
     let itypes_are = are.numbers_are IcmpType in
+    let icodes = s.numbers IcmpCode in
+    let icodes_are = are.numbers_are IcmpCode in
+    let family = icmp_family qs in
+    let one : is_all icodes ≡ false → are_one (types_of family t.icmp_types) ≡ true =
+    λ e. first-passed (are_one (types_of family t.icmp_types)) codes.IcmpCode t.icmp_codes p.codes
+    (not-whole (λ x w. code_in w.text ≡ Some x) 255 t.icmp_codes icodes icodes_are e) in
     let held = λ (test : ℕ → Bool). only-held test t.protocols protos protos_are in
+    let of_icmp : family ≢ None → HaveField IcmpType protos =
+    λ is none. held (is_number 58) (one-icmp (only (is_number 1) qs) (only (is_number 58) qs) is
+    (λ o. none (held (is_number 1) o))) in
     record {
       name_is = name;
       note_is = note;
@@ -242,7 +317,8 @@ sound n t s name note clean are =
       normal = λ field. (are.numbers_are field).normal;
       some = by-field (λ field. is_protocol field ≡ false → (s.numbers field).ranges ≢ [])
           (λ h. absurd (both_ways true h refl)) (λ _. are.some_from) (λ _. are.some_to)
-          (λ _. types-some (icmp_family qs) t.icmp_types itypes itypes_are p.types);
+          (λ _. types-some family t.icmp_types itypes itypes_are p.types)
+          (λ _. codes-some t.icmp_codes icodes icodes_are fits);
       fit = by-field (λ field. is_all (s.numbers field) ≡ false → HaveField field protos) (λ _ _ _ _. refl)
           (λ e _. held has_ports (ports-fit n (NamesPort n qs) top_port t.source_ports (s.numbers SourcePort)
           (only has_ports qs) codes.PortProtocol (port_words t) (are.numbers_are SourcePort)
@@ -250,12 +326,12 @@ sound n t s name note clean are =
           (λ e _. held has_ports (ports-fit n (NamesPort n qs) top_port t.destination_ports (s.numbers DestinationPort)
           (only has_ports qs) codes.PortProtocol (port_words t) (are.numbers_are DestinationPort)
           (λ h. left-some ends t.ports (right-some t.source_ports t.destination_ports h)) p.ports e))
-          (λ e none. held (is_number 58) (one-icmp (only (is_number 1) qs) (only (is_number 58) qs)
-          (is-family (icmp_family qs) t.icmp_types
-          (not-whole (λ x w. type_in (icmp_family qs) w.text ≡ Some x) 255 t.icmp_types itypes itypes_are e) p.types)
-          (λ o. none (held (is_number 1) o))));
+          (λ e. of_icmp (is-family family t.icmp_types
+          (not-whole (λ x w. type_in family w.text ≡ Some x) 255 t.icmp_types itypes itypes_are e) p.types))
+          (λ e. of_icmp (one-family family t.icmp_types (one e)));
       protos_lack_0 = lack-zero t.protocols protos protos_are;
-      itypes_lack_255 = lack-255 (icmp_family qs) t.icmp_types itypes itypes_are;
+      itypes_lack_255 = lack-255 family t.icmp_types itypes itypes_are;
+      one_itype = λ e. one-type family t.icmp_types itypes (types_of family t.icmp_types) refl itypes_are (one e);
       dports_named = not-written t.destination_ports (NamesPort n qs) top_port (s.numbers DestinationPort)
           (are.numbers_are DestinationPort);
       ports_top = are.either_ports.top_is;
@@ -278,8 +354,9 @@ pub sound-fields : (n : Naming) (t : RawTerm) (s : Sets) (name note : List ℕ) 
     → name ≡ t.name.text → note ≡ note_of t.comments → addr_named ≡ is_written t.addresses
     → dport_named ≡ is_written t.destination_ports → port_named ≡ is_written t.ports
     → option ≡ option_of t.options → verdict ≡ verdict_of t.action.text
-    → is_name t.name.text ≡ true → is_note note ≡ true → slip_of n t ≡ None → AreSetsOf n t s
+    → is_name t.name.text ≡ true → is_note note ≡ true → All (λ w. is_some (code_in w.text) ≡ true) t.icmp_codes
+    → slip_of n t ≡ None → AreSetsOf n t s
     → IsSoundTerm name note s.src4 s.src6 s.dst4 s.dst6 s.addr4 s.addr6 addr_named s.numbers dport_named
     s.ports port_named option verdict
-sound-fields n t s name note addr_named dport_named port_named option verdict e1 e2 e3 e4 e5 e6 e7 is safe clean are =
-    rw (e1, e2, e3, e4, e5, e6, e7) (sound n t s is (sym (ap is_note e2) ∙ safe) clean are)
+sound-fields n t s name note addr_named dport_named port_named option verdict e1 e2 e3 e4 e5 e6 e7 is safe fits clean are =
+    rw (e1, e2, e3, e4, e5, e6, e7) (sound n t s is (sym (ap is_note e2) ∙ safe) fits clean are)

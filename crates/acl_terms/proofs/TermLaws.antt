@@ -13,6 +13,7 @@ use Rattle.acl_text.proofs.NoteLaws.{note_is_safe}
 use Rattle.acl_text.specs.Notes.{note_of}
 use Rattle.acl_text.specs.Refusals.{first_in}
 use Rattle.acl_days.specs.declared.days.Day.{Day}
+use Rattle.acl_policy.specs.declared.keywords.Keyword.TheVariants as keywords
 use Rattle.acl_policy.specs.declared.raw_terms.RawTerm.{RawTerm}
 use Rattle.acl_words.specs.declared.word_lists.Word.{Word}
 use Rattle.acl_policy.specs.Conditions.{IsRawTerm}
@@ -253,5 +254,5 @@ term-there n raw some fits clean =
     let are = sets-there n raw some clean in
     let is_sound : IsWrittenSound raw s =
     subst (IsSoundWith raw s) (sym (told-same s.numbers))
-    (sound n raw s fits.name_is (note_is_safe raw.comments) clean are) in
+    (sound n raw s fits.name_is (note_is_safe raw.comments) (fits.words_fit keywords.IcmpCode) clean are) in
     (term-with raw s is_sound, term-with-resolved n raw s is_sound are)

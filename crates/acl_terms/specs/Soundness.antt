@@ -95,7 +95,7 @@ ranges-set : IsSet (List Range)
 ranges-set = Coded-set (coded_list (code_by (ℕ × ℕ) (coded× coded_ℕ coded_ℕ) (λ r. (r.low, r.high))
     (λ p. record { low = p.0; high = p.1 }) (λ _. refl)))
 
-first-low : List Range → ℕ
+abbrev first-low : List Range → ℕ
 first-low [] = 0
 first-low (r ∷ rs) = r.low
 

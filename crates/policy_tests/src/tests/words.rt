@@ -3,7 +3,7 @@ ghost use Rattle.acl_lines.specs.LineTexts.{HasNoFeed};
 use crate::tests::splices::text;
 use acl_lines::Lines;
 use acl_text::{Memory, Place};
-use acl_words::{Form, Token, PolicyWords};
+use acl_words::{Form, PolicyWords, Token};
 use std::alloc::Global;
 use std::test::Fail;
 

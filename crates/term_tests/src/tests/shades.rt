@@ -54,7 +54,7 @@ fn among_many(alloc: Global, terms: &str) -> Result<String, Memory> {
     Ok(text)
 }
 
-static SHADES: [(&str, &str); 41] = [
+static SHADES: [(&str, &str); 44] = [
     // by addresses and life
     ("term a { action:: accept } term b { action:: deny }", "-0"),
     (
@@ -138,7 +138,7 @@ static SHADES: [(&str, &str); 41] = [
         "term a { protocol:: udp option:: established destination-port:: DNS action:: deny } term b { protocol:: udp option:: established destination-port:: DNS action:: deny }",
         "-0",
     ),
-    // by protocols, ports and types
+    // by protocols, ports, types and codes
     (
         "term a { protocol:: tcp destination-port:: WEB action:: deny } term b { protocol:: tcp destination-port:: HTTP action:: deny }",
         "-0",
@@ -158,6 +158,18 @@ static SHADES: [(&str, &str); 41] = [
     (
         "term a { protocol:: icmp icmp-type:: 8 action:: deny } term b { protocol:: icmp icmp-type:: 0 8 action:: deny }",
         "--",
+    ),
+    (
+        "term a { protocol:: icmp icmp-type:: 3 action:: deny } term b { protocol:: icmp icmp-type:: 3 icmp-code:: 4 action:: deny }",
+        "-0",
+    ),
+    (
+        "term a { protocol:: icmp icmp-type:: 3 icmp-code:: 4 action:: deny } term b { protocol:: icmp icmp-type:: 3 action:: deny }",
+        "--",
+    ),
+    (
+        "term a { protocol:: icmp icmp-type:: 3 icmp-code:: 4 3 action:: deny } term b { protocol:: icmp icmp-type:: 3 icmp-code:: 3 action:: deny } term c { protocol:: icmp icmp-type:: 3 icmp-code:: 4 5 action:: deny }",
+        "-0-",
     ),
     (
         "term a { protocol:: tcp udp action:: deny } term b { protocol:: udp action:: deny } term c { action:: deny }",

@@ -41,7 +41,7 @@ fn slip_of(alloc: Global, base: &Checked, items: &str) -> Result<String, Refusal
 }
 
 // Items, and the first of their slips by its line, code and word.
-static SLIPS: [(&str, &str); 25] = [
+static SLIPS: [(&str, &str); 32] = [
     (
         "destination-address:: D\nsource-exclude:: E\naction:: deny",
         "3 UnknownName E",
@@ -140,6 +140,32 @@ static SLIPS: [(&str, &str); 25] = [
         "address:: WEB\nport:: BOTH\nprotocol:: tcp udp\naction:: deny",
         "none",
     ),
+    // codes of ICMP
+    (
+        "protocol:: icmp\nicmp-type:: unreachable\nicmp-code:: 4 3\naction:: deny",
+        "none",
+    ),
+    (
+        "protocol:: icmp\nicmp-type:: unreachable 3\nicmp-code:: 0\naction:: deny",
+        "none",
+    ),
+    (
+        "protocol:: icmp\nicmp-code:: 4 3\nicmp-type:: unreachable redirect\naction:: deny",
+        "3 IcmpCode 4",
+    ),
+    (
+        "protocol:: icmp\nicmp-code:: 4\naction:: deny",
+        "3 IcmpCode 4",
+    ),
+    ("icmp-code:: 4\naction:: deny", "2 IcmpCode 4"),
+    (
+        "protocol:: icmp\nicmp-code:: 4\nicmp-type:: 3 packet-too-big\naction:: deny",
+        "4 IcmpProtocol packet-too-big",
+    ),
+    (
+        "option:: rst tcp-initial\nicmp-code:: 4\naction:: deny",
+        "3 IcmpCode 4",
+    ),
 ];
 
 #[test]
@@ -171,6 +197,7 @@ const UDP: Packet = Packet {
     dport: 9,
     flags: 0,
     itype: 0,
+    icode: 0,
     conn: Conn::New,
 };
 
@@ -183,6 +210,14 @@ const ACK: Packet = Packet {
 const SIX: Packet = Packet {
     family: Family::V6,
     proto: 58,
+    ..UDP
+};
+
+const UNREACHABLE: Packet = Packet {
+    proto: 1,
+    sport: 0,
+    dport: 0,
+    itype: 3,
     ..UDP
 };
 
@@ -200,7 +235,7 @@ const FROM_53: Packet = Packet { sport: 53, ..UDP };
 const TO_53: Packet = Packet { dport: 53, ..UDP };
 
 // Items, how connections are known, a packet, and whether the term matches it.
-static MATCHES: [(&str, Mode, Packet, bool); 41] = [
+static MATCHES: [(&str, Mode, Packet, bool); 46] = [
     // by protocols, families and each side's addresses
     ("action:: deny", Mode::Stateless, SIX, true),
     (
@@ -393,6 +428,45 @@ static MATCHES: [(&str, Mode, Packet, bool); 41] = [
         Packet { dport: 1024, ..ACK },
         false,
     ),
+    // by codes of ICMP
+    (CODES, Mode::Stateless, UNREACHABLE, false),
+    (
+        CODES,
+        Mode::Stateless,
+        Packet {
+            icode: 3,
+            ..UNREACHABLE
+        },
+        true,
+    ),
+    (
+        CODES,
+        Mode::Stateless,
+        Packet {
+            icode: 4,
+            ..UNREACHABLE
+        },
+        true,
+    ),
+    (
+        CODES,
+        Mode::Stateless,
+        Packet {
+            itype: 5,
+            icode: 4,
+            ..UNREACHABLE
+        },
+        false,
+    ),
+    (
+        "protocol:: icmp icmp-type:: unreachable action:: deny",
+        Mode::Stateless,
+        Packet {
+            icode: 255,
+            ..UNREACHABLE
+        },
+        true,
+    ),
 ];
 
 // Known connections: to no port that is named, to one, and from or to one.
@@ -402,6 +476,8 @@ const NAMED: &str = "protocol:: 6 17 option:: established destination-port:: DNS
 
 const EITHER: &str =
     "address:: TEN protocol:: tcp udp port:: DNS option:: established action:: deny";
+
+const CODES: &str = "protocol:: icmp icmp-type:: unreachable icmp-code:: 4 3 action:: deny";
 
 // Whether the term of these items matches the packet.
 fn is_matched(
@@ -421,6 +497,29 @@ fn packets_are_matched(rt: HostRuntime) -> Result<(), Fail> {
     for (place, (items, mode, packet, expected)) in MATCHES.iter().enumerate() {
         let found = is_matched(rt.alloc(), &base, items, *mode, packet)?;
         assert!(rt; found == *expected, "row {place} at {items}");
+    }
+    Ok(())
+}
+
+// A term with the first so many codes of a type.
+fn with_codes(alloc: Global, base: &Checked, count: u16) -> Result<Term, Refusal> {
+    let mut items = String::from_str(
+        alloc,
+        "protocol:: icmp icmp-type:: 3 action:: deny icmp-code::",
+    )?;
+    for code in 0..count {
+        let word = format!(in alloc; " {code}")?;
+        items.push_str(word.as_str())?;
+    }
+    term_of(alloc, base, items.as_str())
+}
+
+#[test]
+fn all_codes_are_all(rt: HostRuntime) -> Result<(), Fail> {
+    let base = base(rt.alloc())?;
+    for (count, expected) in &[(255, false), (256, true)] {
+        let term = with_codes(rt.alloc(), &base, *count)?;
+        assert_eq!(rt; term.icodes.is_all(), *expected, "of {count}");
     }
     Ok(())
 }

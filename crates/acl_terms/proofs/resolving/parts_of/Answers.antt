@@ -16,6 +16,7 @@ returns-clause-sets c =
       protos = c.in_ok-admitted_protocols.field-0;
       ports = c.in_ok-ports.ports;
       itypes = c.in_ok-admitted_types.field-0;
+      icodes = c.in_ok-admitted_codes.field-0;
     } in
     let protos : c.in_ok-protos.protos.items ≡ protocols_of raw.protocols = c.in_ok-protos.ensures in
     let ports = subst (λ (qs : List ℕ). IsPortSet n qs raw p.ports.sports p.ports.dports p.ports.ports)
@@ -23,3 +24,4 @@ returns-clause-sets c =
     let types = subst (λ (f : Option Family). IsSetOf (IsType f raw.icmp_types) 255 p.itypes)
     (c.icmp_family-family.ensures ∙ ap icmp_family (c.deref-4.ensures.value ∙ protos)) c.in_ok-admitted_types.ensures in
     sets_are n raw p c.in_ok-ends.ensures.v4 c.in_ok-ends.ensures.v6 c.in_ok-admitted_protocols.ensures ports types
+    c.in_ok-admitted_codes.ensures

@@ -1,4 +1,5 @@
 use Rattle.std.proofs.Common.{ap, ◌∙◌}
+use Rattle.acl_policy.specs.declared.keywords.Keyword.TheVariants as keywords
 use Rattle.acl_terms.specs.Options.{verdict_of}
 use Rattle.acl_terms.specs.SetSteps.{sets_by}
 use Rattle.acl_text.specs.Notes.{note_of}
@@ -15,7 +16,7 @@ invariant_of-result c =
           (c.in_ok-name.ensures ∙ c.as_slice.ensures) (c.in_ok-note.ensures.exact ∙ ap note_of c.as_slice-2.ensures)
           c.is_written.ensures c.is_written-2.ensures c.is_written-3.ensures
           c.option_of.ensures (c.verdict_of.ensures ∙ ap verdict_of c.as_slice-3.ensures)
-          c.requires.name_is c.in_ok-note.ensures.safe c.in_ok-parts.ensures.judged c.in_ok-parts.ensures.sets;
+          c.requires.name_is c.in_ok-note.ensures.safe (c.requires.words_fit keywords.IcmpCode) c.in_ok-parts.ensures.judged c.in_ok-parts.ensures.sets;
     }
 
 pub returns-clause-computed : goal.returns-clause-computed
