@@ -18,7 +18,7 @@ use Rattle.cisco_lang.specs.declared.documents.Item.{Item}
 use Rattle.cisco_lang.specs.declared.documents.Item.TheVariants.{Remark, Entry as AnEntry}
 use Rattle.cisco_lang.specs.declared.lists_drafts.ListsDraft.{ListsDraft}
 use Rattle.cisco_lang.specs.Documents.{IsItem, IsList, heads_of, IsSection}
-use Rattle.cisco_lang.specs.Texts.{action_word, proto_word, end_words, type_words, flags_words, entry_words, item_rows, head_rows, end_rows, list_rows, families_word, section_rows, text_of}
+use Rattle.cisco_lang.specs.Texts.{action_word, proto_word, end_words, icmp_words, flags_words, entry_words, item_rows, head_rows, end_rows, list_rows, families_word, section_rows, text_of}
 use Rattle.cisco_lang.specs.ReadingSteps.{no_list, no_section, no_draft, entry_in, item_in, is_last, end_section, end_list, take_four, take_outer, take_inner, take_row}
 use Rattle.cisco_lang.proofs.ValidityLaws.{head_of}
 use Rattle.cisco_lang.proofs.EntryReadingLaws.{entry_again}
@@ -50,7 +50,7 @@ unfolding item_rows take_row take_inner item_in entry_words
 item_read ss s l (Remark text) h = ap (λ t. at ss s (with_item l (Remark t))) (join_with_byte-slice_split 32 text)
 item_read ss s l (AnEntry e) h =
     let rest : List (List ℕ) = proto_word l.family e.proto ∷ (end_words l.family e.src e.sport
-    ++ (end_words l.family e.dst e.dport ++ (type_words e.itype ++ (flags_words e.flags ++ log_words e.log)))) in
+    ++ (end_words l.family e.dst e.dport ++ (icmp_words e.itype e.icode ++ (flags_words e.flags ++ log_words e.log)))) in
     ap (λ i. at ss s (with_item l i)) (no_remark l.family e.permit rest ∙ ap AnEntry (entry_again l.family e h))
 
 items_read : (ss : List Section) (s : Section) (l : AccessList) (items : List Item) → AllByRecursion (IsItem l.family) items

@@ -1,10 +1,10 @@
 -- What is written of an entry is read again.
-use Rattle.std.proofs.Common.{◌≡◌, ℕ, ◌+◌, ◌-◌, ◌*◌, ◌^◌, ◌<◌, ◌≤◌, Bool, true, false, ◌==◌, List, ◌∷◌, ◌++◌, codes, Option, None, Some, unwrap_or, IfSome, inl, inr, refl, ap, sym, subst, ◌∙◌, append_assoc, arith}
+use Rattle.std.proofs.Common.{◌≡◌, ℕ, ◌+◌, ◌-◌, ◌*◌, ◌^◌, ◌<◌, ◌≤◌, Bool, true, false, ◌&&◌, ◌||◌, ◌==◌, List, ◌∷◌, ◌++◌, codes, Option, None, Some, unwrap_or, IfSome, is_none, is_some, inl, inr, refl, ap, sym, subst, ◌∙◌, append_assoc, arith}
 use Rattle.std.specs.Fmt.{decimal}
 use Rattle.std.specs.Int.Count.{leading_unique}
 use Rattle.std.specs.Option.{option_map_or}
 use Rattle.std.specs.Str.{bytes_eq}
-use Rattle.std.proofs.lemmas.Bool.{cases_eq, cond_both, cond-false, eqb-true}
+use Rattle.std.proofs.lemmas.Bool.{and_parts, cases_eq, cond_both, cond-false, eqb-true}
 use Rattle.std.proofs.lemmas.Nat.{pow_pos}
 use Rattle.std.proofs.Math.Nat.{mul-le-mul_right, zero-mul}
 use Rattle.acl_packet.specs.declared.addresses.Family.{Family}
@@ -25,9 +25,9 @@ use Rattle.acl_rows.specs.RuleParts.{log_words}
 use Rattle.cisco_lang.specs.declared.documents.Entry.{Entry}
 use Rattle.cisco_lang.specs.declared.documents.Flags.{Flags}
 use Rattle.cisco_lang.specs.declared.documents.Flags.TheVariants.{Established, Rst, SynNotAck}
-use Rattle.cisco_lang.specs.Documents.{IsEntry}
-use Rattle.cisco_lang.specs.Texts.{action_word, proto_word, masked_words, address_words, ports_words, type_words, flags_words, end_words, entry_words}
-use Rattle.cisco_lang.specs.ReadingSteps.{next_word, proto_in, take_address, wildcard_length, take_masked, take_place, take_port, take_ports, take_type, take_flags, entry_in}
+use Rattle.cisco_lang.specs.Documents.{code_fits, flags_fit, icmp_fits, IsEntry, ports_fit, type_fits}
+use Rattle.cisco_lang.specs.Texts.{action_word, proto_word, masked_words, address_words, ports_words, number_words, icmp_words, flags_words, end_words, entry_words}
+use Rattle.cisco_lang.specs.ReadingSteps.{next_word, proto_in, take_address, wildcard_length, take_masked, take_place, take_port, take_ports, take_number, take_flags, entry_in}
 
 -- ---- numbers and addresses are no keywords
 
@@ -55,9 +55,9 @@ prefix_plain : (p : Prefix) → IsPrefixOf V6 p → IsPlain (prefix_text p)
 unfolding spelled_prefix_in prefix_in full_in block_in ipv4_in ipv6_in side_in groups_in group_in last_in whole_in short_in number_in digits_in
 prefix_plain p h = plain (spelled_prefix_in V6) (prefix_text p) p (spelled-again V6 p h.1 h.0) refl refl refl refl
 
-type_plain : (n : ℕ) → n ≤ 254 → IsPlain (decimal n)
+number_plain : (n : ℕ) → n ≤ 255 → IsPlain (decimal n)
 unfolding number_in digits_in
-type_plain n h = plain (number_in 254) (decimal n) n (number-again 254 n (omega (arith, h)) h) refl refl refl refl
+number_plain n h = plain (number_in 255) (decimal n) n (number-again 255 n (omega (arith, h)) h) refl refl refl refl
 
 -- words that begin no ports
 abbrev NoPorts : List (List ℕ) → Type 0
@@ -156,21 +156,38 @@ ports_read (Some (low, high)) rest h n =
 
 -- ---- tests
 
-type_read : (o : Option ℕ) (flags : Option Flags) (log : Bool) → IfSome o (λ n. n ≤ 254)
-    → (take_type (type_words o ++ (flags_words flags ++ log_words log)) ≡ (o, flags_words flags ++ log_words log))
-    × NoPorts (type_words o ++ (flags_words flags ++ log_words log))
-unfolding type_words flags_words log_words take_type next_word number_in digits_in
-type_read None None true h = (refl, (refl, refl))
-type_read None None false h = (refl, (refl, refl))
-type_read None (Some Established) log h = (refl, (refl, refl))
-type_read None (Some Rst) log h = (refl, (refl, refl))
-type_read None (Some SynNotAck) log h = (refl, (refl, refl))
-type_read (Some n) flags log h =
-    let rest : List (List ℕ) = flags_words flags ++ log_words log in
-    let w = type_plain n h in (
-      ap (λ o. option_map_or {U = Option ℕ × List (List ℕ)} (λ m. (Some m, rest)) o (None, decimal n ∷ rest)) (number-again 254 n (omega (arith, h)) h),
+-- words that begin neither ports nor a number
+abbrev NoNumber : ℕ → List (List ℕ) → Type 0
+NoNumber most words = (number_in most (next_word words).0 ≡ None) × NoPorts words
+
+number_read : (most : ℕ) (o : Option ℕ) (rest : List (List ℕ)) → most ≤ 255 → IfSome o (λ n. n ≤ most) → (o ≡ None → NoNumber most rest)
+    → (take_number most (number_words o ++ rest) ≡ (o, rest)) × NoPorts (number_words o ++ rest)
+unfolding number_words take_number next_word
+number_read most None rest l h k =
+    let none = k refl in
+    (ap (λ o. option_map_or {U = Option ℕ × List (List ℕ)} (λ m. (Some m, (next_word rest).1)) o (None, rest)) none.0, none.1)
+number_read most (Some n) rest l h k =
+    let w = number_plain n (omega (arith, h)) in (
+      ap (λ o. option_map_or {U = Option ℕ × List (List ℕ)} (λ m. (Some m, rest)) o (None, decimal n ∷ rest)) (number-again most n (omega (arith, h)) h),
       (w.eq, w.range),
     )
+
+-- neither flags nor a log begin so
+last_plain : (most : ℕ) (flags : Option Flags) (log : Bool) → NoNumber most (flags_words flags ++ log_words log)
+unfolding flags_words log_words next_word number_in digits_in
+last_plain most None true = (refl, (refl, refl))
+last_plain most None false = (refl, (refl, refl))
+last_plain most (Some Established) log = (refl, (refl, refl))
+last_plain most (Some Rst) log = (refl, (refl, refl))
+last_plain most (Some SynNotAck) log = (refl, (refl, refl))
+
+-- where no type is written, no code is
+no_code : (t c : Option ℕ) (flags : Option Flags) (log : Bool) → is_none c || is_some t ≡ true
+    → t ≡ None → NoNumber 254 (number_words c ++ (flags_words flags ++ log_words log))
+unfolding number_words
+no_code None None flags log h e = last_plain 254 flags log
+no_code None (Some n) flags log h e = absurd cc
+no_code (Some n) c flags log h e = absurd cc
 
 flags_read : (o : Option Flags) (log : Bool) → take_flags (flags_words o ++ log_words log) ≡ (o, log_words log)
 unfolding flags_words log_words take_flags next_word
@@ -188,15 +205,20 @@ log_read false = refl
 -- ---- entries
 
 pub entry_again : (f : Family) (e : Entry) → IsEntry f e → entry_in f (entry_words f e) ≡ e
-unfolding entry_in entry_words end_words next_word
+unfolding entry_in entry_words end_words icmp_words next_word
 entry_again f e h =
     let last = flags_words e.flags ++ log_words e.log in
-    let tests = type_words e.itype ++ last in
+    let coded = number_words e.icode ++ last in
+    let tests = number_words e.itype ++ coded in
     let ported = ports_words e.dport ++ tests in
     let destination = address_words f e.dst ++ ported in
-    let itype = type_read e.itype e.flags e.log h.icmp_type in
+    let icmp = (and_parts (ports_fit e) (icmp_fits f e && flags_fit f e) h.fit).1 in
+    let typed = (and_parts (icmp_fits f e) (flags_fit f e) icmp).0 in
+    let code = (and_parts (type_fits f e) (code_fits e) typed).1 in
+    let icode = number_read 255 e.icode last (omega arith) h.icmp_code (λ _. last_plain 255 e.flags e.log) in
+    let itype = number_read 254 e.itype coded (omega arith) h.icmp_type (no_code e.itype e.icode e.flags e.log code) in
     let dport = ports_read e.dport tests h.destination_ports itype.1 in
     let dst = place_read f e.dst ported h.destination in
     let sport = ports_read e.sport destination h.source_ports dst.1 in
     let src = place_read f e.src (ports_words e.sport ++ destination) h.source in
-    simp (append_assoc, action_again e.permit, proto_again f e.proto h.protocol, src.0, sport, dst.0, dport, itype.0, flags_read e.flags e.log, log_read e.log)
+    simp (append_assoc, action_again e.permit, proto_again f e.proto h.protocol, src.0, sport, dst.0, dport, itype.0, icode.0, flags_read e.flags e.log, log_read e.log)

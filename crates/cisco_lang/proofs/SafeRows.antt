@@ -23,7 +23,7 @@ use Rattle.cisco_lang.specs.declared.documents.Entry.{Entry}
 use Rattle.cisco_lang.specs.declared.documents.Flags.{Flags}
 use Rattle.cisco_lang.specs.declared.documents.Flags.TheVariants.{Established, Rst, SynNotAck}
 use Rattle.cisco_lang.specs.Documents.{IsEntry, IsItem, IsList, heads_of, IsSection}
-use Rattle.cisco_lang.specs.Texts.{action_word, proto_word, masked_words, address_words, ports_words, type_words, flags_words, end_words, entry_words, item_rows, head_rows, end_rows, list_rows, families_word, section_rows}
+use Rattle.cisco_lang.specs.Texts.{action_word, proto_word, masked_words, address_words, ports_words, number_words, icmp_words, flags_words, end_words, entry_words, item_rows, head_rows, end_rows, list_rows, families_word, section_rows}
 use Rattle.cisco_lang.proofs.ValidityLaws.{head_of}
 
 -- ---- entries
@@ -58,10 +58,17 @@ end_safe : (f : Family) (p : Prefix) (o : Option (ℕ × ℕ)) → IsPrefixOf f 
 unfolding end_words
 end_safe f p o h k = search (both_words, address_safe f p h, ports_safe o k)
 
-type_safe : (o : Option ℕ) → IfSome o (λ n. n ≤ 254) → AreWords (type_words o)
-unfolding type_words
-type_safe None h = tt
-type_safe (Some n) h = search (decimal_word n (omega (arith, h)))
+number_safe : (o : Option ℕ) → IfSome o (λ n. n ≤ 255) → AreWords (number_words o)
+unfolding number_words
+number_safe None h = tt
+number_safe (Some n) h = search (decimal_word n (omega (arith, h)))
+
+icmp_safe : (t c : Option ℕ) → IfSome t (λ n. n ≤ 254) → IfSome c (λ n. n ≤ 255) → AreWords (icmp_words t c)
+unfolding icmp_words
+icmp_safe t c h k = search (both_words, number_safe t (below t h), number_safe c k) where
+  below : (o : Option ℕ) → IfSome o (λ n. n ≤ 254) → IfSome o (λ n. n ≤ 255)
+  below None l = tt
+  below (Some n) l = omega (arith, l)
 
 flags_safe : (o : Option Flags) → AreWords (flags_words o)
 unfolding flags_words
@@ -75,7 +82,7 @@ unfolding entry_words
 entry_safe f e h =
     let source = end_safe f e.src e.sport h.source h.source_ports in
     let destination = end_safe f e.dst e.dport h.destination h.destination_ports in
-    search (both_words, action_safe, proto_safe f e.proto h.protocol, source, destination, type_safe e.itype h.icmp_type, flags_safe, log_safe)
+    search (both_words, action_safe, proto_safe f e.proto h.protocol, source, destination, icmp_safe e.itype e.icode h.icmp_type h.icmp_code, flags_safe, log_safe)
 
 -- ---- rows
 

@@ -1,5 +1,5 @@
 -- The tests of a section say what a valid one is.
-use Rattle.std.proofs.Common.{◌≡◌, ℕ, true, false, ◌&&◌, List, [], ◌∷◌, ◌++◌, map, codes, Option, None, Some, IfSome, refl, ap, sym, ◌∙◌}
+use Rattle.std.proofs.Common.{◌≡◌, ℕ, ◌≤◌, true, false, ◌&&◌, List, [], ◌∷◌, ◌++◌, map, codes, Option, None, Some, IfSome, refl, ap, sym, ◌∙◌, arith}
 use Rattle.std.specs.Bool.{Decides}
 use Rattle.std.specs.List.{list_all}
 use Rattle.std.specs.Str.{bytes_eq}
@@ -28,7 +28,7 @@ use Rattle.cisco_lang.specs.declared.documents.Item.{Item}
 use Rattle.cisco_lang.specs.declared.documents.Item.TheVariants.{Remark, Entry as AnEntry}
 use Rattle.cisco_lang.specs.declared.documents.Entry.{Entry}
 use Rattle.cisco_lang.specs.Documents.{parts_fit, IsEntry, IsItem, IsList, heads_of, IsSection}
-use Rattle.cisco_lang.specs.ValiditySteps.{are_ports, is_end, is_entry, is_item, is_list, is_headed, are_headed, is_section}
+use Rattle.cisco_lang.specs.ValiditySteps.{are_numbers, are_ports, is_end, is_entry, is_item, is_list, is_headed, are_headed, is_section}
 
 -- ---- a name that is a front and a name
 
@@ -53,12 +53,17 @@ ports_decide (Some ports) = range_decides ports
 end_decides : (f : Family) (p : Prefix) (o : Option (ℕ × ℕ)) → Decides (is_end f p o) (IsPrefixOf f p × IfSome o IsPortRange)
 end_decides f p o = Decides-and (is_prefix_of f p) (are_ports o) (prefix_decides f p) (ports_decide o)
 
+code_decides : (o : Option ℕ) → Decides (number_fits 0 255 o) (IfSome o (λ n. n ≤ 255))
+code_decides None = (λ h. tt, λ h. refl)
+code_decides (Some n) = Decides-like (number_fits 0 255 (Some n)) (λ h. h.1) (λ h. (omega arith, h)) (number_decides 0 255 (Some n))
+
 entry_decides : (f : Family) (e : Entry) → Decides (is_entry f e) (IsEntry f e)
 entry_decides f e =
     let ends = Decides-and (is_end f e.src e.sport) (is_end f e.dst e.dport) (end_decides f e.src e.sport) (end_decides f e.dst e.dport) in
-    let numbers = Decides-and (number_fits 1 255 e.proto) (number_fits 0 254 e.itype) (number_decides 1 255 e.proto) (type_decides e.itype) in
+    let icmp = Decides-and (number_fits 0 254 e.itype) (number_fits 0 255 e.icode) (type_decides e.itype) (code_decides e.icode) in
+    let numbers = Decides-and (number_fits 1 255 e.proto) (number_fits 0 254 e.itype && number_fits 0 255 e.icode) (number_decides 1 255 e.proto) icmp in
     let fit : Decides (parts_fit f e) (parts_fit f e ≡ true) = (λ h. h, λ h. h) in
-    let tests = Decides-and (number_fits 1 255 e.proto && number_fits 0 254 e.itype) (parts_fit f e) numbers fit in
+    let tests = Decides-and (are_numbers e) (parts_fit f e) numbers fit in
     Decides-like (is_entry f e)
     (λ h. record {
       protocol = h.1.0.0;
@@ -66,11 +71,12 @@ entry_decides f e =
       source_ports = h.0.0.1;
       destination = h.0.1.0;
       destination_ports = h.0.1.1;
-      icmp_type = h.1.0.1;
+      icmp_type = h.1.0.1.0;
+      icmp_code = h.1.0.1.1;
       fit = h.1.1;
     })
-    (λ h. (((h.source, h.source_ports), (h.destination, h.destination_ports)), ((h.protocol, h.icmp_type), h.fit)))
-    (Decides-and (is_end f e.src e.sport && is_end f e.dst e.dport) ((number_fits 1 255 e.proto && number_fits 0 254 e.itype) && parts_fit f e) ends tests)
+    (λ h. (((h.source, h.source_ports), (h.destination, h.destination_ports)), ((h.protocol, (h.icmp_type, h.icmp_code)), h.fit)))
+    (Decides-and (is_end f e.src e.sport && is_end f e.dst e.dport) (are_numbers e && parts_fit f e) ends tests)
 
 item_decides : (f : Family) (i : Item) → Decides (is_item f i) (IsItem f i)
 item_decides f (Remark text) = (λ h. h, λ h. h)

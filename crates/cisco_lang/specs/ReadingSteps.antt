@@ -81,10 +81,11 @@ take_ports words =
     else if bytes_eq word.0 (codes "range") then (Some (low.0, high.0), high.1)
     else (None, words)
 
-unfoldable pub take_type : List (List ℕ) → Option ℕ × List (List ℕ)
-take_type words =
+-- A number that is at most the limit, where one stands there.
+unfoldable pub take_number : ℕ → List (List ℕ) → Option ℕ × List (List ℕ)
+take_number most words =
     let word = next_word words in
-    option_map_or {U = Option ℕ × List (List ℕ)} (λ n. (Some n, word.1)) (number_in 254 word.0)
+    option_map_or {U = Option ℕ × List (List ℕ)} (λ n. (Some n, word.1)) (number_in most word.0)
     (None, words)
 
 unfoldable pub take_flags : List (List ℕ) → Option Flags × List (List ℕ)
@@ -104,8 +105,9 @@ entry_in family words =
     let sport = take_ports src.1 in
     let dst = take_place family sport.1 in
     let dport = take_ports dst.1 in
-    let itype = take_type dport.1 in
-    let flags = take_flags itype.1 in
+    let itype = take_number 254 dport.1 in
+    let icode = take_number 255 itype.1 in
+    let flags = take_flags icode.1 in
     record {
       permit = bytes_eq action.0 (codes "permit");
       proto = proto_in family protocol.0;
@@ -114,6 +116,7 @@ entry_in family words =
       dst = dst.0;
       dport = dport.0;
       itype = itype.0;
+      icode = icode.0;
       flags = flags.0;
       log = bytes_eq (next_word flags.1).0 (codes "log");
     }

@@ -58,9 +58,10 @@ ports_words (Some p) =
     if p.0 == p.1 then codes "eq" ∷ decimal p.0 ∷ []
     else codes "range" ∷ decimal p.0 ∷ decimal p.1 ∷ []
 
-unfoldable pub type_words : Option ℕ → List (List ℕ)
-type_words None = []
-type_words (Some n) = decimal n ∷ []
+-- A type of ICMP, or a code.
+unfoldable pub number_words : Option ℕ → List (List ℕ)
+number_words None = []
+number_words (Some n) = decimal n ∷ []
 
 unfoldable pub flags_words : Option Flags → List (List ℕ)
 flags_words None = []
@@ -72,11 +73,15 @@ flags_words (Some SynNotAck) = codes "match-all" ∷ codes "+syn" ∷ codes "-ac
 unfoldable pub end_words : Family → Prefix → Option (ℕ × ℕ) → List (List ℕ)
 end_words family p ports = address_words family p ++ ports_words ports
 
+-- What is written of ICMP is a type, and a code behind it: `[icmp-type [icmp-code]]`.
+unfoldable pub icmp_words : Option ℕ → Option ℕ → List (List ℕ)
+icmp_words itype icode = number_words itype ++ number_words icode
+
 -- The words of an entry of a list of the family.
 unfoldable pub entry_words : Family → Entry → List (List ℕ)
 entry_words family e = action_word e.permit ∷ proto_word family e.proto
     ∷ (end_words family e.src e.sport ++ (end_words family e.dst e.dport
-    ++ (type_words e.itype ++ (flags_words e.flags ++ log_words e.log))))
+    ++ (icmp_words e.itype e.icode ++ (flags_words e.flags ++ log_words e.log))))
 
 -- A remark is a free text, an entry its words.
 unfoldable pub item_rows : Family → Item → List Row

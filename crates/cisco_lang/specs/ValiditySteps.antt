@@ -26,9 +26,13 @@ are_ports (Some ports) = is_port_range ports
 abbrev pub is_end : Family → Prefix → Option (ℕ × ℕ) → Bool
 is_end family p ports = is_prefix_of family p && are_ports ports
 
+abbrev pub are_numbers : Entry → Bool
+are_numbers e = number_fits 1 255 e.proto
+    && (number_fits 0 254 e.itype && number_fits 0 255 e.icode)
+
 abbrev pub is_entry : Family → Entry → Bool
 is_entry family e = (is_end family e.src e.sport && is_end family e.dst e.dport)
-    && ((number_fits 1 255 e.proto && number_fits 0 254 e.itype) && parts_fit family e)
+    && (are_numbers e && parts_fit family e)
 
 abbrev pub is_item : Family → Item → Bool
 is_item family (Remark text) = is_safe_text text

@@ -3,7 +3,7 @@
 -- the end; an interface whose list has no entry lets all pass); Cisco IOS IPv6 Command Reference,
 -- "ipv6 access-list" (the implicit permit of neighbour advertisements and solicitations before the
 -- implicit deny); RFC 4861 section 4 for their types.
-use Rattle.std.specs.Prelude.{ℕ, Bool, true, false, not, ◌&&◌, ◌||◌, ◌==◌, nat_le, if◌then◌else◌, List, [], ◌∷◌, Option, None, Some, unwrap_or}
+use Rattle.std.specs.Prelude.{ℕ, Bool, true, false, not, ◌&&◌, ◌||◌, nat_le, if◌then◌else◌, List, [], ◌∷◌, Option, None, Some, unwrap_or}
 use Rattle.std.specs.List.{list_any}
 use Rattle.acl_packet.specs.declared.addresses.Family.{Family}
 use Rattle.acl_packet.specs.declared.addresses.Family.TheVariants.{V4, V6}
@@ -36,16 +36,19 @@ flags_hold (Some Established) flags = has_flag flags 16 || has_flag flags 4
 flags_hold (Some Rst) flags = has_flag flags 4
 flags_hold (Some SynNotAck) flags = has_flag flags 2 && not (has_flag flags 16)
 
--- An entry holds a packet where each of its parts does: protocol and addresses, ports, type and
--- flags.
+-- An entry holds a packet where each of its parts does: protocol and addresses, ports, type and code
+-- of ICMP, and flags.
 abbrev pub ends_hold : Entry → Packet → Bool
 ends_hold e p = number_holds e.proto p.proto && (has_address e.src p.src && has_address e.dst p.dst)
 
 abbrev pub ports_hold : Entry → Packet → Bool
 ports_hold e p = port_holds e.sport p.sport && port_holds e.dport p.dport
 
+abbrev pub icmp_holds : Entry → Packet → Bool
+icmp_holds e p = number_holds e.itype p.itype && number_holds e.icode p.icode
+
 abbrev pub tests_hold : Entry → Packet → Bool
-tests_hold e p = number_holds e.itype p.itype && flags_hold e.flags p.flags
+tests_hold e p = icmp_holds e p && flags_hold e.flags p.flags
 
 abbrev pub entry_holds : Entry → Packet → Bool
 entry_holds e p = ends_hold e p && (ports_hold e p && tests_hold e p)

@@ -7,8 +7,8 @@ use crate::documents::Section;
 use crate::lists_drafts::ListsDraft;
 use crate::validity::{is_section, list_names_of};
 use crate::walking::{items_of, walk};
-use acl_rows::{Language, Rows, are_distinct_names};
 use acl_packet::{Outcome, Packet};
+use acl_rows::{Language, Rows, are_distinct_names};
 use acl_text::{Memory, Out, PutFault};
 use std::alloc::Global;
 

@@ -25,6 +25,7 @@ pub struct Entry {
     pub dst: Prefix,
     pub dport: Option<(u16, u16)>,
     pub itype: Option<u8>,
+    pub icode: Option<u8>,
     pub flags: Option<Flags>,
     pub log: bool,
 }

@@ -1,10 +1,10 @@
 ghost use Rattle.std.specs.Prelude.{◌≡◌};
 ghost use Rattle.std.specs.Str.{bytes_eq};
-ghost use Rattle.cisco_lang.specs.ReadingSteps.{wildcard_length, proto_in, next_word, take_address, take_masked, take_place, take_port, take_ports, take_type, take_flags, entry_in};
+ghost use Rattle.cisco_lang.specs.ReadingSteps.{wildcard_length, proto_in, next_word, take_address, take_masked, take_place, take_port, take_ports, take_number, take_flags, entry_in};
 
 use crate::documents::{Entry, Flags};
-use acl_rows::RowWords;
 use acl_packet::{Family, Prefix};
+use acl_rows::RowWords;
 use acl_text::{read_address, read_spelled_prefix, read_u8, read_u16};
 
 /// The entry of the words, each of which is told by its place. No words are refused.
@@ -18,7 +18,8 @@ pub(crate) fn entry_of(family: Family, words: RowWords<'_>) -> Entry
     let (sport, words) = take_ports(words);
     let (dst, words) = take_place(family, words);
     let (dport, words) = take_ports(words);
-    let (itype, words) = take_type(words);
+    let (itype, words) = take_number(254, words);
+    let (icode, words) = take_number(255, words);
     let (flags, words) = take_flags(words);
     let (last, _) = next_word(words);
     Entry {
@@ -29,6 +30,7 @@ pub(crate) fn entry_of(family: Family, words: RowWords<'_>) -> Entry
         dst,
         dport,
         itype,
+        icode,
         flags,
         log: is(last, "log"),
     }
@@ -141,12 +143,12 @@ fn take_port<'a>(words: RowWords<'a>) -> (u16, RowWords<'a>)
     (read_u16(word, 65535).unwrap_or(0), rest)
 }
 
-#[tactic(auto, unfolding(crate::specs::ReadingSteps::take_type))]
-fn take_type<'a>(words: RowWords<'a>) -> (Option<u8>, RowWords<'a>)
-    ensures { result ≡ take_type words.entry }
+#[tactic(auto, unfolding(crate::specs::ReadingSteps::take_number))]
+fn take_number<'a>(most: u8, words: RowWords<'a>) -> (Option<u8>, RowWords<'a>)
+    ensures { result ≡ take_number most words.entry }
 {
     let (word, rest) = next_word(words.copy());
-    match read_u8(word, 254) {
+    match read_u8(word, most) {
         Some(number) => (Some(number), rest),
         None => (None, words),
     }

@@ -4,14 +4,14 @@ ghost use Rattle.acl_text.specs.Puts.{Puts};
 ghost use Rattle.acl_rows.specs.Rows.{row, spaced, text_of_rows, words_in};
 ghost use Rattle.acl_rows.specs.RuleParts.{log_words};
 ghost use Rattle.cisco_lang.specs.declared.documents.Item.TheVariants.{Entry as AnEntry};
-ghost use Rattle.cisco_lang.specs.Texts.{action_word, any_word, families_word, proto_word, masked_words, address_words, ports_words, type_words, flags_words, end_words, entry_words, item_rows, head_rows, end_rows, list_rows, section_row, section_rows};
+ghost use Rattle.cisco_lang.specs.Texts.{action_word, any_word, families_word, proto_word, masked_words, address_words, ports_words, number_words, icmp_words, flags_words, end_words, entry_words, item_rows, head_rows, end_rows, list_rows, section_row, section_rows};
 
 use crate::documents::{AccessList, Entry, Flags, Item, Section};
+use acl_packet::{Families, Family, Prefix};
 use acl_rows::{
-    Address, AsRows, Each, RowForm, FreeText, LogWord, Number, Piece, Row, Rows, Wildcard, OneWord,
+    Address, AsRows, Each, FreeText, LogWord, Number, OneWord, Piece, Row, RowForm, Rows, Wildcard,
     Words, put_words,
 };
-use acl_packet::{Families, Family, Prefix};
 use acl_text::{Out, PutFault};
 
 /// The row of an entry of a list of the family.
@@ -39,8 +39,9 @@ impl Rows for EntryRow {
             ports: entry.dport,
         };
         let tests = (
-            IcmpType {
-                number: entry.itype,
+            IcmpWords {
+                itype: entry.itype,
+                icode: entry.icode,
             },
             (FlagWords { flags: entry.flags }, LogWord { log: entry.log }),
         );
@@ -324,14 +325,31 @@ fn port(number: u16) -> OneWord<Number>
 }
 
 #[derive(Drop)]
-struct IcmpType {
+struct IcmpWords {
+    itype: Option<u8>,
+    icode: Option<u8>,
+}
+
+impl Words for IcmpWords {
+    ghost words = { λ t. icmp_words t.itype t.icode };
+
+    #[tactic(auto, unfolding(crate::specs::Texts::icmp_words))]
+    fn put_spaced<O: Out>(&self, out: &mut O) -> Result<(), PutFault> {
+        let itype = NumberWord { number: self.itype };
+        let icode = NumberWord { number: self.icode };
+        (itype, icode).put_spaced(out)
+    }
+}
+
+#[derive(Drop)]
+struct NumberWord {
     number: Option<u8>,
 }
 
-impl Words for IcmpType {
-    ghost words = { λ t. type_words t.number };
+impl Words for NumberWord {
+    ghost words = { λ t. number_words t.number };
 
-    #[tactic(auto, unfolding(crate::specs::Texts::type_words))]
+    #[tactic(auto, unfolding(crate::specs::Texts::number_words))]
     fn put_spaced<O: Out>(&self, out: &mut O) -> Result<(), PutFault> {
         match self.number {
             None => Ok(()),

@@ -5,8 +5,8 @@ ghost use Rattle.cisco_lang.specs.ReadingSteps.{no_list, no_section, item_in, is
 
 use crate::documents::{AccessList, Doc, Item, Section};
 use crate::entry_reading::entry_of;
-use acl_rows::{DocumentDraft, Draft, RowWords, families_of};
 use acl_packet::{Families, Family};
+use acl_rows::{DocumentDraft, Draft, RowWords, families_of};
 use acl_text::{Bytes, Items, Memory};
 use std::alloc::Global;
 use std::mem;

@@ -2,12 +2,12 @@ ghost use Rattle.std.specs.Prelude.{◌≡◌, ◌++◌, IfOk, OnOk, bytes_eq, c
 ghost use Rattle.std.specs.List.{list_all};
 ghost use Rattle.acl_text.specs.Cuts.{views};
 ghost use Rattle.acl_rows.specs.RuleParts.{is_proto};
-ghost use Rattle.cisco_lang.specs.Documents.{flags_fit, list_names, match_all_fits, parts_fit, ports_fit, type_fits};
-ghost use Rattle.cisco_lang.specs.ValiditySteps.{are_headed, are_ports, is_end, is_entry, is_headed, is_item, is_list, is_section};
+ghost use Rattle.cisco_lang.specs.Documents.{code_fits, flags_fit, icmp_fits, list_names, match_all_fits, parts_fit, ports_fit, type_fits};
+ghost use Rattle.cisco_lang.specs.ValiditySteps.{are_headed, are_numbers, are_ports, is_end, is_entry, is_headed, is_item, is_list, is_section};
 
 use crate::documents::{AccessList, Entry, Flags, Item, Section};
-use acl_rows::{is_port_range, is_prefix_of, is_proto, number_fits};
 use acl_packet::{Families, Family, Prefix};
+use acl_rows::{is_port_range, is_prefix_of, is_proto, number_fits};
 use acl_text::{Memory, behind, is_filter_name, is_safe_text};
 use std::alloc::Global;
 
@@ -114,7 +114,15 @@ fn is_entry(family: Family, entry: &Entry) -> bool
     if !is_end(family, &entry.src, entry.sport) || !is_end(family, &entry.dst, entry.dport) {
         return false;
     }
-    number_fits(1, 255, entry.proto) && number_fits(0, 254, entry.itype) && parts_fit(family, entry)
+    are_numbers(entry) && parts_fit(family, entry)
+}
+
+fn are_numbers(entry: &Entry) -> bool
+    ensures { result ≡ are_numbers entry.now }
+{
+    number_fits(1, 255, entry.proto)
+        && number_fits(0, 254, entry.itype)
+        && number_fits(0, 255, entry.icode)
 }
 
 fn is_end(family: Family, place: &Prefix, ports: Option<(u16, u16)>) -> bool
@@ -135,7 +143,7 @@ fn are_ports(ports: Option<(u16, u16)>) -> bool
 fn parts_fit(family: Family, entry: &Entry) -> bool
     ensures { result ≡ parts_fit family entry.now }
 {
-    ports_fit(entry) && type_fits(family, entry) && flags_fit(family, entry)
+    ports_fit(entry) && icmp_fits(family, entry) && flags_fit(family, entry)
 }
 
 fn ports_fit(entry: &Entry) -> bool
@@ -150,6 +158,18 @@ fn type_fits(family: Family, entry: &Entry) -> bool
     ensures { result ≡ type_fits family entry.now }
 {
     entry.itype.is_none() || is_proto(entry.proto, family.icmp_number())
+}
+
+fn code_fits(entry: &Entry) -> bool
+    ensures { result ≡ code_fits entry.now }
+{
+    entry.icode.is_none() || entry.itype.is_some()
+}
+
+fn icmp_fits(family: Family, entry: &Entry) -> bool
+    ensures { result ≡ icmp_fits family entry.now }
+{
+    type_fits(family, entry) && code_fits(entry)
 }
 
 fn flags_fit(family: Family, entry: &Entry) -> bool

@@ -1,11 +1,11 @@
 ghost use Rattle.std.specs.Prelude.{◌≡◌, length};
 ghost use Rattle.acl_packet.specs.Packets.{IsPacket};
 ghost use Rattle.acl_rows.specs.RuleParts.{number_holds};
-ghost use Rattle.cisco_lang.specs.Walks.{port_holds, flags_hold, entry_holds, ends_hold, ports_hold, tests_hold, is_entry, verdict_of, decided_by, ending, first_holding, has_entries, walk, items_of, section_outcome, outcome_of};
+ghost use Rattle.cisco_lang.specs.Walks.{port_holds, flags_hold, entry_holds, ends_hold, ports_hold, icmp_holds, tests_hold, is_entry, verdict_of, decided_by, ending, first_holding, has_entries, walk, items_of, section_outcome, outcome_of};
 
 use crate::documents::{AccessList, Doc, Entry, Flags, Item, Section};
-use acl_rows::{ACK, RST, SYN, number_holds};
 use acl_packet::{Family, Outcome, Packet, Verdict, has_flag};
+use acl_rows::{ACK, RST, SYN, number_holds};
 
 #[tactic(auto, unfolding(crate::specs::Walks::items_of))]
 pub(crate) fn items_of(family: Family, lists: &[AccessList]) -> &[Item]
@@ -109,10 +109,16 @@ fn ports_hold(entry: &Entry, packet: &Packet) -> bool
     port_holds(entry.sport, packet.sport) && port_holds(entry.dport, packet.dport)
 }
 
+fn icmp_holds(entry: &Entry, packet: &Packet) -> bool
+    ensures { result ≡ icmp_holds entry.now packet.now }
+{
+    number_holds(entry.itype, packet.itype) && number_holds(entry.icode, packet.icode)
+}
+
 fn tests_hold(entry: &Entry, packet: &Packet) -> bool
     ensures { result ≡ tests_hold entry.now packet.now }
 {
-    number_holds(entry.itype, packet.itype) && flags_hold(entry.flags, packet.flags)
+    icmp_holds(entry, packet) && flags_hold(entry.flags, packet.flags)
 }
 
 fn port_holds(range: Option<(u16, u16)>, port: u16) -> bool

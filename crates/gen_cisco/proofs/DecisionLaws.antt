@@ -52,27 +52,29 @@ ports-same : (o : Option (ℕ × ℕ)) (n : ℕ) → port_holds o n ≡ in_range
 ports-same None n = refl
 ports-same (Some q) n = refl
 
-regrouped : (proto src dst sport dport itype flags : Bool)
-    → ((proto && (src && dst)) && ((sport && dport) && (itype && flags))) ≡ ((proto && (src && (dst && (sport && (dport && itype))))) && flags)
-regrouped false src dst sport dport itype flags = refl
-regrouped true false dst sport dport itype flags = refl
-regrouped true true false sport dport itype flags = refl
-regrouped true true true false dport itype flags = refl
-regrouped true true true true false itype flags = refl
-regrouped true true true true true itype flags = refl
+regrouped : (proto src dst sport dport itype icode flags : Bool)
+    → ((proto && (src && dst)) && ((sport && dport) && ((itype && icode) && flags)))
+    ≡ ((proto && (src && (dst && (sport && (dport && (itype && icode)))))) && flags)
+regrouped false src dst sport dport itype icode flags = refl
+regrouped true false dst sport dport itype icode flags = refl
+regrouped true true false sport dport itype icode flags = refl
+regrouped true true true false dport itype icode flags = refl
+regrouped true true true true false itype icode flags = refl
+regrouped true true true true true itype icode flags = refl
 
-four-same : {a d e f : Bool} (b c g : Bool) {w x y z : Bool} → a ≡ w → d ≡ x → e ≡ y → f ≡ z
-    → ((a && (b && c)) && ((d && e) && (f && g))) ≡ ((w && (b && c)) && ((x && y) && (z && g)))
-four-same {a = a} {d = d} {e = e} {f = f} b c g {w = w} {x = x} {y = y} {z = z} p q r s =
-    ap (λ t. (t && (b && c)) && ((d && e) && (f && g))) p ∙ ap (λ t. (w && (b && c)) && ((t && e) && (f && g))) q
-    ∙ ap (λ t. (w && (b && c)) && ((x && t) && (f && g))) r ∙ ap (λ t. (w && (b && c)) && ((x && y) && (t && g))) s
+five-same : {a d e f g : Bool} (b c k : Bool) {v w x y z : Bool} → a ≡ v → d ≡ w → e ≡ x → f ≡ y → g ≡ z
+    → ((a && (b && c)) && ((d && e) && ((f && g) && k))) ≡ ((v && (b && c)) && ((w && x) && ((y && z) && k)))
+five-same {a = a} {d = d} {e = e} {f = f} {g = g} b c k {v = v} {w = w} {x = x} {y = y} {z = z} p q r s t =
+    ap (λ u. (u && (b && c)) && ((d && e) && ((f && g) && k))) p ∙ ap (λ u. (v && (b && c)) && ((u && e) && ((f && g) && k))) q
+    ∙ ap (λ u. (v && (b && c)) && ((w && u) && ((f && g) && k))) r ∙ ap (λ u. (v && (b && c)) && ((w && x) && ((u && g) && k))) s
+    ∙ ap (λ u. (v && (b && c)) && ((w && x) && ((y && u) && k))) t
 
 entry-same : (r : Rule) (p : Packet) (c : Combination) → entry_holds (entry_of r c) p ≡ (combination_holds p c && flags_hold (flags_of r.test) p.flags)
 entry-same r p c =
-    four-same (has_address c.src p.src) (has_address c.dst p.dst) (flags_hold (flags_of r.test) p.flags)
-    (number-same c.proto p.proto) (ports-same c.sport p.sport) (ports-same c.dport p.dport) (number-same c.itype p.itype)
+    five-same (has_address c.src p.src) (has_address c.dst p.dst) (flags_hold (flags_of r.test) p.flags)
+    (number-same c.proto p.proto) (ports-same c.sport p.sport) (ports-same c.dport p.dport) (number-same c.itype p.itype) (number-same c.icode p.icode)
     ∙ regrouped (is_chosen c.proto p.proto) (has_address c.src p.src) (has_address c.dst p.dst) (in_range c.sport p.sport)
-    (in_range c.dport p.dport) (is_chosen c.itype p.itype) (flags_hold (flags_of r.test) p.flags)
+    (in_range c.dport p.dport) (is_chosen c.itype p.itype) (is_chosen c.icode p.icode) (flags_hold (flags_of r.test) p.flags)
     ∙ ap (λ b. b && flags_hold (flags_of r.test) p.flags) (sym (combination-told p c))
 
 test-same : (test : Test) (p : Packet) → has_test Cisco test ≡ true → flags_hold (flags_of test) p.flags ≡ passes test p
@@ -178,8 +180,8 @@ denied true o e = sym e
 denied false o e = refl
 
 neighbours : (proto a b s d last : Bool) → s ≡ true → d ≡ true
-    → unwrap_or (cond ((proto && (s && d)) && ((true && true) && (a && true))) (Some (unlogged Accept))
-    (cond ((proto && (s && d)) && ((true && true) && (b && true))) (Some (unlogged Accept)) (cond last (Some (unlogged Deny)) None)))
+    → unwrap_or (cond ((proto && (s && d)) && ((true && true) && ((a && true) && true))) (Some (unlogged Accept))
+    (cond ((proto && (s && d)) && ((true && true) && ((b && true) && true))) (Some (unlogged Accept)) (cond last (Some (unlogged Deny)) None)))
     (unlogged (verdict_of (proto && (a || b)))) ≡ unlogged (verdict_of (proto && (a || b)))
 neighbours false a b s d last e f = denied last (unlogged Deny) refl
 neighbours true a b false d last e f = absurd (false≢true e)

@@ -1,15 +1,19 @@
 -- The entries of a rule that has no limit are entries of a list.
-use Rattle.std.proofs.Common.{subst, ◌≡◌, ℕ, ◌≤◌, true, false, ◌&&◌, ◌||◌, Option, None, Some, IfSome, is_none, refl, ap, sym, ◌∙◌}
+use Rattle.std.proofs.Common.{subst, ◌≡◌, ℕ, ◌<◌, ◌≤◌, true, false, ◌&&◌, ◌||◌, nat_le, List, Option, None, Some, IfSome, is_none, is_some, refl, ap, sym, ◌∙◌, arith}
 use Rattle.std.proofs.lemmas.Bool.{and_from, false≢true}
+use Rattle.std.proofs.lemmas.Bool.Decides.{nat_tests}
 use Rattle.std.proofs.Math.Nat.{suc-le-suc_iff}
-use Rattle.acl_packet.specs.declared.packet_fields.Field.TheVariants.{SourcePort, DestinationPort, IcmpType}
+use Rattle.acl_packet.specs.declared.packet_fields.Field.TheVariants.{SourcePort, DestinationPort, IcmpType, IcmpCode}
 use Rattle.acl_packet.specs.declared.addresses.Families.{Families}
 use Rattle.acl_packet.specs.declared.addresses.Family.{Family}
 use Rattle.acl_packet.specs.declared.addresses.Family.TheVariants.{V4, V6}
 use Rattle.acl_packet.specs.Addresses.{same_family}
 use Rattle.acl_packet.specs.Packets.{has_ports, icmp_of, is_icmp}
-use Rattle.acl_sets.specs.ComputableSets.{is_all}
+use Rattle.acl_sets.specs.ComputableSets.{covers, is_all}
+use Rattle.acl_sets.specs.OneNumber.{IsOneNumber}
 use Rattle.acl_sets.specs.Ranges.{holds, Numbers, Only}
+use Rattle.acl_sets.specs.declared.sets.Range.{Range}
+use Rattle.acl_sets.proofs.RangeLaws.{at_top}
 use Rattle.acl_rows.specs.PortRanges.{IsPortRange}
 use Rattle.acl_target.specs.declared.targets.Kind.TheVariants.{Cisco}
 use Rattle.acl_platform.specs.declared.combinations.Combination.{Combination}
@@ -22,7 +26,7 @@ use Rattle.acl_platform.proofs.CombinationFacts.{IsCombinationOf, OfNumbers, OfR
 use Rattle.acl_platform.proofs.NamedNumbers.{named, no-icmp, protocol-is, type-is}
 use Rattle.acl_platform.proofs.RuleNumbers.{no-destination, no-source, tcp-or-udp}
 use Rattle.acl_rows.specs.RuleParts.{is_proto}
-use Rattle.cisco_lang.specs.Documents.{flags_fit, IsEntry, match_all_fits, ports_fit, type_fits}
+use Rattle.cisco_lang.specs.Documents.{code_fits, flags_fit, icmp_fits, IsEntry, match_all_fits, ports_fit, type_fits}
 use Rattle.gen_cisco.specs.Limits.{asks_initial, asks_initial_in_ipv6}
 use Rattle.gen_cisco.specs.Sections.{entry_of, flags_of}
 
@@ -34,6 +38,29 @@ types-fit families r proto None h p k = refl
 types-fit families r proto (Some n) h p k =
     let one = named (is_icmp r.family) r.protos proto p (no-icmp r.family) (h.numbers_fit IcmpType k.0) in
     ap (λ x. is_proto x (icmp_of r.family)) one.1.0 ∙ one.1.1.1
+
+-- ---- the code
+
+code-is : (families : Families) (r : Rule) (o : Option ℕ) → IsSoundRule Cisco families r → OfNumbers r.icodes o → IfSome o (λ n. n ≤ 255)
+code-is families r None h k = tt
+code-is families r (Some n) h k = at_top 0 255 r.icodes.ranges n (h.numbers IcmpCode).normal k.1
+
+not-both-ends : (n top : ℕ) → 0 < top → ((nat_le n 0 && nat_le top n) || false) ≡ true → ⊥
+not-both-ends n top h e = grind (arith, nat_tests)
+
+-- a set of one number is not all
+one-of-many : (s : Numbers) → IsOneNumber s → 0 < s.top → is_all s ≡ true → ⊥
+one-of-many s one h all =
+    let P : List Range → Type 0 = λ ranges. covers ranges 0 s.top ≡ true in
+    not-both-ends one.0 s.top h (subst P one.1 all)
+
+codes-fit : (families : Families) (r : Rule) (t c : Option ℕ) → IsSoundRule Cisco families r → OfNumbers r.itypes t → OfNumbers r.icodes c
+    → (is_none c || is_some t) ≡ true
+codes-fit families r t None h k l = refl
+codes-fit families r (Some n) (Some m) h k l = refl
+codes-fit families r None (Some m) h k l =
+    let top = (h.numbers IcmpType).top_is in
+    absurd (one-of-many r.itypes (h.codes_named l.0) (omega (arith, top)) k)
 
 -- ---- ports
 
@@ -99,9 +126,12 @@ entry-is families r c h u k =
       destination = k.destination;
       destination_ports = range-is r.dports c.dport (h.numbers DestinationPort).top_is k.destination_ports;
       icmp_type = type-is Cisco families r c.itype h k.type_of_icmp;
-      fit = and_from (ports_fit e) (type_fits r.family e && flags_fit r.family e)
+      icmp_code = code-is families r c.icode h k.code_of_icmp;
+      fit = and_from (ports_fit e) (icmp_fits r.family e && flags_fit r.family e)
           (ports-fit families r c.proto c.sport c.dport h u.ports k.protocol k.source_ports k.destination_ports)
-          (and_from (type_fits r.family e) (flags_fit r.family e) (types-fit families r c.proto c.itype h k.protocol k.type_of_icmp)
+          (and_from (icmp_fits r.family e) (flags_fit r.family e)
+          (and_from (type_fits r.family e) (code_fits e) (types-fit families r c.proto c.itype h k.protocol k.type_of_icmp)
+          (codes-fit families r c.itype c.icode h k.type_of_icmp k.code_of_icmp))
           (and_from (is_none e.flags || is_proto e.proto 6) (match_all_fits r.family e.flags)
           (of-tcp r.test c.proto (λ t. only-tcp r.protos c.proto k.protocol (h.flags_fit t)))
           (match-all r.family r.test u.initial)));

@@ -111,6 +111,7 @@ denial-is family = record {
   destination = everywhere_is family;
   destination_ports = tt;
   icmp_type = tt;
+  icmp_code = tt;
   fit = no-flags family;
 }
 
@@ -122,6 +123,7 @@ neighbours-are itype h = record {
   destination = everywhere_is V6;
   destination_ports = tt;
   icmp_type = h;
+  icmp_code = tt;
   fit = refl;
 }
 

@@ -45,6 +45,7 @@ entry_of r c = record {
   dst = c.dst;
   dport = c.dport;
   itype = c.itype;
+  icode = c.icode;
   flags = flags_of r.test;
   log = r.log;
 }
@@ -54,7 +55,8 @@ abbrev pub rule_items : Rule → List Item
 rule_items r = map (λ text. Remark text) (remarks r)
     ++ map (λ c. AnEntry (entry_of r c)) (combinations r)
 
--- An entry for a protocol or all of them, and a type or all of them, from everywhere to everywhere.
+-- An entry for a protocol or all of them, and a type or all of them, each with all its codes, from
+-- everywhere to everywhere.
 abbrev pub wide_entry : Family → Bool → Option ℕ → Option ℕ → Entry
 wide_entry family permit proto itype = record {
   permit = permit;
@@ -64,6 +66,7 @@ wide_entry family permit proto itype = record {
   dst = everywhere family;
   dport = None;
   itype = itype;
+  icode = None;
   flags = None;
   log = false;
 }

@@ -11,8 +11,8 @@ use acl_packet::Family;
 use acl_platform::{Rule, RuleCount, count_combinations, count_rules};
 
 /// The number of entries of the list of the family; a number that does not fit stands at the
-/// greatest one that does. Protocols and types of its rules have to be numbers below 256, ports below
-/// 65,536.
+/// greatest one that does. Protocols, types and codes of its rules have to be numbers below 256, ports
+/// below 65,536.
 pub(crate) fn list_count(family: Family, rules: &[Rule]) -> u64
     requires { All IsSized rules.now }
     ensures { result ≡ min (count_by is_entry (list_items family rules.now)) COUNT_END }

@@ -20,16 +20,16 @@ ghost use Rattle.gen_cisco.specs.Sections.{
 };
 
 use crate::counts::{has_rule, is_of};
-use acl_rows::{RowForm, Row, Rows, OneWord};
 use acl_packet::{Families, Family, Prefix, Verdict};
 use acl_platform::{
     Combination, Filter, RemarkForm, RemarkRows, Rule, RuleForm, Test, put_combinations, put_rules,
 };
+use acl_rows::{OneWord, Row, RowForm, Rows};
 use acl_text::{Out, PutFault};
 use cisco_lang::{Entry, EntryRow, Flags, ListEnd, ListHead, RemarkRow, SectionHead};
 
-/// Puts the text of the section that the filter becomes, in an output that has to be open. Protocols and
-/// types of its rules have to be numbers below 256, ports below 65,536.
+/// Puts the text of the section that the filter becomes, in an output that has to be open.
+/// Protocols, types and codes of its rules have to be numbers below 256, ports below 65,536.
 pub(crate) fn put_section<O: Out>(filter: &Filter, out: &mut O) -> Result<(), PutFault>
     requires open { IsTrue (O.is_open out.old) }
     requires sized { All IsSized filter.now.rules }
@@ -162,6 +162,7 @@ fn wide_row(family: Family, permit: bool, proto: Option<u8>, itype: Option<u8>) 
             dst: Prefix::everywhere(family),
             dport: None,
             itype,
+            icode: None,
             flags: None,
             log: false,
         },
@@ -242,6 +243,7 @@ fn entry_of(rule: &Rule, combination: &Combination) -> Entry
         dst: combination.dst,
         dport: combination.dport,
         itype: combination.itype,
+        icode: combination.icode,
         flags: flags_of(rule.test),
         log: rule.log,
     }

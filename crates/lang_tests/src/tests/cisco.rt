@@ -13,6 +13,7 @@ ip access-list extended edge
  permit tcp any host 192.0.2.10 eq 80 established log
  deny udp 10.0.0.0 0.255.255.255 any range 5000 5010
  permit icmp any any 8
+ permit icmp any any 3 4
  deny tcp any any match-all +syn -ack
  permit 47 any any
 exit
@@ -24,7 +25,7 @@ exit
 ";
 
 // Small changes of the document, each of which is read: what stands in it, and what in its place.
-static READ: [Change; 9] = [
+static READ: [Change; 12] = [
     (
         "edge",
         "aaaaaaaaaaaaaaaaaaaaaaaaaaaaaaaaaaaaaaaaaaaaaaaaaaaaaaaaaaaaaaaa",
@@ -37,6 +38,9 @@ static READ: [Change; 9] = [
     ("host 192.0.2.10", "10.0.0.0 0.0.255.255"),
     ("range 5000 5010", "range 0 65535"),
     ("any any 8", "any any 254"),
+    ("any any 8", "any any 8 0"),
+    ("any any 3 4", "any any 3"),
+    ("any any 3 4", "any any 254 255"),
     ("permit 47", "permit 58"),
     (" deny ipv6 2001:db8::/32 any log\n", ""),
     (
@@ -46,7 +50,7 @@ static READ: [Change; 9] = [
 ];
 
 // Small changes of it that are refused.
-static REFUSED: [Change; 42] = [
+static REFUSED: [Change; 46] = [
     // sections and lists
     ("! cisco edge mixed\n", ""),
     ("! cisco edge mixed", "! cisco edge both"),
@@ -92,7 +96,7 @@ static REFUSED: [Change; 42] = [
     ("10.0.0.0 0.255.255.255", "10.0.0.0 0.255.255.254"),
     ("2001:db8::/32", "2001:DB8::/32"),
     ("2001:db8::/32", "2001:0db8::/32"),
-    // ports, types and flags
+    // ports, types, codes and flags
     ("eq 80", "eq 080"),
     ("eq 80", "range 80 80"),
     ("range 5000 5010", "range 5010 5000"),
@@ -100,6 +104,10 @@ static REFUSED: [Change; 42] = [
     ("deny udp", "deny ip"),
     ("any any 8", "any any 255"),
     ("permit icmp any any 8", "permit udp any any 8"),
+    ("any any 3 4", "any any 255 4"),
+    ("any any 3 4", "any any 3 256"),
+    ("any any 3 4", "any any 3 04"),
+    ("any any 3 4", "any any 3 4 5"),
     ("match-all +syn -ack", "match-all +syn"),
     ("deny tcp any any match-all", "deny udp any any match-all"),
     (
@@ -114,7 +122,7 @@ const SIX: &str =
 const REMARKS: &str =
     "! cisco e extended\nno ip access-list extended e\nip access-list extended e\n remark old\nexit\n";
 
-static WALKS: [Walk; 14] = [
+static WALKS: [Walk; 18] = [
     (DOCUMENT, 0, ACK, Some(LOGGED)),
     (DOCUMENT, 0, SYN, Some(DENIED)),
     (
@@ -129,6 +137,27 @@ static WALKS: [Walk; 14] = [
         Some(DENIED),
     ),
     (DOCUMENT, 0, PING, Some(ACCEPTED)),
+    (DOCUMENT, 0, Packet { icode: 1, ..PING }, Some(ACCEPTED)),
+    (
+        DOCUMENT,
+        0,
+        Packet {
+            itype: 3,
+            icode: 4,
+            ..PING
+        },
+        Some(ACCEPTED),
+    ),
+    (
+        DOCUMENT,
+        0,
+        Packet {
+            itype: 3,
+            icode: 3,
+            ..PING
+        },
+        Some(DENIED),
+    ),
     (
         DOCUMENT,
         0,
@@ -164,6 +193,15 @@ static WALKS: [Walk; 14] = [
     ),
     (DOCUMENT, 1, SOLICITATION, None),
     (SIX, 0, SOLICITATION, Some(ACCEPTED)),
+    (
+        SIX,
+        0,
+        Packet {
+            icode: 1,
+            ..SOLICITATION
+        },
+        Some(ACCEPTED),
+    ),
     (
         SIX,
         0,
