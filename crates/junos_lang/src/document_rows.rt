@@ -104,6 +104,10 @@ impl<'a> Rows for TermConditions<'a> {
                 items: self.term.itypes.as_slice(),
                 form: InDecimal,
             },
+            icodes: EachWord {
+                items: self.term.icodes.as_slice(),
+                form: InDecimal,
+            },
             test: self.term.test,
         };
         conditions.put_rows(out)

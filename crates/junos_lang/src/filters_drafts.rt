@@ -211,6 +211,8 @@ impl JTerm {
             self.dports = ranges_of(alloc, words)?;
         } else if word == b"icmp-type".as_slice() {
             self.itypes = numbers_of(alloc, words)?;
+        } else if word == b"icmp-code".as_slice() {
+            self.icodes = numbers_of(alloc, words)?;
         } else {
             self.protos = numbers_of(alloc, words)?;
         }
@@ -240,6 +242,7 @@ fn no_term(alloc: Global) -> JTerm
         sports: Items::new(alloc),
         dports: Items::new(alloc),
         itypes: Items::new(alloc),
+        icodes: Items::new(alloc),
         test: None,
         syslog: false,
         verdict: Verdict::Accept,

@@ -40,6 +40,7 @@ fn headers_hold(term: &JTerm, packet: &Packet) -> bool
 {
     number_holds(term.protos.as_slice(), packet.proto)
         && number_holds(term.itypes.as_slice(), packet.itype)
+        && number_holds(term.icodes.as_slice(), packet.icode)
         && test_holds(term.test, packet.flags)
 }
 
