@@ -7,8 +7,8 @@ ghost use Rattle.junos_lang.specs.Texts.{address_rows, closing, condition_word, 
 use crate::conditions::Condition;
 use crate::documents::JTest;
 use crate::filter_rows::{Closing, FixedLine, put_word};
-use acl_rows::{Each, EachWord, End, RowForm, Piece, Row, Rows, OneWord, WordForm, Words};
 use acl_packet::{Family, Prefix};
+use acl_rows::{Each, EachWord, End, OneWord, Piece, Row, RowForm, Rows, WordForm, Words};
 use acl_text::{Out, PutFault};
 
 /// The values of a condition, each of which is a word.

@@ -4,8 +4,8 @@ ghost use Rattle.junos_lang.specs.Texts.{condition_rows, from_rows, note_rows, r
 use crate::condition_rows::FromPart;
 use crate::documents::{JTerm, Section};
 use crate::filter_rows::{NoteRow, SectionEnd, SectionHead, TermEnd, TermHead, ThenRows};
-use acl_rows::{Each, EachWord, RowForm, Number, Piece, RangeWords, Rows, WordForm};
 use acl_packet::Family;
+use acl_rows::{Each, EachWord, Number, Piece, RangeWords, RowForm, Rows, WordForm};
 use acl_text::{Bytes, Out, PutFault};
 
 impl Rows for Section {

@@ -7,8 +7,8 @@ ghost use Rattle.junos_lang.specs.Documents.{are_tcp_or_udp, codes_fit, is_alone
 ghost use Rattle.junos_lang.specs.ValiditySteps.{are_addresses, are_named, are_numbers, are_ports, filter_name, is_note, is_section, is_term};
 
 use crate::documents::{JTerm, Section};
-use acl_rows::{Named, are_distinct, are_port_ranges, have_distinct_names, is_addresses};
 use acl_packet::{Family, Prefix, Verdict};
+use acl_rows::{Named, are_distinct, are_port_ranges, have_distinct_names, is_addresses};
 use acl_text::{Bytes, Memory, is_filter_name, is_name, is_safe_text};
 use std::alloc::Global;
 
