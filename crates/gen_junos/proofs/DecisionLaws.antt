@@ -8,7 +8,7 @@ use Rattle.acl_packet.specs.declared.addresses.Family.{Family}
 use Rattle.acl_packet.specs.declared.addresses.Family.TheVariants.{V4, V6}
 use Rattle.acl_packet.specs.declared.filtering.Outcome.{Outcome}
 use Rattle.acl_packet.specs.declared.filtering.Verdict.TheVariants as verdicts
-use Rattle.acl_packet.specs.declared.packet_fields.Field.TheVariants.{Protocol, SourcePort, DestinationPort, IcmpType}
+use Rattle.acl_packet.specs.declared.packet_fields.Field.TheVariants.{Protocol, SourcePort, DestinationPort, IcmpType, IcmpCode}
 use Rattle.acl_packet.specs.declared.packets.Packet.{Packet}
 use Rattle.acl_packet.specs.Addresses.{covers, first_family, same_family, width_of}
 use Rattle.acl_packet.specs.Outcomes.{unlogged}
@@ -44,30 +44,34 @@ test-same SynNotAck p h = refl
 test-same Rst p h = refl
 test-same State p h = absurd (false≢true h)
 
-regrouped : (proto src dst sport dport itype test : Bool)
-    → ((src && dst) && ((sport && dport) && (proto && (itype && test)))) ≡ ((proto && (src && (dst && (sport && (dport && itype))))) && test)
-regrouped false false dst sport dport itype test = refl
-regrouped false true false sport dport itype test = refl
-regrouped false true true false dport itype test = refl
-regrouped false true true true false itype test = refl
-regrouped false true true true true itype test = refl
-regrouped true false dst sport dport itype test = refl
-regrouped true true false sport dport itype test = refl
-regrouped true true true false dport itype test = refl
-regrouped true true true true false itype test = refl
-regrouped true true true true true itype test = refl
+regrouped : (proto src dst sport dport itype icode test : Bool)
+    → ((src && dst) && ((sport && dport) && (proto && (itype && (icode && test)))))
+    ≡ ((proto && (src && (dst && (sport && (dport && (itype && icode)))))) && test)
+regrouped false false dst sport dport itype icode test = refl
+regrouped false true false sport dport itype icode test = refl
+regrouped false true true false dport itype icode test = refl
+regrouped false true true true false itype icode test = refl
+regrouped false true true true true itype icode test = refl
+regrouped true false dst sport dport itype icode test = refl
+regrouped true true false sport dport itype icode test = refl
+regrouped true true true false dport itype icode test = refl
+regrouped true true true true false itype icode test = refl
+regrouped true true true true true false icode test = refl
+regrouped true true true true true true icode test = refl
 
-seven-same : {src dst sport dport proto itype test a b c d e f g : Bool} → src ≡ a → dst ≡ b → sport ≡ c → dport ≡ d → proto ≡ e → itype ≡ f → test ≡ g
-    → ((src && dst) && ((sport && dport) && (proto && (itype && test)))) ≡ ((a && b) && ((c && d) && (e && (f && g))))
-seven-same {src = src} {dst = dst} {sport = sport} {dport = dport} {proto = proto} {itype = itype} {test = test} {a = a} {b = b} {c = c} {d = d} {e = e} {f = f} {g = g}
-    h i j k l m n =
-    ap (λ x. (x && dst) && ((sport && dport) && (proto && (itype && test)))) h
-    ∙ ap (λ x. (a && x) && ((sport && dport) && (proto && (itype && test)))) i
-    ∙ ap (λ x. (a && b) && ((x && dport) && (proto && (itype && test)))) j
-    ∙ ap (λ x. (a && b) && ((c && x) && (proto && (itype && test)))) k
-    ∙ ap (λ x. (a && b) && ((c && d) && (x && (itype && test)))) l
-    ∙ ap (λ x. (a && b) && ((c && d) && (e && (x && test)))) m
-    ∙ ap (λ x. (a && b) && ((c && d) && (e && (f && x)))) n
+eight-same : {src dst sport dport proto itype icode test a b c d e f g h : Bool} → src ≡ a → dst ≡ b → sport ≡ c → dport ≡ d → proto ≡ e → itype ≡ f
+    → icode ≡ g → test ≡ h
+    → ((src && dst) && ((sport && dport) && (proto && (itype && (icode && test))))) ≡ ((a && b) && ((c && d) && (e && (f && (g && h)))))
+eight-same {src = src} {dst = dst} {sport = sport} {dport = dport} {proto = proto} {itype = itype} {icode = icode} {test = test}
+    {a = a} {b = b} {c = c} {d = d} {e = e} {f = f} {g = g} {h = h} i j k l m n o q =
+    ap (λ x. (x && dst) && ((sport && dport) && (proto && (itype && (icode && test))))) i
+    ∙ ap (λ x. (a && x) && ((sport && dport) && (proto && (itype && (icode && test))))) j
+    ∙ ap (λ x. (a && b) && ((x && dport) && (proto && (itype && (icode && test))))) k
+    ∙ ap (λ x. (a && b) && ((c && x) && (proto && (itype && (icode && test))))) l
+    ∙ ap (λ x. (a && b) && ((c && d) && (x && (itype && (icode && test))))) m
+    ∙ ap (λ x. (a && b) && ((c && d) && (e && (x && (icode && test))))) n
+    ∙ ap (λ x. (a && b) && ((c && d) && (e && (f && (x && test))))) o
+    ∙ ap (λ x. (a && b) && ((c && d) && (e && (f && (g && x))))) q
 
 term-same : (families : Families) (r : Rule) (p : Packet) → IsSoundRule Juniper families r → IsPacket p → p.family ≡ r.family
     → term_holds (term_of r) p ≡ (sets_hold r p && passes r.test p)
@@ -75,12 +79,12 @@ term-same families r p h k e =
     let source = subst (λ f. p.src < 2 ^ width_of f) e k.source in
     let destination = subst (λ f. p.dst < 2 ^ width_of f) e k.destination in
     let tops = in-tops Juniper families r p h k in
-    seven-same (addresses-hold r.family r.src p.src h.sources source) (addresses-hold r.family r.dst p.dst h.destinations destination)
+    eight-same (addresses-hold r.family r.src p.src h.sources source) (addresses-hold r.family r.dst p.dst h.destinations destination)
     (ports-hold r.sports p.sport (h.numbers SourcePort).some (tops SourcePort)) (ports-hold r.dports p.dport (h.numbers DestinationPort).some (tops DestinationPort))
     (numbers-hold 255 r.protos p.proto (h.numbers Protocol) (tops Protocol)) (numbers-hold 255 r.itypes p.itype (h.numbers IcmpType) (tops IcmpType))
-    (test-same r.test p h.test_known)
+    (numbers-hold 255 r.icodes p.icode (h.numbers IcmpCode) (tops IcmpCode)) (test-same r.test p h.test_known)
     ∙ regrouped (holds r.protos.ranges p.proto) (any_has r.src p.src) (any_has r.dst p.dst) (holds r.sports.ranges p.sport)
-    (holds r.dports.ranges p.dport) (holds r.itypes.ranges p.itype) (passes r.test p)
+    (holds r.dports.ranges p.dport) (holds r.itypes.ranges p.itype) (holds r.icodes.ranges p.icode) (passes r.test p)
     ∙ ap (λ b. b && passes r.test p) (sym (sets-told r p))
 
 -- ---- families

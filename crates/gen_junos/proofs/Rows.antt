@@ -88,12 +88,12 @@ no-numbers (r ∷ rs) h =
 pub conditions-text : (family : Family) (r : Rule)
     → value_rows family (address_elements r.src) (address_elements r.dst) (map decimal (number_elements r.protos))
     (map (λ p. range_word (p.low, p.high)) (range_elements r.sports)) (map (λ p. range_word (p.low, p.high)) (range_elements r.dports))
-    (map decimal (number_elements r.itypes)) (test_of r.test)
+    (map decimal (number_elements r.itypes)) (map decimal (number_elements r.icodes)) (test_of r.test)
     ≡ condition_rows family (term_of r)
 conditions-text family r =
     let rows : List (List ℕ) → List (List ℕ) → List Row = λ sports dports.
     value_rows family (address_elements r.src) (address_elements r.dst) (map decimal (number_elements r.protos)) sports dports
-    (map decimal (number_elements r.itypes)) (test_of r.test) in
+    (map decimal (number_elements r.itypes)) (map decimal (number_elements r.icodes)) (test_of r.test) in
     let into = map (λ p. range_word (p.low, p.high)) (range_elements r.dports) in
     ap (λ sports. rows sports into) (each-range range_word (range_elements r.sports))
     ∙ ap (rows (map range_word (port_elements r.sports))) (each-range range_word (range_elements r.dports)) ∙ conditions_are family (term_of r)

@@ -67,6 +67,7 @@ default-is f = record {
   source_ports = tt;
   destination_ports = tt;
   icmp_types = tt;
+  icmp_codes = tt;
   fit = refl;
 }
 

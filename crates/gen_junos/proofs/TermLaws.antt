@@ -1,17 +1,18 @@
 -- The term of a rule that has no limit is one of a valid document.
-use Rattle.std.proofs.Common.{lit≤, ◌≡◌, ◌≢◌, ℕ, ◌≤◌, Bool, true, false, ◌&&◌, ◌||◌, ◌==◌, cond, List, [], ◌∷◌, length, map, IfSome, is_none, refl, ap, sym, ◌∙◌}
-use Rattle.std.specs.List.{AllByRecursion, list_all}
+use Rattle.std.proofs.Common.{lit≤, ◌≡◌, ◌≢◌, ℕ, ◌+◌, ◌-◌, ◌≤◌, Bool, true, false, ◌&&◌, ◌||◌, ◌==◌, cond, List, [], ◌∷◌, ◌++◌, length, map, IfSome, is_none, refl, ap, sym, ◌∙◌, arith}
+use Rattle.std.specs.List.{AllByRecursion, list_all, range_with_len}
 use Rattle.std.proofs.Math.Nat.{le_trans}
 use Rattle.std.proofs.lemmas.Bool.{and_from, false≢true, or_right}
-use Rattle.std.proofs.lemmas.Bool.Decides.{Decides-eqb}
-use Rattle.acl_packet.specs.declared.packet_fields.Field.TheVariants.{Protocol, SourcePort, DestinationPort, IcmpType}
+use Rattle.std.proofs.lemmas.Bool.Decides.{Decides-eqb, nat_tests}
+use Rattle.acl_packet.specs.declared.packet_fields.Field.TheVariants.{Protocol, SourcePort, DestinationPort, IcmpType, IcmpCode}
 use Rattle.acl_packet.specs.declared.addresses.Families.{Families}
 use Rattle.acl_packet.specs.declared.filtering.Verdict.{Verdict}
 use Rattle.acl_packet.specs.declared.filtering.Verdict.TheVariants.{Accept, Deny, Reject, Reset, Left}
 use Rattle.acl_packet.specs.Packets.{has_ports, icmp_of}
 use Rattle.acl_text.specs.Names.{is_safe_text}
 use Rattle.acl_text.specs.Notes.{is_note}
-use Rattle.acl_sets.specs.ComputableSets.{is_all}
+use Rattle.acl_sets.specs.ComputableSets.{covers, is_all}
+use Rattle.acl_sets.specs.OneNumber.{IsOneNumber}
 use Rattle.acl_sets.specs.Ranges.{holds, Numbers, Only}
 use Rattle.acl_target.specs.declared.targets.Kind.TheVariants.{Juniper}
 use Rattle.acl_platform.specs.declared.rules.Rule.{Rule}
@@ -28,7 +29,7 @@ use Rattle.acl_platform.proofs.NamedNumbers.{no-icmp}
 use Rattle.acl_platform.proofs.RuleNames.{rule-name}
 use Rattle.acl_platform.proofs.RuleNumbers.{no-destination, no-source, tcp-or-udp, type-most}
 use Rattle.acl_rows.specs.RuleParts.{is_empty}
-use Rattle.junos_lang.specs.Documents.{are_tcp_or_udp, is_alone, IsTerm, ports_fit, test_fits, types_fit, verdict_fits}
+use Rattle.junos_lang.specs.Documents.{are_tcp_or_udp, codes_fit, is_alone, IsTerm, ports_fit, test_fits, types_fit, verdict_fits}
 use Rattle.gen_junos.specs.Sections.{note_of, term_of, test_of}
 
 -- ---- protocols that pass a test which 0 does not
@@ -75,7 +76,7 @@ ports-by families r h u false dports e f =
     (ports-known r.protos (h.numbers Protocol) (h.numbers_fit SourcePort e)
     (no-source (holds r.protos.ranges 132) (is_all r.sports) (is_all r.dports) u e))
 
--- ---- types, tests and verdicts
+-- ---- types, codes, tests and verdicts
 
 types-by : (families : Families) (r : Rule) → IsSoundRule Juniper families r → (b : Bool) → is_all r.itypes ≡ b → types_fit r.family (term_of r) ≡ true
 types-by families r h true e =
@@ -83,6 +84,24 @@ types-by families r h true e =
 types-by families r h false e =
     or_right (is_empty (number_elements r.itypes)) (is_alone (number_elements r.protos) (icmp_of r.family))
     (is-alone r.protos (icmp_of r.family) (h.numbers Protocol) (no-icmp r.family) (h.numbers_fit IcmpType e))
+
+not-covered : (n : ℕ) → covers (record { low = n; high = n } ∷ []) 0 255 ≡ false
+not-covered n = grind (arith, nat_tests)
+
+-- a set of one number has one element
+one-element : (s : Numbers) → IsFull 255 s → IsOneNumber s → (length (number_elements s) == 1) ≡ true
+one-element s h one =
+    let n = one.0 in
+    let some = ap (λ rs. covers rs 0 s.top) one.1 ∙ ap (covers (record { low = n; high = n } ∷ []) 0) h.top_is ∙ not-covered n in
+    let count : n + 1 - n ≡ 1 = omega arith in
+    ap (λ ns. length ns == 1) (not-all-elements s some ∙ ap numbers_of one.1 ∙ ap (λ k. range_with_len n k ++ []) count)
+
+codes-by : (families : Families) (r : Rule) → IsSoundRule Juniper families r → (b : Bool) → is_all r.icodes ≡ b → codes_fit (term_of r) ≡ true
+codes-by families r h true e =
+    ap (λ b. is_empty (numbers_of (cond b [] r.icodes.ranges)) || length (number_elements r.itypes) == 1) e
+codes-by families r h false e =
+    or_right (is_empty (number_elements r.icodes)) (length (number_elements r.itypes) == 1)
+    (one-element r.itypes (h.numbers IcmpType) (h.codes_named e))
 
 test-by : (test : Test) (protos : List ℕ) → (tests_flags test ≡ true → is_alone protos 6 ≡ true)
     → (is_none (test_of test) || is_alone protos 6) ≡ true
@@ -120,10 +139,13 @@ term-is families r h short u =
       destination_ports = ports-are r.dports (h.numbers DestinationPort);
       icmp_types = all-weaker (λ n k. type-most r.itypes n (h.numbers IcmpType).normal (h.types_named k.0) k.1)
           (number_elements r.itypes) (numbers-are r.itypes);
-      fit = and_from (ports_fit t) (types_fit r.family t && (test_fits t && verdict_fits t.verdict t.protos))
+      icmp_codes = numbers-small r.icodes (h.numbers IcmpCode);
+      fit = and_from (ports_fit t) (types_fit r.family t && (codes_fit t && (test_fits t && verdict_fits t.verdict t.protos)))
           (ports-by families r h u (is_all r.sports) (is_all r.dports) refl refl)
-          (and_from (types_fit r.family t) (test_fits t && verdict_fits t.verdict t.protos)
+          (and_from (types_fit r.family t) (codes_fit t && (test_fits t && verdict_fits t.verdict t.protos))
           (types-by families r h (is_all r.itypes) refl)
+          (and_from (codes_fit t) (test_fits t && verdict_fits t.verdict t.protos)
+          (codes-by families r h (is_all r.icodes) refl)
           (and_from (test_fits t) (verdict_fits t.verdict t.protos)
-          (test-by r.test t.protos (λ e. tcp (h.flags_fit e))) (verdict-by r.verdict t.protos h.verdict_known (λ e. tcp (h.reset_fits e)))));
+          (test-by r.test t.protos (λ e. tcp (h.flags_fit e))) (verdict-by r.verdict t.protos h.verdict_known (λ e. tcp (h.reset_fits e))))));
     }

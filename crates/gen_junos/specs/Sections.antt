@@ -39,6 +39,7 @@ term_of r = record {
   sports = port_elements r.sports;
   dports = port_elements r.dports;
   itypes = number_elements r.itypes;
+  icodes = number_elements r.icodes;
   test = test_of r.test;
   syslog = r.log;
   verdict = r.verdict;
@@ -60,7 +61,7 @@ section_of f =
 -- A term counts as one entry, and so does each element of its lists.
 abbrev pub term_count : JTerm → ℕ
 term_count t = 1 + length t.src + length t.dst + length t.protos + length t.sports
-    + length t.dports + length t.itypes
+    + length t.dports + length t.itypes + length t.icodes
 
 abbrev pub entry_count : Filter → ℕ
 entry_count f = sum_by term_count (section_of f).terms

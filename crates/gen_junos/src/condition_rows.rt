@@ -7,9 +7,9 @@ ghost use Rattle.acl_platform.specs.Combinations.{IsSized};
 ghost use Rattle.junos_lang.specs.Texts.{condition_rows, from_rows, range_word};
 ghost use Rattle.gen_junos.specs.Sections.{term_of, test_of};
 
-use acl_rows::{EachWord, Number, Piece, Rows, OneWord, WordForm, Words};
 use acl_packet::Family;
 use acl_platform::{NumberForm, Rule, Test, address_elements, put_numbers, range_elements};
+use acl_rows::{EachWord, Number, OneWord, Piece, Rows, WordForm, Words};
 use acl_sets::Range;
 use acl_text::{Out, PutFault};
 use junos_lang::{FromPart, JTest, PortSpan, Values};
@@ -25,7 +25,7 @@ pub(crate) struct RuleConditions<'a> {
 impl<'a> Rows for RuleConditions<'a> {
     ghost rows = { λ c. from_rows (condition_rows c.family (term_of c.rule.now)) };
 
-    #[tactic(auto, using(acl_platform::proofs::SoundRules::protocols_small, acl_platform::proofs::SoundRules::source_ports_small, acl_platform::proofs::SoundRules::destination_ports_small, acl_platform::proofs::SoundRules::types_small))]
+    #[tactic(auto, using(acl_platform::proofs::SoundRules::protocols_small, acl_platform::proofs::SoundRules::source_ports_small, acl_platform::proofs::SoundRules::destination_ports_small, acl_platform::proofs::SoundRules::types_small, acl_platform::proofs::SoundRules::codes_small))]
     fn put_rows<O: Out>(&self, out: &mut O) -> Result<(), PutFault> {
         let rule = self.rule;
         let conditions = FromPart {
@@ -45,6 +45,9 @@ impl<'a> Rows for RuleConditions<'a> {
             },
             itypes: NumberWords {
                 ranges: range_elements(&rule.itypes),
+            },
+            icodes: NumberWords {
+                ranges: range_elements(&rule.icodes),
             },
             test: test_of(rule.test),
         };

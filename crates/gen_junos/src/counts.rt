@@ -32,15 +32,17 @@ fn address_count(rule: &Rule) -> u64
     sources.saturating_add(destinations)
 }
 
-#[tactic(auto, using(acl_platform::proofs::SoundRules::protocols_small, acl_platform::proofs::SoundRules::types_small))]
+#[tactic(auto, using(acl_platform::proofs::SoundRules::protocols_small, acl_platform::proofs::SoundRules::types_small, acl_platform::proofs::SoundRules::codes_small))]
 fn number_count(rule: &Rule) -> u64
     requires { IsSized rule.now }
     ensures { result ≡ min (length (number_elements rule.now.protos)
-        + length (number_elements rule.now.itypes)) COUNT_END }
+        + length (number_elements rule.now.itypes) + length (number_elements rule.now.icodes))
+        COUNT_END }
 {
     let protocols = count_numbers(range_elements(&rule.protos));
     let types = count_numbers(range_elements(&rule.itypes));
-    protocols.saturating_add(types)
+    let codes = count_numbers(range_elements(&rule.icodes));
+    protocols.saturating_add(types).saturating_add(codes)
 }
 
 fn port_count(rule: &Rule) -> u64

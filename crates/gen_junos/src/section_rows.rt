@@ -12,9 +12,9 @@ ghost use Rattle.gen_junos.specs.Sections.{
 };
 
 use crate::condition_rows::RuleConditions;
-use acl_rows::Rows;
 use acl_packet::{Family, Verdict};
 use acl_platform::{Filter, NoteRows, RemarkForm, Rule, RuleForm, put_rules};
+use acl_rows::Rows;
 use acl_text::{Out, PutFault};
 use junos_lang::{NoteRow, SectionEnd, SectionHead, TermEnd, TermHead, ThenRows};
 

@@ -43,7 +43,7 @@ a_block [] h = absurd (false≢true (sym h))
 a_block (r ∷ rows) h = refl
 
 pub conditions_are : (f : Family) (t : JTerm)
-    → value_rows f t.src t.dst (map decimal t.protos) (map range_word t.sports) (map range_word t.dports) (map decimal t.itypes) t.test
+    → value_rows f t.src t.dst (map decimal t.protos) (map range_word t.sports) (map range_word t.dports) (map decimal t.itypes) (map decimal t.icodes) t.test
     ≡ condition_rows f t
 unfolding condition_rows
 conditions_are f t = refl

@@ -33,9 +33,9 @@ use Rattle.junos_lang.specs.declared.documents.JTest.TheVariants.{Established, I
 use Rattle.acl_rows.specs.declared.rule_parts.End.{End}
 use Rattle.acl_rows.specs.declared.rule_parts.End.TheVariants.{Source, Destination}
 use Rattle.acl_rows.specs.RuleParts.{IsAddresses}
-use Rattle.junos_lang.specs.declared.conditions.Condition.TheVariants.{SourcePort, DestinationPort, IcmpType}
+use Rattle.junos_lang.specs.declared.conditions.Condition.TheVariants.{SourcePort, DestinationPort, IcmpType, IcmpCode}
 use Rattle.junos_lang.specs.declared.filters_drafts.FiltersDraft.{FiltersDraft}
-use Rattle.junos_lang.specs.Documents.{IsTerm, IsSection, ports_fit, types_fit, test_fits, verdict_fits, family_word}
+use Rattle.junos_lang.specs.Documents.{IsTerm, IsSection, ports_fit, types_fit, codes_fit, test_fits, verdict_fits, family_word}
 use Rattle.junos_lang.specs.Texts.{closing, prefix_row, address_rows, protocol_of, list_row, list_rows, range_word, test_rows, condition_rows, from_rows, then_rows, note_row, note_rows, term_row, term_rows, head_rows, end_rows, section_rows, text_of}
 use Rattle.junos_lang.specs.ReadingSteps.{one_or_none, numbers_in, ranges_in, listed_prefix_in, note_in, no_term, with_prefix, with_list, with_word, with_pair, end_in, no_section, no_draft, take_outer, take_head, take_row}
 use Rattle.junos_lang.proofs.SafeRows.{sections_safe}
@@ -117,9 +117,9 @@ number_of_again : (n : ℕ) → n < 256 → number_in 255 (decimal n) ≡ Some n
 number_of_again n h = number-again 255 n (omega (arith, h)) (omega (arith, h))
 
 no_number : (number_in 255 (codes "[") ≡ None) × (number_in 255 (codes "];") ≡ None) × (number_in 255 (codes "protocol") ≡ None)
-    × (number_in 255 (codes "next-header") ≡ None) × (number_in 255 (codes "icmp-type") ≡ None)
+    × (number_in 255 (codes "next-header") ≡ None) × (number_in 255 (codes "icmp-type") ≡ None) × (number_in 255 (codes "icmp-code") ≡ None)
 unfolding number_in digits_in
-no_number = (refl, refl, refl, refl, refl)
+no_number = (refl, refl, refl, refl, refl, refl)
 
 numbers_again : (word : List ℕ) → number_in 255 word ≡ None → (ns : List ℕ) → AllByRecursion (λ n. n < 256) ns
     → numbers_in (word ∷ codes "[" ∷ (map decimal ns ++ codes "];" ∷ [])) ≡ ns
@@ -147,6 +147,12 @@ types_read : (ss : List Section) (s : Section) (t : JTerm) (ns : List ℕ) → t
 unfolding list_rows list_row take_row with_list
 types_read ss s t [] e h = ap (λ l. at ss s (record t { itypes = l })) e
 types_read ss s t (n ∷ ns) e h = ap (λ l. at ss s (record t { itypes = l })) (numbers_again (codes "icmp-type") no_number.4 (n ∷ ns) h)
+
+codes_read : (ss : List Section) (s : Section) (t : JTerm) (ns : List ℕ) → t.icodes ≡ [] → AllByRecursion (λ n. n < 256) ns
+    → read (at ss s t) (list_rows IcmpCode (map decimal ns)) ≡ at ss s (record t { icodes = ns })
+unfolding list_rows list_row take_row with_list
+codes_read ss s t [] e h = ap (λ l. at ss s (record t { icodes = l })) e
+codes_read ss s t (n ∷ ns) e h = ap (λ l. at ss s (record t { icodes = l })) (numbers_again (codes "icmp-code") no_number.5 (n ∷ ns) h)
 
 sports_read : (ss : List Section) (s : Section) (t : JTerm) (rs : List (ℕ × ℕ)) → t.sports ≡ [] → AllByRecursion IsPortRange rs
     → read (at ss s t) (list_rows SourcePort (map range_word rs)) ≡ at ss s (record t { sports = rs })
@@ -185,16 +191,20 @@ conditions_read ss s t n name h =
     let e : JTerm = record d { sports = t.sports } in
     let g : JTerm = record e { dports = t.dports } in
     let i : JTerm = record g { itypes = t.itypes } in
-    let j : JTerm = record i { test = t.test } in
-    let last = at ss s j in
+    let j : JTerm = record i { icodes = t.icodes } in
+    let k : JTerm = record j { test = t.test } in
+    let last = at ss s k in
     let test = test_rows t.test in
-    let types = list_rows IcmpType (map decimal t.itypes) ++ test in
+    let icodes = list_rows IcmpCode (map decimal t.icodes) ++ test in
+    let types = list_rows IcmpType (map decimal t.itypes) ++ icodes in
     let dports = list_rows DestinationPort (map range_word t.dports) ++ types in
     let sports = list_rows SourcePort (map range_word t.sports) ++ dports in
     let protos = list_rows (protocol_of s.family) (map decimal t.protos) ++ sports in
     let dst = address_rows Destination t.dst ++ protos in
-    let from_types = then (at ss s g) (at ss s i) last (list_rows IcmpType (map decimal t.itypes)) test
-    (types_read ss s g t.itypes refl (narrow_types t.itypes h.icmp_types)) (test_read ss s i t.test refl) in
+    let from_codes = then (at ss s i) (at ss s j) last (list_rows IcmpCode (map decimal t.icodes)) test
+    (codes_read ss s i t.icodes refl h.icmp_codes) (test_read ss s j t.test refl) in
+    let from_types = then (at ss s g) (at ss s i) last (list_rows IcmpType (map decimal t.itypes)) icodes
+    (types_read ss s g t.itypes refl (narrow_types t.itypes h.icmp_types)) from_codes in
     let from_dports = then (at ss s e) (at ss s g) last (list_rows DestinationPort (map range_word t.dports)) types
     (dports_read ss s e t.dports refl h.destination_ports) from_types in
     let from_sports = then (at ss s d) (at ss s e) last (list_rows SourcePort (map range_word t.sports)) dports
@@ -257,7 +267,8 @@ with_term s t = record s { terms = s.terms ++ t ∷ [] }
 fitting_verdict : (f : Family) (t : JTerm) → IsTerm f t → verdict_fits t.verdict t.protos ≡ true
 fitting_verdict f t h =
     let types = and_parts (ports_fit t) _ h.fit in
-    let tests = and_parts (types_fit f t) _ types.1 in
+    let icodes = and_parts (types_fit f t) _ types.1 in
+    let tests = and_parts (codes_fit t) _ icodes.1 in
     (and_parts (test_fits t) (verdict_fits t.verdict t.protos) tests.1).1
 
 term_read : (ss : List Section) (s : Section) (t : JTerm) → IsTerm s.family t → read (at ss s no_term) (term_rows s.family t) ≡ at ss (with_term s t) no_term

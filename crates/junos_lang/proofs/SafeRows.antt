@@ -24,7 +24,7 @@ use Rattle.acl_rows.specs.declared.rule_parts.End.{End}
 use Rattle.acl_rows.specs.declared.rule_parts.End.TheVariants.{Source, Destination}
 use Rattle.acl_rows.specs.RuleParts.{IsAddresses}
 use Rattle.junos_lang.specs.declared.conditions.Condition.{Condition}
-use Rattle.junos_lang.specs.declared.conditions.Condition.TheVariants.{Protocol, NextHeader, SourcePort, DestinationPort, IcmpType}
+use Rattle.junos_lang.specs.declared.conditions.Condition.TheVariants.{Protocol, NextHeader, SourcePort, DestinationPort, IcmpType, IcmpCode}
 use Rattle.junos_lang.specs.Documents.{IsTerm, IsSection, family_word}
 use Rattle.junos_lang.specs.Texts.{closing, end_word, prefix_row, address_rows, condition_word, protocol_of, list_row, list_rows, range_word, test_rows, condition_rows, from_rows, verdict_words, syslog_rows, then_rows, note_row, note_rows, term_row, term_rows, head_rows, end_rows, section_rows}
 
@@ -58,6 +58,7 @@ condition_safe NextHeader words = (search word, refl)
 condition_safe SourcePort words = (search word, refl)
 condition_safe DestinationPort words = (search word, refl)
 condition_safe IcmpType words = (search word, refl)
+condition_safe IcmpCode words = (search word, refl)
 
 row_safe : (c : Condition) (values : List (List ℕ)) → AreWords values → IsRow (list_row c values)
 unfolding list_row
@@ -89,12 +90,14 @@ conditions_safe f t h =
     let sports = list_safe SourcePort (map range_word t.sports) (all_map IsPortRange IsWord range_word range_safe t.sports h.source_ports) in
     let dports = list_safe DestinationPort (map range_word t.dports) (all_map IsPortRange IsWord range_word range_safe t.dports h.destination_ports) in
     let types = list_safe IcmpType (map decimal t.itypes) (all_map (λ n. n ≤ 254) IsWord decimal type t.itypes h.icmp_types) in
+    let icodes = list_safe IcmpCode (map decimal t.icodes) (all_map (λ n. n < 256) IsWord decimal byte t.icodes h.icmp_codes) in
     all_append IsRow (address_rows Source t.src) _ (addresses_safe f Source t.src h.sources)
     (all_append IsRow (address_rows Destination t.dst) _ (addresses_safe f Destination t.dst h.destinations)
     (all_append IsRow (list_rows (protocol_of f) (map decimal t.protos)) _ protos
     (all_append IsRow (list_rows SourcePort (map range_word t.sports)) _ sports
     (all_append IsRow (list_rows DestinationPort (map range_word t.dports)) _ dports
-    (all_append IsRow (list_rows IcmpType (map decimal t.itypes)) (test_rows t.test) types (test_safe t.test))))))
+    (all_append IsRow (list_rows IcmpType (map decimal t.itypes)) _ types
+    (all_append IsRow (list_rows IcmpCode (map decimal t.icodes)) (test_rows t.test) icodes (test_safe t.test)))))))
 
 from_safe : (rows : List Row) → AreRows rows → AreRows (from_rows rows)
 unfolding from_rows

@@ -57,7 +57,9 @@ term_decides f t =
     let type : ℕ → Bool = λ n. nat_le n 254 in
     let protos = all_decides byte (λ n. n < 256) (λ n. Decides-ltb n 256) t.protos in
     let types = all_decides type (λ n. n ≤ 254) (λ n. le_decides n 254) t.itypes in
-    let numbers = Decides-and (list_all byte t.protos) (list_all type t.itypes) protos types in
+    let icmp_codes = all_decides byte (λ n. n < 256) (λ n. Decides-ltb n 256) t.icodes in
+    let icmp = Decides-and (list_all type t.itypes) (list_all byte t.icodes) types icmp_codes in
+    let numbers = Decides-and (list_all byte t.protos) (list_all type t.itypes && list_all byte t.icodes) protos icmp in
     let rest = Decides-and (are_numbers t) (parts_fit f t) numbers (holds (parts_fit f t)) in
     Decides-like (is_term f t)
     (λ h. record {
@@ -68,10 +70,11 @@ term_decides f t =
       protocols = h.1.1.0.0;
       source_ports = h.1.0.0;
       destination_ports = h.1.0.1;
-      icmp_types = h.1.1.0.1;
+      icmp_types = h.1.1.0.1.0;
+      icmp_codes = h.1.1.0.1.1;
       fit = h.1.1.1;
     })
-    (λ h. (((h.noted, h.named), (h.sources, h.destinations)), ((h.source_ports, h.destination_ports), ((h.protocols, h.icmp_types), h.fit))))
+    (λ h. (((h.noted, h.named), (h.sources, h.destinations)), ((h.source_ports, h.destination_ports), ((h.protocols, (h.icmp_types, h.icmp_codes)), h.fit))))
     (Decides-and (are_named t && are_addresses f t) (are_ports t && (are_numbers t && parts_fit f t))
     (Decides-and (are_named t) (are_addresses f t) names addresses)
     (Decides-and (are_ports t) (are_numbers t && parts_fit f t) ports rest))

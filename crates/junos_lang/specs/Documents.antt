@@ -2,7 +2,7 @@
 -- Source: Juniper, Routing Policies, Firewall Filters, and Traffic Policers User Guide, "Firewall
 -- Filter Match Conditions for IPv4 Traffic", "Firewall Filter Match Conditions for IPv6 Traffic" and
 -- "Firewall Filter Terminating Actions".
-use Rattle.std.specs.Prelude.{◌≡◌, ℕ, ◌<◌, ◌≤◌, Bool, true, false, not, ◌&&◌, ◌||◌, ◌==◌, List, [], ◌∷◌, ◌++◌, map, codes, IfSome, None, is_none}
+use Rattle.std.specs.Prelude.{◌≡◌, ℕ, ◌<◌, ◌≤◌, Bool, true, false, not, ◌&&◌, ◌||◌, ◌==◌, List, [], ◌∷◌, ◌++◌, length, map, codes, IfSome, None, is_none}
 use Rattle.std.specs.List.{list_all, AllByRecursion, IsDistinct}
 use Rattle.std.specs.Str.{bytes_eq}
 use Rattle.acl_packet.specs.declared.addresses.Family.{Family}
@@ -28,6 +28,7 @@ bare_term name verdict = record {
   sports = [];
   dports = [];
   itypes = [];
+  icodes = [];
   test = None;
   syslog = false;
   verdict = verdict;
@@ -43,13 +44,16 @@ is_alone (n ∷ m ∷ numbers) number = false
 abbrev pub are_tcp_or_udp : List ℕ → Bool
 are_tcp_or_udp protos = not (is_empty protos) && list_all (λ n. n == 6 || n == 17) protos
 
--- Ports belong to TCP and UDP, types to the family's ICMP alone, a test of flags and a reset to TCP
--- alone. No term leaves a packet to what stands behind the filter.
+-- Ports belong to TCP and UDP, types to the family's ICMP alone, codes to one type, a test of flags
+-- and a reset to TCP alone. No term leaves a packet to what stands behind the filter.
 abbrev pub ports_fit : JTerm → Bool
 ports_fit t = is_empty t.sports && is_empty t.dports || are_tcp_or_udp t.protos
 
 abbrev pub types_fit : Family → JTerm → Bool
 types_fit family t = is_empty t.itypes || is_alone t.protos (icmp_of family)
+
+abbrev pub codes_fit : JTerm → Bool
+codes_fit t = is_empty t.icodes || length t.itypes == 1
 
 abbrev pub test_fits : JTerm → Bool
 test_fits t = is_none t.test || is_alone t.protos 6
@@ -61,7 +65,8 @@ verdict_fits verdict protos = true
 
 abbrev pub parts_fit : Family → JTerm → Bool
 parts_fit family t =
-    ports_fit t && (types_fit family t && (test_fits t && verdict_fits t.verdict t.protos))
+    ports_fit t && (types_fit family t && (codes_fit t
+    && (test_fits t && verdict_fits t.verdict t.protos)))
 
 -- A term of a filter of the family. The type 255 has no number here.
 pub record IsTerm (family : Family) (t : JTerm) : Type 0 where
@@ -73,6 +78,7 @@ pub record IsTerm (family : Family) (t : JTerm) : Type 0 where
   pub source_ports : AllByRecursion IsPortRange t.sports
   pub destination_ports : AllByRecursion IsPortRange t.dports
   pub icmp_types : AllByRecursion (λ n. n ≤ 254) t.itypes
+  pub icmp_codes : AllByRecursion (λ n. n < 256) t.icodes
   pub fit : parts_fit family t ≡ true
 
 abbrev pub term_names : List JTerm → List (List ℕ)

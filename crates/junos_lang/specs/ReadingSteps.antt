@@ -58,6 +58,7 @@ with_list t w words =
     if bytes_eq w (codes "source-port") then record t { sports = ranges_in words }
     else if bytes_eq w (codes "destination-port") then record t { dports = ranges_in words }
     else if bytes_eq w (codes "icmp-type") then record t { itypes = numbers_in words }
+    else if bytes_eq w (codes "icmp-code") then record t { icodes = numbers_in words }
     else record t { protos = numbers_in words }
 
 unfoldable pub with_word : JTerm → List ℕ → JTerm

@@ -21,7 +21,7 @@ use Rattle.junos_lang.specs.declared.documents.JTest.TheVariants.{Established, I
 use Rattle.acl_rows.specs.declared.rule_parts.End.{End}
 use Rattle.acl_rows.specs.declared.rule_parts.End.TheVariants.{Source, Destination}
 use Rattle.junos_lang.specs.declared.conditions.Condition.{Condition}
-use Rattle.junos_lang.specs.declared.conditions.Condition.TheVariants.{Protocol, NextHeader, SourcePort, DestinationPort, IcmpType}
+use Rattle.junos_lang.specs.declared.conditions.Condition.TheVariants.{Protocol, NextHeader, SourcePort, DestinationPort, IcmpType, IcmpCode}
 use Rattle.junos_lang.specs.Documents.{family_word, IsDocument}
 
 -- The row that ends a block.
@@ -50,6 +50,7 @@ condition_word NextHeader = codes "next-header"
 condition_word SourcePort = codes "source-port"
 condition_word DestinationPort = codes "destination-port"
 condition_word IcmpType = codes "icmp-type"
+condition_word IcmpCode = codes "icmp-code"
 
 -- IPv6 names the protocol by the header that comes next.
 abbrev pub protocol_of : Family → Condition
@@ -82,7 +83,8 @@ condition_rows family t = address_rows Source t.src ++ (address_rows Destination
     ++ (list_rows (protocol_of family) (map decimal t.protos)
     ++ (list_rows SourcePort (map range_word t.sports)
     ++ (list_rows DestinationPort (map range_word t.dports)
-    ++ (list_rows IcmpType (map decimal t.itypes) ++ test_rows t.test)))))
+    ++ (list_rows IcmpType (map decimal t.itypes)
+    ++ (list_rows IcmpCode (map decimal t.icodes) ++ test_rows t.test))))))
 
 -- Conditions stand in a `from` part, which is only there where there is one.
 unfoldable pub from_rows : List Row → List Row

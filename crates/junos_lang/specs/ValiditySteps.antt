@@ -28,7 +28,8 @@ abbrev pub are_ports : JTerm → Bool
 are_ports t = list_all is_port_range t.sports && list_all is_port_range t.dports
 
 abbrev pub are_numbers : JTerm → Bool
-are_numbers t = list_all (λ n. nat_lt n 256) t.protos && list_all (λ n. nat_le n 254) t.itypes
+are_numbers t = list_all (λ n. nat_lt n 256) t.protos
+    && (list_all (λ n. nat_le n 254) t.itypes && list_all (λ n. nat_lt n 256) t.icodes)
 
 abbrev pub is_term : Family → JTerm → Bool
 is_term family t = (are_named t && are_addresses family t)

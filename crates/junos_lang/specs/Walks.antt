@@ -31,7 +31,8 @@ test_holds (Some Rst) flags = has_flag flags 4
 
 abbrev pub headers_hold : JTerm → Packet → Bool
 headers_hold t p = number_holds t.protos p.proto
-    && (number_holds t.itypes p.itype && test_holds t.test p.flags)
+    && (number_holds t.itypes p.itype
+    && (number_holds t.icodes p.icode && test_holds t.test p.flags))
 
 -- A term holds a packet where each of its conditions does.
 abbrev pub term_holds : JTerm → Packet → Bool

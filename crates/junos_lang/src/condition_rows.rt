@@ -7,8 +7,8 @@ ghost use Rattle.junos_lang.specs.Texts.{address_rows, closing, condition_word, 
 use crate::conditions::Condition;
 use crate::documents::JTest;
 use crate::filter_rows::{Closing, FixedLine, put_word};
-use acl_rows::{Each, EachWord, End, RowForm, Piece, Row, Rows, OneWord, WordForm, Words};
 use acl_packet::{Family, Prefix};
+use acl_rows::{Each, EachWord, End, OneWord, Piece, Row, RowForm, Rows, WordForm, Words};
 use acl_text::{Out, PutFault};
 
 /// The values of a condition, each of which is a word.
@@ -37,12 +37,13 @@ pub struct FromPart<'a, N, P> {
     pub sports: P,
     pub dports: P,
     pub itypes: N,
+    pub icodes: N,
     pub test: Option<JTest>,
 }
 
 impl<'a, N: Values + Copy, P: Values + Copy> Rows for FromPart<'a, N, P> {
     ghost rows = { λ f. from_rows (value_rows f.family f.src.now f.dst.now (N.words f.protos)
-        (P.words f.sports) (P.words f.dports) (N.words f.itypes) f.test) };
+        (P.words f.sports) (P.words f.dports) (N.words f.itypes) (N.words f.icodes) f.test) };
 
     fn put_rows<O: Out>(&self, out: &mut O) -> Result<(), PutFault> {
         let sources = AddressRows {
@@ -69,8 +70,13 @@ impl<'a, N: Values + Copy, P: Values + Copy> Rows for FromPart<'a, N, P> {
             condition: Condition::IcmpType,
             values: self.itypes,
         };
+        let codes = ListRows {
+            condition: Condition::IcmpCode,
+            values: self.icodes,
+        };
         let test = TestRows { test: self.test };
-        let ports = (source_ports, (destination_ports, (types, test)));
+        let headers = (types, (codes, test));
+        let ports = (source_ports, (destination_ports, headers));
         let conditions = (sources, (destinations, (protocols, ports)));
         ConditionBlock { conditions }.put_rows(out)
     }
@@ -263,6 +269,7 @@ fn condition_word(condition: Condition) -> &'static [u8]
         Condition::SourcePort => b"source-port",
         Condition::DestinationPort => b"destination-port",
         Condition::IcmpType => b"icmp-type",
+        Condition::IcmpCode => b"icmp-code",
     }
 }
 

@@ -12,6 +12,7 @@ pub enum Condition {
     SourcePort,
     DestinationPort,
     IcmpType,
+    IcmpCode,
 }
 
 impl Condition {

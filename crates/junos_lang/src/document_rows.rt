@@ -4,8 +4,8 @@ ghost use Rattle.junos_lang.specs.Texts.{condition_rows, from_rows, note_rows, r
 use crate::condition_rows::FromPart;
 use crate::documents::{JTerm, Section};
 use crate::filter_rows::{NoteRow, SectionEnd, SectionHead, TermEnd, TermHead, ThenRows};
-use acl_rows::{Each, EachWord, RowForm, Number, Piece, RangeWords, Rows, WordForm};
 use acl_packet::Family;
+use acl_rows::{Each, EachWord, Number, Piece, RangeWords, RowForm, Rows, WordForm};
 use acl_text::{Bytes, Out, PutFault};
 
 impl Rows for Section {
@@ -102,6 +102,10 @@ impl<'a> Rows for TermConditions<'a> {
             },
             itypes: EachWord {
                 items: self.term.itypes.as_slice(),
+                form: InDecimal,
+            },
+            icodes: EachWord {
+                items: self.term.icodes.as_slice(),
                 form: InDecimal,
             },
             test: self.term.test,

@@ -26,6 +26,7 @@ pub struct JTerm {
     pub sports: Items<(u16, u16)>,
     pub dports: Items<(u16, u16)>,
     pub itypes: Items<u8>,
+    pub icodes: Items<u8>,
     pub test: Option<JTest>,
     pub syslog: bool,
     pub verdict: Verdict,

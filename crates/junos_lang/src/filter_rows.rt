@@ -5,8 +5,8 @@ ghost use Rattle.acl_rows.specs.Rows.{row, text_of_rows};
 ghost use Rattle.junos_lang.specs.Documents.{family_word};
 ghost use Rattle.junos_lang.specs.Texts.{closing, end_rows, head_rows, note_row, syslog_rows, term_row, then_rows, verdict_words};
 
-use acl_rows::{FreeText, Row, Rows, OneWord};
 use acl_packet::{Family, Verdict};
+use acl_rows::{FreeText, OneWord, Row, Rows};
 use acl_text::{Out, PutFault};
 
 /// A line of words that are as they are.

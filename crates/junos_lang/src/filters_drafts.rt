@@ -4,8 +4,8 @@ ghost use Rattle.acl_rows.specs.FamilyWords.{family_in};
 ghost use Rattle.junos_lang.specs.ReadingSteps.{no_term, no_section, no_draft, numbers_in, ranges_in, listed_prefix_in, note_in, with_prefix, with_list, with_word, with_pair, end_in, end_term, end_section, take_outer, take_family, take_filter, take_head, take_term, take_part, take_address, take_row};
 
 use crate::documents::{Doc, JTerm, JTest, Section};
-use acl_rows::{DocumentDraft, Draft, End, RowWords, family_named};
 use acl_packet::{Family, Prefix, Verdict};
+use acl_rows::{DocumentDraft, Draft, End, RowWords, family_named};
 use acl_text::{Bytes, Items, Memory, read_ports, read_spelled_prefix, read_u8, split_at_byte};
 use std::alloc::Global;
 use std::mem;
@@ -211,6 +211,8 @@ impl JTerm {
             self.dports = ranges_of(alloc, words)?;
         } else if word == b"icmp-type".as_slice() {
             self.itypes = numbers_of(alloc, words)?;
+        } else if word == b"icmp-code".as_slice() {
+            self.icodes = numbers_of(alloc, words)?;
         } else {
             self.protos = numbers_of(alloc, words)?;
         }
@@ -240,6 +242,7 @@ fn no_term(alloc: Global) -> JTerm
         sports: Items::new(alloc),
         dports: Items::new(alloc),
         itypes: Items::new(alloc),
+        icodes: Items::new(alloc),
         test: None,
         syslog: false,
         verdict: Verdict::Accept,

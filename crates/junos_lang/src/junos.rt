@@ -7,8 +7,8 @@ use crate::documents::Section;
 use crate::filters_drafts::FiltersDraft;
 use crate::validity::{have_distinct_filters, is_section};
 use crate::walking::walk;
-use acl_rows::{Language, Rows};
 use acl_packet::{Outcome, Packet};
+use acl_rows::{Language, Rows};
 use acl_text::{Memory, Out, PutFault};
 use std::alloc::Global;
 

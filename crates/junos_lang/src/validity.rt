@@ -3,12 +3,12 @@ ghost use Rattle.std.specs.List.{list_all};
 ghost use Rattle.std.specs.Str.{bytes_eq};
 ghost use Rattle.acl_rows.specs.ApartSteps.{are_apart};
 ghost use Rattle.acl_rows.specs.PrefixCheckSteps.{is_addresses};
-ghost use Rattle.junos_lang.specs.Documents.{are_tcp_or_udp, is_alone, name_of, parts_fit, ports_fit, test_fits, types_fit, verdict_fits};
+ghost use Rattle.junos_lang.specs.Documents.{are_tcp_or_udp, codes_fit, is_alone, name_of, parts_fit, ports_fit, test_fits, types_fit, verdict_fits};
 ghost use Rattle.junos_lang.specs.ValiditySteps.{are_addresses, are_named, are_numbers, are_ports, filter_name, is_note, is_section, is_term};
 
 use crate::documents::{JTerm, Section};
-use acl_rows::{Named, are_distinct, are_port_ranges, have_distinct_names, is_addresses};
 use acl_packet::{Family, Prefix, Verdict};
+use acl_rows::{Named, are_distinct, are_port_ranges, have_distinct_names, is_addresses};
 use acl_text::{Bytes, Memory, is_filter_name, is_name, is_safe_text};
 use std::alloc::Global;
 
@@ -110,7 +110,9 @@ fn are_ports(term: &JTerm) -> bool
 fn are_numbers(term: &JTerm) -> bool
     ensures { result ≡ are_numbers term.now }
 {
-    are_bytes(term.protos.as_slice()) && are_types(term.itypes.as_slice())
+    are_bytes(term.protos.as_slice())
+        && are_types(term.itypes.as_slice())
+        && are_bytes(term.icodes.as_slice())
 }
 
 fn are_bytes(numbers: &[u8]) -> bool
@@ -136,6 +138,7 @@ fn parts_fit(family: Family, term: &JTerm) -> bool
 {
     ports_fit(term)
         && types_fit(family, term)
+        && codes_fit(term)
         && test_fits(term)
         && verdict_fits(term.verdict, term.protos.as_slice())
 }
@@ -163,6 +166,12 @@ fn types_fit(family: Family, term: &JTerm) -> bool
     ensures { result ≡ types_fit family term.now }
 {
     term.itypes.as_slice().is_empty() || is_alone(term.protos.as_slice(), family.icmp_number())
+}
+
+fn codes_fit(term: &JTerm) -> bool
+    ensures { result ≡ codes_fit term.now }
+{
+    term.icodes.as_slice().is_empty() || term.itypes.as_slice().len() == 1
 }
 
 fn test_fits(term: &JTerm) -> bool

@@ -3,8 +3,8 @@ ghost use Rattle.std.specs.List.{list_any};
 ghost use Rattle.junos_lang.specs.Walks.{decided_by, headers_hold, number_holds, term_holds, test_holds, walk};
 
 use crate::documents::{JTerm, JTest};
-use acl_rows::{ACK, RST, SYN, admit_addresses, admit_ports};
 use acl_packet::{Outcome, Packet, Verdict, has_flag};
+use acl_rows::{ACK, RST, SYN, admit_addresses, admit_ports};
 
 #[tactic(auto, unfolding(crate::specs::Walks::walk))]
 pub(crate) fn walk(terms: &[JTerm], packet: &Packet) -> Outcome
@@ -40,6 +40,7 @@ fn headers_hold(term: &JTerm, packet: &Packet) -> bool
 {
     number_holds(term.protos.as_slice(), packet.proto)
         && number_holds(term.itypes.as_slice(), packet.itype)
+        && number_holds(term.icodes.as_slice(), packet.icode)
         && test_holds(term.test, packet.flags)
 }
 

@@ -54,6 +54,16 @@ firewall {
                     reject;
                 }
             }
+            term unreachable {
+                from {
+                    protocol [ 1 ];
+                    icmp-type [ 3 ];
+                    icmp-code [ 4 13 ];
+                }
+                then {
+                    accept;
+                }
+            }
             term reset {
                 from {
                     protocol [ 6 ];
@@ -74,7 +84,7 @@ firewall {
 ";
 
 // Small changes of the document, each of which is read: what stands in it, and what in its place.
-static READ: [Change; 9] = [
+static READ: [Change; 11] = [
     (
         "edge",
         "aaaaaaaaaaaaaaaaaaaaaaaaaaaaaaaaaaaaaaaaaaaaaaaaaaaaaaaaaaaaaaaa",
@@ -87,6 +97,8 @@ static READ: [Change; 9] = [
     ("10.0.0.0/8;", "10.0.0.0/9;"),
     ("protocol [ 6 17 ];", "protocol [ 17 6 17 ];"),
     ("icmp-type [ 8 0 ];", "icmp-type [ 254 ];"),
+    ("icmp-code [ 4 13 ];", "icmp-code [ 255 0 ];"),
+    ("                    icmp-code [ 4 13 ];\n", ""),
     ("tcp-established;", "tcp-initial;"),
     ("reject;", "syslog;\n                    reject;"),
     (
@@ -96,7 +108,7 @@ static READ: [Change; 9] = [
 ];
 
 // Small changes of it that are refused.
-static REFUSED: [Change; 47] = [
+static REFUSED: [Change; 53] = [
     // sections
     ("/* juniper edge inet */\n", ""),
     ("/* juniper edge inet */", "/* juniper edge inet6 */"),
@@ -151,6 +163,15 @@ static REFUSED: [Change; 47] = [
     ("8000-8080", "8080-8000"),
     ("8000-8080", "8000-8000"),
     ("icmp-type [ 8 0 ];", "icmp-type [ 255 ];"),
+    ("                    icmp-type [ 3 ];\n", ""),
+    ("icmp-type [ 3 ];", "icmp-type [ 3 5 ];"),
+    ("icmp-code [ 4 13 ];", "icmp-code [ ];"),
+    ("icmp-code [ 4 13 ];", "icmp-code [ 256 ];"),
+    ("icmp-code [ 4 13 ];", "icmp-code [ 04 13 ];"),
+    (
+        "icmp-type [ 3 ];\n                    icmp-code [ 4 13 ];",
+        "icmp-code [ 4 13 ];\n                    icmp-type [ 3 ];",
+    ),
     // what holds, and what is done
     (
         "tcp-established;",
@@ -196,7 +217,7 @@ firewall {
 }
 ";
 
-static WALKS: [Walk; 13] = [
+static WALKS: [Walk; 16] = [
     (
         DOCUMENT,
         0,
@@ -240,7 +261,28 @@ static WALKS: [Walk; 13] = [
         Some(ACCEPTED),
     ),
     (DOCUMENT, 0, PING, Some(REJECTED)),
+    (DOCUMENT, 0, Packet { icode: 7, ..PING }, Some(REJECTED)),
     (DOCUMENT, 0, Packet { itype: 3, ..PING }, Some(DENIED)),
+    (
+        DOCUMENT,
+        0,
+        Packet {
+            itype: 3,
+            icode: 4,
+            ..PING
+        },
+        Some(ACCEPTED),
+    ),
+    (
+        DOCUMENT,
+        0,
+        Packet {
+            itype: 3,
+            icode: 5,
+            ..PING
+        },
+        Some(DENIED),
+    ),
     (DOCUMENT, 1, PACKET, None),
     (DOCUMENT, 0, SOLICITATION, None),
     (SIX, 0, SOLICITATION, Some(DENIED)),

@@ -18,5 +18,6 @@ returns g c =
       c.range_elements-2.ensures.exact,
       c.range_elements-3.ensures.exact,
       c.range_elements-4.ensures.exact,
+      c.range_elements-5.ensures.exact,
       c.test_of.ensures,
     ) at c.put_rows.ensures)

@@ -9,4 +9,4 @@ pub returns : goal.returns
 returns g c =
     let self = c.args.self.now in
     retold (ap (λ rows. text_of_rows (from_rows rows)) (conditions_are self.family self.term.now))
-    (rw (c.as_slice.ensures, c.as_slice-2.ensures, c.as_slice-3.ensures, c.as_slice-4.ensures, c.as_slice-5.ensures, c.as_slice-6.ensures) at c.put_rows.ensures)
+    (rw (c.as_slice.ensures, c.as_slice-2.ensures, c.as_slice-3.ensures, c.as_slice-4.ensures, c.as_slice-5.ensures, c.as_slice-6.ensures, c.as_slice-7.ensures) at c.put_rows.ensures)
