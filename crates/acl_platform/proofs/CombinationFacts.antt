@@ -40,6 +40,7 @@ pub record IsCombinationOf (r : Rule) (c : Combination) : Type 0 where
   pub source_ports : OfRanges r.sports c.sport
   pub destination_ports : OfRanges r.dports c.dport
   pub type_of_icmp : OfNumbers r.itypes c.itype
+  pub code_of_icmp : OfNumbers r.icodes c.icode
 
 pub all-weaker : {A : Type 0} {P Q : A → Type 0} → ((x : A) → P x → Q x) → (xs : List A) → AllByRecursion P xs → AllByRecursion Q xs
 all-weaker f [] h = tt
@@ -83,27 +84,32 @@ all-prefixes family prefixes h =
 
 abbrev OfParts : Rule → Parts → Type 0
 OfParts r c = OfNumbers r.protos c.0 × (IsPrefixOf r.family c.1.0 × (IsPrefixOf r.family c.1.1.0
-    × (OfRanges r.sports c.1.1.1.0 × (OfRanges r.dports c.1.1.1.1.0 × OfNumbers r.itypes c.1.1.1.1.1))))
+    × (OfRanges r.sports c.1.1.1.0 × (OfRanges r.dports c.1.1.1.1.0
+    × (OfNumbers r.itypes c.1.1.1.1.1.0 × OfNumbers r.icodes c.1.1.1.1.1.1)))))
 
 pub combination-facts : (kind : Kind) (families : Families) (r : Rule) → IsSoundRule kind families r
     → AllByRecursion (IsCombinationOf r) (combinations r)
 combination-facts kind families r h =
+    let codes = number_choices r.icodes in
     let types = number_choices r.itypes in
     let dports = range_choices r.dports in
     let sports = range_choices r.sports in
     let P : Prefix → Type 0 = IsPrefixOf r.family in
-    let Last : Option (ℕ × ℕ) × Option ℕ → Type 0 = λ c. OfRanges r.dports c.0 × OfNumbers r.itypes c.1 in
-    let Ports : Option (ℕ × ℕ) × (Option (ℕ × ℕ) × Option ℕ) → Type 0 = λ c. OfRanges r.sports c.0 × Last c.1 in
-    let Third : Prefix × (Option (ℕ × ℕ) × (Option (ℕ × ℕ) × Option ℕ)) → Type 0 = λ c. P c.0 × Ports c.1 in
-    let Second : Prefix × (Prefix × (Option (ℕ × ℕ) × (Option (ℕ × ℕ) × Option ℕ))) → Type 0 = λ c. P c.0 × Third c.1 in
+    let Icmp : Option ℕ × Option ℕ → Type 0 = λ c. OfNumbers r.itypes c.0 × OfNumbers r.icodes c.1 in
+    let Last : Option (ℕ × ℕ) × (Option ℕ × Option ℕ) → Type 0 = λ c. OfRanges r.dports c.0 × Icmp c.1 in
+    let Ports : Option (ℕ × ℕ) × (Option (ℕ × ℕ) × (Option ℕ × Option ℕ)) → Type 0 = λ c. OfRanges r.sports c.0 × Last c.1 in
+    let Third : Prefix × (Option (ℕ × ℕ) × (Option (ℕ × ℕ) × (Option ℕ × Option ℕ))) → Type 0 = λ c. P c.0 × Ports c.1 in
+    let Second : Prefix × (Prefix × (Option (ℕ × ℕ) × (Option (ℕ × ℕ) × (Option ℕ × Option ℕ)))) → Type 0 =
+        λ c. P c.0 × Third c.1 in
     let parts : AllByRecursion (OfParts r) (parts_of r) =
-    all-pairs (OfNumbers r.protos) Second (number_choices r.protos) (pairs r.src (pairs r.dst (pairs sports (pairs dports types))))
+    all-pairs (OfNumbers r.protos) Second (number_choices r.protos) (pairs r.src (pairs r.dst (pairs sports (pairs dports (pairs types codes)))))
     (all-numbers r.protos)
-    (all-pairs P Third r.src (pairs r.dst (pairs sports (pairs dports types))) (all-prefixes r.family r.src h.sources)
-    (all-pairs P Ports r.dst (pairs sports (pairs dports types)) (all-prefixes r.family r.dst h.destinations)
-    (all-pairs (OfRanges r.sports) Last sports (pairs dports types) (all-ranges 0 65535 r.sports (h.numbers SourcePort).top_is (h.numbers SourcePort).normal)
-    (all-pairs (OfRanges r.dports) (OfNumbers r.itypes) dports types
-    (all-ranges 0 65535 r.dports (h.numbers DestinationPort).top_is (h.numbers DestinationPort).normal) (all-numbers r.itypes))))) in
+    (all-pairs P Third r.src (pairs r.dst (pairs sports (pairs dports (pairs types codes)))) (all-prefixes r.family r.src h.sources)
+    (all-pairs P Ports r.dst (pairs sports (pairs dports (pairs types codes))) (all-prefixes r.family r.dst h.destinations)
+    (all-pairs (OfRanges r.sports) Last sports (pairs dports (pairs types codes)) (all-ranges 0 65535 r.sports (h.numbers SourcePort).top_is (h.numbers SourcePort).normal)
+    (all-pairs (OfRanges r.dports) Icmp dports (pairs types codes)
+    (all-ranges 0 65535 r.dports (h.numbers DestinationPort).top_is (h.numbers DestinationPort).normal)
+    (all-pairs (OfNumbers r.itypes) (OfNumbers r.icodes) types codes (all-numbers r.itypes) (all-numbers r.icodes)))))) in
     all-map (IsCombinationOf r) combination_of (parts_of r)
     (all-weaker (λ c k. record {
       protocol = k.0;
@@ -111,5 +117,6 @@ combination-facts kind families r h =
       destination = k.1.1.0;
       source_ports = k.1.1.1.0;
       destination_ports = k.1.1.1.1.0;
-      type_of_icmp = k.1.1.1.1.1;
+      type_of_icmp = k.1.1.1.1.1.0;
+      code_of_icmp = k.1.1.1.1.1.1;
     }) (parts_of r) parts)

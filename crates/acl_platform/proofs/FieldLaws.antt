@@ -37,16 +37,20 @@ sets-parted r p = turned (any_has r.src p.src) (any_has r.dst p.dst) (holds r.pr
 
 pub sets-told : (r : Rule) (p : Packet) → sets_hold r p
     ≡ (holds r.protos.ranges p.proto && (any_has r.src p.src && (any_has r.dst p.dst
-    && (holds r.sports.ranges p.sport && (holds r.dports.ranges p.dport && holds r.itypes.ranges p.itype)))))
+    && (holds r.sports.ranges p.sport && (holds r.dports.ranges p.dport
+    && (holds r.itypes.ranges p.itype && holds r.icodes.ranges p.icode))))))
 sets-told r p = sets-parted r p
     ∙ ap (λ t. holds r.protos.ranges p.proto && (any_has r.src p.src && (any_has r.dst p.dst
-    && (holds r.sports.ranges p.sport && (holds r.dports.ranges p.dport && t))))) (and-true (holds r.itypes.ranges p.itype))
+    && (holds r.sports.ranges p.sport && (holds r.dports.ranges p.dport && (holds r.itypes.ranges p.itype && t))))))
+    (and-true (holds r.icodes.ranges p.icode))
 
 pub combination-told : (p : Packet) (c : Combination) → combination_holds p c
     ≡ (is_chosen c.proto p.proto && (has_address c.src p.src && (has_address c.dst p.dst
-    && (in_range c.sport p.sport && (in_range c.dport p.dport && is_chosen c.itype p.itype)))))
+    && (in_range c.sport p.sport && (in_range c.dport p.dport
+    && (is_chosen c.itype p.itype && is_chosen c.icode p.icode))))))
 combination-told p c =
     turned (has_address c.src p.src) (has_address c.dst p.dst) (is_chosen c.proto p.proto) (in_range c.sport p.sport)
-    (in_range c.dport p.dport) (is_chosen c.itype p.itype && true)
+    (in_range c.dport p.dport) (is_chosen c.itype p.itype && (is_chosen c.icode p.icode && true))
     ∙ ap (λ t. is_chosen c.proto p.proto && (has_address c.src p.src && (has_address c.dst p.dst
-    && (in_range c.sport p.sport && (in_range c.dport p.dport && t))))) (and-true (is_chosen c.itype p.itype))
+    && (in_range c.sport p.sport && (in_range c.dport p.dport && (is_chosen c.itype p.itype && t))))))
+    (and-true (is_chosen c.icode p.icode))

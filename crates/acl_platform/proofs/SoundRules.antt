@@ -4,7 +4,7 @@ use Rattle.std.specs.List.{All, AllByRecursion}
 use Rattle.std.proofs.lemmas.List.Elements.{All-from_recursion}
 use Rattle.acl_packet.specs.declared.addresses.Families.{Families}
 use Rattle.acl_packet.specs.declared.packet_fields.Field.{Field}
-use Rattle.acl_packet.specs.declared.packet_fields.Field.TheVariants.{Protocol, SourcePort, DestinationPort, IcmpType}
+use Rattle.acl_packet.specs.declared.packet_fields.Field.TheVariants.{Protocol, SourcePort, DestinationPort, IcmpType, IcmpCode}
 use Rattle.acl_packet.specs.declared.packets.Packet.{Packet}
 use Rattle.acl_packet.specs.Packets.{IsPacket, number_of, top_of}
 use Rattle.acl_packet.proofs.FieldLaws.{by-field}
@@ -22,8 +22,9 @@ below top s h = let e = h.top_is in omega (arith, e)
 pub sized : (kind : Kind) (families : Families) (r : Rule) → IsSoundRule kind families r → IsSized r
 sized kind families r h = record { tops = λ field. below (top_of field) (set_of field r) (h.numbers field) }
 
-pub sized_by : (r : Rule) → r.protos.top ≤ 255 → r.sports.top ≤ 65535 → r.dports.top ≤ 65535 → r.itypes.top ≤ 255 → IsSized r
-sized_by r a b c d = record { tops = by-field (λ field. (set_of field r).top ≤ top_of field) a b c d }
+pub sized_by : (r : Rule) → r.protos.top ≤ 255 → r.sports.top ≤ 65535 → r.dports.top ≤ 65535 → r.itypes.top ≤ 255
+    → r.icodes.top ≤ 255 → IsSized r
+sized_by r a b c d e = record { tops = by-field (λ field. (set_of field r).top ≤ top_of field) a b c d e }
 
 pub protocols_small : (r : Rule) → IsSized r → r.protos.top ≤ 255
 protocols_small r h = h.tops Protocol
@@ -36,6 +37,9 @@ destination_ports_small r h = h.tops DestinationPort
 
 pub types_small : (r : Rule) → IsSized r → r.itypes.top ≤ 255
 types_small r h = h.tops IcmpType
+
+pub codes_small : (r : Rule) → IsSized r → r.icodes.top ≤ 255
+codes_small r h = h.tops IcmpCode
 
 each_sized : (kind : Kind) (families : Families) (rules : List Rule) → AllByRecursion (IsSoundRule kind families) rules
     → AllByRecursion IsSized rules

@@ -4,7 +4,7 @@ use Rattle.std.specs.List.{list_all, list_any}
 use Rattle.acl_packet.specs.declared.addresses.Families.{Families}
 use Rattle.acl_packet.specs.declared.addresses.Prefix.{Prefix}
 use Rattle.acl_packet.specs.declared.packet_fields.Field.{Field}
-use Rattle.acl_packet.specs.declared.packet_fields.Field.TheVariants.{Protocol, SourcePort, DestinationPort, IcmpType}
+use Rattle.acl_packet.specs.declared.packet_fields.Field.TheVariants.{Protocol, SourcePort, DestinationPort, IcmpType, IcmpCode}
 use Rattle.acl_packet.specs.declared.packets.Packet.{Packet}
 use Rattle.acl_packet.specs.Addresses.{has_address}
 use Rattle.acl_packet.specs.Packets.{IsPacket, fields, number_of, top_of}
@@ -15,9 +15,9 @@ use Rattle.acl_platform.specs.Choices.{in_range, is_chosen, number_choices, pair
 use Rattle.acl_platform.specs.Rules.{set_of, sets_hold}
 use Rattle.acl_platform.specs.SoundFilters.{IsSoundRule}
 
--- Protocol, source, destination, source ports, destination ports, and type, the protocol outermost.
+-- Protocol, source, destination, source ports, destination ports, type, and code, the protocol outermost.
 abbrev pub Parts : Type 0
-Parts = Option ℕ × (Prefix × (Prefix × (Option (ℕ × ℕ) × (Option (ℕ × ℕ) × Option ℕ))))
+Parts = Option ℕ × (Prefix × (Prefix × (Option (ℕ × ℕ) × (Option (ℕ × ℕ) × (Option ℕ × Option ℕ)))))
 
 abbrev pub combination_of : Parts → Combination
 combination_of c = record {
@@ -26,7 +26,8 @@ combination_of c = record {
   dst = c.1.1.0;
   sport = c.1.1.1.0;
   dport = c.1.1.1.1.0;
-  itype = c.1.1.1.1.1;
+  itype = c.1.1.1.1.1.0;
+  icode = c.1.1.1.1.1.1;
 }
 
 -- The tops of a rule's sets are within those of their fields.
@@ -35,7 +36,8 @@ pub record IsSized (r : Rule) : Type 0 where
 
 abbrev pub parts_of : Rule → List Parts
 parts_of r = pairs (number_choices r.protos) (pairs r.src (pairs r.dst
-    (pairs (range_choices r.sports) (pairs (range_choices r.dports) (number_choices r.itypes)))))
+    (pairs (range_choices r.sports) (pairs (range_choices r.dports)
+    (pairs (number_choices r.itypes) (number_choices r.icodes))))))
 
 abbrev pub combinations : Rule → List Combination
 combinations r = map combination_of (parts_of r)
@@ -46,6 +48,7 @@ takes_number c Protocol number = is_chosen c.proto number
 takes_number c SourcePort number = in_range c.sport number
 takes_number c DestinationPort number = in_range c.dport number
 takes_number c IcmpType number = is_chosen c.itype number
+takes_number c IcmpCode number = is_chosen c.icode number
 
 -- A combination holds a packet where it has its addresses, and its number of each field.
 abbrev pub combination_holds : Packet → Combination → Bool

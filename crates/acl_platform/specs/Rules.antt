@@ -2,7 +2,7 @@
 use Rattle.std.specs.Prelude.{Bool, true, ◌&&◌, if◌then◌else◌, List, [], ◌∷◌}
 use Rattle.std.specs.List.{list_all}
 use Rattle.acl_packet.specs.declared.packet_fields.Field.{Field}
-use Rattle.acl_packet.specs.declared.packet_fields.Field.TheVariants.{Protocol, SourcePort, DestinationPort, IcmpType}
+use Rattle.acl_packet.specs.declared.packet_fields.Field.TheVariants.{Protocol, SourcePort, DestinationPort, IcmpType, IcmpCode}
 use Rattle.acl_packet.specs.declared.packets.Packet.{Packet}
 use Rattle.acl_packet.specs.declared.filtering.Outcome.{Outcome}
 use Rattle.acl_packet.specs.Addresses.{same_family}
@@ -31,6 +31,7 @@ set_of Protocol r = r.protos
 set_of SourcePort r = r.sports
 set_of DestinationPort r = r.dports
 set_of IcmpType r = r.itypes
+set_of IcmpCode r = r.icodes
 
 -- The rule's addresses are those of the packet, and its set of each field holds the packet's number there.
 abbrev pub sets_hold : Rule → Packet → Bool

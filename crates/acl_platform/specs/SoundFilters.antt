@@ -16,6 +16,7 @@ use Rattle.acl_text.specs.Notes.{is_note}
 use Rattle.acl_sets.specs.ComputableSets.{is_all}
 use Rattle.acl_sets.specs.LeastLists.{IsLeastList}
 use Rattle.acl_packet.specs.AddressLists.{any_has}
+use Rattle.acl_sets.specs.OneNumber.{IsOneNumber}
 use Rattle.acl_sets.specs.Ranges.{holds, IsNormal, Numbers, Only}
 use Rattle.acl_target.specs.declared.targets.Kind.{Kind}
 use Rattle.acl_target.specs.declared.targets.Kind.TheVariants.{Cisco, Juniper, Iptables, Nftables}
@@ -100,7 +101,7 @@ IsRuleName name = (term address port protocol : List ℕ) × (is_name term ≡ t
     × IsOneOf protocol protocol_suffixes × (name ≡ term ++ (address ++ (port ++ protocol)))
 
 -- Where numbers of a field are named, all protocols have the field: ports belong to TCP, UDP and SCTP,
--- types to the family's ICMP. Flags and resets belong to TCP. A type that is named is below 255, so
+-- types and codes to the family's ICMP, and codes to one type. Flags and resets belong to TCP. A type that is named is below 255, so
 -- that a document can write it on each platform.
 pub record IsSoundRule (kind : Kind) (families : Families) (r : Rule) : Type 0 where
   pub family : covers families r.family ≡ true
@@ -112,6 +113,7 @@ pub record IsSoundRule (kind : Kind) (families : Families) (r : Rule) : Type 0 w
   pub numbers_fit : (field : Field) → is_all (set_of field r) ≡ false → Only (has_field r.family field) r.protos
   pub protocols_named : is_all r.protos ≡ false → Only (is_named_protocol r.family) r.protos
   pub types_named : is_all r.itypes ≡ false → holds r.itypes.ranges 255 ≡ false
+  pub codes_named : is_all r.icodes ≡ false → IsOneNumber r.itypes
   pub flags_fit : tests_flags r.test ≡ true → Only is_tcp r.protos
   pub reset_fits : r.verdict ≡ Reset → Only is_tcp r.protos
   pub test_known : has_test kind r.test ≡ true

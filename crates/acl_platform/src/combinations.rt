@@ -20,6 +20,7 @@ pub struct Combination {
     pub sport: Option<(u16, u16)>,
     pub dport: Option<(u16, u16)>,
     pub itype: Option<u8>,
+    pub icode: Option<u8>,
 }
 
 /// Puts the lines of each combination of the rule in the form, the protocol outermost.
@@ -45,14 +46,17 @@ pub fn count_combinations(rule: &Rule) -> u64
     choices_of(rule).count()
 }
 
-// Protocol, source, destination, source ports, destination ports, and type.
+// Protocol, source, destination, source ports, destination ports, type, and code.
 type Parts = (
     Option<u8>,
     (
         Prefix,
         (
             Prefix,
-            (Option<(u16, u16)>, (Option<(u16, u16)>, Option<u8>)),
+            (
+                Option<(u16, u16)>,
+                (Option<(u16, u16)>, (Option<u8>, Option<u8>)),
+            ),
         ),
     ),
 );
@@ -63,21 +67,25 @@ type PartChoices<'a> = (
         &'a [Prefix],
         (
             &'a [Prefix],
-            (RangeChoices<'a>, (RangeChoices<'a>, NumberChoices<'a>)),
+            (
+                RangeChoices<'a>,
+                (RangeChoices<'a>, (NumberChoices<'a>, NumberChoices<'a>)),
+            ),
         ),
     ),
 );
 
-#[tactic(auto, using(crate::proofs::SoundRules::protocols_small, crate::proofs::SoundRules::source_ports_small, crate::proofs::SoundRules::destination_ports_small, crate::proofs::SoundRules::types_small))]
+#[tactic(auto, using(crate::proofs::SoundRules::protocols_small, crate::proofs::SoundRules::source_ports_small, crate::proofs::SoundRules::destination_ports_small, crate::proofs::SoundRules::types_small, crate::proofs::SoundRules::codes_small))]
 fn choices_of(rule: &Rule) -> PartChoices<'_>
     requires { IsSized rule.now }
     ensures { ⟦<PartChoices<'static> as Choices>⟧.items result ≡ parts_of rule.now }
 {
+    let icodes = NumberChoices { set: &rule.icodes };
     let itypes = NumberChoices { set: &rule.itypes };
     let dports = RangeChoices { set: &rule.dports };
     let sports = RangeChoices { set: &rule.sports };
     let protos = NumberChoices { set: &rule.protos };
-    let ports = (sports, (dports, itypes));
+    let ports = (sports, (dports, (itypes, icodes)));
     (protos, (rule.src.as_slice(), (rule.dst.as_slice(), ports)))
 }
 
@@ -98,7 +106,7 @@ impl<'a, F: RowForm<Combination>> RowForm<Parts> for InParts<'a, F> {
 fn combination_of(parts: Parts) -> Combination
     ensures { result ≡ combination_of parts }
 {
-    let (proto, (src, (dst, (sport, (dport, itype))))) = parts;
+    let (proto, (src, (dst, (sport, (dport, (itype, icode)))))) = parts;
     Combination {
         proto,
         src,
@@ -106,5 +114,6 @@ fn combination_of(parts: Parts) -> Combination
         sport,
         dport,
         itype,
+        icode,
     }
 }

@@ -36,6 +36,7 @@ pub struct Rule {
     pub sports: RangeSet,
     pub dports: RangeSet,
     pub itypes: RangeSet,
+    pub icodes: RangeSet,
     pub test: Test,
     pub verdict: Verdict,
     pub log: bool,
@@ -53,5 +54,6 @@ pub fn set_of(field: Field, rule: &Rule) -> &RangeSet
         Field::SourcePort => &rule.sports,
         Field::DestinationPort => &rule.dports,
         Field::IcmpType => &rule.itypes,
+        Field::IcmpCode => &rule.icodes,
     }
 }

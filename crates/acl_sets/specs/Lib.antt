@@ -1,5 +1,6 @@
 pub mod Ranges
 pub mod LeastLists
+pub mod OneNumber
 pub mod ComputableSets
 pub mod ComputableLeastLists
 pub mod SweepSteps
