@@ -100,7 +100,7 @@ combination-facts kind families r h =
     let Ports : Option (ℕ × ℕ) × (Option (ℕ × ℕ) × (Option ℕ × Option ℕ)) → Type 0 = λ c. OfRanges r.sports c.0 × Last c.1 in
     let Third : Prefix × (Option (ℕ × ℕ) × (Option (ℕ × ℕ) × (Option ℕ × Option ℕ))) → Type 0 = λ c. P c.0 × Ports c.1 in
     let Second : Prefix × (Prefix × (Option (ℕ × ℕ) × (Option (ℕ × ℕ) × (Option ℕ × Option ℕ)))) → Type 0 =
-        λ c. P c.0 × Third c.1 in
+    λ c. P c.0 × Third c.1 in
     let parts : AllByRecursion (OfParts r) (parts_of r) =
     all-pairs (OfNumbers r.protos) Second (number_choices r.protos) (pairs r.src (pairs r.dst (pairs sports (pairs dports (pairs types codes)))))
     (all-numbers r.protos)

@@ -41,7 +41,7 @@ any-combination kind families r p h k =
     let ports : Option (ℕ × ℕ) × (Option (ℕ × ℕ) × (Option ℕ × Option ℕ)) → Bool = λ c. from c.0 && last c.1 in
     let third : Prefix × (Option (ℕ × ℕ) × (Option (ℕ × ℕ) × (Option ℕ × Option ℕ))) → Bool = λ c. dst c.0 && ports c.1 in
     let second : Prefix × (Prefix × (Option (ℕ × ℕ) × (Option (ℕ × ℕ) × (Option ℕ × Option ℕ)))) → Bool =
-        λ c. src c.0 && third c.1 in
+    λ c. src c.0 && third c.1 in
     let codes = number_choices r.icodes in
     let types = number_choices r.itypes in
     let dports = range_choices r.dports in

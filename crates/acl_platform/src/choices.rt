@@ -26,7 +26,11 @@ pub trait Choices {
     ghost items: { Self → List Self.Item };
 
     /// Puts the lines of each choice, in order.
-    fn put_each<F: RowForm<Self::Item>, O: Out>(&self, form: &F, out: &mut O) -> Result<(), PutFault>
+    fn put_each<F: RowForm<Self::Item>, O: Out>(
+        &self,
+        form: &F,
+        out: &mut O,
+    ) -> Result<(), PutFault>
         requires { IsTrue (O.is_open out.old) }
         ensures { Puts O.Out out.old out.new
             (text_of_rows (flat_map (F.item_rows form.now) (items self.now))) result };
@@ -81,7 +85,11 @@ impl<'a> Choices for NumberChoices<'a> {
 
     ghost items = { λ s. number_choices s.set.now };
 
-    fn put_each<F: RowForm<Option<u8>>, O: Out>(&self, form: &F, out: &mut O) -> Result<(), PutFault> {
+    fn put_each<F: RowForm<Option<u8>>, O: Out>(
+        &self,
+        form: &F,
+        out: &mut O,
+    ) -> Result<(), PutFault> {
         if self.set.is_all() {
             form.put_item(&None, out)
         } else {

@@ -6,8 +6,8 @@ ghost use Rattle.acl_platform.specs.Combinations.{IsSized, combination_of, combi
 
 use crate::choices::{Choices, NumberChoices, RangeChoices};
 use crate::rules::Rule;
-use acl_rows::RowForm;
 use acl_packet::Prefix;
+use acl_rows::RowForm;
 use acl_text::{Out, PutFault};
 
 /// A choice of each part of a rule; `None` is no condition.

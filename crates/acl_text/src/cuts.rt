@@ -1,9 +1,5 @@
-ghost use Rattle.std.specs.Prelude.{◌≡◌, ◌==◌, IfOk, option_map};
-ghost use Rattle.std.specs.List.{slice_split};
-ghost use Rattle.acl_text.specs.Cuts.{ahead, behind, cut_at, has_byte, views};
-
-use crate::texts::Memory;
-use std::alloc::{AllocError, Global};
+ghost use Rattle.std.specs.Prelude.{◌≡◌, option_map};
+ghost use Rattle.acl_text.specs.Cuts.{ahead, behind, cut_at, has_byte};
 
 /// The bytes before the first such byte, and those behind it.
 pub fn split_at_byte(bytes: &[u8], byte: u8) -> Option<(&[u8], &[u8])>
@@ -22,19 +18,6 @@ pub fn contains_byte(bytes: &[u8], byte: u8) -> bool
     ensures { result ≡ has_byte byte bytes.now }
 {
     bytes.iter().any(|b| *b == byte)
-}
-
-/// The parts of the text between such bytes: one more than there are of them.
-pub fn split_text<'a>(alloc: Global, text: &'a [u8], byte: u8) -> Result<Vec<&'a [u8]>, Memory>
-    ensures { IfOk result (λ v. views v.items ≡ slice_split (λ b. b == byte) text.now) }
-{
-    Ok(parts_at(alloc, text, byte)?)
-}
-
-fn parts_at<'a>(alloc: Global, bytes: &'a [u8], cut: u8) -> Result<Vec<&'a [u8]>, AllocError>
-    ensures { IfOk result (λ v. views v.items ≡ slice_split (λ b. b == cut) bytes.now) }
-{
-    bytes.split(|b| *b == cut).collect(alloc)
 }
 
 /// What stands behind the front, where the text begins with it.

@@ -26,7 +26,7 @@ mod words;
 
 pub use acl_packet::{read_number, read_u8, read_u16};
 pub use cursors::Cursor;
-pub use cuts::{ahead, behind, contains_byte, split_at_byte, split_text};
+pub use cuts::{ahead, behind, contains_byte, split_at_byte};
 pub use decimals::put_number;
 pub use faults::{Code, Fault, Place, Refusal, Rejection, Slip};
 pub use file_lines::Line;

@@ -50,6 +50,7 @@ const PACKET: Packet = Packet {
     dport: 80,
     flags: 2,
     itype: 0,
+    icode: 0,
     conn: Conn::New,
 };
 

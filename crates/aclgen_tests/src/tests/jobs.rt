@@ -50,6 +50,15 @@ ip access-list extended sums
 exit
 ";
 
+const CODES: &[u8] = b"! cisco edge extended
+no ip access-list extended edge
+ip access-list extended edge
+ remark u
+ permit icmp any any 3 3
+ permit icmp any any 3 4
+exit
+";
+
 const REPORT: &[u8] = b"pol/a.pol:2: term old expired on 2026-01-15
 out/a.acl: cisco edge mixed: entries 4
 out/a.acl: cisco low extended: entries 1
@@ -106,7 +115,7 @@ const WORKLOAD: Case = Case {
     ..CASE
 };
 
-static CASES: [Case; 8] = [
+static CASES: [Case; 10] = [
     Case {
         policy: TWO_BLOCKS,
         file: Some(SECTIONS),
@@ -123,6 +132,18 @@ static CASES: [Case; 8] = [
         policy: b"header { target:: cisco edge extended }\nterm t { source-address:: NOWHERE action:: accept }",
         status: 1,
         line: b"pol/a.pol:2: F31 UnknownName NOWHERE\n",
+        ..CASE
+    },
+    Case {
+        policy: b"header { target:: cisco edge extended }\nterm u { protocol:: icmp icmp-type:: unreachable icmp-code:: 4 3 action:: accept }\n",
+        file: Some(CODES),
+        report: b"out/a.acl: cisco edge extended: entries 2\n",
+        ..CASE
+    },
+    Case {
+        policy: b"header { target:: cisco edge extended }\nterm t { protocol:: icmp\nicmp-code:: 4 action:: accept }\n",
+        status: 1,
+        line: b"pol/a.pol:3: F46 IcmpCode 4\n",
         ..CASE
     },
     Case {

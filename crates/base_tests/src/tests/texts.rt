@@ -3,7 +3,6 @@ use acl_text::{
     Bytes, Cursor, Items, Memory, Out, Place, PutFault, ahead, behind, contains_byte, next_word,
     put_address, put_number, put_pieces, put_prefix, put_wildcard, read_address, read_number,
     read_ports, read_prefix, read_signed, read_spelled_prefix, skip_white, split_at_byte,
-    split_text,
 };
 use std::alloc::Global;
 use std::test::Fail;
@@ -296,7 +295,6 @@ fn cuts_texts_at_their_ends(rt: HostRuntime) -> Result<(), Fail> {
     assert_eq!(rt; ahead(b"80;", b";").expect(&rt, "a port"), b"80".as_slice());
     assert_eq!(rt; ahead(b"80", b";").is_some(), false);
     assert_eq!(rt; skip_white(b" \t\rx "), b"x ".as_slice());
-    assert_eq!(rt; split_text(rt.alloc(), b"80,,443", b',')?.len(), 3);
     let mut numbers = Items::new(rt.alloc());
     numbers.push(6)?;
     assert_eq!(rt; numbers.as_slice(), [6].as_slice());

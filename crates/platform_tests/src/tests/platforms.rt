@@ -49,6 +49,7 @@ fn web(alloc: Global) -> Result<Rule, Memory>
         sports: RangeSet::all(alloc, 65535)?,
         dports: RangeSet::from_ranges(alloc, 65535, &dports)?,
         itypes: RangeSet::all(alloc, 255)?,
+        icodes: RangeSet::all(alloc, 255)?,
         test: Test::SynNotAck,
         verdict: Verdict::Accept,
         log: true,
@@ -109,6 +110,7 @@ const SYN: Packet = Packet {
     dport: 81,
     flags: 2,
     itype: 0,
+    icode: 0,
     conn: Conn::New,
 };
 
