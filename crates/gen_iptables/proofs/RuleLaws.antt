@@ -112,7 +112,7 @@ type-fits-by f s protos proto (Some n) h k only =
     let one = named (is_icmp f) protos proto h (no-icmp f) (only k.0) in
     ap (λ q. is_proto q (icmp_of f)) one.1.0 ∙ one.1.1.1
 
--- one number is not all numbers of a type
+-- a set of one number has not every number to 255
 one-covers : (n : ℕ) → covers (record { low = n; high = n } ∷ []) 0 255 ≡ false
 one-covers n = bound_cases (nat_le n 0) (nat_le 255 n) refl refl where
   bound_cases : (a b : Bool) → nat_le n 0 ≡ a → nat_le 255 n ≡ b → (a && b || false) ≡ false
