@@ -8,7 +8,7 @@ use Rattle.acl_packet.specs.declared.addresses.Prefix.{Prefix}
 use Rattle.acl_packet.specs.declared.filtering.Outcome.{Outcome}
 use Rattle.acl_packet.specs.declared.filtering.Verdict.{Verdict}
 use Rattle.acl_packet.specs.declared.filtering.Verdict.TheVariants.{Accept, Deny, Reject, Reset, Left}
-use Rattle.acl_packet.specs.declared.packet_fields.Field.TheVariants.{Protocol, SourcePort, DestinationPort, IcmpType}
+use Rattle.acl_packet.specs.declared.packet_fields.Field.TheVariants.{Protocol, SourcePort, DestinationPort, IcmpType, IcmpCode}
 use Rattle.acl_packet.specs.declared.packets.Packet.{Packet}
 use Rattle.acl_packet.specs.Addresses.{first_family, has_address, width_of}
 use Rattle.acl_packet.specs.Packets.{has_flag, is_initial, IsPacket}
@@ -113,7 +113,8 @@ abbrev front_holds : Packet → Front → Bool
 front_holds p c = number_holds c.0 p.proto && (address_holds (address_of c.1.0) p.src && address_holds (address_of c.1.1) p.dst)
 
 abbrev back_holds : Test → Packet → Back → Bool
-back_holds test p c = number_holds c.0 p.itype && (flags_hold c.1 p.flags && state_holds (asks_state test) p.conn)
+back_holds test p c = (number_holds c.0 p.itype && number_holds c.1.0 p.icode)
+    && (flags_hold c.1.1 p.flags && state_holds (asks_state test) p.conn)
 
 -- what a rule of the chain asks of a packet, whatever its act
 abbrev parts_hold : Rule → Packet → ChainParts → Bool
@@ -139,25 +140,36 @@ front-any r p top src dst k l =
     ∙ ap (λ t. t && list_any into r.dst) (address-any r.family r.src p.src src k)
     ∙ ap (λ t. any_has r.src p.src && t) (address-any r.family r.dst p.dst dst l))
 
-back-any : (r : Rule) (p : Packet) → p.itype ≤ r.itypes.top
-    → list_any (back_holds r.test p) (backs r) ≡ (holds r.itypes.ranges p.itype && passes r.test p)
-back-any r p top =
+back-any : (r : Rule) (p : Packet) → p.itype ≤ r.itypes.top → p.icode ≤ r.icodes.top
+    → list_any (back_holds r.test p) (backs r) ≡ (holds r.itypes.ranges p.itype && (holds r.icodes.ranges p.icode && passes r.test p))
+back-any r p type_top code_top =
     let itype : Option ℕ → Bool = λ o. number_holds o p.itype in
+    let icode : Option ℕ → Bool = λ o. number_holds o p.icode in
     let test : Option Flags → Bool = λ o. flags_hold o p.flags && state_holds (asks_state r.test) p.conn in
+    let last : Option ℕ × Option Flags → Bool = λ c. icode c.0 && test c.1 in
+    let turned : Back → Bool = λ c. itype c.0 && last c.1 in
     let types = number_choices r.itypes in
-    any-pairs itype test types (flag_choices r.test)
-    ∙ ap (λ t. t && list_any test (flag_choices r.test))
-    (any-same itype (λ o. is_chosen o p.itype) (λ o. number-same o p.itype) types ∙ any-number r.itypes p.itype top)
-    ∙ ap (λ t. holds r.itypes.ranges p.itype && t) (test-any r.test p)
+    let codes = number_choices r.icodes in
+    let flags = flag_choices r.test in
+    any-same (back_holds r.test p) turned (λ c. and-assoc (itype c.0) (icode c.1.0) (test c.1.1)) (backs r)
+    ∙ any-pairs itype last types (pairs codes flags)
+    ∙ ap (λ t. t && list_any last (pairs codes flags))
+    (any-same itype (λ o. is_chosen o p.itype) (λ o. number-same o p.itype) types ∙ any-number r.itypes p.itype type_top)
+    ∙ ap (λ t. holds r.itypes.ranges p.itype && t) (any-pairs icode test codes flags
+    ∙ ap (λ t. t && list_any test flags)
+    (any-same icode (λ o. is_chosen o p.icode) (λ o. number-same o p.icode) codes ∙ any-number r.icodes p.icode code_top)
+    ∙ ap (λ t. holds r.icodes.ranges p.icode && t) (test-any r.test p))
 
-regrouped : (proto src dst sport dport itype test : Bool)
-    → ((proto && (src && dst)) && (sport && (dport && (itype && test)))) ≡ ((proto && (src && (dst && (sport && (dport && itype))))) && test)
-regrouped false src dst sport dport itype test = refl
-regrouped true false dst sport dport itype test = refl
-regrouped true true false sport dport itype test = refl
-regrouped true true true false dport itype test = refl
-regrouped true true true true false itype test = refl
-regrouped true true true true true itype test = refl
+regrouped : (proto src dst sport dport itype icode test : Bool)
+    → ((proto && (src && dst)) && (sport && (dport && (itype && (icode && test)))))
+    ≡ ((proto && (src && (dst && (sport && (dport && (itype && icode)))))) && test)
+regrouped false src dst sport dport itype icode test = refl
+regrouped true false dst sport dport itype icode test = refl
+regrouped true true false sport dport itype icode test = refl
+regrouped true true true false dport itype icode test = refl
+regrouped true true true true false itype icode test = refl
+regrouped true true true true true false icode test = refl
+regrouped true true true true true true icode test = refl
 
 -- Some combination holds a packet exactly where the rule's sets and test do.
 any-parts : (families : Families) (r : Rule) (p : Packet) → IsSoundRule Iptables families r → IsPacket p → r.family ≡ p.family
@@ -179,13 +191,13 @@ any-parts families r p h k e =
     ∙ ap (λ t. list_any front (fronts r) && t) (any-pairs from last sports (pairs dports (backs r))
     ∙ ap (λ t. list_any from sports && t) (any-pairs into back dports (backs r)
     ∙ ap (λ t. t && list_any back (backs r)) (any-group r.dports p.dport (tops DestinationPort))
-    ∙ ap (λ t. holds r.dports.ranges p.dport && t) (back-any r p (tops IcmpType)))
-    ∙ ap (λ t. t && (holds r.dports.ranges p.dport && (holds r.itypes.ranges p.itype && passes r.test p)))
+    ∙ ap (λ t. holds r.dports.ranges p.dport && t) (back-any r p (tops IcmpType) (tops IcmpCode)))
+    ∙ ap (λ t. t && (holds r.dports.ranges p.dport && (holds r.itypes.ranges p.itype && (holds r.icodes.ranges p.icode && passes r.test p))))
     (any-group r.sports p.sport (tops SourcePort)))
-    ∙ ap (λ t. t && (holds r.sports.ranges p.sport && (holds r.dports.ranges p.dport && (holds r.itypes.ranges p.itype && passes r.test p))))
+    ∙ ap (λ t. t && (holds r.sports.ranges p.sport && (holds r.dports.ranges p.dport && (holds r.itypes.ranges p.itype && (holds r.icodes.ranges p.icode && passes r.test p)))))
     (front-any r p (tops Protocol) h.sources h.destinations (top p.src k.source) (top p.dst k.destination))
     ∙ regrouped (holds r.protos.ranges p.proto) (any_has r.src p.src) (any_has r.dst p.dst) (holds r.sports.ranges p.sport)
-    (holds r.dports.ranges p.dport) (holds r.itypes.ranges p.itype) (passes r.test p)
+    (holds r.dports.ranges p.dport) (holds r.itypes.ranges p.itype) (holds r.icodes.ranges p.icode) (passes r.test p)
     ∙ ap (λ b. b && passes r.test p) (sym (sets-told r p))
 
 -- ---- a chain

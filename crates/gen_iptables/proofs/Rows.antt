@@ -27,13 +27,13 @@ pub rule-text : (hook : Hook) (family : Family) (r : Rule) (c : ChainParts) (act
     → name ≡ r.name → src ≡ address_of c.0.1.0 → dst ≡ address_of c.0.1.1 → state ≡ asks_state r.test
     → text_of_rows (rule_row hook name (front_words family c.0.0 src dst
     ++ (ports_words (map (λ p. range_word (ends_of p)) c.1.0) (map (λ p. range_word (ends_of p)) c.1.1.0)
-    ++ back_words family c.1.1.1.0 c.1.1.1.1 state act)) ∷ [])
+    ++ back_words family c.1.1.1.0 c.1.1.1.1.0 c.1.1.1.1.1 state act)) ∷ [])
     ≡ text_of_rows (rule_rows hook family r.name (chain_rule r c act))
 unfolding rule_rows rule_words
 rule-text hook family r c act {name = name} {src = src} {dst = dst} {state = state} e h k l =
     let own : Range → List ℕ = λ p. range_word (ends_of p) in
     let text : List ℕ → Option Prefix → Option Prefix → List (List ℕ) → List (List ℕ) → Bool → List ℕ = λ n s d i o t.
-    text_of_rows (rule_row hook n (front_words family c.0.0 s d ++ (ports_words i o ++ back_words family c.1.1.1.0 c.1.1.1.1 t act)) ∷ []) in
+    text_of_rows (rule_row hook n (front_words family c.0.0 s d ++ (ports_words i o ++ back_words family c.1.1.1.0 c.1.1.1.1.0 c.1.1.1.1.1 t act)) ∷ []) in
     let from = address_of c.0.1.0 in
     let into = address_of c.0.1.1 in
     let sports = map own c.1.0 in

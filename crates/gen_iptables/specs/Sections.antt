@@ -36,12 +36,12 @@ asks_state State = true
 asks_state test = false
 
 -- What stands before the ports, which are protocol, source and destination, and what stands behind,
--- type and flags.
+-- type, code and flags.
 abbrev pub Front : Type 0
 Front = Option ℕ × (Prefix × Prefix)
 
 abbrev pub Back : Type 0
-Back = Option ℕ × Option Flags
+Back = Option ℕ × (Option ℕ × Option Flags)
 
 -- A choice of each part, with a group of source ports and one of destination ports.
 abbrev pub ChainParts : Type 0
@@ -51,7 +51,8 @@ abbrev pub fronts : Rule → List Front
 fronts r = pairs (number_choices r.protos) (pairs r.src r.dst)
 
 abbrev pub backs : Rule → List Back
-backs r = pairs (number_choices r.itypes) (flag_choices r.test)
+backs r =
+    pairs (number_choices r.itypes) (pairs (number_choices r.icodes) (flag_choices r.test))
 
 -- The protocol is outermost.
 abbrev pub combinations : Rule → List ChainParts
@@ -75,7 +76,8 @@ chain_rule r c act = record {
   sports = map ends_of c.1.0;
   dports = map ends_of c.1.1.0;
   itype = c.1.1.1.0;
-  flags = c.1.1.1.1;
+  icode = c.1.1.1.1.0;
+  flags = c.1.1.1.1.1;
   state = asks_state r.test;
   act = act;
 }

@@ -20,9 +20,9 @@ ghost use Rattle.gen_iptables.specs.Sections.{
 };
 
 use crate::groups::{GroupForm, put_groups};
-use acl_rows::{RowForm, Piece, PortRange, Rows, WordForm};
 use acl_packet::{Family, Hook, Prefix};
 use acl_platform::{Choices, NumberChoices, Rule, Test};
+use acl_rows::{Piece, PortRange, RowForm, Rows, WordForm};
 use acl_sets::Range;
 use acl_text::{Out, PutFault};
 use ipt_lang::{Act, Flags, PortLists, RuleRow};
@@ -30,11 +30,14 @@ use ipt_lang::{Act, Flags, PortLists, RuleRow};
 // What stands before the ports of a rule, and what behind.
 type Front = (Option<u8>, (Prefix, Prefix));
 
-type Back = (Option<u8>, Option<Flags>);
+type Back = (Option<u8>, (Option<u8>, Option<Flags>));
 
 type FrontChoices<'a> = (NumberChoices<'a>, (&'a [Prefix], &'a [Prefix]));
 
-type BackChoices<'a> = (NumberChoices<'a>, &'static [Option<Flags>]);
+type BackChoices<'a> = (
+    NumberChoices<'a>,
+    (NumberChoices<'a>, &'static [Option<Flags>]),
+);
 
 /// The protocols and addresses of a rule.
 #[tactic(auto, using(acl_platform::proofs::SoundRules::protocols_small))]
@@ -46,14 +49,15 @@ pub(crate) fn fronts_of(rule: &Rule) -> FrontChoices<'_>
     (protocols, (rule.src.as_slice(), rule.dst.as_slice()))
 }
 
-/// The types and flags of a rule.
-#[tactic(auto, using(acl_platform::proofs::SoundRules::types_small))]
+/// The types, codes and flags of a rule.
+#[tactic(auto, using(acl_platform::proofs::SoundRules::types_small, acl_platform::proofs::SoundRules::codes_small))]
 pub(crate) fn backs_of(rule: &Rule) -> BackChoices<'_>
     requires { IsSized rule.now }
     ensures { ⟦<BackChoices<'static> as Choices>⟧.items result ≡ backs rule.now }
 {
     let types = NumberChoices { set: &rule.itypes };
-    (types, flag_choices(rule.test))
+    let codes = NumberChoices { set: &rule.icodes };
+    (types, (codes, flag_choices(rule.test)))
 }
 
 fn flag_choices(test: Test) -> &'static [Option<Flags>]
@@ -121,7 +125,7 @@ impl<'a> GroupForm for BehindFront<'a> {
     }
 }
 
-// A group of destination ports, with each type and each choice of flags.
+// A group of destination ports, with each type, each code and each choice of flags.
 #[derive(Drop)]
 struct BehindSources<'a> {
     chain: &'a ChainRules<'a>,
@@ -144,7 +148,7 @@ impl<'a> GroupForm for BehindSources<'a> {
     }
 }
 
-// A type and a choice of flags, as one combination.
+// A type, a code and a choice of flags, as one combination.
 #[derive(Drop)]
 struct BehindPorts<'a> {
     chain: &'a ChainRules<'a>,
@@ -206,7 +210,7 @@ impl<'a> Rows for OneRule<'a> {
     fn put_rows<O: Out>(&self, out: &mut O) -> Result<(), PutFault> {
         let chain = self.conditions.chain;
         let (proto, (src, dst)) = self.conditions.front;
-        let (itype, flags) = self.back;
+        let (itype, (icode, flags)) = self.back;
         let ports = PortLists {
             sports: self.conditions.sports,
             dports: self.conditions.dports,
@@ -221,6 +225,7 @@ impl<'a> Rows for OneRule<'a> {
             dst: address_of(dst),
             ports,
             itype,
+            icode,
             flags,
             state: asks_state(chain.rule.test),
             act: self.act,

@@ -8,9 +8,9 @@ ghost use Rattle.gen_iptables.specs.ChainRowSteps.{head_of};
 ghost use Rattle.gen_iptables.specs.Sections.{chain_of, policy_of, section_of};
 
 use crate::rule_rows::ChainRules;
-use acl_rows::Rows;
 use acl_packet::{Family, Hook};
 use acl_platform::{Filter, RemarkForm, RemarkRows, Rule, RuleForm, put_rules};
+use acl_rows::Rows;
 use acl_target::Ending;
 use acl_text::{Out, PutFault};
 use ipt_lang::{ChainHead, JumpRow, RemarkRow, SectionHead};

@@ -1,5 +1,5 @@
 -- What is written of a rule is read again.
-use Rattle.std.proofs.Common.{◌≡◌, ℕ, ◌≤◌, Bool, true, false, cond, ◌==◌, ◌&&◌, List, [], ◌∷◌, ◌++◌, map, codes, Option, None, Some, IfSome, refl, ap, sym, ◌∙◌, append_assoc, append-nil, arith, eqb}
+use Rattle.std.proofs.Common.{◌≡◌, ℕ, ◌≤◌, Bool, true, false, cond, ◌==◌, ◌&&◌, ◌||◌, List, [], ◌∷◌, ◌++◌, map, codes, Option, None, Some, IfSome, is_none, is_some, refl, ap, sym, ◌∙◌, append_assoc, append-nil, arith, eqb}
 use Rattle.std.specs.Fmt.{decimal}
 use Rattle.std.specs.List.{fold, AllByRecursion, join_with_byte, slice_split}
 use Rattle.std.specs.Option.{option_or}
@@ -15,7 +15,8 @@ use Rattle.acl_packet.proofs.DecimalLaws.{number-again}
 use Rattle.acl_text.specs.Cuts.{cut_at, has_byte}
 use Rattle.acl_text.specs.PortRanges.{ports_in}
 use Rattle.acl_text.proofs.AddressLaws.{spelled-again}
-use Rattle.acl_text.proofs.CutLaws.{cut-found, none-cut}
+use Rattle.acl_text.proofs.CutLaws.{cut-again, cut-found, cut-none, none-cut}
+use Rattle.acl_text.proofs.DigitLaws.{decimal-lacks}
 use Rattle.acl_rows.specs.PortRanges.{IsPortRange}
 use Rattle.acl_rows.proofs.ListLaws.{all_map}
 use Rattle.acl_rows.proofs.PortRangeLaws.{range-again, range-lacks}
@@ -28,9 +29,9 @@ use Rattle.ipt_lang.specs.declared.documents.Flags.{Flags}
 use Rattle.ipt_lang.specs.declared.documents.Flags.TheVariants.{Ack, Rst, SynNotAck}
 use Rattle.ipt_lang.specs.declared.rule_drafts.Next.TheVariants.{Keyword}
 use Rattle.ipt_lang.specs.declared.rule_drafts.RuleDraft.{RuleDraft}
-use Rattle.ipt_lang.specs.Documents.{IsRule, ports_fit, type_fits, flags_fit, act_fits}
-use Rattle.ipt_lang.specs.Texts.{proto_word, proto_words, address_words, range_word, is_single, key_words, port_list_words, ports_words, type_words, flags_words, state_words, reset_words, act_words, front_words, back_words, rule_words}
-use Rattle.ipt_lang.specs.ReadingSteps.{draft, no_rule, named_proto_in, proto_in, one_or_none, ranges_among, ranges_in, act_in, next_in, with_word, with_value, take_word, rule_in}
+use Rattle.ipt_lang.specs.Documents.{IsRule, ports_fit, type_fits, code_fits, flags_fit, act_fits}
+use Rattle.ipt_lang.specs.Texts.{proto_word, proto_words, address_words, range_word, is_single, key_words, port_list_words, ports_words, type_word, type_words, flags_words, state_words, reset_words, act_words, front_words, back_words, rule_words}
+use Rattle.ipt_lang.specs.ReadingSteps.{draft, no_rule, named_proto_in, proto_in, one_or_none, ranges_among, ranges_in, act_in, next_in, with_word, with_type, with_value, take_word, rule_in}
 
 abbrev at : Family → Rule → RuleDraft
 at f r = draft f r Keyword
@@ -139,14 +140,28 @@ dports_read f r plain [] e h = ap (λ l. at f (record r { dports = l })) e
 dports_read f r true (p ∷ ranges) e h = ap (λ l. at f (record r { dports = l })) (ranges_again p ranges h)
 dports_read f r false (p ∷ ranges) e h = ap (λ l. at f (record r { dports = l })) (ranges_again p ranges h)
 
--- ---- type, flags, state and act
+-- ---- type and code, flags, state and act
 
-type_read : (f : Family) (r : Rule) (o : Option ℕ) → r.itype ≡ None → IfSome o (λ n. n ≤ 254)
-    → read (at f r) (type_words f o) ≡ at f (record r { itype = o })
+type_again : (r : Rule) (n : ℕ) (code : Option ℕ) → r.icode ≡ None → n ≤ 254 → IfSome code (λ c. c ≤ 255)
+    → with_type (type_word n code) (cut_at 47 (type_word n code)) r ≡ record r { itype = Some n; icode = code }
+unfolding type_word
+type_again r n None e h k =
+    ap (λ parts. with_type (decimal n) parts r) (cut-none 47 (decimal n) (decimal-lacks 47 n (omega (arith, h)) refl))
+    ∙ ap (λ o. record r { itype = o }) (number-again 254 n (omega (arith, h)) h)
+    ∙ ap (λ o. record r { itype = Some n; icode = o }) e
+type_again r n (Some c) e h k =
+    ap (λ parts. with_type (decimal n ++ 47 ∷ decimal c) parts r) (cut-again 47 (decimal n) (decimal c) (decimal-lacks 47 n (omega (arith, h)) refl))
+    ∙ ap (λ o. record r { itype = o; icode = number_in 255 (decimal c) }) (number-again 254 n (omega (arith, h)) h)
+    ∙ ap (λ o. record r { itype = Some n; icode = o }) (number-again 255 c (omega (arith, k)) k)
+
+type_read : (f : Family) (r : Rule) (o code : Option ℕ) → r.itype ≡ None → r.icode ≡ None → IfSome o (λ n. n ≤ 254)
+    → IfSome code (λ c. c ≤ 255) → is_none code || is_some o ≡ true
+    → read (at f r) (type_words f o code) ≡ at f (record r { itype = o; icode = code })
 unfolding type_words with_value with_word next_in
-type_read f r None e h = ap (λ o. at f (record r { itype = o })) e
-type_read V4 r (Some n) e h = ap (λ o. at V4 (record r { itype = o })) (number-again 254 n (omega (arith, h)) h)
-type_read V6 r (Some n) e h = ap (λ o. at V6 (record r { itype = o })) (number-again 254 n (omega (arith, h)) h)
+type_read f r None None d e h k b = ap (λ o. at f (record r { itype = o })) d ∙ ap (λ o. at f (record r { itype = None; icode = o })) e
+type_read f r None (Some c) d e h k b = absurd (false≢true b)
+type_read V4 r (Some n) code d e h k b = ap (λ s. at V4 s) (type_again r n code e h k)
+type_read V6 r (Some n) code d e h k b = ap (λ s. at V6 s) (type_again r n code e h k)
 
 flags_read : (f : Family) (r : Rule) (o : Option Flags) → r.flags ≡ None → read (at f r) (flags_words o) ≡ at f (record r { flags = o })
 unfolding flags_words with_value with_word next_in
@@ -171,9 +186,13 @@ act_read f r o (Decide Left) h = absurd (false≢true h)
 
 -- ---- rules
 
+fitting_end : (f : Family) (r : Rule) → IsRule f r → (code_fits r ≡ true) × (flags_fit r && act_fits r.proto r.act ≡ true)
+fitting_end f r h =
+    let ends = flags_fit r && act_fits r.proto r.act in
+    and_parts (code_fits r) ends (and_parts (ports_fit r && type_fits f r) (code_fits r && ends) h.fit).1
+
 fitting_act : (f : Family) (r : Rule) → IsRule f r → act_fits r.proto r.act ≡ true
-fitting_act f r h =
-    (and_parts (flags_fit r) (act_fits r.proto r.act) (and_parts (ports_fit r && type_fits f r) (flags_fit r && act_fits r.proto r.act) h.fit).1).1
+fitting_act f r h = (and_parts (flags_fit r) (act_fits r.proto r.act) (fitting_end f r h).1).1
 
 pub rule_again : (f : Family) (r : Rule) → IsRule f r → rule_in f (rule_words f r) ≡ r
 unfolding rule_in rule_words front_words back_words ports_words
@@ -183,7 +202,7 @@ rule_again f r h =
     let d : Rule = record c { dst = r.dst } in
     let e : Rule = record d { sports = r.sports } in
     let g : Rule = record e { dports = r.dports } in
-    let i : Rule = record g { itype = r.itype } in
+    let i : Rule = record g { itype = r.itype; icode = r.icode } in
     let j : Rule = record i { flags = r.flags } in
     let k : Rule = record j { state = r.state } in
     let plain = is_single (map range_word r.sports) && is_single (map range_word r.dports) in
@@ -194,10 +213,11 @@ rule_again f r h =
     let dports = port_list_words plain (codes "--dport") (codes "--dports") (map range_word r.dports) in
     let acted = state_words r.state ++ act_words r.act in
     let flagged = flags_words r.flags ++ acted in
-    let back = type_words f r.itype ++ flagged in
+    let back = type_words f r.itype r.icode ++ flagged in
     let ending = then (at f j) (at f k) (at f r) (state_words r.state) (act_words r.act) (state_read f j r.state refl) (act_read f k r.proto r.act (fitting_act f r h)) in
     let tested = then (at f i) (at f j) (at f r) (flags_words r.flags) acted (flags_read f i r.flags refl) ending in
-    let typed = then (at f g) (at f i) (at f r) (type_words f r.itype) flagged (type_read f g r.itype refl h.icmp_type) tested in
+    let typed = then (at f g) (at f i) (at f r) (type_words f r.itype r.icode) flagged
+    (type_read f g r.itype r.icode refl refl h.icmp_type h.icmp_code (fitting_end f r h).0) tested in
     let both_ports = then (at f d) (at f e) (at f g) sports dports
     (sports_read f d plain r.sports refl h.source_ports.each) (dports_read f e plain r.dports refl h.destination_ports.each) in
     let ported = then (at f d) (at f g) (at f r) (sports ++ dports) back both_ports typed in

@@ -26,7 +26,7 @@ use Rattle.ipt_lang.specs.declared.documents.Act.TheVariants.{Log, Decide}
 use Rattle.ipt_lang.specs.declared.documents.Flags.{Flags}
 use Rattle.ipt_lang.specs.declared.documents.Flags.TheVariants.{Ack, Rst, SynNotAck}
 use Rattle.ipt_lang.specs.Documents.{IsRule, is_chain_name, IsRemark, IsChain, IsSection, hook_word, family_word}
-use Rattle.ipt_lang.specs.Texts.{icmp_word, proto_word, proto_words, address_words, range_word, is_single, key_words, port_list_words, ports_words, type_words, flags_words, state_words, reset_words, act_words, front_words, back_words, rule_words, chain_name, remark_rows, rule_rows, chain_row, jump_row, chain_rows, default_rows, head_rows, section_rows}
+use Rattle.ipt_lang.specs.Texts.{icmp_word, proto_word, proto_words, address_words, range_word, is_single, key_words, port_list_words, ports_words, type_word, type_words, flags_words, state_words, reset_words, act_words, front_words, back_words, rule_words, chain_name, remark_rows, rule_rows, chain_row, jump_row, chain_rows, default_rows, head_rows, section_rows}
 
 -- ---- words of a rule
 
@@ -72,11 +72,17 @@ ports_safe sports dports h k =
     both_words _ _ (port_list_safe plain (codes "--sport") (codes "--sports") (search word) (search word) sports h)
     (port_list_safe plain (codes "--dport") (codes "--dports") (search word) (search word) dports k)
 
-type_safe : (f : Family) (o : Option ℕ) → IfSome o (λ n. n ≤ 254) → AreWords (type_words f o)
+type_word_safe : (n : ℕ) (code : Option ℕ) → n ≤ 254 → IfSome code (λ c. c ≤ 255) → IsWord (type_word n code)
+unfolding type_word
+type_word_safe n None h k = decimal_word n (omega (arith, h))
+type_word_safe n (Some c) h k =
+    joined_word (decimal n) _ (decimal_word n (omega (arith, h))) (joined_word (codes "/") (decimal c) (search word) (decimal_word c (omega (arith, k))))
+
+type_safe : (f : Family) (o code : Option ℕ) → IfSome o (λ n. n ≤ 254) → IfSome code (λ c. c ≤ 255) → AreWords (type_words f o code)
 unfolding type_words
-type_safe f None h = tt
-type_safe V4 (Some n) h = search (word, decimal_word n (omega (arith, h)))
-type_safe V6 (Some n) h = search (word, decimal_word n (omega (arith, h)))
+type_safe f None code h k = tt
+type_safe V4 (Some n) code h k = search (word, type_word_safe n code h k)
+type_safe V6 (Some n) code h k = search (word, type_word_safe n code h k)
 
 flags_safe : (o : Option Flags) → AreWords (flags_words o)
 unfolding flags_words
@@ -107,7 +113,7 @@ rule_safe f r h =
     let ports = ports_safe (map range_word r.sports) (map range_word r.dports) sports dports in
     let source = address_safe (codes "-s") f r.src (search word) h.source in
     let destination = address_safe (codes "-d") f r.dst (search word) h.destination in
-    search (both_words, proto_safe f r.proto h.protocol, source, destination, ports, type_safe f r.itype h.icmp_type, flags_safe, state_safe, act_safe) depth 8
+    search (both_words, proto_safe f r.proto h.protocol, source, destination, ports, type_safe f r.itype r.icode h.icmp_type h.icmp_code, flags_safe, state_safe, act_safe) depth 8
 
 -- ---- rows
 

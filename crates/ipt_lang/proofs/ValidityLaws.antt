@@ -46,9 +46,14 @@ address_decides : (f : Family) (o : Option Prefix) → Decides (is_address f o) 
 address_decides f None = (λ h. tt, λ h. refl)
 address_decides f (Some p) = addresses_decide f p
 
+code_decides : (o : Option ℕ) → Decides (number_fits 0 255 o) (IfSome o (λ n. n ≤ 255))
+code_decides None = (λ h. tt, λ h. refl)
+code_decides (Some n) = Decides-like (number_fits 0 255 (Some n)) (λ h. h.1) (λ h. (omega arith, h)) (number_decides 0 255 (Some n))
+
 rule_decides : (f : Family) (r : Rule) → Decides (is_rule f r) (IsRule f r)
 rule_decides f r =
-    let numbers = Decides-and (number_fits 1 255 r.proto) (number_fits 0 254 r.itype) (number_decides 1 255 r.proto) (type_decides r.itype) in
+    let icmp = Decides-and (number_fits 0 254 r.itype) (number_fits 0 255 r.icode) (type_decides r.itype) (code_decides r.icode) in
+    let numbers = Decides-and (number_fits 1 255 r.proto) (number_fits 0 254 r.itype && number_fits 0 255 r.icode) (number_decides 1 255 r.proto) icmp in
     let addresses = Decides-and (is_address f r.src) (is_address f r.dst) (address_decides f r.src) (address_decides f r.dst) in
     let ports = Decides-and (is_port_list r.sports) (is_port_list r.dports) (list_decides r.sports) (list_decides r.dports) in
     Decides-like (is_rule f r)
@@ -58,10 +63,11 @@ rule_decides f r =
       destination = h.0.1.1;
       source_ports = h.1.0.0;
       destination_ports = h.1.0.1;
-      icmp_type = h.0.0.1;
+      icmp_type = h.0.0.1.0;
+      icmp_code = h.0.0.1.1;
       fit = h.1.1;
     })
-    (λ h. (((h.protocol, h.icmp_type), (h.source, h.destination)), ((h.source_ports, h.destination_ports), h.fit)))
+    (λ h. (((h.protocol, (h.icmp_type, h.icmp_code)), (h.source, h.destination)), ((h.source_ports, h.destination_ports), h.fit)))
     (Decides-and (are_numbers r && are_addresses f r) (are_ports r && parts_fit f r)
     (Decides-and (are_numbers r) (are_addresses f r) numbers addresses)
     (Decides-and (are_ports r) (parts_fit f r) ports (is_itself (parts_fit f r))))

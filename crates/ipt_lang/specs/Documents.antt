@@ -1,7 +1,7 @@
 -- Documents of iptables rules, and which of them are valid.
 -- Sources: iptables(8), "COMMANDS" and "PARAMETERS"; iptables-extensions(8), "multiport" (up to 15
 -- ports, a range counts as two), "tcp", "udp", "sctp", "icmp", "icmp6", "state", "REJECT" and "LOG".
-use Rattle.std.specs.Prelude.{◌≡◌, ℕ, ◌≤◌, Bool, true, false, ◌&&◌, ◌||◌, nat_le, List, [], ◌∷◌, ◌++◌, length, map, codes, Option, IfSome, is_none}
+use Rattle.std.specs.Prelude.{◌≡◌, ℕ, ◌≤◌, Bool, true, false, ◌&&◌, ◌||◌, nat_le, List, [], ◌∷◌, ◌++◌, length, map, codes, Option, IfSome, is_none, is_some}
 use Rattle.std.specs.List.{AllByRecursion, IsDistinct, sum_by}
 use Rattle.std.specs.Str.{bytes_eq}
 use Rattle.acl_packet.specs.declared.addresses.Family.{Family}
@@ -34,12 +34,15 @@ pub record IsPortList (ranges : List (ℕ × ℕ)) : Type 0 where
   pub each : AllByRecursion IsPortRange ranges
   pub light : weight ranges ≤ 15
 
--- Ports belong to TCP, UDP or SCTP, a type to the family's ICMP, flags and a reset to TCP.
+-- Ports belong to TCP, UDP or SCTP, a type to the family's ICMP, a code to a type, flags and a reset to TCP.
 abbrev pub ports_fit : Rule → Bool
 ports_fit r = is_empty r.sports && is_empty r.dports || has_port_proto r.proto
 
 abbrev pub type_fits : Family → Rule → Bool
 type_fits family r = is_none r.itype || is_proto r.proto (icmp_of family)
+
+abbrev pub code_fits : Rule → Bool
+code_fits r = is_none r.icode || is_some r.itype
 
 abbrev pub flags_fit : Rule → Bool
 flags_fit r = is_none r.flags || is_proto r.proto 6
@@ -52,7 +55,7 @@ act_fits proto act = true
 
 abbrev pub parts_fit : Family → Rule → Bool
 parts_fit family r =
-    ports_fit r && type_fits family r && (flags_fit r && act_fits r.proto r.act)
+    ports_fit r && type_fits family r && (code_fits r && (flags_fit r && act_fits r.proto r.act))
 
 -- A rule for packets of the family. Protocol 0 and type 255 have no number here.
 pub record IsRule (family : Family) (r : Rule) : Type 0 where
@@ -62,6 +65,7 @@ pub record IsRule (family : Family) (r : Rule) : Type 0 where
   pub source_ports : IsPortList r.sports
   pub destination_ports : IsPortList r.dports
   pub icmp_type : IfSome r.itype (λ n. n ≤ 254)
+  pub icmp_code : IfSome r.icode (λ n. n ≤ 255)
   pub fit : parts_fit family r ≡ true
 
 -- ---- chains and sections

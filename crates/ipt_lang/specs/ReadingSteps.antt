@@ -10,6 +10,7 @@ use Rattle.acl_packet.specs.declared.filtering.Hook.TheVariants.{Input, Output, 
 use Rattle.acl_packet.specs.declared.filtering.Verdict.TheVariants.{Accept, Deny, Reject, Reset}
 use Rattle.acl_packet.specs.Decimals.{number_in}
 use Rattle.acl_text.specs.AddressTexts.{spelled_prefix_in}
+use Rattle.acl_text.specs.Cuts.{cut_at}
 use Rattle.acl_text.specs.PortRanges.{ports_in}
 use Rattle.acl_rows.specs.RowSteps.{few_in}
 use Rattle.acl_rows.specs.Rows.{Row}
@@ -42,6 +43,7 @@ no_rule = record {
   sports = [];
   dports = [];
   itype = None;
+  icode = None;
   flags = None;
   state = false;
   act = Decide Deny;
@@ -109,13 +111,19 @@ abbrev pub with_ports : End → List ℕ → Rule → Rule
 with_ports Source w r = record r { sports = ranges_in w }
 with_ports Destination w r = record r { dports = ranges_in w }
 
+-- A type, and what is read before and behind the word's first `/`, where it has one.
+abbrev pub with_type : List ℕ → Option (List ℕ × List ℕ) → Rule → Rule
+with_type w None r = record r { itype = number_in 254 w }
+with_type w (Some parts) r =
+    record r { itype = number_in 254 parts.0; icode = number_in 255 parts.1 }
+
 -- The rule with a word of that kind.
 unfoldable pub with_value : Family → Next → List ℕ → Rule → Rule
 with_value family Keyword w r = with_word w r
 with_value family Protocol w r = record r { proto = proto_in w }
 with_value family (Address end) w r = with_address family end w r
 with_value family (Ports end) w r = with_ports end w r
-with_value family IcmpType w r = record r { itype = number_in 254 w }
+with_value family IcmpType w r = with_type w (cut_at 47 w) r
 with_value family Mask w r = record r { flags = Some (flags_in w) }
 with_value family Target w r = record r { act = act_in w }
 

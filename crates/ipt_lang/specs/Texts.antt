@@ -79,15 +79,20 @@ ports_words sports dports =
     ++ port_list_words (is_single sports && is_single dports) (codes "--dport") (codes "--dports")
     dports
 
--- ---- type, flags, state and act
+-- ---- type and code, flags, state and act
 
 abbrev pub type_key : Family → List ℕ
 type_key V4 = codes "--icmp-type"
 type_key V6 = codes "--icmpv6-type"
 
-unfoldable pub type_words : Family → Option ℕ → List (List ℕ)
-type_words family None = []
-type_words family (Some n) = type_key family ∷ decimal n ∷ []
+-- A type alone, or with a `/` between it and its code.
+unfoldable pub type_word : ℕ → Option ℕ → List ℕ
+type_word n None = decimal n
+type_word n (Some code) = decimal n ++ 47 ∷ decimal code
+
+unfoldable pub type_words : Family → Option ℕ → Option ℕ → List (List ℕ)
+type_words family None icode = []
+type_words family (Some n) icode = type_key family ∷ type_word n icode ∷ []
 
 -- The flags that are looked at, and those of them that are set.
 abbrev pub mask_word : Flags → List ℕ
@@ -136,15 +141,15 @@ unfoldable pub front_words : Family → Option ℕ → Option Prefix → Option 
 front_words family proto src dst =
     proto_words family proto ++ (address_words (codes "-s") src ++ address_words (codes "-d") dst)
 
-unfoldable pub back_words : Family → Option ℕ → Option Flags → Bool → Act → List (List ℕ)
-back_words family itype flags state act =
-    type_words family itype ++ (flags_words flags ++ (state_words state ++ act_words act))
+unfoldable pub back_words : Family → Option ℕ → Option ℕ → Option Flags → Bool → Act → List (List ℕ)
+back_words family itype icode flags state act =
+    type_words family itype icode ++ (flags_words flags ++ (state_words state ++ act_words act))
 
 -- The words of a rule, behind the name of its chain.
 unfoldable pub rule_words : Family → Rule → List (List ℕ)
 rule_words family r = front_words family r.proto r.src r.dst
     ++ (ports_words (map range_word r.sports) (map range_word r.dports)
-    ++ back_words family r.itype r.flags r.state r.act)
+    ++ back_words family r.itype r.icode r.flags r.state r.act)
 
 -- ---- chains and sections
 

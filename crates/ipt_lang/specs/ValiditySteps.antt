@@ -27,7 +27,8 @@ is_address family None = true
 is_address family (Some p) = is_addresses family p
 
 abbrev pub are_numbers : Rule → Bool
-are_numbers r = number_fits 1 255 r.proto && number_fits 0 254 r.itype
+are_numbers r =
+    number_fits 1 255 r.proto && (number_fits 0 254 r.itype && number_fits 0 255 r.icode)
 
 abbrev pub are_addresses : Family → Rule → Bool
 are_addresses family r = is_address family r.src && is_address family r.dst

@@ -1,7 +1,8 @@
 -- What the rules of a document do to a packet.
 -- Sources: iptables(8), "TARGETS" (rules in order; a jump enters a chain, whose end returns; the
 -- policy of a built-in chain decides at its end); iptables-extensions(8), "LOG" (a target that does
--- not end the walk), "tcp" (`--tcp-flags`), "state"; RFC 9293 section 3.1 for flags.
+-- not end the walk), "tcp" (`--tcp-flags`), "icmp" and "icmp6" (`type[/code]`), "state"; RFC 9293
+-- section 3.1 for flags.
 use Rattle.std.specs.Prelude.{ℕ, Bool, true, false, not, ◌&&◌, if◌then◌else◌, List, [], ◌∷◌, Option, None, Some}
 use Rattle.acl_packet.specs.declared.addresses.Prefix.{Prefix}
 use Rattle.acl_packet.specs.declared.packets.Packet.{Packet}
@@ -32,15 +33,18 @@ flags_hold (Some Ack) flags = has_flag flags 16
 flags_hold (Some Rst) flags = has_flag flags 4
 flags_hold (Some SynNotAck) flags = has_flag flags 2 && not (has_flag flags 16)
 
--- A rule holds a packet where each of its parts does: protocol and addresses, ports, type, flags
--- and state.
+-- A rule holds a packet where each of its parts does: protocol and addresses, ports, type and code,
+-- flags and state. A type without a code holds every code of its own.
 abbrev pub ends_hold : Rule → Packet → Bool
 ends_hold r p =
     number_holds r.proto p.proto && (address_holds r.src p.src && address_holds r.dst p.dst)
 
+abbrev pub icmp_holds : Rule → Packet → Bool
+icmp_holds r p = number_holds r.itype p.itype && number_holds r.icode p.icode
+
 abbrev pub tests_hold : Rule → Packet → Bool
-tests_hold r p = number_holds r.itype p.itype
-    && (flags_hold r.flags p.flags && state_holds r.state p.conn)
+tests_hold r p =
+    icmp_holds r p && (flags_hold r.flags p.flags && state_holds r.state p.conn)
 
 abbrev pub rule_holds : Rule → Packet → Bool
 rule_holds r p = ends_hold r p && (ports_hold r.sports r.dports p && tests_hold r p)

@@ -5,8 +5,8 @@ ghost use Rattle.ipt_lang.specs.Texts.{back_words, chain_name, chain_row, chain_
 use crate::documents::{Act, Chain, Flags, Rule, Section};
 use crate::ports::PortLists;
 use crate::rule_words::{Back, Front};
-use acl_rows::{Each, RowForm, FreeText, Piece, RangeWords, Row, Rows, OneWord, Words};
 use acl_packet::{Family, Hook, Prefix};
+use acl_rows::{Each, FreeText, OneWord, Piece, RangeWords, Row, RowForm, Rows, Words};
 use acl_text::{Bytes, Out, PutFault};
 
 /// The rows that begin a section: its target, and the policy where one is said.
@@ -214,6 +214,7 @@ pub struct RuleRow<'a, P> {
     /// The words of the ports.
     pub ports: P,
     pub itype: Option<u8>,
+    pub icode: Option<u8>,
     pub flags: Option<Flags>,
     pub state: bool,
     pub act: Act,
@@ -221,7 +222,7 @@ pub struct RuleRow<'a, P> {
 
 impl<'a, P: Words + Copy> Rows for RuleRow<'a, P> {
     ghost rows = { λ r. rule_row r.hook r.name.now (front_words r.family r.proto r.src r.dst
-        ++ (P.words r.ports ++ back_words r.family r.itype r.flags r.state r.act)) ∷ [] };
+        ++ (P.words r.ports ++ back_words r.family r.itype r.icode r.flags r.state r.act)) ∷ [] };
 
     fn put_rows<O: Out>(&self, out: &mut O) -> Result<(), PutFault> {
         let name = ChainName {
@@ -237,6 +238,7 @@ impl<'a, P: Words + Copy> Rows for RuleRow<'a, P> {
         let back = Back {
             family: self.family,
             itype: self.itype,
+            icode: self.icode,
             flags: self.flags,
             state: self.state,
             act: self.act,
@@ -343,6 +345,7 @@ impl<'a> RowForm<Rule> for OfChain<'a> {
             dst: rule.dst,
             ports,
             itype: rule.itype,
+            icode: rule.icode,
             flags: rule.flags,
             state: rule.state,
             act: rule.act,

@@ -6,8 +6,8 @@ ghost use Rattle.ipt_lang.specs.ReadingSteps.{begin_section, end_chain, ended, h
 use crate::chain_rows::hook_word;
 use crate::documents::{Chain, Doc, Section};
 use crate::rule_drafts::rule_of;
-use acl_rows::{DocumentDraft, Draft, RowWords, family_named};
 use acl_packet::{Family, Hook};
+use acl_rows::{DocumentDraft, Draft, RowWords, family_named};
 use acl_text::{Bytes, Items, Memory};
 use std::alloc::Global;
 use std::mem;

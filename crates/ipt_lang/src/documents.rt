@@ -32,6 +32,8 @@ pub struct Rule {
     pub sports: Items<(u16, u16)>,
     pub dports: Items<(u16, u16)>,
     pub itype: Option<u8>,
+    /// A code of the type; `None` holds each.
+    pub icode: Option<u8>,
     pub flags: Option<Flags>,
     /// Whether the packet's connection has to be established or related.
     pub state: bool,

@@ -7,8 +7,8 @@ use crate::chains_drafts::ChainsDraft;
 use crate::documents::Section;
 use crate::validity::is_section;
 use crate::walking::walk;
-use acl_rows::{Language, Rows, have_distinct_names};
 use acl_packet::{Outcome, Packet};
+use acl_rows::{Language, Rows, have_distinct_names};
 use acl_text::{Memory, Out, PutFault};
 use std::alloc::Global;
 

@@ -2,7 +2,7 @@ ghost use Rattle.std.specs.Prelude.{◌≡◌, ◌&&◌, List, ℕ, map};
 ghost use Rattle.std.specs.List.{join_with_byte};
 ghost use Rattle.ipt_lang.specs.Texts.{is_single, key_words, port_list_words, ports_words, range_word};
 
-use acl_rows::{ItemsBehind, OneItem, Piece, PortRange, OneWord, WordForm, Words, put_words};
+use acl_rows::{ItemsBehind, OneItem, OneWord, Piece, PortRange, WordForm, Words, put_words};
 use acl_text::{Out, PutFault};
 
 /// The words of a rule's source and destination ports, each range in a form. The plain form is written

@@ -1,10 +1,11 @@
 ghost use Rattle.std.specs.Prelude.{◌≡◌, ◌++◌, IfOk, OnOk};
+ghost use Rattle.acl_text.specs.Cuts.{cut_at};
 ghost use Rattle.acl_text.specs.PortRanges.{ports_in};
-ghost use Rattle.ipt_lang.specs.ReadingSteps.{act_in, draft, flags_in, named_proto_in, next_in, no_rule, one_or_none, proto_in, ranges_in, rule_in, take_word, with_address, with_ports, with_value, with_word};
+ghost use Rattle.ipt_lang.specs.ReadingSteps.{act_in, draft, flags_in, named_proto_in, next_in, no_rule, one_or_none, proto_in, ranges_in, rule_in, take_word, with_address, with_ports, with_type, with_value, with_word};
 
 use crate::documents::{Act, Flags, Rule};
-use acl_rows::{End, RowWords};
 use acl_packet::{Family, Verdict};
+use acl_rows::{End, RowWords};
 use acl_text::{Items, Memory, read_ports, read_spelled_prefix, read_u8, split_at_byte};
 use std::alloc::Global;
 
@@ -56,6 +57,7 @@ fn no_rule(alloc: Global) -> Rule
         sports: Items::new(alloc),
         dports: Items::new(alloc),
         itype: None,
+        icode: None,
         flags: None,
         state: false,
         act: Act::Decide(Verdict::Deny),
@@ -91,7 +93,7 @@ impl Rule {
             Next::Protocol => self.proto = protocol_of(word),
             Next::Address(end) => self.take_address(family, end, word),
             Next::Ports(end) => return self.take_ports(alloc, end, word),
-            Next::IcmpType => self.itype = read_u8(word, 254),
+            Next::IcmpType => self.take_type(word),
             Next::Mask => self.flags = Some(flags_of(word)),
             Next::Target => self.act = act_of(word),
         }
@@ -115,6 +117,19 @@ impl Rule {
         match end {
             End::Source => self.src = read_spelled_prefix(family, word),
             End::Destination => self.dst = read_spelled_prefix(family, word),
+        }
+    }
+
+    // The type of the word, and the code behind a `/`.
+    fn take_type(&mut self, word: &[u8])
+        ensures { self.new ≡ with_type word.now (cut_at 47 word.now) self.old }
+    {
+        match split_at_byte(word, b'/') {
+            Some((itype, icode)) => {
+                self.itype = read_u8(itype, 254);
+                self.icode = read_u8(icode, 255);
+            }
+            None => self.itype = read_u8(word, 254),
         }
     }
 

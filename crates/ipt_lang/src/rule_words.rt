@@ -1,9 +1,9 @@
 ghost use Rattle.std.specs.Prelude.{◌≡◌};
-ghost use Rattle.ipt_lang.specs.Texts.{act_words, address_words, back_words, flags_words, front_words, icmp_word, is_reset, mask_word, proto_word, proto_words, reset_words, set_word, state_words, target_word, type_key, type_words};
+ghost use Rattle.ipt_lang.specs.Texts.{act_words, address_words, back_words, flags_words, front_words, icmp_word, is_reset, mask_word, proto_word, proto_words, reset_words, set_word, state_words, target_word, type_key, type_word, type_words};
 
 use crate::documents::{Act, Flags};
-use acl_rows::{Number, Piece, OneWord, Words, put_words};
 use acl_packet::{Family, Prefix, Verdict};
+use acl_rows::{Number, OneWord, Piece, Words, put_words};
 use acl_text::{Out, PutFault};
 
 /// What stands before the ports of a rule: its protocol and addresses.
@@ -112,7 +112,9 @@ impl<'a> Words for AddressWords<'a> {
     #[tactic(auto, unfolding(crate::specs::Texts::address_words))]
     fn put_spaced<O: Out>(&self, out: &mut O) -> Result<(), PutFault> {
         match self.address {
-            Some(prefix) => (OneWord { piece: self.key }, OneWord { piece: prefix }).put_spaced(out),
+            Some(prefix) => (OneWord { piece: self.key }, OneWord { piece: prefix }).put_spaced(
+                out,
+            ),
             None => Ok(()),
         }
     }
@@ -123,19 +125,21 @@ impl<'a> Words for AddressWords<'a> {
 pub(crate) struct Back {
     pub(crate) family: Family,
     pub(crate) itype: Option<u8>,
+    pub(crate) icode: Option<u8>,
     pub(crate) flags: Option<Flags>,
     pub(crate) state: bool,
     pub(crate) act: Act,
 }
 
 impl Words for Back {
-    ghost words = { λ b. back_words b.family b.itype b.flags b.state b.act };
+    ghost words = { λ b. back_words b.family b.itype b.icode b.flags b.state b.act };
 
     #[tactic(auto, unfolding(crate::specs::Texts::back_words))]
     fn put_spaced<O: Out>(&self, out: &mut O) -> Result<(), PutFault> {
         let itype = TypeWords {
             family: self.family,
             itype: self.itype,
+            icode: self.icode,
         };
         let flags = FlagsWords { flags: self.flags };
         let state = StateWords { state: self.state };
@@ -148,10 +152,11 @@ impl Words for Back {
 struct TypeWords {
     family: Family,
     itype: Option<u8>,
+    icode: Option<u8>,
 }
 
 impl Words for TypeWords {
-    ghost words = { λ t. type_words t.family t.itype };
+    ghost words = { λ t. type_words t.family t.itype t.icode };
 
     #[tactic(auto, unfolding(crate::specs::Texts::type_words))]
     fn put_spaced<O: Out>(&self, out: &mut O) -> Result<(), PutFault> {
@@ -160,13 +165,43 @@ impl Words for TypeWords {
                 let key = OneWord {
                     piece: type_key(self.family),
                 };
-                let number = u128::from(number);
                 let itype = OneWord {
-                    piece: Number { number },
+                    piece: TypeWord {
+                        number,
+                        code: self.icode,
+                    },
                 };
                 (key, itype).put_spaced(out)
             }
             None => Ok(()),
+        }
+    }
+}
+
+// A type alone, or with a `/` between it and its code.
+#[derive(Drop)]
+struct TypeWord {
+    number: u8,
+    code: Option<u8>,
+}
+
+impl Piece for TypeWord {
+    ghost text = { λ t. type_word t.number t.code };
+
+    #[tactic(auto, unfolding(crate::specs::Texts::type_word))]
+    fn put_into<O: Out>(&self, out: &mut O) -> Result<(), PutFault> {
+        let number = Number {
+            number: u128::from(self.number),
+        };
+        match self.code {
+            Some(code) => {
+                let slash: &[u8] = b"/";
+                let number_of_code = Number {
+                    number: u128::from(code),
+                };
+                (number, (slash, number_of_code)).put_into(out)
+            }
+            None => number.put_into(out),
         }
     }
 }

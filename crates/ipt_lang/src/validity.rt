@@ -2,15 +2,15 @@ ghost use Rattle.std.specs.Prelude.{◌≡◌, ◌&&◌, IfOk};
 ghost use Rattle.std.specs.List.{list_all};
 ghost use Rattle.acl_rows.specs.ApartSteps.{are_apart};
 ghost use Rattle.acl_rows.specs.RuleParts.{has_port_proto, is_proto};
-ghost use Rattle.ipt_lang.specs.Documents.{act_fits, chain_names, flags_fit, is_chain_name, name_of, parts_fit, ports_fit, type_fits, weight_of};
+ghost use Rattle.ipt_lang.specs.Documents.{act_fits, chain_names, code_fits, flags_fit, is_chain_name, name_of, parts_fit, ports_fit, type_fits, weight_of};
 ghost use Rattle.ipt_lang.specs.ValiditySteps.{are_addresses, are_numbers, are_ports, are_remarks, has_room, is_address, is_chain, is_port_list, is_rule, is_section};
 
 use crate::documents::{Act, Chain, Rule, Section};
+use acl_packet::{Family, Hook, Prefix, Verdict};
 use acl_rows::{
     Named, are_port_ranges, has_port_proto, have_distinct_names, is_addresses, is_proto,
     number_fits,
 };
-use acl_packet::{Family, Hook, Prefix, Verdict};
 use acl_text::{Bytes, Memory, is_name, is_safe_text};
 use std::alloc::Global;
 
@@ -95,7 +95,9 @@ fn is_rule(family: Family, rule: &Rule) -> bool
 fn are_numbers(rule: &Rule) -> bool
     ensures { result ≡ are_numbers rule.now }
 {
-    number_fits(1, 255, rule.proto) && number_fits(0, 254, rule.itype)
+    number_fits(1, 255, rule.proto)
+        && number_fits(0, 254, rule.itype)
+        && number_fits(0, 255, rule.icode)
 }
 
 fn are_addresses(family: Family, rule: &Rule) -> bool
@@ -150,7 +152,11 @@ fn weight_of(ports: (u16, u16)) -> usize
 fn parts_fit(family: Family, rule: &Rule) -> bool
     ensures { result ≡ parts_fit family rule.now }
 {
-    ports_fit(rule) && type_fits(family, rule) && flags_fit(rule) && act_fits(rule.proto, rule.act)
+    ports_fit(rule)
+        && type_fits(family, rule)
+        && code_fits(rule)
+        && flags_fit(rule)
+        && act_fits(rule.proto, rule.act)
 }
 
 fn ports_fit(rule: &Rule) -> bool
@@ -164,6 +170,12 @@ fn type_fits(family: Family, rule: &Rule) -> bool
     ensures { result ≡ type_fits family rule.now }
 {
     rule.itype.is_none() || is_proto(rule.proto, family.icmp_number())
+}
+
+fn code_fits(rule: &Rule) -> bool
+    ensures { result ≡ code_fits rule.now }
+{
+    rule.icode.is_none() || rule.itype.is_some()
 }
 
 fn flags_fit(rule: &Rule) -> bool

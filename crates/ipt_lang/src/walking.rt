@@ -1,9 +1,9 @@
 ghost use Rattle.std.specs.Prelude.{◌≡◌};
-ghost use Rattle.ipt_lang.specs.Walks.{address_holds, chains_walk, ends_hold, flags_hold, outcome_so_far, policy_verdict, rule_holds, rules_walk, tests_hold, walk};
+ghost use Rattle.ipt_lang.specs.Walks.{address_holds, chains_walk, ends_hold, flags_hold, icmp_holds, outcome_so_far, policy_verdict, rule_holds, rules_walk, tests_hold, walk};
 
 use crate::documents::{Act, Chain, Flags, Rule};
-use acl_rows::{ACK, RST, SYN, admit_ports, number_holds, state_holds};
 use acl_packet::{Outcome, Packet, Prefix, Verdict, has_flag};
+use acl_rows::{ACK, RST, SYN, admit_ports, number_holds, state_holds};
 
 pub(crate) fn walk(accept: Option<bool>, chains: &[Chain], packet: &Packet) -> Outcome
     ensures { result ≡ walk accept chains.now packet.now }
@@ -90,9 +90,15 @@ fn address_holds(wanted: &Option<Prefix>, address: u128) -> bool
 fn tests_hold(rule: &Rule, packet: &Packet) -> bool
     ensures { result ≡ tests_hold rule.now packet.now }
 {
-    number_holds(rule.itype, packet.itype)
+    icmp_holds(rule, packet)
         && flags_hold(rule.flags, packet.flags)
         && state_holds(rule.state, packet.conn)
+}
+
+fn icmp_holds(rule: &Rule, packet: &Packet) -> bool
+    ensures { result ≡ icmp_holds rule.now packet.now }
+{
+    number_holds(rule.itype, packet.itype) && number_holds(rule.icode, packet.icode)
 }
 
 fn flags_hold(test: Option<Flags>, flags: u8) -> bool

@@ -21,7 +21,7 @@ const DOCUMENT: &str = "## iptables INPUT inet
 ";
 
 // Small changes of the document, each of which is read: what stands in it, and what in its place.
-static READ: [Change; 10] = [
+static READ: [Change; 12] = [
     ("-P INPUT DROP\n", ""),
     ("# web servers\n", ""),
     ("# web servers", "# not ours\n# at all"),
@@ -36,6 +36,8 @@ static READ: [Change; 10] = [
         "--sports 53 -m multiport --dports 53,67:68",
     ),
     ("-p 47", "-p 58"),
+    ("--icmp-type 8", "--icmp-type 8/0"),
+    ("--icmp-type 8", "--icmp-type 254/255"),
     ("-A I_rest -p 47 -j DROP\n", ""),
     (
         "-A INPUT -j I_rest\n",
@@ -44,7 +46,7 @@ static READ: [Change; 10] = [
 ];
 
 // Small changes of it that are refused.
-static REFUSED: [Change; 53] = [
+static REFUSED: [Change; 60] = [
     // a name again, behind another
     (
         "-A INPUT -j I_rest\n",
@@ -107,8 +109,15 @@ static REFUSED: [Change; 53] = [
     ("--dport 53", "-m multiport --dports 53,67"),
     ("1024:65535", "65535:1024"),
     ("1024:65535", "1024:1024"),
-    // types, flags, state and acts
+    // types and codes, flags, state and acts
     ("--icmp-type 8", "--icmp-type 255"),
+    ("--icmp-type 8", "--icmp-type 255/0"),
+    ("--icmp-type 8", "--icmp-type /0"),
+    ("--icmp-type 8", "--icmp-type 8/"),
+    ("--icmp-type 8", "--icmp-type 8/256"),
+    ("--icmp-type 8", "--icmp-type 8/00"),
+    ("--icmp-type 8", "--icmp-type 8/0/0"),
+    ("-p icmp --icmp-type 8", "-p 47 --icmp-type 8/0"),
     ("--icmp-type 8", "--icmpv6-type 8"),
     ("SYN,ACK SYN", "FIN FIN"),
     ("-p tcp --tcp-flags", "-p udp --tcp-flags"),
@@ -136,7 +145,21 @@ const MANY: &str = "## iptables FORWARD inet6
 -A FORWARD -j F_m
 ";
 
-static WALKS: [Walk; 12] = [
+const CODES: &str = "## iptables INPUT inet
+-P INPUT DROP
+-N I_u
+-A I_u -p icmp --icmp-type 3/3 -j ACCEPT
+-A I_u -p icmp --icmp-type 3/4 -j LOG
+-A I_u -p icmp --icmp-type 3/4 -j ACCEPT
+-A I_u -p icmp --icmp-type 11 -j REJECT
+-A INPUT -j I_u
+## iptables INPUT inet6
+-N I_six
+-A I_six -p icmpv6 --icmpv6-type 1/4 -j REJECT
+-A INPUT -j I_six
+";
+
+static WALKS: [Walk; 19] = [
     // what is logged goes on
     (
         DOCUMENT,
@@ -221,7 +244,63 @@ static WALKS: [Walk; 12] = [
             ..LOGGED
         }),
     ),
+    // a code is one of its type, and a type alone is all of its codes
+    (
+        CODES,
+        0,
+        Packet {
+            icode: 3,
+            ..UNREACHABLE
+        },
+        Some(ACCEPTED),
+    ),
+    (
+        CODES,
+        0,
+        Packet {
+            icode: 4,
+            ..UNREACHABLE
+        },
+        Some(LOGGED),
+    ),
+    (CODES, 0, UNREACHABLE, Some(DENIED)),
+    (
+        CODES,
+        0,
+        Packet {
+            itype: 11,
+            icode: 1,
+            ..PING
+        },
+        Some(REJECTED),
+    ),
+    (CODES, 0, Packet { icode: 3, ..PING }, Some(DENIED)),
+    (
+        CODES,
+        1,
+        Packet {
+            itype: 1,
+            icode: 4,
+            ..SOLICITATION
+        },
+        Some(REJECTED),
+    ),
+    (
+        CODES,
+        1,
+        Packet {
+            itype: 1,
+            ..SOLICITATION
+        },
+        Some(Outcome {
+            verdict: Verdict::Left,
+            ..ACCEPTED
+        }),
+    ),
 ];
+
+// What a packet was sent to is not reached.
+const UNREACHABLE: Packet = Packet { itype: 3, ..PING };
 
 #[test]
 fn texts_are_read_refused_and_walked(rt: HostRuntime) -> Result<(), Fail> {
