@@ -1,5 +1,5 @@
-use acl_rows::{Language, outcome, read_document, sections};
 use acl_packet::{Conn, Family, Outcome, Packet, Verdict, is_packet};
+use acl_rows::{Language, outcome, read_document, sections};
 use acl_text::Memory;
 use std::alloc::Global;
 use std::process::Abort;
@@ -40,6 +40,7 @@ pub(crate) const PACKET: Packet = Packet {
     dport: 0,
     flags: 0,
     itype: 0,
+    icode: 0,
     conn: Conn::New,
 };
 
