@@ -1,12 +1,12 @@
 -- The section of an accepted filter decides packets as the filter does.
-use Rattle.std.proofs.Common.{zero-le, ◌≡◌, ◌≢◌, ℕ, suc, ◌^◌, ◌<◌, ◌≤◌, Bool, true, false, ◌&&◌, ◌||◌, ◌==◌, cond, unwrap_or, List, [], ◌∷◌, ◌++◌, map, flat_map, Option, None, Some, refl, ap, sym, subst, ◌∙◌, append_assoc}
+use Rattle.std.proofs.Common.{zero-le, ◌≡◌, ◌≢◌, ℕ, ◌^◌, ◌<◌, ◌≤◌, Bool, true, false, ◌&&◌, ◌||◌, ◌==◌, cond, unwrap_or, List, [], ◌∷◌, ◌++◌, map, flat_map, Option, None, Some, refl, ap, sym, subst, ◌∙◌, append_assoc}
 use Rattle.std.specs.List.{AllByRecursion, list_any}
 use Rattle.std.proofs.lemmas.Bool.{false≢true}
 use Rattle.acl_packet.specs.declared.addresses.Families.{Families}
 use Rattle.acl_packet.specs.declared.addresses.Family.{Family}
 use Rattle.acl_packet.specs.declared.addresses.Prefix.{Prefix}
 use Rattle.acl_packet.specs.declared.filtering.Outcome.{Outcome}
-use Rattle.acl_packet.specs.declared.packet_fields.Field.TheVariants.{Protocol, SourcePort, DestinationPort, IcmpType}
+use Rattle.acl_packet.specs.declared.packet_fields.Field.TheVariants.{Protocol, SourcePort, DestinationPort, IcmpType, IcmpCode}
 use Rattle.acl_packet.specs.declared.packets.Packet.{Packet}
 use Rattle.acl_packet.specs.Addresses.{has_address, same_family, width_of}
 use Rattle.acl_packet.specs.Outcomes.{unlogged}
@@ -59,11 +59,18 @@ some-held : {A : Type 0} (has : A → ℕ → Bool) (xs : List A) (v : ℕ) → 
 some-held has [] v h = absurd (h refl)
 some-held has (x ∷ xs) v h = refl
 
-types-by : (s : Numbers) (x : ℕ) (b : Bool) → is_all s ≡ b → IsFull 255 s → x ≤ s.top
+numbers-by : (s : Numbers) (x : ℕ) (b : Bool) → is_all s ≡ b → IsFull 255 s → x ≤ s.top
     → set_holds (λ t n. n == t) (numbers_of (cond b [] s.ranges)) x ≡ holds s.ranges x
-types-by s x true e full h = sym (covers-holds s.ranges 0 s.top x e zero-le h)
-types-by s x false e full h =
+numbers-by s x true e full h = sym (covers-holds s.ranges 0 s.top x e zero-le h)
+numbers-by s x false e full h =
     some-held (λ t n. n == t) (numbers_of s.ranges) x (some-numbers 0 255 s.ranges full.normal full.some) ∙ numbers-any s.ranges x
+
+icmp-same : (types icodes : Numbers) (x y : ℕ) → IsFull 255 types → IsFull 255 icodes → x ≤ types.top → y ≤ icodes.top
+    → (set_holds (λ t n. n == t) (number_elements types) x && set_holds (λ c n. n == c) (number_elements icodes) y)
+    ≡ (holds types.ranges x && holds icodes.ranges y)
+icmp-same types icodes x y t c h k =
+    ap (λ b. b && set_holds (λ c n. n == c) (number_elements icodes) y) (numbers-by types x (is_all types) refl t h)
+    ∙ ap (λ b. holds types.ranges x && b) (numbers-by icodes y (is_all icodes) refl c k)
 
 -- ---- the test of a rule
 
@@ -106,15 +113,15 @@ any-protocol family rest n (o ∷ os) =
     ∙ ap (λ t. ((family && t) && rest) || ((family && later) && rest)) (number-same o n)
     ∙ any-step family (is_chosen o n) later rest
 
-regrouped : (family proto src dst sport dport itype : Bool) {tests passed : Bool} → tests ≡ passed
-    → ((family && proto) && ((src && dst) && ((sport && dport) && (itype && tests))))
-    ≡ (family && ((proto && (src && (dst && (sport && (dport && itype))))) && passed))
-regrouped false proto src dst sport dport itype e = refl
-regrouped true false src dst sport dport itype e = refl
-regrouped true true false dst sport dport itype e = refl
-regrouped true true true false sport dport itype e = refl
-regrouped true true true true false dport itype e = refl
-regrouped true true true true true false itype e = refl
+regrouped : (family proto src dst sport dport icmp : Bool) {tests passed : Bool} → tests ≡ passed
+    → ((family && proto) && ((src && dst) && ((sport && dport) && (icmp && tests))))
+    ≡ (family && ((proto && (src && (dst && (sport && (dport && icmp))))) && passed))
+regrouped false proto src dst sport dport icmp e = refl
+regrouped true false src dst sport dport icmp e = refl
+regrouped true true false dst sport dport icmp e = refl
+regrouped true true true false sport dport icmp e = refl
+regrouped true true true true false dport icmp e = refl
+regrouped true true true true true false icmp e = refl
 regrouped true true true true true true false e = refl
 regrouped true true true true true true true e = e
 
@@ -131,7 +138,8 @@ five-same family proto tests {b = b} {c = c} {d = d} {e = e} {v = v} {w = w} {x 
 abbrev rest_holds : Rule → Packet → Bool
 rest_holds r p = addresses_hold (address_elements r.src) (address_elements r.dst) p
     && (ports_hold (port_elements r.sports) (port_elements r.dports) p
-    && (set_holds (λ t n. n == t) (number_elements r.itypes) p.itype && (flags_hold (flags_of r.test) p.flags && state_holds (asks_state r.test) p.conn)))
+    && ((set_holds (λ t n. n == t) (number_elements r.itypes) p.itype && set_holds (λ c n. n == c) (number_elements r.icodes) p.icode)
+    && (flags_hold (flags_of r.test) p.flags && state_holds (asks_state r.test) p.conn)))
 
 of-family : (families : Families) (r : Rule) (p : Packet) → IsSoundRule Nftables families r → IsPacket p → r.family ≡ p.family
     → ((same_family r.family p.family && holds r.protos.ranges p.proto) && rest_holds r p) ≡ rule_holds r p
@@ -143,9 +151,9 @@ of-family families r p h k e =
     (addresses-same r.family r.dst p.dst h.destinations (top p.dst k.destination))
     (ports-same r.sports p.sport (h.numbers SourcePort).some (tops SourcePort))
     (ports-same r.dports p.dport (h.numbers DestinationPort).some (tops DestinationPort))
-    (types-by r.itypes p.itype (is_all r.itypes) refl (h.numbers IcmpType) (tops IcmpType))
+    (icmp-same r.itypes r.icodes p.itype p.icode (h.numbers IcmpType) (h.numbers IcmpCode) (tops IcmpType) (tops IcmpCode))
     ∙ regrouped (same_family r.family p.family) (holds r.protos.ranges p.proto) (any_has r.src p.src) (any_has r.dst p.dst)
-    (holds r.sports.ranges p.sport) (holds r.dports.ranges p.dport) (holds r.itypes.ranges p.itype) (test-same r.test p h.test_known)
+    (holds r.sports.ranges p.sport) (holds r.dports.ranges p.dport) (holds r.itypes.ranges p.itype && holds r.icodes.ranges p.icode) (test-same r.test p h.test_known)
     ∙ ap (λ b. same_family r.family p.family && (b && passes r.test p)) (sym (sets-told r p))
 
 family-by : (families : Families) (r : Rule) (p : Packet) (b : Bool) → same_family r.family p.family ≡ b → IsSoundRule Nftables families r → IsPacket p

@@ -8,11 +8,10 @@ use Rattle.std.proofs.lemmas.Grind.{flat_map-append}
 use Rattle.acl_sets.specs.declared.sets.Range.{Range}
 use Rattle.acl_rows.specs.Rows.{spaced}
 use Rattle.acl_sets.specs.Ranges.{IsRange, Numbers}
-use Rattle.acl_packet.specs.declared.addresses.Family.{Family}
 use Rattle.acl_platform.specs.Choices.{numbers_of}
 use Rattle.acl_platform.specs.Elements.{port_elements, range_elements}
 use Rattle.acl_platform.proofs.ElementLaws.{each-range}
-use Rattle.nft_lang.specs.Texts.{icmp_word, port_word, ports_word, set_words, types_words, with_commas}
+use Rattle.nft_lang.specs.Texts.{port_word, ports_word, set_words, with_commas}
 use Rattle.nft_lang.proofs.SetLaws.{commas_put}
 use Rattle.gen_nftables.specs.RowSteps.{other_numbers}
 
@@ -33,10 +32,10 @@ all-numbers r rs h =
     ∙ commas_put (λ k. decimal k) r.low (behind ++ numbers_of rs)
     ∙ ap (λ k. spaced (with_commas (map (λ m. decimal m) (range_with_len r.low k ++ numbers_of rs)))) whole
 
-abbrev AreTypes : List Range → Type 0
-AreTypes rs = All (λ (r : Range). IsRange 255 r) rs
+abbrev AreSmall : List Range → Type 0
+AreSmall rs = All (λ (r : Range). IsRange 255 r) rs
 
-pub some-numbers : (rs : List Range) → 1 ≤ length rs → AreTypes rs
+pub some-numbers : (rs : List Range) → 1 ≤ length rs → AreSmall rs
     → (let r = get_or rs 0 (record { low = 0; high = 0 }) in
     codes " " ++ (decimal r.low ++ (other_numbers (range_with_len (r.low + 1) (r.high + 1 - (r.low + 1)))
     ++ other_numbers (numbers_of (take (length rs - 1) (drop 1 rs))))))
@@ -56,29 +55,29 @@ no-numbers (r ∷ rs) h = absurd (omega (arith, h))
 
 -- ---- sets
 
-pub no-types : (family : Family) (rs : List Range) → length rs < 1 → [] ≡ spaced (types_words family (numbers_of rs))
+pub no-set : (front key : List ℕ) (rs : List Range) → length rs < 1
+    → [] ≡ spaced (set_words front key (map (λ n. decimal n) (numbers_of rs)))
 unfolding set_words
-no-types family [] h = refl
-no-types family (r ∷ rs) h = absurd (omega (arith, h))
+no-set front key [] h = refl
+no-set front key (r ∷ rs) h = absurd (omega (arith, h))
 
 -- a range that is not empty has a first number, so that its set is written
-first-type : (front : List ℕ) (a n : ℕ) (rest : List ℕ) → 1 ≤ n
-    → (front ∷ codes "type" ∷ codes "{" ∷ (with_commas (map (λ m. decimal m) (range_with_len a n ++ rest)) ++ codes "}" ∷ []))
-    ≡ set_words front (codes "type") (map (λ m. decimal m) (range_with_len a n ++ rest))
+first-number : (front key : List ℕ) (a n : ℕ) (rest : List ℕ) → 1 ≤ n
+    → (front ∷ key ∷ codes "{" ∷ (with_commas (map (λ m. decimal m) (range_with_len a n ++ rest)) ++ codes "}" ∷ []))
+    ≡ set_words front key (map (λ m. decimal m) (range_with_len a n ++ rest))
 unfolding set_words
-first-type front a zero rest h = absurd (omega (arith, h))
-first-type front a (suc n) rest h = refl
+first-number front key a zero rest h = absurd (omega (arith, h))
+first-number front key a (suc n) rest h = refl
 
-pub some-types : (family : Family) (rs : List Range) {front : List ℕ} → front ≡ icmp_word family → 1 ≤ length rs → AreTypes rs
-    → spaced (front ∷ codes "type" ∷ codes "{" ∷ (with_commas (map (λ n. decimal n) (numbers_of rs)) ++ codes "}" ∷ []))
-    ≡ spaced (types_words family (numbers_of rs))
-some-types family [] e h k = absurd (omega (arith, h))
-some-types family (r ∷ rs) {front = front} e h k =
+pub some-set : (front key : List ℕ) (rs : List Range) → 1 ≤ length rs → AreSmall rs
+    → spaced (front ∷ key ∷ codes "{" ∷ (with_commas (map (λ n. decimal n) (numbers_of rs)) ++ codes "}" ∷ []))
+    ≡ spaced (set_words front key (map (λ n. decimal n) (numbers_of rs)))
+some-set front key [] h k = absurd (omega (arith, h))
+some-set front key (r ∷ rs) h k =
     let ends = (All-head (λ (q : Range). IsRange 255 q) r rs k).0 in
-    ap spaced (first-type front r.low (r.high + 1 - r.low) (numbers_of rs) (omega (arith, ends)))
-    ∙ ap (λ w. spaced (set_words w (codes "type") (map (λ n. decimal n) (numbers_of (r ∷ rs))))) e
+    ap spaced (first-number front key r.low (r.high + 1 - r.low) (numbers_of rs) (omega (arith, ends)))
 
-pub others-are : (rs : List Range) (n : ℕ) → AreTypes rs → AreTypes (take n (drop 1 rs))
+pub others-are : (rs : List Range) (n : ℕ) → AreSmall rs → AreSmall (take n (drop 1 rs))
 others-are rs n h =
     let P : Range → Type 0 = λ r. IsRange 255 r in
     All-take P n (drop 1 rs) (All-drop P 1 rs h)

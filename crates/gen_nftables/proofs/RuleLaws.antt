@@ -1,10 +1,10 @@
 -- The rules of a chain that a sound rule gives are valid.
-use Rattle.std.proofs.Common.{add-zero, zero-add, lit≤, ◌≡◌, ℕ, zero, suc, ◌+◌, ◌-◌, ◌<◌, ◌≤◌, Bool, true, false, ◌&&◌, ◌||◌, ◌==◌, cond, nat_eq, nat_le, nat_lt, List, [], ◌∷◌, ◌++◌, map, Option, is_none, refl, ap, sym, subst, ◌∙◌}
+use Rattle.std.proofs.Common.{add-zero, zero-add, lit≤, ◌≡◌, ℕ, zero, suc, zero-le, ◌+◌, ◌-◌, ◌<◌, ◌≤◌, Bool, true, false, ◌&&◌, ◌||◌, ◌==◌, cond, nat_eq, nat_le, nat_lt, List, [], ◌∷◌, ◌++◌, map, Option, is_none, refl, ap, sym, subst, ◌∙◌, arith}
 use Rattle.std.specs.List.{AllByRecursion, IsDistinct, list_any, range_with_len}
 use Rattle.std.proofs.lemmas.Bool.{and_from, eqb-true, false_from_ne_true, false≢true, le-ltb, lt-leb, or_right}
 use Rattle.std.proofs.lemmas.Nat.{pow_pos}
 use Rattle.std.proofs.Math.Nat.{add-le-add, add-sub_of_le, add-suc, add_assoc, le-add_right, le_refl, le_trans, not-suc-le_self, suc-add}
-use Rattle.acl_packet.specs.declared.packet_fields.Field.TheVariants.{SourcePort, DestinationPort, IcmpType}
+use Rattle.acl_packet.specs.declared.packet_fields.Field.TheVariants.{SourcePort, DestinationPort, IcmpType, IcmpCode}
 use Rattle.acl_packet.specs.declared.addresses.Families.{Families}
 use Rattle.acl_packet.specs.declared.addresses.Family.{Family}
 use Rattle.acl_packet.specs.declared.addresses.Prefix.{Prefix}
@@ -15,7 +15,10 @@ use Rattle.acl_packet.specs.Packets.{has_ports, icmp_of, is_icmp}
 use Rattle.acl_sets.specs.declared.sets.Range.{Range}
 use Rattle.acl_sets.specs.ComputableSets.{is_all}
 use Rattle.acl_sets.specs.LeastLists.{IsInOrder}
+use Rattle.acl_sets.specs.OneNumber.{IsOneNumber}
 use Rattle.acl_sets.specs.Ranges.{holds, IsNormal, Numbers, Only}
+use Rattle.acl_sets.proofs.ComputableSetLaws.{covers-holds}
+use Rattle.acl_sets.proofs.RangeLaws.{at_top}
 use Rattle.acl_target.specs.declared.targets.Kind.TheVariants.{Nftables}
 use Rattle.acl_platform.specs.declared.rules.Rule.{Rule}
 use Rattle.acl_platform.specs.declared.rules.Test.{Test}
@@ -29,7 +32,7 @@ use Rattle.acl_platform.proofs.NamedNumbers.{named, no-icmp, protocol-is}
 use Rattle.acl_platform.proofs.RuleNumbers.{type-most}
 use Rattle.acl_rows.specs.PortRanges.{IsPortRange}
 use Rattle.acl_rows.specs.RuleParts.{IsAddresses, has_port_proto, is_empty, is_proto}
-use Rattle.nft_lang.specs.Documents.{flags_fit, IsRule, IsSet, IsType, ports_fit, ports_overlap, prefixes_overlap, types_fit, verdict_fits}
+use Rattle.nft_lang.specs.Documents.{codes_fit, flags_fit, icmp_fits, is_single, IsCode, IsRule, IsSet, IsType, ports_fit, ports_overlap, prefixes_overlap, types_fit, verdict_fits}
 use Rattle.gen_nftables.specs.Sections.{chain_rule, flags_of}
 
 -- ---- addresses
@@ -110,7 +113,7 @@ ports-apart rs false h = ranges-apart 0 65535 rs h
 ports-set : (s : Numbers) → IsFull 65535 s → IsSet IsPortRange ports_overlap (port_elements s)
 ports-set s h = record { each = ports-are s h; apart = ports-apart s.ranges (is_all s) h.normal }
 
--- ---- types
+-- ---- types and codes
 
 -- Each number once, and none below the first one.
 abbrev IsRow : ℕ → List ℕ → Type 0
@@ -148,15 +151,21 @@ numbers-apart floor top (r ∷ rs) h =
     ) in
     (here.0, all-weaker (λ m l. le_trans h.0 l) (numbers_of (r ∷ rs)) here.1)
 
-types-apart : (rs : List Range) (b : Bool) → IsNormal 0 255 rs → IsDistinct nat_eq (numbers_of (cond b [] rs))
+elements-apart : (rs : List Range) (b : Bool) → IsNormal 0 255 rs → IsDistinct nat_eq (numbers_of (cond b [] rs))
 unfolding IsDistinct
-types-apart rs true h = tt
-types-apart rs false h = (numbers-apart 0 255 rs h).0
+elements-apart rs true h = tt
+elements-apart rs false h = (numbers-apart 0 255 rs h).0
 
 types-set : (s : Numbers) → IsFull 255 s → (is_all s ≡ false → holds s.ranges 255 ≡ false) → IsSet IsType nat_eq (number_elements s)
 types-set s h none = record {
   each = all-weaker (λ n k. type-most s n h.normal (none k.0) k.1) (number_elements s) (numbers-are s);
-  apart = types-apart s.ranges (is_all s) h.normal;
+  apart = elements-apart s.ranges (is_all s) h.normal;
+}
+
+codes-set : (s : Numbers) → IsFull 255 s → IsSet IsCode nat_eq (number_elements s)
+codes-set s h = record {
+  each = all-weaker (λ n k. at_top 0 255 s.ranges n h.normal k.1) (number_elements s) (numbers-are s);
+  apart = elements-apart s.ranges (is_all s) h.normal;
 }
 
 -- ---- what belongs to a protocol
@@ -178,6 +187,34 @@ types-fit-by f s protos proto rs true e h k = refl
 types-fit-by f s protos proto rs false e h k =
     let one = named (is_icmp f) protos proto h (no-icmp f) (k e) in
     or_right (is_empty (numbers_of rs)) (is_proto proto (icmp_of f)) (ap (λ o. is_proto o (icmp_of f)) one.1.0 ∙ one.1.1.1)
+
+-- one number is not all, of which 0 and 1 are two
+one-left : (n : ℕ) → holds (record { low = n; high = n } ∷ []) 0 ≡ true → holds (record { low = n; high = n } ∷ []) 1 ≡ true → ⊥
+one-left zero h k = false≢true k
+one-left (suc n) h k =
+    let positive : 0 < suc n = omega arith in
+    false≢true (sym (ap (λ b. (b && nat_le 0 (suc n)) || false) (lt-leb (suc n) 0 positive)) ∙ h)
+
+not-all : (s : Numbers) → IsFull 255 s → IsOneNumber s → is_all s ≡ true → ⊥
+not-all s full one e =
+    let has : (x : ℕ) → x ≤ 255 → holds s.ranges x ≡ true = λ x l. covers-holds s.ranges 0 s.top x e zero-le (subst (λ t. x ≤ t) (sym full.top_is) l) in
+    let same : (x : ℕ) → holds (record { low = one.0; high = one.0 } ∷ []) x ≡ holds s.ranges x = λ x. ap (λ rs. holds rs x) (sym one.1) in
+    one-left one.0 (same 0 ∙ has 0 (lit≤ tt)) (same 1 ∙ has 1 (lit≤ tt))
+
+single-by : (s : Numbers) (b : Bool) → is_all s ≡ b → IsFull 255 s → IsOneNumber s → is_single (numbers_of (cond b [] s.ranges)) ≡ true
+single-by s true e full one = absurd (not-all s full one e)
+single-by s false e full one =
+    ap (λ rs. is_single (numbers_of rs)) one.1
+    ∙ ap (λ k. is_single (range_with_len one.0 k ++ [])) (sub-self one.0)
+  where
+    sub-self : (n : ℕ) → n + 1 - n ≡ 1
+    sub-self n = omega arith
+
+codes-fit-by : (s types : Numbers) (b : Bool) → is_all s ≡ b → IsFull 255 types → (is_all s ≡ false → IsOneNumber types)
+    → (is_empty (numbers_of (cond b [] s.ranges)) || is_single (number_elements types)) ≡ true
+codes-fit-by s types true e full one = refl
+codes-fit-by s types false e full one =
+    or_right (is_empty (numbers_of s.ranges)) (is_single (number_elements types)) (single-by types (is_all types) refl full (one e))
 
 only-tcp : (protos : Numbers) (proto : Option ℕ) → OfNumbers protos proto → Only is_tcp protos → is_proto proto 6 ≡ true
 only-tcp protos proto h only =
@@ -214,11 +251,14 @@ rule-is families r o h k =
       source_ports = ports-set r.sports (h.numbers SourcePort);
       destination_ports = ports-set r.dports (h.numbers DestinationPort);
       icmp_types = types-set r.itypes (h.numbers IcmpType) h.types_named;
-      fit = and_from (ports_fit c && types_fit c) (flags_fit c && verdict_fits o r.verdict)
-          (and_from (ports_fit c) (types_fit c)
+      icmp_codes = codes-set r.icodes (h.numbers IcmpCode);
+      fit = and_from (ports_fit c && icmp_fits c) (flags_fit c && verdict_fits o r.verdict)
+          (and_from (ports_fit c) (icmp_fits c)
           (ports-fit-by r.sports r.dports r.protos o r.sports.ranges r.dports.ranges (is_all r.sports) (is_all r.dports)
           refl refl k (h.numbers_fit SourcePort) (h.numbers_fit DestinationPort))
-          (types-fit-by r.family r.itypes r.protos o r.itypes.ranges (is_all r.itypes) refl k (h.numbers_fit IcmpType)))
+          (and_from (types_fit c) (codes_fit c)
+          (types-fit-by r.family r.itypes r.protos o r.itypes.ranges (is_all r.itypes) refl k (h.numbers_fit IcmpType))
+          (codes-fit-by r.icodes r.itypes (is_all r.icodes) refl (h.numbers IcmpType) h.codes_named)))
           (and_from (flags_fit c) (verdict_fits o r.verdict)
           (flags-fit-by r.test o (λ t. only-tcp r.protos o k (h.flags_fit t)))
           (verdict-fits-by r.verdict o h.verdict_known (λ v. only-tcp r.protos o k (h.reset_fits v))));

@@ -40,6 +40,7 @@ chain_rule r proto = record {
   sports = port_elements r.sports;
   dports = port_elements r.dports;
   itypes = number_elements r.itypes;
+  icodes = number_elements r.icodes;
   flags = flags_of r.test;
   state = asks_state r.test;
   log = r.log;
@@ -73,7 +74,7 @@ section_of f = record {
 -- A rule of a chain counts with the elements of its sets. A remark does not count.
 abbrev pub rule_size : ChainRule → ℕ
 rule_size r = 1 + (length r.src + length r.dst + (length r.sports + length r.dports)
-    + length r.itypes)
+    + (length r.itypes + length r.icodes))
 
 abbrev pub item_size : Item → ℕ
 item_size (Remark text) = 0

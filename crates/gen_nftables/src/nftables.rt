@@ -2,8 +2,8 @@ ghost use Rattle.gen_nftables.specs.Limits.{is_for_nftables};
 ghost use Rattle.gen_nftables.specs.Sections.{entry_count, section_of};
 
 use crate::section_rows::{ChainItems, head_of};
-use acl_rows::Rows;
 use acl_platform::{Filter, Platform, count_rules};
+use acl_rows::Rows;
 use acl_text::{Out, PutFault};
 use nft_lang::SectionEnd;
 

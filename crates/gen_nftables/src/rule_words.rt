@@ -3,13 +3,13 @@ ghost use Rattle.acl_platform.specs.Combinations.{IsSized};
 ghost use Rattle.nft_lang.specs.Texts.{rule_words};
 ghost use Rattle.gen_nftables.specs.Sections.{asks_state, chain_rule, flags_of};
 
+use crate::icmp_sets::IcmpSet;
 use crate::sets::{AddressSet, PortSet};
-use crate::types::TypeSet;
-use acl_rows::Words;
 use acl_packet::Families;
 use acl_platform::{Rule, Test};
+use acl_rows::Words;
 use acl_text::{Out, PutFault};
-use nft_lang::{RuleEnding, FlagTest, Flags, PacketFamily, Protocol};
+use nft_lang::{FlagTest, Flags, PacketFamily, Protocol, RuleEnding};
 
 /// The words of a rule of a chain: a rule of a filter, for one of its protocols or for all of them.
 #[derive(Drop)]
@@ -23,7 +23,7 @@ pub(crate) struct RuleWords<'a> {
 impl<'a> Words for RuleWords<'a> {
     ghost words = { λ w. rule_words w.families (chain_rule w.rule.now w.proto) };
 
-    #[tactic(auto, unfolding(nft_lang::specs::Texts::rule_words, nft_lang::specs::Texts::addresses_words, nft_lang::specs::Texts::ports_words), using(acl_platform::proofs::SoundRules::source_ports_small, acl_platform::proofs::SoundRules::destination_ports_small, acl_platform::proofs::SoundRules::types_small))]
+    #[tactic(auto, unfolding(nft_lang::specs::Texts::rule_words, nft_lang::specs::Texts::addresses_words, nft_lang::specs::Texts::ports_words, nft_lang::specs::Texts::icmp_words), using(acl_platform::proofs::SoundRules::source_ports_small, acl_platform::proofs::SoundRules::destination_ports_small, acl_platform::proofs::SoundRules::types_small, acl_platform::proofs::SoundRules::codes_small))]
     fn put_spaced<O: Out>(&self, out: &mut O) -> Result<(), PutFault> {
         let rule = self.rule;
         let proto = self.proto;
@@ -60,10 +60,20 @@ impl<'a> Words for RuleWords<'a> {
                 set: &rule.dports,
             },
         );
-        let types = TypeSet {
-            family,
-            set: &rule.itypes,
-        };
+        let itype: &[u8] = b"type";
+        let icode: &[u8] = b"code";
+        let icmp = (
+            IcmpSet {
+                family,
+                key: itype,
+                set: &rule.itypes,
+            },
+            IcmpSet {
+                family,
+                key: icode,
+                set: &rule.icodes,
+            },
+        );
         let flags = FlagTest {
             flags: flags_of(rule.test),
         };
@@ -72,7 +82,7 @@ impl<'a> Words for RuleWords<'a> {
             log: rule.log,
             verdict: rule.verdict,
         };
-        let tests = (types, (flags, ending));
+        let tests = (icmp, (flags, ending));
         let matches = (addresses, (ports, tests));
         (packet_family, (Protocol { number: proto }, matches)).put_spaced(out)
     }

@@ -13,11 +13,11 @@ ghost use Rattle.gen_nftables.specs.Sections.{
 };
 
 use crate::rule_words::RuleWords;
-use acl_rows::{RowForm, Row, Rows};
 use acl_packet::Families;
 use acl_platform::{
     Choices, Filter, NumberChoices, RemarkForm, RemarkRows, Rule, RuleForm, put_rules,
 };
+use acl_rows::{Row, RowForm, Rows};
 use acl_target::Ending;
 use acl_text::{Out, PutFault};
 use nft_lang::{CommentRow, TableHead};

@@ -3,9 +3,9 @@ ghost use Rattle.acl_text.specs.AddressTexts.{prefix_text};
 ghost use Rattle.nft_lang.specs.Texts.{address_word, port_word, ports_word, set_words};
 ghost use Rattle.acl_platform.specs.Elements.{address_elements, port_elements};
 
-use acl_rows::{Piece, PortRange, WordForm, Words};
 use acl_packet::Family;
 use acl_platform::{address_elements, range_elements};
+use acl_rows::{Piece, PortRange, WordForm, Words};
 use acl_sets::{Prefixes, Range, RangeSet};
 use acl_text::{Out, PutFault};
 use nft_lang::{ElementSet, PrefixWord, address_word, port_word};

@@ -32,11 +32,11 @@ use Rattle.nft_lang.specs.declared.documents.Flags.{Flags}
 use Rattle.nft_lang.specs.declared.documents.Flags.TheVariants.{Rst, SynNotAck}
 use Rattle.acl_rows.specs.declared.rule_parts.End.TheVariants.{Source, Destination}
 use Rattle.nft_lang.specs.declared.rule_drafts.Next.{Next}
-use Rattle.nft_lang.specs.declared.rule_drafts.Next.TheVariants.{Keyword, Addresses, Ports, Types}
+use Rattle.nft_lang.specs.declared.rule_drafts.Next.TheVariants.{Keyword, Addresses, Ports, Types, Codes}
 use Rattle.nft_lang.specs.declared.rule_drafts.RuleDraft.{RuleDraft}
-use Rattle.nft_lang.specs.Documents.{IsType, IsRule, ports_fit, types_fit, flags_fit, verdict_fits}
-use Rattle.nft_lang.specs.Texts.{with_commas, set_words, ports_word, family_words, proto_words, address_word, icmp_word, port_word, flags_words, state_words, verdict_words, addresses_words, ports_words, types_words, ending_words, rule_words}
-use Rattle.nft_lang.specs.ReadingSteps.{draft, no_rule, up_to, next_in, with_test, with_verdict, with_address, with_ports, with_type, in_set, take_address, take_ports, take_type, take_as, take_word, rule_in}
+use Rattle.nft_lang.specs.Documents.{IsType, IsCode, IsRule, ports_fit, icmp_fits, flags_fit, verdict_fits}
+use Rattle.nft_lang.specs.Texts.{with_commas, set_words, ports_word, family_words, proto_words, address_word, icmp_word, port_word, flags_words, state_words, verdict_words, addresses_words, ports_words, icmp_set_words, icmp_words, ending_words, rule_words}
+use Rattle.nft_lang.specs.ReadingSteps.{draft, no_rule, up_to, next_in, with_test, with_verdict, with_address, with_ports, with_type, with_code, in_set, take_address, take_ports, take_type, take_code, take_as, take_word, rule_in}
 
 abbrev read : RuleDraft → List (List ℕ) → RuleDraft
 read d words = fold take_word d words
@@ -192,34 +192,52 @@ dports_read r o ranges empty h =
     (λ xs. ap (λ o. option_map_or {U = RuleDraft} (λ q. end (with_ports Destination q (with xs))) o (draft (with xs) Keyword)) no_ports.1)
     ranges h
 
--- ---- types
+-- ---- types and codes
 
-no_type : (number_in 254 (up_to 44 (codes "{")) ≡ None) × (number_in 254 (up_to 44 (codes "}")) ≡ None)
+no_number : (most : ℕ) → (number_in most (up_to 44 (codes "{")) ≡ None) × (number_in most (up_to 44 (codes "}")) ≡ None)
 unfolding up_to number_in digits_in
-no_type = (refl, refl)
+no_number most = (refl, refl)
 
-type_lacks : (n : ℕ) → IsType n → has_byte 44 (decimal n) ≡ false
-type_lacks n h = decimal-lacks 44 n (omega (arith, h)) refl
+number_lacks : (n : ℕ) → n ≤ 255 → has_byte 44 (decimal n) ≡ false
+number_lacks n h = decimal-lacks 44 n (omega (arith, h)) refl
 
-type_taken : (w : List ℕ) (n : ℕ) → IsType n → up_to 44 w ≡ decimal n → number_in 254 (up_to 44 w) ≡ Some n
-type_taken w n h e = ap (number_in 254) e ∙ number-again 254 n (omega (arith, h)) h
+number_taken : (most : ℕ) (w : List ℕ) (n : ℕ) → most ≤ 255 → n ≤ most → up_to 44 w ≡ decimal n → number_in most (up_to 44 w) ≡ Some n
+number_taken most w n m h e = ap (number_in most) e ∙ number-again most n (omega (arith, m, h)) h
 
 types_opened : (r : Rule) → read (draft r Keyword) (icmp_word r.family ∷ codes "type" ∷ codes "{" ∷ []) ≡ draft r Types
 unfolding take_as take_type with_test with_verdict next_in
-types_opened r = passed r.family ∙ ap (λ o. option_map_or {U = RuleDraft} (λ n. draft (with_type n r) Types) o (draft r Types)) no_type.0 where
+types_opened r = passed r.family ∙ ap (λ o. option_map_or {U = RuleDraft} (λ n. draft (with_type n r) Types) o (draft r Types)) (no_number 254).0 where
   passed : (f : Family) → read (draft r Keyword) (icmp_word f ∷ codes "type" ∷ codes "{" ∷ []) ≡ take_as r Types (codes "{")
   passed V4 = refl
   passed V6 = refl
 
 types_read : (r : Rule) (ns : List ℕ) → r.itypes ≡ [] → AllByRecursion IsType ns
-    → read (draft r Keyword) (types_words r.family ns) ≡ draft (record r { itypes = ns }) Keyword
+    → read (draft r Keyword) (icmp_set_words r.family (codes "type") ns) ≡ draft (record r { itypes = ns }) Keyword
 unfolding take_as take_type
 types_read r ns empty h =
     let with : List ℕ → Rule = λ xs. record r { itypes = xs } in
     set_read r Types with (icmp_word r.family) (codes "type") (λ n. decimal n) IsType (ap with (sym empty)) (types_opened r)
-    (λ xs n w k e. ap (λ o. option_map_or {U = RuleDraft} (λ m. draft (with_type m (with xs)) Types) o (draft (with xs) (in_set Types w))) (type_taken w n k e))
-    type_lacks
-    (λ xs. ap (λ o. option_map_or {U = RuleDraft} (λ m. draft (with_type m (with xs)) Types) o (draft (with xs) Keyword)) no_type.1)
+    (λ xs n w k e. ap (λ o. option_map_or {U = RuleDraft} (λ m. draft (with_type m (with xs)) Types) o (draft (with xs) (in_set Types w))) (number_taken 254 w n (omega arith) k e))
+    (λ n k. number_lacks n (omega (arith, k)))
+    (λ xs. ap (λ o. option_map_or {U = RuleDraft} (λ m. draft (with_type m (with xs)) Types) o (draft (with xs) Keyword)) (no_number 254).1)
+    ns h
+
+codes_opened : (r : Rule) → read (draft r Keyword) (icmp_word r.family ∷ codes "code" ∷ codes "{" ∷ []) ≡ draft r Codes
+unfolding take_as take_code with_test with_verdict next_in
+codes_opened r = passed r.family ∙ ap (λ o. option_map_or {U = RuleDraft} (λ n. draft (with_code n r) Codes) o (draft r Codes)) (no_number 255).0 where
+  passed : (f : Family) → read (draft r Keyword) (icmp_word f ∷ codes "code" ∷ codes "{" ∷ []) ≡ take_as r Codes (codes "{")
+  passed V4 = refl
+  passed V6 = refl
+
+codes_read : (r : Rule) (ns : List ℕ) → r.icodes ≡ [] → AllByRecursion IsCode ns
+    → read (draft r Keyword) (icmp_set_words r.family (codes "code") ns) ≡ draft (record r { icodes = ns }) Keyword
+unfolding take_as take_code
+codes_read r ns empty h =
+    let with : List ℕ → Rule = λ xs. record r { icodes = xs } in
+    set_read r Codes with (icmp_word r.family) (codes "code") (λ n. decimal n) IsCode (ap with (sym empty)) (codes_opened r)
+    (λ xs n w k e. ap (λ o. option_map_or {U = RuleDraft} (λ m. draft (with_code m (with xs)) Codes) o (draft (with xs) (in_set Codes w))) (number_taken 255 w n (omega arith) k e))
+    number_lacks
+    (λ xs. ap (λ o. option_map_or {U = RuleDraft} (λ m. draft (with_code m (with xs)) Codes) o (draft (with xs) Keyword)) (no_number 255).1)
     ns h
 
 -- ---- family, protocol, tests and verdict
@@ -269,10 +287,10 @@ verdict_read r o Left h = absurd (false≢true h)
 verdict_of_rule : (fs : Families) (r : Rule) → IsRule fs r → verdict_fits r.proto r.verdict ≡ true
 verdict_of_rule fs r h =
     (and_parts (flags_fit r) (verdict_fits r.proto r.verdict)
-    (and_parts (ports_fit r && types_fit r) (flags_fit r && verdict_fits r.proto r.verdict) h.fit).1).1
+    (and_parts (ports_fit r && icmp_fits r) (flags_fit r && verdict_fits r.proto r.verdict) h.fit).1).1
 
 pub rule_again : (fs : Families) (r : Rule) → IsRule fs r → rule_in fs (rule_words fs r) ≡ r
-unfolding rule_in rule_words addresses_words ports_words ending_words
+unfolding rule_in rule_words addresses_words ports_words icmp_words ending_words
 rule_again fs r h =
     let a : Rule = no_rule r.family in
     let b : Rule = record a { proto = r.proto } in
@@ -281,28 +299,32 @@ rule_again fs r h =
     let e : Rule = record d { sports = r.sports } in
     let f : Rule = record e { dports = r.dports } in
     let g : Rule = record f { itypes = r.itypes } in
-    let i : Rule = record g { flags = r.flags } in
-    let j : Rule = record i { state = r.state } in
+    let i : Rule = record g { icodes = r.icodes } in
+    let t : Rule = record i { flags = r.flags } in
+    let j : Rule = record t { state = r.state } in
     let k : Rule = record j { log = r.log } in
     let start = draft (no_rule (first_family fs)) Keyword in
     let at : Rule → RuleDraft = λ x. draft x Keyword in
     let decided = log_words r.log ++ verdict_words r.verdict in
     let ending = state_words r.state ++ decided in
     let tests = flags_words r.flags ++ ending in
-    let types = types_words r.family r.itypes ++ tests in
+    let types = icmp_set_words r.family (codes "type") r.itypes in
+    let numbers = icmp_set_words r.family (codes "code") r.icodes in
+    let icmp = (types ++ numbers) ++ tests in
     let sports = set_words (port_word r.proto) (codes "sport") (map ports_word r.sports) in
     let dports = set_words (port_word r.proto) (codes "dport") (map ports_word r.dports) in
-    let ports = (sports ++ dports) ++ types in
+    let ports = (sports ++ dports) ++ icmp in
     let sources = set_words (address_word r.family) (codes "saddr") (map prefix_text r.src) in
     let destinations = set_words (address_word r.family) (codes "daddr") (map prefix_text r.dst) in
     let addresses = (sources ++ destinations) ++ ports in
     let protocol = proto_words r.proto ++ addresses in
     let decision = then (at j) (at k) (at r) (log_words r.log) (verdict_words r.verdict) (log_read j r.log refl) (verdict_read k r.proto r.verdict (verdict_of_rule fs r h)) in
-    let ended = then (at i) (at j) (at r) (state_words r.state) decided (state_read i r.state refl) decision in
-    let tested = then (at g) (at i) (at r) (flags_words r.flags) ending (flags_read g r.flags refl) ended in
-    let typed = then (at f) (at g) (at r) (types_words r.family r.itypes) tests (types_read f r.itypes refl h.icmp_types.each) tested in
+    let ended = then (at t) (at j) (at r) (state_words r.state) decided (state_read t r.state refl) decision in
+    let tested = then (at i) (at t) (at r) (flags_words r.flags) ending (flags_read i r.flags refl) ended in
+    let both_icmp = then (at f) (at g) (at i) types numbers (types_read f r.itypes refl h.icmp_types.each) (codes_read g r.icodes refl h.icmp_codes.each) in
+    let typed = then (at f) (at i) (at r) (types ++ numbers) tests both_icmp tested in
     let both_ports = then (at d) (at e) (at f) sports dports (sports_read d r.proto r.sports refl h.source_ports.each) (dports_read e r.proto r.dports refl h.destination_ports.each) in
-    let ported = then (at d) (at f) (at r) (sports ++ dports) types both_ports typed in
+    let ported = then (at d) (at f) (at r) (sports ++ dports) icmp both_ports typed in
     let both_ends = then (at b) (at c) (at d) sources destinations (sources_read b r.src refl h.sources.each) (destinations_read c r.dst refl h.destinations.each) in
     let addressed = then (at b) (at d) (at r) (sources ++ destinations) ports both_ends ported in
     let rest = then (at a) (at b) (at r) (proto_words r.proto) addresses (proto_read a r.proto refl h.protocol) addressed in

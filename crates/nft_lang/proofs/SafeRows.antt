@@ -32,8 +32,8 @@ use Rattle.nft_lang.specs.declared.documents.Item.TheVariants.{Remark, Rule as A
 use Rattle.nft_lang.specs.declared.documents.Rule.{Rule}
 use Rattle.nft_lang.specs.declared.documents.Flags.{Flags}
 use Rattle.nft_lang.specs.declared.documents.Flags.TheVariants.{Rst, SynNotAck}
-use Rattle.nft_lang.specs.Documents.{IsType, IsRule, IsItem, IsSection, fits_i32, table_name}
-use Rattle.nft_lang.specs.Texts.{with_commas, set_words, ports_word, family_words, proto_words, address_word, icmp_word, port_word, flags_words, state_words, verdict_words, addresses_words, ports_words, ending_words, rule_words, item_rows, hook_word, families_word, table_word, default_word, priority_word, head_rows, end_rows, section_rows}
+use Rattle.nft_lang.specs.Documents.{IsType, IsCode, IsRule, IsItem, IsSection, fits_i32, table_name}
+use Rattle.nft_lang.specs.Texts.{with_commas, set_words, ports_word, family_words, proto_words, address_word, icmp_word, port_word, flags_words, state_words, verdict_words, addresses_words, ports_words, icmp_words, ending_words, rule_words, item_rows, hook_word, families_word, table_word, default_word, priority_word, head_rows, end_rows, section_rows}
 
 -- ---- words that begin a rule, and no remark and no chain
 
@@ -116,7 +116,7 @@ verdict_begins Reset = record { first = codes "reject"; rest = codes "with" ∷ 
 verdict_begins Left = record { first = codes "drop"; rest = []; is = refl; plain = refl }
 
 pub rule_begins : (fs : Families) (r : Rule) → BeginsRule (rule_words fs r)
-unfolding rule_words addresses_words ports_words ending_words
+unfolding rule_words addresses_words ports_words icmp_words ending_words
 rule_begins fs r =
     search (behind_part, both_plain, set_plain, family_plain, proto_plain, address_plain, port_plain, icmp_plain, flags_plain, state_plain, log_plain, verdict_begins) depth 12
 
@@ -151,6 +151,9 @@ ports_safe ports h = range_word 45 ports h refl refl
 
 type_safe : (n : ℕ) → IsType n → IsWord (decimal n)
 type_safe n h = decimal_word n (omega (arith, h))
+
+code_safe : (n : ℕ) → IsCode n → IsWord (decimal n)
+code_safe n h = decimal_word n (omega (arith, h))
 
 -- ---- rules
 
@@ -215,11 +218,19 @@ all_ports_safe fs r h =
     (set_safe IsPortRange (port_word r.proto) (codes "sport") ports_word front (search word) ports_safe r.sports h.source_ports.each)
     (set_safe IsPortRange (port_word r.proto) (codes "dport") ports_word front (search word) ports_safe r.dports h.destination_ports.each)
 
+all_icmp_safe : (fs : Families) (r : Rule) → IsRule fs r → AreWords (icmp_words r.family r.itypes r.icodes)
+unfolding icmp_words
+all_icmp_safe fs r h =
+    let front = icmp_safe r.family in
+    let written : ℕ → List ℕ = λ n. decimal n in
+    both_words _ _
+    (set_safe IsType (icmp_word r.family) (codes "type") written front (search word) type_safe r.itypes h.icmp_types.each)
+    (set_safe IsCode (icmp_word r.family) (codes "code") written front (search word) code_safe r.icodes h.icmp_codes.each)
+
 rule_safe : (fs : Families) (r : Rule) → IsRule fs r → AreWords (rule_words fs r)
 unfolding rule_words ending_words
 rule_safe fs r h =
-    let types = set_safe IsType (icmp_word r.family) (codes "type") (λ n. decimal n) (icmp_safe r.family) (search word) type_safe r.itypes h.icmp_types.each in
-    search (both_words, family_safe, proto_safe r.proto h.protocol, addresses_safe fs r h, all_ports_safe fs r h, types, flags_safe, state_safe, log_safe, verdict_safe) depth 9
+    search (both_words, family_safe, proto_safe r.proto h.protocol, addresses_safe fs r h, all_ports_safe fs r h, all_icmp_safe fs r h, flags_safe, state_safe, log_safe, verdict_safe) depth 9
 
 -- ---- rows
 

@@ -24,8 +24,8 @@ use Rattle.nft_lang.specs.declared.documents.Section.{Section}
 use Rattle.nft_lang.specs.declared.documents.Item.{Item}
 use Rattle.nft_lang.specs.declared.documents.Item.TheVariants.{Remark, Rule as ARule}
 use Rattle.nft_lang.specs.declared.documents.Rule.{Rule}
-use Rattle.nft_lang.specs.Documents.{IsSet, IsType, IsRule, IsItem, IsSection, prefixes_overlap, ports_overlap, parts_fit, fits_i32, table_name, table_names}
-use Rattle.nft_lang.specs.ValiditySteps.{are_addresses, are_ports, are_types, has_sets, is_rule, is_item, is_section, same_table}
+use Rattle.nft_lang.specs.Documents.{IsSet, IsType, IsCode, IsRule, IsItem, IsSection, prefixes_overlap, ports_overlap, parts_fit, fits_i32, table_name, table_names}
+use Rattle.nft_lang.specs.ValiditySteps.{are_addresses, are_numbers, are_ports, has_icmp, has_sets, is_rule, is_item, is_section, same_table}
 
 -- ---- sets
 
@@ -45,10 +45,12 @@ rule_decides fs r =
     let address = set_decides (is_addresses r.family) (IsAddresses r.family) prefixes_overlap (addresses_decide r.family) in
     let port = set_decides is_port_range IsPortRange ports_overlap range_decides in
     let types = set_decides (λ n. nat_le n 254) IsType nat_eq (λ n. le_decides n 254) r.itypes in
+    let numbers = set_decides (λ n. nat_le n 255) IsCode nat_eq (λ n. le_decides n 255) r.icodes in
+    let icmp = Decides-and (are_numbers 254 r.itypes) (are_numbers 255 r.icodes) types numbers in
     let addresses = Decides-and (are_addresses r.family r.src) (are_addresses r.family r.dst) (address r.src) (address r.dst) in
     let ports = Decides-and (are_ports r.sports) (are_ports r.dports) (port r.sports) (port r.dports) in
-    let sets = Decides-and (are_addresses r.family r.src && are_addresses r.family r.dst) ((are_ports r.sports && are_ports r.dports) && are_types r.itypes) addresses
-    (Decides-and (are_ports r.sports && are_ports r.dports) (are_types r.itypes) ports types) in
+    let sets = Decides-and (are_addresses r.family r.src && are_addresses r.family r.dst) ((are_ports r.sports && are_ports r.dports) && has_icmp r) addresses
+    (Decides-and (are_ports r.sports && are_ports r.dports) (has_icmp r) ports icmp) in
     let kind = Decides-and (covers fs r.family) (number_fits 1 255 r.proto) (is_itself (covers fs r.family)) (number_decides 1 255 r.proto) in
     Decides-like (is_rule fs r)
     (λ h. record {
@@ -58,10 +60,11 @@ rule_decides fs r =
       destinations = h.1.0.0.1;
       source_ports = h.1.0.1.0.0;
       destination_ports = h.1.0.1.0.1;
-      icmp_types = h.1.0.1.1;
+      icmp_types = h.1.0.1.1.0;
+      icmp_codes = h.1.0.1.1.1;
       fit = h.1.1;
     })
-    (λ h. ((h.family, h.protocol), (((h.sources, h.destinations), ((h.source_ports, h.destination_ports), h.icmp_types)), h.fit)))
+    (λ h. ((h.family, h.protocol), (((h.sources, h.destinations), ((h.source_ports, h.destination_ports), (h.icmp_types, h.icmp_codes))), h.fit)))
     (Decides-and (covers fs r.family && number_fits 1 255 r.proto) (has_sets r && parts_fit r) kind (Decides-and (has_sets r) (parts_fit r) sets (is_itself (parts_fit r))))
 
 item_decides : (fs : Families) (i : Item) → Decides (is_item fs i) (IsItem fs i)
@@ -121,10 +124,10 @@ numbers_decide doc h numbers e =
     ∙ ap (are_apart (eq_by_cmp nat_cmp)) (sym e))
     (tables_decide doc h)
 
--- ---- types
+-- ---- types and codes
 
-pub types_apart : (types : List ℕ) → are_apart (eq_by_cmp nat_cmp) types ≡ are_apart nat_eq types
-types_apart types = apart_like (λ n. n) (eq_by_cmp nat_cmp) nat_eq unsigned_tied types ∙ ap (are_apart nat_eq) (map_same types) where
+pub numbers_apart : (numbers : List ℕ) → are_apart (eq_by_cmp nat_cmp) numbers ≡ are_apart nat_eq numbers
+numbers_apart numbers = apart_like (λ n. n) (eq_by_cmp nat_cmp) nat_eq unsigned_tied numbers ∙ ap (are_apart nat_eq) (map_same numbers) where
   map_same : (ns : List ℕ) → map (λ n. n) ns ≡ ns
   map_same [] = refl
   map_same (n ∷ ns) = ap (λ ms. n ∷ ms) (map_same ns)

@@ -1,9 +1,9 @@
 -- Documents of nftables rules, and which of them are valid.
--- Source: nft(8), "TABLES", "CHAINS", "RULES", "SETS", "PAYLOAD EXPRESSIONS", "META EXPRESSIONS".
+-- Source: nft(8), "TABLES", "CHAINS", "RULES", "SETS", "PAYLOAD EXPRESSIONS" (for ICMP, "ICMP
+-- HEADER EXPRESSION"), "META EXPRESSIONS".
 use Rattle.std.specs.Prelude.{◌≡◌, ℕ, ◌^◌, ◌<◌, ◌≤◌, Bool, true, false, ◌&&◌, ◌||◌, nat_eq, nat_le, nat_lt, ℤ, pos, negsuc, List, [], ◌∷◌, ◌++◌, codes, Option, IfSome, is_none}
 use Rattle.std.specs.Fmt.{decimal}
 use Rattle.std.specs.List.{AllByRecursion, IsDistinct}
-use Rattle.acl_packet.specs.declared.addresses.Family.{Family}
 use Rattle.acl_packet.specs.declared.addresses.Families.{Families}
 use Rattle.acl_packet.specs.declared.addresses.Prefix.{Prefix}
 use Rattle.acl_packet.specs.declared.filtering.Verdict.{Verdict}
@@ -21,8 +21,8 @@ use Rattle.nft_lang.specs.declared.documents.Rule.{Rule}
 
 -- ---- sets
 
--- Two elements overlap where they have a value in common: an address, a port, or the type. One of two
--- such prefixes has the first address of the other.
+-- Two elements overlap where they have a value in common: an address, a port, the type or the code. One
+-- of two such prefixes has the first address of the other.
 abbrev pub prefixes_overlap : Prefix → Prefix → Bool
 prefixes_overlap p q = has_address p q.first || has_address q p.first
 
@@ -36,18 +36,32 @@ pub record IsSet {A : Type 0} (IsElement : A → Type 0) (overlap : A → A → 
   pub each : AllByRecursion IsElement elements
   pub apart : IsDistinct overlap elements
 
--- Type 255 has no number here.
+-- Type 255 has no number here. A code has 8 bits.
 abbrev pub IsType : ℕ → Type 0
 IsType number = number ≤ 254
 
+abbrev pub IsCode : ℕ → Type 0
+IsCode number = number ≤ 255
+
 -- ---- rules
 
--- Ports belong to TCP, UDP or SCTP, types to the family's ICMP, flags and `tcp reset` to TCP.
+-- Ports belong to TCP, UDP or SCTP, types to the family's ICMP, codes to one type, flags and `tcp reset`
+-- to TCP.
 abbrev pub ports_fit : Rule → Bool
 ports_fit r = is_empty r.sports && is_empty r.dports || has_port_proto r.proto
 
 abbrev pub types_fit : Rule → Bool
 types_fit r = is_empty r.itypes || is_proto r.proto (icmp_of r.family)
+
+abbrev pub is_single : {A : Type 0} → List A → Bool
+is_single (x ∷ []) = true
+is_single xs = false
+
+abbrev pub codes_fit : Rule → Bool
+codes_fit r = is_empty r.icodes || is_single r.itypes
+
+abbrev pub icmp_fits : Rule → Bool
+icmp_fits r = types_fit r && codes_fit r
 
 abbrev pub flags_fit : Rule → Bool
 flags_fit r = is_none r.flags || is_proto r.proto 6
@@ -59,7 +73,7 @@ verdict_fits proto Left = false
 verdict_fits proto verdict = true
 
 abbrev pub parts_fit : Rule → Bool
-parts_fit r = ports_fit r && types_fit r && (flags_fit r && verdict_fits r.proto r.verdict)
+parts_fit r = ports_fit r && icmp_fits r && (flags_fit r && verdict_fits r.proto r.verdict)
 
 -- A rule of a table of the families. Protocol 0 has no number here.
 pub record IsRule (families : Families) (r : Rule) : Type 0 where
@@ -70,6 +84,7 @@ pub record IsRule (families : Families) (r : Rule) : Type 0 where
   pub source_ports : IsSet IsPortRange ports_overlap r.sports
   pub destination_ports : IsSet IsPortRange ports_overlap r.dports
   pub icmp_types : IsSet IsType nat_eq r.itypes
+  pub icmp_codes : IsSet IsCode nat_eq r.icodes
   pub fit : parts_fit r ≡ true
 
 abbrev pub IsItem : Families → Item → Type 0

@@ -6,7 +6,7 @@ use Rattle.std.specs.Str.{bytes_eq}
 use Rattle.acl_packet.specs.declared.addresses.Family.{Family}
 use Rattle.acl_packet.specs.declared.addresses.Family.TheVariants.{V4, V6}
 use Rattle.acl_packet.specs.declared.addresses.Families.{Families}
-use Rattle.acl_packet.specs.declared.addresses.Families.TheVariants.{Inet, Inet6, Mixed}
+use Rattle.acl_packet.specs.declared.addresses.Families.TheVariants.{Inet}
 use Rattle.acl_packet.specs.declared.addresses.Prefix.{Prefix}
 use Rattle.acl_packet.specs.declared.filtering.Hook.{Hook}
 use Rattle.acl_packet.specs.declared.filtering.Hook.TheVariants.{Input, Output, Forward}
@@ -28,7 +28,7 @@ use Rattle.nft_lang.specs.declared.documents.Flags.TheVariants.{Rst, SynNotAck}
 use Rattle.acl_rows.specs.declared.rule_parts.End.{End}
 use Rattle.acl_rows.specs.declared.rule_parts.End.TheVariants.{Source, Destination}
 use Rattle.nft_lang.specs.declared.rule_drafts.Next.{Next}
-use Rattle.nft_lang.specs.declared.rule_drafts.Next.TheVariants.{Keyword, PacketFamily, Protocol, Addresses, Ports, Types}
+use Rattle.nft_lang.specs.declared.rule_drafts.Next.TheVariants.{Keyword, PacketFamily, Protocol, Addresses, Ports, Types, Codes}
 use Rattle.nft_lang.specs.declared.rule_drafts.RuleDraft.{RuleDraft}
 use Rattle.nft_lang.specs.declared.tables_drafts.TablesDraft.{TablesDraft}
 
@@ -46,6 +46,7 @@ no_rule family = record {
   sports = [];
   dports = [];
   itypes = [];
+  icodes = [];
   flags = None;
   state = false;
   log = false;
@@ -69,6 +70,7 @@ next_in w =
     else if bytes_eq w (codes "sport") then Ports Source
     else if bytes_eq w (codes "dport") then Ports Destination
     else if bytes_eq w (codes "type") then Types
+    else if bytes_eq w (codes "code") then Codes
     else Keyword
 
 unfoldable pub with_test : List ℕ → Rule → Rule
@@ -98,6 +100,9 @@ with_ports Destination ports r = record r { dports = r.dports ++ ports ∷ [] }
 abbrev pub with_type : ℕ → Rule → Rule
 with_type n r = record r { itypes = r.itypes ++ n ∷ [] }
 
+abbrev pub with_code : ℕ → Rule → Rule
+with_code n r = record r { icodes = r.icodes ++ n ∷ [] }
+
 -- A word of a set is an element, or the brace that ends it.
 abbrev pub in_set : Next → List ℕ → Next
 in_set next w = if bytes_eq w (codes "}") then Keyword else next
@@ -117,6 +122,11 @@ take_type r w =
     option_map_or {U = RuleDraft} (λ n. draft (with_type n r) Types)
     (number_in 254 (up_to 44 w)) (draft r (in_set Types w))
 
+unfoldable pub take_code : Rule → List ℕ → RuleDraft
+take_code r w =
+    option_map_or {U = RuleDraft} (λ n. draft (with_code n r) Codes)
+    (number_in 255 (up_to 44 w)) (draft r (in_set Codes w))
+
 unfoldable pub take_as : Rule → Next → List ℕ → RuleDraft
 take_as r Keyword w = draft (with_verdict w (with_test w r)) (next_in w)
 take_as r PacketFamily w = draft (record r { family = nfproto_in w }) Keyword
@@ -124,6 +134,7 @@ take_as r Protocol w = draft (record r { proto = number_in 255 w }) Keyword
 take_as r (Addresses end) w = take_address r end w
 take_as r (Ports end) w = take_ports r end w
 take_as r Types w = take_type r w
+take_as r Codes w = take_code r w
 
 abbrev pub take_word : RuleDraft → List ℕ → RuleDraft
 take_word d w = take_as d.rule d.next w

@@ -11,6 +11,7 @@ rule_of_row r = record {
   sports = r.sports.now;
   dports = r.dports.now;
   itypes = r.itypes.now;
+  icodes = r.icodes.now;
   flags = r.flags;
   state = r.state;
   log = r.log;

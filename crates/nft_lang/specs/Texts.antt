@@ -1,6 +1,6 @@
 -- The text of a document of nftables rules.
--- Source: nft(8), "INPUT FILE FORMATS", "TABLES", "CHAINS", "RULES", "PAYLOAD EXPRESSIONS",
--- "META EXPRESSIONS", "CONNTRACK EXPRESSIONS", "STATEMENTS".
+-- Source: nft(8), "INPUT FILE FORMATS", "TABLES", "CHAINS", "RULES", "PAYLOAD EXPRESSIONS" (for ICMP,
+-- "ICMP HEADER EXPRESSION"), "META EXPRESSIONS", "CONNTRACK EXPRESSIONS", "STATEMENTS".
 use Rattle.std.specs.Prelude.{ℕ, Bool, true, false, ◌==◌, if◌then◌else◌, ℤ, List, [], ◌∷◌, ◌++◌, map, flat_map, codes, Option, None, Some}
 use Rattle.std.specs.Fmt.{decimal, signed_decimal}
 use Rattle.acl_packet.specs.declared.addresses.Family.{Family}
@@ -103,8 +103,14 @@ ports_words proto sports dports =
     set_words (port_word proto) (codes "sport") (map ports_word sports)
     ++ set_words (port_word proto) (codes "dport") (map ports_word dports)
 
-abbrev pub types_words : Family → List ℕ → List (List ℕ)
-types_words family itypes = set_words (icmp_word family) (codes "type") (map (λ n. decimal n) itypes)
+-- Types or codes of ICMP, behind their key.
+abbrev pub icmp_set_words : Family → List ℕ → List ℕ → List (List ℕ)
+icmp_set_words family key numbers = set_words (icmp_word family) key (map (λ n. decimal n) numbers)
+
+-- A code stands behind its type, as `icmp type { 3 } icmp code { 3, 4 }`.
+unfoldable pub icmp_words : Family → List ℕ → List ℕ → List (List ℕ)
+icmp_words family itypes icodes =
+    icmp_set_words family (codes "type") itypes ++ icmp_set_words family (codes "code") icodes
 
 unfoldable pub ending_words : Bool → Bool → Verdict → List (List ℕ)
 ending_words state log verdict = state_words state ++ (log_words log ++ verdict_words verdict)
@@ -113,7 +119,7 @@ ending_words state log verdict = state_words state ++ (log_words log ++ verdict_
 unfoldable pub rule_words : Families → Rule → List (List ℕ)
 rule_words families r = family_words families r.family ++ (proto_words r.proto
     ++ (addresses_words r.family r.src r.dst ++ (ports_words r.proto r.sports r.dports
-    ++ (types_words r.family r.itypes
+    ++ (icmp_words r.family r.itypes r.icodes
     ++ (flags_words r.flags ++ ending_words r.state r.log r.verdict)))))
 
 -- A remark is a comment of free text, a rule its words.

@@ -30,8 +30,8 @@ are_addresses family ps = list_all (is_addresses family) ps && are_apart prefixe
 abbrev pub are_ports : List (ℕ × ℕ) → Bool
 are_ports ranges = list_all is_port_range ranges && are_apart ports_overlap ranges
 
-abbrev pub are_types : List ℕ → Bool
-are_types numbers = list_all (λ n. nat_le n 254) numbers && are_apart nat_eq numbers
+abbrev pub are_numbers : ℕ → List ℕ → Bool
+are_numbers most numbers = list_all (λ n. nat_le n most) numbers && are_apart nat_eq numbers
 
 abbrev pub has_addresses : Rule → Bool
 has_addresses r = are_addresses r.family r.src && are_addresses r.family r.dst
@@ -39,8 +39,11 @@ has_addresses r = are_addresses r.family r.src && are_addresses r.family r.dst
 abbrev pub has_ports : Rule → Bool
 has_ports r = are_ports r.sports && are_ports r.dports
 
+abbrev pub has_icmp : Rule → Bool
+has_icmp r = are_numbers 254 r.itypes && are_numbers 255 r.icodes
+
 abbrev pub has_sets : Rule → Bool
-has_sets r = has_addresses r && (has_ports r && are_types r.itypes)
+has_sets r = has_addresses r && (has_ports r && has_icmp r)
 
 abbrev pub is_rule : Families → Rule → Bool
 is_rule families r = (covers families r.family && number_fits 1 255 r.proto)

@@ -24,14 +24,17 @@ flags_hold None flags = true
 flags_hold (Some Rst) flags = has_flag flags 4
 flags_hold (Some SynNotAck) flags = has_flag flags 2 && not (has_flag flags 16)
 
--- A rule holds a packet where each of its parts does: family and protocol, addresses, ports, types,
--- flags and state.
+-- A rule holds a packet where each of its parts does: family and protocol, addresses, ports, types and
+-- codes of ICMP, flags and state.
 abbrev pub protocol_holds : Rule → Packet → Bool
 protocol_holds r p = same_family r.family p.family && number_holds r.proto p.proto
 
+abbrev pub icmp_holds : Rule → Packet → Bool
+icmp_holds r p =
+    set_holds (λ t n. n == t) r.itypes p.itype && set_holds (λ c n. n == c) r.icodes p.icode
+
 abbrev pub tests_hold : Rule → Packet → Bool
-tests_hold r p = set_holds (λ t n. n == t) r.itypes p.itype
-    && (flags_hold r.flags p.flags && state_holds r.state p.conn)
+tests_hold r p = icmp_holds r p && (flags_hold r.flags p.flags && state_holds r.state p.conn)
 
 abbrev pub rule_holds : Rule → Packet → Bool
 rule_holds r p = protocol_holds r p

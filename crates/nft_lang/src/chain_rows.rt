@@ -3,16 +3,16 @@ ghost use Rattle.acl_text.specs.Puts.{Puts};
 ghost use Rattle.acl_rows.specs.Rows.{row, text_of_rows, words_in};
 ghost use Rattle.nft_lang.specs.declared.documents.Item.TheVariants.{Rule as ARule};
 ghost use Rattle.nft_lang.specs.RuleRowSteps.{rule_of_row};
-ghost use Rattle.nft_lang.specs.Texts.{address_word, end_rows, families_word, head_rows, hook_word, icmp_word, addresses_words, ports_words, table_rows, target_row, table_row, start_row, chain_rows, types_words, item_rows, default_word, port_word, priority_word, rule_words, section_rows, table_word};
+ghost use Rattle.nft_lang.specs.Texts.{address_word, end_rows, families_word, head_rows, hook_word, icmp_word, addresses_words, ports_words, table_rows, target_row, table_row, start_row, chain_rows, icmp_words, item_rows, default_word, port_word, priority_word, rule_words, section_rows, table_word};
 ghost use Rattle.nft_lang.specs.Documents.{table_name};
 
 use crate::documents::{Flags, Item, Rule, Section};
 use crate::rule_words::{
-    RuleEnding, FlagTest, PacketFamily, Protocol, address_word, icmp_word, port_word,
+    FlagTest, PacketFamily, Protocol, RuleEnding, address_word, icmp_word, port_word,
 };
-use crate::sets::{ElementSet, PrefixWord, TypeWord};
-use acl_rows::{Each, RowForm, FreeText, Number, Piece, RangeWords, Row, Rows, OneWord, Words};
+use crate::sets::{ElementSet, IcmpNumber, PrefixWord};
 use acl_packet::{Families, Family, Hook, Prefix, Verdict};
+use acl_rows::{Each, FreeText, Number, OneWord, Piece, RangeWords, Row, RowForm, Rows, Words};
 use acl_text::{Out, PutFault};
 use itoa::Buffer;
 
@@ -27,6 +27,7 @@ pub struct RuleRow<'a> {
     pub sports: &'a [(u16, u16)],
     pub dports: &'a [(u16, u16)],
     pub itypes: &'a [u8],
+    pub icodes: &'a [u8],
     pub flags: Option<Flags>,
     pub state: bool,
     pub log: bool,
@@ -54,9 +55,10 @@ impl<'a> Rows for RuleRow<'a> {
             sports: self.sports,
             dports: self.dports,
         };
-        let types = TypeSet {
+        let icmp = IcmpSets {
             family,
             itypes: self.itypes,
+            icodes: self.icodes,
         };
         let test = FlagTest { flags: self.flags };
         let ending = RuleEnding {
@@ -71,7 +73,7 @@ impl<'a> Rows for RuleRow<'a> {
             first: nothing,
             rest: (
                 packet_family,
-                (protocol, (addresses, (ports, (types, (test, ending))))),
+                (protocol, (addresses, (ports, (icmp, (test, ending))))),
             ),
         };
         row.put_rows(out)
@@ -425,22 +427,30 @@ impl<'a> Words for PortSets<'a> {
 }
 
 #[derive(Drop)]
-struct TypeSet<'a> {
+struct IcmpSets<'a> {
     family: Family,
     itypes: &'a [u8],
+    icodes: &'a [u8],
 }
 
-impl<'a> Words for TypeSet<'a> {
-    ghost words = { λ t. types_words t.family t.itypes.now };
+impl<'a> Words for IcmpSets<'a> {
+    ghost words = { λ i. icmp_words i.family i.itypes.now i.icodes.now };
 
+    #[tactic(auto, unfolding(crate::specs::Texts::icmp_words))]
     fn put_spaced<O: Out>(&self, out: &mut O) -> Result<(), PutFault> {
-        let set = ElementSet {
+        let types = ElementSet {
             front: icmp_word(self.family),
             key: b"type".as_slice(),
             elements: self.itypes,
-            form: TypeWord,
+            form: IcmpNumber,
         };
-        set.put_spaced(out)
+        let codes = ElementSet {
+            front: icmp_word(self.family),
+            key: b"code".as_slice(),
+            elements: self.icodes,
+            form: IcmpNumber,
+        };
+        (types, codes).put_spaced(out)
     }
 }
 
@@ -480,6 +490,7 @@ fn put_rule<O: Out>(families: Families, rule: &Rule, out: &mut O) -> Result<(), 
         sports: rule.sports.as_slice(),
         dports: rule.dports.as_slice(),
         itypes: rule.itypes.as_slice(),
+        icodes: rule.icodes.as_slice(),
         flags: rule.flags,
         state: rule.state,
         log: rule.log,

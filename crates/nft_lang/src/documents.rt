@@ -23,6 +23,8 @@ pub struct Rule {
     pub sports: Items<(u16, u16)>,
     pub dports: Items<(u16, u16)>,
     pub itypes: Items<u8>,
+    /// Codes of the one type.
+    pub icodes: Items<u8>,
     pub flags: Option<Flags>,
     /// Whether the packet's connection has to be established or related.
     pub state: bool,

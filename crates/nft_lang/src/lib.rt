@@ -18,6 +18,6 @@ pub use chain_rows::{CommentRow, RuleRow, SectionEnd, TableHead};
 pub use documents::{Doc, Flags, Item, Rule, Section};
 pub use nftables::Nftables;
 pub use rule_words::{
-    RuleEnding, FlagTest, PacketFamily, Protocol, address_word, icmp_word, port_word,
+    FlagTest, PacketFamily, Protocol, RuleEnding, address_word, icmp_word, port_word,
 };
 pub use sets::{ElementSet, PrefixWord};

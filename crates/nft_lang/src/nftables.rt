@@ -7,8 +7,8 @@ use crate::documents::Section;
 use crate::tables_drafts::TablesDraft;
 use crate::validity::{is_section, numbers_of};
 use crate::walking::walk;
-use acl_rows::{Language, Rows, are_distinct};
 use acl_packet::{Outcome, Packet};
+use acl_rows::{Language, Rows, are_distinct};
 use acl_text::{Memory, Out, PutFault};
 use std::alloc::Global;
 

@@ -1,9 +1,9 @@
 ghost use Rattle.std.specs.Prelude.{◌≡◌, IfOk, OnOk};
-ghost use Rattle.nft_lang.specs.ReadingSteps.{draft, no_rule, up_to, nfproto_in, next_in, with_test, with_verdict, with_address, with_ports, with_type, in_set, take_address, take_ports, take_type, take_as, take_word, rule_in};
+ghost use Rattle.nft_lang.specs.ReadingSteps.{draft, no_rule, up_to, nfproto_in, next_in, with_test, with_verdict, with_address, with_ports, with_type, with_code, in_set, take_address, take_ports, take_type, take_code, take_as, take_word, rule_in};
 
 use crate::documents::{Flags, Rule};
-use acl_rows::{End, RowWords};
 use acl_packet::{Families, Family, Prefix, Verdict};
+use acl_rows::{End, RowWords};
 use acl_text::{Items, Memory, read_ports, read_spelled_prefix, read_u8, split_at_byte};
 use std::alloc::Global;
 
@@ -16,6 +16,7 @@ pub(crate) enum Next {
     Addresses(End),
     Ports(End),
     Types,
+    Codes,
 }
 
 /// What has been read of a rule's words.
@@ -55,6 +56,7 @@ impl RuleDraft {
             sports: Items::new(alloc),
             dports: Items::new(alloc),
             itypes: Items::new(alloc),
+            icodes: Items::new(alloc),
             flags: None,
             state: false,
             log: false,
@@ -86,6 +88,7 @@ impl RuleDraft {
             Next::Addresses(end) => self.take_address(end, word),
             Next::Ports(end) => self.take_ports(end, word),
             Next::Types => self.take_type(word),
+            Next::Codes => self.take_code(word),
         }
     }
 
@@ -211,6 +214,26 @@ impl RuleDraft {
         self.next = Next::Types;
         self.rule.itypes.push(number)
     }
+
+    #[tactic(auto, unfolding(crate::specs::ReadingSteps::take_code))]
+    fn take_code(&mut self, word: &[u8]) -> Result<(), Memory>
+        ensures { OnOk result (self.new ≡ take_code self.old.rule word.now) }
+    {
+        match read_u8(up_to(word, b','), 255) {
+            Some(number) => self.push_code(number),
+            None => {
+                self.next = in_set(Next::Codes, word);
+                Ok(())
+            }
+        }
+    }
+
+    fn push_code(&mut self, number: u8) -> Result<(), Memory>
+        ensures { OnOk result (self.new ≡ draft (with_code number self.old.rule) Next.Codes) }
+    {
+        self.next = Next::Codes;
+        self.rule.icodes.push(number)
+    }
 }
 
 /// The word up to the byte that ends it, or all of it.
@@ -252,6 +275,8 @@ fn next_of(word: &[u8]) -> Next
         Next::Ports(End::Destination)
     } else if word == b"type".as_slice() {
         Next::Types
+    } else if word == b"code".as_slice() {
+        Next::Codes
     } else {
         Next::Keyword
     }

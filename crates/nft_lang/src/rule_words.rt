@@ -2,8 +2,8 @@ ghost use Rattle.std.specs.Prelude.{◌≡◌};
 ghost use Rattle.nft_lang.specs.Texts.{address_word, ending_words, family_word, family_words, flags_words, icmp_word, port_word, proto_words, state_words, verdict_words};
 
 use crate::documents::Flags;
-use acl_rows::{LogWord, Number, OneWord, Words, put_words};
 use acl_packet::{Families, Family, Verdict};
+use acl_rows::{LogWord, Number, OneWord, Words, put_words};
 use acl_text::{Out, PutFault};
 
 /// The words that ask for a family, in a table of both.

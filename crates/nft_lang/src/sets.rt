@@ -2,8 +2,8 @@ ghost use Rattle.std.specs.Prelude.{decimal, map};
 ghost use Rattle.acl_text.specs.AddressTexts.{prefix_text};
 ghost use Rattle.nft_lang.specs.Texts.{set_words, with_commas};
 
-use acl_rows::{ItemsBehind, Number, OneItem, Piece, WordForm, Words};
 use acl_packet::Prefix;
+use acl_rows::{ItemsBehind, Number, OneItem, Piece, WordForm, Words};
 use acl_text::{Out, PutFault, put_prefix};
 
 /// A prefix as an element of a set.
@@ -18,15 +18,15 @@ impl WordForm<Prefix> for PrefixWord {
     }
 }
 
-/// A type of ICMP.
+/// A type or a code of ICMP.
 #[derive(Clone, Copy)]
-pub(crate) struct TypeWord;
+pub(crate) struct IcmpNumber;
 
-impl WordForm<u8> for TypeWord {
+impl WordForm<u8> for IcmpNumber {
     ghost item_text = { λ f n. decimal n };
 
-    fn put_item_into<O: Out>(&self, itype: &u8, out: &mut O) -> Result<(), PutFault> {
-        let number = u128::from(*itype);
+    fn put_item_into<O: Out>(&self, number: &u8, out: &mut O) -> Result<(), PutFault> {
+        let number = u128::from(*number);
         Number { number }.put_into(out)
     }
 }

@@ -5,8 +5,8 @@ ghost use Rattle.nft_lang.specs.ReadingSteps.{no_section, hook_in, table_in, pri
 
 use crate::documents::{Doc, Item, Section};
 use crate::rule_drafts::{rule_of, up_to};
-use acl_rows::{DocumentDraft, Draft, RowWords, families_of};
 use acl_packet::{Families, Hook};
+use acl_rows::{DocumentDraft, Draft, RowWords, families_of};
 use acl_text::{Bytes, Items, Memory, behind, read_number};
 use std::alloc::Global;
 use std::mem;

@@ -2,15 +2,15 @@ ghost use Rattle.std.specs.Prelude.{◌≡◌, ◌&&◌, ◌^◌, IfOk, map, nat
 ghost use Rattle.std.specs.List.{list_all};
 ghost use Rattle.acl_rows.specs.PrefixCheckSteps.{is_addresses};
 ghost use Rattle.acl_rows.specs.RuleParts.{has_port_proto, is_empty, is_proto};
-ghost use Rattle.nft_lang.specs.Documents.{fits_i32, flags_fit, parts_fit, ports_fit, types_fit, verdict_fits};
-ghost use Rattle.nft_lang.specs.ValiditySteps.{are_addresses, are_ports, are_types, has_addresses, has_ports, has_sets, is_item, is_rule, is_section};
+ghost use Rattle.nft_lang.specs.Documents.{codes_fit, fits_i32, flags_fit, icmp_fits, is_single, parts_fit, ports_fit, types_fit, verdict_fits};
+ghost use Rattle.nft_lang.specs.ValiditySteps.{are_addresses, are_numbers, are_ports, has_addresses, has_icmp, has_ports, has_sets, is_item, is_rule, is_section};
 
 use crate::documents::{Item, Rule, Section};
 use crate::overlaps::are_apart;
+use acl_packet::{Families, Family, Prefix, Verdict};
 use acl_rows::{
     are_distinct, are_port_ranges, has_port_proto, is_addresses, is_empty, is_proto, number_fits,
 };
-use acl_packet::{Families, Family, Prefix, Verdict};
 use acl_text::{Memory, is_safe_text};
 use std::alloc::Global;
 
@@ -75,11 +75,7 @@ fn is_rule(alloc: Global, families: Families, rule: &Rule) -> Result<bool, Memor
 fn has_sets(alloc: Global, rule: &Rule) -> Result<bool, Memory>
     ensures { IfOk result (λ b. b ≡ has_sets rule.now) }
 {
-    Ok(
-        has_addresses(alloc, rule)?
-            && has_ports(alloc, rule)?
-            && are_types(alloc, rule.itypes.as_slice())?,
-    )
+    Ok(has_addresses(alloc, rule)? && has_ports(alloc, rule)? && has_icmp(alloc, rule)?)
 }
 
 fn has_addresses(alloc: Global, rule: &Rule) -> Result<bool, Memory>
@@ -116,23 +112,33 @@ fn are_ports(alloc: Global, ranges: &[(u16, u16)]) -> Result<bool, Memory>
     Ok(are_port_ranges(ranges) && are_apart(alloc, ranges)?)
 }
 
-#[tactic(auto, using(crate::proofs::ValidityLaws::types_apart))]
-fn are_types(alloc: Global, types: &[u8]) -> Result<bool, Memory>
-    ensures { IfOk result (λ b. b ≡ are_types types.now) }
+// Each code that a byte can be fits.
+fn has_icmp(alloc: Global, rule: &Rule) -> Result<bool, Memory>
+    ensures { IfOk result (λ b. b ≡ has_icmp rule.now) }
 {
-    Ok(all_types(types) && are_distinct(Vec::from_slice(alloc, types)?))
+    Ok(
+        are_numbers(alloc, 254, rule.itypes.as_slice())?
+            && are_numbers(alloc, 255, rule.icodes.as_slice())?,
+    )
 }
 
-fn all_types(types: &[u8]) -> bool
-    ensures { result ≡ list_all (λ n. nat_le n 254) types.now }
+#[tactic(auto, using(crate::proofs::ValidityLaws::numbers_apart))]
+fn are_numbers(alloc: Global, most: u8, numbers: &[u8]) -> Result<bool, Memory>
+    ensures { IfOk result (λ b. b ≡ are_numbers most numbers.now) }
 {
-    types.iter().all(|number| *number <= 254)
+    Ok(are_small(most, numbers) && are_distinct(Vec::from_slice(alloc, numbers)?))
+}
+
+fn are_small(most: u8, numbers: &[u8]) -> bool
+    ensures { result ≡ list_all (λ n. nat_le n most) numbers.now }
+{
+    numbers.iter().all(|number| *number <= most)
 }
 
 fn parts_fit(rule: &Rule) -> bool
     ensures { result ≡ parts_fit rule.now }
 {
-    ports_fit(rule) && types_fit(rule) && flags_fit(rule) && verdict_fits(rule.proto, rule.verdict)
+    ports_fit(rule) && icmp_fits(rule) && flags_fit(rule) && verdict_fits(rule.proto, rule.verdict)
 }
 
 fn ports_fit(rule: &Rule) -> bool
@@ -140,6 +146,24 @@ fn ports_fit(rule: &Rule) -> bool
 {
     is_empty(rule.sports.as_slice()) && is_empty(rule.dports.as_slice())
         || has_port_proto(rule.proto)
+}
+
+fn icmp_fits(rule: &Rule) -> bool
+    ensures { result ≡ icmp_fits rule.now }
+{
+    types_fit(rule) && codes_fit(rule)
+}
+
+fn codes_fit(rule: &Rule) -> bool
+    ensures { result ≡ codes_fit rule.now }
+{
+    is_empty(rule.icodes.as_slice()) || is_single(rule.itypes.as_slice())
+}
+
+fn is_single(numbers: &[u8]) -> bool
+    ensures { result ≡ is_single numbers.now }
+{
+    matches!(numbers, [_])
 }
 
 fn types_fit(rule: &Rule) -> bool

@@ -1,13 +1,11 @@
 ghost use Rattle.std.specs.Prelude.{◌≡◌, ◌==◌};
 ghost use Rattle.std.specs.List.{list_any};
 ghost use Rattle.acl_rows.specs.RuleParts.{number_holds, set_holds, state_holds};
-ghost use Rattle.nft_lang.specs.Walks.{flags_hold, protocol_holds, tests_hold, rule_holds, policy_verdict, decided_by, first_holding, walk};
+ghost use Rattle.nft_lang.specs.Walks.{flags_hold, icmp_holds, protocol_holds, tests_hold, rule_holds, policy_verdict, decided_by, first_holding, walk};
 
 use crate::documents::{Flags, Item, Rule};
-use acl_rows::{
-    ACK, RST, SYN, admit_addresses, admit_ports, is_empty, number_holds, state_holds,
-};
 use acl_packet::{Outcome, Packet, Verdict, has_flag};
+use acl_rows::{ACK, RST, SYN, admit_addresses, admit_ports, is_empty, number_holds, state_holds};
 
 pub(crate) fn walk(accept: bool, items: &[Item], packet: &Packet) -> Outcome
     ensures { result ≡ walk accept items.now packet.now }
@@ -69,21 +67,28 @@ fn protocol_holds(rule: &Rule, packet: &Packet) -> bool
 fn tests_hold(rule: &Rule, packet: &Packet) -> bool
     ensures { result ≡ tests_hold rule.now packet.now }
 {
-    has_type(rule.itypes.as_slice(), packet.itype)
+    icmp_holds(rule, packet)
         && flags_hold(rule.flags, packet.flags)
         && state_holds(rule.state, packet.conn)
 }
 
-fn has_type(types: &[u8], number: u8) -> bool
-    ensures { result ≡ set_holds (λ t n. n == t) types.now number }
+fn icmp_holds(rule: &Rule, packet: &Packet) -> bool
+    ensures { result ≡ icmp_holds rule.now packet.now }
 {
-    is_empty(types) || any_is_type(types, number)
+    admits_number(rule.itypes.as_slice(), packet.itype)
+        && admits_number(rule.icodes.as_slice(), packet.icode)
 }
 
-fn any_is_type(types: &[u8], number: u8) -> bool
-    ensures { result ≡ list_any (λ e. number == e) types.now }
+fn admits_number(numbers: &[u8], number: u8) -> bool
+    ensures { result ≡ set_holds (λ t n. n == t) numbers.now number }
 {
-    types.iter().any(|wanted| number == *wanted)
+    is_empty(numbers) || any_is_number(numbers, number)
+}
+
+fn any_is_number(numbers: &[u8], number: u8) -> bool
+    ensures { result ≡ list_any (λ e. number == e) numbers.now }
+{
+    numbers.iter().any(|wanted| number == *wanted)
 }
 
 fn flags_hold(test: Option<Flags>, flags: u8) -> bool

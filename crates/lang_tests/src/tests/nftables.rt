@@ -15,6 +15,7 @@ table inet aclgen_2 {
         # web servers
         meta nfproto ipv4 meta l4proto 6 ip saddr { 192.0.2.0/24, 10.0.0.0/8 } tcp sport { 22, 1024-65535 } tcp flags & (syn | ack) == syn log reject with tcp reset
         meta nfproto ipv6 meta l4proto 58 icmpv6 type { 136, 135 } ct state { established, related } drop
+        meta nfproto ipv4 meta l4proto 1 icmp type { 3 } icmp code { 3, 4 } reject
         meta nfproto ipv4 meta l4proto 132 sctp dport { 0-65535 } reject
         meta nfproto ipv4 meta l4proto 17 udp dport { 53, 67-68 } accept
         meta nfproto ipv6 ip6 daddr { 2001:db8::/32 } drop
@@ -23,7 +24,7 @@ table inet aclgen_2 {
 ";
 
 // Small changes of the document, each of which is read: what stands in it, and what in its place.
-static READ: [Change; 12] = [
+static READ: [Change; 14] = [
     ("        # web servers\n", ""),
     (
         "web servers",
@@ -40,6 +41,8 @@ static READ: [Change; 12] = [
     ),
     ("53, 67-68", "90, 60-70, 53"),
     ("136, 135", "8, 3, 0"),
+    ("code { 3, 4 }", "code { 4, 0, 255 }"),
+    (" icmp code { 3, 4 }", ""),
     ("67-68 } accept", "67-68 } log accept"),
     (" ip6 daddr { 2001:db8::/32 } drop", " drop"),
     (
@@ -49,7 +52,7 @@ static READ: [Change; 12] = [
 ];
 
 // Small changes of it that are refused.
-static REFUSED: [Change; 51] = [
+static REFUSED: [Change; 58] = [
     // sets whose elements meet, far apart in the text
     (
         "192.0.2.0/24, 10.0.0.0/8",
@@ -112,6 +115,17 @@ static REFUSED: [Change; 51] = [
     ("53, 67-68", "67, 60-70"),
     ("136, 135", "136, 136"),
     ("136, 135", "255"),
+    // codes of other than one type
+    ("type { 3 } icmp code", "code"),
+    ("type { 3 }", "type { 3, 11 }"),
+    (
+        "type { 3 } icmp code { 3, 4 }",
+        "code { 3, 4 } icmp type { 3 }",
+    ),
+    ("icmp code", "icmpv6 code"),
+    ("{ 3, 4 }", "{ 3, 256 }"),
+    ("{ 3, 4 }", "{ 3, 3 }"),
+    ("{ 3, 4 }", "{ 3-4 }"),
     // flags, state and what is done
     ("(syn | ack)", "(syn|ack)"),
     ("{ established, related }", "{ established }"),
@@ -145,7 +159,14 @@ table ip6 aclgen_1 {
 }
 ";
 
-static WALKS: [Walk; 14] = [
+// A destination is unreachable, since the packet was too great.
+const FRAGMENTATION_NEEDED: Packet = Packet {
+    itype: 3,
+    icode: 4,
+    ..PING
+};
+
+static WALKS: [Walk; 17] = [
     (
         DOCUMENT,
         0,
@@ -167,6 +188,25 @@ static WALKS: [Walk; 14] = [
         Some(DENIED),
     ),
     (DOCUMENT, 0, SOLICITATION, Some(ACCEPTED)),
+    (DOCUMENT, 0, FRAGMENTATION_NEEDED, Some(REJECTED)),
+    (
+        DOCUMENT,
+        0,
+        Packet {
+            icode: 1,
+            ..FRAGMENTATION_NEEDED
+        },
+        Some(ACCEPTED),
+    ),
+    (
+        DOCUMENT,
+        0,
+        Packet {
+            itype: 11,
+            ..FRAGMENTATION_NEEDED
+        },
+        Some(ACCEPTED),
+    ),
     (
         DOCUMENT,
         0,

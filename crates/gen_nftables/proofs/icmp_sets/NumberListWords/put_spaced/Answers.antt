@@ -2,7 +2,7 @@ use Rattle.std.proofs.Common.{◌-◌, length, arith}
 use Rattle.acl_text.proofs.Putting.{puts-nothing}
 use Rattle.acl_rows.proofs.PutLaws.{retold}
 use Rattle.gen_nftables.proofs.NumberTexts.{no-numbers, others-are, some-numbers}
-use Rattle.gen_nftables.proofs.types.NumberListWords.put_spaced.Goals as goal
+use Rattle.gen_nftables.proofs.icmp_sets.NumberListWords.put_spaced.Goals as goal
 
 pub returns-in-empty : goal.returns-in-empty
 returns-in-empty g c =

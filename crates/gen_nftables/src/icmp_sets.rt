@@ -2,54 +2,58 @@ ghost use Rattle.std.specs.Prelude.{◌+◌, ◌-◌, ◌≤◌, ◌++◌, [], c
 ghost use Rattle.std.specs.List.{All, range_with_len};
 ghost use Rattle.acl_sets.specs.Ranges.{IsRange};
 ghost use Rattle.acl_platform.specs.Choices.{numbers_of};
-ghost use Rattle.nft_lang.specs.Texts.{icmp_word, types_words, with_commas};
+ghost use Rattle.nft_lang.specs.Texts.{icmp_set_words, set_words, with_commas};
 ghost use Rattle.gen_nftables.specs.RowSteps.{other_numbers};
 ghost use Rattle.acl_platform.specs.Elements.{number_elements};
 
-use acl_rows::{Number, Piece, Words};
 use acl_packet::Family;
 use acl_platform::{NumberForm, put_numbers, put_numbers_from, range_elements};
+use acl_rows::{Number, Piece, Words};
 use acl_sets::{Range, RangeSet};
 use acl_text::{Out, PutFault};
 use nft_lang::icmp_word;
 
-/// The types of ICMP of a rule, unless they are all.
+/// The types or the codes of ICMP of a rule, unless they are all.
 #[derive(Drop)]
-pub(crate) struct TypeSet<'a> {
+pub(crate) struct IcmpSet<'a> {
     pub(crate) family: Family,
+    pub(crate) key: &'a [u8],
     pub(crate) set: &'a RangeSet,
     pub(crate) ghost small: { set.now.top ≤ 255 },
 }
 
-impl<'a> Words for TypeSet<'a> {
-    ghost words = { λ t. types_words t.family (number_elements t.set.now) };
+impl<'a> Words for IcmpSet<'a> {
+    ghost words = { λ i. icmp_set_words i.family i.key.now (number_elements i.set.now) };
 
     fn put_spaced<O: Out>(&self, out: &mut O) -> Result<(), PutFault> {
         let set = NumberSet {
-            family: self.family,
+            front: icmp_word(self.family),
+            key: self.key,
             ranges: range_elements(self.set),
         };
         set.put_spaced(out)
     }
 }
 
-// The numbers of ranges as types. A set without numbers is not written.
+// The numbers of ranges, behind the words of what is matched. A set without numbers is not written.
 #[derive(Drop)]
 struct NumberSet<'a> {
-    family: Family,
+    front: &'a [u8],
+    key: &'a [u8],
     ranges: &'a [Range],
     ghost small: { All (λ r. IsRange 255 r) ranges.now },
 }
 
 impl<'a> Words for NumberSet<'a> {
-    ghost words = { λ t. types_words t.family (numbers_of t.ranges.now) };
+    ghost words = { λ s.
+        set_words s.front.now s.key.now (map (λ number. decimal number) (numbers_of s.ranges.now)) };
 
     fn put_spaced<O: Out>(&self, out: &mut O) -> Result<(), PutFault> {
         match self.ranges {
             [] => Ok(()),
             [_, ..] => {
                 let ranges = self.ranges;
-                let key: &[&[u8]] = &[icmp_word(self.family), b"type", b"{"];
+                let key: &[&[u8]] = &[self.front, self.key, b"{"];
                 let end: &[&[u8]] = &[b"}"];
                 (key, (NumberList { ranges }, end)).put_spaced(out)
             }
