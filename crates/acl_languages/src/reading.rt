@@ -3,8 +3,8 @@ ghost use Rattle.acl_packet.specs.Packets.{IsPacket};
 ghost use Rattle.acl_rows.specs.Documents.{SpellsRows, outcome_at};
 ghost use Rattle.acl_languages.specs.PlatformLanguages.{SectionOn, SpellsOn, outcome_on};
 
-use acl_rows::{Language, outcome as outcome_of, read_document, sections as sections_of};
 use acl_packet::{Outcome, Packet};
+use acl_rows::{Language, outcome as outcome_of, read_document, sections as sections_of};
 use acl_target::Kind;
 use acl_text::Memory;
 use cisco_lang::Cisco;

@@ -9,7 +9,7 @@ ghost use Rattle.acl_naming.specs.ItemWords.{
   service_ports_in,
 };
 
-use crate::naming_items::{PrefixItem, Item, PortsItem, Reference};
+use crate::naming_items::{Item, PortsItem, PrefixItem, Reference};
 use acl_packet::protocol_number;
 use acl_text::{
     Bytes, Memory, Place, contains_byte, is_name, read_ports, read_prefix, split_at_byte,

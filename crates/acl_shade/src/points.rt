@@ -72,8 +72,8 @@ impl Points {
     }
 }
 
-// How many numbers are looked at besides those of a range for each term: the ends of the longest part, but not many more than the
-// parts have ranges.
+// How many numbers are looked at besides those of a range for each term: the ends of the longest part, but not many more
+// than the parts have ranges.
 fn room_for(part: Part, terms: &[Term]) -> usize {
     let mut longest: usize = 0;
     let mut all: usize = 0;

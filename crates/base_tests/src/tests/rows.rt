@@ -1,9 +1,9 @@
+use acl_packet::{Family, Prefix};
 use acl_rows::{
-    Address, Each, EachWord, RowForm, FreeText, Named, Number, Piece, PortRange, Row, RowWords, Rows,
-    Wildcard, OneWord, WordForm, are_distinct, are_distinct_names, are_port_ranges,
+    Address, Each, EachWord, FreeText, Named, Number, OneWord, Piece, PortRange, Row, RowForm,
+    RowWords, Rows, Wildcard, WordForm, are_distinct, are_distinct_names, are_port_ranges,
     have_distinct_names, is_port_range, is_prefix_of, is_text_of,
 };
-use acl_packet::{Family, Prefix};
 use acl_text::{Memory, Out, PutFault};
 use std::alloc::Global;
 use std::test::Fail;

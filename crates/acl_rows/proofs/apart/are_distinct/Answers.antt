@@ -13,4 +13,4 @@ returns-clause-exact g c =
 pub returns-clause-is : goal.returns-clause-is
 returns-clause-is g c =
     subst (λ b. IsTrue b ↔ IsDistinct (eq_by_cmp g.K.Ord.cmp) c.args.keys.items) (sym (returns-clause-exact g c))
-        (apart_decides (eq_by_cmp g.K.Ord.cmp) c.args.keys.items)
+    (apart_decides (eq_by_cmp g.K.Ord.cmp) c.args.keys.items)
