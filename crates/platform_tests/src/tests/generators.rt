@@ -4,8 +4,8 @@ ghost use Rattle.std.specs.Str.{bytes_eq};
 ghost use Rattle.acl_platform.specs.Limits.{filter_limit};
 ghost use Rattle.acl_platform.specs.Platforms.{IsAccepted};
 
-use acl_rows::{read_document, sections};
 use acl_platform::{Filter, Platform, write_all};
+use acl_rows::{read_document, sections};
 use acl_text::{Memory, Whole};
 use std::alloc::Global;
 use std::test::Fail;

@@ -3,11 +3,11 @@ ghost use Rattle.acl_rows.specs.Rows.{row};
 ghost use Rattle.acl_platform.specs.Combinations.{IsSized};
 
 use crate::tests::samples::{HEAD, Head, filter};
-use acl_rows::{RowForm, Number, Row, Rows, OneWord};
 use acl_packet::{Conn, Family, Outcome, Packet, Prefix, Verdict};
 use acl_platform::{
     Combination, Rule, Rules, Test, count_combinations, filter_outcome, put_combinations,
 };
+use acl_rows::{Number, OneWord, Row, RowForm, Rows};
 use acl_sets::{Prefixes, Range, RangeSet};
 use acl_target::Ending;
 use acl_text::{Bytes, Memory, Out, Place, PutFault, Whole};
