@@ -1,8 +1,10 @@
 ghost use Rattle.std.specs.Prelude.{◌≡◌, IfOk};
+ghost use Rattle.acl_platform.specs.Combinations.{IsSized};
 ghost use Rattle.platform_tests.specs.SampleFilters.{filter_with};
 
-use acl_packet::{Families, Hook};
-use acl_platform::{Filter, Rules, SharedRules};
+use acl_packet::{Families, Family, Hook, Prefix, Verdict};
+use acl_platform::{Filter, Rule, Rules, SharedRules, Test};
+use acl_sets::{Prefixes, Range, RangeSet};
 use acl_target::{Ending, Kind};
 use acl_text::{Bytes, Memory, Place};
 use std::alloc::Global;
@@ -49,5 +51,32 @@ pub(crate) fn filter(alloc: Global, head: &Head, rules: Rules) -> Result<Filter,
         verbose: head.verbose,
         number: head.number,
         rules: SharedRules::new(alloc, rules)?,
+    })
+}
+
+// What says by two codes of one type of ICMP that a destination is unreachable.
+#[tactic(auto, using(acl_platform::proofs::SoundRules::sized_by))]
+pub(crate) fn unreachable(alloc: Global) -> Result<Rule, Memory>
+    ensures { IfOk result IsSized }
+{
+    let everywhere = [Prefix::everywhere(Family::V4)];
+    let protos = [Range { low: 1, high: 1 }];
+    let itypes = [Range { low: 3, high: 3 }];
+    let icodes = [Range { low: 3, high: 4 }];
+    Ok(Rule {
+        name: Bytes::from_slice(alloc, b"unreachable")?,
+        place: Place { file: 1, line: 2 },
+        note: Bytes::new(alloc),
+        family: Family::V4,
+        src: Prefixes::new(alloc, Vec::from_slice(alloc, &everywhere)?)?,
+        dst: Prefixes::new(alloc, Vec::from_slice(alloc, &everywhere)?)?,
+        protos: RangeSet::from_ranges(alloc, 255, &protos)?,
+        sports: RangeSet::all(alloc, 65535)?,
+        dports: RangeSet::all(alloc, 65535)?,
+        itypes: RangeSet::from_ranges(alloc, 255, &itypes)?,
+        icodes: RangeSet::from_ranges(alloc, 255, &icodes)?,
+        test: Test::Plain,
+        verdict: Verdict::Accept,
+        log: false,
     })
 }
