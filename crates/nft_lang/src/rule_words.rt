@@ -87,7 +87,7 @@ pub fn port_word(proto: Option<u8>) -> &'static [u8]
     }
 }
 
-/// The word in front of a family's types of ICMP.
+/// The word in front of a family's types and codes of ICMP.
 pub fn icmp_word(family: Family) -> &'static [u8]
     ensures { result.now ≡ icmp_word family }
 {

@@ -112,7 +112,7 @@ fn are_ports(alloc: Global, ranges: &[(u16, u16)]) -> Result<bool, Memory>
     Ok(are_port_ranges(ranges) && are_apart(alloc, ranges)?)
 }
 
-// Each code that a byte can be fits.
+// Any byte is a code.
 fn has_icmp(alloc: Global, rule: &Rule) -> Result<bool, Memory>
     ensures { IfOk result (λ b. b ≡ has_icmp rule.now) }
 {
