@@ -101,8 +101,8 @@ IsRuleName name = (term address port protocol : List ℕ) × (is_name term ≡ t
     × IsOneOf protocol protocol_suffixes × (name ≡ term ++ (address ++ (port ++ protocol)))
 
 -- Where numbers of a field are named, all protocols have the field: ports belong to TCP, UDP and SCTP,
--- types and codes to the family's ICMP, and codes to one type. Flags and resets belong to TCP. A type that is named is below 255, so
--- that a document can write it on each platform.
+-- types and codes to the family's ICMP. Codes belong to one type, flags and resets to TCP. A type that is
+-- named is below 255, so that a document can write it on each platform.
 pub record IsSoundRule (kind : Kind) (families : Families) (r : Rule) : Type 0 where
   pub family : covers families r.family ≡ true
   pub name : IsRuleName r.name
