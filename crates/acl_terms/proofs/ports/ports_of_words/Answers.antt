@@ -15,8 +15,8 @@ loop-left-init c =
     let words = c.args.words.now in
     record {
       set = begun-names (λ x text. AnyOf (λ q. ReachesPort services text q x) protos) words c.new-left.result top_port
-          c.in_ok-out.out c.new-left.ensures c.in_ok-out.ensures.top c.in_ok-out.ensures.normal
-          c.in_ok-out.ensures.exact;
+          c.empty-out.result c.new-left.ensures c.empty-out.ensures.top c.empty-out.ensures.normal
+          c.empty-out.ensures.exact;
       judged = ap (first_in (service_slip services protos)) c.new-left.ensures
           ∙ new-first (service_slip services protos) (asks-service services protos) words;
       some = λ some none. absurd (new-some words some (sym c.new-left.ensures ∙ none));
@@ -30,13 +30,13 @@ loop-left-preserved c =
     let next : c.loop-left.left ≡ c.in-Some.word ∷ c.next.new.self =
     given (λ w. c.loop-left.left ≡ w ∷ c.next.new.self) c.in_ok-word.field-0 c.in-Some.word c.in-Some.is c.in_ok-word.ensures.some in
     let had = c.loop-left.invariant in
-    let union = c.in_ok-out-2.ensures in
+    let union = c.in_ok-out.ensures in
     record {
       set = next-names (NamesPort base protos) (λ x. AnyOf (NamesPort base protos x) words) _ _ _ top_port
-          c.loop-left.out c.in_ok-more.more c.in_ok-out-2.out next had.set
+          c.loop-left.out c.in_ok-more.more c.in_ok-out.out next had.set
           c.in_ok-more.ensures.set union.top union.normal union.exact;
       judged = slip-next (service_slip base.services protos) _ _ _ (first_in (service_slip base.services protos) words)
           next c.in_ok-more.ensures.judged had.judged;
-      some = λ _ _. more-some top_port c.loop-left.out c.in_ok-more.more c.in_ok-out-2.out
+      some = λ _ _. more-some top_port c.loop-left.out c.in_ok-more.more c.in_ok-out.out
           c.in_ok-more.ensures.set.normal c.in_ok-more.ensures.some union.exact;
     }

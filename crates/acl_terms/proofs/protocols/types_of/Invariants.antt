@@ -1,5 +1,5 @@
 use Rattle.std.proofs.Common.{◌≡◌, ◌++◌}
-use Rattle.acl_terms.specs.SetSteps.{types_of}
+use Rattle.acl_terms.specs.Matching.{types_of}
 use Rattle.acl_terms.proofs.protocols.types_of.Given as goal
 
 abbrev pub invariant-loop-word : goal.invariant-loop-word
