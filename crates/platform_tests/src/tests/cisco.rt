@@ -1,7 +1,7 @@
 use crate::tests::generators::are_written;
-use crate::tests::samples::{HEAD, Head, filter, unreachable};
+use crate::tests::samples::{HEAD, Head, filter};
 use acl_packet::Families;
-use acl_platform::{Platform, Rules, count_within_limits};
+use acl_platform::{Rules, count_within_limits};
 use acl_target::{Ending, Kind};
 use gen_cisco::Cisco;
 use std::test::Fail;
@@ -49,15 +49,5 @@ fn writes_one_section_after_another(rt: HostRuntime) -> Result<(), Fail> {
     assert_eq!(rt; count_within_limits(&Cisco, &core), Ok(4));
     let text = format!(in alloc; "{CORE}{RIM}")?;
     assert!(rt; are_written(alloc, &Cisco, &[core, rim], text.as_str())?);
-    Ok(())
-}
-
-#[test]
-fn counts_an_entry_for_each_code(rt: HostRuntime) -> Result<(), Fail> {
-    let alloc = rt.alloc();
-    let mut rules = Rules::new(alloc);
-    rules.push(unreachable(alloc)?)?;
-    let rim = filter(alloc, &RIM_HEAD, rules)?;
-    assert_eq!(rt; Cisco.entry_count(&rim), 2);
     Ok(())
 }

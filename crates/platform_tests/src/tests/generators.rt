@@ -4,9 +4,13 @@ ghost use Rattle.std.specs.Str.{bytes_eq};
 ghost use Rattle.acl_platform.specs.Limits.{filter_limit};
 ghost use Rattle.acl_platform.specs.Platforms.{IsAccepted};
 
-use acl_platform::{Filter, Platform, write_all};
+use crate::tests::samples::unreachable;
+use acl_platform::{Filter, Platform, RuleCount, write_all};
 use acl_rows::{read_document, sections};
 use acl_text::{Memory, Whole};
+use gen_iptables::Iptables;
+use gen_junos::Junos;
+use gen_nftables::Nftables;
 use std::alloc::Global;
 use std::test::Fail;
 
@@ -36,4 +40,14 @@ pub(crate) fn are_written<P: Platform>(
         out.as_slice() == text.as_bytes()
             && sections_of::<P>(alloc, out.as_slice())? == Some(filters.len()),
     )
+}
+
+// The rule, its protocol where that is an element, its type and two codes; in iptables the jump and a rule for each code.
+#[test]
+fn each_code_counts(rt: HostRuntime) -> Result<(), Fail> {
+    let rule = unreachable(rt.alloc())?;
+    assert_eq!(rt; Junos.count_rule(&rule), 5);
+    assert_eq!(rt; Nftables.count_rule(&rule), 4);
+    assert_eq!(rt; Iptables.count_rule(&rule), 3);
+    Ok(())
 }
