@@ -1,0 +1,4 @@
+pub mod AnsweredSlips
+pub mod ApartLaws
+pub mod FilterLaws
+pub mod MeantFilters

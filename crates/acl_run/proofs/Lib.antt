@@ -1,0 +1,5 @@
+pub mod DecidingLaws
+pub mod FaultCounts
+pub mod Rows
+pub mod ToldLaws
+pub mod TriedLines
