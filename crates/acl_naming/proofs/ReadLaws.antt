@@ -1,17 +1,24 @@
 -- Lines and words of a naming file, one after the other.
-use Rattle.std.proofs.Common.{◌≡◌, ℕ, Bool, true, false, ◌||◌, List, [], ◌∷◌, ◌++◌, None, Some, Err, refl, ap, sym, ◌∙◌}
+use Rattle.std.proofs.Common.{◌≡◌, ℕ, Bool, true, false, not, ◌&&◌, ◌||◌, ◌==◌, List, [], ◌∷◌, ◌++◌, None, Some, Err, refl, ap, sym, ◌∙◌}
 use Rattle.std.proofs.Math.Bool.{or-false}
-use Rattle.std.proofs.lemmas.Bool.{cond-true, cond-false, true_from_ne_false, or_right}
+use Rattle.std.proofs.lemmas.Bool.{and_parts, cond-true, cond-false, true_from_ne_false, or_right}
 use Rattle.std.proofs.lemmas.Option.{none-some}
+use Rattle.std.specs.List.{list_all}
+use Rattle.std.specs.Option.{option_map_or}
+use Rattle.acl_text.specs.declared.faults.Code.TheVariants as codes
+use Rattle.acl_text.specs.declared.faults.Place.{Place}
 use Rattle.acl_text.specs.declared.faults.Slip.{Slip}
 use Rattle.acl_text.specs.declared.faults.Refusal.{Refusal}
 use Rattle.acl_text.specs.declared.faults.Refusal.TheVariants as refusals
 use Rattle.acl_text.specs.Answers.{Stops, slip_told}
-use Rattle.acl_text.specs.Cursors.{is_white}
+use Rattle.acl_text.specs.Cursors.{is_white, words_of}
 use Rattle.acl_text.specs.Cuts.{cut_at, has_byte}
-use Rattle.acl_text.proofs.CutLaws.{cut-none, none-cut}
-use Rattle.acl_text.specs.Refusals.{IsRefusalBy}
-use Rattle.acl_naming.specs.NamingFiles.{TableOrSlip, in_front_of, without_end, opens}
+use Rattle.acl_text.proofs.CutLaws.{cut-none, has-not, none-cut}
+use Rattle.acl_text.specs.Refusals.{IsRefusalBy, slip}
+use Rattle.acl_naming.specs.declared.item_words.NamingKind.{NamingKind}
+use Rattle.acl_naming.specs.Definitions.{Definition}
+use Rattle.acl_naming.specs.LineSteps.{is_plain}
+use Rattle.acl_naming.specs.NamingFiles.{TableOrSlip, bad_byte, in_front_of, is_bad, line_added, opens, split_added, trimmed, with_definition, with_items, without_comment, without_end}
 
 -- ---- white space at the end
 
@@ -42,3 +49,32 @@ cut_opens is_open text p e =
 
 pub uncut_opens : (is_open : Bool) (text : List ℕ) → None ≡ cut_at 61 text → is_open ≡ opens is_open text
 uncut_opens is_open text e = sym (or-false is_open) ∙ ap (λ b. is_open || b) (sym (none-cut 61 text (sym e)))
+
+-- ---- plain lines
+
+not_true : (b : Bool) → not b ≡ true → b ≡ false
+not_true true h = sym h
+not_true false h = refl
+
+good_bytes : (line : List ℕ) → list_all is_plain line ≡ true → bad_byte line ≡ None
+good_bytes [] h = refl
+good_bytes (b ∷ bs) h =
+    let p = and_parts (is_plain b) (list_all is_plain bs) h in
+    let q = and_parts (not (is_bad b) && not (b == 35)) (not (b == 61)) p.0 in
+    let good = and_parts (not (is_bad b)) (not (b == 35)) q.0 in
+    cond-false (is_bad b) _ _ (not_true (is_bad b) good.0) ∙ good_bytes bs p.1
+
+-- a plain line is its own text before its comment, and has items alone
+no_comment : (line : List ℕ) → list_all is_plain line ≡ true → without_comment line ≡ line
+no_comment line h = ap (λ o. option_map_or {U = List ℕ} (λ (p : List ℕ × List ℕ). p.0) o line) (cut-none 35 line (has-not is_plain 35 line h refl))
+
+pub plain_added : (kind : NamingKind) (place : Place) (is_open : Bool) (ds : List Definition) (line : List ℕ) → list_all is_plain line ≡ true
+    → line_added kind place is_open ds (without_comment line) ≡ with_items kind place is_open ds (words_of line)
+plain_added kind place is_open ds line h =
+    ap (line_added kind place is_open ds) (no_comment line h)
+    ∙ ap (λ o. option_map_or {U = TableOrSlip} (λ (b : ℕ). Err (slip codes.BadByte place (b ∷ []))) o (split_added kind place is_open ds line)) (good_bytes line h)
+    ∙ ap (λ o. option_map_or {U = TableOrSlip} (λ (p : List ℕ × List ℕ). with_definition kind place ds (trimmed p.0) p.1) o (with_items kind place is_open ds (words_of line))) (cut-none 61 line (has-not is_plain 61 line h refl))
+
+pub plain_opens : (is_open : Bool) (line : List ℕ) → list_all is_plain line ≡ true → opens is_open (without_comment line) ≡ is_open
+plain_opens is_open line h =
+    ap (opens is_open) (no_comment line h) ∙ ap (λ b. is_open || b) (has-not is_plain 61 line h refl) ∙ or-false is_open

@@ -3,6 +3,7 @@ pub mod ComputableReach
 pub mod Definitions
 pub mod GraphSteps
 pub mod ItemWords
+pub mod LineSteps
 pub mod LookupSteps
 pub mod MarkSteps
 pub mod NamingFiles

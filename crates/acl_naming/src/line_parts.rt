@@ -1,4 +1,6 @@
 ghost use Rattle.std.specs.Prelude.{◌≡◌, ◌≤◌};
+ghost use Rattle.std.specs.List.{list_all};
+ghost use Rattle.acl_naming.specs.LineSteps.{is_plain};
 ghost use Rattle.acl_naming.specs.NamingFiles.{bad_byte, is_bad, trimmed, without_comment, without_end};
 
 use acl_text::{is_white, skip_white, split_at_byte};
@@ -16,7 +18,21 @@ pub fn without_comment(line: &[u8]) -> &[u8]
 fn is_bad(byte: u8) -> bool
     ensures { result ≡ is_bad byte }
 {
-    !is_white(byte) && !(33 <= byte && byte <= 126)
+    !(33 <= byte && byte <= 126) && !is_white(byte)
+}
+
+// Whether the byte is a good one, and neither `#` nor `=`.
+fn is_plain(byte: u8) -> bool
+    ensures { result ≡ is_plain byte }
+{
+    !is_bad(byte) && byte != b'#' && byte != b'='
+}
+
+/// Whether the line is plain, as most lines of items are: it has no comment, no `=` and no bad byte.
+pub fn is_plain_line(line: &[u8]) -> bool
+    ensures { result ≡ list_all is_plain line.now }
+{
+    line.iter().all(|byte| is_plain(*byte))
 }
 
 /// The first byte that neither is white space nor prints.

@@ -13,10 +13,11 @@ ghost use Rattle.acl_naming.specs.NamingFiles.{
   most,
   opens,
   split_added,
+  without_comment,
 };
 
 use crate::item_words::{NamingKind, read_item};
-use crate::line_parts::{bad_byte, trimmed, without_comment};
+use crate::line_parts::{bad_byte, is_plain_line, trimmed, without_comment};
 use crate::tables::Table;
 use acl_text::{Code, Cursor, Place, Refusal, is_name, next_word, split_at_byte};
 use std::alloc::Global;
@@ -101,13 +102,12 @@ impl LineReader {
             (with_items self.kind self.place is_open table.old (words_of text.now)) }
         ensures filled { is_open ≡ true → OnOk result (0 < length table.new) }
     {
-        let Some((start, end)) = next_word(text, 0) else {
-            return Ok(());
-        };
         if is_open {
-            self.add_items(table, text)
-        } else {
-            Err(self.refusal(Code::NoDefinition, &text[start..end]))
+            return self.add_items(table, text);
+        }
+        match next_word(text, 0) {
+            Some((start, end)) => Err(self.refusal(Code::NoDefinition, &text[start..end])),
+            None => Ok(()),
         }
     }
 
@@ -144,6 +144,22 @@ impl LineReader {
             None => self.add_split(table, is_open, text),
         }
     }
+
+    // The same of a line that may have a comment.
+    #[tactic(auto, using(crate::proofs::ReadLaws::plain_added, crate::proofs::ReadLaws::plain_opens))]
+    fn add_whole(self, table: &mut Table, is_open: bool, line: &[u8]) -> Result<bool, Refusal>
+        requires { is_open ≡ true → 0 < length table.old }
+        ensures gives { Leaves slip_told table.new result
+            (line_added self.kind self.place is_open table.old (without_comment line.now)) }
+        ensures opened { IfOk result (λ o. o ≡ opens is_open (without_comment line.now)) }
+        ensures filled { IfOk result (λ o. o ≡ true → 0 < length table.new) }
+    {
+        if is_plain_line(line) {
+            self.go_on(table, is_open, line)?;
+            return Ok(is_open);
+        }
+        self.add_line(table, is_open, without_comment(line))
+    }
 }
 
 /// Adds the definitions of the file, or tells its first slip.
@@ -162,7 +178,7 @@ pub fn add_file(
     while let Some(line) = cursor.line() {
         let place = cursor.place();
         let reader = LineReader { alloc, kind, place };
-        is_open = reader.add_line(table, is_open, without_comment(line))?;
+        is_open = reader.add_whole(table, is_open, line)?;
     }
     Ok(())
 }

@@ -1,59 +1,23 @@
 -- The options of some words, and what the words ask for, are the same.
-use Prim.Native.Nat.{zero, suc}
-use Rattle.std.proofs.Common.{◌≡◌, ◌∙◌, ◌<◌, ◌==◌, ℕ, Bool, true, false, List, [], ◌∷◌, length, nat_eq, codes, Option, None, Some, option_and_then, option_map, Result, IfOk, refl, ap, sym, subst, arith}
+use Rattle.std.proofs.Common.{◌≡◌, ◌∙◌, ℕ, Bool, true, false, List, codes, Option, None, Some, option_and_then, option_map, Result, IfOk, refl, ap, sym, subst}
 use Rattle.std.specs.Prelude.{IfSome, IfNone, IsSomeAnd, IsTrue, ◌↔◌}
 use Rattle.std.proofs.lemmas.Slice.Eq.{bytes_eq-Decides}
-use Rattle.std.specs.List.{ends_with}
-use Rattle.std.proofs.lemmas.Bool.{false≢true, ne_eqb}
+use Rattle.std.proofs.lemmas.Bool.{false≢true}
 use Rattle.std.proofs.lemmas.Option.{none-some, option_and_then_some, same_Some}
 use Rattle.std.proofs.lemmas.Result.{IfOk-weaker}
-use Rattle.clap.specs.Words.{Kinds, Row, fault_of, matches_of}
+use Rattle.clap.specs.Words.{Row, matches_of}
 use Rattle.acl_packet.specs.Decimals.{number_in}
-use Rattle.acl_packet.proofs.ChoiceLaws.{guarded, refused}
 use Rattle.acl_packet.proofs.DecimalLaws.{number-in, number-is}
 use Rattle.acl_days.specs.declared.days.Day.{Day}
-use Rattle.acl_days.specs.NamedDays.{day_named}
-use Rattle.acl_options.specs.ComputableOptions.{date_in, date_named, definitions_in, file_named, folder_named, is_none, is_taken, is_true_text, options_in, options_of, output_in, policy_in, shade_check_in, weeks_in}
 use Rattle.acl_options.specs.CodeViews.{options_view}
 use Rattle.acl_options.specs.declared.options.Options.{Options as CodeOptions}
-use Rattle.acl_options.specs.CommandLines.{AsksFor, IsDate, IsFile, IsFlag, IsFolder, IsWeeks, Options, command, value_of}
-use Rattle.acl_options.proofs.NamedDates.{named-text, text-named}
+use Rattle.acl_options.specs.Commands.{IsTakenBy}
+use Rattle.acl_options.specs.CommandLines.{AsksFor, IsFlag, IsWeeks, Options, command, value_of}
+use Rattle.acl_options.specs.ComputableCommands.{date_in, definitions_in, policy_in}
+use Rattle.acl_options.specs.ComputableOptions.{is_true_text, options_in, options_of, output_in, shade_check_in, weeks_in}
+use Rattle.acl_options.proofs.CommandLaws.{date-named, file-in, folder-in, in-file, in-folder, named-date, read-of-taken, taken-and-read}
 
 -- ---- one value
-
-folder-named : (text path : List ℕ) → folder_named text ≡ Some path → (text ≡ path) × IsFolder path
-folder-named text path e =
-    let p = refused (length text == 0) (Some text) path e in
-    let is = same_Some text path p.1 in
-    (is, subst IsFolder is (positive (length text) p.0))
-  where
-    positive : (n : ℕ) → (n == 0) ≡ false → 0 < n
-    positive zero h = absurd cc
-    positive (suc n) h = omega arith
-
-named-folder : (path : List ℕ) → IsFolder path → folder_named path ≡ Some path
-named-folder path f = rw (ne_eqb (length path) 0 (λ z. omega (arith, f, z))) refl
-
-file-named : (text path : List ℕ) → file_named text ≡ Some path → (text ≡ path) × IsFile path
-file-named text path e =
-    let p = refused (ends_with nat_eq text (47 ∷ [])) (folder_named text) path e in
-    let f = folder-named text path p.1 in
-    (f.0, record { nonempty = f.1; no_slash = subst (λ t. ends_with nat_eq t (47 ∷ []) ≡ false) f.0 p.0 })
-
-named-file : (path : List ℕ) → IsFile path → file_named path ≡ Some path
-named-file path f = rw (f.no_slash) (named-folder path f.nonempty)
-
-date-named : (text : Option (List ℕ)) (date : Option Day) → date_named text ≡ Some date → IsDate text date
-date-named None None e = tt
-date-named None (Some day) e = absurd (none-some day (same_Some None (Some day) e))
-date-named (Some text) date e = option_and_then_some _ (day_named text) date e
-    (λ day is some. subst (IsDate (Some text)) (same_Some (Some day) date some) (named-text text day is))
-
-named-date : (text : Option (List ℕ)) (date : Option Day) → IsDate text date → date_named text ≡ Some date
-named-date None None d = refl
-named-date None (Some day) d = absurd d
-named-date (Some text) None d = absurd d
-named-date (Some text) (Some day) d = rw (text-named text day d) refl
 
 weeks-named : (text : Option (List ℕ)) (n : ℕ) → option_and_then (number_in 520) text ≡ Some n → IsSomeAnd text (IsWeeks n)
 weeks-named None n e = absurd (none-some n e)
@@ -79,32 +43,12 @@ same-test false false P p q = refl
 set-flag : (text : Option (List ℕ)) (is_set : Bool) → IsFlag is_set text → is_true_text text ≡ is_set
 set-flag text is_set f = same-test (is_true_text text) is_set (text ≡ Some (codes "true")) (flag-set text) f
 
--- ---- a value among the rows
-
-file-in : (text : Option (List ℕ)) (path : List ℕ) → option_and_then file_named text ≡ Some path → (text ≡ Some path) × IsFile path
-file-in None path e = absurd (none-some path e)
-file-in (Some text) path e = let f = file-named text path e in (ap Some f.0, f.1)
-
-in-file : (text : Option (List ℕ)) (path : List ℕ) → text ≡ Some path → IsFile path → option_and_then file_named text ≡ Some path
-in-file text path e f = ap (option_and_then file_named) e ∙ named-file path f
-
-folder-in : (text : Option (List ℕ)) (path : List ℕ) → option_and_then folder_named text ≡ Some path → (text ≡ Some path) × IsFolder path
-folder-in None path e = absurd (none-some path e)
-folder-in (Some text) path e = let f = folder-named text path e in (ap Some f.0, f.1)
-
-in-folder : (text : Option (List ℕ)) (path : List ℕ) → text ≡ Some path → IsFolder path → option_and_then folder_named text ≡ Some path
-in-folder text path e f = ap (option_and_then folder_named) e ∙ named-folder path f
-
 -- ---- the whole
-
-none-is : (kinds : Kinds) → is_none kinds ≡ true → kinds ≡ []
-none-is [] e = refl
-none-is (k ∷ ks) e = absurd cc
 
 abbrev rows_of_words : List (List ℕ) → List Row
 rows_of_words words = matches_of command words
 
-asked-parts : (words : List (List ℕ)) (policy definitions output : List ℕ) (date : Option Day) (exp_info : ℕ) → is_taken words ≡ true
+asked-parts : (words : List (List ℕ)) (policy definitions output : List ℕ) (date : Option Day) (exp_info : ℕ) → IsTakenBy command words
     → policy_in (rows_of_words words) ≡ Some policy → definitions_in (rows_of_words words) ≡ Some definitions
     → output_in (rows_of_words words) ≡ Some output → date_in (rows_of_words words) ≡ Some date → weeks_in (rows_of_words words) ≡ Some exp_info
     → AsksFor words (record { policy = policy; definitions = definitions; output = output; date = date; exp_info = exp_info; shade_check = shade_check_in (rows_of_words words) })
@@ -113,7 +57,7 @@ asked-parts words policy definitions output date exp_info taken p d o t w =
     let folder = folder-in (value_of words (codes "definitions_directory")) definitions d in
     let target = folder-in (value_of words (codes "output_directory")) output o in
     record {
-      taken = none-is (fault_of command words) taken;
+      taken = taken;
       policy = file.0;
       policy_stands = file.1;
       definitions = folder.0;
@@ -129,7 +73,7 @@ pub asked : (words : List (List ℕ)) (o : Options) → options_of words ≡ Som
 unfolding options_of options_in
 asked words o e =
     let rows = rows_of_words words in
-    let g = guarded (is_taken words) (options_in rows) o e in
+    let g = read-of-taken command options_in words o e in
     option_and_then_some _ (policy_in rows) o g.1 (λ policy p e1.
     option_and_then_some _ (definitions_in rows) o e1 (λ definitions d e2.
     option_and_then_some _ (output_in rows) o e2 (λ output f e3.
@@ -140,8 +84,7 @@ asked words o e =
 pub answered : (words : List (List ℕ)) (o : Options) → AsksFor words o → options_of words ≡ Some o
 unfolding options_of options_in
 answered words o a =
-    rw (
-      ap is_none a.taken,
+    taken-and-read command options_in words a.taken ∙ rw (
       in-file (value_of words (codes "policy_file")) o.policy a.policy a.policy_stands,
       in-folder (value_of words (codes "definitions_directory")) o.definitions a.definitions a.definitions_stands,
       in-folder (value_of words (codes "output_directory")) o.output a.output a.output_stands,

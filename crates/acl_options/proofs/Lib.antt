@@ -1,4 +1,7 @@
 mod AskingLaws
+mod CheckLaws
+mod CommandLaws
 mod CommandLineLaws
 mod NamedDates
+mod ToolLaws
 mod WorkloadLaws

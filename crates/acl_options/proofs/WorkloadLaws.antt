@@ -34,7 +34,7 @@ number-asked (name ∷ []) n e = absurd (none-some n e)
 number-asked (name ∷ text ∷ []) n e = with-name name text n e
 number-asked (name ∷ text ∷ more ∷ rest) n e = absurd (none-some n e)
 
-counted : (text : List ℕ) (n : ℕ) → number_in 1024 text ≡ Some n → 1 ≤ n → count_in text ≡ Some n
+pub counted : (text : List ℕ) (n : ℕ) → number_in 1024 text ≡ Some n → 1 ≤ n → count_in text ≡ Some n
 counted text n e h = ap (option_and_then not_zero) e ∙ rw (ne_eqb n 0 (λ z. omega (arith, h, z))) refl
 
 pub asked-number : (words : List (List ℕ)) (n : ℕ) → IsWorkload words n → workload_of words ≡ Some n

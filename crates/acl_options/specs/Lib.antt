@@ -1,4 +1,10 @@
+pub mod CheckCommands
+pub mod ComputableChecks
 pub mod CodeViews
 pub mod CommandLines
+pub mod Commands
+pub mod ComputableCommands
 pub mod ComputableOptions
+pub mod ComputableTools
+pub mod ToolCommands
 pub mod WorkloadWords

@@ -1,29 +1,25 @@
-ghost use Rattle.std.specs.Prelude.{◌≡◌, ◌↔◌, IfNone, IfOk, IfSome, IsTrue, map};
+ghost use Rattle.std.specs.Prelude.{◌≡◌, IfNone, IfOk, IfSome, map};
 ghost use Rattle.std.specs.Option.{option_map};
 ghost use Rattle.std.specs.String.{string_bytes};
-ghost use Rattle.clap.specs.Words.{first_of, found_of, kind_of, rows_of};
-ghost use Rattle.acl_options.specs.CommandLines.{AsksFor, Options as AskedOptions};
+ghost use Rattle.clap.specs.Words.{app_of, found_of, rows_of};
+ghost use Rattle.acl_options.specs.CommandLines.{AsksFor, Options as AskedOptions, command};
 ghost use Rattle.acl_options.specs.ComputableOptions.{
-  date_in,
-  definitions_in,
-  file_named,
-  folder_named,
   options_in,
   options_of,
   output_in,
-  policy_in,
   shade_check_in,
   weeks_in,
 };
-ghost use Rattle.acl_days.specs.NamedDays.{day_named};
 ghost use Rattle.acl_options.specs.CodeViews.{options_view};
 
-use crate::command::command;
-use acl_days::{Day, read_day};
+use crate::commands::{
+    defaulted_option, find_matches, flag_option, inputs_command, required_option, with_option,
+};
+use crate::inputs::{date_in, definitions_in, folder_named, policy_in, value_of};
+use acl_days::Day;
 use acl_text::{Memory, read_u16};
-use clap::error::ErrorKind;
-use clap::{ArgMatches, Error};
-use std::alloc::Global;
+use clap::{ArgMatches, Command};
+use std::alloc::{AllocError, Global};
 
 /// What the words of a command line ask for.
 #[derive(Clone, Copy, Debug)]
@@ -42,60 +38,20 @@ pub struct Options<'a> {
     pub shade_check: bool,
 }
 
-// The value of an option.
-fn value_of<'a>(matches: &ArgMatches<'a>, name: &str) -> Option<&'a str>
-    ensures { option_map (λ s. s.now) result ≡ first_of name.now (rows_of (found_of matches.now)) }
+// The command line of aclgen.
+fn command<'a>(alloc: Global) -> Result<Command<'a>, AllocError>
+    ensures { IfOk result (λ c. app_of c ≡ command) }
 {
-    matches.get_str(name)
-}
-
-fn folder_named(text: &str) -> Option<&str>
-    ensures { option_map (λ s. s.now) result ≡ folder_named text.now }
-{
-    if text.is_empty() { None } else { Some(text) }
-}
-
-fn file_named(text: &str) -> Option<&str>
-    ensures { option_map (λ s. s.now) result ≡ file_named text.now }
-{
-    if text.as_bytes().ends_with(b"/") {
-        None
-    } else {
-        folder_named(text)
-    }
-}
-
-fn day_named(text: &str) -> Option<Day>
-    ensures { result ≡ day_named text.now }
-{
-    read_day(text.as_bytes())
-}
-
-fn policy_in<'a>(matches: &ArgMatches<'a>) -> Option<&'a str>
-    ensures { option_map (λ s. s.now) result ≡ policy_in (rows_of (found_of matches.now)) }
-{
-    file_named(value_of(matches, "policy_file")?)
-}
-
-fn definitions_in<'a>(matches: &ArgMatches<'a>) -> Option<&'a str>
-    ensures { option_map (λ s. s.now) result ≡ definitions_in (rows_of (found_of matches.now)) }
-{
-    folder_named(value_of(matches, "definitions_directory")?)
+    let command = inputs_command(alloc, "aclgen")?;
+    let command = with_option(command, required_option(alloc, "output_directory"))?;
+    let command = with_option(command, defaulted_option(alloc, "exp_info", "2"))?;
+    with_option(command, flag_option(alloc, "shade_check"))
 }
 
 fn output_in<'a>(matches: &ArgMatches<'a>) -> Option<&'a str>
     ensures { option_map (λ s. s.now) result ≡ output_in (rows_of (found_of matches.now)) }
 {
     folder_named(value_of(matches, "output_directory")?)
-}
-
-fn date_in(matches: &ArgMatches<'_>) -> Option<Option<Day>>
-    ensures { result ≡ date_in (rows_of (found_of matches.now)) }
-{
-    match value_of(matches, "date") {
-        Some(text) => Some(Some(day_named(text)?)),
-        None => Some(None),
-    }
 }
 
 fn weeks_in(matches: &ArgMatches<'_>) -> Option<u16>
@@ -127,22 +83,13 @@ fn options_in<'a>(matches: &ArgMatches<'a>) -> Option<Options<'a>>
     })
 }
 
-// Whether clap gave up for want of memory.
-fn is_for_memory(error: &Error) -> bool
-    ensures { IsTrue result ↔ (kind_of error.now ≡ ErrorKind.OutOfMemory) }
-{
-    matches!(error.kind(), ErrorKind::OutOfMemory)
-}
-
 fn options_for(alloc: Global, words: &[String]) -> Result<Option<Options<'_>>, Memory>
     ensures { IfOk result (λ options.
         option_map options_view options ≡ options_of (map string_bytes words.now)) }
 {
-    let command = command(alloc)?;
-    match command.try_get_matches_from(words) {
-        Ok(matches) => Ok(options_in(&matches)),
-        Err(error) if is_for_memory(&error) => Err(Memory),
-        Err(_) => Ok(None),
+    match find_matches(command(alloc)?, words)? {
+        Some(matches) => Ok(options_in(&matches)),
+        None => Ok(None),
     }
 }
 

@@ -4,7 +4,7 @@ ghost use Rattle.acl_options.specs.WorkloadWords.{IsWorkload, count_in, workload
 
 use acl_text::read_u16;
 
-fn count_in(text: &str) -> Option<u32>
+pub fn count_in(text: &str) -> Option<u32>
     ensures { result ≡ count_in text.now }
 {
     let count = read_u16(text.as_bytes(), 1024)?;

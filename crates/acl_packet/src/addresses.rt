@@ -130,7 +130,7 @@ impl Prefix {
         if free == 128 {
             u128::MAX
         } else {
-            self.first + (2u128.pow(u32::from(free)) - 1)
+            self.first + ((1u128 << free) - 1)
         }
     }
 }

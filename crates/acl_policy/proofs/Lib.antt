@@ -3,6 +3,7 @@ pub mod ClausesInParts
 pub mod JudgingLaws
 pub mod KeywordLaws
 pub mod NameLaws
+mod NameSlotLaws
 pub mod Outcomes
 pub mod PolicyFit
 pub mod SlipPlaces

@@ -1,6 +1,7 @@
 pub mod Conditions
 pub mod JudgingSteps
 pub mod Keywords
+pub mod NameSlotSteps
 pub mod Policies
 pub mod PolicyPlaces
 pub mod ReadingParts

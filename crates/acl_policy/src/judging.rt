@@ -1,6 +1,4 @@
 ghost use Rattle.std.specs.Prelude.{◌≡◌, ◌+◌, ◌<◌, OnOk};
-ghost use Rattle.std.specs.List.{list_any};
-ghost use Rattle.std.specs.Str.{bytes_eq};
 ghost use Rattle.acl_text.specs.Answers.{Leaves, slip_told};
 ghost use Rattle.acl_policy.specs.Policies.{
   behind_target,
@@ -21,7 +19,6 @@ use crate::choices::is_word;
 use crate::clashes::{clashes, count_of};
 use crate::clauses::Clause;
 use crate::copies::copy_target;
-use crate::raw_terms::RawTerm;
 use crate::states::{Part, PolicyState};
 use crate::target_lines::{NamedTarget, read_target_line};
 use crate::term_drafts::{TermDraft, draft_of, no_draft};
@@ -81,18 +78,6 @@ fn judge_header_keyword(
     }
 }
 
-fn is_term_name(terms: &[RawTerm], name: &Token<'_>) -> bool
-    ensures { result ≡ list_any (λ t. bytes_eq t.name.text name.now.text) terms.now }
-{
-    terms.iter().any(|t| is_name_of(t, name))
-}
-
-fn is_name_of(term: &RawTerm, name: &Token<'_>) -> bool
-    ensures { result ≡ bytes_eq term.now.name.text name.now.text }
-{
-    term.name.text.as_slice() == name.text()
-}
-
 fn begin_term(state: &mut PolicyState, draft: TermDraft)
     requires { state.old.term_count < 1024 }
     ensures { state.new ≡ record state.old {
@@ -113,7 +98,7 @@ fn judge_name(alloc: Global, state: &mut PolicyState, word: &Token<'_>) -> Resul
     if !is_value(Takes::Name, word) {
         return Err(refusal_for(alloc, Code::Syntax, word));
     }
-    if is_term_name(state.terms.as_slice(), word) {
+    if state.terms.have_name(word.text()) {
         return Err(refusal_at(alloc, Code::TermTwice, word));
     }
     if state.term_count >= MOST_TERMS {
@@ -128,7 +113,7 @@ pub(crate) fn end_block(alloc: Global, state: &mut PolicyState) -> Result<(), Me
     ensures { OnOk result (state.new ≡ with_block state.old) }
 {
     let targets = mem::replace(&mut state.targets, Items::new(alloc));
-    let terms = mem::replace(&mut state.terms, Items::new(alloc));
+    let terms = state.terms.take(alloc);
     state.blocks.push(Block { targets, terms })
 }
 

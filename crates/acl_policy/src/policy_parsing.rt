@@ -13,6 +13,7 @@ ghost use Rattle.acl_policy.specs.Slips.{start_place};
 
 use crate::blocks::Policy;
 use crate::judging::end_block;
+use crate::named_terms::NamedTerms;
 use crate::states::{Part, PolicyState};
 use crate::term_drafts::no_draft;
 use crate::word_judges::Judge;
@@ -29,7 +30,7 @@ fn start(alloc: Global) -> PolicyState
         blocks: Items::new(alloc),
         earlier: Items::new(alloc),
         targets: Items::new(alloc),
-        terms: Items::new(alloc),
+        terms: NamedTerms::new(alloc),
         term_count: 0,
         part: Part::Start,
         draft: no_draft(alloc),

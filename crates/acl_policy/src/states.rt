@@ -1,5 +1,5 @@
 use crate::blocks::Blocks;
-use crate::raw_terms::RawTerms;
+use crate::named_terms::NamedTerms;
 use crate::term_drafts::TermDraft;
 use acl_target::Targets;
 
@@ -31,7 +31,7 @@ pub(crate) struct PolicyState {
     pub(crate) earlier: Targets,
     /// The targets and the terms of the block.
     pub(crate) targets: Targets,
-    pub(crate) terms: RawTerms,
+    pub(crate) terms: NamedTerms,
     /// How many terms of the policy have begun.
     pub(crate) term_count: usize,
     pub(crate) part: Part,

@@ -11,6 +11,7 @@ mod family_words;
 mod item_lists;
 mod languages;
 mod laws;
+mod line_texts;
 mod named;
 mod pieces;
 mod port_ranges;

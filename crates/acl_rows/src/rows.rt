@@ -2,6 +2,7 @@ ghost use Rattle.std.specs.Prelude.{◌≡◌, [], ◌∷◌, ◌++◌, List, Is
 ghost use Rattle.acl_text.specs.Puts.{Puts};
 ghost use Rattle.acl_rows.specs.Rows.{Row as LineRow, row, row_text, text_of_rows};
 
+use crate::line_texts::LineText;
 use crate::pieces::{Piece, Words};
 use acl_text::{Out, PutFault};
 
@@ -18,11 +19,24 @@ impl<P: Piece, W: Words> Piece for Row<P, W> {
     ghost text = { λ r. row_text (row r.indent (P.text r.first ∷ W.words r.rest)) };
 
     fn put_into<O: Out>(&self, out: &mut O) -> Result<(), PutFault> {
-        put_spaces(self.indent, out)?;
-        self.first.put_into(out)?;
-        self.rest.put_spaced(out)?;
-        out.put(b"\n")
+        let mut text = LineText::new();
+        match put_parts(self, &mut text) {
+            Ok(()) => out.put(text.as_slice()),
+            // a longer line is put part by part
+            Err(_) => put_parts(self, out),
+        }
     }
+}
+
+fn put_parts<P: Piece, W: Words, O: Out>(line: &Row<P, W>, out: &mut O) -> Result<(), PutFault>
+    requires { IsTrue (O.is_open out.old) }
+    ensures { Puts O.Out out.old out.new
+        (row_text (row line.now.indent (P.text line.now.first ∷ W.words line.now.rest))) result }
+{
+    put_spaces(line.indent, out)?;
+    line.first.put_into(out)?;
+    line.rest.put_spaced(out)?;
+    out.put(b"\n")
 }
 
 const SPACES: [u8; 32] = [b' '; 32];

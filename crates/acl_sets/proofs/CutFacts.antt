@@ -1,8 +1,9 @@
 -- The steps of cutting ranges from their low ends: the search for the longest block, and the blocks
 -- that are pushed.
-use Rattle.std.proofs.Common.{◌≡◌, ℕ, ◌+◌, ◌-◌, ◌*◌, ◌/◌, ◌%◌, ◌^◌, ◌<◌, ◌≤◌, List, [], ◌∷◌, ◌++◌, inl, inr, refl, ap, sym, subst, ◌∙◌, arith, append_assoc, append-nil, length, slice_index_or}
-use Rattle.std.proofs.Math.Nat.{pow-le-pow_right, eq_of_mul-eq-mul_right}
-use Rattle.std.proofs.lemmas.Nat.{pow_pos, pow_below, div-add-mod'}
+use Rattle.std.proofs.Common.{◌≡◌, ℕ, zero, suc, min, eq-zero-or-pos, ◌+◌, ◌-◌, ◌*◌, ◌/◌, ◌%◌, ◌^◌, ◌<◌, ◌≤◌, List, [], ◌∷◌, ◌++◌, inl, inr, refl, ap, sym, subst, ◌∙◌, arith, append_assoc, append-nil, length, slice_index_or}
+use Rattle.std.proofs.Math.Nat.{pow-le-pow_right, two-pow-succ}
+use lib.Count.{count_trailing_zeros, trailing_of_zero, under}
+use Rattle.std.proofs.lemmas.Nat.{pow_pos, pow_below}
 use Rattle.std.proofs.lemmas.Bool.{cases_lt}
 use Rattle.acl_packet.specs.declared.addresses.Family.{Family}
 use Rattle.acl_packet.specs.declared.addresses.Prefix.{Prefix}
@@ -17,58 +18,67 @@ use Rattle.acl_sets.proofs.Powers.{Aligned, shorter_aligned, power_doubles}
 
 -- The search for the longest block
 
-pub record Growing (first last free behind multiple : ℕ) : Type 0 where
-  pub whole : multiple * 2 ^ free ≡ first
-  pub size : behind + 1 ≡ 2 ^ free
-  pub ends : first + behind ≤ last
-
 pub power-bound : (k n m : ℕ) → 2 ^ k ≤ n → n ≤ 2 ^ m → k ≤ m
 power-bound k n m h l = elim (cases_lt m k) [
   | inl s ↦ absurd (omega (arith, h, l, pow_below m k s))
   | inr s ↦ s
 ]
 
-pub grown : (first last free behind multiple : ℕ) → Growing first last free behind multiple
-    → multiple % 2 ≡ 0 → behind < last - first - behind
-    → Growing first last (free + 1) (behind + (behind + 1)) (multiple / 2)
-grown first last free behind multiple g e l =
-    let half = multiple / 2 in
-    let even : half * 2 ≡ multiple = omega (arith, div-add-mod' multiple 2, e) in
-    let power : 2 ^ (free + 1) ≡ 2 ^ free + 2 ^ free = power_doubles free in
-    let times : half * 2 ^ (free + 1) ≡ half * (2 ^ free + 2 ^ free) = ap (λ z. half * z) power in
-    let same : (half * 2) * 2 ^ free ≡ multiple * 2 ^ free = ap (λ z. z * 2 ^ free) even in
+doubled : (k m n : ℕ) → n ≡ m + m → Aligned k m → Aligned (suc k) n
+doubled k m n e h =
+    let power : h.0 * 2 ^ suc k ≡ h.0 * (2 ^ k + 2 ^ k) = ap (λ z. h.0 * z) (two-pow-succ k) in
+    (h.0, omega (arith, e, h.1, power))
+
+-- a number is a multiple of the power of its trailing zeros, and of no larger one
+zeros_divide : (k n : ℕ) → Aligned (count_trailing_zeros k n) n
+unfolding count_trailing_zeros
+zeros_divide zero n = (n, omega arith)
+zeros_divide (suc k) n = by_digit (zeros_divide k (n / 2)) (n % 2) refl where
+  by_digit : Aligned (count_trailing_zeros k (n / 2)) (n / 2) → (d : ℕ) → n % 2 ≡ d → Aligned (under d (count_trailing_zeros k (n / 2))) n
+  by_digit half zero e = doubled (count_trailing_zeros k (n / 2)) (n / 2) n (omega (arith, e)) half
+  by_digit half (suc d) e = (n, omega arith)
+
+zeros_most : (k n other : ℕ) → 0 < n → n < 2 ^ k → Aligned other n → other ≤ count_trailing_zeros k n
+unfolding count_trailing_zeros
+zeros_most zero n other some few h = absurd (omega (arith, some, few))
+zeros_most (suc k) n zero some few h = omega arith
+zeros_most (suc k) n (suc o) some few h = by_digit (zeros_most k (n / 2) o) (n % 2) refl where
+  power : h.0 * 2 ^ suc o ≡ h.0 * (2 ^ o + 2 ^ o)
+  power = ap (λ z. h.0 * z) (two-pow-succ o)
+
+  half : n / 2 ≡ h.0 * 2 ^ o
+  half = omega (arith, h.1, power)
+
+  by_digit : (0 < n / 2 → n / 2 < 2 ^ k → Aligned o (n / 2) → o ≤ count_trailing_zeros k (n / 2))
+      → (d : ℕ) → n % 2 ≡ d → suc o ≤ under d (count_trailing_zeros k (n / 2))
+  by_digit most zero e = let rest = most (omega (arith, some, e)) (omega (arith, few, two-pow-succ k)) (h.0, half) in omega (arith, rest)
+  by_digit most (suc d) e = absurd (omega (arith, e, h.1, power))
+
+pub longest : (first last most free : ℕ) → first ≤ last → first < 2 ^ 128 → 2 ^ most ≤ last - first + 1
+    → last - first + 1 < 2 * 2 ^ most → most ≤ 128 → free ≡ min (count_trailing_zeros 128 first) most → IsLongest first last free
+longest first last most free l small fits more few is =
+    let zeros = count_trailing_zeros 128 first in
+    let within : free ≤ most = omega (arith, is) in
+    let power = pow-le-pow_right {n = 2} (omega arith) {i = free} {j = most} within in
     record {
-      whole = omega (arith, times, same, g.whole);
-      size = omega (arith, power, g.size);
-      ends = omega (arith, l, g.ends);
+      fits = (shorter_aligned free zeros first (omega (arith, is)) (zeros_divide 128 first), omega (arith, l, fits, power));
+      longest = λ other o.
+          let by_size = size other (omega (arith, l, o.1)) in
+          let by_place = place other o.0 by_size in
+          omega (arith, is, by_size, by_place);
     }
+  where
+    size : (other : ℕ) → 2 ^ other ≤ last - first + 1 → other ≤ most
+    size other h = elim (cases_lt most other) [
+      | inl s ↦ absurd (omega (arith, h, more, power_doubles most, pow-le-pow_right {n = 2} (omega arith) {i = most + 1} {j = other} (omega (arith, s))))
+      | inr s ↦ s
+    ]
 
--- no larger block fits where the next one does not
-pub longest : (first last free behind multiple : ℕ) → Growing first last free behind multiple
-    → (multiple % 2 ≡ 0 → last - first - behind ≤ behind) → IsLongest first last free
-longest first last free behind multiple g h = record {
-  fits = ((multiple, sym g.whole), omega (arith, g.size, g.ends));
-  longest = λ other o. elim (cases_lt free other) [
-    | inl l ↦
-        let next : Aligned (free + 1) first = shorter_aligned (free + 1) other first (omega arith) o.0 in
-        let power : 2 ^ (free + 1) ≡ 2 ^ free + 2 ^ free = power_doubles free in
-        let times : next.0 * 2 ^ (free + 1) ≡ next.0 * (2 ^ free + 2 ^ free) = ap (λ z. next.0 * z) power in
-        let same : multiple * 2 ^ free ≡ (next.0 + next.0) * 2 ^ free =
-        omega (arith, g.whole, next.1, times) in
-        let even : multiple ≡ next.0 + next.0 =
-        eq_of_mul-eq-mul_right (2 ^ free) (pow_pos free) multiple (next.0 + next.0) same in
-        let larger : 2 ^ (free + 1) ≤ 2 ^ other =
-        pow-le-pow_right {n = 2} (omega arith) {i = free + 1} {j = other} (omega arith) in
-        absurd (omega (arith, h (omega (arith, even)), larger, power, o.1, g.size, g.ends))
-    | inr l ↦ l
-  ];
-}
-
-pub free-bound : (first last free behind multiple : ℕ) → Growing first last free behind multiple
-    → behind < last - first - behind → last < 2 ^ 128 → free + 1 ≤ 128
-free-bound first last free behind multiple g l m =
-    power-bound (free + 1) (behind + behind + 2) 128 (omega (arith, power_doubles free, g.size))
-    (omega arith)
+    place : (other : ℕ) → Aligned other first → other ≤ most → other ≤ count_trailing_zeros 128 first
+    place other h below = elim (eq-zero-or-pos first) [
+      | inl z ↦ let all = ap (count_trailing_zeros 128) z ∙ trailing_of_zero 128 in omega (arith, all, below, few)
+      | inr some ↦ zeros_most 128 first other some small h
+    ]
 
 -- The blocks of a range
 

@@ -1,4 +1,4 @@
-ghost use Rattle.std.specs.Prelude.{◌≡◌, ◌+◌, ◌-◌, ◌^◌, ◌<◌, ◌≤◌, IfOk, OnOk};
+ghost use Rattle.std.specs.Prelude.{◌≡◌, ◌+◌, ◌-◌, ◌*◌, ◌^◌, ◌<◌, ◌≤◌, IfOk, OnOk};
 ghost use Rattle.acl_packet.specs.Addresses.{width_of};
 ghost use Rattle.acl_sets.specs.Ranges.{IsNormal};
 ghost use Rattle.acl_sets.specs.CutSteps.{IsLongest, GoesOn, CutsAll};
@@ -21,18 +21,35 @@ fn longest_block(first: u128, last: u128) -> FreeBlock
     ensures longest { IsLongest first last result.free }
     ensures last { result.last + 1 ≡ first + 2 ^ result.free }
 {
-    let span = last - first;
-    let mut free = 0;
-    let mut behind = 0;
-    let mut multiple = first;
-    while multiple % 2 == 0 && behind < span - behind {
-        free += 1;
-        behind += behind + 1;
-        multiple /= 2;
-    }
+    let free = first.trailing_zeros().min(most_free(last - first));
     FreeBlock {
-        free,
-        last: first + behind,
+        free: free as u8,
+        last: first + below_power(free),
+    }
+}
+
+// How many bits are free in the largest block that has at most `span + 1` numbers.
+fn most_free(span: u128) -> u32
+    ensures fits { 2 ^ result ≤ span + 1 }
+    ensures most { span + 1 < 2 * 2 ^ result }
+    ensures bound { result ≤ 128 }
+{
+    if span == u128::MAX {
+        128
+    } else {
+        (span + 1).ilog2()
+    }
+}
+
+// The largest number of so many bits.
+fn below_power(bits: u32) -> u128
+    requires { bits ≤ 128 }
+    ensures { result + 1 ≡ 2 ^ bits }
+{
+    if bits == 128 {
+        u128::MAX
+    } else {
+        (1 << bits) - 1
     }
 }
 

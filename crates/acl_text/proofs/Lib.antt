@@ -11,6 +11,7 @@ pub mod GroupSteps
 pub mod Groups
 pub mod ListLaws
 pub mod NoteLaws
+mod OctetTable
 pub mod OptionStepLaws
 pub mod PortLaws
 pub mod Printed

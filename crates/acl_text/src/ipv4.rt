@@ -23,43 +23,12 @@ pub(crate) fn read_ipv4(text: &[u8]) -> Option<u128>
 }
 
 pub(crate) fn push_byte(text: &mut ShortText, n: u128)
-    requires room { length text.old + 3 ≤ 64 }
+    requires room { length text.old + 4 ≤ 64 }
     requires small { n < 256 }
     ensures items { text.new ≡ text.old ++ decimal n }
     ensures len { length text.new ≤ length text.old + 3 }
 {
-    push_octet(text, n as u8);
-}
-
-// Adds a number of three digits at most.
-#[tactic(auto, using(std::proofs::lemmas::Fmt::decimal_digit, std::proofs::lemmas::Fmt::decimal_step))]
-fn push_octet(text: &mut ShortText, n: u8)
-    requires room { length text.old + 3 ≤ 64 }
-    ensures items { text.new ≡ text.old ++ decimal n }
-    ensures len { length text.new ≤ length text.old + 3 }
-{
-    if n < 10 {
-        text.push(b'0' + n);
-    } else {
-        push_tens(text, n / 10);
-        text.push(b'0' + n % 10);
-    }
-}
-
-// Adds a number of two digits at most.
-#[tactic(auto, using(std::proofs::lemmas::Fmt::decimal_digit, std::proofs::lemmas::Fmt::decimal_step))]
-fn push_tens(text: &mut ShortText, n: u8)
-    requires room { length text.old + 2 ≤ 64 }
-    requires small { n < 100 }
-    ensures items { text.new ≡ text.old ++ decimal n }
-    ensures len { length text.new ≤ length text.old + 2 }
-{
-    if n < 10 {
-        text.push(b'0' + n);
-    } else {
-        text.push(b'0' + n / 10);
-        text.push(b'0' + n % 10);
-    }
+    text.push_octet(n as u8);
 }
 
 // The first number of an address, which is any of 104 bits where the address is no IPv4 one.
@@ -73,27 +42,39 @@ fn push_first(text: &mut ShortText, n: u128)
     text.push_all(buffer.format(n).as_bytes());
 }
 
-fn push_front(text: &mut ShortText, n: u128)
-    requires room { length text.old + 32 ≤ 64 }
-    requires small { n < 2 ^ 104 }
-    ensures items { text.new ≡ text.old ++ decimal n }
-    ensures len { length text.new ≤ length text.old + 32 }
-{
-    if n < 256 {
-        push_byte(text, n);
-    } else {
-        push_first(text, n);
-    }
-}
-
 /// Adds the text of the address.
-#[tactic(auto, unfolding(crate::specs::Ipv4::ipv4_text))]
 pub(crate) fn push_ipv4(text: &mut ShortText, address: u128)
-    requires { length text.old + 44 ≤ 64 }
+    requires { length text.old + 45 ≤ 64 }
     ensures items { text.new ≡ text.old ++ ipv4_text address }
     ensures len { length text.new ≤ length text.old + 44 }
 {
-    push_front(text, address >> 24);
+    if address < 4_294_967_296 {
+        push_small(text, address as u32);
+    } else {
+        push_wide(text, address);
+    }
+}
+
+#[tactic(auto, unfolding(crate::specs::Ipv4::ipv4_text))]
+fn push_small(text: &mut ShortText, address: u32)
+    requires { length text.old + 16 ≤ 64 }
+    ensures items { text.new ≡ text.old ++ ipv4_text address }
+    ensures len { length text.new ≤ length text.old + 15 }
+{
+    text.push_pointed((address >> 24) as u8);
+    text.push_pointed(((address >> 16) % 256) as u8);
+    text.push_pointed(((address >> 8) % 256) as u8);
+    text.push_octet((address % 256) as u8);
+}
+
+#[cold]
+#[tactic(auto, unfolding(crate::specs::Ipv4::ipv4_text))]
+fn push_wide(text: &mut ShortText, address: u128)
+    requires { length text.old + 45 ≤ 64 }
+    ensures items { text.new ≡ text.old ++ ipv4_text address }
+    ensures len { length text.new ≤ length text.old + 44 }
+{
+    push_first(text, address >> 24);
     text.push(b'.');
     push_byte(text, (address >> 16) % 256);
     text.push(b'.');

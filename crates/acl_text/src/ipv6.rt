@@ -57,7 +57,7 @@ fn join_sides(front_left: u8, front: u128, back_left: u8, back: u128) -> u128
     if front_left == 8 {
         back
     } else {
-        front * 65536u128.pow(u32::from(front_left)) + back
+        (front << (16 * front_left)) + back
     }
 }
 

@@ -13,6 +13,7 @@ mod items;
 mod laws;
 mod names;
 mod notes;
+mod octets;
 mod output;
 mod pieces;
 mod port_ranges;

@@ -70,8 +70,7 @@ fn block_of(family: Family, value: u128, len: u8) -> Prefix
     let first = if free == 128 {
         0
     } else {
-        let size = 2u128.pow(u32::from(free));
-        value / size * size
+        (value >> free) << free
     };
     Prefix { family, first, len }
 }
@@ -118,7 +117,7 @@ fn is_address_text(family: Family, address: u128, word: &[u8]) -> bool
 }
 
 fn push_address(text: &mut ShortText, family: Family, address: u128)
-    requires { length text.old + 44 ≤ 64 }
+    requires { length text.old + 45 ≤ 64 }
     ensures items { text.new ≡ text.old ++ address_text family address }
     ensures len { length text.new ≤ length text.old + 44 }
 {
@@ -205,5 +204,5 @@ pub fn put_wildcard<O: Out>(out: &mut O, len: u8) -> Result<(), PutFault>
 fn bits_behind(len: u8) -> u128
     ensures { result ≡ 2 ^ (32 - len) - 1 }
 {
-    2u128.pow(u32::from(32u8.saturating_sub(len))) - 1
+    (1u128 << 32u8.saturating_sub(len)) - 1
 }

@@ -1,5 +1,6 @@
-ghost use Rattle.std.specs.Prelude.{◌≡◌, List, ℕ, [], ◌∷◌, ◌++◌, ◌+◌, ◌<◌, ◌≤◌, take, length};
+ghost use Rattle.std.specs.Prelude.{◌≡◌, List, ℕ, [], ◌∷◌, ◌++◌, ◌+◌, ◌<◌, ◌≤◌, take, length, decimal};
 
+use crate::octets::{octet_bytes, octet_digits};
 use std::marker::Model;
 
 /// A text of at most 64 bytes that takes no memory. A contract sees the list of its bytes.
@@ -50,5 +51,25 @@ impl ShortText {
         let end = self.end + bytes.len();
         self.bytes[self.end..end].copy_from_slice(bytes);
         self.end = end;
+    }
+
+    /// Adds the number in decimal.
+    pub(crate) fn push_octet(&mut self, n: u8)
+        requires { length self.old + 4 ≤ 64 }
+        ensures items { self.new ≡ self.old ++ decimal n }
+        ensures len { length self.new ≤ length self.old + 3 }
+    {
+        self.bytes[self.end..self.end + 4].copy_from_slice(octet_bytes(n));
+        self.end += octet_digits(n);
+    }
+
+    /// Adds the number in decimal, and a point.
+    pub(crate) fn push_pointed(&mut self, n: u8)
+        requires { length self.old + 4 ≤ 64 }
+        ensures items { self.new ≡ self.old ++ (decimal n ++ 46 ∷ []) }
+        ensures len { length self.new ≤ length self.old + 4 }
+    {
+        self.bytes[self.end..self.end + 4].copy_from_slice(octet_bytes(n));
+        self.end += octet_digits(n) + 1;
     }
 }

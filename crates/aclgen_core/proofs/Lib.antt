@@ -1,13 +1,4 @@
-pub mod ReportedFiles
-pub mod AnsweredFaults
 pub mod FaultCounts
-pub mod FileListLaws
-pub mod OneAnswer
-pub mod PlannedTextsLaws
-pub mod PlanningLaws
-pub mod PreparingLaws
-pub mod RemovalLaws
+pub mod ReportedFiles
 pub mod Rows
 pub mod SureLaws
-pub mod Telling
-pub mod WorkloadLaws

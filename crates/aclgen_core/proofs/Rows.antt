@@ -1,6 +1,5 @@
--- The rows of the endings, from what deciding and acting give.
-use Rattle.std.proofs.Common.{◌≡◌, ◌⊎◌, ℕ, ℤ, inl, inr, Bool, true, false, List, [], ◌∷◌, map, Option, None, Some, Result, Ok, Err, IfSome, IsSome, IsSomeAnd, refl, sym, subst, ◌∙◌, le_refl, arith}
-use Rattle.std.proofs.lemmas.Bool.{false≢true}
+-- The rows of the endings of aclgen, from what deciding and acting give.
+use Rattle.std.proofs.Common.{◌≡◌, ◌⊎◌, ℕ, inl, inr, List, [], ◌∷◌, map, Option, None, Some, Result, Ok, Err, IfNone, IfSome, IsSomeAnd, refl, sym, subst, ◌∙◌}
 use Rattle.std.specs.List.{AllByRecursion}
 use Rattle.acl_text.specs.declared.faults.Fault.{Fault}
 use Rattle.acl_text.specs.Output.{Rose}
@@ -11,113 +10,44 @@ use Rattle.acl_naming.specs.Definitions.{Naming}
 use Rattle.acl_render.specs.PlatformFiles.{sections_on}
 use Rattle.acl_options.specs.CommandLines.{Options}
 use Rattle.acl_options.specs.ComputableOptions.{asks_clock, options_of}
-use Rattle.aclgen_core.specs.AskedFilters.{PlanFile}
-use Rattle.aclgen_core.specs.FaultLines.{outside_line, usage_line}
-use Rattle.aclgen_core.specs.FileLists.{HoldsAll, HoldsTexts, Interrupted}
-use Rattle.aclgen_core.specs.FileMeanings.{HoldsMeaning, Means}
-use Rattle.aclgen_core.specs.Job.{Plan, IsJob, IsJobOf, file_of, filters_of, or_day, report_of, texts_of}
-use Rattle.aclgen_core.specs.PlannedTexts.{IsOfSections}
-use Rattle.aclgen_core.specs.Endings.{FailedAlone, NoneFailed, OnDay, OnItsDay, WhereDay, WhereTold, Got, Untouched, IsWritten, Headline, EndsDone, EndsUsage, EndsRejected, RoseAt, EndsLooking, LeavesFiles, EndsWriting, LeavesReport, EndsReporting, IsRefusalLine, EndsTelling, EndsOutside, LeavesPart, EndsWanting, EndsSo, NoneRose, IsEnding, EndsAsAsked, Keeps}
-use Rattle.aclgen_core.specs.Removals.{ShadedCanGo}
-use Rattle.aclgen_core.specs.Worlds.{Disk, DiskCountsGrow, Stream, StreamCountsGrow, Watch, World, world}
-use Rattle.aclgen_core.specs.DecidingSteps.{ActsAlone, Asks, IsReady, LooksAlone, OnlySeen, RoseLooking, DecidesRefused, DecidesPlanned, RefusesSo, Refuses, ActsDone, ActsWrite, ActsOut, ActsMemory, ActsSo, Acts, TriesLine, texts_in}
-use Rattle.aclgen_core.specs.declared.endings.Ended.{Ended}
-use Rattle.aclgen_core.specs.declared.endings.Ended.TheVariants as ended
-use Rattle.aclgen_core.specs.declared.endings.Which.{Which}
-use Rattle.aclgen_core.specs.declared.endings.Which.TheVariants as which
-use Rattle.aclgen_core.specs.declared.deciding.Decision.TheVariants as decided
-use Rattle.aclgen_core.specs.declared.planning.Work.{Work}
-use Rattle.aclgen_core.proofs.FaultCounts.{alone-behind, refused-alone, told-alone}
-use Rattle.aclgen_core.proofs.FileListLaws.{both-more}
-use Rattle.aclgen_core.proofs.OneAnswer.{one-job}
-use Rattle.aclgen_core.proofs.PlannedTextsLaws.{planned-texts}
-use Rattle.aclgen_core.proofs.RemovalLaws.{shaded-can-go}
-use Rattle.aclgen_core.proofs.Telling.{no-front}
+use Rattle.acl_options.specs.WorkloadWords.{workload_of}
+use Rattle.acl_run.specs.Endings.{EndsAsAsked, EndsDone, EndsReporting, EndsWanting}
+use Rattle.acl_run.specs.Failures.{NoneRose, RoseAt}
+use Rattle.acl_run.specs.Deciding.{Asks, DecidesPlanned, LooksAlone, OnlySeen}
+use Rattle.acl_run.specs.Told.{Got, OnItsDay, Untouched, or_day}
+use Rattle.acl_run.specs.Worlds.{Disk, Stream, Watch, World, world}
+use Rattle.acl_run.specs.declared.deciding.Decision.TheVariants as decided
+use Rattle.acl_run.specs.declared.endings.Ended.{Ended}
+use Rattle.acl_run.specs.declared.endings.Ended.TheVariants as ended
+use Rattle.acl_run.specs.declared.endings.Which.{Which}
+use Rattle.acl_run.specs.declared.endings.Which.TheVariants as which
+use Rattle.acl_run.proofs.Rows.{HasOneJob, HasRows, complete-done, complete-memory, complete-rejected, complete-usage, no-options, worked}
+use Rattle.acl_run.proofs.ToldLaws.{told-goes-on, where-told}
+use Rattle.acl_run.proofs.TriedLines.{no-front}
+use Rattle.acl_job.specs.AskedFiles.{PlanFile}
+use Rattle.acl_job.specs.FileLists.{HoldsAll, HoldsTexts, Interrupted}
+use Rattle.acl_job.specs.FileMeanings.{HoldsMeaning, Means}
+use Rattle.acl_job.specs.Job.{Plan, IsJob, IsJobOf, file_of, filters_of, report_of, texts_of}
+use Rattle.acl_job.specs.PlannedTexts.{IsOfSections}
+use Rattle.acl_job.specs.Removals.{ShadedCanGo}
+use Rattle.acl_job.specs.Works.{IsReady, texts_in}
+use Rattle.acl_job.specs.declared.planning.Work.{Work}
+use Rattle.acl_job.proofs.FileListLaws.{both-more}
+use Rattle.acl_job.proofs.OneAnswer.{one-job}
+use Rattle.acl_job.proofs.PlannedTextsLaws.{planned-texts}
+use Rattle.acl_job.proofs.RemovalLaws.{shaded-can-go}
+use Rattle.aclgen_core.specs.ActingSteps.{Acts, ActsAlone, ActsDone, ActsMemory, ActsOut, ActsSo, ActsWrite}
+use Rattle.aclgen_core.specs.Endings.{EndsOutside, EndsSo, EndsWriting, Headline, IsWritten, Keeps, LeavesFiles, LeavesPart, LeavesReport, asked}
+use Rattle.aclgen_core.specs.Runs.{Runs}
+use Rattle.aclgen_core.specs.WorkloadRuns.{EndsWorkload}
 
--- ---- what is told
-
-day-goes-on : (asked : Bool) (told : Option ℤ) (P Q : Day → Type 0) → ((day : Day) → P day → Q day) → OnDay asked told P → OnDay asked told Q
-day-goes-on true None P Q f h = (h.0, f h.0 h.1)
-day-goes-on true (Some n) P Q f h = λ day e. f day (h day e)
-day-goes-on false told P Q f h = λ day. f day (h day)
-
--- What is so on the day of the run is so where a day is told.
-day-told : (asked : Bool) (told : Option ℤ) (P : Day → Type 0) → OnDay asked told P → WhereDay asked told P
-day-told true None P h = tt
-day-told true (Some n) P h = h
-day-told false told P h = h
-
-day-given : (asked : Bool) (told : Option ℤ) (Q : Day → Type 0) → ((day : Day) → Q day) → WhereDay asked told Q
-day-given true None Q f = tt
-day-given true (Some n) Q f = λ day e. f day
-day-given false told Q f = f
-
-told-goes-on : (words : List (List ℕ)) (c : Watch) (told : Option (List File)) (P Q : Day → List File → Type 0)
-    → ((day : Day) (files : List File) → told ≡ Some files → P day files → Q day files)
-    → IfSome told (λ files. OnDay (asks_clock words) c.day (λ day. P day files)) → IfSome told (λ files. OnDay (asks_clock words) c.day (λ day. Q day files))
-told-goes-on words c None P Q f h = tt
-told-goes-on words c (Some files) P Q f h = day-goes-on (asks_clock words) c.day (λ day. P day files) (λ day. Q day files) (λ day. f day files refl) h
-
-where-told : (words : List (List ℕ)) (c : Watch) (told : Option (List File)) (P : Day → List File → Type 0)
-    → IfSome told (λ files. OnDay (asks_clock words) c.day (λ day. P day files)) → IfSome told (λ files. WhereDay (asks_clock words) c.day (λ day. P day files))
-where-told words c None P h = tt
-where-told words c (Some files) P h = day-told (asks_clock words) c.day (λ day. P day files) h
-
-told-given : (words : List (List ℕ)) (c : Watch) (told : Option (List File)) (Q : Day → List File → Type 0)
-    → ((day : Day) (files : List File) → told ≡ Some files → Q day files) → IfSome told (λ files. WhereDay (asks_clock words) c.day (λ day. Q day files))
-told-given words c None Q f = tt
-told-given words c (Some files) Q f = day-given (asks_clock words) c.day (λ day. Q day files) (λ day. f day files refl)
-
--- ---- completeness
-
-no-options : (o : Option Options) → o ≡ None → IsSome o → ⊥
-no-options None e h = false≢true h
-no-options (Some x) e h = cc
+-- ---- the job of the words
 
 no-job : (words : List (List ℕ)) (day : Day) (files : List File) → options_of words ≡ None → IsJob words day files None
 no-job words day files e = subst (λ (w : Option Options). IsJobOf w day files None) (sym e) tt
 
-memory-fits : (job : Option (Result Plan Fault)) → IsEnding job ended.Memory
-memory-fits None = inr refl
-memory-fits (Some (Ok plan)) = inr refl
-memory-fits (Some (Err fault)) = inr refl
-
-job-fits : (words : List (List ℕ)) (day : Day) (files : List File) (job other : Option (Result Plan Fault)) (result : Ended)
-    → IsJob words day files job → IsEnding job result → IsJob words day files other → IsEnding other result
-job-fits words day files job other result is ends h =
-    subst (λ (j : Option (Result Plan Fault)). IsEnding j result) (one-job words day files job other is h) ends
-
-complete-done : (words : List (List ℕ)) (old new : World) → EndsDone words old new → EndsAsAsked words old ended.Done
-complete-done words old new e = record {
-  usage = λ none. absurd (no-options (options_of words) none e.accepted);
-  job = let Asked : Day → List File → Type 0 = λ day files. (job : Option (Result Plan Fault)) → IsJob words day files job → IsEnding job ended.Done in
-      where-told words old.clock old.disk.files Asked
-      (told-goes-on words old.clock old.disk.files (Headline words old new) Asked
-      (λ day files _ h job is. job-fits words day files (Some (Ok h.0)) job ended.Done h.1.job (inl refl) is) e.written);
-}
-
-complete-usage : (words : List (List ℕ)) (old new : World) → EndsUsage words old new → EndsAsAsked words old ended.Usage
-complete-usage words old new e = record {
-  usage = λ _. inl refl;
-  job = told-given words old.clock old.disk.files (λ day files. (job : Option (Result Plan Fault)) → IsJob words day files job → IsEnding job ended.Usage)
-      (λ day files _ job is. job-fits words day files None job ended.Usage (no-job words day files e.refused) (inl refl) is);
-}
-
-complete-rejected : (words : List (List ℕ)) (fault : Fault) (old new : World) → EndsRejected words fault old new → EndsAsAsked words old (ended.Rejected fault)
-complete-rejected words fault old new e = record {
-  usage = λ none. absurd (no-options (options_of words) none e.accepted);
-  job = let Asked : Day → List File → Type 0 = λ day files. (job : Option (Result Plan Fault)) → IsJob words day files job → IsEnding job (ended.Rejected fault) in
-      where-told words old.clock old.disk.files Asked
-      (told-goes-on words old.clock old.disk.files (λ day files. IsJob words day files (Some (Err fault))) Asked
-      (λ day files _ h job is. job-fits words day files (Some (Err fault)) job (ended.Rejected fault) h (inl refl) is) e.first);
-}
-
-complete-memory : (words : List (List ℕ)) (old : World) → EndsAsAsked words old ended.Memory
-complete-memory words old = record {
-  usage = λ _. inr refl;
-  job = told-given words old.clock old.disk.files (λ day files. (job : Option (Result Plan Fault)) → IsJob words day files job → IsEnding job ended.Memory)
-      (λ day files _ job is. memory-fits job);
-}
+one : (words : List (List ℕ)) → HasOneJob (asked words)
+one words = record { same = one-job words; none = λ e day files. no-job words day files e }
 
 pub outside-cause : (words : List (List ℕ)) (w : Which) (old new : World) → EndsOutside words old new w → RoseAt w old new
 outside-cause words which.List old new e = e.cause
@@ -127,160 +57,50 @@ outside-cause words which.Out old new e = e.cause
 outside-cause words which.Err old new e = e.cause
 outside-cause words which.Clock old new e = e.looking.cause
 
-pub completes : (words : List (List ℕ)) (old new : World) (result : Ended) → EndsSo words old new result → NoneRose old new → EndsAsAsked words old result
-completes words old new ended.Done e none = complete-done words old new e
-completes words old new ended.Usage e none = complete-usage words old new e
-completes words old new (ended.Rejected fault) e none = complete-rejected words fault old new e
+completes : (words : List (List ℕ)) (old new : World) (result : Ended) → EndsSo words old new result → NoneRose old new → EndsAsAsked (asked words) old result
+completes words old new ended.Done e none =
+    complete-done (asked words) (Headline words old new) old new (one words) (λ day files h. (h.0, h.1.job)) e
+completes words old new ended.Usage e none = complete-usage (asked words) old new (one words) e
+completes words old new (ended.Rejected fault) e none = complete-rejected (asked words) fault old new (one words) e
 completes words old new (ended.Outside w) e none = absurd (none w (outside-cause words w old new e))
-completes words old new ended.Memory e none = complete-memory words old
+completes words old new ended.Memory e none = complete-memory (asked words) old
 
--- ---- the frame of a run
-
-seen-counts : (d d' : Disk) → OnlySeen d d' → DiskCountsGrow d d'
-seen-counts d d' s = record {
-  lists = s.lists_grow;
-  reads = s.reads_grow;
-  writes = omega (arith, s.faults_stay);
-  refusals = omega (arith, s.refusals_stay);
-}
-
-still : (s : Stream) → StreamCountsGrow s s
-still s = record { faults_grow = le_refl s.faults; refusals_grow = le_refl s.refusals }
-
--- A run that only looked.
-looked : (words : List (List ℕ)) (d d' : Disk) (o e e' : Stream) (c c' : Watch) (result : Ended) → d.begun ≡ None → OnlySeen d d' → Asks words c c'
-    → StreamCountsGrow e e' → FailedAlone result (world d o e c) (world d' o e' c') → EndsSo words (world d o e c) (world d' o e' c') result
-    → Keeps words (world d o e c) (world d' o e' c') result
-looked words d d' o e e' c c' result none seen asked counts alone ends = record {
-  none_begun = seen.begun_stays ∙ none;
-  clock = asked.only;
-  counts = record { disk_counts = seen-counts d d' seen; out_counts = still o; err_counts = counts; clock_count = asked.faults_grow };
-  alone = alone;
-  ending = ends;
-  complete = completes words (world d o e c) (world d' o e' c') result ends;
-}
-
-untouched : (d d' : Disk) (o e e' : Stream) (c c' : Watch) → OnlySeen d d' → Untouched (world d o e c) (world d' o e' c')
-untouched d d' o e e' c c' seen = record { same_files = seen.files_stay; same_out = refl }
-
--- ---- refusals
-
--- What a job leaves, whatever it is.
-abbrev LeavesSo : List (List ℕ) → World → World → Day → List File → Type 0
-LeavesSo words old new day files = (job : Option (Result Plan Fault)) → IsJob words day files job → LeavesPart job old new files
-
-refused-memory : (words : List (List ℕ)) (line : List ℕ) (d d' : Disk) (o e e' : Stream) (c c' : Watch) → OnlySeen d d' → IsRefusalLine words (world d o e c) line
-    → WhereTold words d c (LeavesSo words (world d o e c) (world d' o e' c'))
-    → BothTell e.told e'.told (AddsFront line) → EndsWanting words (world d o e c) (world d' o e' c')
-refused-memory words line d d' o e e' c c' seen refusal leaves front = record {
-  cause = inl seen.files_stay;
-  words_untouched = λ _. untouched d d' o e e' c c' seen;
-  leaves = leaves;
-  report = ([], no-front [] o.told);
-  line = inr (line, refusal, front);
-}
-
-refused-so : (words : List (List ℕ)) (line : List ℕ) (asked result : Ended) (d d' : Disk) (o e e' : Stream) (c c' : Watch) → d.begun ≡ None → OnlySeen d d'
-    → Asks words c c' → StreamCountsGrow e e' → FailedAlone result (world d o e c) (world d' o e' c') → IsRefusalLine words (world d o e c) line
-    → WhereTold words d c (LeavesSo words (world d o e c) (world d' o e' c'))
-    → (Got line e.told e'.told → EndsSo words (world d o e c) (world d' o e' c') asked)
-    → RefusesSo line asked e e' result → Keeps words (world d o e c) (world d' o e' c') result
-refused-so words line asked result d d' o e e' c c' none seen asks counts alone refusal leaves row (inl h) =
-    looked words d d' o e e' c c' result none seen asks counts alone (subst (λ (r : Ended). EndsSo words (world d o e c) (world d' o e' c') r) (sym h.0) (row h.1))
-refused-so words line asked result d d' o e e' c c' none seen asks counts alone refusal leaves row (inr (inl h)) =
-    let ends : EndsTelling words (world d o e c) (world d' o e' c') =
-    record { cause = h.1; untouched = untouched d d' o e e' c c' seen; line = (line, refusal, h.2) } in
-    looked words d d' o e e' c c' result none seen asks counts alone (subst (λ (r : Ended). EndsSo words (world d o e c) (world d' o e' c') r) (sym h.0) ends)
-refused-so words line asked result d d' o e e' c c' none seen asks counts alone refusal leaves row (inr (inr h)) =
-    let ends = refused-memory words line d d' o e e' c c' seen refusal leaves h.2 in
-    looked words d d' o e e' c c' result none seen asks counts alone (subst (λ (r : Ended). EndsSo words (world d o e c) (world d' o e' c') r) (sym h.0) ends)
-
-leaves-none : (words : List (List ℕ)) (day : Day) (files : List File) (known job : Option (Result Plan Fault)) (old new : World)
-    → IsJob words day files known → LeavesPart known old new files → IsJob words day files job → LeavesPart job old new files
-leaves-none words day files known job old new is h other =
-    subst (λ (j : Option (Result Plan Fault)). LeavesPart j old new files) (one-job words day files known job is other) h
-
-pub usage-keeps : (words : List (List ℕ)) (line : List ℕ) (result : Ended) (d d' : Disk) (o e e' : Stream) (c c' : Watch) → d.begun ≡ None → OnlySeen d d'
-    → Asks words c c' → LooksAlone decided.Usage d d' c c' → (options_of words ≡ None) × (d' ≡ d) → line ≡ usage_line → Refuses line ended.Usage e e' result
-    → Keeps words (world d o e c) (world d' o e' c') result
-usage-keeps words line result d d' o e e' c c' none seen asked alone refused is h =
-    refused-so words line ended.Usage result d d' o e e' c c' none seen asked h.counts
-    (alone-behind result (world d o e c) (world d' o e c') (world d' o e' c') (alone o e) (refused-alone line ended.Usage result d' o e e' c' (λ n. n) h.so))
-    (inl (refused.0, is))
-    (told-given words c d.files (LeavesSo words (world d o e c) (world d' o e' c'))
-    (λ day files _ job. leaves-none words day files None job (world d o e c) (world d' o e' c') (no-job words day files refused.0) (untouched d d' o e e' c c' seen)))
-    (λ got. record {
-      refused = refused.0;
-      untouched = untouched d d' o e e' c c' seen;
-      same_disk = refused.1;
-      line = subst (λ t. Got t e.told e'.told) is got;
-    }) h.so
-
-pub fault-keeps : (words : List (List ℕ)) (fault : Fault) (line : List ℕ) (result : Ended) (d d' : Disk) (o e e' : Stream) (c c' : Watch) → d.begun ≡ None → OnlySeen d d'
-    → Asks words c c' → ((o e : Stream) → NoneFailed (world d o e c) (world d' o e c')) → DecidesRefused words fault line d c → Refuses line (ended.Rejected fault) e e' result
-    → Keeps words (world d o e c) (world d' o e' c') result
-fault-keeps words fault line result d d' o e e' c c' none seen asked alone refused h =
-    let same = untouched d d' o e e' c c' seen in
-    refused-so words line (ended.Rejected fault) result d d' o e e' c c' none seen asked h.counts
-    (alone-behind result (world d o e c) (world d' o e c') (world d' o e' c') (alone o e) (refused-alone line (ended.Rejected fault) result d' o e e' c' (λ n. n) h.so))
-    (inr (refused.accepted, (fault, refused.line_is, refused.first)))
-    (where-told words c d.files (LeavesSo words (world d o e c) (world d' o e' c'))
-    (told-goes-on words c d.files (λ day files. IsJob words day files (Some (Err fault))) (LeavesSo words (world d o e c) (world d' o e' c'))
-    (λ day files _ is job. leaves-none words day files (Some (Err fault)) job (world d o e c) (world d' o e' c') is same) refused.first))
-    (λ got. record { accepted = refused.accepted; first = refused.first; untouched = same; line = subst (λ t. Got t e.told e'.told) refused.line_is got })
-    h.so
-
--- ---- failures before anything was written
-
-looking-keeps : (words : List (List ℕ)) (w : Which) (d d' : Disk) (o e e' : Stream) (c c' : Watch) → OnlySeen d d' → IsSome (options_of words)
-    → RoseAt w (world d o e c) (world d' o e' c') → TriesLine (outside_line w) e e' → EndsLooking words w (world d o e c) (world d' o e' c')
-looking-keeps words w d d' o e e' c c' seen accepted rose told = record {
-  cause = rose;
-  accepted = accepted;
-  untouched = untouched d d' o e e' c c' seen;
-  line = told.tried;
-}
-
-looking-so : (words : List (List ℕ)) (w : Which) (d d' : Disk) (o e e' : Stream) (c c' : Watch) → OnlySeen d d' → IsSome (options_of words)
-    → RoseLooking words w d d' c c' → TriesLine (outside_line w) e e' → EndsOutside words (world d o e c) (world d' o e' c') w
-looking-so words which.List d d' o e e' c c' seen accepted rose told = looking-keeps words which.List d d' o e e' c c' seen accepted rose told
-looking-so words which.Read d d' o e e' c c' seen accepted rose told = looking-keeps words which.Read d d' o e e' c c' seen accepted rose told
-looking-so words which.Write d d' o e e' c c' seen accepted rose told = absurd rose
-looking-so words which.Out d d' o e e' c c' seen accepted rose told = absurd rose
-looking-so words which.Err d d' o e e' c c' seen accepted rose told = absurd rose
-looking-so words which.Clock d d' o e e' c c' seen accepted rose told =
-    record { asked = rose.0; same_disk = rose.2; looking = looking-keeps words which.Clock d d' o e e' c c' seen accepted rose.1 told }
-
-pub outside-keeps : (words : List (List ℕ)) (w : Which) (result : Ended) (d d' : Disk) (o e e' : Stream) (c c' : Watch) → d.begun ≡ None → OnlySeen d d'
-    → Asks words c c' → LooksAlone (decided.Outside w) d d' c c' → IsSome (options_of words) → RoseLooking words w d d' c c' → TriesLine (outside_line w) e e'
-    → result ≡ ended.Outside w → Keeps words (world d o e c) (world d' o e' c') result
-outside-keeps words w result d d' o e e' c c' none seen asked alone accepted rose told is =
-    looked words d d' o e e' c c' result none seen asked told.counts (told-alone w result d d' o e e' c c' alone is)
-    (subst (λ (r : Ended). EndsSo words (world d o e c) (world d' o e' c') r) (sym is) (looking-so words w d d' o e e' c c' seen accepted rose told))
-
--- ---- want of memory before anything was written
+-- ---- where nothing was touched
 
 none-left : (ts files : List File) → Interrupted ts files files
 none-left ts files = (0, record { held = tt; others = λ q _. refl })
 
-leaves-nothing : (job : Option (Result Plan Fault)) (d d' : Disk) (o e : Stream) (c c' : Watch) (files : List File) → OnlySeen d d' → d.files ≡ Some files
-    → LeavesPart job (world d o e c) (world d' o e c') files
-leaves-nothing None d d' o e c c' files seen is = untouched d d' o e e c c' seen
-leaves-nothing (Some (Err fault)) d d' o e c c' files seen is = untouched d d' o e e c c' seen
-leaves-nothing (Some (Ok plan)) d d' o e c c' files seen is =
-    (subst (λ t. IsSomeAnd t (Interrupted (texts_of plan) files)) (sym (seen.files_stay ∙ is)) (none-left (texts_of plan) files), no-front (report_of plan) o.told)
+leaves-nothing : (old new : World) → Untouched old new → (job : Option (Result Plan Fault)) (files : List File) → old.disk.files ≡ Some files
+    → LeavesPart old new job files
+leaves-nothing old new same None files is = same
+leaves-nothing old new same (Some (Err fault)) files is = same
+leaves-nothing old new same (Some (Ok plan)) files is = (
+  subst (λ t. IsSomeAnd t (Interrupted (texts_of plan) files)) (sym (same.same_files ∙ is)) (none-left (texts_of plan) files),
+  subst (λ t. BothTell old.out.told t (AddsFront (report_of plan))) (sym same.same_out) (no-front (report_of plan) old.out.told),
+)
 
-pub memory-keeps : (words : List (List ℕ)) (d d' : Disk) (o e : Stream) (c c' : Watch) → d.begun ≡ None → OnlySeen d d' → Asks words c c'
-    → LooksAlone decided.Memory d d' c c' → Keeps words (world d o e c) (world d' o e c') ended.Memory
-memory-keeps words d d' o e c c' none seen asked alone =
-    let ends : EndsWanting words (world d o e c) (world d' o e c') = record {
-      cause = inl seen.files_stay;
-      words_untouched = λ _. untouched d d' o e e c c' seen;
-      leaves = told-given words c d.files (LeavesSo words (world d o e c) (world d' o e c')) (λ day files is job _. leaves-nothing job d d' o e c c' files seen is);
-      report = ([], no-front [] o.told);
-      line = inl refl;
-    } in
-    looked words d d' o e e c c' ended.Memory none seen asked (still e) (alone o e) ends
+-- What a job leaves, whatever it is.
+abbrev LeavesSo : List (List ℕ) → World → World → Day → List File → Type 0
+LeavesSo words old new day files = (job : Option (Result Plan Fault)) → IsJob words day files job → LeavesPart old new job files
+
+leaves-none : (words : List (List ℕ)) (day : Day) (files : List File) (known job : Option (Result Plan Fault)) (old new : World)
+    → IsJob words day files known → LeavesPart old new known files → IsJob words day files job → LeavesPart old new job files
+leaves-none words day files known job old new is h other =
+    subst (λ (j : Option (Result Plan Fault)). LeavesPart old new j files) (one-job words day files known job is other) h
+
+-- The rows that every program has are those of aclgen.
+pub rows : (words : List (List ℕ)) (old new : World) → HasRows (asked words) (LeavesPart old new) old new (EndsSo words old new)
+rows words old new = record {
+  usage = λ e. e;
+  rejected = λ fault e. e;
+  listing = λ e. e;
+  reading = λ e. e;
+  asking = λ e. e;
+  telling = λ e. e;
+  wanting = λ _ e. e;
+  nothing = leaves-nothing old new;
+  completes = completes words old new;
+}
 
 -- ---- writing
 
@@ -291,9 +111,9 @@ both-some P told (Some new) files is h = subst (λ t. BothTell t (Some new) P) i
 
 planned-leaves : (words : List (List ℕ)) (work : Work) (d : Disk) (c : Watch) (R : Day → List File → Type 0)
     → ((day : Day) (files : List File) → d.files ≡ Some files → (plan : Plan) → IsJob words day files (Some (Ok plan)) → IsReady plan work → R day files)
-    → DecidesPlanned words work d c → OnItsDay words d c R
+    → DecidesPlanned (asked words) IsReady work d c → OnItsDay (asks_clock words) d c R
 planned-leaves words work d c R f h =
-    told-goes-on words c d.files (λ day files. (plan : Plan) × IsJob words day files (Some (Ok plan)) × IsReady plan work) R
+    told-goes-on (asks_clock words) c d.files (λ day files. (plan : Plan) × IsJob words day files (Some (Ok plan)) × IsReady plan work) R
     (λ day files is p. f day files is p.0 p.1 p.2) h.planned
 
 -- A text that stands at its path, and means what is asked, is one that the file holds.
@@ -329,8 +149,8 @@ job-shaded words day files plan job = by (options_of words) job
     by None h = absurd h
     by (Some o) h = shaded-can-go o (or_day o.date day) files plan h
 
-done-row : (words : List (List ℕ)) (work : Work) (d d' : Disk) (o o' e e' : Stream) (c c' : Watch) → DecidesPlanned words work d c → ActsDone work d d' o o' e e'
-    → EndsDone words (world d o e c) (world d' o' e' c')
+done-row : (words : List (List ℕ)) (work : Work) (d d' : Disk) (o o' e e' : Stream) (c c' : Watch) → DecidesPlanned (asked words) IsReady work d c → ActsDone work d d' o o' e e'
+    → EndsDone (asked words) (Headline words (world d o e c) (world d' o' e' c')) (world d o e c) (world d' o' e' c')
 done-row words work d d' o o' e e' c c' planned acts = record {
   accepted = planned.accepted;
   written = planned-leaves words work d c (Headline words (world d o e c) (world d' o' e' c'))
@@ -348,7 +168,7 @@ done-row words work d d' o o' e e' c c' planned acts = record {
   nothing_on_err = acts.err_rests;
 }
 
-write-row : (words : List (List ℕ)) (work : Work) (d d' : Disk) (o o' e e' : Stream) (c c' : Watch) → DecidesPlanned words work d c → ActsWrite work d d' o o' e e'
+write-row : (words : List (List ℕ)) (work : Work) (d d' : Disk) (o o' e e' : Stream) (c c' : Watch) → DecidesPlanned (asked words) IsReady work d c → ActsWrite work d d' o o' e e'
     → EndsWriting words (world d o e c) (world d' o' e' c')
 write-row words work d d' o o' e e' c c' planned acts = record {
   cause = acts.cause;
@@ -359,8 +179,8 @@ write-row words work d d' o o' e e' c c' planned acts = record {
   line = acts.line;
 }
 
-out-row : (words : List (List ℕ)) (work : Work) (d d' : Disk) (o o' e e' : Stream) (c c' : Watch) → DecidesPlanned words work d c → ActsOut work d d' o o' e e'
-    → EndsReporting words (world d o e c) (world d' o' e' c')
+out-row : (words : List (List ℕ)) (work : Work) (d d' : Disk) (o o' e e' : Stream) (c c' : Watch) → DecidesPlanned (asked words) IsReady work d c → ActsOut work d d' o o' e e'
+    → EndsReporting (asked words) (LeavesReport words (world d o e c) (world d' o' e' c')) (world d o e c) (world d' o' e' c')
 out-row words work d d' o o' e e' c c' planned acts = record {
   cause = acts.cause;
   accepted = planned.accepted;
@@ -375,12 +195,12 @@ out-row words work d d' o o' e e' c c' planned acts = record {
   line = acts.line;
 }
 
-memory-row : (words : List (List ℕ)) (work : Work) (d d' : Disk) (o o' e e' : Stream) (c c' : Watch) → DecidesPlanned words work d c → ActsMemory work d d' o o' e e'
-    → EndsWanting words (world d o e c) (world d' o' e' c')
+memory-row : (words : List (List ℕ)) (work : Work) (d d' : Disk) (o o' e e' : Stream) (c c' : Watch) → DecidesPlanned (asked words) IsReady work d c → ActsMemory work d d' o o' e e'
+    → EndsWanting (asked words) (LeavesPart (world d o e c) (world d' o' e' c')) (world d o e c) (world d' o' e' c')
 memory-row words work d d' o o' e e' c c' planned acts = record {
   cause = inr acts.cause;
   words_untouched = λ none. absurd (no-options (options_of words) none planned.accepted);
-  leaves = where-told words c d.files (LeavesSo words (world d o e c) (world d' o' e' c'))
+  leaves = where-told (asks_clock words) c d.files (LeavesSo words (world d o e c) (world d' o' e' c'))
       (planned-leaves words work d c (LeavesSo words (world d o e c) (world d' o' e' c'))
       (λ day files is plan known ready job. leaves-none words day files (Some (Ok plan)) job (world d o e c) (world d' o' e' c') known
       (left-plan plan work d d' files is ready acts.left, subst (λ t. BothTell o.told o'.told (AddsFront t)) ready.report_is acts.report_front)) planned);
@@ -388,7 +208,7 @@ memory-row words work d d' o o' e e' c c' planned acts = record {
   line = inl acts.err_rests;
 }
 
-acts-row : (words : List (List ℕ)) (work : Work) (d d' : Disk) (o o' e e' : Stream) (c c' : Watch) (result : Ended) → DecidesPlanned words work d c
+acts-row : (words : List (List ℕ)) (work : Work) (d d' : Disk) (o o' e e' : Stream) (c c' : Watch) (result : Ended) → DecidesPlanned (asked words) IsReady work d c
     → ActsSo work d d' o o' e e' result → EndsSo words (world d o e c) (world d' o' e' c') result
 acts-row words work d d' o o' e e' c c' ended.Done planned acts = done-row words work d d' o o' e e' c c' planned acts
 acts-row words work d d' o o' e e' c c' ended.Usage planned acts = absurd acts
@@ -439,29 +259,19 @@ acts-from work d s d' o o' e e' ended.Memory seen h = record {
   err_rests = h.err_rests;
 }
 
-counts-from : (d s d' : Disk) → OnlySeen d s → DiskCountsGrow s d' → DiskCountsGrow d d'
-counts-from d s d' seen h = record {
-  lists = omega (arith, seen.lists_grow, h.lists);
-  reads = omega (arith, seen.reads_grow, h.reads);
-  writes = omega (arith, seen.faults_stay, h.writes);
-  refusals = omega (arith, seen.refusals_stay, h.refusals);
-}
-
-pub planned-keeps : (words : List (List ℕ)) (work : Work) (result : Ended) (d s d' : Disk) (o o' e e' : Stream) (c c' : Watch) → OnlySeen d s → Asks words c c'
-    → LooksAlone (decided.Planned work) d s c c' → DecidesPlanned words work d c → Acts work s d' o o' e e' result → ActsAlone s d' o o' e e' result
+pub planned-keeps : (words : List (List ℕ)) (work : Work) (result : Ended) (d s d' : Disk) (o o' e e' : Stream) (c c' : Watch) → OnlySeen d s → Asks (asks_clock words) c c'
+    → LooksAlone (decided.Planned work) d s c c' → DecidesPlanned (asked words) IsReady work d c → Acts work s d' o o' e e' result → ActsAlone s d' o o' e e' result
     → Keeps words (world d o e c) (world d' o' e' c') result
-planned-keeps words work result d s d' o o' e e' c c' seen asked looks planned acts alone =
-    let ends = acts-row words work d d' o o' e e' c c' result planned (acts-from work d s d' o o' e e' result seen acts.so) in
-    record {
-      none_begun = acts.none_begun;
-      clock = asked.only;
-      counts = record {
-        disk_counts = counts-from d s d' seen acts.disk_counts;
-        out_counts = acts.out_counts;
-        err_counts = acts.err_counts;
-        clock_count = asked.faults_grow;
-      };
-      alone = alone-behind result (world d o e c) (world s o e c') (world d' o' e' c') (looks o e) (alone c');
-      ending = ends;
-      complete = completes words (world d o e c) (world d' o' e' c') result ends;
-    }
+planned-keeps words work result d s d' o o' e e' c c' seen asks looks planned acts alone =
+    worked (asked words) (LeavesPart (world d o e c) (world d' o' e' c')) (EndsSo words (world d o e c) (world d' o' e' c')) d s d' o o' e e' c c' result
+    (rows words (world d o e c) (world d' o' e' c')) acts.none_begun seen asks acts.disk_counts acts.out_counts acts.err_counts looks (alone c')
+    (acts-row words work d d' o o' e e' c c' result planned (acts-from work d s d' o o' e e' result seen acts.so))
+
+-- ---- the whole run
+
+-- Where the words do not ask for the workload, the job that they ask for is done.
+pub compiled : (words : List (List ℕ)) (old new : World) (result : Ended) → workload_of words ≡ None → Keeps words old new result → Runs words old new result
+compiled words old new result none keeps = (
+  subst (λ o. IfSome o (λ terms. EndsWorkload terms old new result)) (sym none) tt,
+  subst (λ o. IfNone o (Keeps words old new result)) (sym none) keeps,
+)

@@ -5,14 +5,16 @@ use Rattle.acl_memory.specs.declared.sure_clocks.SureClock.{SureClock}
 use Rattle.acl_memory.specs.declared.sure_sinks.SureSink.{SureSink}
 use Rattle.acl_memory.specs.declared.sure_trees.SureTree.{SureTree}
 use Rattle.acl_options.specs.WorkloadWords.{workload_of}
-use Rattle.aclgen_core.specs.Endings.{Keeps, faults_at}
+use Rattle.aclgen_core.specs.Endings.{Keeps}
+use Rattle.acl_run.specs.Failures.{faults_at}
 use Rattle.aclgen_core.specs.Runs.{Runs}
 use Rattle.aclgen_core.specs.SureRuns.{sure_world}
-use Rattle.aclgen_core.specs.WorkloadRuns.{EndsWorkload, Reports, RunsWorkload}
-use Rattle.aclgen_core.specs.Worlds.{Stream, World}
-use Rattle.aclgen_core.specs.declared.endings.Ended.TheVariants as ended
-use Rattle.aclgen_core.specs.declared.endings.Which.{Which}
-use Rattle.aclgen_core.specs.declared.endings.Which.TheVariants as which
+use Rattle.aclgen_core.specs.WorkloadRuns.{EndsWorkload, RunsWorkload}
+use Rattle.acl_run.specs.Telling.{Reports}
+use Rattle.acl_run.specs.Worlds.{Stream, World}
+use Rattle.acl_run.specs.declared.endings.Ended.TheVariants as ended
+use Rattle.acl_run.specs.declared.endings.Which.{Which}
+use Rattle.acl_run.specs.declared.endings.Which.TheVariants as which
 use Rattle.aclgen_core.proofs.Rows.{outside-cause}
 
 none-rose : (a b : ℕ) → a ≡ 0 → b ≡ 0 → Rose a b → ⊥
@@ -26,17 +28,17 @@ sure-count tree out err clock which.Out = refl
 sure-count tree out err clock which.Err = refl
 sure-count tree out err clock which.Clock = refl
 
-report-fails : (text : List ℕ) (o o' e e' : Stream) (w : Which) → Reports text o o' e e' (ended.Outside w) → Rose o.faults o'.faults
-report-fails text o o' e e' which.List h = absurd h
-report-fails text o o' e e' which.Read h = absurd h
-report-fails text o o' e e' which.Write h = absurd h
-report-fails text o o' e e' which.Out h = h.0
-report-fails text o o' e e' which.Err h = absurd h
-report-fails text o o' e e' which.Clock h = absurd h
+report-fails : (line text : List ℕ) (o o' e e' : Stream) (w : Which) → Reports line text o o' e e' (ended.Outside w) → Rose o.faults o'.faults
+report-fails line text o o' e e' which.List h = absurd h
+report-fails line text o o' e e' which.Read h = absurd h
+report-fails line text o o' e e' which.Write h = absurd h
+report-fails line text o o' e e' which.Out h = h.0
+report-fails line text o o' e e' which.Err h = absurd h
+report-fails line text o o' e e' which.Clock h = absurd h
 
 workload-fails : (n : ℕ) (o o' e e' : Stream) (w : Which) → RunsWorkload n o o' e e' (ended.Outside w) → Rose o.faults o'.faults
 workload-fails n o o' e e' w h = elim h.tells [
-  | inl t ↦ report-fails _ o o' e e' w t.2
+  | inl t ↦ report-fails _ _ o o' e e' w t.2
   | inr m ↦ absurd (let other : ended.Outside w ≡ ended.Memory = m.0 in cc)
 ]
 

@@ -3,8 +3,8 @@ use Rattle.std.specs.Prelude.{ℕ, List, IfNone, IfSome}
 use Rattle.acl_options.specs.WorkloadWords.{workload_of}
 use Rattle.aclgen_core.specs.Endings.{Keeps}
 use Rattle.aclgen_core.specs.WorkloadRuns.{EndsWorkload}
-use Rattle.aclgen_core.specs.Worlds.{World}
-use Rattle.aclgen_core.specs.declared.endings.Ended.{Ended}
+use Rattle.acl_run.specs.Worlds.{World}
+use Rattle.acl_run.specs.declared.endings.Ended.{Ended}
 
 abbrev pub Runs : List (List ℕ) → World → World → Ended → Type 0
 Runs words old new result = IfSome (workload_of words) (λ terms. EndsWorkload terms old new result)

@@ -4,7 +4,7 @@ use Rattle.acl_memory.specs.SureObjects.{sure_members}
 use Rattle.acl_memory.specs.declared.sure_clocks.SureClock.{SureClock}
 use Rattle.acl_memory.specs.declared.sure_sinks.SureSink.{SureSink}
 use Rattle.acl_memory.specs.declared.sure_trees.SureTree.{SureTree}
-use Rattle.aclgen_core.specs.Worlds.{Stream, World, disk, world}
+use Rattle.acl_run.specs.Worlds.{Stream, World, disk, world}
 
 abbrev pub sure_stream : SureSink → Stream
 sure_stream s = record { told = Some s.sink.bytes; faults = 0; refusals = s.sink.refusals }

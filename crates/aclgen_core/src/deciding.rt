@@ -1,57 +1,15 @@
 ghost use Rattle.std.specs.Prelude.{map};
 ghost use Rattle.std.specs.String.{string_bytes};
-ghost use Rattle.aclgen_core.specs.Worlds.{disk, watch};
-ghost use Rattle.aclgen_core.specs.DecidingSteps.{Decides, FindsDay, FollowsFrom, LooksAlone};
+ghost use Rattle.acl_job.specs.Works.{AreWritable, IsReady};
+ghost use Rattle.acl_run.specs.Deciding.{Decides, IfPlanned, LooksAlone};
+ghost use Rattle.acl_run.specs.Worlds.{disk, watch};
+ghost use Rattle.aclgen_core.specs.Endings.{asked};
 
-use crate::endings::Which;
-use crate::fault_lines::fault_line;
-use crate::planning::{Work, make_work};
-use acl_days::Day;
-use acl_host::{Clock, ClockFault, Tree};
-use acl_load::LoadFault;
+use acl_host::{Clock, Tree};
+use acl_job::{Work, make_work};
 use acl_options::read_options;
-use acl_text::{Fault, Whole};
+use acl_run::{Decision, Which, day_for, decision_on};
 use std::alloc::Global;
-
-/// What a run is to do.
-#[derive(Drop)]
-pub enum Decision {
-    /// The words are no command line.
-    Usage,
-    /// The input has this fault, the first one; the line names it.
-    Refused(Fault, Whole),
-    /// This is to be written.
-    Planned(Work),
-    /// A folder was not listed, a file not read, or the clock told no day.
-    Outside(Which),
-    /// Memory was wanted and not found.
-    Memory,
-}
-
-// What a run is to do where there is nothing to write.
-fn decision_on(alloc: Global, fault: LoadFault) -> Decision
-    ensures { FollowsFrom fault result }
-{
-    match fault {
-        LoadFault::Fault(fault) => match fault_line(alloc, &fault) {
-            Ok(line) => Decision::Refused(fault, line),
-            Err(_) => Decision::Memory,
-        },
-        LoadFault::List => Decision::Outside(Which::List),
-        LoadFault::Read => Decision::Outside(Which::Read),
-        LoadFault::Memory => Decision::Memory,
-    }
-}
-
-// The day that the words name, else the clock's.
-fn day_for<C: Clock>(date: Option<Day>, clock: &mut C) -> Result<Day, ClockFault>
-    ensures { FindsDay date (watch C.Clock clock.old) (watch C.Clock clock.new) result }
-{
-    match date {
-        Some(day) => Ok(day),
-        None => clock.today(),
-    }
-}
 
 /// Decides what the run is to do. It looks at the tree, asks the clock where the words name no day, and changes nothing.
 pub fn decide<T: Tree, C: Clock>(
@@ -59,10 +17,11 @@ pub fn decide<T: Tree, C: Clock>(
     words: &[String],
     tree: &mut T,
     clock: &mut C,
-) -> Decision
-    ensures decides { Decides (map string_bytes words.now)
+) -> Decision<Work>
+    ensures decides { Decides (asked (map string_bytes words.now)) IsReady
         (disk T.Tree tree.old) (disk T.Tree tree.new)
         (watch C.Clock clock.old) (watch C.Clock clock.new) result }
+    ensures writable { IfPlanned result (λ work. AreWritable work.files.items) }
     ensures alone { LooksAlone result (disk T.Tree tree.old) (disk T.Tree tree.new)
         (watch C.Clock clock.old) (watch C.Clock clock.new) }
 {

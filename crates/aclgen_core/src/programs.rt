@@ -1,12 +1,12 @@
 ghost use Rattle.std.specs.Prelude.{◌≡◌, None, map};
 ghost use Rattle.std.specs.String.{string_bytes};
-ghost use Rattle.aclgen_core.specs.Programs.{EndsWithoutWords, RunsWithStatus, RunsWithoutWords};
-ghost use Rattle.aclgen_core.specs.Worlds.{stream, world_of};
+ghost use Rattle.aclgen_core.specs.Programs.{EndsWithoutWords, RunsWithStatus};
+ghost use Rattle.acl_run.specs.Worlds.{stream, world_of};
 
-use crate::acting::refuse_words;
-use crate::endings::{Ended, status_of};
+use crate::fault_lines::usage_line;
 use crate::running::aclgen;
 use acl_host::{Clock, Sink, Tree};
+use acl_run::{end_without_words, status_of};
 use std::alloc::Global;
 
 /// The whole run, and the exit status of the program: that of the ending, as `aclgen` tells it.
@@ -26,20 +26,11 @@ pub fn run_status<T: Tree, O: Sink, E: Sink, C: Clock>(
     status_of(&aclgen(alloc, words, tree, out, err, clock))
 }
 
-fn run_without_words<E: Sink>(wanted_memory: bool, err: &mut E) -> Ended
-    ensures { RunsWithoutWords wanted_memory (stream E.Sink err.old) (stream E.Sink err.new) result }
-{
-    if wanted_memory {
-        return Ended::Memory;
-    }
-    refuse_words(err)
-}
-
 /// The same where the machine gives no words: memory was wanted for them, or some are no text, and then they are no
 /// command line.
 pub fn status_without_words<E: Sink>(wanted_memory: bool, err: &mut E) -> u8
     ensures { EndsWithoutWords wanted_memory
         (stream E.Sink err.old) (stream E.Sink err.new) result }
 {
-    status_of(&run_without_words(wanted_memory, err))
+    status_of(&end_without_words(usage_line(), wanted_memory, err))
 }

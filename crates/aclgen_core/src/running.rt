@@ -1,15 +1,15 @@
 ghost use Rattle.std.specs.Prelude.{◌≡◌, map, None};
 ghost use Rattle.std.specs.String.{string_bytes};
 ghost use Rattle.aclgen_core.specs.Runs.{Runs};
-ghost use Rattle.aclgen_core.specs.Worlds.{world_of};
+ghost use Rattle.acl_run.specs.Worlds.{world_of};
 
-use crate::acting::{carry_out, refuse, tell_outside};
-use crate::deciding::{Decision, decide};
-use crate::endings::Ended;
-use crate::fault_lines::usage_line;
+use crate::acting::carry_out;
+use crate::deciding::decide;
+use crate::fault_lines::{outside_line, usage_line};
 use crate::workload_runs::run_workload;
 use acl_host::{Clock, Sink, Tree};
 use acl_options::read_workload;
+use acl_run::{Decision, Ended, refuse, tell_outside};
 use std::alloc::Global;
 
 /// The whole job: compiles what the words ask for, or the workload.
@@ -38,7 +38,7 @@ pub fn aclgen<T: Tree, O: Sink, E: Sink, C: Clock>(
         Decision::Usage => refuse(err, usage_line().as_bytes(), Ended::Usage),
         Decision::Refused(fault, line) => refuse(err, line.as_slice(), Ended::Rejected(fault)),
         Decision::Planned(work) => carry_out(&work, tree, out, err),
-        Decision::Outside(which) => tell_outside(err, which),
+        Decision::Outside(which) => tell_outside(err, outside_line(which), which),
         Decision::Memory => Ended::Memory,
     }
 }

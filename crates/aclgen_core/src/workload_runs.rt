@@ -1,79 +1,13 @@
-ghost use Rattle.std.specs.Prelude.{◌≡◌, ◌≤◌, IfOk, None};
-ghost use Rattle.acl_memory.specs.MemoryTrees.{contents};
-ghost use Rattle.aclgen_core.specs.WritingSteps.{AreWritable};
-ghost use Rattle.aclgen_core.specs.Worlds.{stream};
-ghost use Rattle.aclgen_core.specs.PreparingSteps.{MakesWorkload};
+ghost use Rattle.std.specs.Prelude.{◌≤◌};
+ghost use Rattle.acl_run.specs.Worlds.{stream};
 ghost use Rattle.aclgen_core.specs.WorkloadRuns.{RunsWorkload};
-ghost use Rattle.workload_laws.specs.WorkloadFiles.{workload_files};
 
-use crate::acting::report_on;
-use crate::endings::Ended;
-use crate::filter_files::write_files;
-use crate::planning::{Work, make_work};
-use acl_days::Day;
+use crate::fault_lines::outside_line;
 use acl_host::Sink;
-use acl_load::LoadFault;
-use acl_memory::MemTree;
-use acl_options::Options;
+use acl_run::{Ended, Which, report_on};
 use acl_text::Memory;
-use acl_workload::workload;
 use std::alloc::Global;
-
-// 2026-01-01
-const TODAY: Day = Day { number: 20_454 };
-
-// The workload's naming files and its policy, as files in memory.
-fn workload_tree(alloc: Global, terms: u32) -> Result<MemTree, Memory>
-    requires least { 1 ≤ terms }
-    requires most { terms ≤ 1024 }
-    ensures files { IfOk result (λ tree. (contents tree).files ≡ workload_files terms) }
-    ensures begun { IfOk result (λ tree. (contents tree).begun ≡ None) }
-{
-    let texts = workload(alloc, terms)?;
-    let mut tree = MemTree::new(alloc);
-    tree.put_file("def/w.net", texts.networks.as_slice())?;
-    tree.put_file("def/w.svc", texts.services.as_slice())?;
-    tree.put_file("pol/w.pol", texts.policy.as_slice())?;
-    Ok(tree)
-}
-
-// What is to be written of the workload. It has no fault, and a tree in memory lists and reads: only memory may be wanting.
-fn plan_workload(alloc: Global, terms: u32, tree: &mut MemTree) -> Result<Work, Memory>
-    requires least { 1 ≤ terms }
-    requires most { terms ≤ 1024 }
-    requires files { (contents tree.old).files ≡ workload_files terms }
-    ensures made { IfOk result (MakesWorkload terms) }
-    ensures writable { IfOk result (λ work. AreWritable work.files.items) }
-    ensures begun { (contents tree.new).begun ≡ (contents tree.old).begun }
-{
-    let options = Options {
-        policy: "pol/w.pol",
-        definitions: "def",
-        output: "out",
-        date: None,
-        exp_info: 2,
-        shade_check: false,
-    };
-    match make_work(alloc, &options, TODAY, tree) {
-        Ok(work) => Ok(work),
-        Err(LoadFault::Fault(_)) => unreachable!(),
-        Err(LoadFault::List | LoadFault::Read | LoadFault::Memory) => Err(Memory),
-    }
-}
-
-// The workload is compiled: its files are written into its tree.
-fn compile_workload(alloc: Global, terms: u32) -> Result<Work, Memory>
-    requires least { 1 ≤ terms }
-    requires most { terms ≤ 1024 }
-    ensures { IfOk result (MakesWorkload terms) }
-{
-    let mut tree = workload_tree(alloc, terms)?;
-    let work = plan_workload(alloc, terms, &mut tree)?;
-    match write_files(&mut tree, work.files.as_slice()) {
-        Ok(()) => Ok(work),
-        Err(_) => Err(Memory),
-    }
-}
+use workload_job::compile_workload;
 
 /// The run of the workload of so many terms, 1 to 1024: its texts are compiled in memory, and the report is written.
 pub fn run_workload<O: Sink, E: Sink>(alloc: Global, terms: u32, out: &mut O, err: &mut E) -> Ended
@@ -84,7 +18,7 @@ pub fn run_workload<O: Sink, E: Sink>(alloc: Global, terms: u32, out: &mut O, er
         (stream E.Sink err.old) (stream E.Sink err.new) result }
 {
     match compile_workload(alloc, terms) {
-        Ok(work) => report_on(work.report.as_slice(), out, err),
+        Ok(work) => report_on(work.report.as_slice(), outside_line(Which::Out), out, err),
         Err(Memory) => Ended::Memory,
     }
 }

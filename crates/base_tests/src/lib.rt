@@ -1,4 +1,4 @@
-//! Tests of packets, texts, rows and sets.
+//! Tests of packets, their texts, other texts, rows and sets.
 //!
 //! A library that is tested here is proved once: tests beside its code would have it proved with them again.
 #![tactic(auto)]

@@ -1,4 +1,5 @@
 mod names;
+mod packet_texts;
 mod packets;
 mod rows;
 mod sets;

@@ -11,7 +11,7 @@ use Rattle.acl_rows.specs.Rows.{Row, row_text, text_of_rows}
 use Rattle.acl_target.specs.declared.targets.Kind.{Kind}
 use Rattle.acl_target.specs.declared.targets.Kind.TheVariants.{Iptables}
 use Rattle.acl_target.specs.Clashes.{clash, is_mixed, same_families, same_hook}
-use Rattle.acl_target.specs.TargetData.{chain_text, FitsPlatform, IsChain}
+use Rattle.acl_target.specs.TargetData.{chain_text, FitsPlatform, IsChain, IsTarget}
 use Rattle.acl_target.specs.TargetTexts.{families_text, kind_text, target_text}
 use Rattle.acl_platform.specs.declared.filters.Filter.{Filter}
 use Rattle.acl_platform.specs.SoundFilters.{target_of}
@@ -39,15 +39,22 @@ first-row Forward Inet rows m = refl
 first-row Forward Inet6 rows m = refl
 first-row hook Mixed rows m = absurd (false≢true (sym m))
 
-pub first-line : FirstLine
-unfolding section_rows head_rows target_text
-first-line f stateful kind h =
+-- whatever rows stand behind it
+pub first-of : (f : Filter) (stateful : Bool) → f.kind ≡ Iptables → IsTarget (target_of stateful f) → (rows : List Row)
+    → text_of_rows (target_row f.hook (first_family f.families) ∷ rows)
+    ≡ (codes "## " ++ target_text (target_of stateful f)) ++ 10 ∷ text_of_rows rows
+unfolding target_text
+first-of f stateful kind h rows =
     let P : Kind → Type 0 = λ k. FitsPlatform k (target_of stateful f) in
     let target : IsChain (target_of stateful f) = subst P kind h.platform in
-    let rows = section_body (section_of f) in
     let text : Kind → List ℕ → List ℕ = λ k name. (codes "## " ++ text_for k name f.families) ++ 10 ∷ text_of_rows rows in
-    ap text_of_rows (append-nil (target_row f.hook (first_family f.families) ∷ rows)) ∙ first-row f.hook f.families rows target.one_family
-    ∙ ap (text Iptables) (sym target.name_is) ∙ ap (λ k. text k f.name) (sym kind)
+    first-row f.hook f.families rows target.one_family ∙ ap (text Iptables) (sym target.name_is) ∙ ap (λ k. text k f.name) (sym kind)
+
+pub first-line : FirstLine
+unfolding section_rows head_rows
+first-line f stateful kind h =
+    let rows = section_body (section_of f) in
+    ap text_of_rows (append-nil (target_row f.hook (first_family f.families) ∷ rows)) ∙ first-of f stateful kind h rows
 
 -- ---- names
 

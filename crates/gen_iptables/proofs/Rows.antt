@@ -19,7 +19,7 @@ use Rattle.ipt_lang.specs.Texts.{back_words, chain_row, chain_rows, front_words,
 use Rattle.gen_iptables.specs.Groups.{group_choices}
 use Rattle.gen_iptables.specs.ChainRowSteps.{combination_rows, head_of, rows_behind_front, rows_behind_sources}
 use Rattle.acl_packet.specs.Addresses.{first_family}
-use Rattle.gen_iptables.specs.Sections.{address_of, asks_state, Back, backs, chain_of, chain_rule, combinations, ends_of, Front, fronts, ChainParts, rules_for, section_of}
+use Rattle.gen_iptables.specs.Sections.{address_of, asks_state, Back, backs, chain_of, chain_rule, chain_rules, combinations, ends_of, Front, fronts, ChainParts, rules_for, section_of}
 
 -- ---- a rule of a chain
 
@@ -51,7 +51,7 @@ flat-same f g e [] = refl
 flat-same f g e (x ∷ xs) = ap (λ t. t ++ flat_map f xs) (e x) ∙ ap (λ t. g x ++ t) (flat-same f g e xs)
 
 pub all-parts : (hook : Hook) (family : Family) (r : Rule)
-    → flat_map (rows_behind_front hook family r) (fronts r) ≡ flat_map (combination_rows hook family r) (combinations r)
+    → flat_map (rows_behind_front hook family r) (fronts r) ≡ flat_map (rule_rows hook family r.name) (chain_rules r)
 all-parts hook family r =
     let rows : ChainParts → List Row = combination_rows hook family r in
     let sports = group_choices r.sports in
@@ -65,19 +65,18 @@ all-parts hook family r =
     ∙ over-pairs (of_front front) sports (pairs dports (backs r)) in
     flat-same (rows_behind_front hook family r) (λ front. flat_map (of_front front) (pairs sports (pairs dports (backs r)))) behind (fronts r)
     ∙ over-pairs rows (fronts r) (pairs sports (pairs dports (backs r)))
+    ∙ flat_twice (rule_rows hook family r.name) (rules_for r) (combinations r)
 
 -- ---- a chain, and a section
 
 pub chain-text : (hook : Hook) (family : Family) (r : Rule) {name : List ℕ} → name ≡ r.name
     → text_of_rows (flat_map remark_rows (remarks r)
-    ++ (chain_row hook name ∷ [] ++ (flat_map (combination_rows hook family r) (combinations r) ++ jump_row hook name ∷ [])))
+    ++ (chain_row hook name ∷ [] ++ (flat_map (rule_rows hook family r.name) (chain_rules r) ++ jump_row hook name ∷ [])))
     ≡ text_of_rows (chain_rows hook family (chain_of r))
 unfolding chain_rows
 chain-text hook family r {name = name} e =
-    let text : List ℕ → List Row → List ℕ = λ n rows.
-    text_of_rows (flat_map remark_rows (remarks r) ++ (chain_row hook n ∷ [] ++ (rows ++ jump_row hook n ∷ []))) in
-    let rules = flat_map (combination_rows hook family r) (combinations r) in
-    ap (λ n. text n rules) e ∙ ap (text r.name) (flat_twice (rule_rows hook family r.name) (rules_for r) (combinations r))
+    let rules = flat_map (rule_rows hook family r.name) (chain_rules r) in
+    ap (λ n. text_of_rows (flat_map remark_rows (remarks r) ++ (chain_row hook n ∷ [] ++ (rules ++ jump_row hook n ∷ [])))) e
 
 pub section-text : (f : Filter) {head : SectionHead} {family : Family} {rules : List Rule} → head ≡ head_of f → family ≡ first_family f.families → rules ≡ f.rules
     → text_of_rows (head_rows head.hook head.family head.accept ++ flat_map (λ r. chain_rows f.hook family (chain_of r)) rules)

@@ -14,3 +14,5 @@ pub use laws::{
     a_section_begins_with_its_target, entries_are_rows_that_append, ports_have_one_list_of_groups,
     targets_without_clash_have_different_sections,
 };
+pub use rule_rows::ChainRules;
+pub use section_rows::policy_of;

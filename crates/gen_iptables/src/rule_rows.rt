@@ -13,7 +13,7 @@ ghost use Rattle.gen_iptables.specs.Sections.{
   asks_state,
   backs,
   chain_rule,
-  combinations,
+  chain_rules,
   ends_of,
   flag_choices,
   fronts,
@@ -73,16 +73,16 @@ fn flag_choices(test: Test) -> &'static [Option<Flags>]
 
 /// The rules of a chain, for each combination of the rule that it comes from.
 #[derive(Drop)]
-pub(crate) struct ChainRules<'a> {
-    pub(crate) hook: Hook,
-    pub(crate) family: Family,
-    pub(crate) rule: &'a Rule,
-    pub(crate) ghost sized: { IsSized rule.now },
+pub struct ChainRules<'a> {
+    pub hook: Hook,
+    pub family: Family,
+    pub rule: &'a Rule,
+    pub ghost sized: { IsSized rule.now },
 }
 
 impl<'a> Rows for ChainRules<'a> {
-    ghost rows = { λ c. flat_map (combination_rows c.hook c.family c.rule.now)
-        (combinations c.rule.now) };
+    ghost rows = { λ c. flat_map (rule_rows c.hook c.family c.rule.now.name)
+        (chain_rules c.rule.now) };
 
     fn put_rows<O: Out>(&self, out: &mut O) -> Result<(), PutFault> {
         fronts_of(self.rule).put_each(self, out)

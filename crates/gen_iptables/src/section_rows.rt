@@ -39,7 +39,9 @@ fn head_of(filter: &Filter) -> SectionHead
     }
 }
 
-fn policy_of(ending: Ending) -> Option<bool>
+/// Whether the hook's policy is to accept, where that is what a filter does at its end, or to drop.
+/// `None` where the filter says no policy.
+pub fn policy_of(ending: Ending) -> Option<bool>
     ensures { result ≡ policy_of ending }
 {
     match ending {

@@ -20,12 +20,12 @@ use Rattle.ipt_lang.specs.Documents.{IsRule, IsRemark, IsChain, IsSection, hook_
 use Rattle.ipt_lang.specs.Texts.{rule_words, chain_name, remark_rows, rule_rows, chain_row, jump_row, chain_rows, default_rows, target_row, head_rows, section_rows, text_of}
 use Rattle.ipt_lang.specs.ReadingSteps.{rule_in, no_chain, no_draft, hook_in, ended, end_chain, with_rule, take_appended, take_target, take_policy, take_few, take_name, take_named, take_words, take_row}
 use Rattle.ipt_lang.proofs.RuleReadingLaws.{rule_again}
-use Rattle.ipt_lang.proofs.SafeRows.{sections_safe}
+use Rattle.ipt_lang.proofs.SafeRowLaws.{sections_safe}
 
-abbrev at : List Section → Section → Chain → ChainsDraft
+abbrev pub at : List Section → Section → Chain → ChainsDraft
 at ss s c = record { sections = ss; begun = true; section = s; chain = c }
 
-abbrev read : ChainsDraft → List Row → ChainsDraft
+abbrev pub read : ChainsDraft → List Row → ChainsDraft
 read d rows = fold take_row d rows
 
 then : (d m e : ChainsDraft) (xs ys : List Row) → read d xs ≡ m → read m ys ≡ e → read d (xs ++ ys) ≡ e
@@ -33,23 +33,23 @@ then d m e xs ys h k = fold-append take_row d xs ys ∙ ap (λ s. read s ys) h �
 
 -- ---- chains
 
-remark_read : (ss : List Section) (s : Section) (c : Chain) (text : List ℕ) → IsRemark text
+pub remark_read : (ss : List Section) (s : Section) (c : Chain) (text : List ℕ) → IsRemark text
     → read (at ss s c) (remark_rows text) ≡ at ss s (record c { remarks = c.remarks ++ text ∷ [] })
 unfolding remark_rows take_words take_named
 remark_read ss s c text h = ap (λ t. at ss s (record c { remarks = c.remarks ++ t ∷ [] })) (join_with_byte-slice_split 32 text)
 
 -- a chain of its own is none of the hooks, and a jump is appended to the hook
-no_hook : (h : Hook) (name : List ℕ) → bytes_eq (chain_name h name) (hook_word h) ≡ false
+pub no_hook : (h : Hook) (name : List ℕ) → bytes_eq (chain_name h name) (hook_word h) ≡ false
 no_hook Input name = refl
 no_hook Output name = refl
 no_hook Forward name = refl
 
-own_hook : (h : Hook) → bytes_eq (hook_word h) (hook_word h) ≡ true
+pub own_hook : (h : Hook) → bytes_eq (hook_word h) (hook_word h) ≡ true
 own_hook Input = refl
 own_hook Output = refl
 own_hook Forward = refl
 
-rule_read : (ss : List Section) (s : Section) (c : Chain) (name : List ℕ) (r : Rule) → IsRule s.family r
+pub rule_read : (ss : List Section) (s : Section) (c : Chain) (name : List ℕ) (r : Rule) → IsRule s.family r
     → read (at ss s c) (rule_rows s.hook s.family name r) ≡ at ss s (record c { rules = c.rules ++ r ∷ [] })
 unfolding rule_rows take_words take_named take_appended
 rule_read ss s c name r h =
@@ -57,7 +57,7 @@ rule_read ss s c name r h =
     ap (λ b. cond b (end_chain d) (with_rule d (rule_in s.family (rule_words s.family r)))) (no_hook s.hook name)
     ∙ ap (with_rule d) (rule_again s.family r h)
 
-jump_read : (ss : List Section) (s : Section) (c : Chain) (name : List ℕ) → read (at ss s c) (jump_row s.hook name ∷ []) ≡ end_chain (at ss s c)
+pub jump_read : (ss : List Section) (s : Section) (c : Chain) (name : List ℕ) → read (at ss s c) (jump_row s.hook name ∷ []) ≡ end_chain (at ss s c)
 unfolding take_words take_named take_appended
 jump_read ss s c name =
     let d = at ss s c in
@@ -98,10 +98,10 @@ unfolding family_in
 family_again V4 = refl
 family_again V6 = refl
 
-abbrev section : Hook → Family → Option Bool → Section
+abbrev pub section : Hook → Family → Option Bool → Section
 section hook family accept = record { hook = hook; family = family; accept = accept; chains = [] }
 
-target_read : (d : ChainsDraft) (h : Hook) (f : Family) → read d (target_row h f ∷ []) ≡ at (ended d) (section h f None) no_chain
+pub target_read : (d : ChainsDraft) (h : Hook) (f : Family) → read d (target_row h f ∷ []) ≡ at (ended d) (section h f None) no_chain
 unfolding take_words take_named take_few take_target
 target_read d h f =
     ap (λ g. at (ended d) (section g (family_in (family_word f)) None) no_chain) (hook_again h)

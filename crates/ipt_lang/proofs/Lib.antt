@@ -1,6 +1,6 @@
 pub mod DocumentLaws
 pub mod PortWords
 pub mod RuleReadingLaws
-pub mod SafeRows
+pub mod SafeRowLaws
 pub mod ValidityLaws
 pub mod WalkLaws

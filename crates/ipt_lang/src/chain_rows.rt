@@ -35,10 +35,11 @@ impl Rows for SectionHead {
     }
 }
 
+/// The comment row that names a section's target.
 #[derive(Drop)]
-struct TargetRow {
-    hook: Hook,
-    family: Family,
+pub struct TargetRow {
+    pub hook: Hook,
+    pub family: Family,
 }
 
 impl Rows for TargetRow {
@@ -81,7 +82,8 @@ impl Rows for DefaultRows {
     }
 }
 
-pub(crate) fn hook_word(hook: Hook) -> &'static [u8]
+/// The word of a hook, which is the name of its chain.
+pub fn hook_word(hook: Hook) -> &'static [u8]
     ensures { result.now ≡ hook_word hook }
 {
     match hook {
@@ -100,7 +102,8 @@ fn family_word(family: Family) -> &'static [u8]
     }
 }
 
-fn default_word(accept: bool) -> &'static [u8]
+/// The word of a policy, to accept or to drop.
+pub fn default_word(accept: bool) -> &'static [u8]
     ensures { result.now ≡ default_word accept }
 {
     if accept { b"ACCEPT" } else { b"DROP" }
@@ -126,11 +129,11 @@ impl<'a> Rows for RemarkRow<'a> {
     }
 }
 
-// The name of a chain: the hook's letter, a `_` and a name.
-#[derive(Drop)]
-struct ChainName<'a> {
-    hook: Hook,
-    name: &'a [u8],
+/// The name of a chain: the hook's letter, a `_` and a name.
+#[derive(Clone, Copy)]
+pub struct ChainName<'a> {
+    pub hook: Hook,
+    pub name: &'a [u8],
 }
 
 impl<'a> Piece for ChainName<'a> {
@@ -304,8 +307,9 @@ impl RowForm<Chain> for OfHook {
     }
 }
 
+/// Remarks, each as its row.
 #[derive(Drop)]
-struct Remarks;
+pub struct Remarks;
 
 impl RowForm<Bytes> for Remarks {
     ghost item_rows = { λ f text. remark_rows text };
@@ -318,12 +322,13 @@ impl RowForm<Bytes> for Remarks {
     }
 }
 
-// The rules of a chain.
+/// Rules of a chain, each as its row.
 #[derive(Drop)]
-struct OfChain<'a> {
-    hook: Hook,
-    family: Family,
-    name: &'a [u8],
+pub struct OfChain<'a> {
+    pub hook: Hook,
+    pub family: Family,
+    /// The chain's name without the hook's letter and the `_` behind it.
+    pub name: &'a [u8],
 }
 
 impl<'a> RowForm<Rule> for OfChain<'a> {

@@ -59,6 +59,13 @@ impl DocumentDraft<Section> for ChainsDraft {
 }
 
 impl ChainsDraft {
+    /// The hook of the section that has begun.
+    pub fn hook(&self) -> Hook
+        ensures { result ≡ self.now.section.hook }
+    {
+        self.section.hook
+    }
+
     #[tactic(auto, unfolding(crate::specs::ReadingSteps::take_words))]
     fn take_words(&mut self, alloc: Global, words: RowWords<'_>) -> Result<(), Memory>
         ensures { OnOk result (self.new ≡ take_words self.old words.entry) }
@@ -108,7 +115,7 @@ impl ChainsDraft {
         let Some(chain) = rest.next() else {
             return Ok(());
         };
-        if chain == hook_word(self.section.hook) {
+        if chain == hook_word(self.hook()) {
             self.end_chain(alloc)
         } else {
             let rule = rule_of(alloc, self.section.family, rest)?;
@@ -139,7 +146,9 @@ impl ChainsDraft {
         }
     }
 
-    fn set_name(&mut self, alloc: Global, word: &[u8]) -> Result<(), Memory>
+    /// The chain that is being read has the name behind the word's first two bytes, which are the hook's
+    /// letter and a `_`.
+    pub fn set_name(&mut self, alloc: Global, word: &[u8]) -> Result<(), Memory>
         ensures { OnOk result (self.new ≡ with_name self.old word.now) }
     {
         let name = match word {
@@ -186,7 +195,8 @@ impl ChainsDraft {
         }
     }
 
-    fn set_policy(&mut self, word: &[u8])
+    /// The policy of the section that has begun is to accept where the word says so, else to drop.
+    pub fn set_policy(&mut self, word: &[u8])
         ensures { self.new ≡ with_policy self.old word.now }
     {
         self.section.accept = Some(word == b"ACCEPT".as_slice());

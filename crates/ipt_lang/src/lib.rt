@@ -13,7 +13,11 @@ mod validity;
 mod walking;
 
 pub use acl_rows::{outcome, read_document, sections};
-pub use chain_rows::{ChainHead, JumpRow, RemarkRow, RuleRow, SectionHead};
+pub use chain_rows::{
+    ChainHead, ChainName, JumpRow, OfChain, RemarkRow, Remarks, RuleRow, SectionHead, TargetRow,
+    default_word, hook_word,
+};
+pub use chains_drafts::ChainsDraft;
 pub use documents::{Act, Chain, Doc, Flags, Rule, Section};
 pub use iptables::Iptables;
 pub use ports::PortLists;

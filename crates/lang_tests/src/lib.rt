@@ -1,4 +1,4 @@
-//! Tests of the four languages: texts as they are read, and texts that are refused.
+//! Tests of the languages: texts as they are read, and texts that are refused.
 //!
 //! A library that is tested here is proved once: tests beside its code would have it proved with them again.
 #![tactic(auto)]

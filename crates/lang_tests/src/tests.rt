@@ -3,3 +3,4 @@ mod iptables;
 mod junos;
 mod languages;
 mod nftables;
+mod restore;

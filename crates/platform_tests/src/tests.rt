@@ -6,3 +6,4 @@ mod nftables;
 mod platforms;
 mod rendering;
 mod samples;
+mod speedway;

@@ -1,4 +1,5 @@
 mod filters;
 mod reading;
+mod restore;
 mod shades;
 mod terms;

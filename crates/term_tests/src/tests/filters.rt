@@ -1,4 +1,6 @@
+ghost use Rattle.std.specs.Prelude.{IfOk};
 ghost use Rattle.std.specs.List.{All};
+ghost use Rattle.acl_platform.specs.SoundFilters.{IsSound};
 ghost use Rattle.acl_target.specs.TargetData.{IsTarget};
 
 use crate::tests::reading::{base, policy_of, shown_slip, terms_of, text, today};
@@ -21,6 +23,7 @@ fn expand_on_first(
     today: Day,
 ) -> Result<Filter, Refusal>
     requires { All IsTarget targets.now }
+    ensures { IfOk result IsSound }
 {
     match targets {
         [] => Err(Refusal::Memory),
@@ -29,7 +32,14 @@ fn expand_on_first(
 }
 
 // The filter of the terms, of which the first is in line 4, on the target, on 2026-01-15.
-fn filter_of(alloc: Global, base: &Checked, target: &str, terms: &str) -> Result<Filter, Refusal> {
+pub(crate) fn filter_of(
+    alloc: Global,
+    base: &Checked,
+    target: &str,
+    terms: &str,
+) -> Result<Filter, Refusal>
+    ensures { IfOk result IsSound }
+{
     let text = format!(in alloc; "header {{\n target:: {target}\n}}\n{terms}\n")?;
     let policy = policy_of(alloc, text.as_bytes())?;
     match policy.blocks.as_slice() {

@@ -25,12 +25,11 @@ returns-in_err-is_open c =
     let rest : List Definition → TableOrSlip = λ more. lines_added kind file ((cursor.line + 1) + 1) (opens is_open text) more c.line.new.self.lines in
     let whole : file_added kind file c.args.table.now c.args.bytes.now ≡ (line_added kind place is_open table text >>= rest) =
     sym c.loop-line.invariant.goes ∙ ap (lines_added kind file (cursor.line + 1) is_open table) c.in-Some.ensures.0 in
-    let same : line_added kind c.place-place.result is_open table c.without_comment.result.now ≡ line_added kind place is_open table text =
-    ap (λ (p : Place). line_added kind p is_open table c.without_comment.result.now) place_is
-    ∙ ap (line_added kind place is_open table) c.without_comment.ensures in
+    let same : line_added kind c.place-place.result is_open table text ≡ line_added kind place is_open table text =
+    ap (λ (p : Place). line_added kind p is_open table text) place_is in
     let p = err_from_is_err_and c.from_residual.result c.from_residual.ensures.1 in
     rw (p.1, p.2)
-    (stops_whole slip_told c.in_err-is_open.field-0.0 (line_added kind c.place-place.result is_open table c.without_comment.result.now)
+    (stops_whole slip_told c.in_err-is_open.field-0.0 (line_added kind c.place-place.result is_open table text)
     (file_added kind file c.args.table.now c.args.bytes.now) c.in_err-is_open.ensures.gives
     (λ (s : Slip) h. whole ∙ step_stops (line_added kind place is_open table text) rest s (sym same ∙ h)))
 

@@ -1,6 +1,5 @@
 use Rattle.std.proofs.Common.{◌<◌, length, List, subst, arith}
 use Rattle.acl_naming.specs.declared.naming_items.Item.{Item}
-use Rattle.acl_naming.specs.Definitions.{items_at}
 use Rattle.acl_naming.specs.LookupSteps.{Collects, any_item}
 use Rattle.acl_naming.proofs.ReachLaws.{gather_first, gather_more}
 use Rattle.acl_naming.proofs.reaching.push_reached.Goals as goal

@@ -1,19 +1,20 @@
-use Rattle.std.proofs.Common.{◌∙◌, map}
+use Rattle.std.proofs.Common.{◌∙◌, map, ap}
+use Rattle.std.specs.Option.{option_map}
 use Rattle.std.specs.String.{string_bytes}
-use Rattle.clap.specs.Words.{app_of, found_of, rows_of}
-use Rattle.acl_options.proofs.CommandLineLaws.{is_free_app, is_simple_app, not_memory, when_refused, when_taken}
+use Rattle.clap.specs.Words.{found_of, rows_of}
+use Rattle.acl_options.specs.CommandLines.{command}
+use Rattle.acl_options.specs.ComputableOptions.{options_in, options_of}
+use Rattle.acl_options.proofs.CommandLineLaws.{read_found}
 use Rattle.acl_options.proofs.options.options_for.Goals as goal
 
-pub returns-in-Ok : goal.returns-in-Ok
-returns-in-Ok c =
-    let app = app_of c.in_ok-command.command in
-    let is = c.in_ok-command.ensures in
-    c.options_in.ensures
-    ∙ when_taken app (map string_bytes c.args.words.now) (rows_of (found_of c.in-Ok.matches)) is
-    (c.in-Ok.ensures.kinds (is_free_app app is)) (c.in-Ok.ensures.matches (is_simple_app app is)).0
+pub returns-in-Some : goal.returns-in-Some
+unfolding options_of
+returns-in-Some c =
+    c.options_in.ensures ∙ read_found options_in _ command (map string_bytes c.args.words.now) _ _ c.in_ok-command.ensures
+    (ap (option_map (λ m. rows_of (found_of m))) c.in-Some.is) c.in_ok-matches.ensures
 
-pub returns : goal.returns
-returns c =
-    let app = app_of c.in_ok-command.command in
-    let is = c.in_ok-command.ensures in
-    when_refused app (map string_bytes c.args.words.now) c.in-Err.error is (not_memory _ _ c.is_for_memory.ensures c.if-is_for_memory.false) (c.in-Err.ensures.kinds (is_free_app app is))
+pub returns-in-None : goal.returns-in-None
+unfolding options_of
+returns-in-None c =
+    read_found options_in _ command (map string_bytes c.args.words.now) _ _ c.in_ok-command.ensures
+    (ap (option_map (λ m. rows_of (found_of m))) c.in-None.is) c.in_ok-matches.ensures

@@ -8,12 +8,12 @@ use Rattle.acl_naming.specs.NamingFiles.{with_items}
 use Rattle.acl_naming.proofs.ReadLaws.{refuses_slip}
 use Rattle.acl_naming.proofs.naming_files.LineReader.go_on.Goals as goal
 
-pub returns-in_default-clause-gives : goal.returns-in_default-clause-gives
-returns-in_default-clause-gives c =
-    ap (with_items c.args.self.kind c.args.self.place c.args.is_open c.args.table.now) (words_none c.args.text.now 0 c.in_default.ensures.exact)
+pub returns-in-None-clause-gives : goal.returns-in-None-clause-gives
+returns-in-None-clause-gives c =
+    ap (with_items c.args.self.kind c.args.self.place c.args.is_open c.args.table.now) (words_none c.args.text.now 0 c.in-None.ensures.exact)
 
-pub returns-else-is_open-clause-gives : goal.returns-else-is_open-clause-gives
-returns-else-is_open-clause-gives c =
+pub returns-in-Some-clause-gives : goal.returns-in-Some-clause-gives
+returns-in-Some-clause-gives c =
     let text = c.args.text.now in
     let word = slice_range text c.in-Some.start c.in-Some.end in
     let fits : 0 ≤ length text = omega arith in

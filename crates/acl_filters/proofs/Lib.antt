@@ -1,0 +1,5 @@
+pub mod AnsweredSlips
+pub mod ApartLaws
+pub mod BlockLists
+pub mod FilterLaws
+pub mod MeantFilters

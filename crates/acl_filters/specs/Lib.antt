@@ -1,0 +1,4 @@
+pub mod AskedFilters
+pub mod CheckedFilters
+pub mod FilterMeanings
+pub mod FilterRequests

@@ -1,0 +1,10 @@
+pub mod AskedFiles
+pub mod FileLists
+pub mod FileMeanings
+pub mod FilterPaths
+pub mod Job
+pub mod PlannedTexts
+pub mod PreparingSteps
+pub mod Removals
+pub mod ShadedSlips
+pub mod Works

@@ -1,0 +1,54 @@
+ghost use Rattle.std.specs.Prelude.{◌≡◌, None, map};
+ghost use Rattle.std.specs.List.{All};
+ghost use Rattle.std.specs.String.{string_bytes};
+ghost use Rattle.acl_host.specs.Writing.{WritesFile};
+ghost use Rattle.acl_render.specs.PlatformFiles.{text_on};
+ghost use Rattle.acl_job.specs.FileLists.{PathsDiffer, WritesFiles};
+ghost use Rattle.acl_job.specs.Works.{IsWritable, file_view};
+
+use acl_host::{Tree, WriteFault};
+use acl_platform::Filter;
+use acl_policy::Kind;
+use acl_render::render;
+use acl_text::{Items, PutFault};
+
+/// A file that is to be written: its platform, its path, and its filters in order.
+#[derive(Drop)]
+pub struct FilterFile {
+    pub kind: Kind,
+    pub path: String,
+    pub filters: Items<Filter>,
+}
+
+// Writes the file. Its text goes into the tree as it is made: no text is held.
+fn write_filters<T: Tree>(tree: &mut T, file: &FilterFile) -> Result<(), WriteFault>
+    requires begun { T.begun tree.old ≡ None }
+    requires fits { IsWritable file.now }
+    ensures { WritesFile T.Tree tree.old tree.new (string_bytes file.now.path)
+        (text_on file.now.kind file.now.filters) result }
+{
+    tree.begin(file.path.as_str())?;
+    match render(file.kind, file.filters.as_slice(), tree) {
+        Ok(()) => tree.finish(),
+        Err(PutFault::Failed) => Err(WriteFault::Failed),
+        Err(PutFault::Memory) => Err(WriteFault::Memory),
+    }
+}
+
+/// Writes each file whole, in order.
+///
+/// The first failure ends the writing: the files before that one are written, and those behind it are as they were.
+pub fn write_files<T: Tree>(tree: &mut T, files: &[FilterFile]) -> Result<(), WriteFault>
+    requires begun { T.begun tree.old ≡ None }
+    requires differ { PathsDiffer (map file_view files.now) }
+    requires fit { All IsWritable files.now }
+    ensures { WritesFiles T.Tree tree.old tree.new (map file_view files.now) result }
+{
+    match files {
+        [] => Ok(()),
+        [first, rest @ ..] => {
+            write_filters(tree, first)?;
+            write_files(tree, rest)
+        }
+    }
+}

@@ -1,0 +1,142 @@
+ghost use Rattle.std.specs.Prelude.{◌≡◌, true, IfOk, OnOk};
+ghost use Rattle.std.specs.List.{All};
+ghost use Rattle.acl_policy.specs.Conditions.{IsBlock, IsPolicy};
+ghost use Rattle.acl_load.specs.LoadedPolicies.{AreResolvedIn};
+ghost use Rattle.acl_load.specs.LoadFaults.{LoadsFiles};
+ghost use Rattle.acl_report.specs.ShadedLists.{AreShadedIn};
+ghost use Rattle.acl_options.specs.CodeViews.{options_view};
+ghost use Rattle.acl_job.specs.PreparingSteps.{
+  AddsFile,
+  IsWorkOf,
+  JudgesSo,
+  PlansLoaded,
+};
+ghost use Rattle.acl_job.specs.Works.{MakesWork};
+
+use crate::filter_files::FilterFile;
+use crate::preparing::{FileDraft, FileDrafts, prepare};
+use crate::shading::refuse_shaded;
+use acl_days::Day;
+use acl_host::Tree;
+use acl_load::{LoadFault, Loaded, load, policy_fault};
+use acl_options::Options;
+use acl_policy::Kind;
+use acl_report::{ShadedLists, report_terms, shaded_lists};
+use acl_text::{Memory, Out, Refusal, Rejection, Whole};
+use std::alloc::Global;
+
+/// What a run is to write: its files, and the report on standard output.
+#[derive(Drop)]
+pub struct Work {
+    pub files: Vec<FilterFile>,
+    pub report: Whole,
+}
+
+// Adds the platform's file, where it has filters, and the report on them.
+fn add_file(kind: Kind, draft: FileDraft, work: &mut Work) -> Result<(), Memory>
+    requires { work.old.report.is_open ≡ true }
+    ensures { OnOk result (AddsFile kind draft work.old work.new) }
+{
+    if work.report.put(draft.report.as_slice()).is_err() {
+        return Err(Memory);
+    }
+    if draft.filters.as_slice().is_empty() {
+        return Ok(());
+    }
+    work.files.push(FilterFile {
+        kind,
+        path: draft.path,
+        filters: draft.filters,
+    })?;
+    Ok(())
+}
+
+// The files of the drafts, and the report: what stands there, and then the lines on the files.
+fn work_of(alloc: Global, drafts: FileDrafts, report: Whole) -> Result<Work, Memory>
+    requires { report.is_open ≡ true }
+    ensures { IfOk result (IsWorkOf report.bytes drafts) }
+{
+    let mut work = Work {
+        files: Vec::new(alloc),
+        report,
+    };
+    add_file(Kind::Cisco, drafts.cisco, &mut work)?;
+    add_file(Kind::Juniper, drafts.juniper, &mut work)?;
+    add_file(Kind::Iptables, drafts.iptables, &mut work)?;
+    add_file(Kind::Nftables, drafts.nftables, &mut work)?;
+    Ok(work)
+}
+
+// The filters of the policy, or the first slip: of a filter, else, where it is asked for, of a shaded term.
+fn judge(
+    alloc: Global,
+    options: &Options<'_>,
+    today: Day,
+    loaded: &Loaded,
+    shaded: &ShadedLists,
+) -> Result<FileDrafts, Refusal>
+    requires blocks { All IsBlock loaded.now.policy.blocks }
+    requires shaded { AreShadedIn today loaded.now shaded.now }
+    ensures { JudgesSo (options_view options.now) today loaded.now result }
+{
+    let drafts = prepare(alloc, today, options.output, options.policy, loaded)?;
+    if options.shade_check {
+        refuse_shaded(alloc, loaded, shaded)?;
+    }
+    Ok(drafts)
+}
+
+// What is to be written of the policy, or the first fault of its filters and of its terms. The lists say which terms are
+// shaded.
+fn plan_with(
+    alloc: Global,
+    options: &Options<'_>,
+    today: Day,
+    loaded: &Loaded,
+    shaded: &ShadedLists,
+) -> Result<Work, Rejection>
+    requires fits { IsPolicy loaded.now.policy }
+    requires terms { AreResolvedIn loaded.now.definitions loaded.now.policy.blocks loaded.now.terms }
+    requires shaded { AreShadedIn today loaded.now shaded.now }
+    ensures { PlansLoaded (options_view options.now) today loaded.now result }
+{
+    match judge(alloc, options, today, loaded, shaded) {
+        Ok(drafts) => {
+            let report = report_terms(alloc, loaded, shaded, today, options.exp_info)?;
+            Ok(work_of(alloc, drafts, report)?)
+        }
+        Err(Refusal::Slip(slip)) => {
+            Err(Rejection::Fault(policy_fault(alloc, &loaded.sources, slip)?))
+        }
+        Err(Refusal::Memory) => Err(Rejection::Memory),
+    }
+}
+
+// The same, where it is not known yet which terms are shaded: that is found out once.
+fn plan(
+    alloc: Global,
+    options: &Options<'_>,
+    today: Day,
+    loaded: &Loaded,
+) -> Result<Work, Rejection>
+    requires fits { IsPolicy loaded.now.policy }
+    requires terms { AreResolvedIn loaded.now.definitions loaded.now.policy.blocks loaded.now.terms }
+    ensures { PlansLoaded (options_view options.now) today loaded.now result }
+{
+    let shaded = shaded_lists(alloc, loaded, today)?;
+    plan_with(alloc, options, today, loaded, &shaded)
+}
+
+/// What is to be written for that day, or the first fault of the files.
+pub fn make_work<T: Tree>(
+    alloc: Global,
+    options: &Options<'_>,
+    today: Day,
+    tree: &mut T,
+) -> Result<Work, LoadFault>
+    ensures makes { MakesWork (options_view options.now) today (T.files tree.old) result }
+    ensures looks { LoadsFiles T.Tree tree.old tree.new result }
+{
+    let loaded = load(alloc, tree, options.definitions, options.policy)?;
+    Ok(plan(alloc, options, today, &loaded)?)
+}

@@ -1,0 +1,3 @@
+pub mod DecidingTexts
+pub mod PolicyAnswersLaws
+pub mod PrintingLaws

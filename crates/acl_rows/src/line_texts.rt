@@ -1,0 +1,73 @@
+ghost use Rattle.std.specs.Prelude.{◌≡◌, ◌≤◌, [], true, false, Some, IsTrue, take, if◌then◌else◌};
+
+use acl_text::{Out, PutFault};
+use std::marker::Model;
+
+// So many bytes have room.
+const ROOM: usize = 256;
+
+/// The text of a line that is put together before it is put.
+///
+/// It refuses what it has no room for, and from then on nothing more may be put.
+#[derive(Drop)]
+pub(crate) struct LineText {
+    bytes: [u8; ROOM],
+    end: usize,
+    is_open: bool,
+}
+
+impl Model for LineText {
+    ghost use Rattle.std.specs.Prelude.{List, ℕ, Bool, take, ◌≤◌};
+
+    ghost Value = { List ℕ × Bool };
+
+    ghost view = { λ t. (take t.end t.bytes, t.is_open) };
+
+    ghost invariant = { λ t. t.end ≤ 256 };
+}
+
+impl LineText {
+    pub(crate) fn new() -> LineText
+        ensures { result ≡ ([], true) }
+    {
+        LineText {
+            bytes: [0; ROOM],
+            end: 0,
+            is_open: true,
+        }
+    }
+
+    pub(crate) fn as_slice(&self) -> &[u8]
+        ensures { result.now ≡ self.now.0 }
+    {
+        &self.bytes[..self.end]
+    }
+}
+
+impl Out for LineText {
+    ghost told = { λ t. Some t.0 };
+
+    ghost faults = { λ t. if t.1 then 0 else 1 };
+
+    ghost refusals = { λ t. 0 };
+
+    ghost is_open = { λ t. t.1 };
+
+    // it has no rest
+    ghost keeps_rest = { λ x y. Unit {0} };
+
+    fn put(&mut self, bytes: &[u8]) -> Result<(), PutFault> {
+        if bytes.len() > ROOM - self.end {
+            self.is_open = false;
+            return Err(PutFault::Failed);
+        }
+        let end = self.end + bytes.len();
+        self.bytes[self.end..end].copy_from_slice(bytes);
+        self.end = end;
+        Ok(())
+    }
+
+    ghost rest_same = { λ x. tt };
+
+    ghost rest_goes_on = { λ x y z p q. tt };
+}

@@ -1,0 +1,9 @@
+pub mod Asked
+pub mod Deciding
+pub mod Endings
+pub mod Failures
+pub mod Lines
+pub mod Statuses
+pub mod Telling
+pub mod Told
+pub mod Worlds

@@ -1,0 +1,4 @@
+pub mod DeciderLaws
+pub mod MadeAnswers
+pub mod OneAnswers
+pub mod WrittenSections

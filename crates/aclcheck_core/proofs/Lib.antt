@@ -1,0 +1,2 @@
+pub mod DecidedChecks
+pub mod FinishedListings

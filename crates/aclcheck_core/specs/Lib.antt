@@ -1,0 +1,4 @@
+pub mod CheckRuns
+pub mod DecidingSteps
+pub mod FaultLines
+pub mod Programs

@@ -1,5 +1,0 @@
-use Rattle.std.proofs.Common.{length}
-use Rattle.aclgen_core.proofs.preparing.+add_filters.Given as goal
-
-abbrev pub decreases-add_filters : goal.decreases-add_filters
-decreases-add_filters l = length l.targets.now

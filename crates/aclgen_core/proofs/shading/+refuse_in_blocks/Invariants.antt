@@ -1,5 +1,0 @@
-use Rattle.std.proofs.Common.{length}
-use Rattle.aclgen_core.proofs.shading.+refuse_in_blocks.Given as goal
-
-abbrev pub decreases-refuse_in_blocks : goal.decreases-refuse_in_blocks
-decreases-refuse_in_blocks l = length l.blocks.now

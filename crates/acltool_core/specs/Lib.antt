@@ -1,0 +1,4 @@
+pub mod AnsweringSteps
+pub mod Programs
+pub mod ToolLines
+pub mod ToolRuns

@@ -1,0 +1,17 @@
+-- The whole run of the program, and its exit status.
+use Rattle.std.specs.Prelude.{◌≡◌, ℕ, Bool, List}
+use Rattle.acl_run.specs.Statuses.{status}
+use Rattle.acl_run.specs.Telling.{RunsWithoutWords}
+use Rattle.acl_run.specs.Worlds.{Stream, World}
+use Rattle.acl_run.specs.declared.endings.Ended.{Ended}
+use Rattle.acltool_core.specs.ToolLines.{usage_line}
+use Rattle.acltool_core.specs.ToolRuns.{RunsTool}
+
+-- The run on the words that are given ends with the status of its ending.
+abbrev pub RunsWithStatus : List (List ℕ) → World → World → ℕ → Type 0
+RunsWithStatus words old new given = (result : Ended) × (given ≡ status result) × RunsTool words old new result
+
+-- No words were given: memory was wanted for them, or some are no text, and so they are no command line.
+abbrev pub EndsWithoutWords : Bool → Stream → Stream → ℕ → Type 0
+EndsWithoutWords wanted old new given =
+    (result : Ended) × (given ≡ status result) × RunsWithoutWords usage_line wanted old new result

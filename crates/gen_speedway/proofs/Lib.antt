@@ -1,0 +1,3 @@
+pub mod FirstRows
+pub mod RestoredRows
+pub mod RestoredSections

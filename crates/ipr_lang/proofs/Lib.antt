@@ -1,0 +1,4 @@
+pub mod BothTexts
+pub mod DocumentLaws
+pub mod SafeRestoreRows
+pub mod ValidityLaws

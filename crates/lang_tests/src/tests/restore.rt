@@ -1,0 +1,186 @@
+use crate::tests::languages::{
+    ACCEPTED, ACK, Change, DENIED, LOGGED, PACKET, PING, SOLICITATION, Walk, expect_changes,
+    expect_walks,
+};
+use acl_packet::{Conn, Outcome, Packet};
+use acl_rows::{Language, read_document};
+use acl_text::Whole;
+use ipr_lang::{Restore, read_restore};
+use ipt_lang::{Doc, Iptables, Section};
+use std::alloc::Global;
+use std::test::Fail;
+
+const DOCUMENT: &str = "## iptables INPUT inet
+*filter
+:INPUT DROP [0:0]
+:I_web - [0:0]
+:I_rest - [0:0]
+# web servers
+-A I_web -p tcp -d 192.0.2.10/32 -m multiport --dports 80,443,8000:8089 -m state --state ESTABLISHED,RELATED -j LOG
+-A I_web -p icmp --icmp-type 8 -j ACCEPT
+-A INPUT -j I_web
+-A I_rest -j LOG
+-A INPUT -j I_rest
+COMMIT
+";
+
+// Small changes of the document, each of which is read: what stands in it, and what in its place.
+static READ: [Change; 7] = [
+    (":INPUT DROP", ":INPUT ACCEPT"),
+    ("# web servers\n", ""),
+    ("# web servers", "# :I_web -\n# -A INPUT -j I_rest"),
+    ("-A I_rest -j LOG\n", ""),
+    (
+        "-A I_rest -j LOG\n",
+        "-A I_rest -j LOG\n-A I_rest -j ACCEPT\n",
+    ),
+    ("I_rest", "I_INPUT"),
+    (
+        "COMMIT\n",
+        "COMMIT\n## iptables OUTPUT inet\n*filter\n:OUTPUT ACCEPT [0:0]\nCOMMIT\n",
+    ),
+];
+
+// Small changes of it that are refused.
+static REFUSED: [Change; 36] = [
+    // a section has its rows, each once and in their order
+    ("## iptables INPUT inet\n", ""),
+    ("*filter\n", ""),
+    ("*filter", "*mangle"),
+    ("*filter", "* filter"),
+    ("COMMIT\n", ""),
+    ("COMMIT\n", "COMMIT"),
+    ("COMMIT\n", "COMMIT\nCOMMIT\n"),
+    ("COMMIT\n", "COMMIT\n# more\n"),
+    ("COMMIT\n", "COMMIT\n-A INPUT -j I_web\n"),
+    ("## iptables", "# aclgen\n## iptables"),
+    (
+        "COMMIT\n",
+        "COMMIT\n## iptables INPUT inet\n*filter\n:INPUT DROP [0:0]\nCOMMIT\n",
+    ),
+    (
+        "COMMIT\n",
+        "## iptables OUTPUT inet\n:OUTPUT DROP [0:0]\nCOMMIT\n",
+    ),
+    // it says its hook's policy
+    (":INPUT DROP [0:0]\n", ""),
+    (":INPUT DROP", ":INPUT -"),
+    (":INPUT DROP", ":INPUT REJECT"),
+    (":INPUT DROP", ":OUTPUT DROP"),
+    (":INPUT DROP [0:0]", "-P INPUT DROP"),
+    (
+        ":INPUT DROP [0:0]\n",
+        ":INPUT DROP [0:0]\n:INPUT DROP [0:0]\n",
+    ),
+    // counters are nothing
+    ("DROP [0:0]", "DROP [1:0]"),
+    ("DROP [0:0]", "DROP"),
+    ("- [0:0]", "- [0:1]"),
+    ("- [0:0]", "-  [0:0]"),
+    // each chain is declared, once and in order, before the rules
+    (":I_rest - [0:0]\n", ""),
+    (":I_rest - [0:0]\n", ":I_rest - [0:0]\n:I_rest - [0:0]\n"),
+    (":I_rest - [0:0]\n", ":I_rest - [0:0]\n:I_more - [0:0]\n"),
+    (
+        ":I_web - [0:0]\n:I_rest - [0:0]\n",
+        ":I_rest - [0:0]\n:I_web - [0:0]\n",
+    ),
+    (
+        ":I_rest - [0:0]\n# web servers\n",
+        "# web servers\n:I_rest - [0:0]\n",
+    ),
+    (":I_rest - [0:0]", ":I_rest DROP [0:0]"),
+    (":I_rest - [0:0]", "-N I_rest"),
+    (":I_rest", ": I_rest"),
+    ("-A INPUT -j I_web\n", ""),
+    // what is wrong among arguments of iptables
+    ("I_rest", "O_rest"),
+    ("I_rest", "I_web"),
+    ("-p icmp", "-p 1"),
+    ("-j ACCEPT", "-j  ACCEPT"),
+    ("*filter\n", "*filter\r\n"),
+];
+
+static WALKS: [Walk; 5] = [
+    // what is logged goes on, at last to the policy
+    (DOCUMENT, 0, PING, Some(ACCEPTED)),
+    (
+        DOCUMENT,
+        0,
+        Packet {
+            conn: Conn::Related,
+            ..ACK
+        },
+        Some(Outcome {
+            logged: true,
+            ..DENIED
+        }),
+    ),
+    (LOGGING, 0, PACKET, Some(LOGGED)),
+    (DOCUMENT, 0, SOLICITATION, None),
+    (DOCUMENT, 1, PACKET, None),
+];
+
+const LOGGING: &str = "## iptables INPUT inet
+*filter
+:INPUT ACCEPT [0:0]
+:I_log - [0:0]
+-A I_log -j LOG
+-A INPUT -j I_log
+COMMIT
+";
+
+#[test]
+fn texts_are_read_refused_and_walked(rt: HostRuntime) -> Result<(), Fail> {
+    expect_changes::<Restore>(&rt, rt.alloc(), DOCUMENT, &READ, true)?;
+    expect_changes::<Restore>(&rt, rt.alloc(), DOCUMENT, &REFUSED, false)?;
+    expect_walks::<Restore>(&rt, rt.alloc(), &WALKS)
+}
+
+// One filter in both languages.
+const RESTORED: &[u8] = b"## iptables INPUT inet
+*filter
+:INPUT DROP [0:0]
+:I_web - [0:0]
+# web
+-A I_web -p tcp -d 192.0.2.10/32 --dport 80 -j ACCEPT
+-A INPUT -j I_web
+COMMIT
+";
+
+const ARGUMENTS: &[u8] = b"## iptables INPUT inet
+-P INPUT DROP
+# web
+-N I_web
+-A I_web -p tcp -d 192.0.2.10/32 --dport 80 -j ACCEPT
+-A INPUT -j I_web
+";
+
+// The text in the language of the document's one section.
+fn text_in<L: Language<Section = Section>>(
+    alloc: Global,
+    doc: &Option<Doc>,
+) -> Result<Whole, Fail> {
+    let mut out = Whole::new(alloc);
+    if let Some(doc) = doc {
+        if let [section] = doc.as_slice() {
+            L::put_section(section, &mut out)?;
+        }
+    }
+    Ok(out)
+}
+
+#[test]
+fn a_filter_is_one_document_in_both_languages(rt: HostRuntime) -> Result<(), Fail> {
+    let alloc = rt.alloc();
+    let restored = read_restore(alloc, RESTORED)?;
+    let arguments = read_document::<Iptables>(alloc, ARGUMENTS)?;
+    assert_eq!(rt;
+        text_in::<Iptables>(alloc, &restored)?.as_slice(),
+        ARGUMENTS
+    );
+    assert_eq!(rt; text_in::<Restore>(alloc, &arguments)?.as_slice(), RESTORED);
+    assert!(rt; read_restore(alloc, ARGUMENTS)?.is_none());
+    assert!(rt; read_document::<Iptables>(alloc, RESTORED)?.is_none());
+    Ok(())
+}

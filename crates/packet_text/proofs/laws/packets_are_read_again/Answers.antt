@@ -1,0 +1,8 @@
+use Rattle.packet_text.proofs.PacketTextLaws.{packet-again, packet-printed}
+use Rattle.packet_text.proofs.laws.packets_are_read_again.Goals as goal
+
+pub returns-clause-spelled : goal.returns-clause-spelled
+returns-clause-spelled c = packet-printed
+
+pub returns-clause-read : goal.returns-clause-read
+returns-clause-read c = packet-again

@@ -1,0 +1,3 @@
+pub mod RestoreMeanings
+pub mod RestorePlans
+pub mod RestoringSteps
