@@ -30,16 +30,19 @@ pub enum Feature {
     TcpInitial,
     /// Ports of SCTP.
     SctpPorts,
+    /// Anything but sources, of lists that say these alone.
+    MoreThanSources,
 }
 
 impl Feature {
-    /// The word of a policy that asks for it.
+    /// The word of a policy that asks for it, or of the lists that lack it.
     pub fn word(self) -> &'static [u8]
         ensures { result.now ≡ feature_word self }
     {
         match self {
             Feature::TcpInitial => b"tcp-initial",
             Feature::SctpPorts => b"sctp",
+            Feature::MoreThanSources => b"standard",
         }
     }
 }

@@ -18,13 +18,14 @@ use acl_text::{Out, PutFault};
 /// A platform: a language of documents, and the section of it that a filter becomes.
 ///
 /// For the filters that the platform `handles`, `section` is what a document of its language has for
-/// the filter, and `count` the number of its entries. Why a rule is not taken, `RuleLimits` says.
+/// the filter, and `count` the number of its entries. A value of the platform may say what its documents
+/// have besides, as where their lists are numbered from. Why a rule is not taken, `RuleLimits` says.
 pub trait Platform: RuleLimits {
     type Language: Language;
 
-    ghost handles: { Filter → Bool };
+    ghost handles: { Self → Filter → Bool };
 
-    ghost section: { Filter → Self.Language.Section };
+    ghost section: { Self → Filter → Self.Language.Section };
 
     ghost count: { Filter → ℕ };
 
@@ -39,30 +40,31 @@ pub trait Platform: RuleLimits {
     /// to be open.
     fn put_section<O: Out>(&self, filter: &Filter, out: &mut O) -> Result<(), PutFault>
         requires open { IsTrue (O.is_open out.old) }
-        requires handled { handles filter.now ≡ true }
+        requires handled { handles self.now filter.now ≡ true }
         requires sound { IsSound filter.now }
         ensures { Puts O.Out out.old out.new
-            (text_of_rows (flat_map Self.Language.rows (section filter.now ∷ []))) result };
+            (text_of_rows (flat_map Self.Language.rows (section self.now filter.now ∷ []))) result };
 
     /// A law: the text of the section of a filter that is taken spells the document of that section.
     fn a_section_is_spelled()
-        ensures { (f : Filter)
-            → IsAccepted handles (λ g. filter_limit Self.limit (count g) g) f
+        ensures { (platform : Self) (f : Filter)
+            → IsAccepted (handles platform) (λ g. filter_limit Self.limit (count g) g) f
             → SpellsRows Self.Language.is_section Self.Language.names Self.Language.rows
-            (text_of_rows (flat_map Self.Language.rows (section f ∷ []))) (section f ∷ []) };
+            (text_of_rows (flat_map Self.Language.rows (section platform f ∷ [])))
+            (section platform f ∷ []) };
 
     /// A law: the section of a filter that is taken decides packets as the filter does.
     fn a_section_decides()
-        ensures { (f : Filter)
-            → IsAccepted handles (λ g. filter_limit Self.limit (count g) g) f
-            → DecidesAs f (Self.Language.outcome (section f)) };
+        ensures { (platform : Self) (f : Filter)
+            → IsAccepted (handles platform) (λ g. filter_limit Self.limit (count g) g) f
+            → DecidesAs f (Self.Language.outcome (section platform f)) };
 }
 
 /// The number of entries of the filter's section, or the first limit that the filter meets. The filter
 /// has to be sound, and one that the platform handles.
 #[tactic(auto, using(crate::proofs::SoundRules::all_sized))]
 pub fn count_within_limits<P: Platform>(platform: &P, filter: &Filter) -> Result<u64, Limit>
-    requires handled { P.handles filter.now ≡ true }
+    requires handled { P.handles platform.now filter.now ≡ true }
     requires sound { IsSound filter.now }
     ensures { result ≡ judged (filter_limit P.limit (P.count filter.now) filter.now)
         (P.count filter.now) }

@@ -20,17 +20,17 @@ pub fn write_all<P: Platform, O: Out>(
     out: &mut O,
 ) -> Result<(), PutFault>
     requires open { IsTrue (O.is_open out.old) }
-    requires accepted { All (IsAccepted P.handles (λ f. filter_limit P.limit (P.count f) f))
-        filters.now }
+    requires accepted { All
+        (IsAccepted (P.handles platform.now) (λ f. filter_limit P.limit (P.count f) f)) filters.now }
     requires names_differ { IsDistinct bytes_eq
-        (flat_map P.Language.names (map P.section filters.now)) }
+        (flat_map P.Language.names (map (P.section platform.now) filters.now)) }
     ensures puts { Puts O.Out out.old out.new
-        (text_of_rows (flat_map P.Language.rows (map P.section filters.now))) result }
+        (text_of_rows (flat_map P.Language.rows (map (P.section platform.now) filters.now))) result }
     ensures spelled { SpellsRows P.Language.is_section P.Language.names P.Language.rows
-        (text_of_rows (flat_map P.Language.rows (map P.section filters.now)))
-        (map P.section filters.now) }
+        (text_of_rows (flat_map P.Language.rows (map (P.section platform.now) filters.now)))
+        (map (P.section platform.now) filters.now) }
     ensures decides { (k : ℕ) → IfSome (slice_get filters.now k)
-        (λ f. DecidesAs f (outcome_at P.Language.outcome (map P.section filters.now) k)) }
+        (λ f. DecidesAs f (outcome_at P.Language.outcome (map (P.section platform.now) filters.now) k)) }
 {
     P::a_section_is_spelled();
     P::a_section_decides();

@@ -27,7 +27,8 @@ use Rattle.cisco_lang.specs.declared.documents.Flags.{Flags}
 use Rattle.cisco_lang.specs.declared.documents.Flags.TheVariants.{Established, Rst, SynNotAck}
 use Rattle.cisco_lang.specs.Documents.{code_fits, flags_fit, icmp_fits, IsEntry, ports_fit, type_fits}
 use Rattle.cisco_lang.specs.Texts.{action_word, proto_word, masked_words, address_words, ports_words, number_words, icmp_words, flags_words, end_words, entry_words}
-use Rattle.cisco_lang.specs.ReadingSteps.{next_word, proto_in, take_address, wildcard_length, take_masked, take_place, take_port, take_ports, take_number, take_flags, entry_in}
+use Rattle.cisco_lang.specs.AddressReading.{next_word, take_address, wildcard_length, take_masked, take_place}
+use Rattle.cisco_lang.specs.ReadingSteps.{proto_in, take_port, take_ports, take_number, take_flags, entry_in}
 
 -- ---- numbers and addresses are no keywords
 
@@ -60,12 +61,12 @@ unfolding number_in digits_in
 number_plain n h = plain (number_in 255) (decimal n) n (number-again 255 n (omega (arith, h)) h) refl refl refl refl
 
 -- words that begin no ports
-abbrev NoPorts : List (List ℕ) → Type 0
+abbrev pub NoPorts : List (List ℕ) → Type 0
 NoPorts words = (bytes_eq (next_word words).0 (codes "eq") ≡ false) × (bytes_eq (next_word words).0 (codes "range") ≡ false)
 
 -- ---- action and protocol
 
-action_again : (b : Bool) → bytes_eq (action_word b) (codes "permit") ≡ b
+pub action_again : (b : Bool) → bytes_eq (action_word b) (codes "permit") ≡ b
 action_again true = refl
 action_again false = refl
 
@@ -128,7 +129,7 @@ unfolding next_word
 masked_plain V4 p rest h = address_plain p.first (first_fits V4 p h)
 masked_plain V6 p rest h = prefix_plain p h
 
-place_read : (f : Family) (p : Prefix) (rest : List (List ℕ)) → IsPrefixOf f p
+pub place_read : (f : Family) (p : Prefix) (rest : List (List ℕ)) → IsPrefixOf f p
     → (take_place f (address_words f p ++ rest) ≡ (p, rest)) × NoPorts (address_words f p ++ rest)
 unfolding address_words take_place next_word
 place_read f p rest h =
@@ -197,7 +198,7 @@ flags_read (Some Established) log = refl
 flags_read (Some Rst) log = refl
 flags_read (Some SynNotAck) log = refl
 
-log_read : (b : Bool) → bytes_eq (next_word (log_words b)).0 (codes "log") ≡ b
+pub log_read : (b : Bool) → bytes_eq (next_word (log_words b)).0 (codes "log") ≡ b
 unfolding log_words next_word
 log_read true = refl
 log_read false = refl

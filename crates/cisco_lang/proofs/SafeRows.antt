@@ -28,7 +28,7 @@ use Rattle.cisco_lang.proofs.ValidityLaws.{head_of}
 
 -- ---- entries
 
-action_safe : (b : Bool) → IsWord (action_word b)
+pub action_safe : (b : Bool) → IsWord (action_word b)
 action_safe true = search word
 action_safe false = search word
 
@@ -44,7 +44,7 @@ masked_safe : (f : Family) (p : Prefix) → IsPrefixOf f p → AreWords (masked_
 masked_safe V4 p h = search (address_word V4 p.first (first_fits V4 p h), wildcard_word)
 masked_safe V6 p h = search (prefix_word p h.1)
 
-address_safe : (f : Family) (p : Prefix) → IsPrefixOf f p → AreWords (address_words f p)
+pub address_safe : (f : Family) (p : Prefix) → IsPrefixOf f p → AreWords (address_words f p)
 unfolding address_words
 address_safe f p h = search (either_words, word, address_word f p.first (first_fits f p h), masked_safe f p h)
 

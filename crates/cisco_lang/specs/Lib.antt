@@ -1,3 +1,4 @@
+pub mod AddressReading
 pub mod Documents
 pub mod ReadingSteps
 pub mod Texts

@@ -1,6 +1,5 @@
 -- Reading leniently: a draft that rows change, and that nothing refuses.
-use Rattle.std.specs.Prelude.{ℕ, ◌-◌, Bool, true, false, ◌==◌, if◌then◌else◌, List, [], ◌∷◌, ◌++◌, drop, codes, Option, None, Some, unwrap_or}
-use Rattle.std.specs.Int.Count.{count_leading_zeros}
+use Rattle.std.specs.Prelude.{ℕ, Bool, true, false, ◌==◌, if◌then◌else◌, List, [], ◌∷◌, ◌++◌, drop, codes, Option, None, Some, unwrap_or}
 use Rattle.std.specs.List.{join_with_byte}
 use Rattle.std.specs.Option.{option_map_or}
 use Rattle.std.specs.Str.{bytes_eq}
@@ -8,14 +7,12 @@ use Rattle.acl_packet.specs.declared.addresses.Family.{Family}
 use Rattle.acl_packet.specs.declared.addresses.Family.TheVariants.{V4, V6}
 use Rattle.acl_packet.specs.declared.addresses.Families.{Families}
 use Rattle.acl_packet.specs.declared.addresses.Families.TheVariants.{Inet, Mixed}
-use Rattle.acl_packet.specs.declared.addresses.Prefix.{Prefix}
-use Rattle.acl_packet.specs.Addresses.{width_of, everywhere}
 use Rattle.acl_packet.specs.Decimals.{number_in}
 use Rattle.acl_packet.specs.Packets.{icmp_of}
-use Rattle.acl_text.specs.AddressTexts.{address_in, spelled_prefix_in}
 use Rattle.acl_rows.specs.RowSteps.{begins_with, few_in}
 use Rattle.acl_rows.specs.Rows.{Row}
 use Rattle.acl_rows.specs.FamilyWords.{families_in}
+use Rattle.cisco_lang.specs.AddressReading.{next_word, take_place}
 use Rattle.cisco_lang.specs.declared.documents.Section.{Section}
 use Rattle.cisco_lang.specs.declared.documents.AccessList.{AccessList}
 use Rattle.cisco_lang.specs.declared.documents.Item.{Item}
@@ -27,45 +24,12 @@ use Rattle.cisco_lang.specs.declared.lists_drafts.ListsDraft.{ListsDraft}
 
 -- ---- the words of an entry, each told by its place
 
--- The next word, which is empty where there is none, and the words behind it.
-unfoldable pub next_word : List (List ℕ) → List ℕ × List (List ℕ)
-next_word [] = ([], [])
-next_word (w ∷ words) = (w, words)
-
 unfoldable pub proto_in : Family → List ℕ → Option ℕ
 proto_in family w =
     if bytes_eq w (codes "tcp") then Some 6
     else if bytes_eq w (codes "udp") then Some 17
     else if bytes_eq w (codes "icmp") then Some (icmp_of family)
     else number_in 255 w
-
-unfoldable pub take_address : Family → List (List ℕ) → ℕ × List (List ℕ)
-take_address family words =
-    let word = next_word words in
-    (unwrap_or (address_in family word.0) 0, word.1)
-
--- As many bits as are not set before the first that is.
-abbrev pub wildcard_length : ℕ → ℕ
-wildcard_length wildcard = count_leading_zeros 128 wildcard - 96
-
--- An address and its wildcard, or in IPv6 a prefix.
-unfoldable pub take_masked : Family → List (List ℕ) → Prefix × List (List ℕ)
-take_masked V4 words =
-    let first = take_address V4 words in
-    let wildcard = take_address V4 first.1 in
-    (record { family = V4; first = first.0; len = wildcard_length wildcard.0 }, wildcard.1)
-take_masked V6 words =
-    let word = next_word words in
-    (unwrap_or (spelled_prefix_in V6 word.0) (everywhere V6), word.1)
-
-unfoldable pub take_place : Family → List (List ℕ) → Prefix × List (List ℕ)
-take_place family words =
-    let word = next_word words in
-    let host = take_address family word.1 in
-    if bytes_eq word.0 (codes "any") then (everywhere family, word.1)
-    else if bytes_eq word.0 (codes "host")
-    then (record { family = family; first = host.0; len = width_of family }, host.1)
-    else take_masked family words
 
 unfoldable pub take_port : List (List ℕ) → ℕ × List (List ℕ)
 take_port words =

@@ -1,6 +1,7 @@
 ghost use Rattle.std.specs.Prelude.{◌≡◌};
 ghost use Rattle.std.specs.Str.{bytes_eq};
-ghost use Rattle.cisco_lang.specs.ReadingSteps.{wildcard_length, proto_in, next_word, take_address, take_masked, take_place, take_port, take_ports, take_number, take_flags, entry_in};
+ghost use Rattle.cisco_lang.specs.AddressReading.{wildcard_length, next_word, take_address, take_masked, take_place};
+ghost use Rattle.cisco_lang.specs.ReadingSteps.{proto_in, take_port, take_ports, take_number, take_flags, entry_in};
 
 use crate::documents::{Entry, Flags};
 use acl_packet::{Family, Prefix};
@@ -37,8 +38,8 @@ pub(crate) fn entry_of(family: Family, words: RowWords<'_>) -> Entry
 }
 
 /// The next word, which is empty where there is none, and the words behind it.
-#[tactic(auto, unfolding(crate::specs::ReadingSteps::next_word))]
-fn next_word<'a>(words: RowWords<'a>) -> (&'a [u8], RowWords<'a>)
+#[tactic(auto, unfolding(crate::specs::AddressReading::next_word))]
+pub fn next_word<'a>(words: RowWords<'a>) -> (&'a [u8], RowWords<'a>)
     ensures { (result.0.now, result.1) ≡ next_word words.entry }
 {
     let mut rest = words;
@@ -69,8 +70,10 @@ fn protocol_of(family: Family, word: &[u8]) -> Option<u8>
     }
 }
 
-#[tactic(auto, unfolding(crate::specs::ReadingSteps::take_place))]
-fn take_place<'a>(family: Family, words: RowWords<'a>) -> (Prefix, RowWords<'a>)
+/// The address of an entry that the words begin with, read leniently: `any`, `host` and an address, an
+/// address and its wildcard, or in IPv6 a prefix. And the words behind it.
+#[tactic(auto, unfolding(crate::specs::AddressReading::take_place))]
+pub fn take_place<'a>(family: Family, words: RowWords<'a>) -> (Prefix, RowWords<'a>)
     ensures { result ≡ take_place family words.entry }
 {
     let (word, rest) = next_word(words.copy());
@@ -85,7 +88,7 @@ fn take_place<'a>(family: Family, words: RowWords<'a>) -> (Prefix, RowWords<'a>)
     }
 }
 
-#[tactic(auto, unfolding(crate::specs::ReadingSteps::take_masked))]
+#[tactic(auto, unfolding(crate::specs::AddressReading::take_masked))]
 fn take_masked<'a>(family: Family, words: RowWords<'a>) -> (Prefix, RowWords<'a>)
     ensures { result ≡ take_masked family words.entry }
 {
@@ -104,7 +107,7 @@ fn take_masked<'a>(family: Family, words: RowWords<'a>) -> (Prefix, RowWords<'a>
     }
 }
 
-#[tactic(auto, unfolding(crate::specs::ReadingSteps::take_address))]
+#[tactic(auto, unfolding(crate::specs::AddressReading::take_address))]
 fn take_address<'a>(family: Family, words: RowWords<'a>) -> (u128, RowWords<'a>)
     ensures { result ≡ take_address family words.entry }
 {

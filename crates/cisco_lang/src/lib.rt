@@ -13,4 +13,8 @@ mod walking;
 pub use acl_rows::{outcome, read_document, sections};
 pub use cisco::Cisco;
 pub use documents::{AccessList, Doc, Entry, Flags, Item, Section};
-pub use list_rows::{EntryRow, ListEnd, ListHead, RemarkRow, SectionHead};
+pub use entry_reading::{next_word, take_place};
+pub use list_rows::{
+    AddressWords, EntryRow, ListEnd, ListHead, RemarkRow, SectionHead, action_word,
+};
+pub use walking::verdict_of;

@@ -174,7 +174,8 @@ fn families_word(families: Families) -> &'static [u8]
     }
 }
 
-fn action_word(permit: bool) -> &'static [u8]
+/// The word of what an entry does.
+pub fn action_word(permit: bool) -> &'static [u8]
     ensures { result.now ≡ action_word permit }
 {
     if permit { b"permit" } else { b"deny" }
@@ -236,10 +237,11 @@ impl Words for EndWords {
     }
 }
 
+/// The words of an address of a list of the family.
 #[derive(Drop)]
-struct AddressWords {
-    family: Family,
-    place: Prefix,
+pub struct AddressWords {
+    pub family: Family,
+    pub place: Prefix,
 }
 
 impl Words for AddressWords {

@@ -61,7 +61,8 @@ fn first_holding(items: &[Item], packet: &Packet) -> Option<Outcome>
     None
 }
 
-fn verdict_of(permit: bool) -> Verdict
+/// What an entry decides that permits, or denies.
+pub fn verdict_of(permit: bool) -> Verdict
     ensures { result ≡ verdict_of permit }
 {
     if permit {

@@ -13,7 +13,7 @@ pub struct Cisco;
 impl Platform for Cisco {
     type Language = cisco_lang::Cisco;
 
-    ghost handles = { is_for_cisco };
+    ghost handles = { λ _. is_for_cisco };
 
     ghost count = { entry_count };
 
@@ -28,7 +28,7 @@ impl Platform for Cisco {
         }
     }
 
-    ghost section = { section_of };
+    ghost section = { λ _. section_of };
 
     #[tactic(auto, using(acl_platform::proofs::SoundRules::all_sized))]
     fn put_section<O: Out>(&self, filter: &Filter, out: &mut O) -> Result<(), PutFault> {

@@ -11,7 +11,7 @@ pub struct Iptables;
 impl Platform for Iptables {
     type Language = ipt_lang::Iptables;
 
-    ghost handles = { is_for_iptables };
+    ghost handles = { λ _. is_for_iptables };
 
     ghost count = { entry_count };
 
@@ -19,7 +19,7 @@ impl Platform for Iptables {
         count_rules(filter.rules.as_slice(), self)
     }
 
-    ghost section = { section_of };
+    ghost section = { λ _. section_of };
 
     #[tactic(auto, using(acl_platform::proofs::SoundRules::all_sized))]
     fn put_section<O: Out>(&self, filter: &Filter, out: &mut O) -> Result<(), PutFault> {

@@ -11,7 +11,7 @@ pub struct Junos;
 impl Platform for Junos {
     type Language = junos_lang::Junos;
 
-    ghost handles = { is_for_junos };
+    ghost handles = { λ _. is_for_junos };
 
     ghost count = { entry_count };
 
@@ -24,7 +24,7 @@ impl Platform for Junos {
         }
     }
 
-    ghost section = { section_of };
+    ghost section = { λ _. section_of };
 
     #[tactic(auto, using(acl_platform::proofs::SoundRules::all_sized))]
     fn put_section<O: Out>(&self, filter: &Filter, out: &mut O) -> Result<(), PutFault> {

@@ -13,7 +13,7 @@ pub struct Nftables;
 impl Platform for Nftables {
     type Language = nft_lang::Nftables;
 
-    ghost handles = { is_for_nftables };
+    ghost handles = { λ _. is_for_nftables };
 
     ghost count = { entry_count };
 
@@ -21,7 +21,7 @@ impl Platform for Nftables {
         count_rules(filter.rules.as_slice(), self)
     }
 
-    ghost section = { section_of };
+    ghost section = { λ _. section_of };
 
     #[tactic(auto, using(acl_platform::proofs::SoundRules::all_sized))]
     fn put_section<O: Out>(&self, filter: &Filter, out: &mut O) -> Result<(), PutFault> {

@@ -23,7 +23,7 @@ impl RuleLimits for Speedway {
 impl Platform for Speedway {
     type Language = Restore;
 
-    ghost handles = { is_for_speedway };
+    ghost handles = { λ _. is_for_speedway };
 
     ghost count = { entry_count };
 
@@ -31,7 +31,7 @@ impl Platform for Speedway {
         Iptables.entry_count(filter)
     }
 
-    ghost section = { section_of };
+    ghost section = { λ _. section_of };
 
     #[tactic(auto, using(acl_platform::proofs::SoundRules::all_sized))]
     fn put_section<O: Out>(&self, filter: &Filter, out: &mut O) -> Result<(), PutFault> {

@@ -30,9 +30,10 @@ pub(crate) fn are_written<P: Platform>(
     filters: &[Filter],
     text: &str,
 ) -> Result<bool, Fail>
-    requires accepted { All (IsAccepted P.handles (λ f. filter_limit P.limit (P.count f) f))
-        filters.now }
-    requires differ { IsDistinct bytes_eq (flat_map P.Language.names (map P.section filters.now)) }
+    requires accepted { All
+        (IsAccepted (P.handles platform.now) (λ f. filter_limit P.limit (P.count f) f)) filters.now }
+    requires differ { IsDistinct bytes_eq
+        (flat_map P.Language.names (map (P.section platform.now) filters.now)) }
 {
     let mut out = Whole::new(alloc);
     write_all(platform, filters, &mut out)?;

@@ -11,7 +11,7 @@ use Rattle.acl_platform.proofs.writing.write_all.Goals as goal
 pub returns-in_err-put_section-clause-puts : goal.returns-in_err-put_section-clause-puts
 returns-in_err-put_section-clause-puts g c =
     let rows = g.P.Language.Language.rows in
-    let section = g.P.Platform.section in
+    let section = g.P.Platform.section c.args.platform.now in
     let all = c.args.filters.now in
     let i = c.loop-filter.filter-index in
     let text : List Filter → List ℕ = λ fs. text_of_rows (flat_map rows (map section fs)) in
@@ -24,28 +24,28 @@ pub returns-in_err-put_section-clause-spelled : goal.returns-in_err-put_section-
 returns-in_err-put_section-clause-spelled g c =
     let p = g.P.Platform in
     let l = g.P.Language.Language in
-    let accepted : Filter → Type 0 = IsAccepted p.handles (λ f. filter_limit g.P.RuleLimits.limit (p.count f) f) in
-    all-spelled accepted l.is_section l.names l.rows p.section c.a_section_is_spelled.ensures c.args.filters.now
+    let accepted : Filter → Type 0 = IsAccepted (p.handles c.args.platform.now) (λ f. filter_limit g.P.RuleLimits.limit (p.count f) f) in
+    all-spelled accepted l.is_section l.names l.rows (p.section c.args.platform.now) (c.a_section_is_spelled.ensures c.args.platform.now) c.args.filters.now
     (recursion_from_All accepted c.args.filters.now c.requires.accepted) c.requires.names_differ
 
 pub returns-in_err-put_section-clause-decides : goal.returns-in_err-put_section-clause-decides
 returns-in_err-put_section-clause-decides g c =
     let p = g.P.Platform in
-    let accepted : Filter → Type 0 = IsAccepted p.handles (λ f. filter_limit g.P.RuleLimits.limit (p.count f) f) in
-    all-decide accepted g.P.Language.Language.outcome p.section c.a_section_decides.ensures c.args.filters.now
+    let accepted : Filter → Type 0 = IsAccepted (p.handles c.args.platform.now) (λ f. filter_limit g.P.RuleLimits.limit (p.count f) f) in
+    all-decide accepted g.P.Language.Language.outcome (p.section c.args.platform.now) (c.a_section_decides.ensures c.args.platform.now) c.args.filters.now
     (recursion_from_All accepted c.args.filters.now c.requires.accepted)
 
 pub returns-clause-spelled : goal.returns-clause-spelled
 returns-clause-spelled g c =
     let p = g.P.Platform in
     let l = g.P.Language.Language in
-    let accepted : Filter → Type 0 = IsAccepted p.handles (λ f. filter_limit g.P.RuleLimits.limit (p.count f) f) in
-    all-spelled accepted l.is_section l.names l.rows p.section c.a_section_is_spelled.ensures c.args.filters.now
+    let accepted : Filter → Type 0 = IsAccepted (p.handles c.args.platform.now) (λ f. filter_limit g.P.RuleLimits.limit (p.count f) f) in
+    all-spelled accepted l.is_section l.names l.rows (p.section c.args.platform.now) (c.a_section_is_spelled.ensures c.args.platform.now) c.args.filters.now
     (recursion_from_All accepted c.args.filters.now c.requires.accepted) c.requires.names_differ
 
 pub returns-clause-decides : goal.returns-clause-decides
 returns-clause-decides g c =
     let p = g.P.Platform in
-    let accepted : Filter → Type 0 = IsAccepted p.handles (λ f. filter_limit g.P.RuleLimits.limit (p.count f) f) in
-    all-decide accepted g.P.Language.Language.outcome p.section c.a_section_decides.ensures c.args.filters.now
+    let accepted : Filter → Type 0 = IsAccepted (p.handles c.args.platform.now) (λ f. filter_limit g.P.RuleLimits.limit (p.count f) f) in
+    all-decide accepted g.P.Language.Language.outcome (p.section c.args.platform.now) (c.a_section_decides.ensures c.args.platform.now) c.args.filters.now
     (recursion_from_All accepted c.args.filters.now c.requires.accepted)

@@ -8,4 +8,4 @@ use Rattle.acl_platform.proofs.writing.write_all.Given as goal
 abbrev pub invariant-loop-filter : goal.invariant-loop-filter
 invariant-loop-filter g l =
     Puts g.O.Out l.initial.out l.out
-    (text_of_rows (flat_map g.P.Language.Language.rows (map g.P.Platform.section (take l.filter-index l.filters)))) done
+    (text_of_rows (flat_map g.P.Language.Language.rows (map (g.P.Platform.section l.platform) (take l.filter-index l.filters)))) done
