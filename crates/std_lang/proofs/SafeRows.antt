@@ -1,16 +1,15 @@
 -- Each row of a document can be found again in its text.
-use Rattle.std.proofs.Common.{◌≡◌, ℕ, ◌≤◌, ◌∷◌, ◌++◌, [], List, flat_map, codes, refl, arith}
+use Rattle.std.proofs.Common.{ℕ, ◌≤◌, List, flat_map, refl, arith}
 use Rattle.std.specs.List.{AllByRecursion}
 use Rattle.acl_packet.specs.declared.addresses.Family.TheVariants.{V4}
 use Rattle.acl_text.proofs.ListLaws.{all_append}
-use Rattle.acl_rows.specs.RowSteps.{IsRow, IsWord, AreWords, AreRows}
+use Rattle.acl_rows.specs.RowSteps.{IsRow, AreWords, AreRows}
 use Rattle.acl_rows.proofs.ListLaws.{all_flat}
 use Rattle.acl_rows.proofs.WordLaws.{word, decimal_word, text_words, both_words, log_safe}
 use Rattle.cisco_lang.proofs.SafeRows.{action_safe, address_safe}
 use Rattle.std_lang.specs.declared.documents.Section.{Section}
 use Rattle.std_lang.specs.declared.documents.Item.{Item}
 use Rattle.std_lang.specs.declared.documents.Item.TheVariants.{Remark, Entry as AnEntry}
-use Rattle.std_lang.specs.declared.documents.Entry.{Entry}
 use Rattle.std_lang.specs.Documents.{IsItem, IsSection}
 use Rattle.std_lang.specs.Texts.{entry_words, head_rows, item_rows, item_words, list_words, section_rows}
 
