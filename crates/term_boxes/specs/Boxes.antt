@@ -38,12 +38,15 @@ everything f = record {
   connections = up_to 3;
 }
 
--- Each set has its top, and its list is in normal form.
+-- A set of numbers up to the top: its list is in normal form.
+abbrev pub IsSet : ℕ → Numbers → Type 0
+IsSet top s = (s.top ≡ top) × IsNormal 0 s.top s.ranges
+
 abbrev pub AreSets : List ℕ → List Numbers → Type 0
 AreSets [] [] = Unit {0}
 AreSets [] (s ∷ ss) = ⊥
 AreSets (top ∷ tops) [] = ⊥
-AreSets (top ∷ tops) (s ∷ ss) = (s.top ≡ top) × IsNormal 0 s.top s.ranges × AreSets tops ss
+AreSets (top ∷ tops) (s ∷ ss) = IsSet top s × AreSets tops ss
 
 -- The sides of the box are sets of numbers of the family's coordinates.
 abbrev pub IsBox : Family → PacketBox → Type 0

@@ -1,6 +1,6 @@
 -- A packet as nine numbers, one along each coordinate: source, destination, protocol, source port, destination port,
 -- type, code, flags and connection.
-use Rattle.std.specs.Prelude.{◌≡◌, ℕ, ◌+◌, ◌*◌, ◌<◌, ◌≤◌, ◌^◌, List, [], ◌∷◌, slice_index_or}
+use Rattle.std.specs.Prelude.{◌≡◌, ℕ, ◌+◌, ◌*◌, ◌<◌, ◌≤◌, ◌^◌, ◌==◌, if◌then◌else◌, List, [], ◌∷◌, slice_index_or}
 use Rattle.std.specs.Int.{bit_at}
 use Rattle.acl_packet.specs.declared.addresses.Family.{Family}
 use Rattle.acl_packet.specs.declared.packet_fields.Field.{Field}
@@ -30,10 +30,11 @@ place_of_connection Established = 2
 place_of_connection Related = 3
 
 abbrev pub connection_at : ℕ → Conn
-connection_at 0 = New
-connection_at 1 = Invalid
-connection_at 2 = Established
-connection_at _ = Related
+connection_at n =
+    if n == 0 then New
+    else if n == 1 then Invalid
+    else if n == 2 then Established
+    else Related
 
 -- ---- packets
 

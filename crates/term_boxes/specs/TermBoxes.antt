@@ -46,19 +46,22 @@ own_box f t = pair_box f t (record { addresses = Whole; ports = Whole })
 
 -- ---- what a term matches
 
--- `established` where connections are not known: TCP with ACK or RST, and else, where no destination port is named, a
--- port that a client has.
+-- The destination ports that `established` leaves of protocols other than TCP where connections are not known: where
+-- none is named, those that a client has. The flag says that `destination-port::` is written.
+abbrev pub established_ports : Bool → Numbers → Numbers
+established_ports named s = if named then s else in_both s client_ports
+
+-- So `established` leaves TCP with ACK or RST, and other protocols with these ports.
 abbrev pub seeming_established : Bool → PacketBox → List PacketBox
 seeming_established named b =
     record b { protocols = in_both b.protocols tcp; flags = ack_or_rst }
     ∷ record b {
       protocols = in_both b.protocols but_tcp;
-      destination_ports = if named then b.destination_ports else in_both b.destination_ports client_ports;
+      destination_ports = established_ports named b.destination_ports;
     }
     ∷ []
 
--- What an option leaves of a box that has all flags and all connections. The flag says that `destination-port::` is
--- written.
+-- What an option leaves of a box that has all flags and all connections.
 abbrev pub passing : Opt → Mode → Bool → PacketBox → List PacketBox
 passing Plain mode named b = b ∷ []
 passing Established Stateful named b = record b { connections = tracked } ∷ []

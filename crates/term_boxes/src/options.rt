@@ -4,12 +4,11 @@ ghost use Rattle.term_boxes.specs.Boxes.{everything};
 ghost use Rattle.term_boxes.specs.NumberSets.{
   ack_or_rst,
   but_tcp,
-  client_ports,
   neither_ack_nor_rst,
   server_ports,
   tcp,
 };
-ghost use Rattle.term_boxes.specs.TermBoxes.{failing, passing, seeming_established, seeming_new};
+ghost use Rattle.term_boxes.specs.TermBoxes.{established_ports, failing, passing, seeming_established, seeming_new};
 
 use crate::boxes::PacketBox;
 use crate::number_sets::{
@@ -27,7 +26,7 @@ use std::alloc::Global;
 // The destination ports of other protocols than TCP that `established` leaves of a box.
 fn established_ports(alloc: Global, ports: &RangeSet, named: bool) -> Result<RangeSet, Memory>
     requires { ports.now.top ≡ 65535 }
-    ensures { IfOk result (λ s. s ≡ if named then ports.now else in_both ports.now client_ports) }
+    ensures { IfOk result (λ s. s ≡ established_ports named ports.now) }
 {
     if named {
         ports.share()
@@ -54,7 +53,7 @@ fn established_others(alloc: Global, own: &PacketBox, named: bool) -> Result<Pac
     requires ports { own.now.destination_ports.top ≡ 65535 }
     ensures { IfOk result (λ b. b ≡ record own.now {
         protocols = in_both own.now.protocols but_tcp;
-        destination_ports = if named then own.now.destination_ports else in_both own.now.destination_ports client_ports;
+        destination_ports = established_ports named own.now.destination_ports;
     }) }
 {
     let mut out = own.share()?;
