@@ -52,19 +52,19 @@ connection-fits Invalid = omega arith
 pub come-back : NumbersComeBack
 come-back f [] h = absurd h
 come-back f (s ∷ []) h = absurd h.1
-come-back f (s ∷ d ∷ []) h = absurd h.2
-come-back f (s ∷ d ∷ pr ∷ []) h = absurd h.3
-come-back f (s ∷ d ∷ pr ∷ sp ∷ []) h = absurd h.4
-come-back f (s ∷ d ∷ pr ∷ sp ∷ dp ∷ []) h = absurd h.5
-come-back f (s ∷ d ∷ pr ∷ sp ∷ dp ∷ ty ∷ []) h = absurd h.6
-come-back f (s ∷ d ∷ pr ∷ sp ∷ dp ∷ ty ∷ co ∷ []) h = absurd h.7
-come-back f (s ∷ d ∷ pr ∷ sp ∷ dp ∷ ty ∷ co ∷ fl ∷ []) h = absurd h.8
+come-back f (s ∷ d ∷ []) h = absurd h.1.1
+come-back f (s ∷ d ∷ pr ∷ []) h = absurd h.1.1.1
+come-back f (s ∷ d ∷ pr ∷ sp ∷ []) h = absurd h.1.1.1.1
+come-back f (s ∷ d ∷ pr ∷ sp ∷ dp ∷ []) h = absurd h.1.1.1.1.1
+come-back f (s ∷ d ∷ pr ∷ sp ∷ dp ∷ ty ∷ []) h = absurd h.1.1.1.1.1.1
+come-back f (s ∷ d ∷ pr ∷ sp ∷ dp ∷ ty ∷ co ∷ []) h = absurd h.1.1.1.1.1.1.1
+come-back f (s ∷ d ∷ pr ∷ sp ∷ dp ∷ ty ∷ co ∷ fl ∷ []) h = absurd h.1.1.1.1.1.1.1.1
 come-back f (s ∷ d ∷ pr ∷ sp ∷ dp ∷ ty ∷ co ∷ fl ∷ cn ∷ []) h =
-    let flags = h.7 in
-    let connection = h.8 in
+    let flags = h.1.1.1.1.1.1.1.0 in
+    let connection = h.1.1.1.1.1.1.1.1.0 in
     ap (λ k. s ∷ d ∷ pr ∷ sp ∷ dp ∷ ty ∷ co ∷ k ∷ place_of_connection (connection_at cn) ∷ []) (place-back fl (omega (arith, flags)))
     ∙ ap (λ k. s ∷ d ∷ pr ∷ sp ∷ dp ∷ ty ∷ co ∷ fl ∷ k ∷ []) (connection-place-back cn (omega (arith, connection)))
-come-back f (s ∷ d ∷ pr ∷ sp ∷ dp ∷ ty ∷ co ∷ fl ∷ cn ∷ x ∷ xs) h = absurd h.9
+come-back f (s ∷ d ∷ pr ∷ sp ∷ dp ∷ ty ∷ co ∷ fl ∷ cn ∷ x ∷ xs) h = absurd h.1.1.1.1.1.1.1.1.1
 
 below : (f : Family) (x : ℕ) → x ≤ top_address f → x < 2 ^ width_of f
 below V4 x h = omega (arith, h)
@@ -77,38 +77,29 @@ within V6 x h = omega (arith, h)
 pub fit : NumbersFit
 fit f [] h = absurd h
 fit f (s ∷ []) h = absurd h.1
-fit f (s ∷ d ∷ []) h = absurd h.2
-fit f (s ∷ d ∷ pr ∷ []) h = absurd h.3
-fit f (s ∷ d ∷ pr ∷ sp ∷ []) h = absurd h.4
-fit f (s ∷ d ∷ pr ∷ sp ∷ dp ∷ []) h = absurd h.5
-fit f (s ∷ d ∷ pr ∷ sp ∷ dp ∷ ty ∷ []) h = absurd h.6
-fit f (s ∷ d ∷ pr ∷ sp ∷ dp ∷ ty ∷ co ∷ []) h = absurd h.7
+fit f (s ∷ d ∷ []) h = absurd h.1.1
+fit f (s ∷ d ∷ pr ∷ []) h = absurd h.1.1.1
+fit f (s ∷ d ∷ pr ∷ sp ∷ []) h = absurd h.1.1.1.1
+fit f (s ∷ d ∷ pr ∷ sp ∷ dp ∷ []) h = absurd h.1.1.1.1.1
+fit f (s ∷ d ∷ pr ∷ sp ∷ dp ∷ ty ∷ []) h = absurd h.1.1.1.1.1.1
+fit f (s ∷ d ∷ pr ∷ sp ∷ dp ∷ ty ∷ co ∷ []) h = absurd h.1.1.1.1.1.1.1
 fit f (s ∷ d ∷ pr ∷ sp ∷ dp ∷ ty ∷ co ∷ fl ∷ rest) h =
-    let flags = h.7 in
+    let flags = h.1.1.1.1.1.1.1.0 in
     let bits = flags-fit fl (omega (arith, flags)) in
     let ns = s ∷ d ∷ pr ∷ sp ∷ dp ∷ ty ∷ co ∷ fl ∷ rest in
     record {
       source = below f s h.0;
-      destination = below f d h.1;
-      numbers = by-field (λ field. number_of field (packet_at f ns) ≤ top_of field) h.2 h.3 h.4 h.5 h.6;
+      destination = below f d h.1.0;
+      numbers = by-field (λ field. number_of field (packet_at f ns) ≤ top_of field) h.1.1.0 h.1.1.1.0 h.1.1.1.1.0 h.1.1.1.1.1.0 h.1.1.1.1.1.1.0;
       flags_fit = omega (arith, bits);
     }
 
 pub packet-back : PacketsComeBack
 packet-back p fits =
     let flags = place-fits p.flags fits.flags_fit in (
-      (
-        within p.family p.src fits.source,
-        within p.family p.dst fits.destination,
-        fits.numbers Protocol,
-        fits.numbers SourcePort,
-        fits.numbers DestinationPort,
-        fits.numbers IcmpType,
-        fits.numbers IcmpCode,
-        flags,
-        connection-fits p.conn,
-        tt,
-      ),
+      (within p.family p.src fits.source, (within p.family p.dst fits.destination, (fits.numbers Protocol,
+          (fits.numbers SourcePort, (fits.numbers DestinationPort, (fits.numbers IcmpType, (fits.numbers IcmpCode,
+          (flags, (connection-fits p.conn, tt))))))))),
       ap (λ k. record p { flags = k; conn = connection_at (place_of_connection p.conn) }) (flags-back p.flags fits.flags_fit)
           ∙ ap (λ k. record p { conn = k }) (connection-back p.conn),
     )

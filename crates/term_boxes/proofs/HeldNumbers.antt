@@ -1,6 +1,6 @@
 -- What the constant sides of boxes hold.
 use Rattle.std.proofs.Common.{◌≡◌, ℕ, ◌-◌, ◌<◌, ◌≤◌, ◌^◌, Bool, true, false, not, eqb, nat_le, ◌&&◌, ◌||◌, ◌==◌, List, [], ◌∷◌, refl, ap, ◌∙◌, arith, inl, inr}
-use Rattle.std.proofs.lemmas.Bool.{and_from, or_left, le-leb, ne_eqb, cases_eq, agree_below_at}
+use Rattle.std.proofs.lemmas.Bool.{and_from, and_right, or_from, or_left, le-leb, lt-leb, ne_eqb, cases_eq, cases_lt, agree_below_at}
 use Rattle.acl_packet.specs.declared.addresses.Family.{Family}
 use Rattle.acl_packet.specs.declared.addresses.Family.TheVariants.{V4, V6}
 use Rattle.acl_packet.specs.declared.packet_fields.Field.TheVariants.{Protocol, SourcePort, DestinationPort, IcmpType, IcmpCode}
@@ -42,14 +42,14 @@ are-all p fits =
     let within = (packet-back p fits).0 in
     record {
       source = up-to-holds (top_address p.family) p.src within.0;
-      destination = up-to-holds (top_address p.family) p.dst within.1;
-      protocol = up-to-holds 255 p.proto within.2;
-      source_port = up-to-holds 65535 p.sport within.3;
-      destination_port = up-to-holds 65535 p.dport within.4;
-      kind = up-to-holds 255 p.itype within.5;
-      code = up-to-holds 255 p.icode within.6;
-      flag = up-to-holds 63 (place_of_flags p.flags) within.7;
-      connection = up-to-holds 3 (place_of_connection p.conn) within.8;
+      destination = up-to-holds (top_address p.family) p.dst within.1.0;
+      protocol = up-to-holds 255 p.proto within.1.1.0;
+      source_port = up-to-holds 65535 p.sport within.1.1.1.0;
+      destination_port = up-to-holds 65535 p.dport within.1.1.1.1.0;
+      kind = up-to-holds 255 p.itype within.1.1.1.1.1.0;
+      code = up-to-holds 255 p.icode within.1.1.1.1.1.1.0;
+      flag = up-to-holds 63 (place_of_flags p.flags) within.1.1.1.1.1.1.1.0;
+      connection = up-to-holds 3 (place_of_connection p.conn) within.1.1.1.1.1.1.1.1.0;
     }
 
 -- ---- protocols and ports
@@ -72,8 +72,8 @@ headers-hold x lt = agree_below_at (λ n. holds extension_headers.ranges n) is_e
 
 pub server-holds : (x : ℕ) → x ≤ 65535 → holds server_ports.ranges x ≡ not (nat_le 1024 x)
 server-holds x le = elim (cases_lt x 1024) [
-  | inl l ↦ rw (leb-false 1024 x l) (or_left _ _ (and_from _ _ (le-leb 0 x (omega arith)) (le-leb x 1023 (omega (arith, l)))))
-  | inr l ↦ rw (le-leb 1024 x l) (or_from _ _ (and_right _ _ (leb-false x 1023 (omega (arith, l)))) refl)
+  | inl l ↦ rw (lt-leb 1024 x l) (or_left _ _ (and_from _ _ (le-leb 0 x (omega arith)) (le-leb x 1023 (omega (arith, l)))))
+  | inr l ↦ rw (le-leb 1024 x l) (or_from _ _ (and_right _ _ (lt-leb x 1023 (omega (arith, l)))) refl)
 ]
 
 -- ---- flags and connections

@@ -267,7 +267,7 @@ fail-addresses t p fits = by t.addr_named refl
         let within = (packet-back p fits).0 in
         rw (
           outside-holds _ (either_in p.family t) p.src (either-set p.family t) within.0,
-          outside-holds _ (either_in p.family t) p.dst (either-set p.family t) within.1,
+          outside-holds _ (either_in p.family t) p.dst (either-set p.family t) within.1.0,
           all.protocol,
           all.source_port,
           all.destination_port,
@@ -294,8 +294,8 @@ fail-ports t p fits = by t.port_named refl
           all.source,
           all.destination,
           all.protocol,
-          outside-holds 65535 t.ports p.sport (ports-set t) within.3,
-          outside-holds 65535 t.ports p.dport (ports-set t) within.4,
+          outside-holds 65535 t.ports p.sport (ports-set t) within.1.1.1.0,
+          outside-holds 65535 t.ports p.dport (ports-set t) within.1.1.1.1.0,
           all.kind,
           all.code,
           all.flag,
@@ -303,7 +303,7 @@ fail-ports t p fits = by t.port_named refl
         ) (neither (holds t.ports.ranges p.sport) (holds t.ports.ranges p.dport))
     by false e =
         let within = (packet-back p fits).0 in
-        sym (ap (λ x. not (x || holds t.ports.ranges p.dport)) (ports-all t p.sport e within.3))
+        sym (ap (λ x. not (x || holds t.ports.ranges p.dport)) (ports-all t p.sport e within.1.1.1.0))
 
 last : (x : Bool) → ((x && true) || false) ≡ x
 last true = refl

@@ -4,9 +4,10 @@ use Rattle.std.specs.List.{AllByRecursion}
 use Rattle.std.proofs.lemmas.Bool.{both_ways, eq-eqb, eqb-true, false_from_ne_true, le-leb}
 use Rattle.acl_packet.specs.declared.addresses.Family.{Family}
 use Rattle.acl_packet.specs.declared.addresses.Family.TheVariants.{V4, V6}
+use Rattle.acl_packet.specs.declared.packet_fields.Field.{Field}
 use Rattle.acl_packet.specs.declared.packet_fields.Field.TheVariants.{Protocol, SourcePort, DestinationPort, IcmpType, IcmpCode}
 use Rattle.acl_packet.specs.Addresses.{top_address}
-use Rattle.acl_packet.specs.Packets.{foreign_of}
+use Rattle.acl_packet.specs.Packets.{foreign_of, top_of}
 use Rattle.acl_sets.specs.ComputableSets.{cut_all, is_all}
 use Rattle.acl_sets.specs.Ranges.{IsRange, Numbers, holds}
 use Rattle.acl_sets.proofs.ComputableSetLaws.{covers-holds, cut_all-holds, cut_all-normal}
@@ -20,34 +21,34 @@ use Rattle.acl_terms.specs.declared.sides.Side.{Side}
 use Rattle.acl_terms.specs.declared.sides.Side.TheVariants.{Whole, Source, Destination}
 use Rattle.acl_terms.specs.declared.sides.SidePair.{SidePair}
 use Rattle.acl_terms.specs.declared.terms.Term.{Term}
-use Rattle.acl_terms.specs.Resolved.{destination_in, destinations_on, dports_on, either_in, has_protocol, in_both, pairs_of, source_in, sources_on, sports_on}
+use Rattle.acl_terms.specs.Resolved.{destination_in, destinations_on, dports_on, either_in, has_protocol, in_both, pairs_of, set_in, source_in, sources_on, sports_on}
 use Rattle.acl_terms.proofs.SideLaws.{both-holds, both-normal}
 use Rattle.term_boxes.specs.declared.boxes.PacketBox.{PacketBox}
 use Rattle.term_boxes.specs.Boxes.{IsBox, IsSet, everything}
-use Rattle.term_boxes.specs.NumberSets.{but_tcp, client_ports, neither_ack_nor_rst, no_rst, not_initial, outside, run, server_ports, set_of, tcp, untracked, up_to}
+use Rattle.term_boxes.specs.NumberSets.{ack_or_rst, but_tcp, client_ports, initial, neither_ack_nor_rst, no_rst, not_initial, outside, rst, run, server_ports, set_of, tcp, tracked, untracked, up_to}
 use Rattle.term_boxes.specs.TermBoxes.{TermsHaveBoxes, boxes_of, established_ports, failing, failing_addresses, failing_boxes, failing_ports, own_box, pair_box, passing, protocols_in, seeming_new}
 use Rattle.term_boxes.proofs.HeldNumbers.{up-to-holds}
-use Rattle.term_boxes.proofs.SideSets.{but-tcp-set, not-initial-set, one-run, outside-set, two-runs, up-to-set}
+use Rattle.term_boxes.proofs.SideSets.{but-tcp-set, not-initial-set, one-run, outside-set, sides, two-runs, up-to-set}
 
 -- ---- sets of a term
 
 both-set : (top : ℕ) (s e : Numbers) → IsSet top s → IsSet top e → IsSet top (in_both s e)
-both-set top s e h k = (h.0, both-normal s e (h.0 ∙ sym k.0) h.1 k.1)
+both-set top s e h k = record { top_is = h.top_is; normal = both-normal s e (h.top_is ∙ sym k.top_is) h.normal k.normal }
 
 source-set : (f : Family) (t : Term) → IsSet (top_address f) (source_in f t)
-source-set V4 t = (t.sound.src4_top, t.sound.src4_normal)
-source-set V6 t = (t.sound.src6_top, t.sound.src6_normal)
+source-set V4 t = record { top_is = t.sound.src4_top; normal = t.sound.src4_normal }
+source-set V6 t = record { top_is = t.sound.src6_top; normal = t.sound.src6_normal }
 
 destination-set : (f : Family) (t : Term) → IsSet (top_address f) (destination_in f t)
-destination-set V4 t = (t.sound.dst4_top, t.sound.dst4_normal)
-destination-set V6 t = (t.sound.dst6_top, t.sound.dst6_normal)
+destination-set V4 t = record { top_is = t.sound.dst4_top; normal = t.sound.dst4_normal }
+destination-set V6 t = record { top_is = t.sound.dst6_top; normal = t.sound.dst6_normal }
 
 pub either-set : (f : Family) (t : Term) → IsSet (top_address f) (either_in f t)
-either-set V4 t = (t.sound.addr4_top, t.sound.addr4_normal)
-either-set V6 t = (t.sound.addr6_top, t.sound.addr6_normal)
+either-set V4 t = record { top_is = t.sound.addr4_top; normal = t.sound.addr4_normal }
+either-set V6 t = record { top_is = t.sound.addr6_top; normal = t.sound.addr6_normal }
 
 pub ports-set : (t : Term) → IsSet 65535 t.ports
-ports-set t = (t.sound.ports_top, t.sound.ports_normal)
+ports-set t = record { top_is = t.sound.ports_top; normal = t.sound.ports_normal }
 
 sources-set : (side : Side) (f : Family) (t : Term) → IsSet (top_address f) (sources_on side f t)
 sources-set Whole f t = source-set f t
@@ -60,16 +61,19 @@ destinations-set Source f t = destination-set f t
 destinations-set Destination f t =
     both-set (top_address f) (destination_in f t) (either_in f t) (destination-set f t) (either-set f t)
 
+own : (t : Term) (field : Field) → IsSet (top_of field) (set_in field t)
+own t field = record { top_is = t.sound.tops field; normal = t.sound.normal field }
+
 sports-set : (side : Side) (t : Term) → IsSet 65535 (sports_on side t)
-sports-set Whole t = (t.sound.tops SourcePort, t.sound.normal SourcePort)
-sports-set Source t = both-set 65535 t.sports t.ports (t.sound.tops SourcePort, t.sound.normal SourcePort) (ports-set t)
-sports-set Destination t = (t.sound.tops SourcePort, t.sound.normal SourcePort)
+sports-set Whole t = own t SourcePort
+sports-set Source t = both-set 65535 t.sports t.ports (own t SourcePort) (ports-set t)
+sports-set Destination t = own t SourcePort
 
 pub dports-set : (side : Side) (t : Term) → IsSet 65535 (dports_on side t)
-dports-set Whole t = (t.sound.tops DestinationPort, t.sound.normal DestinationPort)
-dports-set Source t = (t.sound.tops DestinationPort, t.sound.normal DestinationPort)
+dports-set Whole t = own t DestinationPort
+dports-set Source t = own t DestinationPort
 dports-set Destination t =
-    both-set 65535 t.dports t.ports (t.sound.tops DestinationPort, t.sound.normal DestinationPort) (ports-set t)
+    both-set 65535 t.dports t.ports (own t DestinationPort) (ports-set t)
 
 just-range : (n : ℕ) → AllByRecursion (λ r. IsRange n r) (run n n ∷ [])
 just-range n = ((omega arith, omega arith), tt)
@@ -78,12 +82,12 @@ pub protocols-set : (f : Family) (t : Term) → IsSet 255 (protocols_in f t)
 protocols-set f t = by (is_all t.protos)
   where
     by : (b : Bool) → IsSet 255 (cond b t.protos (set_of t.protos.top (cut_all (run (foreign_of f) (foreign_of f) ∷ []) t.protos.ranges)))
-    by true = (t.sound.tops Protocol, t.sound.normal Protocol)
-    by false = (
-      t.sound.tops Protocol,
-      cut_all-normal 0 t.protos.top (foreign_of f) (run (foreign_of f) (foreign_of f) ∷ []) t.protos.ranges
-          (just-range (foreign_of f)) (t.sound.normal Protocol),
-    )
+    by true = own t Protocol
+    by false = record {
+      top_is = t.sound.tops Protocol;
+      normal = cut_all-normal 0 t.protos.top (foreign_of f) (run (foreign_of f) (foreign_of f) ∷ []) t.protos.ranges
+          (just-range (foreign_of f)) (t.sound.normal Protocol);
+    }
 
 -- ---- what they hold
 
@@ -116,7 +120,7 @@ protocol-holds f t n = by (is_all t.protos)
         ∙ ap (λ b. holds t.protos.ranges n && not b) (just-holds k n)
 
 pub shared-holds : (top : ℕ) (s e : Numbers) (x : ℕ) → IsSet top s → holds (in_both s e).ranges x ≡ (holds s.ranges x && holds e.ranges x)
-shared-holds top s e x h = both-holds s e x h.1
+shared-holds top s e x h = both-holds s e x h.normal
 
 pub ports-left : (named : Bool) (s : Numbers) (x : ℕ) → IsSet 65535 s → x ≤ 65535
     → holds (established_ports named s).ranges x ≡ (holds s.ranges x && (named || nat_le 1024 x))
@@ -127,8 +131,8 @@ ports-left false s x h le =
 
 pub outside-holds : (top : ℕ) (s : Numbers) (x : ℕ) → IsSet top s → x ≤ top → holds (outside s).ranges x ≡ not (holds s.ranges x)
 outside-holds top s x h le =
-    let same = h.0 in
-    cut_all-holds 0 s.top s.top s.ranges (run 0 s.top ∷ []) x (are_ranges 0 s.top s.ranges h.1) (omega arith, omega arith, omega arith, tt)
+    let same = h.top_is in
+    cut_all-holds 0 s.top s.top s.ranges (run 0 s.top ∷ []) x (are_ranges 0 s.top s.ranges h.normal) (omega arith, omega arith, omega arith, tt)
     ∙ ap (λ b. b && not (holds s.ranges x)) (up-to-holds s.top x (omega (arith, le, same)))
 
 -- Where nothing is asked of either address, each is one of which it might be.
@@ -142,89 +146,51 @@ ports-all t x e h = let top = t.sound.ports_top in covers-holds t.ports.ranges 0
 -- ---- boxes of a term
 
 pair-is : (f : Family) (t : Term) (pair : SidePair) → IsBox f (pair_box f t pair)
-pair-is f t pair = (
-  sources-set pair.addresses f t,
-  destinations-set pair.addresses f t,
-  protocols-set f t,
-  sports-set pair.ports t,
-  dports-set pair.ports t,
-  (t.sound.tops IcmpType, t.sound.normal IcmpType),
-  (t.sound.tops IcmpCode, t.sound.normal IcmpCode),
-  up-to-set 63,
-  up-to-set 3,
-  tt,
-)
+pair-is f t pair =
+    sides (sources-set pair.addresses f t) (destinations-set pair.addresses f t) (protocols-set f t) (sports-set pair.ports t)
+    (dports-set pair.ports t) (own t IcmpType) (own t IcmpCode) (up-to-set 63) (up-to-set 3)
 
 left-ports : (named : Bool) (s : Numbers) → IsSet 65535 s → IsSet 65535 (established_ports named s)
 left-ports true s h = h
 left-ports false s h = both-set 65535 s client_ports h (one-run 65535 1024 65535 (omega arith) (omega arith))
 
+other-flags : (f : Family) (b : PacketBox) (flags : Numbers) → IsBox f b → IsSet 63 flags → AllByRecursion (IsBox f) (record b { flags = flags } ∷ [])
+other-flags f b flags h g =
+    (sides h.sources h.destinations h.protocols h.source_ports h.destination_ports h.types h.codes g h.connections, tt)
+
+other-connections : (f : Family) (b : PacketBox) (connections : Numbers) → IsBox f b → IsSet 3 connections
+    → AllByRecursion (IsBox f) (record b { connections = connections } ∷ [])
+other-connections f b connections h c =
+    (sides h.sources h.destinations h.protocols h.source_ports h.destination_ports h.types h.codes h.flags c, tt)
+
+ack-or-rst-set : IsSet 63 ack_or_rst
+ack-or-rst-set = one-run 63 16 63 (omega arith) (omega arith)
+
+tracked-set : IsSet 3 tracked
+tracked-set = one-run 3 2 3 (omega arith) (omega arith)
+
+tcp-set : IsSet 255 tcp
+tcp-set = one-run 255 6 6 (omega arith) (omega arith)
+
 passing-are : (o : Opt) (mode : Mode) (named : Bool) (f : Family) (b : PacketBox) → IsBox f b
     → AllByRecursion (IsBox f) (passing o mode named b)
 passing-are Plain mode named f b h = (h, tt)
-passing-are Established Stateful named f b h =
-    ((h.0, h.1, h.2, h.3, h.4, h.5, h.6, h.7, one-run 3 2 3 (omega arith) (omega arith), tt), tt)
+passing-are Established Stateful named f b h = other-connections f b tracked h tracked-set
 passing-are Established Stateless named f b h = (
+  sides h.sources h.destinations (both-set 255 b.protocols tcp h.protocols tcp-set) h.source_ports h.destination_ports h.types
+      h.codes ack-or-rst-set h.connections,
   (
-    h.0,
-    h.1,
-    both-set 255 b.protocols tcp h.2 (one-run 255 6 6 (omega arith) (omega arith)),
-    h.3,
-    h.4,
-    h.5,
-    h.6,
-    one-run 63 16 63 (omega arith) (omega arith),
-    h.8,
+    sides h.sources h.destinations (both-set 255 b.protocols but_tcp h.protocols but-tcp-set) h.source_ports
+        (left-ports named b.destination_ports h.destination_ports) h.types h.codes h.flags h.connections,
     tt,
   ),
-  (
-    h.0,
-    h.1,
-    both-set 255 b.protocols but_tcp h.2 but-tcp-set,
-    h.3,
-    left-ports named b.destination_ports h.4,
-    h.5,
-    h.6,
-    h.7,
-    h.8,
-    tt,
-  ),
-  tt,
 )
-passing-are TcpEstablished Stateful named f b h =
-    ((h.0, h.1, h.2, h.3, h.4, h.5, h.6, h.7, one-run 3 2 3 (omega arith) (omega arith), tt), tt)
-passing-are TcpEstablished Stateless named f b h =
-    ((h.0, h.1, h.2, h.3, h.4, h.5, h.6, one-run 63 16 63 (omega arith) (omega arith), h.8, tt), tt)
-passing-are TcpInitial mode named f b h = (
-  (
-    h.0,
-    h.1,
-    h.2,
-    h.3,
-    h.4,
-    h.5,
-    h.6,
-    two-runs 63 8 15 24 31 (omega arith) (omega arith) (omega arith) (omega arith),
-    h.8,
-    tt,
-  ),
-  tt,
-)
-passing-are Rst mode named f b h = (
-  (
-    h.0,
-    h.1,
-    h.2,
-    h.3,
-    h.4,
-    h.5,
-    h.6,
-    two-runs 63 16 31 48 63 (omega arith) (omega arith) (omega arith) (omega arith),
-    h.8,
-    tt,
-  ),
-  tt,
-)
+passing-are TcpEstablished Stateful named f b h = other-connections f b tracked h tracked-set
+passing-are TcpEstablished Stateless named f b h = other-flags f b ack_or_rst h ack-or-rst-set
+passing-are TcpInitial mode named f b h =
+    other-flags f b initial h (two-runs 63 8 15 24 31 (omega arith) (omega arith) (omega arith) (omega arith))
+passing-are Rst mode named f b h =
+    other-flags f b rst h (two-runs 63 16 31 48 63 (omega arith) (omega arith) (omega arith) (omega arith))
 
 all-flat : {A B : Type 0} (P : B → Type 0) (rows : A → List B) → ((x : A) → AllByRecursion P (rows x)) → (xs : List A)
     → AllByRecursion P (flat_map rows xs)
@@ -241,7 +207,7 @@ addresses-are f t = by t.addr_named
         let o = outside-set (top_address f) (either_in f t) (either-set f t) in
         let p = up-to-set 65535 in
         let b = up-to-set 255 in
-        ((o, o, b, p, p, b, b, up-to-set 63, up-to-set 3, tt), tt)
+        (sides o o b p p b b (up-to-set 63) (up-to-set 3), tt)
     by false = tt
 
 ports-are : (f : Family) (t : Term) → AllByRecursion (IsBox f) (failing_ports f t)
@@ -252,62 +218,47 @@ ports-are f t = by t.port_named
         let o = outside-set 65535 t.ports (ports-set t) in
         let a = up-to-set (top_address f) in
         let b = up-to-set 255 in
-        ((a, a, b, o, o, b, b, up-to-set 63, up-to-set 3, tt), tt)
+        (sides a a b o o b b (up-to-set 63) (up-to-set 3), tt)
     by false = tt
 
--- The box of all packets, with other flags and connections.
-with-flags : (f : Family) (g c : Numbers) → IsSet 63 g → IsSet 3 c → AllByRecursion (IsBox f) (record (everything f) { flags = g; connections = c } ∷ [])
-with-flags f g c h k =
+everything-is : (f : Family) → IsBox f (everything f)
+everything-is f =
     let a = up-to-set (top_address f) in
     let p = up-to-set 65535 in
     let b = up-to-set 255 in
-    ((a, a, b, p, p, b, b, h, k, tt), tt)
+    sides a a b p p b b (up-to-set 63) (up-to-set 3)
+
+neither-set : IsSet 63 neither_ack_nor_rst
+neither-set = one-run 63 0 15 (omega arith) (omega arith)
+
+untracked-set : IsSet 3 untracked
+untracked-set = one-run 3 0 1 (omega arith) (omega arith)
 
 seeming-new-are : (f : Family) (named : Bool) → AllByRecursion (IsBox f) (seeming_new f named)
-seeming-new-are f named = (
-  (
-    up-to-set (top_address f),
-    up-to-set (top_address f),
-    one-run 255 6 6 (omega arith) (omega arith),
-    up-to-set 65535,
-    up-to-set 65535,
-    up-to-set 255,
-    up-to-set 255,
-    one-run 63 0 15 (omega arith) (omega arith),
-    up-to-set 3,
-    tt,
-  ),
-  by named,
-)
+seeming-new-are f named =
+    let h = everything-is f in (
+      sides h.sources h.destinations tcp-set h.source_ports h.destination_ports h.types h.codes neither-set h.connections,
+      by named,
+    )
   where
     by : (b : Bool) → AllByRecursion (IsBox f) (cond b [] (record (everything f) { protocols = but_tcp; destination_ports = server_ports } ∷ []))
     by true = tt
-    by false = (
-      (
-        up-to-set (top_address f),
-        up-to-set (top_address f),
-        but-tcp-set,
-        up-to-set 65535,
-        one-run 65535 0 1023 (omega arith) (omega arith),
-        up-to-set 255,
-        up-to-set 255,
-        up-to-set 63,
-        up-to-set 3,
-        tt,
-      ),
-      tt,
-    )
+    by false =
+        let h = everything-is f in (
+          sides h.sources h.destinations but-tcp-set h.source_ports (one-run 65535 0 1023 (omega arith) (omega arith)) h.types
+              h.codes h.flags h.connections,
+          tt,
+        )
 
 failing-are : (o : Opt) (mode : Mode) (named : Bool) (f : Family) → AllByRecursion (IsBox f) (failing o mode named f)
 failing-are Plain mode named f = tt
-failing-are Established Stateful named f = with-flags f (up_to 63) untracked (up-to-set 63) (one-run 3 0 1 (omega arith) (omega arith))
+failing-are Established Stateful named f = other-connections f (everything f) untracked (everything-is f) untracked-set
 failing-are Established Stateless named f = seeming-new-are f named
-failing-are TcpEstablished Stateful named f = with-flags f (up_to 63) untracked (up-to-set 63) (one-run 3 0 1 (omega arith) (omega arith))
-failing-are TcpEstablished Stateless named f =
-    with-flags f neither_ack_nor_rst (up_to 3) (one-run 63 0 15 (omega arith) (omega arith)) (up-to-set 3)
-failing-are TcpInitial mode named f = with-flags f not_initial (up_to 3) not-initial-set (up-to-set 3)
+failing-are TcpEstablished Stateful named f = other-connections f (everything f) untracked (everything-is f) untracked-set
+failing-are TcpEstablished Stateless named f = other-flags f (everything f) neither_ack_nor_rst (everything-is f) neither-set
+failing-are TcpInitial mode named f = other-flags f (everything f) not_initial (everything-is f) not-initial-set
 failing-are Rst mode named f =
-    with-flags f no_rst (up_to 3) (two-runs 63 0 15 32 47 (omega arith) (omega arith) (omega arith) (omega arith)) (up-to-set 3)
+    other-flags f (everything f) no_rst (everything-is f) (two-runs 63 0 15 32 47 (omega arith) (omega arith) (omega arith) (omega arith))
 
 pub have-boxes : TermsHaveBoxes
 unfolding boxes_of failing_boxes

@@ -5,7 +5,7 @@ use Rattle.acl_packet.specs.declared.packets.Packet.{Packet}
 use Rattle.acl_packet.specs.Addresses.{top_address}
 use Rattle.acl_sets.specs.Ranges.{IsNormal, Numbers, holds}
 use Rattle.term_boxes.specs.declared.boxes.PacketBox.{PacketBox}
-use Rattle.term_boxes.specs.Coordinates.{numbers_of, tops_of}
+use Rattle.term_boxes.specs.Coordinates.{numbers_of}
 use Rattle.term_boxes.specs.NumberSets.{up_to}
 
 -- The sides in the order of the coordinates.
@@ -39,15 +39,18 @@ everything f = record {
 }
 
 -- A set of numbers up to the top: its list is in normal form.
-abbrev pub IsSet : ℕ → Numbers → Type 0
-IsSet top s = (s.top ≡ top) × IsNormal 0 s.top s.ranges
-
-abbrev pub AreSets : List ℕ → List Numbers → Type 0
-AreSets [] [] = Unit {0}
-AreSets [] (s ∷ ss) = ⊥
-AreSets (top ∷ tops) [] = ⊥
-AreSets (top ∷ tops) (s ∷ ss) = IsSet top s × AreSets tops ss
+pub record IsSet (top : ℕ) (s : Numbers) : Type 0 where
+  pub top_is : s.top ≡ top
+  pub normal : IsNormal 0 s.top s.ranges
 
 -- The sides of the box are sets of numbers of the family's coordinates.
-abbrev pub IsBox : Family → PacketBox → Type 0
-IsBox f b = AreSets (tops_of f) (sides_of b)
+pub record IsBox (f : Family) (b : PacketBox) : Type 0 where
+  pub sources : IsSet (top_address f) b.sources
+  pub destinations : IsSet (top_address f) b.destinations
+  pub protocols : IsSet 255 b.protocols
+  pub source_ports : IsSet 65535 b.source_ports
+  pub destination_ports : IsSet 65535 b.destination_ports
+  pub types : IsSet 255 b.types
+  pub codes : IsSet 255 b.codes
+  pub flags : IsSet 63 b.flags
+  pub connections : IsSet 3 b.connections

@@ -60,22 +60,6 @@ impl PacketBox {
         })
     }
 
-    pub(crate) fn with_protocols(self, protocols: RangeSet) -> PacketBox
-        ensures { result ≡ record self { protocols = protocols } }
-    {
-        let mut out = self;
-        out.protocols = protocols;
-        out
-    }
-
-    pub(crate) fn with_destination_ports(self, ports: RangeSet) -> PacketBox
-        ensures { result ≡ record self { destination_ports = ports } }
-    {
-        let mut out = self;
-        out.destination_ports = ports;
-        out
-    }
-
     pub(crate) fn with_flags(self, flags: RangeSet) -> PacketBox
         ensures { result ≡ record self { flags = flags } }
     {
