@@ -108,11 +108,11 @@ bars-are V6 =
 
 -- ---- sets that are made from ranges in normal form
 
-pub ranges-fit : (top : ℕ) (rs : List Range) → IsNormal 0 top rs → All (λ r. IsRange top r) rs
-ranges-fit top rs n = All-from_recursion (λ r. IsRange top r) rs (are_ranges 0 top rs n)
+pub ranges_fit : (top : ℕ) (rs : List Range) → IsNormal 0 top rs → All (λ r. IsRange top r) rs
+ranges_fit top rs n = All-from_recursion (λ r. IsRange top r) rs (are_ranges 0 top rs n)
 
-pub same-set : (top : ℕ) (rs : List Range) (s : Numbers) → IsNormal 0 top rs → s.top ≡ top → IsNormal 0 s.top s.ranges
+pub same_set : (top : ℕ) (rs : List Range) (s : Numbers) → IsNormal 0 top rs → s.top ≡ top → IsNormal 0 s.top s.ranges
     → ((x : ℕ) → holds s.ranges x ≡ holds rs x) → s ≡ set_of top rs
-same-set top rs s n e m h =
+same_set top rs s n e m h =
     let r = one_list 0 0 top s.ranges rs (subst (λ k. IsNormal 0 k s.ranges) e m) n h in
     ap (λ k. set_of k s.ranges) e ∙ ap (set_of top) r

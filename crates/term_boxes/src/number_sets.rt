@@ -33,7 +33,7 @@ fn run(low: u128, high: u128) -> Range
 }
 
 // The set of ranges that are in normal form already.
-#[tactic(auto, using(crate::proofs::SideSets::ranges-fit, crate::proofs::SideSets::same-set))]
+#[tactic(auto, using(crate::proofs::SideSets::ranges_fit, crate::proofs::SideSets::same_set))]
 fn set_of(alloc: Global, top: u128, ranges: &[Range]) -> Result<RangeSet, Memory>
     requires { IsNormal 0 top ranges.now }
     ensures { IfOk result (λ s. s ≡ set_of top ranges.now) }
