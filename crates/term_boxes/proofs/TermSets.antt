@@ -150,6 +150,12 @@ pair-is f t pair =
     sides (sources-set pair.addresses f t) (destinations-set pair.addresses f t) (protocols-set f t) (sports-set pair.ports t)
     (dports-set pair.ports t) (own t IcmpType) (own t IcmpCode) (up-to-set 63) (up-to-set 3)
 
+pub own-protocols : (f : Family) (t : Term) (pair : SidePair) (b : PacketBox) → b ≡ pair_box f t pair → b.protocols.top ≡ 255
+own-protocols f t pair b e = ap (λ c. c.protocols.top) e ∙ (protocols-set f t).top_is
+
+pub own-ports : (f : Family) (t : Term) (pair : SidePair) (b : PacketBox) → b ≡ pair_box f t pair → b.destination_ports.top ≡ 65535
+own-ports f t pair b e = ap (λ c. c.destination_ports.top) e ∙ (dports-set pair.ports t).top_is
+
 left-ports : (named : Bool) (s : Numbers) → IsSet 65535 s → IsSet 65535 (established_ports named s)
 left-ports true s h = h
 left-ports false s h = both-set 65535 s client_ports h (one-run 65535 1024 65535 (omega arith) (omega arith))
