@@ -73,22 +73,14 @@ fn header_bar(alloc: Global, family: Family) -> Result<PacketBox, Memory>
     Ok(bar)
 }
 
-fn push_port_bars(
-    alloc: Global,
-    out: &mut Items<PacketBox>,
-    family: Family,
-) -> Result<(), Memory>
+fn push_port_bars(alloc: Global, out: &mut Items<PacketBox>, family: Family) -> Result<(), Memory>
     ensures { OnOk result (out.new ≡ out.old ++ port_bars family) }
 {
     out.push(source_port_bar(alloc, family)?)?;
     out.push(destination_port_bar(alloc, family)?)
 }
 
-fn push_field_bars(
-    alloc: Global,
-    out: &mut Items<PacketBox>,
-    family: Family,
-) -> Result<(), Memory>
+fn push_field_bars(alloc: Global, out: &mut Items<PacketBox>, family: Family) -> Result<(), Memory>
     ensures { OnOk result (out.new ≡ out.old ++ field_bars family) }
 {
     out.push(flag_bar(alloc, family)?)?;
