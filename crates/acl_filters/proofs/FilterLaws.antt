@@ -36,7 +36,7 @@ both-none a b e f = ap (λ o. option_or o b) e ∙ f
 
 -- ---- one filter
 
-judged-ok : (l : Option Limit) (n m : ℕ) → Ok m ≡ judged l n → (l ≡ None) × (m ≡ n)
+pub judged-ok : (l : Option Limit) (n m : ℕ) → Ok m ≡ judged l n → (l ≡ None) × (m ≡ n)
 judged-ok None n m e = (refl, cc)
 judged-ok (Some l) n m e = absurd (cc)
 
@@ -60,7 +60,7 @@ checks-filter today r f entries none is sound e =
       taken = record { kind_is = refl; sound = subst IsSound is sound; within = limit-there (filter_for today r) within };
     }
 
-judged-err : (l : Option Limit) (n : ℕ) (m : Limit) → Err m ≡ judged l n → l ≡ Some m
+pub judged-err : (l : Option Limit) (n : ℕ) (m : Limit) → Err m ≡ judged l n → l ≡ Some m
 judged-err None n m e = absurd (cc)
 judged-err (Some l) n m e = cc
 

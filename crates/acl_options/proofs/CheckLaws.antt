@@ -1,31 +1,26 @@
 -- What the words of aclcheck are read as, and what they ask for, are the same.
-use Rattle.std.proofs.Common.{◌≡◌, ◌∙◌, ℕ, ◌≤◌, ◌==◌, Bool, true, false, List, [], ◌∷◌, codes, Option, None, Some, option_and_then, option_map, Result, IfOk, inl, inr, refl, ap, sym, subst, arith}
-use Rattle.std.specs.Prelude.{IfSome, IfNone, IsSomeAnd, if◌then◌else◌}
+use Rattle.std.proofs.Common.{◌≡◌, ◌∙◌, ℕ, List, [], ◌∷◌, codes, Option, None, Some, option_and_then, option_map, Result, IfOk, inl, inr, refl, ap, sym, subst}
+use Rattle.std.specs.Prelude.{IfSome, IfNone, IsSomeAnd}
 use Rattle.std.specs.Str.{bytes_eq}
-use Rattle.std.proofs.lemmas.Bool.{eqb-false}
 use Rattle.std.proofs.lemmas.Slice.Eq.{bytes_eq-Decides}
 use Rattle.std.proofs.lemmas.Option.{none-some, option_and_then_some, same_Some}
 use Rattle.std.proofs.lemmas.Result.{IfOk-weaker}
 use Rattle.clap.specs.Words.{matches_of}
-use Rattle.acl_packet.specs.Decimals.{number_in}
 use Rattle.acl_packet.specs.declared.packets.Packet.{Packet}
-use Rattle.acl_packet.proofs.ChoiceLaws.{chosen, guarded, refused}
-use Rattle.acl_packet.proofs.DecimalLaws.{number-in, number-is}
+use Rattle.acl_packet.proofs.ChoiceLaws.{chosen, guarded}
 use Rattle.packet_text.specs.PacketTexts.{IsPacketText}
 use Rattle.packet_text.specs.PacketTextSteps.{packet_in}
 use Rattle.packet_text.proofs.PacketTextLaws.{is-packet, packet-is}
 use Rattle.acl_target.specs.TargetTexts.{kind_text}
 use Rattle.acl_target.specs.declared.targets.Kind.{Kind}
 use Rattle.acl_target.specs.declared.targets.Kind.TheVariants.{Cisco, Juniper, Iptables, Nftables}
-use Rattle.acl_options.specs.CheckCommands.{AsksForCheck, AsksPolicy, AsksText, CheckRequest, AskPolicy, AskText, FileSection, IsCount, NamesPacket, policy_command, text_command}
+use Rattle.acl_options.specs.CheckCommands.{AsksForCheck, AsksPolicy, AsksText, CheckRequest, AskPolicy, AskText, FileSection, policy_command, text_command}
 use Rattle.acl_options.specs.CodeViews.{check_view}
 use Rattle.acl_options.specs.Commands.{Inputs, value_in}
 use Rattle.acl_options.specs.ComputableChecks.{check_request_of, file_section_in, kind_in, kind_named, packet_named, path_in, policy_question_in, section_in, text_question_in}
 use Rattle.acl_options.specs.ComputableCommands.{inputs_in, rows_in}
-use Rattle.acl_options.specs.WorkloadWords.{count_in, not_zero}
 use Rattle.acl_options.specs.declared.check_commands.CheckCommand.{CheckCommand}
-use Rattle.acl_options.proofs.CommandLaws.{folder-in, in-folder, inputs-named, named-inputs, read-of-taken, taken-and-read}
-use Rattle.acl_options.proofs.WorkloadLaws.{counted}
+use Rattle.acl_options.proofs.CommandLaws.{among-count, count-among, folder-in, in-folder, inputs-named, named-inputs, read-of-taken, taken-and-read}
 
 -- ---- one value
 
@@ -66,25 +61,6 @@ kind-among (Some text) kind e = kind-named text kind e
 among-kind : (text : Option (List ℕ)) (kind : Kind) → IsSomeAnd text (λ t. t ≡ kind_text kind) → option_and_then kind_named text ≡ Some kind
 among-kind None kind h = absurd h
 among-kind (Some text) kind h = named-kind text kind h
-
-count-named : (text : List ℕ) (n : ℕ) → count_in text ≡ Some n → IsCount n text
-count-named text n e =
-    option_and_then_some not_zero (number_in 1024 text) n e (λ m found kept.
-    let q = refused (m == 0) (Some m) n kept in
-    let number = number-is 1024 m text found in
-    subst (λ k. IsCount k text) (same_Some m n q.1) (record {
-      number = number.0;
-      least = omega (arith, eqb-false m 0 q.0);
-      most = number.1;
-    }))
-
-count-among : (text : Option (List ℕ)) (n : ℕ) → option_and_then count_in text ≡ Some n → IsSomeAnd text (IsCount n)
-count-among None n e = absurd (none-some n e)
-count-among (Some text) n e = count-named text n e
-
-among-count : (text : Option (List ℕ)) (n : ℕ) → IsSomeAnd text (IsCount n) → option_and_then count_in text ≡ Some n
-among-count None n h = absurd h
-among-count (Some text) n h = counted text n (number-in 1024 n text h.number h.most) h.least
 
 -- ---- the commands
 
@@ -134,7 +110,7 @@ text-asked words r e =
         path = file.0;
         path_stands = file.1;
         kind = kind-among (value_in text_command words (codes "platform")) kind k;
-        number = count-among (value_in text_command words (codes "section")) number n;
+        number = count-among 1024 (value_in text_command words (codes "section")) number n;
         packet_named = packet-among (value_in text_command words (codes "packet")) packet p;
       };
     })))))))
@@ -147,7 +123,7 @@ text-answered words at packet a =
     ∙ rw (
       in-folder (value_in text_command words (codes "text")) at.path a.path a.path_stands,
       among-kind (value_in text_command words (codes "platform")) at.kind a.kind,
-      among-count (value_in text_command words (codes "section")) at.number a.number,
+      among-count 1024 (value_in text_command words (codes "section")) at.number a.number,
       among-packet (value_in text_command words (codes "packet")) packet a.packet_named,
     ) refl
 

@@ -1,15 +1,18 @@
 -- Values that stand, and those that are read, are the same; and so are the inputs of a command.
 use Prim.Native.Nat.{zero, suc}
 use Rattle.std.proofs.Common.{◌≡◌, ◌∙◌, ◌<◌, ◌==◌, ℕ, true, false, List, [], ◌∷◌, length, nat_eq, codes, Option, None, Some, option_and_then, refl, ap, subst, arith}
-use Rattle.std.proofs.lemmas.Bool.{ne_eqb}
+use Rattle.std.specs.Prelude.{IsSomeAnd}
+use Rattle.std.proofs.lemmas.Bool.{eqb-false, ne_eqb}
 use Rattle.std.proofs.lemmas.Option.{none-some, option_and_then_some, same_Some}
 use Rattle.std.specs.List.{ends_with}
 use Rattle.clap.specs.Words.{App, Kinds, Row, fault_of, matches_of}
+use Rattle.acl_packet.specs.Decimals.{number_in}
+use Rattle.acl_packet.proofs.DecimalLaws.{number-in, number-is}
 use Rattle.acl_packet.proofs.ChoiceLaws.{guarded, refused}
 use Rattle.acl_days.specs.declared.days.Day.{Day}
 use Rattle.acl_days.specs.NamedDays.{day_named}
-use Rattle.acl_options.specs.Commands.{Inputs, IsDate, IsFile, IsFolder, IsTakenBy, NamesInputs, value_in}
-use Rattle.acl_options.specs.ComputableCommands.{date_in, date_named, definitions_in, file_named, folder_named, inputs_in, is_none, is_taken, policy_in, rows_in}
+use Rattle.acl_options.specs.Commands.{Inputs, IsCount, IsDate, IsFile, IsFolder, IsTakenBy, NamesInputs, value_in}
+use Rattle.acl_options.specs.ComputableCommands.{count_in, date_in, date_named, definitions_in, file_named, folder_named, inputs_in, is_none, is_taken, not_zero, policy_in, rows_in}
 use Rattle.acl_options.proofs.NamedDates.{named-text, text-named}
 
 -- ---- one value
@@ -48,7 +51,30 @@ named-date None (Some day) d = absurd d
 named-date (Some text) None d = absurd d
 named-date (Some text) (Some day) d = rw (text-named text day d) refl
 
+pub count-named : (most : ℕ) (text : List ℕ) (n : ℕ) → count_in most text ≡ Some n → IsCount most n text
+count-named most text n e =
+    option_and_then_some not_zero (number_in most text) n e (λ m found kept.
+    let q = refused (m == 0) (Some m) n kept in
+    let number = number-is most m text found in
+    subst (λ k. IsCount most k text) (same_Some m n q.1) (record {
+      number = number.0;
+      from_one = omega (arith, eqb-false m 0 q.0);
+      at_most = number.1;
+    }))
+
+pub named-count : (most : ℕ) (text : List ℕ) (n : ℕ) → IsCount most n text → count_in most text ≡ Some n
+named-count most text n c =
+    ap (option_and_then not_zero) (number-in most n text c.number c.at_most) ∙ rw (ne_eqb n 0 (λ z. omega (arith, c.from_one, z))) refl
+
 -- ---- a value among the rows
+
+pub count-among : (most : ℕ) (text : Option (List ℕ)) (n : ℕ) → option_and_then (count_in most) text ≡ Some n → IsSomeAnd text (IsCount most n)
+count-among most None n e = absurd (none-some n e)
+count-among most (Some text) n e = count-named most text n e
+
+pub among-count : (most : ℕ) (text : Option (List ℕ)) (n : ℕ) → IsSomeAnd text (IsCount most n) → option_and_then (count_in most) text ≡ Some n
+among-count most None n h = absurd h
+among-count most (Some text) n h = named-count most text n h
 
 pub file-in : (text : Option (List ℕ)) (path : List ℕ) → option_and_then file_named text ≡ Some path → (text ≡ Some path) × IsFile path
 file-in None path e = absurd (none-some path e)

@@ -10,7 +10,7 @@ use Rattle.clap.specs.declared.error.kind.ErrorKind.TheVariants.{OutOfMemory}
 use Rattle.acl_options.specs.CheckCommands.{policy_command, text_command}
 use Rattle.acl_options.specs.CommandLines.{command}
 use Rattle.acl_options.specs.ComputableCommands.{rows_in}
-use Rattle.acl_options.specs.ToolCommands.{speedway}
+use Rattle.acl_options.specs.ToolCommands.{dead, speedway, standard}
 
 pub free : is_simple_and_free command ≡ true
 unfolding clap_on_literals
@@ -19,6 +19,14 @@ free = refl
 pub speedway_free : is_simple_and_free speedway ≡ true
 unfolding clap_on_literals
 speedway_free = refl
+
+pub dead_free : is_simple_and_free dead ≡ true
+unfolding clap_on_literals
+dead_free = refl
+
+pub standard_free : is_simple_and_free standard ≡ true
+unfolding clap_on_literals
+standard_free = refl
 
 pub policy_free : is_simple_and_free policy_command ≡ true
 unfolding clap_on_literals

@@ -1,13 +1,12 @@
 -- The words of aclcheck, and what they ask for: a command, its options, and a packet. The words are those behind the
 -- program's name.
-use Rattle.std.specs.Prelude.{◌≡◌, ◌≤◌, ◌<◌, ℕ, List, [], ◌∷◌, ◌++◌, codes, length, Some, IsSomeAnd}
+use Rattle.std.specs.Prelude.{◌≡◌, ◌<◌, ℕ, List, [], ◌∷◌, ◌++◌, codes, length, Some, IsSomeAnd}
 use Rattle.clap.specs.Words.{App}
-use Rattle.acl_packet.specs.Decimals.{IsNumber}
 use Rattle.acl_packet.specs.declared.packets.Packet.{Packet}
 use Rattle.packet_text.specs.PacketTexts.{IsPacketText}
 use Rattle.acl_target.specs.TargetTexts.{kind_text}
 use Rattle.acl_target.specs.declared.targets.Kind.{Kind}
-use Rattle.acl_options.specs.Commands.{Inputs, IsTakenBy, NamesInputs, command_with, input_options, required_option, value_in}
+use Rattle.acl_options.specs.Commands.{Inputs, IsCount, IsTakenBy, NamesInputs, command_with, input_options, required_option, value_in}
 use Rattle.acl_options.specs.ToolCommands.{Calls}
 
 -- A section of a file: the file's path, the platform in whose language it is read, and the section's number, from 1 on.
@@ -45,18 +44,12 @@ pub record AsksPolicy (inputs : Inputs) (packet : Packet) (words : List (List �
   pub inputs_named : NamesInputs policy_command words inputs
   pub packet_named : NamesPacket policy_command words packet
 
--- a number from 1 to 1024
-pub record IsCount (n : ℕ) (text : List ℕ) : Type 0 where
-  pub number : IsNumber text n
-  pub least : 1 ≤ n
-  pub most : n ≤ 1024
-
 pub record AsksText (at : FileSection) (packet : Packet) (words : List (List ℕ)) : Type 0 where
   pub taken : IsTakenBy text_command words
   pub path : value_in text_command words (codes "text") ≡ Some at.path
   pub path_stands : 0 < length at.path
   pub kind : IsSomeAnd (value_in text_command words (codes "platform")) (λ text. text ≡ kind_text at.kind)
-  pub number : IsSomeAnd (value_in text_command words (codes "section")) (IsCount at.number)
+  pub number : IsSomeAnd (value_in text_command words (codes "section")) (IsCount 1024 at.number)
   pub packet_named : NamesPacket text_command words packet
 
 abbrev pub AsksForCheck : List (List ℕ) → CheckRequest → Type 0

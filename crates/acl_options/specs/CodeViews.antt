@@ -2,7 +2,7 @@
 use Rattle.acl_options.specs.CheckCommands.{CheckRequest, AskPolicy, AskText, FileSection}
 use Rattle.acl_options.specs.CommandLines.{Options}
 use Rattle.acl_options.specs.Commands.{Inputs}
-use Rattle.acl_options.specs.ToolCommands.{ToolRequest, Speedway}
+use Rattle.acl_options.specs.ToolCommands.{ToolRequest, Speedway, Dead, Standard}
 use Rattle.acl_options.specs.declared.check_commands.CheckCommand.{CheckCommand}
 use Rattle.acl_options.specs.declared.check_commands.CheckCommand.TheVariants as checks
 use Rattle.acl_options.specs.declared.check_commands.FileSection.{FileSection as CodeSection}
@@ -26,6 +26,8 @@ inputs_view i = record { policy = i.policy.now; definitions = i.definitions.now;
 
 abbrev pub tool_view : ToolCommand → ToolRequest
 tool_view (tools.Speedway inputs family) = Speedway (inputs_view inputs) family
+tool_view (tools.Dead inputs) = Dead (inputs_view inputs)
+tool_view (tools.Standard inputs first) = Standard (inputs_view inputs) first
 
 abbrev pub section_view : CodeSection → FileSection
 section_view s = record { path = s.path.now; kind = s.kind; number = s.number }

@@ -3,11 +3,12 @@
 -- A command is one of clap, with options of one value each and flags, without subcommands, positionals, help and version.
 -- Which words it takes, and the value of each option, is what clap states of such a command: `fault_of` lists the errors
 -- that it has for some words, and `matches_of` the options that it finds. Ours is which values stand.
-use Rattle.std.specs.Prelude.{◌≡◌, ◌<◌, ℕ, false, true, List, [], ◌∷◌, length, codes, nat_eq}
+use Rattle.std.specs.Prelude.{◌≡◌, ◌≤◌, ◌<◌, ℕ, false, true, List, [], ◌∷◌, length, codes, nat_eq}
 use Rattle.std.specs.Prelude.{Option, None, Some}
 use Rattle.std.specs.List.{ends_with}
 use Rattle.clap.specs.Words.{App, Rule, fault_of, first_of, matches_of, new_app, new_rule}
 use Rattle.clap.specs.declared.builder.ArgAction.TheVariants.{Set, SetTrue}
+use Rattle.acl_packet.specs.Decimals.{IsNumber}
 use Rattle.acl_days.specs.declared.days.Day.{Day}
 use Rattle.acl_days.specs.Days.{IsDayText}
 
@@ -62,6 +63,12 @@ abbrev pub IsDate : Option (List ℕ) → Option Day → Type 0
 IsDate None None = Unit {0}
 IsDate (Some text) (Some day) = IsDayText text day.number
 IsDate _ _ = ⊥
+
+-- a number from 1 on, up to the most
+pub record IsCount (most n : ℕ) (text : List ℕ) : Type 0 where
+  pub number : IsNumber text n
+  pub from_one : 1 ≤ n
+  pub at_most : n ≤ most
 
 -- ---- what a command is to read
 

@@ -1,17 +1,15 @@
 -- What the words of aclcheck ask for, as a function. A law says that it is `AsksForCheck` of `CheckCommands`.
-use Rattle.std.specs.Prelude.{ℕ, Bool, true, false, if◌then◌else◌, List, [], ◌∷◌, codes, Option, None, Some, option_and_then}
+use Rattle.std.specs.Prelude.{ℕ, Bool, false, if◌then◌else◌, List, [], ◌∷◌, codes, Option, None, Some, option_and_then}
 use Rattle.std.specs.Str.{bytes_eq}
 use Rattle.clap.specs.Words.{Row, first_of}
 use Rattle.acl_packet.specs.declared.packets.Packet.{Packet}
 use Rattle.acl_text.specs.OptionSteps.{◌>>=◌}
-use Rattle.acl_days.specs.declared.days.Day.{Day}
 use Rattle.packet_text.specs.PacketTextSteps.{packet_in}
 use Rattle.acl_target.specs.TargetTexts.{kind_text}
 use Rattle.acl_target.specs.declared.targets.Kind.{Kind}
 use Rattle.acl_target.specs.declared.targets.Kind.TheVariants.{Cisco, Juniper, Iptables, Nftables}
 use Rattle.acl_options.specs.CheckCommands.{CheckRequest, AskPolicy, AskText, FileSection, policy_command, text_command}
-use Rattle.acl_options.specs.ComputableCommands.{folder_named, inputs_in, is_undated, rows_in}
-use Rattle.acl_options.specs.WorkloadWords.{count_in}
+use Rattle.acl_options.specs.ComputableCommands.{count_in, folder_named, inputs_in, is_undated, rows_in}
 
 abbrev pub packet_named : List Row → Option Packet
 packet_named rows = option_and_then packet_in (first_of (codes "packet") rows)
@@ -30,7 +28,7 @@ abbrev pub path_in : List Row → Option (List ℕ)
 path_in rows = option_and_then folder_named (first_of (codes "text") rows)
 
 abbrev pub section_in : List Row → Option ℕ
-section_in rows = option_and_then count_in (first_of (codes "section") rows)
+section_in rows = option_and_then (count_in 1024) (first_of (codes "section") rows)
 
 unfoldable pub policy_question_in : List Row → Option CheckRequest
 policy_question_in rows = do

@@ -3,6 +3,7 @@ use Rattle.std.specs.Prelude.{ℕ, Bool, true, false, not, ◌==◌, if◌then�
 use Rattle.std.specs.Prelude.{length, codes, nat_eq, Option, None, Some, is_some, option_and_then}
 use Rattle.std.specs.List.{ends_with}
 use Rattle.clap.specs.Words.{App, Kinds, Row, fault_of, first_of, matches_of}
+use Rattle.acl_packet.specs.Decimals.{number_in}
 use Rattle.acl_text.specs.OptionSteps.{◌>>=◌}
 use Rattle.acl_days.specs.declared.days.Day.{Day}
 use Rattle.acl_days.specs.NamedDays.{day_named}
@@ -33,6 +34,13 @@ policy_in rows = option_and_then file_named (first_of (codes "policy_file") rows
 
 abbrev pub definitions_in : List Row → Option (List ℕ)
 definitions_in rows = option_and_then folder_named (first_of (codes "definitions_directory") rows)
+
+abbrev pub not_zero : ℕ → Option ℕ
+not_zero n = if n == 0 then None else Some n
+
+-- a number from 1 on, up to the most
+abbrev pub count_in : ℕ → List ℕ → Option ℕ
+count_in most text = option_and_then not_zero (number_in most text)
 
 -- the day is named, or no day is given
 abbrev pub date_named : Option (List ℕ) → Option (Option Day)

@@ -1,8 +1,8 @@
 -- The words of the workload: `--workload`, and the number of its terms.
-use Rattle.std.specs.Prelude.{◌≡◌, ◌≤◌, ℕ, ◌==◌, if◌then◌else◌, List, [], ◌∷◌, codes}
-use Rattle.std.specs.Prelude.{Option, None, Some, option_and_then}
+use Rattle.std.specs.Prelude.{◌≡◌, ◌≤◌, ℕ, if◌then◌else◌, List, [], ◌∷◌, codes, Option, None}
 use Rattle.std.specs.Str.{bytes_eq}
-use Rattle.acl_packet.specs.Decimals.{IsNumber, number_in}
+use Rattle.acl_packet.specs.Decimals.{IsNumber}
+use Rattle.acl_options.specs.ComputableCommands.{count_in}
 
 -- The words are these two, and the second is a number from 1 to 1024. The words are those behind the program's name.
 pub record IsWorkload (words : List (List ℕ)) (n : ℕ) : Type 0 where
@@ -14,14 +14,8 @@ pub record IsWorkload (words : List (List ℕ)) (n : ℕ) : Type 0 where
 
 -- ---- the same, as a function
 
-abbrev pub not_zero : ℕ → Option ℕ
-not_zero n = if n == 0 then None else Some n
-
-abbrev pub count_in : List ℕ → Option ℕ
-count_in text = option_and_then not_zero (number_in 1024 text)
-
 -- The number of the workload that the words ask for.
 abbrev pub workload_of : List (List ℕ) → Option ℕ
 workload_of (name ∷ text ∷ []) =
-    if bytes_eq name (codes "--workload") then count_in text else None
+    if bytes_eq name (codes "--workload") then count_in 1024 text else None
 workload_of _ = None

@@ -5,7 +5,7 @@ ghost use Rattle.acl_options.specs.ComputableChecks.{check_request_of};
 ghost use Rattle.acl_options.specs.CommandLines.{AsksFor, Options, command};
 ghost use Rattle.acl_options.specs.ComputableOptions.{options_of};
 ghost use Rattle.acl_options.specs.ComputableTools.{tool_request_of};
-ghost use Rattle.acl_options.specs.ToolCommands.{AsksForTool, ToolRequest, speedway};
+ghost use Rattle.acl_options.specs.ToolCommands.{AsksForTool, ToolRequest, dead, speedway, standard};
 
 /// A law: the options of some words are those that the words ask for.
 pub fn options_are_asked_for()
@@ -35,6 +35,8 @@ pub fn check_requests_are_asked_for()
 pub fn the_commands_are_simple()
     ensures aclgen { is_simple_and_free command ≡ true }
     ensures speedway { is_simple_and_free speedway ≡ true }
+    ensures dead { is_simple_and_free dead ≡ true }
+    ensures standard { is_simple_and_free standard ≡ true }
     ensures policy { is_simple_and_free policy_command ≡ true }
     ensures text { is_simple_and_free text_command ≡ true }
 {}

@@ -3,21 +3,24 @@ ghost use Rattle.std.specs.Option.{option_map};
 ghost use Rattle.std.specs.String.{string_bytes};
 ghost use Rattle.clap.specs.Words.{app_of, found_of, rows_of};
 ghost use Rattle.acl_options.specs.CodeViews.{tool_view};
-ghost use Rattle.acl_options.specs.ComputableCommands.{rows_in};
+ghost use Rattle.acl_options.specs.ComputableCommands.{count_in, rows_in};
 ghost use Rattle.acl_options.specs.ComputableTools.{
   date_for,
+  dead_in,
   family_in,
   family_named,
+  first_in,
   request_named,
   speedway_in,
+  standard_in,
   tool_request_of,
 };
-ghost use Rattle.acl_options.specs.ToolCommands.{AsksForTool, ToolRequest, speedway};
+ghost use Rattle.acl_options.specs.ToolCommands.{AsksForTool, ToolRequest, dead, speedway, standard};
 
 use crate::commands::{find_matches, inputs_command, required_option, with_option};
 use crate::inputs::{Inputs, inputs_in, value_of};
 use acl_days::Day;
-use acl_packet::Family;
+use acl_packet::{Family, read_u8};
 use acl_text::Memory;
 use clap::{ArgMatches, Command};
 use std::alloc::{AllocError, Global};
@@ -27,6 +30,10 @@ use std::alloc::{AllocError, Global};
 pub enum ToolCommand<'a> {
     /// The text for iptables-restore, of the iptables targets of this family.
     Speedway(Inputs<'a>, Family),
+    /// A packet that each term decides on each target, or that there is none.
+    Dead(Inputs<'a>),
+    /// The standard lists of the Cisco targets, from the list of this number on, 1 to 99.
+    Standard(Inputs<'a>, u8),
 }
 
 impl ToolCommand<'_> {
@@ -36,6 +43,8 @@ impl ToolCommand<'_> {
     {
         match self {
             ToolCommand::Speedway(inputs, _) => inputs.date,
+            ToolCommand::Dead(inputs) => inputs.date,
+            ToolCommand::Standard(inputs, _) => inputs.date,
         }
     }
 }
@@ -80,6 +89,66 @@ fn speedway_for(alloc: Global, words: &[String]) -> Result<Option<ToolCommand<'_
     }
 }
 
+fn dead_command<'a>(alloc: Global) -> Result<Command<'a>, AllocError>
+    ensures { IfOk result (λ c. app_of c ≡ dead) }
+{
+    inputs_command(alloc, "dead")
+}
+
+#[tactic(auto, unfolding(crate::specs::ComputableTools::dead_in))]
+fn dead_in<'a>(matches: &ArgMatches<'a>) -> Option<ToolCommand<'a>>
+    ensures { option_map tool_view result ≡ dead_in (rows_of (found_of matches.now)) }
+{
+    Some(ToolCommand::Dead(inputs_in(matches)?))
+}
+
+fn dead_for(alloc: Global, words: &[String]) -> Result<Option<ToolCommand<'_>>, Memory>
+    ensures { IfOk result (λ request. option_map tool_view request
+        ≡ option_and_then dead_in (rows_in dead (map string_bytes words.now))) }
+{
+    match find_matches(dead_command(alloc)?, words)? {
+        Some(matches) => Ok(dead_in(&matches)),
+        None => Ok(None),
+    }
+}
+
+fn first_number_named(text: &str) -> Option<u8>
+    ensures { result ≡ count_in 99 text.now }
+{
+    let number = read_u8(text.as_bytes(), 99)?;
+    if number == 0 { None } else { Some(number) }
+}
+
+fn first_in(matches: &ArgMatches<'_>) -> Option<u8>
+    ensures { result ≡ first_in (rows_of (found_of matches.now)) }
+{
+    first_number_named(value_of(matches, "first_number")?)
+}
+
+fn standard_command<'a>(alloc: Global) -> Result<Command<'a>, AllocError>
+    ensures { IfOk result (λ c. app_of c ≡ standard) }
+{
+    let command = inputs_command(alloc, "standard")?;
+    with_option(command, required_option(alloc, "first_number"))
+}
+
+#[tactic(auto, unfolding(crate::specs::ComputableTools::standard_in))]
+fn standard_in<'a>(matches: &ArgMatches<'a>) -> Option<ToolCommand<'a>>
+    ensures { option_map tool_view result ≡ standard_in (rows_of (found_of matches.now)) }
+{
+    Some(ToolCommand::Standard(inputs_in(matches)?, first_in(matches)?))
+}
+
+fn standard_for(alloc: Global, words: &[String]) -> Result<Option<ToolCommand<'_>>, Memory>
+    ensures { IfOk result (λ request. option_map tool_view request
+        ≡ option_and_then standard_in (rows_in standard (map string_bytes words.now))) }
+{
+    match find_matches(standard_command(alloc)?, words)? {
+        Some(matches) => Ok(standard_in(&matches)),
+        None => Ok(None),
+    }
+}
+
 // What the words behind a command's name ask for.
 fn request_named<'a>(
     alloc: Global,
@@ -89,10 +158,12 @@ fn request_named<'a>(
     ensures { IfOk result (λ request. option_map tool_view request
         ≡ request_named name.now (map string_bytes words.now)) }
 {
-    if name == "speedway" {
-        return speedway_for(alloc, words);
+    match name {
+        "speedway" => speedway_for(alloc, words),
+        "dead" => dead_for(alloc, words),
+        "standard" => standard_for(alloc, words),
+        _ => Ok(None),
     }
-    Ok(None)
 }
 
 #[tactic(auto, unfolding(crate::specs::ComputableTools::tool_request_of))]
@@ -107,11 +178,13 @@ fn request_for(alloc: Global, words: &[String]) -> Result<Option<ToolCommand<'_>
 }
 
 /// What the words behind the program's name ask of acltool, or none where they are no command line:
-/// `speedway --policy_file P --definitions_directory D --family F [--date YYYY-MM-DD]`.
+/// `speedway --policy_file P --definitions_directory D --family F [--date YYYY-MM-DD]`,
+/// `dead --policy_file P --definitions_directory D [--date YYYY-MM-DD]`, or
+/// `standard --policy_file P --definitions_directory D --first_number N [--date YYYY-MM-DD]`.
 ///
 /// The words behind the first are read as clap reads those of a command with these options, and clap's messages are not
-/// told. `P` and `D` are not empty, `P` does not end in `/`, `F` is `inet` or `inet6`, and the date is a day of the years
-/// 0001 to 9999. Memory may be wanted for the parse.
+/// told. `P` and `D` are not empty, `P` does not end in `/`, `F` is `inet` or `inet6`, `N` is a number from 1 to 99 in
+/// decimal digits, and the date is a day of the years 0001 to 9999. Memory may be wanted for the parse.
 pub fn read_tool_command(alloc: Global, words: &[String]) -> Result<Option<ToolCommand<'_>>, Memory>
     ensures some { IfOk result (λ request. IfSome request (λ r.
         AsksForTool (map string_bytes words.now) (tool_view r))) }

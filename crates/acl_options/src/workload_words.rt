@@ -1,11 +1,12 @@
-ghost use Rattle.std.specs.Prelude.{◌≡◌, ◌≤◌, ℕ, IfNone, IfSome, map};
+ghost use Rattle.std.specs.Prelude.{◌≡◌, ℕ, IfNone, IfSome, map};
 ghost use Rattle.std.specs.String.{string_bytes};
-ghost use Rattle.acl_options.specs.WorkloadWords.{IsWorkload, count_in, workload_of};
+ghost use Rattle.acl_options.specs.ComputableCommands.{count_in};
+ghost use Rattle.acl_options.specs.WorkloadWords.{IsWorkload, workload_of};
 
 use acl_text::read_u16;
 
 pub fn count_in(text: &str) -> Option<u32>
-    ensures { result ≡ count_in text.now }
+    ensures { result ≡ count_in 1024 text.now }
 {
     let count = read_u16(text.as_bytes(), 1024)?;
     if count == 0 {

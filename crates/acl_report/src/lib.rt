@@ -10,3 +10,4 @@ mod term_lines;
 pub use counts::put_count;
 pub use reports::report_terms;
 pub use shaded::{ShadedLists, shaded_lists};
+pub use term_lines::put_term;

@@ -22,9 +22,9 @@ use acl_target::{Target, put_target};
 use acl_terms::Term;
 use acl_text::{Out, PutFault, Whole, put_number};
 
-// Puts the place and the name of the term.
+/// Puts the place and the name of the term, with which a line on it begins. It fails only where memory is wanted.
 #[tactic(auto, unfolding(crate::specs::Reports::term_text))]
-fn put_term(report: &mut Whole, sources: &Sources, term: &Term) -> Result<(), PutFault>
+pub fn put_term(report: &mut Whole, sources: &Sources, term: &Term) -> Result<(), PutFault>
     requires { report.old.is_open ≡ true }
     ensures text { OnOk result (report.new.bytes
         ≡ report.old.bytes ++ term_text sources.now.labels term.now) }

@@ -1,2 +1,2 @@
-pub mod AddingLaws
+pub mod ChoiceLaws
 pub mod RestoredLaws

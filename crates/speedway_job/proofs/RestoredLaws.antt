@@ -34,10 +34,12 @@ use Rattle.acl_render.specs.PlatformFiles.{AreApart, IsTaken}
 use Rattle.acl_render.proofs.TakenFilters.{of-iptables}
 use Rattle.acl_filters.specs.AskedFilters.{FilterRequest}
 use Rattle.acl_filters.specs.CheckedFilters.{IsTakenFor}
+use Rattle.acl_filters.specs.ChosenFilters.{AreChosen}
 use Rattle.acl_filters.specs.FilterMeanings.{DecidesAsPolicy}
 use Rattle.acl_filters.specs.FilterRequests.{filter_for, request_slip, requests_in, requests_of, requests_on, requests_slip}
-use Rattle.acl_filters.proofs.ApartLaws.{all-by, all-on, all-taken, apart-on}
+use Rattle.acl_filters.proofs.ApartLaws.{all-by, all-taken}
 use Rattle.acl_filters.proofs.FilterLaws.{both-none, first-none, requests-taken, targets-stand}
+use Rattle.acl_filters.proofs.KeptRequests.{apart-of, both-by, kept, of-kind}
 use Rattle.acl_filters.proofs.MeantFilters.{decides-at, resolved-requests}
 use Rattle.ipt_lang.specs.Documents.{hook_names}
 use Rattle.ipt_lang.specs.Walks.{outcome_of, section_outcome}
@@ -51,79 +53,8 @@ use Rattle.gen_speedway.proofs.RestoredSections.{restored_decides, section_is_sp
 use Rattle.acl_printing.specs.Finishing.{text_in}
 use Rattle.acl_printing.specs.PolicyAnswers.{MakesLoaded, answer_of, or_slip}
 use Rattle.speedway_job.specs.RestoreMeanings.{MeansRestored}
-use Rattle.speedway_job.specs.RestorePlans.{MeansPlan, RestorePlan, is_restored, plan_of, policy_slip, restored, restored_slip, restored_text, restores_slip, sections_text, text_with}
-use Rattle.speedway_job.specs.RestoringSteps.{AreAdded, AreRestorable, IsReady, MakesOf, text_if}
-
--- ---- what holds of all requests holds of those that are asked for
-
-kept : (p : FilterRequest → Bool) (P : FilterRequest → Type 0) (rs : List FilterRequest) → AllByRecursion P rs → AllByRecursion P (filter p rs)
-kept p P [] h = tt
-kept p P (r ∷ rs) h = by (p r) (kept p P rs h.1)
-  where
-    by : (b : Bool) → AllByRecursion P (filter p rs) → AllByRecursion P (if b then r ∷ filter p rs else filter p rs)
-    by true more = (h.0, more)
-    by false more = more
-
-are-kept : (p : FilterRequest → Bool) (rs : List FilterRequest) → AllByRecursion (λ r. p r ≡ true) (filter p rs)
-are-kept p [] = tt
-are-kept p (r ∷ rs) = by (p r) refl (are-kept p rs)
-  where
-    by : (b : Bool) → p r ≡ b → AllByRecursion (λ s. p s ≡ true) (filter p rs) → AllByRecursion (λ s. p s ≡ true) (if b then r ∷ filter p rs else filter p rs)
-    by true e more = (e, more)
-    by false e more = more
-
-both-by : (P Q R : FilterRequest → Type 0) → ((r : FilterRequest) → P r → Q r → R r) → (rs : List FilterRequest)
-    → AllByRecursion P rs → AllByRecursion Q rs → AllByRecursion R rs
-both-by P Q R f [] p q = tt
-both-by P Q R f (r ∷ rs) p q = (f r p.0 q.0, both-by P Q R f rs p.1 q.1)
-
--- ---- names that differ, of some of the filters
-
-mapped-kept : {B : Type 0} (f : FilterRequest → B) (P : B → Type 0) (p : FilterRequest → Bool) (rs : List FilterRequest)
-    → AllByRecursion P (map f rs) → AllByRecursion P (map f (filter p rs))
-mapped-kept f P p [] h = tt
-mapped-kept f P p (r ∷ rs) h = by (p r) (mapped-kept f P p rs h.1)
-  where
-    by : (b : Bool) → AllByRecursion P (map f (filter p rs)) → AllByRecursion P (map f (if b then r ∷ filter p rs else filter p rs))
-    by true more = (h.0, more)
-    by false more = more
-
-distinct-kept : {B : Type 0} (f : FilterRequest → B) (eq : B → B → Bool) (p : FilterRequest → Bool) (rs : List FilterRequest)
-    → IsDistinct eq (map f rs) → IsDistinct eq (map f (filter p rs))
-unfolding IsDistinct
-distinct-kept f eq p [] h = tt
-distinct-kept f eq p (r ∷ rs) h = by (p r) (distinct-kept f eq p rs h.1)
-  where
-    by : (b : Bool) → IsDistinct eq (map f (filter p rs)) → IsDistinct eq (map f (if b then r ∷ filter p rs else filter p rs))
-    by true more = (mapped-kept f (λ y. eq (f r) y ≡ false) p rs h.0, more)
-    by false more = more
-
-mapped-twice : {B C : Type 0} (g : B → C) (f : FilterRequest → B) (rs : List FilterRequest) → map g (map f rs) ≡ map (λ r. g (f r)) rs
-mapped-twice g f [] = refl
-mapped-twice g f (r ∷ rs) = ap (λ xs. g (f r) ∷ xs) (mapped-twice g f rs)
-
-apart-kept : (today : Day) (p : FilterRequest → Bool) (rs : List FilterRequest) → AreApart (map (filter_for today) rs)
-    → AreApart (map (filter_for today) (filter p rs))
-apart-kept today p rs h =
-    let g : FilterRequest → Target = λ r. target_of false (filter_for today r) in
-    record {
-      clash_not = subst (IsDistinct clash) (sym (mapped-twice (target_of false) (filter_for today) (filter p rs)))
-          (distinct-kept g clash p rs (subst (IsDistinct clash) (mapped-twice (target_of false) (filter_for today) rs) h.clash_not));
-      numbers_differ = distinct-kept (filter_for today) (λ (a : Filter) (b : Filter). a.number == b.number) p rs h.numbers_differ;
-    }
-
--- a platform's requests, and then those of a family
-by-family : (family : Family) (rs : List FilterRequest) → restored family rs ≡ filter (λ r. covers r.target.families family) (requests_on Iptables rs)
-by-family family [] = refl
-by-family family (r ∷ rs) = by (same_kind r.target.kind Iptables) (by-family family rs)
-  where
-    p : FilterRequest → Bool
-    p s = covers s.target.families family
-
-    by : (a : Bool) → restored family rs ≡ filter p (requests_on Iptables rs)
-        → (if a && p r then r ∷ restored family rs else restored family rs) ≡ filter p (if a then r ∷ requests_on Iptables rs else requests_on Iptables rs)
-    by true e = ap (λ xs. if p r then r ∷ xs else xs) e
-    by false e = e
+use Rattle.speedway_job.specs.RestorePlans.{IsReady, MeansPlan, RestorePlan, is_restored, plan_of, policy_slip, restored, restored_slip, restored_text, restores_slip, sections_text, text_with}
+use Rattle.speedway_job.specs.RestoringSteps.{AreRestorable, MakesOf, text_if}
 
 -- ---- requests without a slip
 
@@ -143,34 +74,24 @@ no-slips today (r ∷ rs) e =
     let more = no-slips today rs parts.1 in
     ((none-left r.target own.0, more.0), both-none (request_slip today r) (requests_slip today rs) own.1 more.1)
 
-any : (rs : List FilterRequest) → AllByRecursion (λ (r : FilterRequest). Unit {0}) rs
-any [] = tt
-any (r ∷ rs) = (tt, any rs)
-
-of-kind : (family : Family) (rs : List FilterRequest) → AllByRecursion (λ (r : FilterRequest). r.target.kind ≡ Iptables) (restored family rs)
-of-kind family rs =
-    subst (AllByRecursion (λ (r : FilterRequest). r.target.kind ≡ Iptables)) (sym (by-family family rs))
-    (kept (λ r. covers r.target.families family) (λ r. r.target.kind ≡ Iptables) (requests_on Iptables rs)
-    (all-on Iptables (λ r. Unit {0}) (λ r. r.target.kind ≡ Iptables) (λ r e _. e) rs (any rs)))
-
 pub restorable : (family : Family) (today : Day) (loaded : Loaded) (filters : List Filter) → IsPolicy loaded.policy
-    → AreResolvedIn loaded.definitions loaded.policy.blocks loaded.terms → AreAdded family today loaded filters → AreRestorable filters
+    → AreResolvedIn loaded.definitions loaded.policy.blocks loaded.terms
+    → AreChosen (is_restored family) (restored_slip today) today (requests_of loaded) filters → AreRestorable filters
 restorable family today loaded filters fits resolved added =
     let all = requests_of loaded in
+    let q : FilterRequest → Bool = λ r. covers r.target.families family in
     let rs = restored family all in
     let blocks = recursion_from_All IsBlock loaded.policy.blocks fits.blocks_are in
     let targets = kept (is_restored family) (λ r. IsTarget r.target) all (targets-stand loaded.policy.blocks loaded.terms blocks) in
-    let clean = no-slips today rs added.slip_is in
+    let clean = no-slips today rs added.no_slip in
     let taken = both-by (IsTakenFor today) (λ r. r.target.kind ≡ Iptables) (λ r. IsTaken Iptables (filter_for today r))
-    (λ r t e. subst (λ kind. IsTaken kind (filter_for today r)) e t) rs (requests-taken today rs targets clean.1) (of-kind family all) in
+    (λ r t e. subst (λ kind. IsTaken kind (filter_for today r)) e t) rs (requests-taken today rs targets clean.1) (of-kind Iptables q all) in
     let says = all-by (filter_for today) (λ (r : FilterRequest). leaves_packets r.target.ending ≡ false) (λ (f : Filter). leaves_packets f.ending ≡ false)
     (λ r e. e) rs clean.0 in
-    let apart = apart-kept today (λ r. covers r.target.families family) (requests_on Iptables all)
-    (apart-on today loaded.definitions loaded.policy loaded.terms Iptables fits resolved) in
     subst AreRestorable (sym added.filters_are) (record {
       taken = all-taken today Iptables rs taken;
       says = All-from_recursion (λ (f : Filter). leaves_packets f.ending ≡ false) (map (filter_for today) rs) says;
-      apart = subst (λ qs. AreApart (map (filter_for today) qs)) (sym (by-family family all)) apart;
+      apart = apart-of today loaded.definitions loaded.policy loaded.terms Iptables q fits resolved;
     })
 
 -- ---- what the platform asks of them
@@ -220,7 +141,7 @@ same-text today [] = refl
 same-text today (r ∷ rs) = refl
 
 pub made : (family : Family) (today : Day) (loaded : Loaded) (filters : List Filter) (work : Option Whole) → IsPolicy loaded.policy
-    → AreResolvedIn loaded.definitions loaded.policy.blocks loaded.terms → AreAdded family today loaded filters → text_in work ≡ text_if filters
+    → AreResolvedIn loaded.definitions loaded.policy.blocks loaded.terms → AreChosen (is_restored family) (restored_slip today) today (requests_of loaded) filters → text_in work ≡ text_if filters
     → MakesOf family today loaded (Ok work)
 made family today loaded filters work fits resolved added text =
     let rs = restored family (requests_of loaded) in
@@ -231,7 +152,7 @@ made family today loaded filters work fits resolved added text =
           (resolved-requests loaded.definitions loaded.policy.blocks loaded.terms resolved))
           (subst AreRestorable added.filters_are (restorable family today loaded filters fits resolved added));
     } in
-    subst (λ o. MakesLoaded IsReady (or_slip loaded.sources.labels o (plan_of family today loaded)) (Ok work)) (sym added.slip_is) ready
+    subst (λ o. MakesLoaded IsReady (or_slip loaded.sources.labels o (plan_of family today loaded)) (Ok work)) (sym added.no_slip) ready
 
 pub slipped : (family : Family) (today : Day) (loaded : Loaded) (s : Slip) (fault : Fault) → restores_slip family today (requests_of loaded) ≡ Some s
     → fault ≡ slip_fault loaded.sources.labels s → MakesOf family today loaded (Err (rejections.Fault fault))

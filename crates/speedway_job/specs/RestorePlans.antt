@@ -6,6 +6,7 @@ use Rattle.acl_packet.specs.Addresses.{covers}
 use Rattle.acl_text.specs.declared.faults.Code.TheVariants as codes_of
 use Rattle.acl_text.specs.declared.faults.Fault.{Fault}
 use Rattle.acl_text.specs.declared.faults.Slip.{Slip}
+use Rattle.acl_text.specs.declared.wholes.Whole.{Whole}
 use Rattle.acl_text.specs.Refusals.{first_in, slip}
 use Rattle.acl_days.specs.declared.days.Day.{Day}
 use Rattle.acl_host.specs.Files.{File}
@@ -20,6 +21,7 @@ use Rattle.ipr_lang.specs.Texts.{text_of}
 use Rattle.gen_iptables.specs.Sections.{section_of}
 use Rattle.gen_speedway.specs.RestoredFilters.{leaves_packets}
 use Rattle.acl_options.specs.Commands.{Inputs}
+use Rattle.acl_printing.specs.Finishing.{IsTextOf}
 use Rattle.acl_printing.specs.PolicyAnswers.{AnswersPolicy}
 use Rattle.speedway_job.specs.RestoreMeanings.{MeansRestored}
 
@@ -80,3 +82,7 @@ restored_text plan = text_with plan.today plan.requests
 -- What the text means, with or without targets.
 abbrev pub MeansPlan : RestorePlan → Type 0
 MeansPlan plan = MeansRestored plan.naming plan.today plan.requests (sections_text plan.today plan.requests)
+
+-- The text of a plan is ready to be told.
+abbrev pub IsReady : RestorePlan → Option Whole → Type 0
+IsReady = IsTextOf restored_text MeansPlan

@@ -1,7 +1,7 @@
 //! The text for iptables-restore of a policy's iptables targets of one family.
 #![tactic(auto)]
 
-mod filters;
+mod choices;
 mod laws;
 mod restoring;
 

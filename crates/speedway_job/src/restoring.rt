@@ -7,18 +7,19 @@ ghost use Rattle.acl_load.specs.LoadFaults.{LoadsFiles};
 ghost use Rattle.acl_options.specs.CodeViews.{inputs_view};
 ghost use Rattle.acl_printing.specs.PolicyAnswers.{Makes};
 ghost use Rattle.acl_render.specs.PlatformFiles.{AreApart};
-ghost use Rattle.speedway_job.specs.RestorePlans.{Restores};
+ghost use Rattle.speedway_job.specs.RestorePlans.{IsReady, Restores};
 ghost use Rattle.acl_printing.specs.Finishing.{text_in};
-ghost use Rattle.speedway_job.specs.RestoringSteps.{AddsTo, AreRestorable, IsReady, MakesOf, text_if};
+ghost use Rattle.speedway_job.specs.RestoringSteps.{AreRestorable, MakesOf, text_if};
 
-use crate::filters::add_blocks;
+use crate::choices::Restored;
 use acl_days::Day;
+use acl_filters::chosen_filters;
 use acl_host::Tree;
 use acl_load::{LoadFault, Loaded, load, policy_fault};
 use acl_options::Inputs;
 use acl_packet::Family;
 use acl_platform::{Filter, write_all};
-use acl_text::{Items, Memory, Refusal, Rejection, Whole};
+use acl_text::{Memory, Refusal, Rejection, Whole};
 use gen_speedway::Speedway;
 use std::alloc::Global;
 
@@ -37,29 +38,6 @@ fn text_of(alloc: Global, filters: &[Filter]) -> Result<Option<Whole>, Memory>
     }
 }
 
-// The filters of the policy that are asked for, or the first slip.
-fn filters_of(
-    alloc: Global,
-    family: Family,
-    today: Day,
-    loaded: &Loaded,
-) -> Result<Items<Filter>, Refusal>
-    requires { IsPolicy loaded.now.policy }
-    ensures { AddsTo family today loaded.now result }
-{
-    let blocks = loaded.policy.blocks.as_slice();
-    let mut filters = Items::new(alloc);
-    add_blocks(
-        alloc,
-        family,
-        today,
-        blocks,
-        loaded.terms.as_slice(),
-        &mut filters,
-    )?;
-    Ok(filters)
-}
-
 // The text of the policy's targets, or the first fault of them.
 fn restore_loaded(
     alloc: Global,
@@ -71,7 +49,7 @@ fn restore_loaded(
     requires terms { AreResolvedIn loaded.now.definitions loaded.now.policy.blocks loaded.now.terms }
     ensures { MakesOf family today loaded.now result }
 {
-    match filters_of(alloc, family, today, loaded) {
+    match chosen_filters(alloc, &Restored { family }, today, loaded) {
         Ok(filters) => Ok(text_of(alloc, filters.as_slice())?),
         Err(Refusal::Slip(slip)) => {
             Err(Rejection::Fault(policy_fault(alloc, &loaded.sources, slip)?))

@@ -2,8 +2,7 @@ use Rattle.acl_filters.specs.FilterRequests.{requests_of}
 use Rattle.acl_options.specs.CodeViews.{inputs_view}
 use Rattle.acl_printing.proofs.PolicyAnswersLaws.{makes-of-policy, rejects-policy}
 use Rattle.acl_run.proofs.LoadingLaws.{rejected-looks}
-use Rattle.speedway_job.specs.RestorePlans.{plan_of, restores_slip}
-use Rattle.speedway_job.specs.RestoringSteps.{IsReady}
+use Rattle.speedway_job.specs.RestorePlans.{IsReady, plan_of, restores_slip}
 use Rattle.speedway_job.proofs.restoring.restore.Goals as goal
 
 pub returns-in_err-restore_loaded-clause-makes : goal.returns-in_err-restore_loaded-clause-makes
