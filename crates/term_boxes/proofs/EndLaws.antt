@@ -1,7 +1,7 @@
 -- The sides of boxes end where sets of the term do, or at a few numbers besides.
 use Rattle.std.proofs.Common.{◌≡◌, ℕ, ◌+◌, ◌<◌, ◌≤◌, ◌⊎◌, Bool, true, false, cond, not, ◌&&◌, ◌||◌, ◌==◌, List, [], ◌∷◌, ◌++◌, refl, ap, sym, ◌∙◌, subst, arith, inl, inr}
 use Rattle.std.specs.List.{AllByRecursion}
-use Rattle.std.proofs.lemmas.Bool.{and_from, and_parts, both_ways, eqb-true, or_cases, or_parts, cases_lt}
+use Rattle.std.proofs.lemmas.Bool.{and_parts, both_ways, eqb-true, or_cases, or_parts, cases_lt}
 use Rattle.acl_packet.specs.declared.addresses.Family.{Family}
 use Rattle.acl_packet.specs.declared.addresses.Family.TheVariants.{V4, V6}
 use Rattle.acl_packet.specs.declared.packet_fields.Field.TheVariants.{SourcePort, DestinationPort}
@@ -20,13 +20,13 @@ use Rattle.acl_terms.specs.declared.sides.Side.{Side}
 use Rattle.acl_terms.specs.declared.sides.Side.TheVariants.{Whole, Source, Destination}
 use Rattle.acl_terms.specs.declared.sides.SidePair.{SidePair}
 use Rattle.acl_terms.specs.declared.terms.Term.{Term}
-use Rattle.acl_terms.specs.Resolved.{destinations_on, dports_on, either_in, has_protocol, in_both, pairs_of, sources_on, sports_on}
+use Rattle.acl_terms.specs.Resolved.{destinations_on, dports_on, either_in, in_both, pairs_of, sources_on, sports_on}
 use Rattle.term_boxes.specs.declared.boxes.PacketBox.{PacketBox}
 use Rattle.term_boxes.specs.Bars.{bars, bars_of_both}
 use Rattle.term_boxes.specs.Boxes.{IsSet, everything}
 use Rattle.term_boxes.specs.NumberSets.{ack_or_rst, but_icmp, but_tcp, client_ports, extension_headers, from_one, initial, neither_ack_nor_rst, no_rst, not_initial, outside, rst, run, server_ports, tcp, tracked, untracked, up_to, without_ports}
-use Rattle.term_boxes.specs.SideEnds.{AllPass, BarsEnd, BeginsAt, EndsBefore, FailuresEndWithSets, PassAll, PassEnds, SidesEnd, TermsEndWithSets, Tests, bar_ends, is_plain, is_stateful}
-use Rattle.term_boxes.specs.TermBoxes.{boxes_of, established_ports, failing, failing_addresses, failing_boxes, failing_ports, pair_box, passing, protocols_in, seeming_established, seeming_new}
+use Rattle.term_boxes.specs.SideEnds.{AllPass, BarsEnd, BeginsAt, EndsBefore, FailuresEndWithSets, PassAll, PassEnds, SidesEnd, TermsEndWithSets, Tests, is_plain, is_stateful}
+use Rattle.term_boxes.specs.TermBoxes.{boxes_of, established_ports, failing, failing_addresses, failing_boxes, failing_ports, pair_box, passing, protocols_in, seeming_new}
 use Rattle.term_boxes.proofs.TermSets.{all-flat, destination-set, dports-set, either-set, outside-holds, own, ports-set, protocol-holds, protocols-set, shared-holds, source-set}
 
 -- ---- sets
