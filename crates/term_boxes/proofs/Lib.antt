@@ -1,5 +1,6 @@
 pub mod BarLaws
 pub mod CoordinateLaws
+pub mod EndLaws
 pub mod HeldNumbers
 pub mod SideSets
 pub mod TermLaws

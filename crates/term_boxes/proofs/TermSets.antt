@@ -35,11 +35,11 @@ use Rattle.term_boxes.proofs.SideSets.{but-tcp-set, not-initial-set, one-run, ou
 both-set : (top : ℕ) (s e : Numbers) → IsSet top s → IsSet top e → IsSet top (in_both s e)
 both-set top s e h k = record { top_is = h.top_is; normal = both-normal s e (h.top_is ∙ sym k.top_is) h.normal k.normal }
 
-source-set : (f : Family) (t : Term) → IsSet (top_address f) (source_in f t)
+pub source-set : (f : Family) (t : Term) → IsSet (top_address f) (source_in f t)
 source-set V4 t = record { top_is = t.sound.src4_top; normal = t.sound.src4_normal }
 source-set V6 t = record { top_is = t.sound.src6_top; normal = t.sound.src6_normal }
 
-destination-set : (f : Family) (t : Term) → IsSet (top_address f) (destination_in f t)
+pub destination-set : (f : Family) (t : Term) → IsSet (top_address f) (destination_in f t)
 destination-set V4 t = record { top_is = t.sound.dst4_top; normal = t.sound.dst4_normal }
 destination-set V6 t = record { top_is = t.sound.dst6_top; normal = t.sound.dst6_normal }
 
@@ -61,7 +61,7 @@ destinations-set Source f t = destination-set f t
 destinations-set Destination f t =
     both-set (top_address f) (destination_in f t) (either_in f t) (destination-set f t) (either-set f t)
 
-own : (t : Term) (field : Field) → IsSet (top_of field) (set_in field t)
+pub own : (t : Term) (field : Field) → IsSet (top_of field) (set_in field t)
 own t field = record { top_is = t.sound.tops field; normal = t.sound.normal field }
 
 sports-set : (side : Side) (t : Term) → IsSet 65535 (sports_on side t)
@@ -198,7 +198,7 @@ passing-are TcpInitial mode named f b h =
 passing-are Rst mode named f b h =
     other-flags f b rst h (two-runs 63 16 31 48 63 (omega arith) (omega arith) (omega arith) (omega arith))
 
-all-flat : {A B : Type 0} (P : B → Type 0) (rows : A → List B) → ((x : A) → AllByRecursion P (rows x)) → (xs : List A)
+pub all-flat : {A B : Type 0} (P : B → Type 0) (rows : A → List B) → ((x : A) → AllByRecursion P (rows x)) → (xs : List A)
     → AllByRecursion P (flat_map rows xs)
 all-flat P rows h [] = tt
 all-flat P rows h (x ∷ xs) = all_append P (rows x) (flat_map rows xs) (h x) (all-flat P rows h xs)

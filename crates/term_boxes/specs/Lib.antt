@@ -2,4 +2,5 @@ pub mod Bars
 pub mod Boxes
 pub mod Coordinates
 pub mod NumberSets
+pub mod SideEnds
 pub mod TermBoxes

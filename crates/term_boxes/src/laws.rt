@@ -1,5 +1,6 @@
 ghost use Rattle.term_boxes.specs.Bars.{BarsAreBoxes, BarsTellPackets};
 ghost use Rattle.term_boxes.specs.Coordinates.{NumbersComeBack, NumbersFit, PacketsComeBack};
+ghost use Rattle.term_boxes.specs.SideEnds.{BarsEnd, FailuresEndWithSets, TermsEndWithSets};
 ghost use Rattle.term_boxes.specs.TermBoxes.{TermsAreBoxes, TermsFailInBoxes, TermsHaveBoxes};
 
 /// A law: nine numbers, none above its top, are those of the packet that they give.
@@ -40,4 +41,19 @@ pub fn terms_fail_in_boxes()
 /// A law: each side of a term's boxes is a set of numbers of its coordinate.
 pub fn terms_have_boxes()
     ensures { TermsHaveBoxes }
+{}
+
+/// A law: the sides of a term's boxes end where its own sets do, or at a few numbers of its option.
+pub fn terms_end_with_sets()
+    ensures { TermsEndWithSets }
+{}
+
+/// A law: so do those of its failing boxes, or where what is asked of either side begins.
+pub fn failures_end_with_sets()
+    ensures { FailuresEndWithSets }
+{}
+
+/// A law: the sides of bars end at a few protocols.
+pub fn bars_end()
+    ensures { BarsEnd }
 {}

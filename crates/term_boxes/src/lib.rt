@@ -14,8 +14,9 @@ pub use barring::bars;
 pub use boxes::PacketBox;
 pub use coordinates::packet_at;
 pub use laws::{
-    bars_are_boxes, bars_tell_packets, numbers_come_back, numbers_fit, packets_come_back,
-    terms_are_boxes, terms_fail_in_boxes, terms_have_boxes,
+    bars_are_boxes, bars_end, bars_tell_packets, failures_end_with_sets, numbers_come_back,
+    numbers_fit, packets_come_back, terms_are_boxes, terms_end_with_sets, terms_fail_in_boxes,
+    terms_have_boxes,
 };
 pub use term_sets::own_box;
 pub use terms::{boxes_of, failing_boxes};
