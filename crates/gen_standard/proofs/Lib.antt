@@ -1,0 +1,5 @@
+pub mod DecisionLaws
+pub mod EntryCounts
+pub mod ListNumbers
+pub mod Rows
+pub mod SectionLaws

@@ -1,0 +1,5 @@
+pub mod CountSteps
+pub mod Limits
+pub mod ListNumbers
+pub mod RowSteps
+pub mod Sections

@@ -1,0 +1,4 @@
+pub mod DocumentLaws
+pub mod SafeRows
+pub mod ValidityLaws
+pub mod WalkLaws
