@@ -27,16 +27,16 @@ Differ a b = a.kind ≡ b.kind → a.number ≢ b.number
 cisco-is : (first : ℕ) (f : Filter) → is_for_standard first f ≡ true → f.kind ≡ Cisco
 cisco-is first f h = kind-is Cisco f (and_parts (is_for Cisco f) (is_inet f.families && has_number first f) h).0
 
+pub numbers-apart : (m n : ℕ) → m ≤ 99 → n ≤ 99 → m ≢ n → bytes_eq (decimal m) (decimal n) ≡ false
+numbers-apart m n h k differ = false_from_ne_true (bytes_eq (decimal m) (decimal n)) (λ e.
+    differ (decimal_injective m n (omega (arith, h)) (omega (arith, k)) ((bytes_eq-Decides (decimal m) (decimal n)).0 e)))
+
 names-apart : (first : ℕ) (f g : Filter) → IsNumbered first f → IsNumbered first g → f.number ≢ g.number
     → bytes_eq (decimal (list_number first f)) (decimal (list_number first g)) ≡ false
 names-apart first f g h k differ =
-    let m = list_number first f in
-    let n = list_number first g in
     let low = number-is first f h.0 in
     let high = number-is first g k.0 in
-    false_from_ne_true (bytes_eq (decimal m) (decimal n)) (λ e.
-    let same = decimal_injective m n (omega (arith, low.1)) (omega (arith, high.1)) ((bytes_eq-Decides (decimal m) (decimal n)).0 e) in
-    differ (omega (arith, same, low.0, h.1, k.1)))
+    numbers-apart (list_number first f) (list_number first g) low.1 high.1 (λ same. differ (omega (arith, same, low.0, h.1, k.1)))
 
 each-behind : {A : Type 0} (P : A → Type 0) (xs : List A) → ((k : ℕ) (d : A) → k < length xs → P (get_or xs k d)) → AllByRecursion P xs
 each-behind P [] h = tt

@@ -4,3 +4,4 @@ mod junos;
 mod languages;
 mod nftables;
 mod restore;
+mod standard;

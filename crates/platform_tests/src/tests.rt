@@ -7,3 +7,4 @@ mod platforms;
 mod rendering;
 mod samples;
 mod speedway;
+mod standard;

@@ -2,4 +2,5 @@ mod filters;
 mod reading;
 mod restore;
 mod shades;
+mod standard;
 mod terms;
