@@ -1,0 +1,8 @@
+-- The order of points.
+use Rattle.std.specs.Prelude.{◌≡◌, ℕ, ◌<◌, ◌⊎◌, List, [], ◌∷◌}
+
+-- The first difference tells.
+abbrev pub IsBefore : List ℕ → List ℕ → Type 0
+IsBefore [] q = ⊥
+IsBefore (i ∷ p) [] = ⊥
+IsBefore (i ∷ p) (j ∷ q) = (i < j) ⊎ ((i ≡ j) × IsBefore p q)
