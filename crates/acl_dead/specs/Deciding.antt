@@ -20,7 +20,7 @@ use Rattle.acl_terms.specs.declared.options.Opt.TheVariants.{Plain}
 use Rattle.acl_terms.specs.declared.terms.Term.{Term}
 use Rattle.acl_terms.specs.Outcomes.{decides}
 use Rattle.acl_terms.specs.Resolved.{destination_in, either_in, has_number, is_empty_in, is_term_live, source_in}
-use Rattle.acl_boxes.specs.Boxes.{IsBefore}
+use Rattle.acl_boxes.specs.Order.{IsBefore}
 use Rattle.acl_boxes.specs.Runs.{cuts, is_boundary}
 use Rattle.acl_dead.specs.declared.decisions.Decided.{Decided}
 use Rattle.acl_dead.specs.declared.decisions.Decided.TheVariants as answers
