@@ -1,6 +1,6 @@
 -- What a term decides on a target: the first packet on a grid of boundary values, or no packet at all. A packet that the
 -- term decides can be rounded down to one on the grid, so that no other packet need be looked at.
-use Rattle.std.specs.Prelude.{◌≡◌, ◌↔◌, ◌⊎◌, ℕ, ◌+◌, ◌*◌, ◌<◌, ◌≤◌, Bool, true, false, not, ◌&&◌, ◌||◌, ◌==◌, if◌then◌else◌, List, [], ◌∷◌, ◌++◌, length, map, take, drop, Contains}
+use Rattle.std.specs.Prelude.{◌≡◌, ◌↔◌, ◌⊎◌, ℕ, ◌+◌, ◌*◌, ◌<◌, ◌≤◌, Bool, true, false, not, ◌&&◌, ◌||◌, ◌==◌, if◌then◌else◌, List, [], ◌∷◌, ◌++◌, length, flat_map, map, take, drop, Contains}
 use Rattle.std.specs.List.{filter, list_any}
 use Rattle.std.specs.List.Sorted.{IsStrictlyIncreasing}
 use Rattle.acl_packet.specs.declared.addresses.Family.{Family}
@@ -61,10 +61,17 @@ abbrev pub address_cuts : (Term → Numbers) → Family → Question → ℕ →
 address_cuts set_of f q x = any_cuts (λ t. has (set_of t)) q.earlier x
     || any_cuts (λ t. has (either_in f t)) (q.term ∷ q.earlier) x
 
--- The protocols of which a packet's other fields depend, and in IPv6 the numbers that stand for no protocol.
+abbrev pub is_among : List ℕ → ℕ → Bool
+is_among numbers x = list_any (λ n. n == x) numbers
+
+-- The protocols on which a packet's other fields depend, and in IPv6 the numbers that stand for no protocol.
 abbrev pub bound_protocols : Family → List ℕ
 bound_protocols V4 = 1 ∷ 6 ∷ 17 ∷ 58 ∷ 132 ∷ []
 bound_protocols V6 = 1 ∷ 6 ∷ 17 ∷ 58 ∷ 132 ∷ 0 ∷ 43 ∷ 44 ∷ 51 ∷ 59 ∷ 60 ∷ 135 ∷ 139 ∷ 140 ∷ []
+
+-- Each of them is cut off from its neighbours.
+abbrev pub protocol_cuts : Family → List ℕ
+protocol_cuts f = flat_map (λ c. c ∷ (c + 1) ∷ []) (bound_protocols f)
 
 -- Ports that are asked of either side cut the ports of both.
 abbrev pub either_port_cuts : Question → ℕ → Bool
@@ -72,9 +79,9 @@ either_port_cuts q x = any_cuts (λ t. has t.ports) (q.term ∷ q.earlier) x
 
 -- What else cuts the numbers of a field; a client of UDP has a port from 1024 on.
 abbrev pub other_cuts : Field → Family → Question → ℕ → Bool
-other_cuts Protocol f q x = list_any (λ c. x == c || x == c + 1) (bound_protocols f)
+other_cuts Protocol f q x = is_among (protocol_cuts f) x
 other_cuts SourcePort f q x = either_port_cuts q x
-other_cuts DestinationPort f q x = either_port_cuts q x || x == 1024
+other_cuts DestinationPort f q x = either_port_cuts q x || is_among (1024 ∷ []) x
 other_cuts IcmpType f q x = false
 other_cuts IcmpCode f q x = false
 
@@ -91,14 +98,17 @@ destination_boundary f q = is_boundary (has (destination_in f q.term)) (address_
 abbrev pub field_boundary : Family → Question → Field → ℕ → Bool
 field_boundary f q field = is_boundary (has_number f q.term field) (field_cuts field f q)
 
--- A term has an option.
 abbrev pub asks_option : Opt → Bool
 asks_option Plain = false
 asks_option _ = true
 
--- The sums of SYN, RST and ACK, where some option may ask for them.
+-- The term or an earlier one has an option.
+abbrev pub some_option : Question → Bool
+some_option q = list_any (λ t. asks_option t.option) (q.term ∷ q.earlier)
+
+-- The sums of SYN, RST and ACK, where an option may ask for them.
 abbrev pub flag_sums : Question → List ℕ
-flag_sums q = if list_any (λ t. asks_option t.option) (q.term ∷ q.earlier)
+flag_sums q = if some_option q
     then 0 ∷ 2 ∷ 4 ∷ 6 ∷ 16 ∷ 18 ∷ 20 ∷ 22 ∷ []
     else 0 ∷ []
 
