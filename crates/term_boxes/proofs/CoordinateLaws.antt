@@ -1,17 +1,15 @@
 -- Nine numbers and the packet that has them.
-use Rattle.std.proofs.Common.{◌≡◌, ℕ, ◌+◌, ◌-◌, ◌*◌, ◌<◌, ◌≤◌, ◌^◌, Bool, true, ◌==◌, nat_le, nat_lt, List, [], ◌∷◌, refl, ap, ◌∙◌, arith}
+use Rattle.std.proofs.Common.{◌≡◌, ℕ, ◌<◌, ◌≤◌, ◌^◌, true, ◌==◌, nat_le, [], ◌∷◌, refl, ap, ◌∙◌, arith}
 use Rattle.std.proofs.lemmas.Bool.{agree_below_at, eqb-true, leb-true}
-use Rattle.std.proofs.lemmas.Bool.Decides.{nat_tests}
 use Rattle.acl_packet.specs.declared.addresses.Family.{Family}
 use Rattle.acl_packet.specs.declared.addresses.Family.TheVariants.{V4, V6}
 use Rattle.acl_packet.specs.declared.packet_fields.Field.TheVariants.{Protocol, SourcePort, DestinationPort, IcmpType, IcmpCode}
 use Rattle.acl_packet.specs.declared.packets.Conn.{Conn}
 use Rattle.acl_packet.specs.declared.packets.Conn.TheVariants.{New, Established, Related, Invalid}
-use Rattle.acl_packet.specs.declared.packets.Packet.{Packet}
 use Rattle.acl_packet.specs.Addresses.{top_address, width_of}
 use Rattle.acl_packet.specs.Packets.{number_of, top_of}
 use Rattle.acl_packet.proofs.FieldLaws.{by-field}
-use Rattle.term_boxes.specs.Coordinates.{AreWithin, FieldsFit, NumbersComeBack, NumbersFit, PacketsComeBack, connection_at, flags_at, numbers_of, packet_at, place_of_connection, place_of_flags, tops_of}
+use Rattle.term_boxes.specs.Coordinates.{NumbersComeBack, NumbersFit, PacketsComeBack, connection_at, flags_at, packet_at, place_of_connection, place_of_flags}
 
 -- ---- flags and connections
 
@@ -97,9 +95,28 @@ fit f (s ∷ d ∷ pr ∷ sp ∷ dp ∷ ty ∷ co ∷ fl ∷ rest) h =
 pub packet-back : PacketsComeBack
 packet-back p fits =
     let flags = place-fits p.flags fits.flags_fit in (
-      (within p.family p.src fits.source, (within p.family p.dst fits.destination, (fits.numbers Protocol,
-          (fits.numbers SourcePort, (fits.numbers DestinationPort, (fits.numbers IcmpType, (fits.numbers IcmpCode,
-          (flags, (connection-fits p.conn, tt))))))))),
+      (
+        within p.family p.src fits.source,
+        (
+          within p.family p.dst fits.destination,
+          (
+            fits.numbers Protocol,
+            (
+              fits.numbers SourcePort,
+              (
+                fits.numbers DestinationPort,
+                (
+                  fits.numbers IcmpType,
+                  (
+                    fits.numbers IcmpCode,
+                    (flags, (connection-fits p.conn, tt)),
+                  ),
+                ),
+              ),
+            ),
+          ),
+        ),
+      ),
       ap (λ k. record p { flags = k; conn = connection_at (place_of_connection p.conn) }) (flags-back p.flags fits.flags_fit)
           ∙ ap (λ k. record p { conn = k }) (connection-back p.conn),
     )

@@ -1,9 +1,8 @@
 -- What the constant sides of boxes hold.
-use Rattle.std.proofs.Common.{◌≡◌, ℕ, ◌-◌, ◌<◌, ◌≤◌, ◌^◌, Bool, true, false, not, eqb, nat_le, ◌&&◌, ◌||◌, ◌==◌, List, [], ◌∷◌, refl, ap, ◌∙◌, arith, inl, inr}
+use Rattle.std.proofs.Common.{◌≡◌, ℕ, ◌<◌, ◌≤◌, true, not, eqb, nat_le, ◌&&◌, ◌||◌, ◌==◌, refl, arith, inl, inr}
 use Rattle.std.proofs.lemmas.Bool.{and_from, and_right, or_from, or_left, le-leb, lt-leb, ne_eqb, cases_eq, cases_lt, agree_below_at}
 use Rattle.acl_packet.specs.declared.addresses.Family.{Family}
 use Rattle.acl_packet.specs.declared.addresses.Family.TheVariants.{V4, V6}
-use Rattle.acl_packet.specs.declared.packet_fields.Field.TheVariants.{Protocol, SourcePort, DestinationPort, IcmpType, IcmpCode}
 use Rattle.acl_packet.specs.declared.packets.Conn.{Conn}
 use Rattle.acl_packet.specs.declared.packets.Conn.TheVariants.{New, Established, Related, Invalid}
 use Rattle.acl_packet.specs.declared.packets.Packet.{Packet}
@@ -11,8 +10,8 @@ use Rattle.acl_packet.specs.Addresses.{top_address}
 use Rattle.acl_packet.specs.Packets.{has_flag, has_ports, is_extension_header, is_icmp, is_tracked}
 use Rattle.acl_sets.specs.Ranges.{holds}
 use Rattle.term_boxes.specs.Coordinates.{FieldsFit, place_of_connection, place_of_flags}
-use Rattle.term_boxes.specs.NumberSets.{ack_or_rst, but_icmp, but_tcp, client_ports, extension_headers, from_one, initial, neither_ack_nor_rst, no_rst, not_initial, rst, server_ports, tcp, tracked, untracked, up_to, without_ports}
-use Rattle.term_boxes.proofs.CoordinateLaws.{connection-fits, packet-back, place-fits}
+use Rattle.term_boxes.specs.NumberSets.{ack_or_rst, but_icmp, but_tcp, extension_headers, from_one, initial, neither_ack_nor_rst, no_rst, not_initial, rst, server_ports, tcp, tracked, untracked, up_to, without_ports}
+use Rattle.term_boxes.proofs.CoordinateLaws.{packet-back}
 
 -- ---- all numbers
 

@@ -35,16 +35,43 @@ but-icmp-set V6 = two-runs 255 0 57 59 255 (omega arith) (omega arith) (omega ar
 pub without-ports-set : IsSet 255 without_ports
 without-ports-set = record {
   top_is = refl;
-  normal = (omega arith, omega arith, omega arith, (omega arith, omega arith, omega arith,
-      (omega arith, omega arith, omega arith, (omega arith, omega arith, omega arith, tt))));
+  normal = (
+    omega arith,
+    omega arith,
+    omega arith,
+    (
+      omega arith,
+      omega arith,
+      omega arith,
+      (omega arith, omega arith, omega arith, (omega arith, omega arith, omega arith, tt)),
+    ),
+  );
 }
 
 pub headers-set : IsSet 255 extension_headers
 headers-set = record {
   top_is = refl;
-  normal = (omega arith, omega arith, omega arith, (omega arith, omega arith, omega arith,
-      (omega arith, omega arith, omega arith, (omega arith, omega arith, omega arith,
-      (omega arith, omega arith, omega arith, (omega arith, omega arith, omega arith, tt))))));
+  normal = (
+    omega arith,
+    omega arith,
+    omega arith,
+    (
+      omega arith,
+      omega arith,
+      omega arith,
+      (
+        omega arith,
+        omega arith,
+        omega arith,
+        (
+          omega arith,
+          omega arith,
+          omega arith,
+          (omega arith, omega arith, omega arith, (omega arith, omega arith, omega arith, tt)),
+        ),
+      ),
+    ),
+  );
 }
 
 pub but-tcp-set : IsSet 255 but_tcp

@@ -1,5 +1,5 @@
 -- A term matches the packets in its boxes: those of its own sets that are in none of its failing boxes.
-use Rattle.std.proofs.Common.{◌≡◌, ℕ, ◌<◌, ◌≤◌, Bool, true, false, cond, not, ◌&&◌, ◌||◌, ◌==◌, nat_le, List, [], ◌∷◌, ◌++◌, flat_map, refl, ap, sym, ◌∙◌, arith}
+use Rattle.std.proofs.Common.{◌≡◌, ◌<◌, Bool, true, false, cond, not, ◌&&◌, ◌||◌, ◌==◌, nat_le, List, [], ◌∷◌, ◌++◌, flat_map, refl, ap, sym, ◌∙◌, arith}
 use Rattle.std.specs.List.{list_any}
 use Rattle.std.proofs.lemmas.List.Folds.{list_any-append}
 use Rattle.acl_packet.specs.declared.addresses.Family.{Family}
@@ -15,7 +15,7 @@ use Rattle.acl_terms.specs.declared.sides.Side.TheVariants.{Whole}
 use Rattle.acl_terms.specs.declared.sides.SidePair.{SidePair}
 use Rattle.acl_terms.specs.declared.terms.Term.{Term}
 use Rattle.acl_terms.specs.Options.{passes}
-use Rattle.acl_terms.specs.Resolved.{addresses_match, destination_in, destinations_on, dports_on, either_in, has_protocol, holds_either, in_both, matches, pairs_of, source_in, sources_on, sports_on}
+use Rattle.acl_terms.specs.Resolved.{addresses_match, destination_in, destinations_on, dports_on, either_in, holds_either, in_both, matches, pairs_of, source_in, sources_on, sports_on}
 use Rattle.acl_terms.proofs.FieldLaws.{by-parts, icmp_match, ports_match}
 use Rattle.acl_terms.proofs.PairLaws.{match-by-pairs, pair_has}
 use Rattle.term_boxes.specs.declared.boxes.PacketBox.{PacketBox}
@@ -94,10 +94,10 @@ one-box f t pair p protos dports flags connections a u c e ea eu ec ee =
     let co = holds t.icodes.ranges p.icode in
     let g = holds flags.ranges (place_of_flags p.flags) in
     let k = holds connections.ranges (place_of_connection p.conn) in
-    ap (λ x. s && (d && (x && (sp && (holds dports.ranges p.dport && (ty && (co && (g && (k && true)))))))) ) ea
-    ∙ ap (λ x. s && (d && ((h && a) && (sp && (x && (ty && (co && (g && (k && true)))))))) ) eu
-    ∙ ap (λ x. s && (d && ((h && a) && (sp && ((dp && u) && (ty && (co && (x && (k && true)))))))) ) ec
-    ∙ ap (λ x. s && (d && ((h && a) && (sp && ((dp && u) && (ty && (co && (c && (x && true)))))))) ) ee
+    ap (λ x. s && (d && (x && (sp && (holds dports.ranges p.dport && (ty && (co && (g && (k && true))))))))) ea
+    ∙ ap (λ x. s && (d && ((h && a) && (sp && (x && (ty && (co && (g && (k && true))))))))) eu
+    ∙ ap (λ x. s && (d && ((h && a) && (sp && ((dp && u) && (ty && (co && (x && (k && true))))))))) ec
+    ∙ ap (λ x. s && (d && ((h && a) && (sp && ((dp && u) && (ty && (co && (c && (x && true))))))))) ee
     ∙ narrowed s d h a sp dp u ty co c e
 
 -- The same where the protocols and the ports are the term's.

@@ -1,5 +1,5 @@
 -- The sides of a term's boxes: what they hold, and that they are sets of numbers of their coordinates.
-use Rattle.std.proofs.Common.{◌≡◌, ℕ, ◌+◌, ◌^◌, ◌<◌, ◌≤◌, Bool, true, false, cond, not, ◌&&◌, ◌||◌, ◌==◌, nat_le, List, [], ◌∷◌, ◌++◌, flat_map, refl, ap, sym, ◌∙◌, arith}
+use Rattle.std.proofs.Common.{◌≡◌, ℕ, ◌≤◌, Bool, true, false, cond, not, ◌&&◌, ◌||◌, ◌==◌, nat_le, List, [], ◌∷◌, ◌++◌, flat_map, refl, ap, sym, ◌∙◌, arith}
 use Rattle.std.specs.List.{AllByRecursion}
 use Rattle.std.proofs.lemmas.Bool.{both_ways, eq-eqb, eqb-true, false_from_ne_true, le-leb}
 use Rattle.acl_packet.specs.declared.addresses.Family.{Family}
@@ -25,8 +25,8 @@ use Rattle.acl_terms.specs.Resolved.{destination_in, destinations_on, dports_on,
 use Rattle.acl_terms.proofs.SideLaws.{both-holds, both-normal}
 use Rattle.term_boxes.specs.declared.boxes.PacketBox.{PacketBox}
 use Rattle.term_boxes.specs.Boxes.{IsBox, IsSet, everything}
-use Rattle.term_boxes.specs.NumberSets.{ack_or_rst, but_tcp, client_ports, initial, neither_ack_nor_rst, no_rst, not_initial, outside, rst, run, server_ports, set_of, tcp, tracked, untracked, up_to}
-use Rattle.term_boxes.specs.TermBoxes.{TermsHaveBoxes, boxes_of, established_ports, failing, failing_addresses, failing_boxes, failing_ports, own_box, pair_box, passing, protocols_in, seeming_new}
+use Rattle.term_boxes.specs.NumberSets.{ack_or_rst, but_tcp, client_ports, initial, neither_ack_nor_rst, no_rst, not_initial, outside, rst, run, server_ports, set_of, tcp, tracked, untracked}
+use Rattle.term_boxes.specs.TermBoxes.{TermsHaveBoxes, boxes_of, established_ports, failing, failing_addresses, failing_boxes, failing_ports, pair_box, passing, protocols_in, seeming_new}
 use Rattle.term_boxes.proofs.HeldNumbers.{up-to-holds}
 use Rattle.term_boxes.proofs.SideSets.{but-tcp-set, not-initial-set, one-run, outside-set, sides, two-runs, up-to-set}
 
@@ -149,6 +149,12 @@ pair-is : (f : Family) (t : Term) (pair : SidePair) → IsBox f (pair_box f t pa
 pair-is f t pair =
     sides (sources-set pair.addresses f t) (destinations-set pair.addresses f t) (protocols-set f t) (sports-set pair.ports t)
     (dports-set pair.ports t) (own t IcmpType) (own t IcmpCode) (up-to-set 63) (up-to-set 3)
+
+pub own-protocols : (f : Family) (t : Term) (pair : SidePair) (b : PacketBox) → b ≡ pair_box f t pair → b.protocols.top ≡ 255
+own-protocols f t pair b e = ap (λ c. c.protocols.top) e ∙ (protocols-set f t).top_is
+
+pub own-ports : (f : Family) (t : Term) (pair : SidePair) (b : PacketBox) → b ≡ pair_box f t pair → b.destination_ports.top ≡ 65535
+own-ports f t pair b e = ap (λ c. c.destination_ports.top) e ∙ (dports-set pair.ports t).top_is
 
 left-ports : (named : Bool) (s : Numbers) → IsSet 65535 s → IsSet 65535 (established_ports named s)
 left-ports true s h = h

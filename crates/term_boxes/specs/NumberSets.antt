@@ -83,4 +83,3 @@ tracked = set_of 3 (run 2 3 ∷ [])
 
 abbrev pub untracked : Numbers
 untracked = set_of 3 (run 0 1 ∷ [])
-

@@ -1,5 +1,5 @@
 ghost use Rattle.std.specs.Prelude.{◌≡◌, ◌++◌, ◌∷◌, [], IfOk, OnOk};
-ghost use Rattle.term_boxes.specs.Bars.{bars, bars_of_both};
+ghost use Rattle.term_boxes.specs.Bars.{bars, field_bars, port_bars};
 ghost use Rattle.term_boxes.specs.Boxes.{everything};
 ghost use Rattle.term_boxes.specs.NumberSets.{but_icmp, but_tcp, extension_headers, from_one, without_ports};
 
@@ -73,15 +73,16 @@ fn header_bar(alloc: Global, family: Family) -> Result<PacketBox, Memory>
     Ok(bar)
 }
 
-fn push_bars_of_both(
-    alloc: Global,
-    out: &mut Items<PacketBox>,
-    family: Family,
-) -> Result<(), Memory>
-    ensures { OnOk result (out.new ≡ out.old ++ bars_of_both family) }
+fn push_port_bars(alloc: Global, out: &mut Items<PacketBox>, family: Family) -> Result<(), Memory>
+    ensures { OnOk result (out.new ≡ out.old ++ port_bars family) }
 {
     out.push(source_port_bar(alloc, family)?)?;
-    out.push(destination_port_bar(alloc, family)?)?;
+    out.push(destination_port_bar(alloc, family)?)
+}
+
+fn push_field_bars(alloc: Global, out: &mut Items<PacketBox>, family: Family) -> Result<(), Memory>
+    ensures { OnOk result (out.new ≡ out.old ++ field_bars family) }
+{
     out.push(flag_bar(alloc, family)?)?;
     out.push(type_bar(alloc, family)?)?;
     out.push(code_bar(alloc, family)?)
@@ -97,6 +98,7 @@ pub fn bars(alloc: Global, family: Family) -> Result<Items<PacketBox>, Memory>
     if family == Family::V6 {
         out.push(header_bar(alloc, family)?)?;
     }
-    push_bars_of_both(alloc, &mut out, family)?;
+    push_port_bars(alloc, &mut out, family)?;
+    push_field_bars(alloc, &mut out, family)?;
     Ok(out)
 }

@@ -52,8 +52,8 @@ fn established_others(alloc: Global, own: &PacketBox, named: bool) -> Result<Pac
     requires protocols { own.now.protocols.top ≡ 255 }
     requires ports { own.now.destination_ports.top ≡ 65535 }
     ensures { IfOk result (λ b. b ≡ record own.now {
-        protocols = in_both own.now.protocols but_tcp;
-        destination_ports = established_ports named own.now.destination_ports;
+      protocols = in_both own.now.protocols but_tcp;
+      destination_ports = established_ports named own.now.destination_ports;
     }) }
 {
     let mut out = own.share()?;
@@ -91,9 +91,9 @@ pub(crate) fn push_passing(
 {
     match (option, mode) {
         (Opt::Plain, _) => out.push(own),
-        (Opt::Established | Opt::TcpEstablished, Mode::Stateful) => out.push(
-            own.with_connections(tracked(alloc)?),
-        ),
+        (Opt::Established | Opt::TcpEstablished, Mode::Stateful) => out.push(own.with_connections(
+            tracked(alloc)?,
+        )),
         (Opt::Established, Mode::Stateless) => push_established(alloc, out, &own, named),
         (Opt::TcpEstablished, Mode::Stateless) => out.push(own.with_flags(ack_or_rst(alloc)?)),
         (Opt::TcpInitial, _) => out.push(own.with_flags(initial(alloc)?)),
@@ -154,13 +154,13 @@ pub(crate) fn push_failing(
     let all = PacketBox::everything(alloc, family)?;
     match (option, mode) {
         (Opt::Plain, _) => Ok(()),
-        (Opt::Established | Opt::TcpEstablished, Mode::Stateful) => out.push(
-            all.with_connections(untracked(alloc)?),
-        ),
+        (Opt::Established | Opt::TcpEstablished, Mode::Stateful) => out.push(all.with_connections(
+            untracked(alloc)?,
+        )),
         (Opt::Established, Mode::Stateless) => push_new(alloc, out, family, named),
-        (Opt::TcpEstablished, Mode::Stateless) => out.push(
-            all.with_flags(neither_ack_nor_rst(alloc)?),
-        ),
+        (Opt::TcpEstablished, Mode::Stateless) => out.push(all.with_flags(neither_ack_nor_rst(
+            alloc,
+        )?)),
         (Opt::TcpInitial, _) => out.push(all.with_flags(not_initial(alloc)?)),
         (Opt::Rst, _) => out.push(all.with_flags(no_rst(alloc)?)),
     }

@@ -6,9 +6,7 @@ ghost use Rattle.term_boxes.specs.TermBoxes.{own_box, pair_box, protocols_in};
 use crate::boxes::PacketBox;
 use acl_packet::Family;
 use acl_sets::{Range, RangeSet};
-use acl_terms::{
-    Side, SidePair, Term, destination_in, dports_on, either_in, source_in, sports_on,
-};
+use acl_terms::{Side, SidePair, Term, destination_in, dports_on, either_in, source_in, sports_on};
 use acl_text::Memory;
 use std::alloc::Global;
 
