@@ -1,5 +1,6 @@
 -- The boxes in which no packet is decided by a term.
-use Rattle.std.specs.Prelude.{List, ◌++◌, flat_map, Vec, Global}
+use Rattle.std.specs.Prelude.{List, ◌++◌, flat_map, Vec}
+use Rattle.std.specs.Global.{Global}
 use Rattle.acl_packet.specs.declared.addresses.Family.{Family}
 use Rattle.acl_terms.specs.Outcomes.{mode_of}
 use Rattle.term_boxes.specs.declared.boxes.PacketBox.{PacketBox}

@@ -18,8 +18,8 @@ use Rattle.acl_target.specs.declared.targets.Target.{Target}
 use Rattle.acl_terms.specs.declared.options.Opt.{Opt}
 use Rattle.acl_terms.specs.declared.options.Opt.TheVariants.{Plain}
 use Rattle.acl_terms.specs.declared.terms.Term.{Term}
-use Rattle.acl_terms.specs.Outcomes.{decides}
-use Rattle.acl_terms.specs.Resolved.{destination_in, either_in, has_number, is_empty_in, is_term_live, source_in}
+use Rattle.acl_terms.specs.Outcomes.{mode_of}
+use Rattle.acl_terms.specs.Resolved.{destination_in, either_in, has_number, is_empty_in, is_term_live, matches, source_in}
 use Rattle.acl_boxes.specs.Order.{IsBefore}
 use Rattle.acl_boxes.specs.Runs.{cuts, is_boundary}
 use Rattle.acl_dead.specs.declared.decisions.Decided.{Decided}
@@ -39,8 +39,9 @@ is_live_on target today t = is_term_live t target.kind today
 
 -- The packet is decided by the term: the term is live and matches it, and no earlier live term does.
 pub record IsDecided (q : Question) (p : Packet) : Type 0 where
-  pub here : decides q.target q.today p q.term ≡ true
-  pub not_earlier : list_any (decides q.target q.today p) q.earlier ≡ false
+  pub live : is_live_on q.target q.today q.term ≡ true
+  pub matched : matches (mode_of q.target) q.term p ≡ true
+  pub not_earlier : list_any (λ t. matches (mode_of q.target) t p) q.earlier ≡ false
 
 -- It is one of the target's packets, of the families that the target is for.
 pub record IsOfTarget (q : Question) (p : Packet) : Type 0 where
@@ -131,17 +132,16 @@ abbrev pub IsCount : (ℕ → Bool) → ℕ → Type 0
 IsCount test n = (xs : List ℕ) × IsStrictlyIncreasing xs × ((x : ℕ) → Contains xs x ↔ (test x ≡ true))
     × (n ≡ length xs)
 
--- The product of the counts.
-abbrev pub IsProduct : List (ℕ → Bool) → ℕ → Type 0
-IsProduct [] n = n ≡ 1
-IsProduct (test ∷ tests) n = (count : ℕ) × (others : ℕ) × IsCount test count × IsProduct tests others
+-- The product of the counts, and of a last factor.
+abbrev pub IsProduct : List (ℕ → Bool) → ℕ → ℕ → Type 0
+IsProduct [] last n = n ≡ last
+IsProduct (test ∷ tests) last n = (count : ℕ) × (others : ℕ) × IsCount test count × IsProduct tests last others
     × (n ≡ count * others)
 
 -- So many packets has the grid of a family.
 abbrev pub IsGridSize : Family → Question → ℕ → Type 0
-IsGridSize f q n = (m : ℕ)
-    × IsProduct (source_boundary f q ∷ destination_boundary f q ∷ map (field_boundary f q) fields) m
-    × (n ≡ m * (length (flag_sums q) * length (connections q.target)))
+IsGridSize f q n = IsProduct (source_boundary f q ∷ destination_boundary f q ∷ map (field_boundary f q) fields)
+    (length (flag_sums q) * length (connections q.target)) n
 
 abbrev pub most_packets : ℕ
 most_packets = 2000000
@@ -209,14 +209,14 @@ question_of target today before t = record {
 
 -- The answer for the first term of a list, behind others.
 abbrev pub AnswersFirst : Target → Day → List Term → List Term → Decided → Type 0
-AnswersFirst target today before [] decided = ⊥
-AnswersFirst target today before (t ∷ later) decided =
-    Answers (question_of target today before t) decided
+AnswersFirst target today before [] answer = ⊥
+AnswersFirst target today before (t ∷ later) answer =
+    Answers (question_of target today before t) answer
 
 -- The answer for the term at a place.
 abbrev pub Decides : List Term → Target → Day → ℕ → Decided → Type 0
-Decides terms target today place decided =
-    AnswersFirst target today (take place terms) (drop place terms) decided
+Decides terms target today place answer =
+    AnswersFirst target today (take place terms) (drop place terms) answer
 
 -- A question has one answer.
 abbrev pub AnswersAreOne : Type 0
