@@ -1,5 +1,5 @@
 -- What is found among the numbers is what the term decides.
-use Rattle.std.proofs.Common.{◌≡◌, ℕ, ◌<◌, ◌≤◌, ◌⊎◌, ◌↔◌, Bool, true, false, not, ◌&&◌, ◌||◌, nat_lt, arith, List, [], ◌∷◌, ◌++◌, length, flat_map, map, refl, sym, ap, ◌∙◌, subst, inl, inr, Some, None}
+use Rattle.std.proofs.Common.{◌≡◌, ℕ, ◌<◌, ◌≤◌, ◌⊎◌, ◌↔◌, Bool, true, false, not, ◌&&◌, ◌||◌, nat_lt, arith, List, [], ◌∷◌, ◌++◌, length, flat_map, map, refl, sym, ap, ◌∙◌, subst, inl, inr, Option, Some, None}
 use Rattle.std.proofs.lemmas.Bool.{and_parts, and_from, or_left, or_right, or_from, ltb-true, lt-ltb, cases_Bool, false≢true}
 use Rattle.std.proofs.lemmas.List.Folds.{list_any-append}
 use Rattle.std.specs.List.{All, list_any}
@@ -250,3 +250,27 @@ dead_in_both q four six p of d = elim (families p.family) [
 
 pub not_large : (q : Question) → (IsTooLargeIn q V4 → ⊥) → (IsTooLargeIn q V6 → ⊥) → IsTooLarge q → ⊥
 not_large q four six t = large_by q four six t.some.0 t.some.1
+
+-- ---- the same, as the code has it
+
+pub not_false : (b : Bool) → not b ≡ false → b ≡ true
+not_false true e = refl
+not_false false e = absurd (false≢true (sym e))
+
+pub counted : (f : Family) (q : Question) (axes bs : List Axis) (n : ℕ) → AreAxesIn f q axes → bs ≡ axes → n ≡ box_count bs
+    → n ≡ length (blocks_of f q)
+counted f q axes bs n are e count = count ∙ ap (λ (cs : List Axis). box_count cs) e ∙ count_is f q axes are
+
+pub ready_for : (f : Family) (q : Question) (axes bs : List Axis) (n : ℕ) → AreAxesIn f q axes → bs ≡ axes → n ≡ length (blocks_of f q)
+    → All (boxes.IsReady n) bs
+ready_for f q axes bs n are e count =
+    subst (λ (m : ℕ). All (boxes.IsReady m) bs) (sym count)
+    (subst (λ (cs : List Axis). All (boxes.IsReady (length (blocks_of f q))) cs) (sym e) (axes_ready f q axes are))
+
+pub finds : (f : Family) (q : Question) (axes bs : List Axis) (n : ℕ) (found other : Option (List ℕ)) → bs ≡ axes
+    → n ≡ length (blocks_of f q) → found ≡ other → boxes.FindsClear bs n found
+    → boxes.FindsClear axes (length (blocks_of f q)) other
+finds f q axes bs n found other e count same h =
+    subst (λ (o : Option (List ℕ)). boxes.FindsClear axes (length (blocks_of f q)) o) same
+    (subst (λ (m : ℕ). boxes.FindsClear axes m found) count
+    (subst (λ (cs : List Axis). boxes.FindsClear cs n found) e h))

@@ -32,7 +32,7 @@ fn decide_in(
     ipv4: &Option<Space>,
     ipv6: &Option<Space>,
 ) -> Result<Decided, Memory>
-    requires live { is_live_on (question asked.now).target (question asked.now).today (question asked.now).term ≡ true }
+    requires live { is_live_on asked.now.target.now asked.now.today asked.now.term.now ≡ true }
     requires ipv4 { IsSpaceIn V4 (question asked.now) ipv4.now }
     requires ipv6 { IsSpaceIn V6 (question asked.now) ipv6.now }
     ensures { IfOk result (λ d. Answers (question asked.now) d) }

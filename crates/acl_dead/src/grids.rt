@@ -1,7 +1,7 @@
 ghost use Rattle.std.specs.Prelude.{◌≡◌, true, false, IfOk, IsTrue, ◌↔◌, length, map};
 ghost use Rattle.acl_dead.specs.BlockSteps.{boxes_in};
 ghost use Rattle.acl_dead.specs.GridSteps.{AreAxesIn, AreAxesOf, FindsIn, HasPackets, IsAxisOf, IsGridIn, IsSpaceIn, NoPackets, box_count};
-ghost use Rattle.acl_dead.specs.Deciding.{IsTooLargeIn};
+ghost use Rattle.acl_dead.specs.Deciding.{IsTooLargeIn, is_live_on};
 ghost use Rattle.acl_dead.specs.QuestionSteps.{question};
 
 use crate::blocking::Space;
@@ -123,7 +123,9 @@ fn box_count(axes: &[Axis]) -> usize
 }
 
 fn first_on(alloc: Global, family: Family, asked: &Asked, grid: &Grid) -> Result<Option<Packet>, Memory>
-    requires { AreAxesIn family (question asked.now) grid.now.axes.items }
+    requires some { HasPackets family (question asked.now) }
+    requires live { is_live_on asked.now.target.now asked.now.today asked.now.term.now ≡ true }
+    requires axes { AreAxesIn family (question asked.now) grid.now.axes.items }
     ensures { IfOk result (λ found. FindsIn family (question asked.now) found) }
 {
     match first_clear(alloc, &grid.axes, box_count(&grid.axes))? {
@@ -139,7 +141,8 @@ pub(crate) fn first_in(
     asked: &Asked,
     grid: &Option<Grid>,
 ) -> Result<Option<Packet>, Memory>
-    requires { IsGridIn family (question asked.now) grid.now }
+    requires live { is_live_on asked.now.target.now asked.now.today asked.now.term.now ≡ true }
+    requires grid { IsGridIn family (question asked.now) grid.now }
     ensures { IfOk result (λ found. FindsIn family (question asked.now) found) }
 {
     match grid {

@@ -64,7 +64,7 @@ impl<'a> Asked<'a> {
 
     /// Whether the target knows connections.
     pub(crate) fn mode(&self) -> Mode
-        ensures { result ≡ mode_of (question self.now).target }
+        ensures { result ≡ mode_of self.now.target.now }
     {
         if self.target.stateful {
             Mode::Stateful
@@ -75,7 +75,7 @@ impl<'a> Asked<'a> {
 
     /// Whether the term is live on the target.
     pub(crate) fn is_live(&self) -> bool
-        ensures { result ≡ is_live_on (question self.now).target (question self.now).today (question self.now).term }
+        ensures { result ≡ is_live_on self.now.target.now self.now.today self.now.term.now }
     {
         is_live(self.term, self.target.kind, self.today)
     }

@@ -1,0 +1,1 @@
+use Rattle.acl_dead.proofs.decisions.decide_asked.Goals as goal
