@@ -1,1 +1,0 @@
-use Rattle.acl_dead.proofs.decisions.decide_asked.Goals as goal
