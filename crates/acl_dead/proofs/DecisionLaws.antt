@@ -1,5 +1,10 @@
 -- What is found among the numbers is what the term decides.
-use Rattle.std.proofs.Common.{◌≡◌, ℕ, ◌<◌, ◌≤◌, ◌⊎◌, ◌↔◌, Bool, true, false, not, ◌&&◌, ◌||◌, nat_lt, arith, List, [], ◌∷◌, ◌++◌, length, flat_map, map, refl, sym, ap, ◌∙◌, subst, inl, inr, Option, Some, None}
+use Rattle.std.proofs.Common.{◌≡◌, ℕ, ◌<◌, ◌≤◌, ◌⊎◌, ◌↔◌, Bool, true, false, not, ◌&&◌, ◌||◌, nat_lt, arith, List, [], ◌∷◌, ◌++◌, length, flat_map, map, refl, sym, ap, ◌∙◌, subst, inl, inr, ◌+◌, get_or, take, drop, Option, Some, None, Result, Ok, Err}
+use Rattle.std.specs.Result.{IfOk}
+use Rattle.std.proofs.lemmas.List.{drop_more}
+use Rattle.acl_days.specs.declared.days.Day.{Day}
+use Rattle.acl_target.specs.declared.targets.Target.{Target}
+use Rattle.acl_dead.specs.declared.decisions.Decided.{Decided}
 use Rattle.std.proofs.lemmas.Bool.{and_parts, and_from, or_left, or_right, or_from, ltb-true, lt-ltb, cases_Bool, false≢true}
 use Rattle.std.proofs.lemmas.List.Folds.{list_any-append}
 use Rattle.std.specs.List.{All, list_any}
@@ -26,7 +31,7 @@ use Rattle.term_boxes.proofs.CoordinateLaws.{come-back, fit}
 use Rattle.term_boxes.proofs.TermLaws.{are-boxes, fail-in-boxes, fields-fit}
 use Rattle.acl_dead.specs.BlockSteps.{blocks_of}
 use Rattle.acl_dead.specs.CoordinateSteps.{coordinates}
-use Rattle.acl_dead.specs.Deciding.{ComesBefore, IsDead, IsDecided, IsFirst, IsGridSize, IsOfTarget, IsSuch, IsTooLarge, IsTooLargeIn, Question, connection_place, family_place, is_live_on, most_packets}
+use Rattle.acl_dead.specs.Deciding.{Answers, AnswersFirst, ComesBefore, Decides, IsDead, IsDecided, IsFirst, IsGridSize, IsOfTarget, IsSuch, IsTooLarge, IsTooLargeIn, Question, connection_place, family_place, is_live_on, most_packets, question_of}
 use Rattle.acl_dead.specs.GridSteps.{AreAxesIn, HasPackets, IsDeadIn, IsFirstIn, NoPackets, box_count}
 use Rattle.acl_dead.proofs.AxisLaws.{AreOnGrid, all_ready, asked_hold, clear_none, grid_from, grid_to, hold_asked, hold_length, none_clear, own_within, sides_along}
 use Rattle.acl_dead.proofs.EndLaws.{blocks_end}
@@ -274,3 +279,13 @@ finds f q axes bs n found other e count same h =
     subst (λ (o : Option (List ℕ)). boxes.FindsClear axes (length (blocks_of f q)) o) same
     (subst (λ (m : ℕ). boxes.FindsClear axes m found) count
     (subst (λ (cs : List Axis). boxes.FindsClear cs n found) e h))
+
+pub decided : {E : Type 0} (terms : List Term) (target : Target) (today : Day) (place : ℕ) (t : Term) (q : Question)
+    → place < length terms → t ≡ get_or terms place t → q ≡ question_of target today (take place terms) t
+    → (r : Result Decided E) → IfOk r (λ d. Answers q d) → IfOk r (λ d. Decides terms target today place d)
+decided terms target today place t q lt is e (Err f) h = tt
+decided terms target today place t q lt is e (Ok d) h =
+    let here : drop place terms ≡ t ∷ drop (place + 1) terms =
+        drop_more terms place t lt ∙ ap (λ u. u ∷ drop (place + 1) terms) (sym is) in
+    subst (λ (ts : List Term). AnswersFirst target today (take place terms) ts d) (sym here)
+    (subst (λ (p : Question). Answers p d) e h)

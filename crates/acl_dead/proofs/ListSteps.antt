@@ -4,6 +4,10 @@ use Rattle.std.proofs.lemmas.List.{append_assoc, drop_all, drop_more, map-append
 use Rattle.std.specs.List.{list_any}
 use Rattle.acl_sets.specs.declared.sets.Range.{Range}
 use Rattle.acl_terms.specs.declared.terms.Term.{Term}
+use Rattle.acl_packet.specs.declared.addresses.Family.{Family}
+use Rattle.acl_terms.specs.declared.options.Mode.{Mode}
+use Rattle.term_boxes.specs.Bars.{bars}
+use Rattle.term_boxes.specs.TermBoxes.{boxes_of, failing_boxes}
 use Rattle.term_boxes.specs.declared.boxes.PacketBox.{PacketBox}
 
 pub any_now : (p : Term → Bool) (ts : List (Bor Term)) → list_any (λ (t : Bor Term). p t.now) ts ≡ list_any p (map (λ (t : Bor Term). t.now) ts)
@@ -46,3 +50,20 @@ left_more g old new total items i x lt is put e =
     ap (λ xs. xs ++ rest) put ∙ append_assoc old (g x) rest
     ∙ ap (λ y. old ++ (g y ++ rest)) is
     ∙ sym (ap (λ ys. old ++ flat_map g ys) (drop_more items i x lt)) ∙ e
+
+pub blocks_made : (f : Family) (mode other : Mode) (t : Term) (none first second : List (List PacketBox)) (bs fs out : List PacketBox)
+    (ts us : List (Bor Term)) → none ≡ [] → first ≡ none ++ bs ∷ [] → second ≡ first ++ fs ∷ [] → bs ≡ bars f
+    → fs ≡ failing_boxes f mode t → us ≡ ts → mode ≡ other
+    → out ≡ flat_map (λ (xs : List PacketBox). xs) second ++ flat_map (λ (u : Bor Term). boxes_of f mode u.now) us
+    → out ≡ (bars f ++ failing_boxes f other t) ++ flat_map (λ u. boxes_of f other u) (map (λ (u : Bor Term). u.now) ts)
+blocks_made f mode other t none first second bs fs out ts us en ea eb ebs efs eu em h =
+    let earlier = flat_map (λ (u : Bor Term). boxes_of f mode u.now) us in
+    let flat : flat_map (λ (xs : List PacketBox). xs) second ≡ bars f ++ failing_boxes f mode t =
+        ap (λ (xs : List (List PacketBox)). flat_map (λ (ys : List PacketBox). ys) xs)
+        (eb ∙ ap (λ (xs : List (List PacketBox)). xs ++ fs ∷ []) (ea ∙ ap (λ (xs : List (List PacketBox)). xs ++ bs ∷ []) en))
+        ∙ ap (λ (xs : List PacketBox). bs ++ xs) (append-nil fs) ∙ ap (λ (xs : List PacketBox). xs ++ fs) ebs
+        ∙ ap (λ (xs : List PacketBox). bars f ++ xs) efs in
+    h ∙ ap (λ (xs : List PacketBox). xs ++ earlier) flat
+    ∙ ap (λ (ws : List (Bor Term)). (bars f ++ failing_boxes f mode t) ++ flat_map (λ (u : Bor Term). boxes_of f mode u.now) ws) eu
+    ∙ ap (λ (xs : List PacketBox). (bars f ++ failing_boxes f mode t) ++ xs) (flat_now (λ u. boxes_of f mode u) ts)
+    ∙ ap (λ m. (bars f ++ failing_boxes f m t) ++ flat_map (λ u. boxes_of f m u) (map (λ (u : Bor Term). u.now) ts)) em
