@@ -1,5 +1,5 @@
 -- The axes of a family's grid: they can be searched, and say of a list of numbers what the boxes say.
-use Rattle.std.proofs.Common.{◌≡◌, ℕ, ◌+◌, ◌*◌, ◌<◌, ◌≤◌, ◌↔◌, zero, suc, Bool, true, false, not, ◌&&◌, ◌||◌, nat_le, arith, List, [], ◌∷◌, ◌++◌, Bor, Contains, length, get_or, map, refl, sym, ap, ◌∙◌, subst, inl, inr}
+use Rattle.std.proofs.Common.{◌≡◌, ℕ, ◌+◌, ◌<◌, ◌≤◌, zero, suc, Bool, true, false, ◌&&◌, nat_le, arith, List, [], ◌∷◌, ◌++◌, Bor, length, get_or, map, refl, sym, ap, ◌∙◌, subst, inl, inr}
 use Rattle.std.proofs.lemmas.Bool.{and_parts, and_from, or_cases, or_left, or_right, leb-true, false_from_ne_true, false≢true}
 use Rattle.std.proofs.lemmas.List.{get_or-map, length-map}
 use Rattle.std.proofs.lemmas.List.Folds.{list_any_none}
@@ -12,7 +12,7 @@ use Rattle.acl_terms.specs.declared.options.Mode.TheVariants.{Stateless}
 use Rattle.acl_terms.specs.declared.terms.Term.{Term}
 use Rattle.acl_boxes.specs.declared.axes.Axis.{Axis}
 use Rattle.acl_boxes.specs.Boxes as boxes
-use Rattle.acl_boxes.specs.Runs.{begins, cuts, has_ended, is_boundary}
+use Rattle.acl_boxes.specs.Runs.{begins, has_ended}
 use Rattle.term_boxes.specs.declared.boxes.PacketBox.{PacketBox}
 use Rattle.term_boxes.specs.Boxes.{IsSet, hold}
 use Rattle.term_boxes.specs.Coordinates.{AreWithin}
@@ -20,8 +20,8 @@ use Rattle.term_boxes.specs.TermBoxes.{own_box}
 use Rattle.term_boxes.proofs.TermSets.{have-boxes}
 use Rattle.acl_dead.specs.declared.coordinates.Coordinate.{Coordinate}
 use Rattle.acl_dead.specs.declared.coordinates.Coordinate.TheVariants.{Source, Destination, Number, Flags, Connection}
-use Rattle.acl_dead.specs.CoordinateSteps.{cuts_along, numbers_along, sets_along}
-use Rattle.acl_dead.specs.Deciding.{IsProduct, Question, has}
+use Rattle.acl_dead.specs.CoordinateSteps.{cuts_along}
+use Rattle.acl_dead.specs.Deciding.{IsProduct, Question}
 use Rattle.acl_dead.specs.GridSteps.{AreAxesOf, IsAxisOf}
 use Rattle.acl_dead.specs.SideSteps.{side_of}
 use Rattle.acl_dead.proofs.CutLaws.{axis_exact, boundary_along, code_cuts}
@@ -82,7 +82,7 @@ ready_one f q bs all c a is =
       ended = λ b x h e.
           let here = subst (λ (s : Numbers). holds s.ranges x ≡ true) is.own_is h in
           let cut = ended_at c f q bs all b x (own_top c f q.term x here)
-              (subst (λ (xs : List (List Range)). has_ended (λ y. holds (get_or xs b []) y) x ≡ true) is.sides_are e) in
+          (subst (λ (xs : List (List Range)). has_ended (λ y. holds (get_or xs b []) y) x ≡ true) is.sides_are e) in
           (is.values.exact x).1 (and_from _ _ here (or_right _ _ (code_cuts c f q x ∙ cut)));
     }
 

@@ -1,28 +1,27 @@
 -- The cuts that the code walks along are those of the definition.
-use Rattle.std.proofs.Common.{◌≡◌, ℕ, ◌+◌, ◌≤◌, ◌↔◌, zero, suc, Bool, true, false, not, ◌&&◌, ◌||◌, eqb, arith, List, [], ◌∷◌, ◌++◌, Contains, flat_map, refl, sym, ap, ◌∙◌, subst, inl, inr}
+use Rattle.std.proofs.Common.{◌≡◌, ℕ, ◌+◌, ◌↔◌, zero, suc, Bool, true, false, not, ◌&&◌, ◌||◌, eqb, arith, List, [], ◌∷◌, ◌++◌, Contains, flat_map, refl, sym, ap, ◌∙◌, inl, inr}
 use Rattle.std.proofs.lemmas.Bool.{cases_Bool, false≢true, ne_eqb}
 use Rattle.std.proofs.lemmas.List.Folds.{list_any-append}
 use Rattle.std.specs.List.{list_any}
 use Rattle.acl_packet.specs.declared.addresses.Family.{Family}
 use Rattle.acl_packet.specs.declared.addresses.Family.TheVariants.{V4, V6}
-use Rattle.acl_packet.specs.declared.packet_fields.Field.{Field}
 use Rattle.acl_packet.specs.declared.packet_fields.Field.TheVariants.{Protocol, SourcePort, DestinationPort, IcmpType, IcmpCode}
 use Rattle.acl_packet.specs.Packets.{foreign_of}
 use Rattle.acl_sets.specs.declared.sets.Range.{Range}
 use Rattle.acl_sets.specs.ComputableSets.{is_all}
 use Rattle.acl_sets.specs.Ranges.{Numbers, holds}
 use Rattle.acl_terms.specs.declared.terms.Term.{Term}
-use Rattle.acl_terms.specs.Resolved.{destination_in, either_in, has_number, has_protocol, set_in, source_in}
+use Rattle.acl_terms.specs.Resolved.{destination_in, either_in, has_number, source_in}
 use Rattle.acl_boxes.specs.declared.axes.Axis.{Axis}
 use Rattle.acl_boxes.specs.Boxes.{is_cut_by}
-use Rattle.acl_boxes.specs.Runs.{begins, cuts, has_before, has_ended, is_boundary}
+use Rattle.acl_boxes.specs.Runs.{begins, cuts, has_before, is_boundary}
 use Rattle.term_boxes.specs.declared.boxes.PacketBox.{PacketBox}
 use Rattle.term_boxes.specs.NumberSets.{up_to}
 use Rattle.term_boxes.specs.TermBoxes.{own_box}
 use Rattle.term_boxes.proofs.TermSets.{or-false, protocol-holds}
 use Rattle.acl_dead.specs.declared.coordinates.Coordinate.{Coordinate}
 use Rattle.acl_dead.specs.declared.coordinates.Coordinate.TheVariants.{Source, Destination, Number, Flags, Connection}
-use Rattle.acl_dead.specs.CoordinateSteps.{cuts_along, numbers_along, ranges_of, sets_along}
+use Rattle.acl_dead.specs.CoordinateSteps.{cuts_along, numbers_along, sets_along}
 use Rattle.acl_dead.specs.Deciding.{Question, any_cuts, has, is_among, protocol_cuts}
 use Rattle.acl_dead.specs.GridSteps.{IsAxisOf}
 use Rattle.acl_dead.specs.SideSteps.{side_of}
@@ -180,7 +179,7 @@ pub axis_exact : (f : Family) (q : Question) (boxes : List PacketBox) (c : Coord
     → (x : ℕ) → Contains a.values.items x ↔ (boundary_along c f q x ≡ true)
 axis_exact f q boxes c a is x =
     let same = boundary_same (λ y. holds (side_of c (own_box f q.term)).ranges y) (own_along c f q.term)
-        (is_cut_by (sets_along c f q) (numbers_along c f q)) (cuts_along c f q) x (own_is c f q.term) (code_cuts c f q x) in (
+    (is_cut_by (sets_along c f q) (numbers_along c f q)) (cuts_along c f q) x (own_is c f q.term) (code_cuts c f q x) in (
       λ h. sym same ∙ (is.values.exact x).0 h,
       λ h. (is.values.exact x).1 (same ∙ h),
     )

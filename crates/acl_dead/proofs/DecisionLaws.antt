@@ -1,11 +1,11 @@
 -- What is found among the numbers is what the term decides.
-use Rattle.std.proofs.Common.{◌≡◌, ℕ, ◌<◌, ◌≤◌, ◌⊎◌, ◌↔◌, Bool, true, false, not, ◌&&◌, ◌||◌, nat_lt, arith, List, [], ◌∷◌, ◌++◌, length, flat_map, map, refl, sym, ap, ◌∙◌, subst, inl, inr, ◌+◌, get_or, take, drop, Option, Some, None, Result, Ok, Err}
+use Rattle.std.proofs.Common.{◌≡◌, ℕ, ◌<◌, ◌⊎◌, Bool, true, false, not, ◌||◌, nat_lt, arith, List, [], ◌∷◌, ◌++◌, length, flat_map, map, refl, sym, ap, ◌∙◌, subst, inl, inr, ◌+◌, get_or, take, drop, Option, None, Result, Ok, Err}
 use Rattle.std.specs.Result.{IfOk}
 use Rattle.std.proofs.lemmas.List.{drop_more}
 use Rattle.acl_days.specs.declared.days.Day.{Day}
 use Rattle.acl_target.specs.declared.targets.Target.{Target}
 use Rattle.acl_dead.specs.declared.decisions.Decided.{Decided}
-use Rattle.std.proofs.lemmas.Bool.{and_parts, and_from, or_left, or_right, or_from, ltb-true, lt-ltb, cases_Bool, false≢true}
+use Rattle.std.proofs.lemmas.Bool.{and_parts, and_from, or_from, ltb-true, lt-ltb, false≢true}
 use Rattle.std.proofs.lemmas.List.Folds.{list_any-append}
 use Rattle.std.specs.List.{All, list_any}
 use Rattle.acl_packet.specs.declared.addresses.Family.{Family}
@@ -21,7 +21,6 @@ use Rattle.acl_terms.proofs.PairLaws.{empty_matches_none}
 use Rattle.acl_boxes.specs.declared.axes.Axis.{Axis}
 use Rattle.acl_boxes.specs.Boxes as boxes
 use Rattle.acl_boxes.specs.Order.{IsBefore}
-use Rattle.term_boxes.specs.declared.boxes.PacketBox.{PacketBox}
 use Rattle.term_boxes.specs.Bars.{bars}
 use Rattle.term_boxes.specs.Boxes.{has, hold, sides_of}
 use Rattle.term_boxes.specs.Coordinates.{AreWithin, FieldsFit, numbers_of, packet_at, tops_of}
@@ -31,7 +30,7 @@ use Rattle.term_boxes.proofs.CoordinateLaws.{come-back, fit}
 use Rattle.term_boxes.proofs.TermLaws.{are-boxes, fail-in-boxes, fields-fit}
 use Rattle.acl_dead.specs.BlockSteps.{blocks_of}
 use Rattle.acl_dead.specs.CoordinateSteps.{coordinates}
-use Rattle.acl_dead.specs.Deciding.{Answers, AnswersFirst, ComesBefore, Decides, IsDead, IsDecided, IsFirst, IsGridSize, IsOfTarget, IsSuch, IsTooLarge, IsTooLargeIn, Question, connection_place, family_place, is_live_on, most_packets, question_of}
+use Rattle.acl_dead.specs.Deciding.{Answers, AnswersFirst, ComesBefore, Decides, IsDead, IsDecided, IsFirst, IsSuch, IsTooLarge, IsTooLargeIn, Question, connection_place, family_place, is_live_on, most_packets, question_of}
 use Rattle.acl_dead.specs.GridSteps.{AreAxesIn, HasPackets, IsDeadIn, IsFirstIn, NoPackets, box_count}
 use Rattle.acl_dead.proofs.AxisLaws.{AreOnGrid, all_ready, asked_hold, clear_none, grid_from, grid_to, hold_asked, hold_length, none_clear, own_within, sides_along}
 use Rattle.acl_dead.proofs.EndLaws.{blocks_end}
@@ -137,11 +136,11 @@ such_found f q axes ys are live of found =
     let fits = fit f ys (within f q axes ys are found.asked) in
     let own_ys = asked_hold f q (own_box f q.term) (blocks_of f q) coordinates axes ys are found.asked in
     let own : has p (own_box f q.term) ≡ true =
-        subst (λ (zs : List ℕ). hold (sides_of (own_box f q.term)) zs ≡ true) (sym back) own_ys in
+    subst (λ (zs : List ℕ). hold (sides_of (own_box f q.term)) zs ≡ true) (sym back) own_ys in
     let clear : list_any (has p) (blocks_of f q) ≡ false =
-        subst (λ (zs : List ℕ). list_any (λ s. hold (sides_of s) zs) (blocks_of f q) ≡ false) (sym back)
-        (clear_none f q (own_box f q.term) (blocks_of f q) coordinates axes ys are
-        (hold_length (sides_along coordinates (own_box f q.term)) ys own_ys) found.clear) in
+    subst (λ (zs : List ℕ). list_any (λ s. hold (sides_of s) zs) (blocks_of f q) ≡ false) (sym back)
+    (clear_none f q (own_box f q.term) (blocks_of f q) coordinates axes ys are
+    (hold_length (sides_along coordinates (own_box f q.term)) ys own_ys) found.clear) in
     let packet = clear_packet q p fits clear in record {
       of_target = record { packet = packet; of_family = of };
       on_grid = on_numbers q p fits.flags_fit
@@ -286,6 +285,6 @@ pub decided : {E : Type 0} (terms : List Term) (target : Target) (today : Day) (
 decided terms target today place t q lt is e (Err f) h = tt
 decided terms target today place t q lt is e (Ok d) h =
     let here : drop place terms ≡ t ∷ drop (place + 1) terms =
-        drop_more terms place t lt ∙ ap (λ u. u ∷ drop (place + 1) terms) (sym is) in
+    drop_more terms place t lt ∙ ap (λ u. u ∷ drop (place + 1) terms) (sym is) in
     subst (λ (ts : List Term). AnswersFirst target today (take place terms) ts d) (sym here)
     (subst (λ (p : Question). Answers p d) e h)

@@ -1,14 +1,13 @@
 -- Each side of each box in which a term decides nothing ends where the definition has a cut.
-use Rattle.std.proofs.Common.{◌≡◌, ℕ, ◌+◌, ◌<◌, ◌≤◌, zero, suc, Bool, true, false, not, ◌&&◌, ◌||◌, eqb, nat_le, arith, List, [], ◌∷◌, ◌++◌, flat_map, if◌then◌else◌, refl, sym, ap, ◌∙◌, subst, inl, inr}
-use Rattle.std.proofs.lemmas.Bool.{and_parts, and_from, or_cases, or_left, or_right, or_from, cases_Bool, cases_lt, false≢true, leb-true, le-leb, ne_eqb, agree_below_at}
+use Rattle.std.proofs.Common.{◌≡◌, ℕ, ◌<◌, ◌≤◌, zero, suc, Bool, true, false, not, ◌&&◌, ◌||◌, nat_le, arith, List, [], ◌∷◌, ◌++◌, flat_map, if◌then◌else◌, refl, sym, ap, ◌∙◌, subst, inl, inr}
+use Rattle.std.proofs.lemmas.Bool.{and_parts, and_from, or_cases, or_left, or_right, cases_Bool, cases_lt, false≢true, leb-true, le-leb, ne_eqb, agree_below_at}
 use Rattle.std.specs.List.{AllByRecursion, list_any}
 use Rattle.acl_packet.specs.declared.addresses.Family.{Family}
 use Rattle.acl_packet.specs.declared.addresses.Family.TheVariants.{V4, V6}
 use Rattle.acl_packet.specs.declared.packet_fields.Field.{Field}
 use Rattle.acl_packet.specs.declared.packet_fields.Field.TheVariants.{Protocol, SourcePort, DestinationPort, IcmpType, IcmpCode}
 use Rattle.acl_packet.specs.Addresses.{top_address}
-use Rattle.acl_sets.specs.Ranges.{Numbers, holds}
-use Rattle.acl_target.specs.declared.targets.Target.{Target}
+use Rattle.acl_sets.specs.Ranges.{Numbers}
 use Rattle.acl_terms.specs.declared.options.Mode.{Mode}
 use Rattle.acl_terms.specs.declared.options.Mode.TheVariants.{Stateful, Stateless}
 use Rattle.acl_terms.specs.declared.options.Opt.{Opt}
@@ -19,11 +18,11 @@ use Rattle.acl_terms.specs.declared.sides.SidePair.{SidePair}
 use Rattle.acl_terms.specs.declared.terms.Term.{Term}
 use Rattle.acl_terms.specs.Outcomes.{mode_of}
 use Rattle.acl_terms.specs.Resolved.{destination_cut, destination_in, either_in, has_number, in_both, pairs_of, set_in, source_cut, source_in}
-use Rattle.acl_boxes.specs.Runs.{begins, cuts, has_before, has_ended}
+use Rattle.acl_boxes.specs.Runs.{cuts, has_before, has_ended}
 use Rattle.term_boxes.specs.declared.boxes.PacketBox.{PacketBox}
 use Rattle.term_boxes.specs.Bars.{bars, bars_of_both}
 use Rattle.term_boxes.specs.Boxes.{IsSet, everything}
-use Rattle.term_boxes.specs.NumberSets.{ack_or_rst, but_icmp, but_tcp, client_ports, extension_headers, from_one, initial, neither_ack_nor_rst, no_rst, not_initial, outside, rst, run, server_ports, set_of, tcp, tracked, untracked, up_to, without_ports}
+use Rattle.term_boxes.specs.NumberSets.{ack_or_rst, but_icmp, but_tcp, client_ports, extension_headers, from_one, initial, neither_ack_nor_rst, no_rst, not_initial, outside, rst, server_ports, tcp, tracked, untracked, up_to, without_ports}
 use Rattle.term_boxes.specs.TermBoxes.{boxes_of, established_ports, failing, failing_addresses, failing_boxes, failing_ports, pair_box, passing, protocols_in, seeming_established, seeming_new}
 use Rattle.term_boxes.proofs.HeldNumbers.{from-one-holds, up-to-holds}
 use Rattle.term_boxes.proofs.TermSets.{dports-set, either-set, have-boxes, outside-holds, ports-set, protocol-holds, shared-holds}
@@ -31,7 +30,7 @@ use Rattle.acl_dead.specs.BlockSteps.{blocks_of}
 use Rattle.acl_dead.specs.declared.coordinates.Coordinate.{Coordinate}
 use Rattle.acl_dead.specs.declared.coordinates.Coordinate.TheVariants as along
 use Rattle.acl_dead.specs.CoordinateSteps.{connection_places, cuts_along, flag_places}
-use Rattle.acl_dead.specs.Deciding.{Question, address_cuts, any_cuts, asks_option, field_cuts, has, is_among, protocol_cuts, some_option}
+use Rattle.acl_dead.specs.Deciding.{Question, address_cuts, asks_option, field_cuts, has, is_among, protocol_cuts, some_option}
 use Rattle.acl_dead.specs.SideSteps.{side_of}
 use Rattle.acl_dead.proofs.CutLaws.{before_same}
 
@@ -241,12 +240,19 @@ bars_of_both_end f q =
     let e = everything_ends f q in
     let ports = by_protocol f q without_ports (without_ports_ends f) in
     let others = by_protocol f q but_tcp (but_tcp_ends f) in
-    let icmp = by_protocol f q (but_icmp f) (but_icmp_ends f) in
-    (record { sources = e.sources; destinations = e.destinations; protocols = ports; source_ports = from_one_ends 65535 _; destination_ports = e.destination_ports; types = e.types; codes = e.codes; flags = e.flags; connections = e.connections },
-    (record { sources = e.sources; destinations = e.destinations; protocols = ports; source_ports = e.source_ports; destination_ports = from_one_ends 65535 _; types = e.types; codes = e.codes; flags = e.flags; connections = e.connections },
-    (record { sources = e.sources; destinations = e.destinations; protocols = others; source_ports = e.source_ports; destination_ports = e.destination_ports; types = e.types; codes = e.codes; flags = from_one_ends 63 _; connections = e.connections },
-    (record { sources = e.sources; destinations = e.destinations; protocols = icmp; source_ports = e.source_ports; destination_ports = e.destination_ports; types = from_one_ends 255 _; codes = e.codes; flags = e.flags; connections = e.connections },
-    (record { sources = e.sources; destinations = e.destinations; protocols = icmp; source_ports = e.source_ports; destination_ports = e.destination_ports; types = e.types; codes = from_one_ends 255 _; flags = e.flags; connections = e.connections }, tt)))))
+    let icmp = by_protocol f q (but_icmp f) (but_icmp_ends f) in (
+      record { sources = e.sources; destinations = e.destinations; protocols = ports; source_ports = from_one_ends 65535 _; destination_ports = e.destination_ports; types = e.types; codes = e.codes; flags = e.flags; connections = e.connections },
+      (
+        record { sources = e.sources; destinations = e.destinations; protocols = ports; source_ports = e.source_ports; destination_ports = from_one_ends 65535 _; types = e.types; codes = e.codes; flags = e.flags; connections = e.connections },
+        (
+          record { sources = e.sources; destinations = e.destinations; protocols = others; source_ports = e.source_ports; destination_ports = e.destination_ports; types = e.types; codes = e.codes; flags = from_one_ends 63 _; connections = e.connections },
+          (
+            record { sources = e.sources; destinations = e.destinations; protocols = icmp; source_ports = e.source_ports; destination_ports = e.destination_ports; types = from_one_ends 255 _; codes = e.codes; flags = e.flags; connections = e.connections },
+            (record { sources = e.sources; destinations = e.destinations; protocols = icmp; source_ports = e.source_ports; destination_ports = e.destination_ports; types = e.types; codes = from_one_ends 255 _; flags = e.flags; connections = e.connections }, tt),
+          ),
+        ),
+      ),
+    )
 
 bars_end : (f : Family) (q : Question) → AllByRecursion (BoxEnds f q) (bars f)
 unfolding bars
@@ -309,8 +315,13 @@ pair_ends f q t pair m =
 pub with_flags : (f : Family) (q : Question) (b : PacketBox) (s : Numbers) → BoxEnds f q b → some_option q ≡ true
     → ((x : ℕ) → x < 64 → row s (flag_places true) x ≡ true) → BoxEnds f q (record b { flags = s })
 with_flags f q b s e some rows = record {
-  sources = e.sources; destinations = e.destinations; protocols = e.protocols; source_ports = e.source_ports;
-  destination_ports = e.destination_ports; types = e.types; codes = e.codes;
+  sources = e.sources;
+  destinations = e.destinations;
+  protocols = e.protocols;
+  source_ports = e.source_ports;
+  destination_ports = e.destination_ports;
+  types = e.types;
+  codes = e.codes;
   flags = flags_end (some_option q) some s rows;
   connections = e.connections;
 }
@@ -318,8 +329,15 @@ with_flags f q b s e some rows = record {
 with_connections : (f : Family) (q : Question) (b : PacketBox) (s : Numbers) → BoxEnds f q b
     → Ends 3 (λ x. is_among (connection_places q.target.stateful) x) s → BoxEnds f q (record b { connections = s })
 with_connections f q b s e ends = record {
-  sources = e.sources; destinations = e.destinations; protocols = e.protocols; source_ports = e.source_ports;
-  destination_ports = e.destination_ports; types = e.types; codes = e.codes; flags = e.flags; connections = ends;
+  sources = e.sources;
+  destinations = e.destinations;
+  protocols = e.protocols;
+  source_ports = e.source_ports;
+  destination_ports = e.destination_ports;
+  types = e.types;
+  codes = e.codes;
+  flags = e.flags;
+  connections = ends;
 }
 
 ack_rows : (x : ℕ) → x < 64 → row ack_or_rst (flag_places true) x ≡ true
@@ -347,21 +365,33 @@ established_end f q false s set e = ends_both 65535 _ s client_ports set e (clie
 
 seeming_end : (f : Family) (q : Question) (named : Bool) (b : PacketBox) → BoxEnds f q b → some_option q ≡ true
     → IsSet 255 b.protocols → IsSet 65535 b.destination_ports → AllByRecursion (BoxEnds f q) (seeming_established named b)
-seeming_end f q named b e some protos ports =
-    (record {
-    sources = e.sources; destinations = e.destinations;
+seeming_end f q named b e some protos ports = (
+  record {
+    sources = e.sources;
+    destinations = e.destinations;
     protocols = ends_both 255 _ b.protocols tcp protos e.protocols (by_protocol f q tcp (tcp_ends f));
-    source_ports = e.source_ports; destination_ports = e.destination_ports; types = e.types; codes = e.codes;
+    source_ports = e.source_ports;
+    destination_ports = e.destination_ports;
+    types = e.types;
+    codes = e.codes;
     flags = flags_end (some_option q) some ack_or_rst ack_rows;
     connections = e.connections;
   },
-    (record {
-    sources = e.sources; destinations = e.destinations;
-    protocols = ends_both 255 _ b.protocols but_tcp protos e.protocols (by_protocol f q but_tcp (but_tcp_ends f));
-    source_ports = e.source_ports;
-    destination_ports = established_end f q named b.destination_ports ports e.destination_ports;
-    types = e.types; codes = e.codes; flags = e.flags; connections = e.connections;
-  }, tt))
+  (
+    record {
+      sources = e.sources;
+      destinations = e.destinations;
+      protocols = ends_both 255 _ b.protocols but_tcp protos e.protocols (by_protocol f q but_tcp (but_tcp_ends f));
+      source_ports = e.source_ports;
+      destination_ports = established_end f q named b.destination_ports ports e.destination_ports;
+      types = e.types;
+      codes = e.codes;
+      flags = e.flags;
+      connections = e.connections;
+    },
+    tt,
+  ),
+)
 
 -- an option that is asked for is one of some term
 abbrev Asks : Question → Opt → Type 0
@@ -421,8 +451,13 @@ failing_addresses_end f q true =
       record {
         sources = ends_more (top_address f) _ _ (outside (either_in f q.term)) (λ x h. or_right _ _ (or_left _ _ h)) ends;
         destinations = ends_more (top_address f) _ _ (outside (either_in f q.term)) (λ x h. or_right _ _ (or_left _ _ h)) ends;
-        protocols = e.protocols; source_ports = e.source_ports; destination_ports = e.destination_ports;
-        types = e.types; codes = e.codes; flags = e.flags; connections = e.connections;
+        protocols = e.protocols;
+        source_ports = e.source_ports;
+        destination_ports = e.destination_ports;
+        types = e.types;
+        codes = e.codes;
+        flags = e.flags;
+        connections = e.connections;
       },
       tt,
     )
@@ -434,10 +469,15 @@ failing_ports_end f q true =
     let e = everything_ends f q in
     let ends = ends_outside 65535 q.term.ports (ports-set q.term) in (
       record {
-        sources = e.sources; destinations = e.destinations; protocols = e.protocols;
+        sources = e.sources;
+        destinations = e.destinations;
+        protocols = e.protocols;
         source_ports = ends_more 65535 _ _ (outside q.term.ports) (λ x h. or_right _ _ (or_left _ _ h)) ends;
         destination_ports = ends_more 65535 _ _ (outside q.term.ports) (λ x h. or_right _ _ (or_left _ _ (or_left _ _ h))) ends;
-        types = e.types; codes = e.codes; flags = e.flags; connections = e.connections;
+        types = e.types;
+        codes = e.codes;
+        flags = e.flags;
+        connections = e.connections;
       },
       tt,
     )
@@ -448,9 +488,15 @@ server_box f q true = tt
 server_box f q false =
     let e = everything_ends f q in (
       record {
-        sources = e.sources; destinations = e.destinations; protocols = by_protocol f q but_tcp (but_tcp_ends f);
-        source_ports = e.source_ports; destination_ports = server_ends _ (or_right _ _ (or_right _ _ refl));
-        types = e.types; codes = e.codes; flags = e.flags; connections = e.connections;
+        sources = e.sources;
+        destinations = e.destinations;
+        protocols = by_protocol f q but_tcp (but_tcp_ends f);
+        source_ports = e.source_ports;
+        destination_ports = server_ends _ (or_right _ _ (or_right _ _ refl));
+        types = e.types;
+        codes = e.codes;
+        flags = e.flags;
+        connections = e.connections;
       },
       tt,
     )
@@ -459,8 +505,13 @@ new_end : (f : Family) (q : Question) (named : Bool) → some_option q ≡ true 
 new_end f q named some =
     let e = everything_ends f q in (
       record {
-        sources = e.sources; destinations = e.destinations; protocols = by_protocol f q tcp (tcp_ends f);
-        source_ports = e.source_ports; destination_ports = e.destination_ports; types = e.types; codes = e.codes;
+        sources = e.sources;
+        destinations = e.destinations;
+        protocols = by_protocol f q tcp (tcp_ends f);
+        source_ports = e.source_ports;
+        destination_ports = e.destination_ports;
+        types = e.types;
+        codes = e.codes;
         flags = flags_end (some_option q) some neither_ack_nor_rst neither_rows;
         connections = e.connections;
       },

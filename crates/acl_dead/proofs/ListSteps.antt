@@ -2,7 +2,6 @@
 use Rattle.std.proofs.Common.{append-nil, ◌≡◌, ℕ, ◌+◌, ◌<◌, ◌≤◌, drop, get_or, length, Bool, ◌||◌, List, [], ◌∷◌, ◌++◌, Bor, flat_map, map, refl, sym, ap, ◌∙◌}
 use Rattle.std.proofs.lemmas.List.{append_assoc, drop_all, drop_more, map-append}
 use Rattle.std.specs.List.{list_any}
-use Rattle.acl_sets.specs.declared.sets.Range.{Range}
 use Rattle.acl_terms.specs.declared.terms.Term.{Term}
 use Rattle.acl_packet.specs.declared.addresses.Family.{Family}
 use Rattle.acl_terms.specs.declared.options.Mode.{Mode}
@@ -31,9 +30,9 @@ three_parts g h none first second third ts us vs t e eu ev a b c =
     let later = flat_map h (map (λ (u : Bor Term). u.now) ts) in
     let earlier = flat_map g (map (λ (u : Bor Term). u.now) ts) in
     let x : first ≡ earlier = a ∙ ap (λ xs. xs ++ flat_map (λ (u : Bor Term). g u.now) us) e
-        ∙ ap (λ (ws : List (Bor Term)). flat_map (λ (u : Bor Term). g u.now) ws) eu ∙ flat_now g ts in
+    ∙ ap (λ (ws : List (Bor Term)). flat_map (λ (u : Bor Term). g u.now) ws) eu ∙ flat_now g ts in
     let z : flat_map (λ (u : Bor Term). h u.now) vs ≡ later =
-        ap (λ (ws : List (Bor Term)). flat_map (λ (u : Bor Term). h u.now) ws) ev ∙ flat_now h ts in
+    ap (λ (ws : List (Bor Term)). flat_map (λ (u : Bor Term). h u.now) ws) ev ∙ flat_now h ts in
     c ∙ ap (λ xs. second ++ xs) z ∙ ap (λ xs. xs ++ later) (b ∙ ap (λ xs. xs ++ (h t ++ [])) x ∙ ap (λ xs. earlier ++ xs) (append-nil (h t)))
     ∙ append_assoc earlier (h t) later
 
@@ -59,10 +58,10 @@ pub blocks_made : (f : Family) (mode other : Mode) (t : Term) (none first second
 blocks_made f mode other t none first second bs fs out ts us en ea eb ebs efs eu em h =
     let earlier = flat_map (λ (u : Bor Term). boxes_of f mode u.now) us in
     let flat : flat_map (λ (xs : List PacketBox). xs) second ≡ bars f ++ failing_boxes f mode t =
-        ap (λ (xs : List (List PacketBox)). flat_map (λ (ys : List PacketBox). ys) xs)
-        (eb ∙ ap (λ (xs : List (List PacketBox)). xs ++ fs ∷ []) (ea ∙ ap (λ (xs : List (List PacketBox)). xs ++ bs ∷ []) en))
-        ∙ ap (λ (xs : List PacketBox). bs ++ xs) (append-nil fs) ∙ ap (λ (xs : List PacketBox). xs ++ fs) ebs
-        ∙ ap (λ (xs : List PacketBox). bars f ++ xs) efs in
+    ap (λ (xs : List (List PacketBox)). flat_map (λ (ys : List PacketBox). ys) xs)
+    (eb ∙ ap (λ (xs : List (List PacketBox)). xs ++ fs ∷ []) (ea ∙ ap (λ (xs : List (List PacketBox)). xs ++ bs ∷ []) en))
+    ∙ ap (λ (xs : List PacketBox). bs ++ xs) (append-nil fs) ∙ ap (λ (xs : List PacketBox). xs ++ fs) ebs
+    ∙ ap (λ (xs : List PacketBox). bars f ++ xs) efs in
     h ∙ ap (λ (xs : List PacketBox). xs ++ earlier) flat
     ∙ ap (λ (ws : List (Bor Term)). (bars f ++ failing_boxes f mode t) ++ flat_map (λ (u : Bor Term). boxes_of f mode u.now) ws) eu
     ∙ ap (λ (xs : List PacketBox). (bars f ++ failing_boxes f mode t) ++ xs) (flat_now (λ u. boxes_of f mode u) ts)

@@ -1,10 +1,9 @@
 -- A question has one answer.
-use Rattle.std.proofs.Common.{◌≡◌, ℕ, ◌+◌, ◌*◌, ◌<◌, ◌≤◌, ◌⊎◌, Bool, true, false, if◌then◌else◌, List, [], ◌∷◌, Contains, length, get_or, map, take, drop, refl, sym, ap, ◌∙◌, subst, arith, inl, inr}
-use Rattle.std.proofs.lemmas.Bool.{false≢true}
+use Rattle.std.proofs.Common.{◌≡◌, ℕ, ◌*◌, ◌⊎◌, Bool, true, false, if◌then◌else◌, List, [], ◌∷◌, Contains, length, get_or, map, take, drop, refl, sym, ap, ◌∙◌, arith, inl, inr}
 use Rattle.acl_packet.specs.declared.addresses.Family.{Family}
 use Rattle.acl_packet.specs.declared.addresses.Family.TheVariants.{V4, V6}
 use Rattle.acl_packet.specs.declared.packets.Conn.{Conn}
-use Rattle.acl_packet.specs.declared.packets.Conn.TheVariants.{New, Established, Related, Invalid}
+use Rattle.acl_packet.specs.declared.packets.Conn.TheVariants.{New, Established}
 use Rattle.acl_packet.specs.declared.packets.Packet.{Packet}
 use Rattle.acl_packet.specs.Packets.{fields}
 use Rattle.acl_days.specs.declared.days.Day.{Day}
@@ -68,7 +67,7 @@ same_packet q p r a b e =
     let at : (k : ℕ) → get_or (order_of p) k 0 ≡ get_or (order_of r) k 0 = λ k. ap (λ (xs : List ℕ). get_or xs k 0) e in
     let family = one_family p.family r.family (at 0) in
     let conn = one_connection p.conn r.conn (known q.target.stateful p.conn a.on_grid.connection)
-        (known q.target.stateful r.conn b.on_grid.connection) (at 9) in
+    (known q.target.stateful r.conn b.on_grid.connection) (at 9) in
     let src : p.src ≡ r.src = at 1 in
     let dst : p.dst ≡ r.dst = at 2 in
     let proto : p.proto ≡ r.proto = at 3 in
@@ -78,15 +77,15 @@ same_packet q p r a b e =
     let icode : p.icode ≡ r.icode = at 7 in
     let flags : p.flags ≡ r.flags = at 8 in
     let numbers : numbers_of p ≡ numbers_of r =
-        ap (λ x. x ∷ p.dst ∷ p.proto ∷ p.sport ∷ p.dport ∷ p.itype ∷ p.icode ∷ place_of_flags p.flags ∷ place_of_connection p.conn ∷ []) src
-        ∙ ap (λ x. r.src ∷ x ∷ p.proto ∷ p.sport ∷ p.dport ∷ p.itype ∷ p.icode ∷ place_of_flags p.flags ∷ place_of_connection p.conn ∷ []) dst
-        ∙ ap (λ x. r.src ∷ r.dst ∷ x ∷ p.sport ∷ p.dport ∷ p.itype ∷ p.icode ∷ place_of_flags p.flags ∷ place_of_connection p.conn ∷ []) proto
-        ∙ ap (λ x. r.src ∷ r.dst ∷ r.proto ∷ x ∷ p.dport ∷ p.itype ∷ p.icode ∷ place_of_flags p.flags ∷ place_of_connection p.conn ∷ []) sport
-        ∙ ap (λ x. r.src ∷ r.dst ∷ r.proto ∷ r.sport ∷ x ∷ p.itype ∷ p.icode ∷ place_of_flags p.flags ∷ place_of_connection p.conn ∷ []) dport
-        ∙ ap (λ x. r.src ∷ r.dst ∷ r.proto ∷ r.sport ∷ r.dport ∷ x ∷ p.icode ∷ place_of_flags p.flags ∷ place_of_connection p.conn ∷ []) itype
-        ∙ ap (λ x. r.src ∷ r.dst ∷ r.proto ∷ r.sport ∷ r.dport ∷ r.itype ∷ x ∷ place_of_flags p.flags ∷ place_of_connection p.conn ∷ []) icode
-        ∙ ap (λ x. r.src ∷ r.dst ∷ r.proto ∷ r.sport ∷ r.dport ∷ r.itype ∷ r.icode ∷ place_of_flags x ∷ place_of_connection p.conn ∷ []) flags
-        ∙ ap (λ x. r.src ∷ r.dst ∷ r.proto ∷ r.sport ∷ r.dport ∷ r.itype ∷ r.icode ∷ place_of_flags r.flags ∷ place_of_connection x ∷ []) conn in
+    ap (λ x. x ∷ p.dst ∷ p.proto ∷ p.sport ∷ p.dport ∷ p.itype ∷ p.icode ∷ place_of_flags p.flags ∷ place_of_connection p.conn ∷ []) src
+    ∙ ap (λ x. r.src ∷ x ∷ p.proto ∷ p.sport ∷ p.dport ∷ p.itype ∷ p.icode ∷ place_of_flags p.flags ∷ place_of_connection p.conn ∷ []) dst
+    ∙ ap (λ x. r.src ∷ r.dst ∷ x ∷ p.sport ∷ p.dport ∷ p.itype ∷ p.icode ∷ place_of_flags p.flags ∷ place_of_connection p.conn ∷ []) proto
+    ∙ ap (λ x. r.src ∷ r.dst ∷ r.proto ∷ x ∷ p.dport ∷ p.itype ∷ p.icode ∷ place_of_flags p.flags ∷ place_of_connection p.conn ∷ []) sport
+    ∙ ap (λ x. r.src ∷ r.dst ∷ r.proto ∷ r.sport ∷ x ∷ p.itype ∷ p.icode ∷ place_of_flags p.flags ∷ place_of_connection p.conn ∷ []) dport
+    ∙ ap (λ x. r.src ∷ r.dst ∷ r.proto ∷ r.sport ∷ r.dport ∷ x ∷ p.icode ∷ place_of_flags p.flags ∷ place_of_connection p.conn ∷ []) itype
+    ∙ ap (λ x. r.src ∷ r.dst ∷ r.proto ∷ r.sport ∷ r.dport ∷ r.itype ∷ x ∷ place_of_flags p.flags ∷ place_of_connection p.conn ∷ []) icode
+    ∙ ap (λ x. r.src ∷ r.dst ∷ r.proto ∷ r.sport ∷ r.dport ∷ r.itype ∷ r.icode ∷ place_of_flags x ∷ place_of_connection p.conn ∷ []) flags
+    ∙ ap (λ x. r.src ∷ r.dst ∷ r.proto ∷ r.sport ∷ r.dport ∷ r.itype ∷ r.icode ∷ place_of_flags r.flags ∷ place_of_connection x ∷ []) conn in
     sym (packet-back p (fields-fit p a.of_target.packet)).1
     ∙ ap (λ f. packet_at f (numbers_of p)) family
     ∙ ap (λ ns. packet_at r.family ns) numbers

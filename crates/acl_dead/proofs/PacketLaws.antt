@@ -1,6 +1,6 @@
 -- Packets on the grid: by their nine numbers, in their order, and how many there are.
 use Rattle.std.proofs.Common.{◌≡◌, ℕ, ◌+◌, ◌*◌, ◌<◌, ◌≤◌, ◌⊎◌, ◌↔◌, zero, suc, Bool, true, false, not, ◌&&◌, ◌||◌, eqb, nat_le, nat_lt, if◌then◌else◌, arith, List, [], ◌∷◌, ◌++◌, Contains, length, get_or, map, refl, sym, ap, ◌∙◌, subst, inl, inr}
-use Rattle.std.proofs.lemmas.Bool.{and_parts, and_from, or_cases, or_left, or_right, leb-true, ltb-true, eqb-true, lt-ltb, agree_below_at, cases_lt, cases_Bool, false≢true}
+use Rattle.std.proofs.lemmas.Bool.{and_parts, or_cases, leb-true, ltb-true, eqb-true, agree_below_at, false≢true}
 use Rattle.std.specs.List.{list_all}
 use Rattle.std.specs.List.Sorted.{IsStrictlyIncreasing}
 use Rattle.acl_packet.specs.declared.addresses.Family.{Family}
@@ -9,7 +9,7 @@ use Rattle.acl_packet.specs.declared.packet_fields.Field.TheVariants.{Protocol, 
 use Rattle.acl_packet.specs.declared.packets.Conn.{Conn}
 use Rattle.acl_packet.specs.declared.packets.Conn.TheVariants.{New, Established, Related, Invalid}
 use Rattle.acl_packet.specs.declared.packets.Packet.{Packet}
-use Rattle.acl_packet.specs.Packets.{IsPacket, fields, number_of}
+use Rattle.acl_packet.specs.Packets.{number_of}
 use Rattle.acl_boxes.specs.declared.axes.Axis.{Axis}
 use Rattle.acl_boxes.specs.Boxes as boxes
 use Rattle.acl_boxes.specs.Order.{IsBefore}
@@ -18,10 +18,9 @@ use Rattle.term_boxes.specs.Coordinates.{numbers_of, place_of_connection, place_
 use Rattle.term_boxes.specs.NumberSets.{up_to}
 use Rattle.term_boxes.specs.TermBoxes.{own_box}
 use Rattle.acl_dead.specs.BlockSteps.{blocks_of}
-use Rattle.acl_dead.specs.declared.coordinates.Coordinate.{Coordinate}
 use Rattle.acl_dead.specs.declared.coordinates.Coordinate.TheVariants.{Source, Destination, Number, Flags, Connection}
 use Rattle.acl_dead.specs.CoordinateSteps.{connection_places, coordinates, flag_places}
-use Rattle.acl_dead.specs.Deciding.{ComesBefore, IsGridSize, IsOnGrid, IsProduct, Question, connection_place, connections, family_place, field_boundary, flag_sums, has, is_among, order_of, some_option}
+use Rattle.acl_dead.specs.Deciding.{ComesBefore, IsGridSize, IsOnGrid, IsProduct, Question, connection_place, connections, family_place, field_boundary, flag_sums, has, is_among, some_option}
 use Rattle.acl_dead.specs.GridSteps.{AreAxesIn, AreAxesOf}
 use Rattle.acl_dead.proofs.AxisLaws.{AreOnGrid, product_is}
 use Rattle.acl_dead.proofs.CutLaws.{axis_exact, boundary_along}
@@ -70,14 +69,28 @@ on_connection true Invalid h = absurd (false≢true h)
 pub numbers_on : (q : Question) (p : Packet) → p.flags < 64 → IsOnGrid q p → AreOnGrid p.family q coordinates (numbers_of p)
 numbers_on q p small on = (
   on.source,
-  (on.destination,
-    (on.numbers Protocol,
-      (on.numbers SourcePort,
-        (on.numbers DestinationPort,
-          (on.numbers IcmpType,
-            (on.numbers IcmpCode,
-              (flags_same (some_option q) p.flags small ∙ contains_among (sums (some_option q)) p.flags on.flags,
-                (connection_on q.target.stateful p.conn on.connection, tt)))))))),
+  (
+    on.destination,
+    (
+      on.numbers Protocol,
+      (
+        on.numbers SourcePort,
+        (
+          on.numbers DestinationPort,
+          (
+            on.numbers IcmpType,
+            (
+              on.numbers IcmpCode,
+              (
+                flags_same (some_option q) p.flags small ∙ contains_among (sums (some_option q)) p.flags on.flags,
+                (connection_on q.target.stateful p.conn on.connection, tt),
+              ),
+            ),
+          ),
+        ),
+      ),
+    ),
+  ),
 )
 
 by_fields : (P : Field → Type 0) → P Protocol → P SourcePort → P DestinationPort → P IcmpType → P IcmpCode → (field : Field) → P field
@@ -186,7 +199,7 @@ later_before n m xs ys e (inr same) = same.1
 
 pub numbers_before : (q : Question) (p r : Packet) → p.family ≡ r.family → p.flags < 64 → r.flags < 64 → IsOnGrid q p → IsOnGrid q r
     → ComesBefore p r → IsBefore (numbers_of p) (numbers_of r)
-numbers_before q p r family small fits a b h = before_fields q p r small fits a b 
+numbers_before q p r family small fits a b h = before_fields q p r small fits a b
     (later_before (family_place p.family) (family_place r.family) (first_fields p ++ p.flags ∷ connection_place p.conn ∷ [])
     (first_fields r ++ r.flags ∷ connection_place r.conn ∷ []) (ap family_place family) h)
 
@@ -264,6 +277,6 @@ last_size f q (a ∷ b ∷ c ∷ axes) are = absurd are.1.1
 pub size_is : (f : Family) (q : Question) (axes : List Axis) → AreAxesIn f q axes → IsGridSize f q (boxes.grid_size axes)
 size_is f q axes are =
     let r = product_is f q (blocks_of f q) (Source ∷ Destination ∷ Number Protocol ∷ Number SourcePort ∷ Number DestinationPort ∷ Number IcmpType ∷ Number IcmpCode ∷ [])
-        (Flags ∷ Connection ∷ []) axes are in
+    (Flags ∷ Connection ∷ []) axes are in
     subst (λ (n : ℕ). IsProduct (map (λ c. boundary_along c f q) (Source ∷ Destination ∷ Number Protocol ∷ Number SourcePort ∷ Number DestinationPort ∷ Number IcmpType ∷ Number IcmpCode ∷ [])) n (boxes.grid_size axes))
     (last_size f q r.0 r.1) r.2

@@ -19,4 +19,3 @@ side_of Destination b = b.destinations
 side_of (Number field) b = field_side field b
 side_of Flags b = b.flags
 side_of Connection b = b.connections
-

@@ -76,7 +76,11 @@ impl Space {
     }
 
     /// The sides of the boxes along the coordinate.
-    pub(crate) fn sides_along(&self, alloc: Global, coordinate: Coordinate) -> Result<Vec<&RangeSet>, Memory>
+    pub(crate) fn sides_along(
+        &self,
+        alloc: Global,
+        coordinate: Coordinate,
+    ) -> Result<Vec<&RangeSet>, Memory>
         ensures { IfOk result (λ v. map (λ s. s.now.ranges) v.items
             ≡ map (λ b. (side_of coordinate b).ranges) (boxes_in self.now.boxes)) }
     {

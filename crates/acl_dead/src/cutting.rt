@@ -91,8 +91,8 @@ fn protocol_cuts(family: Family) -> &'static [u128]
     match family {
         Family::V4 => &[1, 2, 6, 7, 17, 18, 58, 59, 132, 133],
         Family::V6 => &[
-            1, 2, 6, 7, 17, 18, 58, 59, 132, 133, 0, 1, 43, 44, 44, 45, 51, 52, 59, 60, 60, 61, 135, 136,
-            139, 140, 140, 141,
+            1, 2, 6, 7, 17, 18, 58, 59, 132, 133, 0, 1, 43, 44, 44, 45, 51, 52, 59, 60, 60, 61,
+            135, 136, 139, 140, 140, 141,
         ],
     }
 }
@@ -100,7 +100,11 @@ fn protocol_cuts(family: Family) -> &'static [u128]
 fn flag_places(some: bool) -> &'static [u128]
     ensures { result.now ≡ flag_places some }
 {
-    if some { &[8, 16, 24, 32, 40, 48, 56] } else { &[] }
+    if some {
+        &[8, 16, 24, 32, 40, 48, 56]
+    } else {
+        &[]
+    }
 }
 
 fn connection_places(stateful: bool) -> &'static [u128]
@@ -110,7 +114,11 @@ fn connection_places(stateful: bool) -> &'static [u128]
 }
 
 /// The numbers that cut the coordinate besides.
-pub(crate) fn numbers_along(coordinate: Coordinate, family: Family, asked: &Asked) -> &'static [u128]
+pub(crate) fn numbers_along(
+    coordinate: Coordinate,
+    family: Family,
+    asked: &Asked,
+) -> &'static [u128]
     ensures { result.now ≡ numbers_along coordinate family (question asked.now) }
 {
     match coordinate {

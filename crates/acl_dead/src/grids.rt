@@ -61,7 +61,13 @@ fn axis_along<'a>(
     let sets = sets_along(alloc, coordinate, family, asked)?;
     let numbers = numbers_along(coordinate, family, asked);
     let sides = space.sides_along(alloc, coordinate)?;
-    Ok(Axis::new(alloc, side_of(coordinate, &space.own), &sets, numbers, sides)?)
+    Ok(Axis::new(
+        alloc,
+        side_of(coordinate, &space.own),
+        &sets,
+        numbers,
+        sides,
+    )?)
 }
 
 fn axes_along<'a>(
@@ -122,7 +128,12 @@ fn box_count(axes: &[Axis]) -> usize
     }
 }
 
-fn first_on(alloc: Global, family: Family, asked: &Asked, grid: &Grid) -> Result<Option<Packet>, Memory>
+fn first_on(
+    alloc: Global,
+    family: Family,
+    asked: &Asked,
+    grid: &Grid,
+) -> Result<Option<Packet>, Memory>
     requires some { HasPackets family (question asked.now) }
     requires live { is_live_on asked.now.target.now asked.now.today asked.now.term.now ≡ true }
     requires axes { AreAxesIn family (question asked.now) grid.now.axes.items }

@@ -22,7 +22,7 @@ packet_at-requires c =
     let axes = c.args.grid.now.axes.items in
     let count = counted f q axes c.deref-2.result.now c.box_count.result c.requires.axes c.deref-2.ensures.value c.box_count.ensures in
     let found = finds f q axes c.deref.result.now c.box_count.result _ (Some c.in-Some.numbers.items) c.deref.ensures.value count
-        (ap (λ o. option_map (λ v. v.items) o) c.in-Some.is) c.in_ok-numbers.ensures in
+    (ap (λ o. option_map (λ v. v.items) o) c.in-Some.is) c.in_ok-numbers.ensures in
     subst (λ (ns : List ℕ). AreWithin (tops_of f) ns) (sym c.deref-in-Some.ensures.value)
     (within f q axes c.in-Some.numbers.items c.requires.axes found.asked)
 
@@ -33,7 +33,7 @@ returns-in-Some c =
     let axes = c.args.grid.now.axes.items in
     let count = counted f q axes c.deref-2.result.now c.box_count.result c.requires.axes c.deref-2.ensures.value c.box_count.ensures in
     let found = finds f q axes c.deref.result.now c.box_count.result _ (Some c.in-Some.numbers.items) c.deref.ensures.value count
-        (ap (λ o. option_map (λ v. v.items) o) c.in-Some.is) c.in_ok-numbers.ensures in
+    (ap (λ o. option_map (λ v. v.items) o) c.in-Some.is) c.in_ok-numbers.ensures in
     subst (λ (p : Packet). IsFirstIn f q p) (sym (c.packet_at.ensures ∙ ap (λ ns. packet_at f ns) c.deref-in-Some.ensures.value))
     (found_some f q axes c.in-Some.numbers.items c.requires.axes c.requires.live c.requires.some.of_target found)
 

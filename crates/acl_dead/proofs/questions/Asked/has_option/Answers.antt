@@ -1,4 +1,4 @@
-use Rattle.std.proofs.Common.{◌≡◌, ◌||◌, Bor, List, map, ap, ◌∙◌}
+use Rattle.std.proofs.Common.{◌||◌, Bor, List, map, ap, ◌∙◌}
 use Rattle.std.specs.List.{list_any}
 use Rattle.acl_terms.specs.declared.terms.Term.{Term}
 use Rattle.acl_dead.specs.Deciding.{asks_option}
