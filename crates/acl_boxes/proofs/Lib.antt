@@ -1,0 +1,7 @@
+pub mod CutFacts
+pub mod LevelFacts
+pub mod PlaceFacts
+pub mod PointFacts
+pub mod RoundingLaws
+pub mod SweepFacts
+pub mod WalkFacts

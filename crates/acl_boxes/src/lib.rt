@@ -1,0 +1,16 @@
+//! Boxes of numbers: the first point of a grid that lies in none of them.
+#![tactic(auto)]
+
+mod axes;
+mod columns;
+mod cuts;
+mod laws;
+mod levels;
+mod places;
+mod searches;
+mod spaces;
+mod walks;
+
+pub use axes::Axis;
+pub use laws::points_round_down;
+pub use spaces::{first_clear, is_larger_than};

@@ -1,0 +1,78 @@
+ghost use Rattle.std.specs.Prelude.{◌≡◌, IfOk};
+ghost use Rattle.term_boxes.specs.Boxes.{everything};
+
+use acl_packet::Family;
+use acl_sets::RangeSet;
+use acl_text::Memory;
+use std::alloc::Global;
+
+/// A set of packets of a family: what it holds along each coordinate, by itself.
+///
+/// Flags and connections are told by their places, as in `packet_at`.
+#[derive(Debug, Drop)]
+pub struct PacketBox {
+    pub sources: RangeSet,
+    pub destinations: RangeSet,
+    pub protocols: RangeSet,
+    pub source_ports: RangeSet,
+    pub destination_ports: RangeSet,
+    pub types: RangeSet,
+    pub codes: RangeSet,
+    pub flags: RangeSet,
+    pub connections: RangeSet,
+}
+
+impl PacketBox {
+    /// The box of all packets of the family.
+    pub(crate) fn everything(alloc: Global, family: Family) -> Result<PacketBox, Memory>
+        ensures { IfOk result (λ b. b ≡ everything family) }
+    {
+        let addresses = RangeSet::all(alloc, family.top_address())?;
+        let ports = RangeSet::all(alloc, 65535)?;
+        let bytes = RangeSet::all(alloc, 255)?;
+        Ok(PacketBox {
+            sources: addresses.share()?,
+            destinations: addresses,
+            protocols: bytes.share()?,
+            source_ports: ports.share()?,
+            destination_ports: ports,
+            types: bytes.share()?,
+            codes: bytes,
+            flags: RangeSet::all(alloc, 63)?,
+            connections: RangeSet::all(alloc, 3)?,
+        })
+    }
+
+    /// The same box once more. Its sets are not copied.
+    pub(crate) fn share(&self) -> Result<PacketBox, Memory>
+        ensures { IfOk result (λ b. b ≡ self.now) }
+    {
+        Ok(PacketBox {
+            sources: self.sources.share()?,
+            destinations: self.destinations.share()?,
+            protocols: self.protocols.share()?,
+            source_ports: self.source_ports.share()?,
+            destination_ports: self.destination_ports.share()?,
+            types: self.types.share()?,
+            codes: self.codes.share()?,
+            flags: self.flags.share()?,
+            connections: self.connections.share()?,
+        })
+    }
+
+    pub(crate) fn with_flags(self, flags: RangeSet) -> PacketBox
+        ensures { result ≡ record self { flags = flags } }
+    {
+        let mut out = self;
+        out.flags = flags;
+        out
+    }
+
+    pub(crate) fn with_connections(self, connections: RangeSet) -> PacketBox
+        ensures { result ≡ record self { connections = connections } }
+    {
+        let mut out = self;
+        out.connections = connections;
+        out
+    }
+}
