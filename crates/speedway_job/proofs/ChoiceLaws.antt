@@ -10,9 +10,9 @@ use Rattle.acl_text.specs.Refusals.{IsRefusalBy, slip}
 use Rattle.acl_days.specs.declared.days.Day.{Day}
 use Rattle.acl_platform.specs.declared.filters.Filter.{Filter}
 use Rattle.acl_filters.specs.AskedFilters.{FilterRequest}
-use Rattle.acl_filters.specs.CheckedFilters.{Checks, ChecksFilter}
+use Rattle.acl_filters.specs.CheckedFilters.{Checks}
 use Rattle.acl_filters.specs.ChosenFilters.{GivesFilter, IsFilterOf}
-use Rattle.acl_filters.specs.FilterRequests.{request_slip}
+use Rattle.acl_filters.specs.FilterRequests.{filter_for, request_slip}
 use Rattle.gen_speedway.specs.RestoredFilters.{leaves_packets}
 use Rattle.speedway_job.specs.RestorePlans.{policy_slip, restored_slip}
 
@@ -30,9 +30,9 @@ left-slip today r (refusals.Slip s) leaves is = ap (λ o. option_or o (request_s
 left-slip today r refusals.Memory leaves is = tt
 
 -- its filter
-pub checked-filter : (today : Day) (r : FilterRequest) (f : Filter) (entries : ℕ) → leaves_packets r.target.ending ≡ false
-    → ChecksFilter today r f entries → IsFilterOf (restored_slip today) today r f
-checked-filter today r f entries says checks = record { no_slip = own-slip today r says ∙ checks.slip_is; filter_is = checks.filter_is }
+pub checked-filter : (today : Day) (r : FilterRequest) (f : Filter) → leaves_packets r.target.ending ≡ false → request_slip today r ≡ None
+    → f ≡ filter_for today r → IsFilterOf (restored_slip today) today r f
+checked-filter today r f says none is = record { no_slip = own-slip today r says ∙ none; filter_is = is }
 
 -- its filter's slip
 pub checked-slip : (today : Day) (r : FilterRequest) (e : Refusal) (given : Result Filter Refusal) → leaves_packets r.target.ending ≡ false

@@ -1,0 +1,3 @@
+pub mod DeadLaws
+pub mod TellingSteps
+pub mod TermAnswers

@@ -1,0 +1,4 @@
+pub mod ListLaws
+pub mod ListMeanings
+pub mod ListPlans
+pub mod ListingSteps
