@@ -5,9 +5,9 @@ use Rattle.std.proofs.lemmas.List.{drop_more}
 use Rattle.acl_days.specs.declared.days.Day.{Day}
 use Rattle.acl_target.specs.declared.targets.Target.{Target}
 use Rattle.acl_dead.specs.declared.decisions.Decided.{Decided}
-use Rattle.std.proofs.lemmas.Bool.{and_parts, and_from, or_from, ltb-true, lt-ltb, false≢true}
+use Rattle.std.proofs.lemmas.Bool.{and_parts, and_from, or_from, ltb-true, lt-ltb, cases_Bool, false_from_ne_true, false≢true}
 use Rattle.std.proofs.lemmas.List.Folds.{list_any-append}
-use Rattle.std.specs.List.{All, list_any}
+use Rattle.std.specs.List.{All, filter, list_any}
 use Rattle.acl_packet.specs.declared.addresses.Family.{Family}
 use Rattle.acl_packet.specs.declared.addresses.Family.TheVariants.{V4, V6}
 use Rattle.acl_packet.specs.declared.packets.Packet.{Packet}
@@ -28,12 +28,14 @@ use Rattle.term_boxes.specs.TermBoxes.{boxes_of, failing_boxes, own_box}
 use Rattle.term_boxes.proofs.BarLaws.{bars-tell}
 use Rattle.term_boxes.proofs.CoordinateLaws.{come-back, fit}
 use Rattle.term_boxes.proofs.TermLaws.{are-boxes, fail-in-boxes, fields-fit}
-use Rattle.acl_dead.specs.BlockSteps.{blocks_of}
+use Rattle.acl_dead.specs.ApartSteps.{apart}
+use Rattle.acl_dead.specs.BlockSteps.{blocks_of, met_by}
 use Rattle.acl_dead.specs.CoordinateSteps.{coordinates}
 use Rattle.acl_dead.specs.Deciding.{Answers, AnswersFirst, ComesBefore, Decides, IsDead, IsDecided, IsFirst, IsSuch, IsTooLarge, IsTooLargeIn, Question, connection_place, family_place, is_live_on, most_packets, question_of}
 use Rattle.acl_dead.specs.GridSteps.{AreAxesIn, HasPackets, IsDeadIn, IsFirstIn, NoPackets, box_count}
+use Rattle.acl_dead.proofs.ApartLaws.{both_own}
 use Rattle.acl_dead.proofs.AxisLaws.{AreOnGrid, all_ready, asked_hold, clear_none, grid_from, grid_to, hold_asked, hold_length, none_clear, own_within, sides_along}
-use Rattle.acl_dead.proofs.EndLaws.{blocks_end}
+use Rattle.acl_dead.proofs.EndLaws.{any_kept, blocks_end}
 use Rattle.acl_dead.proofs.OneAnswer.{one_size}
 use Rattle.acl_dead.proofs.PacketLaws.{numbers_before, numbers_on, on_numbers, size_is}
 
@@ -49,22 +51,6 @@ any_same : {A : Type 0} (p r : A → Bool) (xs : List A) → ((x : A) → p x �
 any_same p r [] e = refl
 any_same p r (x ∷ xs) e = ap (λ b. b || list_any p xs) (e x) ∙ ap (λ b. r x || b) (any_same p r xs e)
 
-earlier_tell : (q : Question) (p : Packet) → IsPacket p
-    → list_any (has p) (flat_map (λ t. boxes_of p.family (mode_of q.target) t) q.earlier) ≡ list_any (λ t. matches (mode_of q.target) t p) q.earlier
-earlier_tell q p packet =
-    any_flat (has p) (λ t. boxes_of p.family (mode_of q.target) t) q.earlier
-    ∙ any_same (λ t. list_any (has p) (boxes_of p.family (mode_of q.target) t)) (λ t. matches (mode_of q.target) t p) q.earlier
-    (λ t. sym (are-boxes (mode_of q.target) t p packet))
-
-parts_tell : (q : Question) (p : Packet)
-    → list_any (has p) (blocks_of p.family q)
-    ≡ ((list_any (has p) (bars p.family) || list_any (has p) (failing_boxes p.family (mode_of q.target) q.term))
-    || list_any (has p) (flat_map (λ t. boxes_of p.family (mode_of q.target) t) q.earlier))
-parts_tell q p =
-    list_any-append (has p) (bars p.family ++ failing_boxes p.family (mode_of q.target) q.term) (flat_map (λ t. boxes_of p.family (mode_of q.target) t) q.earlier)
-    ∙ ap (λ b. b || list_any (has p) (flat_map (λ t. boxes_of p.family (mode_of q.target) t) q.earlier))
-    (list_any-append (has p) (bars p.family) (failing_boxes p.family (mode_of q.target) q.term))
-
 first_false : (a b : Bool) → (a || b) ≡ false → a ≡ false
 first_false false b e = refl
 first_false true b e = absurd (false≢true (sym e))
@@ -72,6 +58,44 @@ first_false true b e = absurd (false≢true (sym e))
 second_false : (a b : Bool) → (a || b) ≡ false → b ≡ false
 second_false false b e = e
 second_false true b e = absurd (false≢true (sym e))
+
+earlier_tell : (q : Question) (p : Packet) (ts : List Term) → IsPacket p
+    → list_any (has p) (flat_map (λ t. boxes_of p.family (mode_of q.target) t) ts) ≡ list_any (λ t. matches (mode_of q.target) t p) ts
+earlier_tell q p ts packet =
+    any_flat (has p) (λ t. boxes_of p.family (mode_of q.target) t) ts
+    ∙ any_same (λ t. list_any (has p) (boxes_of p.family (mode_of q.target) t)) (λ t. matches (mode_of q.target) t p) ts
+    (λ t. sym (are-boxes (mode_of q.target) t p packet))
+
+-- where no term matches, none of those that are met does
+none_met : (g kept : Term → Bool) (ts : List Term) → list_any g ts ≡ false → list_any g (filter kept ts) ≡ false
+none_met g kept ts none = false_from_ne_true _ (λ h. false≢true (sym none ∙ any_kept g kept ts h))
+
+-- a term that matches a packet of the own sets is met
+matching_met : (q : Question) (p : Packet) (u : Term) → IsPacket p → has p (own_box p.family q.term) ≡ true
+    → apart p.family q.term u ≡ true → matches (mode_of q.target) u p ≡ false
+matching_met q p u packet own off = false_from_ne_true _ (λ h.
+    both_own p q.term u own
+    (and_parts (has p (own_box p.family u)) _ (sym (fail-in-boxes (mode_of q.target) u p packet) ∙ h)).0 off)
+
+none_earlier : (q : Question) (p : Packet) (ts : List Term) → IsPacket p → has p (own_box p.family q.term) ≡ true
+    → list_any (λ t. matches (mode_of q.target) t p) (met_by p.family q.term ts) ≡ false
+    → list_any (λ t. matches (mode_of q.target) t p) ts ≡ false
+none_earlier q p [] packet own none = none
+none_earlier q p (u ∷ ts) packet own none = elim (cases_Bool (apart p.family q.term u)) [
+  | inl off ↦ or_from _ _ (matching_met q p u packet own off) (none_earlier q p ts packet own (rw off at none))
+  | inr met ↦
+      let parts : (matches (mode_of q.target) u p || list_any (λ t. matches (mode_of q.target) t p) (met_by p.family q.term ts)) ≡ false = rw met at none in
+      or_from _ _ (first_false _ _ parts) (none_earlier q p ts packet own (second_false _ _ parts))
+]
+
+parts_tell : (q : Question) (p : Packet)
+    → list_any (has p) (blocks_of p.family q)
+    ≡ ((list_any (has p) (bars p.family) || list_any (has p) (failing_boxes p.family (mode_of q.target) q.term))
+    || list_any (has p) (flat_map (λ t. boxes_of p.family (mode_of q.target) t) (met_by p.family q.term q.earlier)))
+parts_tell q p =
+    list_any-append (has p) (bars p.family ++ failing_boxes p.family (mode_of q.target) q.term) (flat_map (λ t. boxes_of p.family (mode_of q.target) t) (met_by p.family q.term q.earlier))
+    ∙ ap (λ b. b || list_any (has p) (flat_map (λ t. boxes_of p.family (mode_of q.target) t) (met_by p.family q.term q.earlier)))
+    (list_any-append (has p) (bars p.family) (failing_boxes p.family (mode_of q.target) q.term))
 
 not_true : (b : Bool) → not b ≡ true → b ≡ false
 not_true false e = refl
@@ -86,7 +110,8 @@ blocks_lack q p packet d =
     parts_tell q p ∙ or_from _ _
     (or_from _ _ ((bars-tell p (fields-fit p packet)).0 packet)
     (not_true _ (and_parts (has p (own_box p.family q.term)) _ (sym (fail-in-boxes (mode_of q.target) q.term p packet) ∙ d.matched)).1))
-    (earlier_tell q p packet ∙ d.not_earlier)
+    (earlier_tell q p (met_by p.family q.term q.earlier) packet
+    ∙ none_met (λ t. matches (mode_of q.target) t p) (λ u. not (apart p.family q.term u)) q.earlier d.not_earlier)
 
 clear_packet : (q : Question) (p : Packet) → FieldsFit p → list_any (has p) (blocks_of p.family q) ≡ false → IsPacket p
 clear_packet q p fits none =
@@ -99,7 +124,8 @@ clear_decided q p live packet own none =
       live = live;
       matched = fail-in-boxes (mode_of q.target) q.term p packet
           ∙ and_from _ _ own (ap not (second_false _ _ (first_false _ _ parts)));
-      not_earlier = sym (earlier_tell q p packet) ∙ second_false _ _ parts;
+      not_earlier = none_earlier q p q.earlier packet own
+          (sym (earlier_tell q p (met_by p.family q.term q.earlier) packet) ∙ second_false _ _ parts);
     }
 
 -- ---- a packet that the term decides, by its numbers

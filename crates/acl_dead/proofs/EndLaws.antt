@@ -1,7 +1,7 @@
 -- Each side of each box in which a term decides nothing ends where the definition has a cut.
 use Rattle.std.proofs.Common.{◌≡◌, ℕ, ◌<◌, ◌≤◌, zero, suc, Bool, true, false, not, ◌&&◌, ◌||◌, nat_le, arith, List, [], ◌∷◌, ◌++◌, flat_map, if◌then◌else◌, refl, sym, ap, ◌∙◌, subst, inl, inr}
 use Rattle.std.proofs.lemmas.Bool.{and_parts, and_from, or_cases, or_left, or_right, cases_Bool, cases_lt, false≢true, leb-true, le-leb, ne_eqb, agree_below_at}
-use Rattle.std.specs.List.{AllByRecursion, list_any}
+use Rattle.std.specs.List.{AllByRecursion, filter, list_any}
 use Rattle.acl_packet.specs.declared.addresses.Family.{Family}
 use Rattle.acl_packet.specs.declared.addresses.Family.TheVariants.{V4, V6}
 use Rattle.acl_packet.specs.declared.packet_fields.Field.{Field}
@@ -26,7 +26,8 @@ use Rattle.term_boxes.specs.NumberSets.{ack_or_rst, but_icmp, but_tcp, client_po
 use Rattle.term_boxes.specs.TermBoxes.{boxes_of, established_ports, failing, failing_addresses, failing_boxes, failing_ports, pair_box, passing, protocols_in, seeming_established, seeming_new}
 use Rattle.term_boxes.proofs.HeldNumbers.{from-one-holds, up-to-holds}
 use Rattle.term_boxes.proofs.TermSets.{dports-set, either-set, have-boxes, outside-holds, ports-set, protocol-holds, shared-holds}
-use Rattle.acl_dead.specs.BlockSteps.{blocks_of}
+use Rattle.acl_dead.specs.ApartSteps.{apart}
+use Rattle.acl_dead.specs.BlockSteps.{blocks_of, met_by}
 use Rattle.acl_dead.specs.declared.coordinates.Coordinate.{Coordinate}
 use Rattle.acl_dead.specs.declared.coordinates.Coordinate.TheVariants as along
 use Rattle.acl_dead.specs.CoordinateSteps.{connection_places, cuts_along, flag_places}
@@ -544,14 +545,24 @@ stateful_known : (stateful : Bool) → (if stateful then Stateful else Stateless
 stateful_known true e = refl
 stateful_known false e = absurd (stateless e)
 
+pub any_kept : (g kept : Term → Bool) (ts : List Term) → list_any g (filter kept ts) ≡ true → list_any g ts ≡ true
+any_kept g kept [] h = h
+any_kept g kept (t ∷ ts) h = elim (cases_Bool (kept t)) [
+  | inl stays ↦ elim (or_cases (g t) (list_any g (filter kept ts)) (rw stays at h)) [
+    | inl here ↦ or_left _ _ here
+    | inr later ↦ or_right _ _ (any_kept g kept ts later)
+  ]
+  | inr out ↦ or_right _ _ (any_kept g kept ts (rw out at h))
+]
+
 pub blocks_end : (f : Family) (q : Question) → AllByRecursion (BoxEnds f q) (blocks_of f q)
 unfolding failing_boxes
 blocks_end f q =
-    all_append (BoxEnds f q) (bars f ++ failing_boxes f (mode_of q.target) q.term) (flat_map (λ t. boxes_of f (mode_of q.target) t) q.earlier)
+    all_append (BoxEnds f q) (bars f ++ failing_boxes f (mode_of q.target) q.term) (flat_map (λ t. boxes_of f (mode_of q.target) t) (met_by f q.term q.earlier))
     (all_append (BoxEnds f q) (bars f) (failing_boxes f (mode_of q.target) q.term) (bars_end f q)
     (all_append (BoxEnds f q) (failing_addresses f q.term) (failing_ports f q.term ++ failing q.term.option (mode_of q.target) q.term.dport_named f)
     (failing_addresses_end f q q.term.addr_named)
     (all_append (BoxEnds f q) (failing_ports f q.term) (failing q.term.option (mode_of q.target) q.term.dport_named f)
     (failing_ports_end f q q.term.port_named)
     (failing_end f q q.term.option (mode_of q.target) q.term.dport_named (λ asks. or_left _ _ asks) (stateful_known q.target.stateful)))))
-    (terms_end f q (mode_of q.target) q.earlier (λ g h. h))
+    (terms_end f q (mode_of q.target) (met_by f q.term q.earlier) (λ g h. any_kept g (λ u. not (apart f q.term u)) q.earlier h))

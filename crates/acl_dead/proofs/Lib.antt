@@ -1,3 +1,4 @@
+pub mod ApartLaws
 pub mod AxisLaws
 pub mod CutLaws
 pub mod DecisionLaws

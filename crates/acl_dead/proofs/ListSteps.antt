@@ -1,5 +1,5 @@
 -- Lists of references and of lists, as the code has them.
-use Rattle.std.proofs.Common.{append-nil, ◌≡◌, ℕ, ◌+◌, ◌<◌, ◌≤◌, drop, get_or, length, Bool, ◌||◌, List, [], ◌∷◌, ◌++◌, Bor, flat_map, map, refl, sym, ap, ◌∙◌}
+use Rattle.std.proofs.Common.{true, false, append-nil, ◌≡◌, ℕ, ◌+◌, ◌<◌, ◌≤◌, drop, get_or, length, Bool, ◌||◌, List, [], ◌∷◌, ◌++◌, Bor, flat_map, map, refl, sym, ap, ◌∙◌}
 use Rattle.std.proofs.lemmas.List.{append_assoc, drop_all, drop_more, map-append}
 use Rattle.std.specs.List.{list_any}
 use Rattle.acl_terms.specs.declared.terms.Term.{Term}
@@ -7,6 +7,9 @@ use Rattle.acl_packet.specs.declared.addresses.Family.{Family}
 use Rattle.acl_terms.specs.declared.options.Mode.{Mode}
 use Rattle.term_boxes.specs.Bars.{bars}
 use Rattle.term_boxes.specs.TermBoxes.{boxes_of, failing_boxes}
+use Rattle.std.proofs.lemmas.Grind.{flat_map-append}
+use Rattle.acl_dead.specs.ApartSteps.{apart}
+use Rattle.acl_dead.specs.BlockSteps.{met_by}
 use Rattle.term_boxes.specs.declared.boxes.PacketBox.{PacketBox}
 
 pub any_now : (p : Term → Bool) (ts : List (Bor Term)) → list_any (λ (t : Bor Term). p t.now) ts ≡ list_any p (map (λ (t : Bor Term). t.now) ts)
@@ -53,16 +56,44 @@ left_more g old new total items i x lt is put e =
 pub blocks_made : (f : Family) (mode other : Mode) (t : Term) (none first second : List (List PacketBox)) (bs fs out : List PacketBox)
     (ts us : List (Bor Term)) → none ≡ [] → first ≡ none ++ bs ∷ [] → second ≡ first ++ fs ∷ [] → bs ≡ bars f
     → fs ≡ failing_boxes f mode t → us ≡ ts → mode ≡ other
-    → out ≡ flat_map (λ (xs : List PacketBox). xs) second ++ flat_map (λ (u : Bor Term). boxes_of f mode u.now) us
-    → out ≡ (bars f ++ failing_boxes f other t) ++ flat_map (λ u. boxes_of f other u) (map (λ (u : Bor Term). u.now) ts)
+    → out ≡ flat_map (λ (xs : List PacketBox). xs) second ++ flat_map (λ u. boxes_of f mode u) (met_by f t (map (λ (u : Bor Term). u.now) us))
+    → out ≡ (bars f ++ failing_boxes f other t) ++ flat_map (λ u. boxes_of f other u) (met_by f t (map (λ (u : Bor Term). u.now) ts))
 blocks_made f mode other t none first second bs fs out ts us en ea eb ebs efs eu em h =
-    let earlier = flat_map (λ (u : Bor Term). boxes_of f mode u.now) us in
+    let earlier = flat_map (λ u. boxes_of f mode u) (met_by f t (map (λ (u : Bor Term). u.now) us)) in
     let flat : flat_map (λ (xs : List PacketBox). xs) second ≡ bars f ++ failing_boxes f mode t =
     ap (λ (xs : List (List PacketBox)). flat_map (λ (ys : List PacketBox). ys) xs)
     (eb ∙ ap (λ (xs : List (List PacketBox)). xs ++ fs ∷ []) (ea ∙ ap (λ (xs : List (List PacketBox)). xs ++ bs ∷ []) en))
     ∙ ap (λ (xs : List PacketBox). bs ++ xs) (append-nil fs) ∙ ap (λ (xs : List PacketBox). xs ++ fs) ebs
     ∙ ap (λ (xs : List PacketBox). bars f ++ xs) efs in
     h ∙ ap (λ (xs : List PacketBox). xs ++ earlier) flat
-    ∙ ap (λ (ws : List (Bor Term)). (bars f ++ failing_boxes f mode t) ++ flat_map (λ (u : Bor Term). boxes_of f mode u.now) ws) eu
-    ∙ ap (λ (xs : List PacketBox). (bars f ++ failing_boxes f mode t) ++ xs) (flat_now (λ u. boxes_of f mode u) ts)
-    ∙ ap (λ m. (bars f ++ failing_boxes f m t) ++ flat_map (λ u. boxes_of f m u) (map (λ (u : Bor Term). u.now) ts)) em
+    ∙ ap (λ (ws : List (Bor Term)). (bars f ++ failing_boxes f mode t) ++ flat_map (λ u. boxes_of f mode u) (met_by f t (map (λ (u : Bor Term). u.now) ws))) eu
+    ∙ ap (λ m. (bars f ++ failing_boxes f m t) ++ flat_map (λ u. boxes_of f m u) (met_by f t (map (λ (u : Bor Term). u.now) ts))) em
+
+-- ---- earlier terms, one more
+
+abbrev pub left_boxes : Family → Mode → Term → List (Bor Term) → List PacketBox
+left_boxes f mode t vs = flat_map (λ u. boxes_of f mode u) (met_by f t (map (λ (v : Bor Term). v.now) vs))
+
+next_left : (os : List (Bor Term)) (i : ℕ) (u : Bor Term) → i < length os → u ≡ get_or os i u → drop i os ≡ u ∷ drop (i + 1) os
+next_left os i u lt is = drop_more os i u lt ∙ ap (λ (v : Bor Term). v ∷ drop (i + 1) os) (sym is)
+
+pub apart_step : (f : Family) (mode : Mode) (t : Term) (os : List (Bor Term)) (i : ℕ) (u : Bor Term) (out total : List PacketBox) → i < length os
+    → u ≡ get_or os i u → apart f t u.now ≡ true → out ++ left_boxes f mode t (drop i os) ≡ total
+    → out ++ left_boxes f mode t (drop (i + 1) os) ≡ total
+apart_step f mode t os i u out total lt is off e =
+    let gone : left_boxes f mode t (u ∷ drop (i + 1) os) ≡ left_boxes f mode t (drop (i + 1) os) = rw off refl in
+    sym (ap (λ (vs : List (Bor Term)). out ++ left_boxes f mode t vs) (next_left os i u lt is) ∙ ap (λ (bs : List PacketBox). out ++ bs) gone) ∙ e
+
+pub met_step : (f : Family) (mode : Mode) (t : Term) (os : List (Bor Term)) (i : ℕ) (u : Bor Term) (old new : List (List PacketBox)) (b total : List PacketBox)
+    → i < length os → u ≡ get_or os i u → apart f t u.now ≡ false → b ≡ boxes_of f mode u.now → new ≡ old ++ b ∷ []
+    → flat_map (λ (xs : List PacketBox). xs) old ++ left_boxes f mode t (drop i os) ≡ total
+    → flat_map (λ (xs : List PacketBox). xs) new ++ left_boxes f mode t (drop (i + 1) os) ≡ total
+met_step f mode t os i u old new b total lt is met eb put e =
+    let rest = left_boxes f mode t (drop (i + 1) os) in
+    let flat = flat_map (λ (xs : List PacketBox). xs) old in
+    let here : left_boxes f mode t (u ∷ drop (i + 1) os) ≡ boxes_of f mode u.now ++ rest = rw met refl in
+    ap (λ (xs : List (List PacketBox)). flat_map (λ (ys : List PacketBox). ys) xs ++ rest) put
+    ∙ ap (λ (xs : List PacketBox). xs ++ rest) (flat_map-append (λ (ys : List PacketBox). ys) old (b ∷ [])
+    ∙ ap (λ (xs : List PacketBox). flat ++ xs) (append-nil b ∙ eb))
+    ∙ append_assoc flat (boxes_of f mode u.now) rest
+    ∙ sym (ap (λ (vs : List (Bor Term)). flat ++ left_boxes f mode t vs) (next_left os i u lt is) ∙ ap (λ (bs : List PacketBox). flat ++ bs) here) ∙ e

@@ -1,3 +1,4 @@
+pub mod ApartSteps
 pub mod BlockSteps
 pub mod CoordinateSteps
 pub mod Deciding

@@ -1,10 +1,11 @@
 ghost use Rattle.std.specs.Prelude.{◌≡◌, ◌++◌, IfOk, OnOk, map, flat_map};
 ghost use Rattle.acl_terms.specs.Outcomes.{mode_of};
-ghost use Rattle.acl_dead.specs.BlockSteps.{blocks_of, boxes_in};
+ghost use Rattle.acl_dead.specs.BlockSteps.{blocks_of, boxes_in, met_by};
 ghost use Rattle.acl_dead.specs.SideSteps.{side_of};
 ghost use Rattle.acl_dead.specs.QuestionSteps.{question};
 ghost use Rattle.term_boxes.specs.TermBoxes.{own_box, boxes_of};
 
+use crate::apartness::are_apart;
 use crate::coordinates::Coordinate;
 use crate::questions::Asked;
 use crate::sides::side_of;
@@ -27,12 +28,17 @@ fn push_earlier(
     out: &mut Vec<Items<PacketBox>>,
     family: Family,
     mode: Mode,
-    terms: &[&Term],
+    term: &Term,
+    earlier: &[&Term],
 ) -> Result<(), Memory>
-    ensures { OnOk result (boxes_in out.new ≡ boxes_in out.old ++ flat_map (λ t. boxes_of family mode t.now) terms.now) }
+    ensures { OnOk result (boxes_in out.new ≡ boxes_in out.old
+        ++ flat_map (λ t. boxes_of family mode t) (met_by family term.now (map (λ t. t.now) earlier.now))) }
 {
-    for term in terms {
-        out.push(boxes_of(alloc, family, mode, term)?)?;
+    for other in earlier {
+        if are_apart(alloc, family, term, other)? {
+            continue;
+        }
+        out.push(boxes_of(alloc, family, mode, other)?)?;
     }
     Ok(())
 }
@@ -45,7 +51,7 @@ fn boxes_for(alloc: Global, family: Family, asked: &Asked) -> Result<Vec<Items<P
     let mut out = Vec::new(alloc);
     out.push(bars(alloc, family)?)?;
     out.push(failing_boxes(alloc, family, mode, asked.term)?)?;
-    push_earlier(alloc, &mut out, family, mode, &asked.earlier)?;
+    push_earlier(alloc, &mut out, family, mode, asked.term, &asked.earlier)?;
     Ok(out)
 }
 

@@ -12,8 +12,8 @@ use acl_terms::{Term, destination_in, either_in, set_in, source_in};
 use acl_text::Memory;
 use std::alloc::Global;
 
-// The set by which the term cuts the numbers of the coordinate.
-fn set_along(coordinate: Coordinate, family: Family, term: &Term) -> Option<&RangeSet>
+/// The set by which the term cuts the numbers of the coordinate.
+pub(crate) fn set_along(coordinate: Coordinate, family: Family, term: &Term) -> Option<&RangeSet>
     ensures { option_map (λ s. s.now) result ≡ set_along coordinate family term.now }
 {
     match coordinate {

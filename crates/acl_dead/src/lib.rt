@@ -1,6 +1,7 @@
 //! Dead terms: for a term and a target a packet that the term decides there, or that there is none.
 #![tactic(auto)]
 
+mod apartness;
 mod blocking;
 mod coordinates;
 mod cutting;
