@@ -1,10 +1,9 @@
--- The parts of a request of acltool.
-use Rattle.acl_packet.specs.declared.addresses.Family.{Family}
-use Rattle.acl_options.specs.Commands.{Inputs}
-use Rattle.acl_options.specs.ToolCommands.{ToolRequest, Speedway}
+-- Requests that words ask for.
+use Rattle.std.specs.Prelude.{ℕ, ◌≤◌}
+use Rattle.acl_options.specs.ToolCommands.{ToolRequest, Speedway, Dead, Standard}
 
-abbrev pub inputs_for : ToolRequest → Inputs
-inputs_for (Speedway inputs family) = inputs
-
-abbrev pub family_for : ToolRequest → Family
-family_for (Speedway inputs family) = family
+-- Lists are numbered from 1 on.
+abbrev pub IsAskable : ToolRequest → Type 0
+IsAskable (Speedway inputs family) = Unit {0}
+IsAskable (Dead inputs) = Unit {0}
+IsAskable (Standard inputs first) = 1 ≤ first

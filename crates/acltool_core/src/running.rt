@@ -8,6 +8,7 @@ use crate::program::AclTool;
 use acl_host::{Clock, Sink, Tree};
 use acl_printing::finish;
 use acl_run::Ended;
+use dead_job::dead_answers_are_one;
 use std::alloc::Global;
 
 /// The whole run: the words are read as `acl_options::read_tool_command` reads them, the naming files and the policy are
@@ -26,6 +27,7 @@ pub fn acltool<T: Tree, O: Sink, E: Sink, C: Clock>(
         (world_of T.Tree O.Sink E.Sink C.Clock tree.old out.old err.old clock.old)
         (world_of T.Tree O.Sink E.Sink C.Clock tree.new out.new err.new clock.new) result }
 {
+    dead_answers_are_one();
     let decision = decide(alloc, words, tree, clock);
     finish::<AclTool, O, E>(decision, out, err)
 }

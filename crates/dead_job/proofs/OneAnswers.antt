@@ -38,6 +38,7 @@ questions xs = map (λ (x : TermAnswer). x.question) xs
 
 one-list : AnswersAreOne → (today : Day) (xs ys : List TermAnswer) → questions xs ≡ questions ys → AllByRecursion (IsAnswered today) xs
     → AllByRecursion (IsAnswered today) ys → xs ≡ ys
+unfolding first-or behind
 one-list one today [] [] e h k = refl
 one-list one today [] (y ∷ ys) e h k = absurd (cons-nil y.question (questions ys) (sym e))
 one-list one today (x ∷ xs) [] e h k = absurd (cons-nil x.question (questions xs) e)

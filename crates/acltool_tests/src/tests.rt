@@ -1,0 +1,4 @@
+mod commands;
+mod runs;
+mod usage;
+mod words;
