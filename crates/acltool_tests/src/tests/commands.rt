@@ -4,7 +4,8 @@ use std::test::Fail;
 const RESTORE: &str =
     " speedway --policy_file pol/a.pol --definitions_directory def --family inet --date 2026-01-15";
 
-const RESTORE_SIX: &str = " speedway --policy_file pol/a.pol --definitions_directory def --family inet6";
+const RESTORE_SIX: &str =
+    " speedway --policy_file pol/a.pol --definitions_directory def --family inet6";
 
 const DEAD: &str = " dead --policy_file pol/a.pol --definitions_directory def --date 2026-01-15";
 
@@ -230,12 +231,18 @@ fn a_failure_outside_is_told(rt: HostRuntime) -> Result<(), Fail> {
             out: b"",
             err: b"acltool: read failed\n",
         };
-        assert!(rt; is_left(rt.alloc(), &unread, &Calls { read: 1, ..NONE })?, "{words}");
+        assert!(rt;
+            is_left(rt.alloc(), &unread, &Calls { read: 1, ..NONE })?,
+            "{words}"
+        );
         let untold = Case {
             err: b"acltool: output failed\n",
             ..unread
         };
-        assert!(rt; is_left(rt.alloc(), &untold, &Calls { out: 1, ..NONE })?, "{words}");
+        assert!(rt;
+            is_left(rt.alloc(), &untold, &Calls { out: 1, ..NONE })?,
+            "{words}"
+        );
     }
     Ok(())
 }

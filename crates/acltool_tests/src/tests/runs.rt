@@ -11,7 +11,8 @@ use std::alloc::Global;
 
 const NETWORKS: &[u8] = b"WEB = 192.0.2.10\nLOW = 10.0.0.0/25\nHIGH = 10.0.0.128/25\n";
 
-const SERVICES: &[u8] = b"HTTP = 80/tcp\nMANY = 1/tcp 3/tcp 5/tcp 7/tcp 9/tcp 11/tcp 13/tcp 15/tcp\n";
+const SERVICES: &[u8] =
+    b"HTTP = 80/tcp\nMANY = 1/tcp 3/tcp 5/tcp 7/tcp 9/tcp 11/tcp 13/tcp 15/tcp\n";
 
 // A run, and what it is to leave: its status and what stands on the two streams.
 #[derive(Clone, Copy)]
