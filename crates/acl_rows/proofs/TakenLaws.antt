@@ -2,7 +2,7 @@
 use Rattle.std.proofs.Common.{◌≡◌, ℕ, zero, suc, ◌+◌, ◌<◌, ◌≤◌, Bool, true, false, cond, ◌==◌, List, [], ◌∷◌, ◌++◌, length, take, drop, get_or, Option, None, Some, is_none, refl, ap, sym, ◌∙◌, append_assoc, subst, arith}
 use Rattle.std.specs.List.{common_prefix_len}
 use Rattle.std.proofs.lemmas.Bool.{eqb-true, eq-eqb, false≢true}
-use Rattle.std.proofs.lemmas.List.{length-drop, length-take, drop-drop, take_more}
+use Rattle.std.proofs.lemmas.List.{drop-drop, length-drop, take-append-drop, take_more}
 use Rattle.std.proofs.lemmas.List.Sums.{common_prefix_len-le}
 use Rattle.std.proofs.lemmas.Option.{same_Some}
 use Rattle.std.proofs.Math.Seq.{take-add, take-length}
@@ -80,17 +80,12 @@ pub first_fault : (other : Option ℕ) → is_none other ≡ true → Rose (faul
 first_fault None h = omega arith
 first_fault (Some byte) h = absurd (false≢true h)
 
--- all of a piece was taken: the bytes are its text where they end there
-pub all_taken : (bytes text : List ℕ) (place : ℕ) (other : Option ℕ) → place ≤ length bytes → is_none other ≡ true
-    → Some (taken bytes place other) ≡ Some text → (place ≡ length bytes → bytes ≡ text) × (bytes ≡ text → place ≡ length bytes)
-all_taken bytes text place None fits h e =
-    let same : take place bytes ≡ text = same_Some (take place bytes) text e in (
-      λ f. sym (ap (λ n. take n bytes) f ∙ take-length bytes) ∙ same,
-      λ f.
-          let long : length (take place bytes) ≡ length bytes = ap length (same ∙ sym f) in
-          omega (arith, long, length-take place bytes, fits),
-    )
-all_taken bytes text place (Some byte) fits h e = absurd (false≢true h)
+-- all of a piece was taken: the bytes begin with it
+pub all_taken : (bytes text : List ℕ) (place : ℕ) (other : Option ℕ) → is_none other ≡ true → Some (taken bytes place other) ≡ Some text
+    → bytes ≡ text ++ drop place bytes
+all_taken bytes text place None h e =
+    sym (take-append-drop place bytes) ∙ ap (λ t. t ++ drop place bytes) (same_Some (take place bytes) text e)
+all_taken bytes text place (Some byte) h e = absurd (false≢true h)
 
 front_differs : (bytes : List ℕ) (place byte n : ℕ) → place ≤ length bytes → take place bytes ++ byte ∷ [] ≡ take n bytes
     → (more : List ℕ) × (drop place bytes ≡ byte ∷ more)
@@ -101,10 +96,16 @@ front_differs [] (suc place) byte n h e = absurd (omega arith)
 front_differs (b ∷ bs) (suc place) byte zero h e = absurd cc
 front_differs (b ∷ bs) (suc place) byte (suc n) h e = front_differs bs place byte n (omega arith) cc
 
--- a byte differed: the bytes are not the piece's text
-pub none_taken : (own bytes text : List ℕ) (place : ℕ) (other : Option ℕ) → own ≡ bytes → IsCompared own place other
-    → is_none other ≡ false → AppendsFront text (Some []) (taken own place other) → bytes ≡ text → ⊥
-none_taken own bytes text place None r c h f e = false≢true (sym h)
-none_taken own bytes text place (Some byte) r c h f e =
-    let d = front_differs own place byte f.0 c.fits (f.1 ∙ ap (take f.0) (sym (r ∙ e))) in
+front_of : (n : ℕ) (text rest : List ℕ) → (m : ℕ) × (take n text ≡ take m (text ++ rest))
+front_of zero text rest = (0, refl)
+front_of (suc n) [] rest = (0, refl)
+front_of (suc n) (t ∷ ts) rest = let f = front_of n ts rest in (suc f.0, ap (λ x. t ∷ x) f.1)
+
+-- a byte differed: the bytes do not begin with the piece's text
+pub none_taken : (own bytes text rest : List ℕ) (place : ℕ) (other : Option ℕ) → own ≡ bytes → IsCompared own place other
+    → is_none other ≡ false → AppendsFront text (Some []) (taken own place other) → bytes ≡ text ++ rest → ⊥
+none_taken own bytes text rest place None r c h f e = false≢true (sym h)
+none_taken own bytes text rest place (Some byte) r c h f e =
+    let within = front_of f.0 text rest in
+    let d = front_differs own place byte within.0 c.fits (f.1 ∙ within.1 ∙ ap (take within.0) (sym (r ∙ e))) in
     c.differs byte refl d.0 d.1

@@ -7,4 +7,5 @@ pub mod PortRanges
 pub mod PrefixCheckSteps
 pub mod RowSteps
 pub mod Rows
+pub mod Scans
 pub mod RuleParts

@@ -1,4 +1,4 @@
-ghost use Rattle.std.specs.Prelude.{◌≡◌, ◌+◌, ◌≤◌, ◌↔◌, refl, IsTrue, length, is_none, Some, ◌==◌};
+ghost use Rattle.std.specs.Prelude.{◌≡◌, ◌+◌, ◌≤◌, ◌↔◌, ◌++◌, ℕ, List, refl, IfNone, IfSome, IsTrue, length, is_none, Some, ◌==◌};
 ghost use Rattle.std.specs.List.{common_prefix_len};
 ghost use Rattle.std.proofs.Common.{◌∙◌};
 ghost use Rattle.acl_rows.specs.Rows.{text_of_rows};
@@ -11,14 +11,27 @@ use acl_text::{Out, PutFault};
 pub fn is_text_of<R: Rows>(bytes: &[u8], rows: &R) -> bool
     ensures { IsTrue result ↔ (bytes.now ≡ text_of_rows (R.rows rows.now)) }
 {
+    match rows_behind(bytes, rows) {
+        Some(rest) => rest.is_empty(),
+        None => false,
+    }
+}
+
+/// What the bytes have behind the text of the rows, where they begin with it.
+pub fn rows_behind<'a, R: Rows>(bytes: &'a [u8], rows: &R) -> Option<&'a [u8]>
+    ensures some { IfSome result (λ rest.
+        bytes.now ≡ text_of_rows (R.rows rows.now) ++ rest.now) }
+    ensures none { IfNone result ((rest : List ℕ)
+        → bytes.now ≡ text_of_rows (R.rows rows.now) ++ rest → ⊥) }
+{
     let mut out = Comparing {
         text: bytes,
         place: 0,
         other: None,
     };
     match rows.put_rows(&mut out) {
-        Ok(()) => out.place == bytes.len(),
-        Err(_) => false,
+        Ok(()) => Some(&bytes[out.place..]),
+        Err(_) => None,
     }
 }
 

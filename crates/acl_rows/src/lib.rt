@@ -19,9 +19,10 @@ mod prefix_checks;
 mod row_words;
 mod rows;
 mod rule_parts;
+mod scanning;
 
 pub use apart::{are_distinct, are_distinct_names};
-pub use comparing::is_text_of;
+pub use comparing::{is_text_of, rows_behind};
 pub use drafts::{DocumentDraft, Draft};
 pub use each_word::{EachWord, WordForm};
 pub use family_words::{families_of, family_named};
@@ -41,3 +42,4 @@ pub use rule_parts::{
     ACK, End, LogWord, RST, SYN, admit_addresses, admit_ports, has_port_proto, is_empty, is_proto,
     number_fits, number_holds, state_holds,
 };
+pub use scanning::{Scan, SectionVerdict, TakenSection};

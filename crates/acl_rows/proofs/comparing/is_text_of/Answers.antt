@@ -1,12 +1,11 @@
+use Rattle.std.proofs.Common.{[], sym, ◌∙◌, append-nil}
 use Rattle.std.proofs.lemmas.Bool.{false≢true}
 use Rattle.acl_rows.specs.Rows.{text_of_rows}
-use Rattle.acl_rows.proofs.TakenLaws.{none_taken}
 use Rattle.acl_rows.proofs.comparing.is_text_of.Goals as goal
 
-pub returns-in-Err : goal.returns-in-Err
-returns-in-Err g c =
-    let out = c.put_rows.new.out in
-    let puts = c.in-Err.ensures in (
+pub returns-in-None : goal.returns-in-None
+returns-in-None g c =
+    let text = text_of_rows (g.R.Rows.rows c.args.rows.now) in (
       λ h. absurd (false≢true h),
-      λ e. absurd (none_taken out.text.now c.args.bytes.now (text_of_rows (g.R.Rows.rows c.args.rows.now)) out.place out.other puts.rest out.is_compared puts.closed puts.err e),
+      λ e. absurd (c.in-None.ensures.none [] (e ∙ sym (append-nil text))),
     )
