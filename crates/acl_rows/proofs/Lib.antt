@@ -8,5 +8,6 @@ pub mod OutcomeLaws
 pub mod PortRangeLaws
 pub mod PutLaws
 pub mod RowLaws
+pub mod ScanLaws
 pub mod TakenLaws
 pub mod WordLaws

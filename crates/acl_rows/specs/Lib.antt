@@ -7,5 +7,6 @@ pub mod PortRanges
 pub mod PrefixCheckSteps
 pub mod RowSteps
 pub mod Rows
+pub mod ScanSteps
 pub mod Scans
 pub mod RuleParts

@@ -42,4 +42,4 @@ pub use rule_parts::{
     ACK, End, LogWord, RST, SYN, admit_addresses, admit_ports, has_port_proto, is_empty, is_proto,
     number_fits, number_holds, state_holds,
 };
-pub use scanning::{Scan, SectionVerdict, TakenSection};
+pub use scanning::{Scan, SectionVerdict, TakenSection, find_section};
