@@ -33,9 +33,10 @@ use Rattle.acl_policy.specs.declared.raw_terms.RawTerm.{RawTerm}
 use Rattle.acl_target.specs.declared.targets.Kind.{Kind}
 use Rattle.acl_target.specs.declared.targets.Target.{Target}
 use Rattle.acl_terms.specs.declared.terms.Term.{Term}
-use Rattle.acl_verdicts.specs.AnswerSteps.{Finds, answered, block_lines, decided_line, decided_of, named_line, target_lines}
+use Rattle.acl_rows.specs.Scans.{Finds}
+use Rattle.acl_rows.specs.declared.scanning.SectionVerdict.{SectionVerdict}
+use Rattle.acl_verdicts.specs.AnswerSteps.{answered, block_lines, decided_line, decided_of, named_line, target_lines}
 use Rattle.acl_verdicts.specs.CheckAnswers.{AsksPolicyOf, AsksSection, CheckAnswer, MakesText, OfPolicy, OfSection, answer_text}
-use Rattle.acl_verdicts.specs.declared.sections.SectionVerdict.{SectionVerdict}
 use Rattle.acl_verdicts.specs.PolicyAnswers.{Answered, AnswersPolicy, IsAnswered, PolicyAnswer, answer_line, asked_of}
 use Rattle.acl_verdicts.specs.SectionAnswers.{AnswersBytes, AnswersSection, MOST_OF_TEXT, section_line}
 use Rattle.acl_verdicts.proofs.DeciderLaws.{decided-as-written}

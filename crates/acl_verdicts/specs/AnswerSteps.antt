@@ -13,8 +13,6 @@ use Rattle.acl_terms.specs.Outcomes.{decides, expressed_on, outcome_of}
 use Rattle.acl_terms.specs.declared.terms.Term.{Term}
 use Rattle.acl_verdicts.specs.Deciders.{Decided}
 use Rattle.acl_verdicts.specs.PolicyAnswers.{Answered, decider_text, outcome_text}
-use Rattle.acl_verdicts.specs.declared.sections.SectionVerdict.{SectionVerdict}
-use Rattle.acl_verdicts.specs.declared.sections.SectionVerdict.TheVariants as found
 
 -- The first term that decides.
 abbrev pub deciding_term : Target → Day → Packet → List Term → Option Term
@@ -44,9 +42,3 @@ block_lines today p b = flat_map (target_lines today p b.1) b.0.targets
 
 abbrev pub answered : Day → Packet → FilterRequest → Answered
 answered today p r = record { request = r; decided = decided_of r.target today p r.terms }
-
--- What is found of a section of a text: no document, no such section for the packet, or what it does.
-abbrev pub Finds : {S : Type 0} → (List S → Type 0) → (List S → Option Outcome) → SectionVerdict → Type 0
-Finds {S = S} Spells outcome found.NoDocument = (doc : List S) → Spells doc → ⊥
-Finds {S = S} Spells outcome found.NoSection = (doc : List S) × Spells doc × (outcome doc ≡ None)
-Finds {S = S} Spells outcome (found.Decides o) = (doc : List S) × Spells doc × (outcome doc ≡ Some o)

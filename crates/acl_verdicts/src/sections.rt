@@ -5,8 +5,7 @@ ghost use Rattle.acl_load.specs.LoadFaults.{LoadsFiles, fails_to_list};
 ghost use Rattle.acl_languages.specs.PlatformLanguages.{SectionOn, SpellsOn, outcome_on};
 ghost use Rattle.acl_options.specs.CodeViews.{section_view};
 ghost use Rattle.acl_packet.specs.Packets.{IsPacket};
-ghost use Rattle.acl_rows.specs.Documents.{SpellsRows, outcome_at};
-ghost use Rattle.acl_verdicts.specs.AnswerSteps.{Finds};
+ghost use Rattle.acl_rows.specs.Scans.{Finds};
 ghost use Rattle.acl_verdicts.specs.CheckAnswers.{AsksSection, MakesText};
 ghost use Rattle.acl_verdicts.specs.SectionAnswers.{AnswersBytes, section_line};
 
@@ -15,7 +14,7 @@ use acl_host::{Tree, read_whole};
 use acl_load::LoadFault;
 use acl_options::FileSection;
 use acl_packet::{Outcome, Packet};
-use acl_rows::{Language, outcome, read_document};
+use acl_rows::{SectionVerdict, find_section};
 use acl_target::Kind;
 use acl_text::{Code, Fault, Memory, Out, PutFault, Rejection, Whole, put_number};
 use cisco_lang::Cisco;
@@ -28,38 +27,7 @@ use std::alloc::Global;
 // The most bytes of the text.
 const MOST_OF_TEXT: usize = 16_777_216;
 
-/// What is found of a section of a text.
-#[derive(Clone, Copy, Debug, PartialEq, Eq)]
-pub enum SectionVerdict {
-    /// The text spells no document of the language.
-    NoDocument,
-    /// Its document has no such section, or none for packets of this family.
-    NoSection,
-    /// The section does this to the packet.
-    Decides(Outcome),
-}
-
-// What the section at the place, counted from 0, of the text does to the packet. The text is read once.
-fn find_in<L: Language>(
-    alloc: Global,
-    text: &[u8],
-    which: usize,
-    packet: &Packet,
-) -> Result<SectionVerdict, Memory>
-    requires { IsPacket packet.now }
-    ensures { IfOk result (Finds (SpellsRows L.is_section L.names L.rows text.now)
-        (λ (doc : List L.Section). outcome_at L.outcome doc which packet.now)) }
-{
-    let Some(doc) = read_document::<L>(alloc, text)? else {
-        return Ok(SectionVerdict::NoDocument);
-    };
-    match outcome::<L>(&doc, which, packet) {
-        Some(outcome) => Ok(SectionVerdict::Decides(outcome)),
-        None => Ok(SectionVerdict::NoSection),
-    }
-}
-
-// The same in the language of a platform.
+// What the section at the place, counted from 0, of the text does to the packet, in the language of the platform.
 fn find_on(
     alloc: Global,
     kind: Kind,
@@ -72,10 +40,10 @@ fn find_on(
         (λ (doc : List (SectionOn kind)). outcome_on kind doc which packet.now)) }
 {
     match kind {
-        Kind::Cisco => find_in::<Cisco>(alloc, text, which, packet),
-        Kind::Juniper => find_in::<Junos>(alloc, text, which, packet),
-        Kind::Iptables => find_in::<Iptables>(alloc, text, which, packet),
-        Kind::Nftables => find_in::<Nftables>(alloc, text, which, packet),
+        Kind::Cisco => find_section::<Cisco>(alloc, text, which, packet),
+        Kind::Juniper => find_section::<Junos>(alloc, text, which, packet),
+        Kind::Iptables => find_section::<Iptables>(alloc, text, which, packet),
+        Kind::Nftables => find_section::<Nftables>(alloc, text, which, packet),
     }
 }
 

@@ -5,16 +5,16 @@ use Rattle.acl_verdicts.proofs.sections.find_on.Goals as goal
 
 pub returns-in-Cisco : goal.returns-in-Cisco
 returns-in-Cisco c =
-    subst (λ (k : Kind). IfOk c.find_in.result (λ v. FoundOn c.args.text.now c.args.which c.args.packet.now v k)) (sym c.in-Cisco.is) c.find_in.ensures
+    subst (λ (k : Kind). IfOk c.find_section.result (λ v. FoundOn c.args.text.now c.args.which c.args.packet.now v k)) (sym c.in-Cisco.is) c.find_section.ensures
 
 pub returns-in-Juniper : goal.returns-in-Juniper
 returns-in-Juniper c =
-    subst (λ (k : Kind). IfOk c.find_in-in-Juniper.result (λ v. FoundOn c.args.text.now c.args.which c.args.packet.now v k)) (sym c.in-Juniper.is) c.find_in-in-Juniper.ensures
+    subst (λ (k : Kind). IfOk c.find_section-in-Juniper.result (λ v. FoundOn c.args.text.now c.args.which c.args.packet.now v k)) (sym c.in-Juniper.is) c.find_section-in-Juniper.ensures
 
 pub returns-in-Iptables : goal.returns-in-Iptables
 returns-in-Iptables c =
-    subst (λ (k : Kind). IfOk c.find_in-in-Iptables.result (λ v. FoundOn c.args.text.now c.args.which c.args.packet.now v k)) (sym c.in-Iptables.is) c.find_in-in-Iptables.ensures
+    subst (λ (k : Kind). IfOk c.find_section-in-Iptables.result (λ v. FoundOn c.args.text.now c.args.which c.args.packet.now v k)) (sym c.in-Iptables.is) c.find_section-in-Iptables.ensures
 
 pub returns-in-Nftables : goal.returns-in-Nftables
 returns-in-Nftables c =
-    subst (λ (k : Kind). IfOk c.find_in-in-Nftables.result (λ v. FoundOn c.args.text.now c.args.which c.args.packet.now v k)) (sym c.in-Nftables.is) c.find_in-in-Nftables.ensures
+    subst (λ (k : Kind). IfOk c.find_section-in-Nftables.result (λ v. FoundOn c.args.text.now c.args.which c.args.packet.now v k)) (sym c.in-Nftables.is) c.find_section-in-Nftables.ensures
