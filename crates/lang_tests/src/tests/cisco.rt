@@ -1,6 +1,6 @@
 use crate::tests::languages::{
     ACCEPTED, ACK, Change, DENIED, LOGGED, PACKET, PACKET_OF_SIX, PING, SOLICITATION, SYN, Walk,
-    expect_changes, expect_walks,
+    expect_changes, expect_scans, expect_walks,
 };
 use acl_packet::{Outcome, Packet};
 use cisco_lang::Cisco;
@@ -220,5 +220,6 @@ static WALKS: [Walk; 18] = [
 fn texts_are_read_refused_and_walked(rt: HostRuntime) -> Result<(), Fail> {
     expect_changes::<Cisco>(&rt, rt.alloc(), DOCUMENT, &READ, true)?;
     expect_changes::<Cisco>(&rt, rt.alloc(), DOCUMENT, &REFUSED, false)?;
-    expect_walks::<Cisco>(&rt, rt.alloc(), &WALKS)
+    expect_walks::<Cisco>(&rt, rt.alloc(), &WALKS)?;
+    expect_scans::<Cisco>(&rt, rt.alloc(), DOCUMENT, &READ, &REFUSED, &WALKS)
 }

@@ -1,6 +1,6 @@
 use crate::tests::languages::{
     ACCEPTED, ACK, Change, DENIED, LOGGED, PACKET, PACKET_OF_SIX, PING, REJECTED, RESET,
-    SOLICITATION, SYN, Walk, expect_changes, expect_walks,
+    SOLICITATION, SYN, Walk, expect_changes, expect_scans, expect_walks,
 };
 use acl_packet::{Conn, Outcome, Packet, Verdict};
 use ipt_lang::Iptables;
@@ -306,5 +306,6 @@ const UNREACHABLE: Packet = Packet { itype: 3, ..PING };
 fn texts_are_read_refused_and_walked(rt: HostRuntime) -> Result<(), Fail> {
     expect_changes::<Iptables>(&rt, rt.alloc(), DOCUMENT, &READ, true)?;
     expect_changes::<Iptables>(&rt, rt.alloc(), DOCUMENT, &REFUSED, false)?;
-    expect_walks::<Iptables>(&rt, rt.alloc(), &WALKS)
+    expect_walks::<Iptables>(&rt, rt.alloc(), &WALKS)?;
+    expect_scans::<Iptables>(&rt, rt.alloc(), DOCUMENT, &READ, &REFUSED, &WALKS)
 }

@@ -1,6 +1,6 @@
 use crate::tests::languages::{
     ACCEPTED, ACK, Change, DENIED, LOGGED, PACKET, PING, REJECTED, RESET, SOLICITATION, SYN, Walk,
-    expect_changes, expect_walks,
+    expect_changes, expect_scans, expect_walks,
 };
 use acl_packet::Packet;
 use junos_lang::Junos;
@@ -303,5 +303,6 @@ static WALKS: [Walk; 16] = [
 fn texts_are_read_refused_and_walked(rt: HostRuntime) -> Result<(), Fail> {
     expect_changes::<Junos>(&rt, rt.alloc(), DOCUMENT, &READ, true)?;
     expect_changes::<Junos>(&rt, rt.alloc(), DOCUMENT, &REFUSED, false)?;
-    expect_walks::<Junos>(&rt, rt.alloc(), &WALKS)
+    expect_walks::<Junos>(&rt, rt.alloc(), &WALKS)?;
+    expect_scans::<Junos>(&rt, rt.alloc(), DOCUMENT, &READ, &REFUSED, &WALKS)
 }

@@ -1,5 +1,5 @@
 use acl_packet::{Conn, Family, Outcome, Packet, Verdict, is_packet};
-use acl_rows::{Language, outcome, read_document, sections};
+use acl_rows::{Language, Scan, SectionVerdict, find_section, outcome, read_document, sections};
 use acl_text::Memory;
 use std::alloc::Global;
 use std::process::Abort;
@@ -141,4 +141,67 @@ pub(crate) fn expect_walks<L: Language>(
         assert_eq!(rt; found, *wanted, "walk {place}");
     }
     Ok(())
+}
+
+// The same, where no document is held. `None` also for what is no text, no section and no packet.
+fn verdict_in<L: Scan>(
+    alloc: Global,
+    text: &str,
+    which: usize,
+    packet: &Packet,
+) -> Result<Option<SectionVerdict>, Memory> {
+    if is_packet(packet) {
+        Ok(Some(find_section::<L>(alloc, text.as_bytes(), which, packet)?))
+    } else {
+        Ok(None)
+    }
+}
+
+fn expect_scanned_changes<L: Scan>(
+    rt: &impl Abort,
+    alloc: Global,
+    document: &str,
+    changes: &[Change],
+    is_read: bool,
+) -> Result<(), Fail> {
+    for change in changes {
+        let text = document.replace(alloc, change.0, change.1)?;
+        let found = verdict_in::<L>(alloc, text.as_str(), 0, &PACKET)?;
+        assert!(rt;
+            (found != Some(SectionVerdict::NoDocument)) == is_read,
+            "{} in place of {}",
+            change.1,
+            change.0
+        );
+    }
+    Ok(())
+}
+
+fn expect_scanned_walks<L: Scan>(
+    rt: &impl Abort,
+    alloc: Global,
+    walks: &[Walk],
+) -> Result<(), Fail> {
+    for (place, (text, which, packet, wanted)) in walks.iter().enumerate() {
+        let decided = match verdict_in::<L>(alloc, text, *which, packet)? {
+            Some(SectionVerdict::Decides(outcome)) => Some(outcome),
+            _ => None,
+        };
+        assert_eq!(rt; decided, *wanted, "walk {place}");
+    }
+    Ok(())
+}
+
+// Texts are documents, are none, and decide packets where no document is held as where one is.
+pub(crate) fn expect_scans<L: Scan>(
+    rt: &impl Abort,
+    alloc: Global,
+    document: &str,
+    read: &[Change],
+    refused: &[Change],
+    walks: &[Walk],
+) -> Result<(), Fail> {
+    expect_scanned_changes::<L>(rt, alloc, document, read, true)?;
+    expect_scanned_changes::<L>(rt, alloc, document, refused, false)?;
+    expect_scanned_walks::<L>(rt, alloc, walks)
 }

@@ -1,6 +1,6 @@
 use crate::tests::languages::{
     ACCEPTED, ACK, Change, DENIED, PACKET, PACKET_OF_SIX, PING, REJECTED, RESET, SOLICITATION, SYN,
-    Walk, expect_changes, expect_walks,
+    Walk, expect_changes, expect_scans, expect_walks,
 };
 use acl_packet::{Conn, Outcome, Packet};
 use nft_lang::Nftables;
@@ -262,5 +262,6 @@ static WALKS: [Walk; 17] = [
 fn texts_are_read_refused_and_walked(rt: HostRuntime) -> Result<(), Fail> {
     expect_changes::<Nftables>(&rt, rt.alloc(), DOCUMENT, &READ, true)?;
     expect_changes::<Nftables>(&rt, rt.alloc(), DOCUMENT, &REFUSED, false)?;
-    expect_walks::<Nftables>(&rt, rt.alloc(), &WALKS)
+    expect_walks::<Nftables>(&rt, rt.alloc(), &WALKS)?;
+    expect_scans::<Nftables>(&rt, rt.alloc(), DOCUMENT, &READ, &REFUSED, &WALKS)
 }
