@@ -86,7 +86,7 @@ entry_safe f e h =
 
 -- ---- rows
 
-item_safe : (f : Family) (i : Item) → IsItem f i → AreRows (item_rows f i)
+pub item_safe : (f : Family) (i : Item) → IsItem f i → AreRows (item_rows f i)
 unfolding item_rows entry_words
 item_safe f (Remark text) h = search (word, text_words text h)
 item_safe f (AnEntry e) h = (record { start = action_starts e.permit _; words = entry_safe f e h }, tt) where
