@@ -200,7 +200,7 @@ or_false : (b : Bool) → b ≡ (b || (false || false))
 or_false true = refl
 or_false false = refl
 
-abbrev with : Bool → Option Outcome → Walked
+abbrev pub with : Bool → Option Outcome → Walked
 with b o = record { has_entries = b; first = o }
 
 walked_more : (is : List Item) (i : Item) (p : Packet) → walk_on (walked_by is p) (entry_part i) p ≡ walked_by (is ++ i ∷ []) p
@@ -210,6 +210,10 @@ walked_more is (Remark text) p =
 walked_more is (AnEntry e) p =
     let has = or_true (has_entries is) ∙ sym (list_any-append is_entry is (AnEntry e ∷ [])) in
     ap (λ b. with b (or_entry (first_holding is p) e p)) has ∙ ap (with (has_entries (is ++ AnEntry e ∷ []))) (first_more is e p)
+
+pub nothing_so_far : (f : Family) (p : Packet) (text : List ℕ) → (is : List Item) × ItemsSoFar f p text text (with false None) is
+unfolding first_holding
+nothing_so_far f p text = ([], record { valid = tt; written = refl; known = refl })
 
 -- one item more
 pub so_far_more : (f : Family) (p : Packet) (text rest more : List ℕ) (w : Walked) (entry : Option Entry) (is : List Item)

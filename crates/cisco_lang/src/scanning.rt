@@ -20,7 +20,6 @@ use std::alloc::Global;
 /// The text of a section is read row by row. A row is compared with that of the item that it is read as, and no item is held
 /// when the next one is read.
 impl Scan for Cisco {
-    #[tactic(auto, using(crate::proofs::SectionScanLaws::no_heading, crate::proofs::SectionScanLaws::no_lists, crate::proofs::SectionScanLaws::section_taken))]
     fn take_section<'a>(
         _alloc: Global,
         text: &'a [u8],
