@@ -116,7 +116,7 @@ lists_read ss name Mixed k (l ∷ m ∷ []) e h =
     (ap (read middle) (append-nil (list_rows m)) ∙ list_read ss (so_far name Mixed (l ∷ [])) no_list m h.1.0 ∙ ap (λ f. end_section (is_last Mixed f) (at ss (so_far name Mixed (l ∷ m ∷ [])) no_list)) six)
 lists_read ss name Mixed k (l ∷ m ∷ n ∷ ls) e h = absurd cc
 
-families_again : (fs : Families) → families_in (families_word fs) ≡ fs
+pub families_again : (fs : Families) → families_in (families_word fs) ≡ fs
 unfolding families_in
 families_again Inet = refl
 families_again Inet6 = refl

@@ -79,7 +79,7 @@ words_again ws s h =
     sym (ap (λ n. words_in (drop n line)) none) ∙ ap (λ r. r.words) e
 
 -- rows have bytes
-row_long : (r : Row) (rest : List ℕ) → length rest < length (text_of_rows (r ∷ []) ++ rest)
+pub row_long : (r : Row) (rest : List ℕ) → length rest < length (text_of_rows (r ∷ []) ++ rest)
 unfolding row_text
 row_long r rest =
     let line : List ℕ = row_line r in
@@ -244,7 +244,7 @@ items_taken f p text w taken h o n = (h.0, record {
 
 -- ---- lists
 
-list_split : (f : Family) (name : List ℕ) (is : List Item) (more : List ℕ)
+pub list_split : (f : Family) (name : List ℕ) (is : List Item) (more : List ℕ)
     → text_of_rows (list_rows (list_of f name is)) ++ more ≡ text_of_rows (head_rows f name) ++ (text_of_rows (flat_map (item_rows f) is) ++ (text_of_rows end_rows ++ more))
 unfolding list_rows
 list_split f name is more =

@@ -10,6 +10,7 @@ use Rattle.acl_packet.specs.declared.addresses.Families.TheVariants.{Inet, Inet6
 use Rattle.acl_packet.specs.declared.packets.Packet.{Packet}
 use Rattle.acl_packet.specs.declared.filtering.Outcome.{Outcome}
 use Rattle.acl_packet.specs.declared.filtering.Verdict.TheVariants.{Accept}
+use Rattle.acl_packet.specs.Addresses.{same_family}
 use Rattle.acl_packet.specs.Outcomes.{unlogged}
 use Rattle.acl_text.specs.Cuts.{cut_at, behind}
 use Rattle.acl_text.specs.Names.{is_filter_name}
@@ -116,6 +117,14 @@ abbrev pub only : Family → Families
 only V4 = Inet
 only V6 = Inet6
 
+-- What is decided of a packet of the family: by a list of one, and by one of each.
+abbrev pub where_family : Family → Family → Outcome → Option Outcome
+where_family family other outcome = if same_family other family then Some outcome else None
+
+abbrev pub by_family : Family → Outcome → Outcome → Outcome
+by_family V4 four six = four
+by_family V6 four six = six
+
 pub record AreListsTaken (families : Families) (name : List ℕ) (packet : Packet) (text : List ℕ)
     (taken : TakenLists) (lists : List AccessList) : Type 0 where
   pub valid : AreListsOf families name lists
@@ -128,7 +137,8 @@ pub record TakesLists (families : Families) (name : List ℕ) (packet : Packet) 
     (taken : Option TakenLists) : Type 0 where
   pub some : IfSome taken (λ t. (lists : List AccessList)
       × AreListsTaken families name packet text t lists)
-  pub each : (lists : List AccessList) (more : List ℕ) → AreListsOf families name lists
+  pub each : (lists : List AccessList) (more : List ℕ) → is_filter_name name ≡ true
+      → AreListsOf families name lists
       → text ≡ text_of_rows (flat_map list_rows lists) ++ more
       → IsSomeAnd taken (λ t. t.rest.now ≡ more)
 

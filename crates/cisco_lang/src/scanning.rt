@@ -4,7 +4,7 @@ ghost use Rattle.acl_packet.specs.Packets.{IsPacket};
 ghost use Rattle.acl_text.specs.Cuts.{behind, views};
 ghost use Rattle.acl_rows.specs.Rows.{text_of_rows};
 ghost use Rattle.cisco_lang.specs.declared.documents.Item.{Item as AnItem};
-ghost use Rattle.cisco_lang.specs.ScanSteps.{ItemsTaken, TakesList, TakesLists, heading_behind, heading_taken, item_taken, only, or_entry, row_behind, second_name, third_and_fourth, walk_end, walk_on};
+ghost use Rattle.cisco_lang.specs.ScanSteps.{ItemsTaken, TakesList, TakesLists, by_family, heading_behind, heading_taken, item_taken, only, or_entry, row_behind, second_name, third_and_fourth, walk_end, walk_on, where_family};
 
 use crate::cisco::Cisco;
 use crate::documents::Entry;
@@ -168,16 +168,17 @@ fn take_one<'a>(
     ensures { TakesLists (only family) name.now packet.now text.now result }
 {
     let list = take_list(family, name, text, packet)?;
-    let outcome = if packet.family == family {
-        Some(list.outcome)
-    } else {
-        None
-    };
     Some(TakenLists {
         second: None,
-        outcome,
+        outcome: where_family(family, packet.family, list.outcome),
         rest: list.rest,
     })
+}
+
+fn where_family(family: Family, other: Family, outcome: Outcome) -> Option<Outcome>
+    ensures { result ≡ where_family family other outcome }
+{
+    if other == family { Some(outcome) } else { None }
 }
 
 fn take_two<'a>(name: &[u8], text: &'a [u8], packet: &Packet) -> Option<TakenLists<'a>>
@@ -186,15 +187,21 @@ fn take_two<'a>(name: &[u8], text: &'a [u8], packet: &Packet) -> Option<TakenLis
     let first = take_list(Family::V4, name, text, packet)?;
     let second = second_name(name, first.rest)?;
     let other = take_list(Family::V6, second, first.rest, packet)?;
-    let outcome = match packet.family {
-        Family::V4 => first.outcome,
-        Family::V6 => other.outcome,
-    };
+    let outcome = by_family(packet.family, first.outcome, other.outcome);
     Some(TakenLists {
         second: Some(second),
         outcome: Some(outcome),
         rest: other.rest,
     })
+}
+
+fn by_family(family: Family, four: Outcome, six: Outcome) -> Outcome
+    ensures { result ≡ by_family family four six }
+{
+    match family {
+        Family::V4 => four,
+        Family::V6 => six,
+    }
 }
 
 fn take_list<'a>(
