@@ -1,12 +1,10 @@
 -- What is taken from the front of a text is what stands there, and all that stands there is taken: rows, items and lists.
-use Rattle.std.proofs.Common.{◌≡◌, ℕ, zero, suc, ◌+◌, ◌<◌, ◌≤◌, length, Bool, true, false, cond, List, [], ◌∷◌, ◌++◌, drop, map, flat_map, replicate, codes, Option, None, Some, IfSome, IfNone, option_map, option_and_then, unwrap_or, inl, inr, refl, ap, sym, subst, ◌∙◌, append_assoc, append-nil, arith, ◌||◌}
-use Rattle.std.specs.Borrow.{Bor}
+use Rattle.std.proofs.Common.{◌≡◌, ℕ, zero, suc, ◌<◌, length, Bool, true, false, cond, List, [], ◌∷◌, ◌++◌, drop, flat_map, replicate, Option, None, Some, option_map, option_and_then, refl, ap, sym, subst, ◌∙◌, append_assoc, append-nil, arith, ◌||◌}
 use Rattle.std.specs.List.{AllByRecursion, prefix_len, join_with_byte}
-use Rattle.std.proofs.lemmas.Bool.{cond-true, cond-false, cond_both}
+use Rattle.std.proofs.lemmas.Bool.{cond-true}
 use Rattle.std.proofs.lemmas.Grind.{flat_map-append}
-use Rattle.std.proofs.lemmas.List.{append_cancel_left, length-append}
+use Rattle.std.proofs.lemmas.List.{length-append}
 use Rattle.std.proofs.lemmas.List.Folds.{list_any-append}
-use Rattle.std.proofs.lemmas.List.Splits.{join_with_byte-slice_split}
 use Rattle.std.proofs.lemmas.Option.{none-some, same_Some, some_pair_parts, option_and_then_some}
 use Rattle.acl_packet.proofs.ChoiceLaws.{guarded}
 use Rattle.acl_packet.specs.declared.addresses.Family.{Family}
@@ -17,7 +15,7 @@ use Rattle.acl_text.proofs.CutLaws.{behind-again, behind-found, cut-again, has-a
 use Rattle.acl_text.proofs.ListLaws.{all_append}
 use Rattle.acl_text.proofs.OptionStepLaws.{mapped}
 use Rattle.acl_rows.specs.Rows.{Row, row, row_line, row_text, text_of_rows, is_space, words_in}
-use Rattle.acl_rows.specs.RowSteps.{row_in, IsWord, IsRow, AreWords, begins}
+use Rattle.acl_rows.specs.RowSteps.{row_in, IsRow, AreWords, begins}
 use Rattle.acl_rows.proofs.RowLaws.{row-again}
 use Rattle.cisco_lang.specs.declared.documents.Item.{Item}
 use Rattle.cisco_lang.specs.declared.documents.Item.TheVariants.{Remark, Entry as AnEntry}
@@ -25,9 +23,9 @@ use Rattle.cisco_lang.specs.declared.documents.Entry.{Entry}
 use Rattle.cisco_lang.specs.declared.scanning.TakenList.{TakenList}
 use Rattle.cisco_lang.specs.declared.scanning.Walked.{Walked}
 use Rattle.cisco_lang.specs.Documents.{IsItem}
-use Rattle.cisco_lang.specs.ReadingSteps.{entry_in, item_in}
-use Rattle.cisco_lang.specs.ScanSteps.{IsListTaken, ItemsSoFar, ItemsTaken, TakesList, entry_part, item_behind, item_taken, list_of, or_entry, row_behind, walk_end, walk_on, walked_by}
-use Rattle.cisco_lang.specs.Texts.{end_rows, entry_words, head_rows, item_rows, list_rows}
+use Rattle.cisco_lang.specs.ReadingSteps.{item_in}
+use Rattle.cisco_lang.specs.ScanSteps.{ItemsSoFar, ItemsTaken, TakesList, entry_part, item_behind, item_taken, list_of, or_entry, walk_end, walk_on, walked_by}
+use Rattle.cisco_lang.specs.Texts.{end_rows, head_rows, item_rows, list_rows}
 use Rattle.cisco_lang.specs.ValiditySteps.{is_item}
 use Rattle.cisco_lang.specs.Walks.{decided_by, entry_holds, first_holding, has_entries, is_entry, walk}
 use Rattle.cisco_lang.proofs.DocumentLaws.{item_again, item_words, one_row}
@@ -224,23 +222,28 @@ so_far_more f p text rest more w entry is h k =
     let i = found.0 in
     let front : List ℕ = text_of_rows (flat_map (item_rows f) is) in
     let rows : flat_map (item_rows f) (is ++ i ∷ []) ≡ flat_map (item_rows f) is ++ item_rows f i =
-        flat_map-append (item_rows f) is (i ∷ []) ∙ ap (λ rs. flat_map (item_rows f) is ++ rs) (append-nil (item_rows f i)) in
-    (is ++ i ∷ [], record {
-      valid = all_append (IsItem f) is (i ∷ []) h.valid (found.1.valid, tt);
-      written = h.written ∙ ap (λ t. front ++ t) found.1.written ∙ sym (ap (λ rs. text_of_rows rs ++ more) rows ∙ rows_split (flat_map (item_rows f) is) (item_rows f i) more);
-      known = ap (λ v. walk_on v entry p) h.known ∙ ap (λ e. walk_on (walked_by is p) e p) (sym found.1.part) ∙ walked_more is i p;
-    })
+    flat_map-append (item_rows f) is (i ∷ []) ∙ ap (λ rs. flat_map (item_rows f) is ++ rs) (append-nil (item_rows f i)) in (
+      is ++ i ∷ [],
+      record {
+        valid = all_append (IsItem f) is (i ∷ []) h.valid (found.1.valid, tt);
+        written = h.written ∙ ap (λ t. front ++ t) found.1.written ∙ sym (ap (λ rs. text_of_rows rs ++ more) rows ∙ rows_split (flat_map (item_rows f) is) (item_rows f i) more);
+        known = ap (λ v. walk_on v entry p) h.known ∙ ap (λ e. walk_on (walked_by is p) e p) (sym found.1.part) ∙ walked_more is i p;
+      },
+    )
 
 pub items_taken : (f : Family) (p : Packet) (text : List ℕ) (w : Walked) (taken : TakenList)
     → (is : List Item) × ItemsSoFar f p text taken.rest.now w is → taken.outcome ≡ walk_end f w p → item_taken f taken.rest.now ≡ None
     → (is : List Item) × ItemsTaken f p text taken is
 unfolding walk
-items_taken f p text w taken h o n = (h.0, record {
-  valid = h.1.valid;
-  written = h.1.written;
-  decided = o ∙ ap (λ v. walk_end f v p) h.1.known;
-  no_more = n;
-})
+items_taken f p text w taken h o n = (
+  h.0,
+  record {
+    valid = h.1.valid;
+    written = h.1.written;
+    decided = o ∙ ap (λ v. walk_end f v p) h.1.known;
+    no_more = n;
+  },
+)
 
 -- ---- lists
 
@@ -254,9 +257,9 @@ pub no_head : (f : Family) (name : List ℕ) (p : Packet) (text : List ℕ) → 
 no_head f name p text n = record {
   some = tt;
   each = λ is more h e.
-    let front : List ℕ = text_of_rows (head_rows f name) in
-    let rest : List ℕ = text_of_rows (flat_map (item_rows f) is) ++ (text_of_rows end_rows ++ more) in
-    none-some rest (n ∙ ap (behind front) (e ∙ list_split f name is more) ∙ behind-again front rest);
+      let front : List ℕ = text_of_rows (head_rows f name) in
+      let rest : List ℕ = text_of_rows (flat_map (item_rows f) is) ++ (text_of_rows end_rows ++ more) in
+      none-some rest (n ∙ ap (behind front) (e ∙ list_split f name is more) ∙ behind-again front rest);
 }
 
 -- what stands behind the items of a list is the row that ends it
@@ -283,15 +286,18 @@ pub list_taken : (f : Family) (name : List ℕ) (p : Packet) (text begun : List 
     → Some begun ≡ behind (text_of_rows (head_rows f name)) text → (js : List Item) × ItemsTaken f p begun items js
     → Some taken.rest.now ≡ behind (text_of_rows end_rows) items.rest.now → taken.outcome ≡ items.outcome → TakesList f name p text (Some taken)
 list_taken f name p text begun items taken b t n o = record {
-  some = (t.0, record {
-    valid = t.1.valid;
-    written =
-      let front : List ℕ = text_of_rows (head_rows f name) in
-      let end : List ℕ = text_of_rows end_rows in
-      let row : List ℕ = text_of_rows (flat_map (item_rows f) t.0) in
-      behind-found front text begun (sym b) ∙ ap (λ x. front ++ x) (t.1.written ∙ ap (λ x. row ++ x) (behind-found end items.rest.now taken.rest.now (sym n)))
-      ∙ sym (list_split f name t.0 taken.rest.now);
-    decided = o ∙ t.1.decided;
-  });
+  some = (
+    t.0,
+    record {
+      valid = t.1.valid;
+      written =
+          let front : List ℕ = text_of_rows (head_rows f name) in
+          let end : List ℕ = text_of_rows end_rows in
+          let row : List ℕ = text_of_rows (flat_map (item_rows f) t.0) in
+          behind-found front text begun (sym b) ∙ ap (λ x. front ++ x) (t.1.written ∙ ap (λ x. row ++ x) (behind-found end items.rest.now taken.rest.now (sym n)))
+          ∙ sym (list_split f name t.0 taken.rest.now);
+      decided = o ∙ t.1.decided;
+    },
+  );
   each = λ is more h e. same_Some taken.rest.now more (n ∙ list_ends f name p text begun more items is b t h e);
 }

@@ -1,5 +1,5 @@
 -- A section that is taken from the front of a text is the one that stands there: its names, its lists, and the whole.
-use Rattle.std.proofs.Common.{◌≡◌, ℕ, ◌+◌, ◌<◌, ◌≤◌, length, Bool, true, false, cond, List, [], ◌∷◌, ◌++◌, map, flat_map, codes, Option, None, Some, IfSome, option_map, option_and_then, refl, ap, sym, subst, ◌∙◌, append_assoc, append-nil, arith}
+use Rattle.std.proofs.Common.{◌≡◌, ℕ, length, true, cond, List, [], ◌∷◌, ◌++◌, flat_map, codes, Option, None, Some, option_map, option_and_then, refl, ap, sym, subst, ◌∙◌, append-nil, arith}
 use Rattle.std.specs.Borrow.{Bor}
 use Rattle.std.specs.List.{AllByRecursion}
 use Rattle.std.specs.Option.{IsSomeAnd, option_to_list}
@@ -13,7 +13,7 @@ use Rattle.acl_packet.proofs.ChoiceLaws.{guarded}
 use Rattle.acl_packet.specs.declared.addresses.Family.{Family}
 use Rattle.acl_packet.specs.declared.addresses.Family.TheVariants.{V4, V6}
 use Rattle.acl_packet.specs.declared.addresses.Families.{Families}
-use Rattle.acl_packet.specs.declared.addresses.Families.TheVariants.{Inet, Inet6, Mixed}
+use Rattle.acl_packet.specs.declared.addresses.Families.TheVariants.{Mixed}
 use Rattle.acl_packet.specs.declared.packets.Packet.{Packet}
 use Rattle.acl_packet.specs.declared.filtering.Outcome.{Outcome}
 use Rattle.acl_packet.specs.Addresses.{covers}
@@ -22,9 +22,9 @@ use Rattle.acl_text.specs.Names.{is_filter_name}
 use Rattle.acl_text.proofs.CutLaws.{behind-again, behind-found}
 use Rattle.acl_text.proofs.OptionStepLaws.{mapped}
 use Rattle.acl_rows.specs.Rows.{Row, row, row_line, row_text, text_of_rows, words_in}
-use Rattle.acl_rows.specs.RowSteps.{IsWord, IsRow}
+use Rattle.acl_rows.specs.RowSteps.{IsRow}
 use Rattle.acl_rows.specs.FamilyWords.{families_in}
-use Rattle.acl_rows.specs.Scans.{IsTaken, TakesSection}
+use Rattle.acl_rows.specs.Scans.{TakesSection}
 use Rattle.acl_rows.specs.declared.scanning.TakenSection.{TakenSection}
 use Rattle.acl_rows.proofs.WordLaws.{name_word}
 use Rattle.cisco_lang.specs.declared.documents.AccessList.{AccessList}
@@ -34,8 +34,8 @@ use Rattle.cisco_lang.specs.declared.scanning.TakenList.{TakenList}
 use Rattle.cisco_lang.specs.declared.scanning.TakenLists.{TakenLists}
 use Rattle.cisco_lang.specs.AddressReading.{next_word}
 use Rattle.cisco_lang.specs.Documents.{IsItem, IsList, IsSection, heads_of, list_names}
-use Rattle.cisco_lang.specs.ScanSteps.{AreListsOf, AreListsTaken, IsListTaken, TakesList, TakesLists, by_family, heading_behind, heading_taken, list_of, only, second_name, third_and_fourth, where_family}
-use Rattle.cisco_lang.specs.Texts.{end_rows, families_word, head_rows, head_words, item_rows, list_rows, section_row, section_rows}
+use Rattle.cisco_lang.specs.ScanSteps.{AreListsOf, TakesList, TakesLists, by_family, heading_behind, heading_taken, list_of, only, second_name, third_and_fourth, where_family}
+use Rattle.cisco_lang.specs.Texts.{end_rows, families_word, head_words, item_rows, list_rows, section_row, section_rows}
 use Rattle.cisco_lang.specs.Walks.{items_of, section_outcome, walk}
 use Rattle.cisco_lang.proofs.DocumentLaws.{families_again}
 use Rattle.cisco_lang.proofs.SafeRows.{head_safe, heading_safe, heads_safe}
@@ -49,9 +49,9 @@ unfolding third_and_fourth next_word
 four_words line a b c d e =
     ap (λ (ws : List (List ℕ)). let third = next_word (next_word (next_word ws).1).1 in (third.0, (next_word third.1).0)) e
 
--- the first line of a text that begins with a row of four words
-four_again : (a b c d more : List ℕ) → IsRow (row 0 (a ∷ b ∷ c ∷ d ∷ [])) → third_and_fourth (row_line (row 0 (a ∷ b ∷ c ∷ d ∷ []))) ≡ (c, d)
-four_again a b c d more h = four_words (row_line (row 0 (a ∷ b ∷ c ∷ d ∷ []))) a b c d (words_again (a ∷ b ∷ c ∷ d ∷ []) h.start h.words)
+-- the last two words of a row of four
+four_again : (a b c d : List ℕ) → IsRow (row 0 (a ∷ b ∷ c ∷ d ∷ [])) → third_and_fourth (row_line (row 0 (a ∷ b ∷ c ∷ d ∷ []))) ≡ (c, d)
+four_again a b c d h = four_words (row_line (row 0 (a ∷ b ∷ c ∷ d ∷ []))) a b c d (words_again (a ∷ b ∷ c ∷ d ∷ []) h.start h.words)
 
 abbrev six : List ℕ → List ℕ
 six name = codes "ipv6-" ++ name
@@ -65,7 +65,7 @@ second_again name more h =
     let safe : IsRow (row 0 words) = (head_safe V6 (six name) word).0 in
     let read : List ℕ → Option (List ℕ) = λ w. cond (bytes_eq w (six name)) (Some w) None in
     ap (option_and_then (λ (c : List ℕ × List ℕ). read (third_and_fourth c.0).1)) (line_again (row 0 words) more safe)
-    ∙ ap (λ (p : List ℕ × List ℕ). read p.1) (four_again (codes "no") (codes "ipv6") (codes "access-list") (six name) more safe)
+    ∙ ap (λ (p : List ℕ × List ℕ). read p.1) (four_again (codes "no") (codes "ipv6") (codes "access-list") (six name) safe)
     ∙ cond-true _ _ _ ((bytes_eq-Decides (six name) (six name)).1 refl)
 
 second_found : (name text second : List ℕ) → Some second ≡ second_name name text → second ≡ six name
@@ -87,7 +87,7 @@ heading_again name fs more h =
     let safe = heading_safe name fs (name_word name h) in
     let read : List ℕ × List ℕ → Option (List ℕ × Families × List ℕ) = λ p. heading_behind p.0 (families_in p.1) text in
     ap (option_and_then (λ (c : List ℕ × List ℕ). read (third_and_fourth c.0))) (line_again (section_row name fs) more safe)
-    ∙ ap read (four_again (codes "!") (codes "cisco") name (families_word fs) more safe)
+    ∙ ap read (four_again (codes "!") (codes "cisco") name (families_word fs) safe)
     ∙ ap (λ f. heading_behind name f text) (families_again fs) ∙ cond-true _ _ _ h
     ∙ ap (option_map (λ (rest : List ℕ). (name, fs, rest))) (behind-again front more)
 
@@ -106,7 +106,7 @@ behind_heading name other fs gs text rest h =
     record {
       named = ap is_filter_name (sym n) ∙ g.0;
       written = behind-found front text m.0 m.1 ∙ ap (λ t. front ++ t) r ∙ ap (λ x. text_of_rows (section_row x gs ∷ []) ++ rest) n
-      ∙ ap (λ x. text_of_rows (section_row name x ∷ []) ++ rest) f;
+          ∙ ap (λ x. text_of_rows (section_row name x ∷ []) ++ rest) f;
     }
 
 heading_found : (name : List ℕ) (fs : Families) (text rest : List ℕ) → Some (name, fs, rest) ≡ heading_taken text → IsHeaded name fs text rest
@@ -159,12 +159,17 @@ two_lists name (l ∷ m ∷ []) h =
     let head : head_of l ≡ (V4, name) = cc in
     let other : head_of m ≡ (V6, six name) = cc in
     let first = list_is V4 name l head h.valid.0 in
-    let second = list_is V6 (six name) m other h.valid.1.0 in
-    (l.items, (m.items, record {
-      same = ap (λ x. x ∷ m ∷ []) first.same ∙ ap (λ x. list_of V4 name l.items ∷ x ∷ []) second.same;
-      first = first.valid;
-      second = second.valid;
-    }))
+    let second = list_is V6 (six name) m other h.valid.1.0 in (
+      l.items,
+      (
+        m.items,
+        record {
+          same = ap (λ x. x ∷ m ∷ []) first.same ∙ ap (λ x. list_of V4 name l.items ∷ x ∷ []) second.same;
+          first = first.valid;
+          second = second.valid;
+        },
+      ),
+    )
 two_lists name (l ∷ m ∷ n ∷ lists) h = let e = h.heads in absurd cc
 
 -- ---- one list
@@ -176,8 +181,8 @@ pub one_none : (f : Family) (name : List ℕ) (p : Packet) (text : List ℕ) →
 one_none f name p text h = record {
   some = tt;
   each = λ lists more n v e.
-    let one = one_list f name lists v in
-    h.each one.0 more one.1.valid (e ∙ ap (λ ls. text_of_rows (flat_map list_rows ls) ++ more) one.1.same ∙ one_split (list_of f name one.0) more);
+      let one = one_list f name lists v in
+      h.each one.0 more one.1.valid (e ∙ ap (λ ls. text_of_rows (flat_map list_rows ls) ++ more) one.1.same ∙ one_split (list_of f name one.0) more);
 }
 
 one_outcome : (f g : Family) (name : List ℕ) (items : List Item) (p : Packet)
@@ -196,17 +201,19 @@ pub one_taken : (f : Family) (name : List ℕ) (p : Packet) (text : List ℕ) (l
 unfolding section_outcome
 one_taken f name p text list o h w = record {
   some =
-    let items = h.some.0 in
-    let l = h.some.1 in
-    (list_of f name items ∷ [], record {
-      valid = one_valid f name items l.valid;
-      written = l.written ∙ sym (one_split (list_of f name items) list.rest.now);
-      named = refl;
-      decided = w ∙ ap (where_family f p.family) l.decided ∙ one_outcome f p.family name items p;
-    });
+      let items = h.some.0 in
+      let l = h.some.1 in (
+        list_of f name items ∷ [],
+        record {
+          valid = one_valid f name items l.valid;
+          written = l.written ∙ sym (one_split (list_of f name items) list.rest.now);
+          named = refl;
+          decided = w ∙ ap (where_family f p.family) l.decided ∙ one_outcome f p.family name items p;
+        },
+      );
   each = λ lists more n v e.
-    let one = one_list f name lists v in
-    h.each one.0 more one.1.valid (e ∙ ap (λ ls. text_of_rows (flat_map list_rows ls) ++ more) one.1.same ∙ one_split (list_of f name one.0) more);
+      let one = one_list f name lists v in
+      h.each one.0 more one.1.valid (e ∙ ap (λ ls. text_of_rows (flat_map list_rows ls) ++ more) one.1.same ∙ one_split (list_of f name one.0) more);
 }
 
 -- ---- a list of each family
@@ -215,24 +222,32 @@ two_split : (k l : AccessList) (text : List ℕ) → text_of_rows (flat_map list
 two_split k l text =
     rows_split (list_rows k) (list_rows l ++ []) text ∙ ap (λ t. text_of_rows (list_rows k) ++ t) (one_split l text)
 
-two_written : (name text more : List ℕ) (lists : List AccessList) (items others : List Item) → AreTwoLists name lists items others
-    → text ≡ text_of_rows (flat_map list_rows lists) ++ more
-    → text ≡ text_of_rows (list_rows (list_of V4 name items)) ++ (text_of_rows (list_rows (list_of V6 (six name) others)) ++ more)
-two_written name text more lists items others h e =
-    e ∙ ap (λ ls. text_of_rows (flat_map list_rows ls) ++ more) h.same ∙ two_split (list_of V4 name items) (list_of V6 (six name) others) more
+-- the text of the second list of a mixed section, and more
+abbrev second_text : List ℕ → List Item → List ℕ → List ℕ
+second_text name items more = text_of_rows (list_rows (list_of V6 (six name) items)) ++ more
+
+record IsBehind (name more : List ℕ) (first : Option TakenList) (others : List Item) : Type 0 where
+  valid : AllByRecursion (IsItem V6) others
+  rest : IsSomeAnd first (λ t. t.rest.now ≡ second_text name others more)
+
+-- behind the first of two lists that a text begins with stands the second
+behind_first : (name : List ℕ) (p : Packet) (text more : List ℕ) (lists : List AccessList) (first : Option TakenList) → TakesList V4 name p text first
+    → AreListsOf Mixed name lists → text ≡ text_of_rows (flat_map list_rows lists) ++ more → (others : List Item) × IsBehind name more first others
+behind_first name p text more lists first h v e =
+    let t = two_lists name lists v in
+    let two = t.1.1 in
+    let written = e ∙ ap (λ ls. text_of_rows (flat_map list_rows ls) ++ more) two.same ∙ two_split (list_of V4 name t.0) (list_of V6 (six name) t.1.0) more in
+    (t.1.0, record { valid = two.second; rest = h.each t.0 (second_text name t.1.0 more) two.first written })
 
 pub no_first : (name : List ℕ) (p : Packet) (text : List ℕ) → TakesList V4 name p text None → TakesLists Mixed name p text None
 no_first name p text h = record {
   some = tt;
-  each = λ lists more n v e.
-    let t = two_lists name lists v in
-    let two = t.1.1 in
-    h.each t.0 (text_of_rows (list_rows (list_of V6 (six name) t.1.0)) ++ more) two.first (two_written name text more lists t.0 t.1.0 two e);
+  each = λ lists more n v e. (behind_first name p text more lists None h v e).1.rest;
 }
 
 -- the name of a list stands in its first row
 second_of : (name : List ℕ) (items : List Item) (more : List ℕ) → is_filter_name name ≡ true
-    → second_name name (text_of_rows (list_rows (list_of V6 (six name) items)) ++ more) ≡ Some (six name)
+    → second_name name (second_text name items more) ≡ Some (six name)
 second_of name items more h =
     let r : Row = row 0 (codes "no" ∷ head_words V6 (six name)) in
     let s : Row = row 0 (head_words V6 (six name)) in
@@ -244,10 +259,8 @@ pub no_second_name : (name : List ℕ) (p : Packet) (text : List ℕ) (first : T
 no_second_name name p text first h m = record {
   some = tt;
   each = λ lists more n v e.
-    let t = two_lists name lists v in
-    let two = t.1.1 in
-    let rest = h.each t.0 (text_of_rows (list_rows (list_of V6 (six name) t.1.0)) ++ more) two.first (two_written name text more lists t.0 t.1.0 two e) in
-    none-some (six name) (m ∙ ap (second_name name) rest ∙ second_of name t.1.0 more n);
+      let other = behind_first name p text more lists (Some first) h v e in
+      none-some (six name) (m ∙ ap (second_name name) other.1.rest ∙ second_of name other.0 more n);
 }
 
 pub no_second : (name : List ℕ) (p : Packet) (text second : List ℕ) (first : TakenList) → TakesList V4 name p text (Some first)
@@ -255,11 +268,9 @@ pub no_second : (name : List ℕ) (p : Packet) (text second : List ℕ) (first :
 no_second name p text second first h m k = record {
   some = tt;
   each = λ lists more n v e.
-    let t = two_lists name lists v in
-    let two = t.1.1 in
-    let rest = h.each t.0 (text_of_rows (list_rows (list_of V6 (six name) t.1.0)) ++ more) two.first (two_written name text more lists t.0 t.1.0 two e) in
-    let P : List ℕ → Type 0 = λ w. TakesList V6 w p first.rest.now None in
-    (subst P (second_found name first.rest.now second m) k).each t.1.0 more two.second rest;
+      let other = behind_first name p text more lists (Some first) h v e in
+      let P : List ℕ → Type 0 = λ w. TakesList V6 w p first.rest.now None in
+      (subst P (second_found name first.rest.now second m) k).each other.0 more other.1.valid other.1.rest;
 }
 
 two_outcome : (g : Family) (name other : List ℕ) (items others : List Item) (p : Packet)
@@ -283,18 +294,19 @@ two_taken name p text second first other o h m k w =
     let b = l.some.1 in
     let front : List ℕ = text_of_rows (list_rows (list_of V4 name items)) in
     record {
-      some = (list_of V4 name items ∷ list_of V6 (six name) others ∷ [], record {
-        valid = record { heads = refl; valid = (a.valid, (b.valid, tt)) };
-        written = a.written ∙ ap (λ t. front ++ t) b.written ∙ sym (two_split (list_of V4 name items) (list_of V6 (six name) others) other.rest.now);
-        named = ap (λ n. name ∷ n ∷ []) named;
-        decided = ap Some (w ∙ ap (λ x. by_family p.family x other.outcome) a.decided ∙ ap (by_family p.family (walk V4 items p)) b.decided)
-        ∙ two_outcome p.family name (six name) items others p;
-      });
+      some = (
+        list_of V4 name items ∷ list_of V6 (six name) others ∷ [],
+        record {
+          valid = record { heads = refl; valid = (a.valid, (b.valid, tt)) };
+          written = a.written ∙ ap (λ t. front ++ t) b.written ∙ sym (two_split (list_of V4 name items) (list_of V6 (six name) others) other.rest.now);
+          named = ap (λ n. name ∷ n ∷ []) named;
+          decided = ap Some (w ∙ ap (λ x. by_family p.family x other.outcome) a.decided ∙ ap (by_family p.family (walk V4 items p)) b.decided)
+              ∙ two_outcome p.family name (six name) items others p;
+        },
+      );
       each = λ lists more n v e.
-        let t = two_lists name lists v in
-        let two = t.1.1 in
-        let rest = h.each t.0 (text_of_rows (list_rows (list_of V6 (six name) t.1.0)) ++ more) two.first (two_written name text more lists t.0 t.1.0 two e) in
-        l.each t.1.0 more two.second rest;
+          let next = behind_first name p text more lists (Some first) h v e in
+          l.each next.0 more next.1.valid next.1.rest;
     }
 
 -- ---- sections
@@ -320,7 +332,7 @@ pub no_heading : (p : Packet) (text : List ℕ) (before after : List (List ℕ))
 no_heading p text before after n = record {
   some = tt;
   each = λ s others h k e.
-    none-some (s.name, s.families, text_of_rows (flat_map list_rows s.lists) ++ text_of_rows (flat_map section_rows others)) (n ∙ headed s others text h e);
+      none-some (s.name, s.families, text_of_rows (flat_map list_rows s.lists) ++ text_of_rows (flat_map section_rows others)) (n ∙ headed s others text h e);
 }
 
 -- the lists of the section that the text begins with are taken behind its heading
@@ -358,12 +370,15 @@ section_taken name fs p text rest before after lists m t n =
     let parts = length-append body lists.rest.now in
     let whole = ap length written in
     record {
-      some = (record { name = name; families = fs; lists = ls }, record {
-        valid = record { named = found.named; heads = l.valid.heads; lists = l.valid.valid };
-        written = written ∙ sym (rows_split (row ∷ []) (flat_map list_rows ls) lists.rest.now);
-        named = n ∙ ap (λ x. before ++ x) l.named;
-        decided = l.decided;
-        shorter = omega (arith, long, parts, whole);
-      });
+      some = (
+        record { name = name; families = fs; lists = ls },
+        record {
+          valid = record { named = found.named; heads = l.valid.heads; lists = l.valid.valid };
+          written = written ∙ sym (rows_split (row ∷ []) (flat_map list_rows ls) lists.rest.now);
+          named = n ∙ ap (λ x. before ++ x) l.named;
+          decided = l.decided;
+          shorter = omega (arith, long, parts, whole);
+        },
+      );
       each = λ s others h k e. lists_there name fs p text rest (Some lists) s others m t h e;
     }

@@ -1,4 +1,5 @@
--- A section is taken from the front of a text row by row, each of which is let go before the next is read.
+-- A section is taken from the front of a text row by row, each of which is let go before the next
+-- is read.
 use Rattle.std.specs.Prelude.{◌≡◌, ℕ, Bool, true, if◌then◌else◌, List, [], ◌∷◌, ◌++◌, flat_map, map, drop, codes, Option, None, Some, IfSome, option_map, option_and_then, unwrap_or}
 use Rattle.std.specs.List.{AllByRecursion}
 use Rattle.std.specs.Option.{IsSomeAnd, option_to_list}
@@ -37,8 +38,8 @@ abbrev pub entry_part : Item → Option Entry
 entry_part (Remark text) = None
 entry_part (AnEntry e) = Some e
 
--- What a text has behind the rows of an item, where the item is valid and the text begins with them; beside the item's
--- entry.
+-- What a text has behind the rows of an item, where the item is valid and the text begins with
+-- them; beside the item's entry.
 abbrev pub row_behind : Bool → Option Entry → List Row → List ℕ → Option (Option Entry × List ℕ)
 row_behind valid entry rows text =
     if valid then option_map (λ rest. (entry, rest)) (behind (text_of_rows rows) text) else None

@@ -1,6 +1,5 @@
-ghost use Rattle.std.specs.Prelude.{◌≡◌, ◌∷◌, ◌++◌, [], List, OnOk, codes, option_map};
+ghost use Rattle.std.specs.Prelude.{◌≡◌, ◌∷◌, ◌++◌, List, OnOk, option_map};
 ghost use Rattle.std.specs.Option.{option_to_list};
-ghost use Rattle.acl_packet.specs.Packets.{IsPacket};
 ghost use Rattle.acl_text.specs.Cuts.{behind, views};
 ghost use Rattle.acl_rows.specs.Rows.{text_of_rows};
 ghost use Rattle.cisco_lang.specs.declared.documents.Item.{Item as AnItem};
@@ -17,8 +16,8 @@ use acl_rows::{RowWords, Rows, Scan, TakenSection, families_of, rows_behind};
 use acl_text::{Memory, is_filter_name, is_safe_text, split_at_byte};
 use std::alloc::Global;
 
-/// The text of a section is read row by row. A row is compared with that of the item that it is read as, and no item is held
-/// when the next one is read.
+/// The text of a section is read row by row. A row is compared with that of the item that it is
+/// read as, and no item is held when the next one is read.
 impl Scan for Cisco {
     fn take_section<'a>(
         _alloc: Global,
@@ -128,8 +127,8 @@ fn third_and_fourth<'a>(line: &'a [u8]) -> (&'a [u8], &'a [u8])
 
 // ---- lists
 
-// The lists of a section that were taken from the front of a text: the name of the second, if there is one, what they do to
-// a packet, and what the text has behind them.
+// The lists of a section that were taken from the front of a text: the name of the second, if there
+// is one, what they do to a packet, and what the text has behind them.
 #[derive(Clone, Copy)]
 struct TakenLists<'a> {
     second: Option<&'a [u8]>,
@@ -242,7 +241,8 @@ fn take_items<'a>(family: Family, text: &'a [u8], packet: &Packet) -> TakenList<
     }
 }
 
-// An item that was taken from the front of a text: its entry, if it is one, and what the text has behind it.
+// An item that was taken from the front of a text: its entry, if it is one, and what the text has
+// behind it.
 #[derive(Clone, Copy)]
 struct TakenItem<'a> {
     entry: Option<Entry>,
@@ -257,7 +257,12 @@ fn take_item<'a>(family: Family, text: &'a [u8]) -> Option<TakenItem<'a>>
     let words = RowWords::new(line).behind_first();
     if words.begins_with(b"remark") {
         let remark = words.behind_first().text();
-        take_row(is_safe_text(remark), None, &RemarkRow { text: remark }, text)
+        take_row(
+            is_safe_text(remark),
+            None,
+            &RemarkRow { text: remark },
+            text,
+        )
     } else {
         let entry = entry_of(family, words);
         let valid = is_entry(family, &entry);

@@ -1,6 +1,4 @@
-use Rattle.std.proofs.Common.{List, sym}
-use Rattle.cisco_lang.specs.declared.documents.Item.{Item}
-use Rattle.cisco_lang.specs.ScanSteps.{ItemsSoFar}
+use Rattle.std.proofs.Common.{sym}
 use Rattle.cisco_lang.proofs.ScanLaws.{item_shorter, items_taken, nothing_so_far, so_far_more}
 use Rattle.cisco_lang.proofs.scanning.take_items.Goals as goal
 
