@@ -7,7 +7,7 @@ use Rattle.acl_packet.specs.declared.addresses.Family.{Family}
 use Rattle.acl_packet.specs.declared.addresses.Family.TheVariants.{V4, V6}
 use Rattle.acl_packet.specs.declared.addresses.Families.{Families}
 use Rattle.acl_packet.specs.declared.addresses.Families.TheVariants.{Inet, Inet6, Mixed}
-use Rattle.acl_rows.specs.Rows.{Row}
+use Rattle.acl_rows.specs.Rows.{Row, row, words_in}
 use Rattle.acl_rows.specs.RowSteps.{row_in, document_in}
 use Rattle.acl_rows.proofs.RowLaws.{fold-again, fold-members}
 use Rattle.acl_rows.specs.RuleParts.{log_words}
@@ -44,14 +44,27 @@ unfolding item_in
 no_remark f true words = refl
 no_remark f false words = refl
 
+abbrev pub item_words : Family → Item → List (List ℕ)
+item_words f (Remark text) = codes "remark" ∷ words_in text
+item_words f (AnEntry e) = entry_words f e
+
+pub one_row : (f : Family) (i : Item) → item_rows f i ≡ row 1 (item_words f i) ∷ []
+unfolding item_rows
+one_row f (Remark text) = refl
+one_row f (AnEntry e) = refl
+
+pub item_again : (f : Family) (i : Item) → IsItem f i → item_in f (item_words f i) ≡ i
+unfolding item_in entry_words
+item_again f (Remark text) h = ap Remark (join_with_byte-slice_split 32 text)
+item_again f (AnEntry e) h =
+    let rest : List (List ℕ) = proto_word f e.proto ∷ (end_words f e.src e.sport
+    ++ (end_words f e.dst e.dport ++ (icmp_words e.itype e.icode ++ (flags_words e.flags ++ log_words e.log)))) in
+    no_remark f e.permit rest ∙ ap AnEntry (entry_again f e h)
+
 item_read : (ss : List Section) (s : Section) (l : AccessList) (i : Item) → IsItem l.family i
     → read (at ss s l) (item_rows l.family i) ≡ at ss s (with_item l i)
-unfolding item_rows take_row take_inner item_in entry_words
-item_read ss s l (Remark text) h = ap (λ t. at ss s (with_item l (Remark t))) (join_with_byte-slice_split 32 text)
-item_read ss s l (AnEntry e) h =
-    let rest : List (List ℕ) = proto_word l.family e.proto ∷ (end_words l.family e.src e.sport
-    ++ (end_words l.family e.dst e.dport ++ (icmp_words e.itype e.icode ++ (flags_words e.flags ++ log_words e.log)))) in
-    ap (λ i. at ss s (with_item l i)) (no_remark l.family e.permit rest ∙ ap AnEntry (entry_again l.family e h))
+unfolding take_row take_inner
+item_read ss s l i h = ap (read (at ss s l)) (one_row l.family i) ∙ ap (λ j. at ss s (with_item l j)) (item_again l.family i h)
 
 items_read : (ss : List Section) (s : Section) (l : AccessList) (items : List Item) → AllByRecursion (IsItem l.family) items
     → read (at ss s l) (flat_map (item_rows l.family) items) ≡ at ss s (record l { items = l.items ++ items })
@@ -103,7 +116,7 @@ lists_read ss name Mixed k (l ∷ m ∷ []) e h =
     (ap (read middle) (append-nil (list_rows m)) ∙ list_read ss (so_far name Mixed (l ∷ [])) no_list m h.1.0 ∙ ap (λ f. end_section (is_last Mixed f) (at ss (so_far name Mixed (l ∷ m ∷ [])) no_list)) six)
 lists_read ss name Mixed k (l ∷ m ∷ n ∷ ls) e h = absurd cc
 
-families_again : (fs : Families) → families_in (families_word fs) ≡ fs
+pub families_again : (fs : Families) → families_in (families_word fs) ≡ fs
 unfolding families_in
 families_again Inet = refl
 families_again Inet6 = refl

@@ -1,5 +1,7 @@
 pub mod DocumentLaws
 pub mod EntryReadingLaws
 pub mod SafeRows
+pub mod ScanLaws
+pub mod SectionScanLaws
 pub mod ValidityLaws
 pub mod WalkLaws

@@ -23,7 +23,7 @@ use Rattle.cisco_lang.specs.declared.documents.Entry.{Entry}
 use Rattle.cisco_lang.specs.declared.documents.Flags.{Flags}
 use Rattle.cisco_lang.specs.declared.documents.Flags.TheVariants.{Established, Rst, SynNotAck}
 use Rattle.cisco_lang.specs.Documents.{IsEntry, IsItem, IsList, heads_of, IsSection}
-use Rattle.cisco_lang.specs.Texts.{action_word, proto_word, masked_words, address_words, ports_words, number_words, icmp_words, flags_words, end_words, entry_words, item_rows, head_rows, end_rows, list_rows, families_word, section_rows}
+use Rattle.cisco_lang.specs.Texts.{action_word, proto_word, masked_words, address_words, ports_words, number_words, icmp_words, flags_words, end_words, entry_words, item_rows, head_rows, end_rows, list_rows, families_word, section_row, section_rows}
 use Rattle.cisco_lang.proofs.ValidityLaws.{head_of}
 
 -- ---- entries
@@ -86,7 +86,7 @@ entry_safe f e h =
 
 -- ---- rows
 
-item_safe : (f : Family) (i : Item) → IsItem f i → AreRows (item_rows f i)
+pub item_safe : (f : Family) (i : Item) → IsItem f i → AreRows (item_rows f i)
 unfolding item_rows entry_words
 item_safe f (Remark text) h = search (word, text_words text h)
 item_safe f (AnEntry e) h = (record { start = action_starts e.permit _; words = entry_safe f e h }, tt) where
@@ -94,7 +94,7 @@ item_safe f (AnEntry e) h = (record { start = action_starts e.permit _; words = 
   action_starts true words = refl
   action_starts false words = refl
 
-head_safe : (f : Family) (name : List ℕ) → IsWord name → AreRows (head_rows f name)
+pub head_safe : (f : Family) (name : List ℕ) → IsWord name → AreRows (head_rows f name)
 head_safe V4 name h = search (word, h)
 head_safe V6 name h = search (word, h)
 
@@ -109,7 +109,7 @@ families_safe Inet = search word
 families_safe Inet6 = search word
 families_safe Mixed = search word
 
-heads_safe : (fs : Families) (name : List ℕ) → IsWord name → AllByRecursion (λ (h : Family × List ℕ). IsWord h.1) (heads_of fs name)
+pub heads_safe : (fs : Families) (name : List ℕ) → IsWord name → AllByRecursion (λ (h : Family × List ℕ). IsWord h.1) (heads_of fs name)
 heads_safe Inet name h = (h, tt)
 heads_safe Inet6 name h = (h, tt)
 heads_safe Mixed name h = (h, (joined_word (codes "ipv6-") name (search word) h, tt))
@@ -119,13 +119,16 @@ named_lists : (ls : List AccessList) → AllByRecursion (λ (h : Family × List 
 named_lists [] n h = tt
 named_lists (l ∷ ls) n h = ((n.0, h.0), named_lists ls n.1 h.1)
 
+pub heading_safe : (name : List ℕ) (fs : Families) → IsWord name → IsRow (section_row name fs)
+heading_safe name fs h = search (word, h, families_safe)
+
 section_safe : (s : Section) → IsSection s → AreRows (section_rows s)
 unfolding section_rows
 section_safe s h =
     let name = name_word s.name h.named in
     let P : List (Family × List ℕ) → Type 0 = AllByRecursion (λ (x : Family × List ℕ). IsWord x.1) in
     let names = subst P (sym h.heads) (heads_safe s.families s.name name) in
-    (search (word, name, families_safe), all_flat (λ l. IsWord l.name × IsList l) IsRow list_rows list_safe s.lists (named_lists s.lists names h.lists))
+    (heading_safe s.name s.families name, all_flat (λ l. IsWord l.name × IsList l) IsRow list_rows list_safe s.lists (named_lists s.lists names h.lists))
 
 pub sections_safe : (doc : List Section) → AllByRecursion IsSection doc → AllByRecursion IsRow (flat_map section_rows doc)
 sections_safe doc h = all_flat IsSection IsRow section_rows section_safe doc h

@@ -78,7 +78,7 @@ entry_decides f e =
     (λ h. (((h.source, h.source_ports), (h.destination, h.destination_ports)), ((h.protocol, (h.icmp_type, h.icmp_code)), h.fit)))
     (Decides-and (is_end f e.src e.sport && is_end f e.dst e.dport) (are_numbers e && parts_fit f e) ends tests)
 
-item_decides : (f : Family) (i : Item) → Decides (is_item f i) (IsItem f i)
+pub item_decides : (f : Family) (i : Item) → Decides (is_item f i) (IsItem f i)
 item_decides f (Remark text) = (λ h. h, λ h. h)
 item_decides f (AnEntry e) = entry_decides f e
 

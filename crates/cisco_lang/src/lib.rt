@@ -7,6 +7,7 @@ mod documents;
 mod entry_reading;
 mod list_rows;
 mod lists_drafts;
+mod scanning;
 mod validity;
 mod walking;
 

@@ -90,7 +90,7 @@ fn is_second(list: &AccessList, name: &[u8]) -> bool
 }
 
 #[tactic(auto, using(crate::proofs::ValidityLaws::front_some, crate::proofs::ValidityLaws::front_none))]
-fn is_front_and_name(word: &[u8], front: &[u8], name: &[u8]) -> bool
+pub(crate) fn is_front_and_name(word: &[u8], front: &[u8], name: &[u8]) -> bool
     ensures { result ≡ bytes_eq word.now (front.now ++ name.now) }
 {
     match behind(word, front) {
@@ -108,7 +108,7 @@ fn is_item(family: Family, item: &Item) -> bool
     }
 }
 
-fn is_entry(family: Family, entry: &Entry) -> bool
+pub(crate) fn is_entry(family: Family, entry: &Entry) -> bool
     ensures { result ≡ is_entry family entry.now }
 {
     if !is_end(family, &entry.src, entry.sport) || !is_end(family, &entry.dst, entry.dport) {

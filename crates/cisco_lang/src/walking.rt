@@ -72,7 +72,7 @@ pub fn verdict_of(permit: bool) -> Verdict
     }
 }
 
-fn decided_by(entry: &Entry) -> Outcome
+pub(crate) fn decided_by(entry: &Entry) -> Outcome
     ensures { result ≡ decided_by entry.now }
 {
     Outcome {
@@ -81,7 +81,7 @@ fn decided_by(entry: &Entry) -> Outcome
     }
 }
 
-fn ending(family: Family, packet: &Packet) -> Outcome
+pub(crate) fn ending(family: Family, packet: &Packet) -> Outcome
     ensures { result ≡ ending family packet.now }
 {
     match family {
@@ -90,7 +90,7 @@ fn ending(family: Family, packet: &Packet) -> Outcome
     }
 }
 
-fn entry_holds(entry: &Entry, packet: &Packet) -> bool
+pub(crate) fn entry_holds(entry: &Entry, packet: &Packet) -> bool
     ensures { result ≡ entry_holds entry.now packet.now }
 {
     ends_hold(entry, packet) && ports_hold(entry, packet) && tests_hold(entry, packet)
