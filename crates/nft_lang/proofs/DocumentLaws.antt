@@ -50,7 +50,7 @@ not_true : (a : Bool) → not a ≡ true → a ≡ false
 not_true true h = absurd (false≢true h)
 not_true false h = refl
 
-plain_parts : (w : List ℕ) → plain_word w ≡ true → (bytes_eq w (codes "#") ≡ false) × (bytes_eq w (codes "type") ≡ false)
+pub plain_parts : (w : List ℕ) → plain_word w ≡ true → (bytes_eq w (codes "#") ≡ false) × (bytes_eq w (codes "type") ≡ false)
 plain_parts [] h = absurd (false≢true h)
 plain_parts (b ∷ bs) h =
     let p = and_parts (not (bytes_eq (b ∷ bs) (codes "#"))) (not (bytes_eq (b ∷ bs) (codes "type"))) h in

@@ -234,7 +234,7 @@ rule_safe fs r h =
 
 -- ---- rows
 
-item_safe : (fs : Families) (i : Item) → IsItem fs i → AreRows (item_rows fs i)
+pub item_safe : (fs : Families) (i : Item) → IsItem fs i → AreRows (item_rows fs i)
 unfolding item_rows
 item_safe fs (Remark text) h = search (word, text_words text h)
 item_safe fs (ARule r) h = (record { start = rule_starts (rule_words fs r) (rule_begins fs r); words = rule_safe fs r h }, tt)
