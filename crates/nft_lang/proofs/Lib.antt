@@ -4,6 +4,7 @@ pub mod OverlapLaws
 pub mod RuleReadingLaws
 pub mod SafeRows
 pub mod ScanLaws
+pub mod SectionLaws
 pub mod SetLaws
 pub mod ValidityLaws
 pub mod WalkLaws

@@ -45,10 +45,10 @@ joined_no_feed [] h = refl
 joined_no_feed (w ∷ []) h = h.0.no_feed
 joined_no_feed (w ∷ v ∷ ws) h = has-append 10 w (32 ∷ join_with_byte 32 (v ∷ ws)) h.0.no_feed (joined_no_feed (v ∷ ws) h.1)
 
-line_no_feed : (r : Row) → IsRow r → has_byte 10 (row_line r) ≡ false
+pub line_no_feed : (r : Row) → IsRow r → has_byte 10 (row_line r) ≡ false
 line_no_feed r h = has-append 10 (replicate r.indent 32) (join_with_byte 32 r.words) (spaces_no_feed r.indent) (joined_no_feed r.words h.words)
 
-row_first : (r : Row) (rest : List ℕ) → row_text r ++ rest ≡ row_line r ++ 10 ∷ rest
+pub row_first : (r : Row) (rest : List ℕ) → row_text r ++ rest ≡ row_line r ++ 10 ∷ rest
 unfolding row_text
 row_first r rest = append_assoc (row_line r) (10 ∷ []) rest
 

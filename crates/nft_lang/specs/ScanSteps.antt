@@ -10,14 +10,14 @@ use Rattle.acl_packet.specs.Addresses.{covers}
 use Rattle.acl_packet.specs.Outcomes.{unlogged}
 use Rattle.acl_text.specs.Cuts.{behind, cut_at}
 use Rattle.acl_rows.specs.FamilyWords.{families_in}
-use Rattle.acl_rows.specs.Rows.{text_of_rows, words_in}
+use Rattle.acl_rows.specs.Rows.{Row, text_of_rows, words_in}
 use Rattle.nft_lang.specs.declared.chain_rows.TableHead.{TableHead}
 use Rattle.nft_lang.specs.declared.documents.Item.{Item}
 use Rattle.nft_lang.specs.declared.documents.Section.{Section}
 use Rattle.nft_lang.specs.declared.scanning.Taken.{Taken}
 use Rattle.nft_lang.specs.Documents.{IsItem}
 use Rattle.nft_lang.specs.ReadingSteps.{hook_in, item_in, priority_in, table_in, up_to}
-use Rattle.nft_lang.specs.Texts.{end_rows, item_rows, section_rows}
+use Rattle.nft_lang.specs.Texts.{end_rows, head_rows, item_rows, section_rows}
 use Rattle.nft_lang.specs.ValiditySteps.{is_item}
 use Rattle.nft_lang.specs.Walks.{first_holding, policy_verdict, section_outcome}
 
@@ -103,6 +103,9 @@ head_in text = record {
   priority = priority_in (part_at 32 13 (part_at 10 5 text));
   accept = bytes_eq (part_at 32 15 (part_at 10 5 text)) (codes "accept;");
 }
+
+abbrev pub head_rows_of : TableHead → List Row
+head_rows_of head = head_rows head.hook head.families head.number head.priority head.accept
 
 -- ---- sections
 

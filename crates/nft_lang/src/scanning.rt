@@ -1,4 +1,5 @@
-ghost use Rattle.std.specs.Prelude.{◌≡◌, ◌∷◌, [], IfOk, option_map};
+ghost use Rattle.std.specs.Prelude.{◌≡◌, ◌^◌, ◌<◌, ◌∷◌, [], IfOk, option_map, true};
+ghost use Rattle.nft_lang.specs.Documents.{fits_i32};
 ghost use Rattle.nft_lang.specs.ScanSteps.{TakesChain, TakesItem, TakesItems, behind_byte, head_in, if_valid, item_text_in, name_in, outcome_from, part_at, valid_item_in};
 ghost use Rattle.nft_lang.specs.Texts.{item_rows};
 ghost use Rattle.nft_lang.specs.Walks.{first_holding};
@@ -184,7 +185,9 @@ impl<'a> Rows for ItemRow<'a> {
 // What the lines say at which the head of a section stands.
 #[tactic(auto, unfolding(crate::specs::ScanSteps::head_in))]
 fn head_of(text: &[u8]) -> TableHead
-    ensures { result ≡ head_in text.now }
+    ensures is { result ≡ head_in text.now }
+    ensures number { result.number < 2 ^ 32 }
+    ensures priority { fits_i32 result.priority ≡ true }
 {
     let target = part_at(text, b'\n', 0);
     let chain = part_at(text, b'\n', 5);
