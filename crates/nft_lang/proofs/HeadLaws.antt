@@ -5,11 +5,11 @@ use Rattle.std.specs.List.{join_with_byte}
 use Rattle.std.specs.Str.{bytes_eq}
 use Rattle.acl_packet.specs.declared.addresses.Families.{Families}
 use Rattle.acl_packet.specs.declared.filtering.Hook.{Hook}
-use Rattle.acl_text.specs.Cuts.{cut_at, has_byte}
+use Rattle.acl_text.specs.Cuts.{has_byte}
 use Rattle.acl_text.proofs.CutLaws.{cut-again}
 use Rattle.acl_rows.specs.FamilyWords.{families_in}
 use Rattle.acl_rows.specs.Rows.{Row, row, row_line, row_text, text_of_rows}
-use Rattle.acl_rows.specs.RowSteps.{AreRows, AreWords, IsRow}
+use Rattle.acl_rows.specs.RowSteps.{AreRows, AreWords}
 use Rattle.nft_lang.specs.declared.chain_rows.TableHead.{TableHead}
 use Rattle.nft_lang.specs.Documents.{fits_i32, table_name}
 use Rattle.nft_lang.specs.ReadingSteps.{hook_in, priority_in, table_in, up_to}

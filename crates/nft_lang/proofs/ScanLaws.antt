@@ -1,8 +1,7 @@
 -- What is written of items and sections is taken again from the front of a text, and nothing else is.
-use Rattle.std.proofs.Common.{◌≡◌, ℕ, zero, suc, ◌+◌, ◌<◌, Bool, true, false, cond, ◌==◌, List, [], ◌∷◌, ◌++◌, replicate, length, drop, get_or, map, flat_map, codes, Option, None, Some, IfSome, option_and_then, unwrap_or, refl, ap, sym, subst, ◌∙◌, append_assoc, append-nil, arith, length-append}
-use Rattle.std.specs.List.{AllByRecursion, join_with_byte, prefix_len, slice_split}
-use Rattle.std.specs.Option.{IsSomeAnd, option_or}
-use Rattle.std.specs.Str.{bytes_eq}
+use Rattle.std.proofs.Common.{◌≡◌, ℕ, zero, suc, ◌+◌, ◌<◌, Bool, true, false, cond, List, [], ◌∷◌, ◌++◌, replicate, length, drop, get_or, flat_map, codes, Option, None, Some, option_and_then, refl, ap, sym, subst, ◌∙◌, append_assoc, append-nil, arith, length-append}
+use Rattle.std.specs.List.{AllByRecursion, join_with_byte, prefix_len}
+use Rattle.std.specs.Option.{option_or}
 use Rattle.std.proofs.lemmas.Bool.{cond-true}
 use Rattle.std.proofs.lemmas.Grind.{flat_map-append}
 use Rattle.std.proofs.lemmas.List.{append_cancel_left}
@@ -15,23 +14,21 @@ use Rattle.acl_text.specs.Cuts.{behind, cut_at, has_byte}
 use Rattle.acl_text.proofs.CutLaws.{behind-again, cut-again, has-append}
 use Rattle.acl_text.proofs.ListLaws.{all_append}
 use Rattle.acl_rows.specs.Rows.{Row, row, row_line, row_text, text_of_rows, is_space, words_in}
-use Rattle.acl_rows.specs.RowSteps.{AreRows, AreWords, IsRow, IsWord, begins, row_in}
+use Rattle.acl_rows.specs.RowSteps.{AreRows, AreWords, IsRow, row_in}
 use Rattle.acl_rows.proofs.ListLaws.{joined_text}
-use Rattle.acl_rows.proofs.RowLaws.{cut_there, row-again}
-use Rattle.nft_lang.specs.declared.chain_rows.TableHead.{TableHead}
+use Rattle.acl_rows.proofs.RowLaws.{row-again}
 use Rattle.nft_lang.specs.declared.documents.Item.{Item}
 use Rattle.nft_lang.specs.declared.documents.Item.TheVariants.{Remark, Rule as ARule}
-use Rattle.nft_lang.specs.declared.documents.Section.{Section}
 use Rattle.nft_lang.specs.declared.scanning.Taken.{Taken}
-use Rattle.nft_lang.specs.Documents.{IsItem, IsSection, table_name, table_names}
+use Rattle.nft_lang.specs.Documents.{IsItem}
 use Rattle.nft_lang.specs.ReadingSteps.{item_in, rule_in}
-use Rattle.nft_lang.specs.ScanSteps.{IsFront, TakesFront, ItemsTaken, item_text_in, if_valid, valid_item_in, item_text, TakesItem, items_text, TakesItems}
+use Rattle.nft_lang.specs.ScanSteps.{ItemsTaken, item_text_in, if_valid, valid_item_in, item_text, TakesItem, items_text, TakesItems}
 use Rattle.nft_lang.specs.Texts.{end_rows, item_rows, rule_words}
 use Rattle.nft_lang.specs.ValiditySteps.{is_item}
 use Rattle.nft_lang.specs.Walks.{first_holding, rule_holds, decided_by}
 use Rattle.nft_lang.proofs.DocumentLaws.{plain_parts}
 use Rattle.nft_lang.proofs.RuleReadingLaws.{rule_again}
-use Rattle.nft_lang.proofs.SafeRows.{BeginsRule, item_safe, rule_begins}
+use Rattle.nft_lang.proofs.SafeRows.{item_safe, rule_begins}
 use Rattle.nft_lang.proofs.ValidityLaws.{item_decides}
 
 -- ---- lines

@@ -1,22 +1,19 @@
 -- A section is taken from the front of a text: its head, and then its items.
 use Rattle.std.proofs.Common.{◌≡◌, ℕ, ◌+◌, ◌^◌, ◌<◌, true, List, [], ◌∷◌, ◌++◌, length, flat_map, Option, None, Some, refl, ap, sym, subst, ◌∙◌, append_assoc, arith, length-append}
 use Rattle.std.specs.Borrow.{Bor}
-use Rattle.std.specs.List.{AllByRecursion}
 use Rattle.std.specs.Option.{IsSomeAnd}
 use Rattle.std.proofs.lemmas.Grind.{flat_map-append}
 use Rattle.std.proofs.lemmas.List.{append_cancel_left, map-append}
-use Rattle.acl_packet.specs.declared.filtering.Outcome.{Outcome}
 use Rattle.acl_packet.specs.declared.packets.Packet.{Packet}
 use Rattle.acl_text.specs.Cuts.{views}
 use Rattle.acl_rows.specs.Rows.{row_text, text_of_rows}
-use Rattle.acl_rows.specs.Scans.{IsTaken, TakesSection}
-use Rattle.acl_rows.specs.declared.scanning.TakenSection.{TakenSection}
+use Rattle.acl_rows.specs.Scans.{TakesSection}
 use Rattle.nft_lang.specs.declared.chain_rows.TableHead.{TableHead}
 use Rattle.nft_lang.specs.declared.documents.Item.{Item}
 use Rattle.nft_lang.specs.declared.documents.Section.{Section}
 use Rattle.nft_lang.specs.declared.scanning.Taken.{Taken}
-use Rattle.nft_lang.specs.Documents.{IsItem, IsSection, fits_i32, table_name, table_names}
-use Rattle.nft_lang.specs.ScanSteps.{IsFront, TakesFront, TakesItems, TakesChain, head_in, head_rows_of, items_text, name_in, outcome_from, section_of, section_text}
+use Rattle.nft_lang.specs.Documents.{IsSection, fits_i32, table_names}
+use Rattle.nft_lang.specs.ScanSteps.{TakesItems, TakesChain, head_in, head_rows_of, items_text, name_in, outcome_from, section_of, section_text}
 use Rattle.nft_lang.specs.Texts.{end_rows, head_rows, item_rows, section_rows}
 use Rattle.nft_lang.specs.Walks.{first_holding, section_outcome}
 use Rattle.nft_lang.proofs.HeadLaws.{head_again}

@@ -16,7 +16,7 @@ use acl_rows::{RowForm, RowWords, Rows, Scan, TakenSection, families_of, rows_be
 use acl_text::{Memory, Out, PutFault, behind, split_at_byte};
 use std::alloc::Global;
 
-/// The rows of a section are read when they come, and no item is held.
+// The rows of a section are read when they come, and no item is held.
 impl Scan for Nftables {
     fn take_section<'a>(
         alloc: Global,
@@ -37,13 +37,14 @@ impl Scan for Nftables {
     }
 }
 
-/// What was taken from the front of a text: what it decides, and what the text has behind it.
+// What was taken from the front of a text: what it decides of a packet, and what the text has behind it.
 #[derive(Clone, Copy)]
 struct Taken<'a> {
     decided: Option<Outcome>,
     rest: &'a [u8],
 }
 
+// Takes a section that has this head.
 fn take_chain<'a>(
     alloc: Global,
     head: &TableHead,
@@ -64,7 +65,7 @@ fn take_chain<'a>(
     }
 }
 
-// What a chain of the head does, whose items decide that.
+// What a section of the head does, whose items decide that.
 fn outcome_of(head: &TableHead, decided: Option<Outcome>, packet: &Packet) -> Option<Outcome>
     ensures { result ≡ outcome_from head.now decided packet.now }
 {
@@ -76,6 +77,7 @@ fn outcome_of(head: &TableHead, decided: Option<Outcome>, packet: &Packet) -> Op
     }
 }
 
+// Takes the items of a chain and the rows that close it. The first item that decides does.
 fn take_items<'a>(
     alloc: Global,
     families: Families,
@@ -96,6 +98,8 @@ fn take_items<'a>(
     }
 }
 
+// Takes the item that the text begins with. The line says which it is, and is its row where it is as that is
+// written.
 fn take_item<'a>(
     alloc: Global,
     families: Families,
@@ -105,16 +109,19 @@ fn take_item<'a>(
     ensures { IfOk result (TakesItem families packet.now text.now) }
 {
     match valid_item_of(alloc, families, text)? {
-        Some(item) => match rows_behind(text, &ItemRow {
-            families,
-            item: &item,
-        }) {
-            Some(rest) => Ok(Some(Taken {
-                decided: decided_by_item(&item, packet),
-                rest,
-            })),
-            None => Ok(None),
-        },
+        Some(item) => {
+            let row = ItemRow {
+                families,
+                item: &item,
+            };
+            match rows_behind(text, &row) {
+                Some(rest) => Ok(Some(Taken {
+                    decided: decided_by_item(&item, packet),
+                    rest,
+                })),
+                None => Ok(None),
+            }
+        }
         None => Ok(None),
     }
 }
@@ -135,12 +142,16 @@ fn decided_by_item(item: &Item, packet: &Packet) -> Option<Outcome>
     }
 }
 
+// What the first line of the text says, if that is a valid item.
 #[tactic(auto, unfolding(crate::specs::ScanSteps::valid_item_in))]
 fn valid_item_of(alloc: Global, families: Families, text: &[u8]) -> Result<Option<Item>, Memory>
     ensures { IfOk result (λ o. o ≡ valid_item_in families text.now) }
 {
     match item_text_of(text) {
-        Some(words) => if_valid(alloc, families, item_of(alloc, families, RowWords::new(words))?),
+        Some(words) => {
+            let item = item_of(alloc, families, RowWords::new(words))?;
+            if_valid(alloc, families, item)
+        }
         None => Ok(None),
     }
 }
@@ -156,6 +167,7 @@ fn if_valid(alloc: Global, families: Families, item: Item) -> Result<Option<Item
     }
 }
 
+// The first line behind its eight spaces.
 #[tactic(auto, unfolding(crate::specs::ScanSteps::item_text_in))]
 fn item_text_of(text: &[u8]) -> Option<&[u8]>
     ensures { option_map (λ words. words.now) result ≡ item_text_in text.now }
@@ -200,6 +212,7 @@ fn head_of(text: &[u8]) -> TableHead
     }
 }
 
+// The name of the table, from the line that adds it.
 #[tactic(auto, unfolding(crate::specs::ScanSteps::name_in))]
 fn name_of(text: &[u8]) -> &[u8]
     ensures { result.now ≡ name_in text.now }

@@ -201,7 +201,11 @@ fn from_zero(word: &[u8]) -> Option<i32>
 }
 
 #[tactic(auto, unfolding(crate::specs::ReadingSteps::item_in))]
-pub(crate) fn item_of(alloc: Global, families: Families, words: RowWords<'_>) -> Result<Item, Memory>
+pub(crate) fn item_of(
+    alloc: Global,
+    families: Families,
+    words: RowWords<'_>,
+) -> Result<Item, Memory>
     ensures { IfOk result (λ i. i ≡ item_in families words.entry) }
 {
     if words.begins_with(b"#") {

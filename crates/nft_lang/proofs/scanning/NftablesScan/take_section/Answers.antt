@@ -1,5 +1,4 @@
-use Rattle.std.proofs.Common.{◌∷◌, [], ◌∙◌, ap, subst}
-use Rattle.std.proofs.lemmas.List.{map-append}
+use Rattle.std.proofs.Common.{subst}
 use Rattle.acl_text.specs.Cuts.{views}
 use Rattle.nft_lang.specs.ScanSteps.{TakesChain}
 use Rattle.nft_lang.proofs.SectionLaws.{name_pushed, no_section, section_taken}
