@@ -23,14 +23,15 @@ use Rattle.nft_lang.specs.Walks.{first_holding, policy_verdict, section_outcome}
 
 -- ---- what is taken
 
--- The text begins with what is written of the front, which is valid, and decides this.
+-- What was taken is a front of the text: it is valid, the text begins with what is written of it,
+-- and it decides this.
 pub record IsFront {A : Type 0} (IsValid : A → Type 0) (written : A → List ℕ)
     (decides : A → Option Outcome) (text : List ℕ) (taken : Taken) (front : A) : Type 0 where
   pub valid : IsValid front
   pub written_first : text ≡ written front ++ taken.rest.now
   pub decided : taken.decided ≡ decides front
 
--- A front is taken, if the text begins with one, and all of it.
+-- Something is taken only if it is a front of the text, and each front of the text is taken whole.
 pub record TakesFront {A : Type 0} (IsValid : A → Type 0) (written : A → List ℕ)
     (decides : A → Option Outcome) (text : List ℕ) (taken : Option Taken) : Type 0 where
   pub some : IfSome taken (λ t. (front : A) × IsFront IsValid written decides text t front)
@@ -44,13 +45,15 @@ unfoldable pub item_text_in : List ℕ → Option (List ℕ)
 item_text_in text =
     option_and_then (λ (cut : List ℕ × List ℕ). behind (replicate 8 32) cut.0) (cut_at 10 text)
 
--- The item where it is valid.
+-- The item, if it is valid.
 unfoldable pub if_valid : Families → Item → Option Item
 if_valid families item = if is_item families item then Some item else None
 
+-- The item that the first line says.
 unfoldable pub valid_item_in : Families → List ℕ → Option Item
 valid_item_in families text =
-    option_and_then (λ words. if_valid families (item_in families (words_in words))) (item_text_in text)
+    option_and_then (λ words. if_valid families (item_in families (words_in words)))
+    (item_text_in text)
 
 abbrev pub item_text : Families → Item → List ℕ
 item_text families item = text_of_rows (item_rows families item)
@@ -67,7 +70,8 @@ abbrev pub TakesItems : Families → Packet → List ℕ → Option Taken → Ty
 TakesItems families packet text taken = TakesFront (AllByRecursion (IsItem families))
     (items_text families) (λ items. first_holding items packet) text taken
 
--- The items so far: what the text has behind them begins with those of a chain, where the text did.
+-- The items so far, and the first of them that decides. Where the text begins with the items of a
+-- chain, what it has behind those so far begins with the others.
 pub record ItemsTaken (families : Families) (packet : Packet) (text rest : List ℕ)
     (decided : Option Outcome) : Type 0 where
   pub before : (items : List Item) × AllByRecursion (IsItem families) items
@@ -93,8 +97,8 @@ part_at byte (suc place) text = part_at byte place (behind_byte byte text)
 unfoldable pub name_in : List ℕ → List ℕ
 name_in text = part_at 32 3 (part_at 10 1 text)
 
--- The first line of a section names its target, and the sixth is that of the base chain, behind eight
--- spaces.
+-- The first line of a section names its target. The sixth is that of the base chain, behind eight
+-- spaces, so that its words are eight places further on.
 unfoldable pub head_in : List ℕ → TableHead
 head_in text = record {
   hook = hook_in (part_at 32 2 (part_at 10 0 text));
@@ -125,8 +129,8 @@ section_text head items = text_of_rows (section_rows (section_of head items))
 -- What a section of the head does to the packet, whose items decide that.
 abbrev pub outcome_from : TableHead → Option Outcome → Packet → Option Outcome
 outcome_from head decided p =
-    if covers head.families p.family then Some (unwrap_or decided (unlogged (policy_verdict head.accept)))
-    else None
+    if covers head.families p.family
+    then Some (unwrap_or decided (unlogged (policy_verdict head.accept))) else None
 
 -- A section with that head is taken.
 abbrev pub TakesChain : TableHead → Packet → List ℕ → Option Taken → Type 0

@@ -37,7 +37,7 @@ impl Scan for Nftables {
     }
 }
 
-// What was taken from the front of a text: what it decides of a packet, and what the text has behind it.
+// What was taken from the front of a text: what it decides of a packet, and what stands behind it.
 #[derive(Clone, Copy)]
 struct Taken<'a> {
     decided: Option<Outcome>,
@@ -98,8 +98,8 @@ fn take_items<'a>(
     }
 }
 
-// Takes the item that the text begins with. The line says which it is, and is its row where it is as that is
-// written.
+// Takes the item that the text begins with. The first line says which it would be, and is compared
+// with the row of that one.
 fn take_item<'a>(
     alloc: Global,
     families: Families,
