@@ -50,7 +50,7 @@ not_true : (a : Bool) → not a ≡ true → a ≡ false
 not_true true h = absurd (false≢true h)
 not_true false h = refl
 
-plain_parts : (w : List ℕ) → plain_word w ≡ true → (bytes_eq w (codes "#") ≡ false) × (bytes_eq w (codes "type") ≡ false)
+pub plain_parts : (w : List ℕ) → plain_word w ≡ true → (bytes_eq w (codes "#") ≡ false) × (bytes_eq w (codes "type") ≡ false)
 plain_parts [] h = absurd (false≢true h)
 plain_parts (b ∷ bs) h =
     let p = and_parts (not (bytes_eq (b ∷ bs) (codes "#"))) (not (bytes_eq (b ∷ bs) (codes "type"))) h in
@@ -81,23 +81,23 @@ items_read ss s items h =
 
 -- ---- heads
 
-hook_again : (h : Hook) → hook_in (hook_word h) ≡ h
+pub hook_again : (h : Hook) → hook_in (hook_word h) ≡ h
 unfolding hook_in
 hook_again Input = refl
 hook_again Output = refl
 hook_again Forward = refl
 
-families_again : (fs : Families) → families_in (families_word fs) ≡ fs
+pub families_again : (fs : Families) → families_in (families_word fs) ≡ fs
 unfolding families_in
 families_again Inet = refl
 families_again Inet6 = refl
 families_again Mixed = refl
 
-default_again : (b : Bool) → bytes_eq (default_word b) (codes "accept;") ≡ b
+pub default_again : (b : Bool) → bytes_eq (default_word b) (codes "accept;") ≡ b
 default_again true = refl
 default_again false = refl
 
-number_again : (n : ℕ) → n < 2 ^ 32 → table_in (table_name n) ≡ n
+pub number_again : (n : ℕ) → n < 2 ^ 32 → table_in (table_name n) ≡ n
 unfolding table_in
 number_again n h =
     ap (λ o. option_map_or {U = ℕ} (λ digits. unwrap_or (number_in (2 ^ 32 - 1) digits) 0) o 0) (behind-again (codes "aclgen_") (decimal n))
@@ -121,7 +121,7 @@ signed_again (negsuc n) h =
     ap (option_and_then negative) (number-again (2 ^ 31) (suc n) (omega (arith, small)) (omega (arith, small)))
     ∙ ap (λ b. cond b None (Some (negsuc (suc n - 1)))) (ne_eqb (suc n) 0 (λ e. absurd (omega arith))) ∙ ap (λ m. Some (negsuc m)) same
 
-priority_again : (p : ℤ) → fits_i32 p ≡ true → priority_in (priority_word p) ≡ p
+pub priority_again : (p : ℤ) → fits_i32 p ≡ true → priority_in (priority_word p) ≡ p
 unfolding priority_in
 priority_again p h =
     ap (λ w. unwrap_or (signed_in (2 ^ 31) (2 ^ 31 - 1) w) (pos 0)) (up_to_there 59 (signed_decimal p) (signed_lacks 59 p h refl refl))

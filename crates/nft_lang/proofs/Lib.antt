@@ -1,7 +1,10 @@
 pub mod DocumentLaws
+pub mod HeadLaws
 pub mod OverlapLaws
 pub mod RuleReadingLaws
 pub mod SafeRows
+pub mod ScanLaws
+pub mod SectionLaws
 pub mod SetLaws
 pub mod ValidityLaws
 pub mod WalkLaws

@@ -234,7 +234,7 @@ rule_safe fs r h =
 
 -- ---- rows
 
-item_safe : (fs : Families) (i : Item) → IsItem fs i → AreRows (item_rows fs i)
+pub item_safe : (fs : Families) (i : Item) → IsItem fs i → AreRows (item_rows fs i)
 unfolding item_rows
 item_safe fs (Remark text) h = search (word, text_words text h)
 item_safe fs (ARule r) h = (record { start = rule_starts (rule_words fs r) (rule_begins fs r); words = rule_safe fs r h }, tt)
@@ -272,10 +272,11 @@ priority_safe : (p : ℤ) → fits_i32 p ≡ true → IsWord (priority_word p)
 priority_safe p h =
     joined_word (signed_decimal p) (codes ";") (word (signed_decimal p) (signed_lacks 32 p h refl refl) (signed_lacks 10 p h refl refl)) (search word)
 
-head_safe : (s : Section) → IsSection s → AreRows (head_rows s.hook s.families s.number s.priority s.accept)
+pub head_safe : (hook : Hook) (families : Families) (number : ℕ) (priority : ℤ) (accept : Bool) → number < 2 ^ 32 → fits_i32 priority ≡ true
+    → AreRows (head_rows hook families number priority accept)
 unfolding head_rows
-head_safe s h =
-    search (word, hook_safe s.hook, families_safe s.families, table_safe s.families, name_safe s.number h.number, priority_safe s.priority h.priority, default_safe s.accept)
+head_safe hook families number priority accept small fits =
+    search (word, hook_safe hook, families_safe families, table_safe families, name_safe number small, priority_safe priority fits, default_safe accept)
 
 end_safe : AreRows end_rows
 end_safe = search word
@@ -284,7 +285,8 @@ section_safe : (s : Section) → IsSection s → AreRows (section_rows s)
 unfolding section_rows
 section_safe s h =
     let items = all_flat (IsItem s.families) IsRow (item_rows s.families) (item_safe s.families) s.items h.items in
-    all_append IsRow (head_rows s.hook s.families s.number s.priority s.accept) _ (head_safe s h)
+    all_append IsRow (head_rows s.hook s.families s.number s.priority s.accept) _
+    (head_safe s.hook s.families s.number s.priority s.accept h.number h.priority)
     (all_append IsRow (flat_map (item_rows s.families) s.items) end_rows items end_safe)
 
 pub sections_safe : (doc : List Section) → AllByRecursion IsSection doc → AllByRecursion IsRow (flat_map section_rows doc)

@@ -67,7 +67,7 @@ rule_decides fs r =
     (λ h. ((h.family, h.protocol), (((h.sources, h.destinations), ((h.source_ports, h.destination_ports), (h.icmp_types, h.icmp_codes))), h.fit)))
     (Decides-and (covers fs r.family && number_fits 1 255 r.proto) (has_sets r && parts_fit r) kind (Decides-and (has_sets r) (parts_fit r) sets (is_itself (parts_fit r))))
 
-item_decides : (fs : Families) (i : Item) → Decides (is_item fs i) (IsItem fs i)
+pub item_decides : (fs : Families) (i : Item) → Decides (is_item fs i) (IsItem fs i)
 item_decides fs (Remark text) = (λ h. h, λ h. h)
 item_decides fs (ARule r) = rule_decides fs r
 

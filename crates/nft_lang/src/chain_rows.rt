@@ -456,8 +456,8 @@ impl<'a> Words for IcmpSets<'a> {
 
 // The items of a chain in a table of the families.
 #[derive(Drop)]
-struct OfFamilies {
-    families: Families,
+pub(crate) struct OfFamilies {
+    pub(crate) families: Families,
 }
 
 impl RowForm<Item> for OfFamilies {

@@ -8,6 +8,7 @@ mod nftables;
 mod overlaps;
 mod rule_drafts;
 mod rule_words;
+mod scanning;
 mod sets;
 mod tables_drafts;
 mod validity;

@@ -144,7 +144,7 @@ fn no_section(alloc: Global) -> Section
 }
 
 #[tactic(auto, unfolding(crate::specs::ReadingSteps::hook_in))]
-fn hook_of(word: &[u8]) -> Hook
+pub(crate) fn hook_of(word: &[u8]) -> Hook
     ensures { result ≡ hook_in word.now }
 {
     if word == b"output".as_slice() {
@@ -157,7 +157,7 @@ fn hook_of(word: &[u8]) -> Hook
 }
 
 #[tactic(auto, unfolding(crate::specs::ReadingSteps::table_in))]
-fn table_of(word: &[u8]) -> u32
+pub(crate) fn table_of(word: &[u8]) -> u32
     ensures { result ≡ table_in word.now }
 {
     match behind(word, b"aclgen_") {
@@ -167,7 +167,7 @@ fn table_of(word: &[u8]) -> u32
 }
 
 #[tactic(auto, unfolding(crate::specs::ReadingSteps::priority_in))]
-fn priority_of(word: &[u8]) -> i32
+pub(crate) fn priority_of(word: &[u8]) -> i32
     ensures { result ≡ priority_in word.now }
 {
     signed_of(up_to(word, b';')).unwrap_or(0)
@@ -201,7 +201,11 @@ fn from_zero(word: &[u8]) -> Option<i32>
 }
 
 #[tactic(auto, unfolding(crate::specs::ReadingSteps::item_in))]
-fn item_of(alloc: Global, families: Families, words: RowWords<'_>) -> Result<Item, Memory>
+pub(crate) fn item_of(
+    alloc: Global,
+    families: Families,
+    words: RowWords<'_>,
+) -> Result<Item, Memory>
     ensures { IfOk result (λ i. i ≡ item_in families words.entry) }
 {
     if words.begins_with(b"#") {

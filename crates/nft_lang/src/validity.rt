@@ -54,7 +54,7 @@ fn are_items(alloc: Global, families: Families, items: &[Item]) -> Result<bool, 
     Ok(true)
 }
 
-fn is_item(alloc: Global, families: Families, item: &Item) -> Result<bool, Memory>
+pub(crate) fn is_item(alloc: Global, families: Families, item: &Item) -> Result<bool, Memory>
     ensures { IfOk result (λ b. b ≡ is_item families item.now) }
 {
     match item {

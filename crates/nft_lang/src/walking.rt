@@ -16,7 +16,7 @@ pub(crate) fn walk(accept: bool, items: &[Item], packet: &Packet) -> Outcome
     }
 }
 
-fn policy_verdict(accept: bool) -> Verdict
+pub(crate) fn policy_verdict(accept: bool) -> Verdict
     ensures { result ≡ policy_verdict accept }
 {
     if accept {
@@ -40,7 +40,7 @@ fn first_holding(items: &[Item], packet: &Packet) -> Option<Outcome>
     None
 }
 
-fn decided_by(rule: &Rule) -> Outcome
+pub(crate) fn decided_by(rule: &Rule) -> Outcome
     ensures { result ≡ decided_by rule.now }
 {
     Outcome {
@@ -49,7 +49,7 @@ fn decided_by(rule: &Rule) -> Outcome
     }
 }
 
-fn rule_holds(rule: &Rule, packet: &Packet) -> bool
+pub(crate) fn rule_holds(rule: &Rule, packet: &Packet) -> bool
     ensures { result ≡ rule_holds rule.now packet.now }
 {
     protocol_holds(rule, packet)
