@@ -241,7 +241,7 @@ joined_more w [] = refl
 joined_more w (v ∷ words) =
     ap (λ t. w ++ 32 ∷ t) (joined_more v words) ∙ sym (append_assoc w (32 ∷ join_with_byte 32 (v ∷ words)) (codes " */"))
 
-without_end : (text : List ℕ) → note_in (text ++ codes " */") ≡ text
+pub without_end : (text : List ℕ) → note_in (text ++ codes " */") ≡ text
 unfolding note_in
 without_end text =
     let e : length (text ++ codes " */") - 3 ≡ length text = omega (arith, length-append text (codes " */")) in

@@ -1,14 +1,17 @@
 -- A term is read again from its text, whatever stands behind it.
-use Rattle.std.proofs.Common.{◌≡◌, ℕ, zero, suc, Bool, true, false, cond, ◌&&◌, nat_le, List, [], ◌∷◌, ◌++◌, map, codes, replicate, Option, None, Some, refl, ap, sym, ◌∙◌, append_assoc}
+use Rattle.std.proofs.Common.{◌≡◌, ℕ, zero, suc, ◌+◌, ◌<◌, Bool, true, false, cond, ◌&&◌, nat_le, List, [], ◌∷◌, ◌++◌, length, map, codes, replicate, Option, None, Some, IfSome, is_some, option_map, refl, ap, sym, subst, ◌∙◌, append_assoc, length-append, arith}
 use Rattle.std.specs.Fmt.{decimal}
 use Rattle.std.specs.List.{AllByRecursion, fold, join_with_byte}
+use Rattle.std.specs.Option.{IsSomeAnd}
 use Rattle.std.proofs.lemmas.Grind.{flat_map-append}
+use Rattle.std.proofs.lemmas.Bool.{false≢true}
+use Rattle.std.proofs.lemmas.Option.{none-some}
 use Rattle.acl_packet.specs.declared.addresses.Family.{Family}
 use Rattle.acl_packet.specs.declared.addresses.Prefix.{Prefix}
 use Rattle.acl_packet.specs.declared.filtering.Verdict.{Verdict}
 use Rattle.acl_packet.specs.declared.filtering.Verdict.TheVariants.{Accept}
-use Rattle.acl_text.specs.Cuts.{has_byte}
-use Rattle.acl_text.proofs.CutLaws.{has-append}
+use Rattle.acl_text.specs.Cuts.{behind, has_byte}
+use Rattle.acl_text.proofs.CutLaws.{behind-again, has-append}
 use Rattle.acl_text.proofs.ListLaws.{all_append}
 use Rattle.acl_rows.specs.Rows.{Row, row, row_line, row_text, text_of_rows, words_in}
 use Rattle.acl_rows.specs.RowSteps.{row_in, rows_in, IsRow, IsWord}
@@ -21,9 +24,10 @@ use Rattle.junos_lang.specs.declared.documents.JTerm.{JTerm}
 use Rattle.junos_lang.specs.declared.documents.JTest.{JTest}
 use Rattle.junos_lang.specs.declared.documents.Section.{Section}
 use Rattle.junos_lang.specs.declared.filters_drafts.FiltersDraft.{FiltersDraft}
+use Rattle.junos_lang.specs.declared.term_taking.TakenTerm.{TakenTerm}
 use Rattle.junos_lang.specs.Documents.{IsTerm}
 use Rattle.junos_lang.specs.ReadingSteps.{no_section, no_term, take_head, take_row}
-use Rattle.junos_lang.specs.ScanSteps.{draft_of, ends_term, is_short, read_term, term_in}
+use Rattle.junos_lang.specs.ScanSteps.{HasTerm, IsTermTaken, TakesTerm, draft_of, ends_term, is_short, read_term, term_in}
 use Rattle.junos_lang.specs.Texts.{address_rows, closing, condition_rows, from_rows, list_row, list_rows, note_row, note_rows, prefix_row, protocol_of, range_word, syslog_rows, term_row, term_rows, test_rows, then_rows}
 use Rattle.junos_lang.proofs.DocumentLaws.{conditions_read, fitting_verdict, from_read, note_read, then_read}
 use Rattle.junos_lang.proofs.SafeRows.{term_safe}
@@ -183,3 +187,36 @@ pub name_there : (f : Family) (t : JTerm) (rest : List ℕ)
     → (more : List ℕ) × (text_of_rows (term_rows f t) ++ rest ≡ text_of_rows (note_rows t.note) ++ (codes "            term " ++ (t.name ++ more)))
 unfolding term_rows
 name_there f t rest = named_there t.note t.name (from_rows (condition_rows f t) ++ (then_rows t.syslog t.verdict ++ closing 12 ∷ [])) rest
+
+pub term_shortens : (f : Family) (t : JTerm) (text rest : List ℕ) → text ≡ text_of_rows (term_rows f t) ++ rest → length rest < length text
+term_shortens f t text rest e =
+    let b = term_begins f t in
+    let front : length (text_of_rows (term_rows f t)) ≡ 12 + length b.0 = ap length b.1 ∙ length-append (codes "            ") b.0 in
+    let whole : length text ≡ length (text_of_rows (term_rows f t)) + length rest = ap length e ∙ length-append (text_of_rows (term_rows f t)) rest in
+    omega (arith, front, whole)
+
+pub none_mapped : {A B : Type 0} (f : A → B) (o : Option A) (x : Option B) → is_some o ≡ false → option_map f o ≡ x → x ≡ None
+none_mapped f None x h e = sym e
+none_mapped f (Some a) x h e = absurd (false≢true (sym h))
+
+-- a text that is not indented begins with no term
+pub none_taken : (f : Family) (text : List ℕ) → behind (codes "            ") text ≡ None → TakesTerm f text None
+none_taken f text n = record {
+  some = tt;
+  each = λ t rest h e.
+      let b = term_begins f t in
+      let more : List ℕ = b.0 ++ rest in
+      let found : behind (codes "            ") text ≡ Some more =
+          ap (behind (codes "            ")) (e ∙ ap (λ x. x ++ rest) b.1 ∙ append_assoc (codes "            ") b.0 rest) ∙ behind-again (codes "            ") more in
+      none-some more (sym n ∙ found);
+}
+
+pub term_taken : (f : Family) (text : List ℕ) (read : JTerm) (taken : Option TakenTerm) → read ≡ term_in f text → IfSome taken (IsTermTaken f text)
+    → ((rest : List ℕ) → IsTerm f read → HasTerm f text read rest → IsSomeAnd taken (λ u. (u.term ≡ read) × (u.rest.now ≡ rest))) → TakesTerm f text taken
+term_taken f text read taken e some each = record {
+  some = some;
+  each = λ t rest h w.
+      let same : read ≡ t = e ∙ ap (term_in f) w ∙ term_again f t rest h in
+      let Each : JTerm → Type 0 = λ u. (more : List ℕ) → IsTerm f u → HasTerm f text u more → IsSomeAnd taken (λ v. (v.term ≡ u) × (v.rest.now ≡ more)) in
+      subst Each same each rest h w;
+}
