@@ -1,8 +1,7 @@
 -- A filter, taken from the front of a text.
-use Rattle.std.proofs.Common.{◌≡◌, ℕ, ◌+◌, ◌<◌, Bool, true, false, cond, List, [], ◌∷◌, ◌++◌, length, flat_map, codes, Option, None, Some, IfNone, option_map, refl, ap, sym, subst, ◌∙◌, append_assoc, length-append, arith}
+use Rattle.std.proofs.Common.{◌≡◌, ℕ, ◌+◌, ◌<◌, Bool, true, false, cond, List, [], ◌∷◌, ◌++◌, length, flat_map, codes, Option, None, Some, refl, ap, sym, subst, ◌∙◌, append_assoc, length-append, arith}
 use Rattle.std.specs.List.{AllByRecursion}
 use Rattle.std.specs.Str.{bytes_eq}
-use Rattle.std.specs.Option.{IsSomeAnd}
 use Rattle.std.proofs.lemmas.Grind.{flat_map-append}
 use Rattle.std.proofs.lemmas.List.{append_cancel_left}
 use Rattle.std.proofs.lemmas.Option.{none-some, same_Some}
@@ -19,7 +18,6 @@ use Rattle.acl_rows.specs.declared.scanning.TakenSection.{TakenSection}
 use Rattle.acl_rows.specs.Rows.{row, row_text, text_of_rows}
 use Rattle.acl_rows.specs.Scans.{TakesSection}
 use Rattle.acl_rows.proofs.WordLaws.{name_word}
-use Rattle.junos_lang.specs.declared.documents.JTerm.{JTerm}
 use Rattle.junos_lang.specs.declared.documents.Section.{Section}
 use Rattle.junos_lang.specs.declared.filter_taking.FilterHead.{FilterHead}
 use Rattle.junos_lang.specs.declared.filter_taking.TakenFilter.{TakenFilter}
@@ -28,7 +26,7 @@ use Rattle.junos_lang.specs.Documents.{IsSection, IsTerm, family_word, filter_na
 use Rattle.junos_lang.specs.ReadingSteps.{note_in}
 use Rattle.junos_lang.specs.ScanSteps.{AreTerms, TakesBody, TakesFilter, end_text, head_in, head_parts, known_family_in, section_name_in, terms_text}
 use Rattle.junos_lang.specs.Texts.{end_rows, head_rows, section_rows, term_rows}
-use Rattle.junos_lang.specs.Walks.{section_outcome, walk}
+use Rattle.junos_lang.specs.Walks.{section_outcome}
 use Rattle.junos_lang.proofs.DocumentLaws.{without_end}
 
 -- ---- the text of a section
@@ -41,7 +39,7 @@ unfolding section_rows
 section_text s rest =
     let terms = flat_map (term_rows s.family) s.terms in
     ap (λ t. t ++ rest) (flat_map-append row_text (head_rows (family_word s.family) s.name) (terms ++ end_rows)
-      ∙ ap (λ t. head_text s.family s.name ++ t) (flat_map-append row_text terms end_rows))
+    ∙ ap (λ t. head_text s.family s.name ++ t) (flat_map-append row_text terms end_rows))
     ∙ append_assoc (head_text s.family s.name) (text_of_rows terms ++ end_text) rest
     ∙ ap (λ t. head_text s.family s.name ++ t) (append_assoc (text_of_rows terms) end_text rest)
 
@@ -63,10 +61,12 @@ first_row f name rest =
     let line : List ℕ = name ++ 32 ∷ (word ++ codes " */") in
     let inner = row 0 (codes "firewall" ∷ codes "{" ∷ []) ∷ row 4 (codes "family" ∷ word ∷ codes "{" ∷ [])
     ∷ row 8 (codes "replace:" ∷ codes "filter" ∷ name ∷ codes "{" ∷ []) ∷ [] in
-    let others : List ℕ = text_of_rows inner in
-    (others ++ rest, ap (λ t. codes "/* juniper " ++ t)
-      (append_assoc (line ++ 10 ∷ []) others rest ∙ append_assoc line (10 ∷ []) (others ++ rest)
-      ∙ ap (λ t. t ++ 10 ∷ (others ++ rest)) (sym (append_assoc name (32 ∷ word) (codes " */")))))
+    let others : List ℕ = text_of_rows inner in (
+      others ++ rest,
+      ap (λ t. codes "/* juniper " ++ t)
+          (append_assoc (line ++ 10 ∷ []) others rest ∙ append_assoc line (10 ∷ []) (others ++ rest)
+          ∙ ap (λ t. t ++ 10 ∷ (others ++ rest)) (sym (append_assoc name (32 ∷ word) (codes " */")))),
+    )
 
 head_again : (f : Family) (name rest : List ℕ) → is_filter_name name ≡ true → head_in (head_text f name ++ rest) ≡ Some (f, name, name ++ 32 ∷ family_word f)
 unfolding head_in section_name_in
@@ -92,6 +92,7 @@ known_word w f h = first (bytes_eq w (codes "inet")) refl h where
   second : (t : Bool) → bytes_eq w (codes "inet6") ≡ t → cond t (Some V6) None ≡ Some f → w ≡ family_word f
   second true e k = same_bytes w (codes "inet6") e ∙ ap family_word (same_Some V6 f k)
   second false e k = absurd (none-some f k)
+
   first : (t : Bool) → bytes_eq w (codes "inet") ≡ t → cond t (Some V4) (cond (bytes_eq w (codes "inet6")) (Some V6) None) ≡ Some f → w ≡ family_word f
   first true e k = same_bytes w (codes "inet") e ∙ ap family_word (same_Some V4 f k)
   first false e k = second (bytes_eq w (codes "inet6")) refl k
@@ -171,13 +172,16 @@ filter_taken text p h body t u e n b k name outcome rest =
     let s : Section = record { family = h.family; name = h.filter.now; terms = k.some.0 } in
     let taken = k.some.1 in
     record {
-      some = (s, record {
-        valid = record { named = n; has_terms = taken.valid.some; terms = taken.valid.valid; terms_differ = taken.valid.differ };
-        written = b ∙ ap (λ x. head_text h.family h.filter.now ++ x) (taken.written ∙ ap (λ x. terms_text h.family k.some.0 ++ (end_text ++ x)) (sym rest))
-            ∙ sym (section_text s u.rest.now);
-        named = name ∙ head_found text h e;
-        decided = outcome ∙ ap (λ o. cond (same_family h.family p.family) (Some o) None) taken.decided;
-      });
+      some = (
+        s,
+        record {
+          valid = record { named = n; has_terms = taken.valid.some; terms = taken.valid.valid; terms_differ = taken.valid.differ };
+          written = b ∙ ap (λ x. head_text h.family h.filter.now ++ x) (taken.written ∙ ap (λ x. terms_text h.family k.some.0 ++ (end_text ++ x)) (sym rest))
+              ∙ sym (section_text s u.rest.now);
+          named = name ∙ head_found text h e;
+          decided = outcome ∙ ap (λ o. cond (same_family h.family p.family) (Some o) None) taken.decided;
+        },
+      );
       each = λ s' more v w.
           let q = section_head text h s' more e v w in
           rest ∙ k.each s'.terms more (terms_by_head h s' q.0 v) (body_by_head text h body s' more b q w);
@@ -208,12 +212,15 @@ section_taken text p before after u t k name outcome rest =
     let taken = k.some.1 in
     let written : text ≡ text_of_rows (section_rows s) ++ t.rest.now = taken.written ∙ ap (λ x. text_of_rows (section_rows s) ++ x) (sym rest) in
     record {
-      some = (s, record {
-        valid = taken.valid;
-        written = written;
-        named = name ∙ ap (λ x. before ++ x ∷ []) taken.named;
-        decided = outcome ∙ taken.decided;
-        shorter = section_shortens s text t.rest.now written;
-      });
+      some = (
+        s,
+        record {
+          valid = taken.valid;
+          written = written;
+          named = name ∙ ap (λ x. before ++ x ∷ []) taken.named;
+          decided = outcome ∙ taken.decided;
+          shorter = section_shortens s text t.rest.now written;
+        },
+      );
       each = λ s' others v all e. rest ∙ k.each s' (text_of_rows (flat_map section_rows others)) v (e ∙ sections_text s' others);
     }

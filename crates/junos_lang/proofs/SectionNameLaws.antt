@@ -1,5 +1,5 @@
 -- Two sections have the same name where they have the same family and filter's name.
-use Rattle.std.proofs.Common.{◌≡◌, ℕ, Bool, false, ◌&&◌, List, [], ◌∷◌, ◌++◌, codes, sym, ap, ◌∙◌, append_assoc, arith, Decides}
+use Rattle.std.proofs.Common.{◌≡◌, ℕ, ◌&&◌, List, [], ◌∷◌, ◌++◌, codes, sym, ap, ◌∙◌, append_assoc, arith, Decides}
 use Rattle.std.specs.Str.{bytes_eq}
 use Rattle.std.proofs.lemmas.Bool.{false_from_ne_true}
 use Rattle.std.proofs.lemmas.Bool.Decides.{same_from_decides}
@@ -22,7 +22,7 @@ same_last (a ∷ xs) (b ∷ ys) x y e = same_last xs ys x y cc
 other_family : (a b : List ℕ) → a ++ codes " inet" ≡ b ++ codes " inet6" → ⊥
 other_family a b e =
     let last : 116 ≡ 54 = same_last (a ++ codes " ine") (b ++ codes " inet") 116 54
-        (append_assoc a (codes " ine") (116 ∷ []) ∙ e ∙ sym (append_assoc b (codes " inet") (54 ∷ []))) in
+    (append_assoc a (codes " ine") (116 ∷ []) ∙ e ∙ sym (append_assoc b (codes " inet") (54 ∷ []))) in
     omega (arith, last)
 
 same_before : (t a b : List ℕ) → bytes_eq a b ≡ bytes_eq (a ++ t) (b ++ t)

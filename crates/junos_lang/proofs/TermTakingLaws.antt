@@ -176,11 +176,12 @@ unfolding row_text
 named_there o name rows rest =
     let note : List ℕ = text_of_rows (note_rows o) in
     let end : List ℕ = codes " {" in
-    let others : List ℕ = text_of_rows rows in
-    (((end ++ 10 ∷ []) ++ others) ++ rest,
+    let others : List ℕ = text_of_rows rows in (
+      ((end ++ 10 ∷ []) ++ others) ++ rest,
       ap (λ t. t ++ rest) (flat_map-append row_text (note_rows o) (term_row name ∷ rows))
-      ∙ append_assoc note (text_of_rows (term_row name ∷ rows)) rest
-      ∙ ap (λ t. note ++ (codes "            term " ++ t)) (moved name end (10 ∷ []) others rest))
+          ∙ append_assoc note (text_of_rows (term_row name ∷ rows)) rest
+          ∙ ap (λ t. note ++ (codes "            term " ++ t)) (moved name end (10 ∷ []) others rest),
+    )
 
 -- its name stands behind its note
 pub name_there : (f : Family) (t : JTerm) (rest : List ℕ)
@@ -207,7 +208,7 @@ none_taken f text n = record {
       let b = term_begins f t in
       let more : List ℕ = b.0 ++ rest in
       let found : behind (codes "            ") text ≡ Some more =
-          ap (behind (codes "            ")) (e ∙ ap (λ x. x ++ rest) b.1 ∙ append_assoc (codes "            ") b.0 rest) ∙ behind-again (codes "            ") more in
+      ap (behind (codes "            ")) (e ∙ ap (λ x. x ++ rest) b.1 ∙ append_assoc (codes "            ") b.0 rest) ∙ behind-again (codes "            ") more in
       none-some more (sym n ∙ found);
 }
 

@@ -17,7 +17,7 @@ use Rattle.junos_lang.specs.declared.documents.JTerm.{JTerm}
 use Rattle.junos_lang.specs.declared.term_taking.TakenTerm.{TakenTerm}
 use Rattle.junos_lang.specs.declared.terms_taking.TakenTerms.{TakenTerms}
 use Rattle.junos_lang.specs.Documents.{IsTerm, term_names}
-use Rattle.junos_lang.specs.ScanSteps.{AreTaken, AreTerms, EndsBody, HasTaken, HasWalked, IsBodyTaken, TakesBody, TakesTerm, decided_or, decided_with, end_text, terms_text}
+use Rattle.junos_lang.specs.ScanSteps.{EndsBody, HasTaken, HasWalked, TakesBody, TakesTerm, decided_or, decided_with, end_text, terms_text}
 use Rattle.junos_lang.specs.Texts.{term_rows}
 use Rattle.junos_lang.specs.Walks.{decided_by, term_holds, walk}
 use Rattle.junos_lang.proofs.TermTakingLaws.{term_begins}
@@ -85,16 +85,18 @@ pub one_more_taken : (f : Family) (text : List ℕ) (p : Packet) (names : List (
     → HasTaken f text p (names ++ u.name.now ∷ []) (decided_with decided u.term p) u.rest.now
 one_more_taken f text p names decided rest u h k =
     let ts = h.0 in
-    let t = u.term in
-    (ts ++ t ∷ [], record {
-      valid = all_append (IsTerm f) ts (t ∷ []) h.1.valid (k.some.valid, tt);
-      written = h.1.written ∙ ap (λ x. terms_text f ts ++ x) k.some.written ∙ sym (last_text f ts t u.rest.now);
-      named = ap (λ x. x ++ u.name.now ∷ []) h.1.named ∙ ap (λ x. term_names ts ++ x ∷ []) k.some.named ∙ one_name_more ts t;
-      walked = walked_further ts p decided t h.1.walked;
-      first = λ all more v e.
-          let q = h.1.first all more v e in
-          one_less_left f all ts rest more u k q.0 q.1 q.2 q.3;
-    })
+    let t = u.term in (
+      ts ++ t ∷ [],
+      record {
+        valid = all_append (IsTerm f) ts (t ∷ []) h.1.valid (k.some.valid, tt);
+        written = h.1.written ∙ ap (λ x. terms_text f ts ++ x) k.some.written ∙ sym (last_text f ts t u.rest.now);
+        named = ap (λ x. x ++ u.name.now ∷ []) h.1.named ∙ ap (λ x. term_names ts ++ x ∷ []) k.some.named ∙ one_name_more ts t;
+        walked = walked_further ts p decided t h.1.walked;
+        first = λ all more v e.
+            let q = h.1.first all more v e in
+            one_less_left f all ts rest more u k q.0 q.1 q.2 q.3;
+      },
+    )
 
 -- ---- the end of the filter
 
@@ -125,15 +127,18 @@ body_taken f text p names decided rest None h n ends = record {
       absurd (ends.none (ap is_empty (sym same) ∙ empty_names ts ∙ v.some) (subst (IsDistinct bytes_eq) same v.differ) more all.1);
 }
 body_taken f text p names decided rest (Some t) h n ends = record {
-  some = (h.0, record {
-    valid = record {
-      some = sym (empty_names h.0) ∙ ap is_empty (sym h.1.named) ∙ ends.some.0;
-      valid = h.1.valid;
-      differ = subst (IsDistinct bytes_eq) h.1.named ends.some.1;
-    };
-    written = h.1.written ∙ ap (λ x. terms_text f h.0 ++ x) ends.some.2;
-    decided = ends.some.3 ∙ walked_all h.0 p decided h.1.walked;
-  });
+  some = (
+    h.0,
+    record {
+      valid = record {
+        some = sym (empty_names h.0) ∙ ap is_empty (sym h.1.named) ∙ ends.some.0;
+        valid = h.1.valid;
+        differ = subst (IsDistinct bytes_eq) h.1.named ends.some.1;
+      };
+      written = h.1.written ∙ ap (λ x. terms_text f h.0 ++ x) ends.some.2;
+      decided = ends.some.3 ∙ walked_all h.0 p decided h.1.walked;
+    },
+  );
   each = λ ts more v e.
       let q = h.1.first ts more v.valid e in
       let all = all_taken f ts h.0 rest more n q.0 q.1 q.2 q.3 in

@@ -1,5 +1,5 @@
 -- Taking a filter from the front of a text, its terms one by one.
-use Rattle.std.specs.Prelude.{◌≡◌, ℕ, ◌<◌, Bool, true, false, ◌&&◌, nat_le, if◌then◌else◌, List, [], ◌∷◌, ◌++◌, length, map, flat_map, codes, Option, Some, None, IfSome, IfNone}
+use Rattle.std.specs.Prelude.{◌≡◌, ℕ, ◌<◌, Bool, true, false, ◌&&◌, nat_le, if◌then◌else◌, List, [], ◌∷◌, ◌++◌, length, flat_map, codes, Option, Some, None, IfSome, IfNone}
 use Rattle.std.specs.List.{AllByRecursion, IsDistinct}
 use Rattle.std.specs.Option.{IsSomeAnd}
 use Rattle.std.specs.Str.{bytes_eq}
@@ -34,7 +34,7 @@ is_short [] = true
 is_short (w ∷ []) = true
 is_short (w ∷ v ∷ words) = false
 
--- Whether the row ends a term, or what the term stands in: it is not within the term, and has one word.
+-- Whether the row ends a term, or what a term stands in: it is not within the term, and has one word.
 unfoldable pub ends_term : Row → Bool
 ends_term r = nat_le r.indent 12 && is_short r.words
 
@@ -94,8 +94,8 @@ abbrev pub HasWalked : List JTerm → Packet → Option Outcome → Type 0
 HasWalked terms p decided =
     (others : List JTerm) → walk (terms ++ others) p ≡ decided_or decided (walk others p)
 
--- The terms that were taken from the front of a text, and what is left. Where the text is that of valid terms and of what ends a
--- filter, they are the first of these, and the text of the others is left.
+-- The terms that were taken from the front of a text, and what is left. Where the text is that of valid
+-- terms and of what ends a filter, they are the first of these, and the text of the others is left.
 pub record AreTaken (family : Family) (text : List ℕ) (p : Packet) (names : List (List ℕ))
     (decided : Option Outcome) (rest : List ℕ) (terms : List JTerm) : Type 0 where
   pub valid : AllByRecursion (IsTerm family) terms
@@ -131,7 +131,8 @@ pub record TakesBody (family : Family) (text : List ℕ) (p : Packet) (taken : O
       → text ≡ terms_text family terms ++ (end_text ++ rest)
       → IsSomeAnd taken (λ t. t.rest.now ≡ rest)
 
--- What is left behind the end of a filter whose terms have these names, if it has a term and no two have the same.
+-- What is left behind the end of a filter whose terms have these names, if it has a term and no two have
+-- the same.
 pub record EndsBody (names : List (List ℕ)) (decided : Option Outcome) (text : List ℕ)
     (taken : Option TakenTerms) : Type 0 where
   pub some : IfSome taken (λ t. (is_empty names ≡ false) × IsDistinct bytes_eq names
@@ -161,7 +162,8 @@ head_in text = section_name_in text >>= (λ name. cut_at 32 name >>= (λ p.
     known_family_in p.1 >>= (λ family. Some (family, p.0, name))))
 
 -- The text begins with the valid filter, which is followed by what is left.
-pub record IsFilterTaken (text : List ℕ) (p : Packet) (taken : TakenFilter) (s : Section) : Type 0 where
+pub record IsFilterTaken (text : List ℕ) (p : Packet) (taken : TakenFilter) (s : Section)
+    : Type 0 where
   pub valid : IsSection s
   pub written : text ≡ text_of_rows (section_rows s) ++ taken.rest.now
   pub named : taken.name.now ≡ name_of s
@@ -169,5 +171,6 @@ pub record IsFilterTaken (text : List ℕ) (p : Packet) (taken : TakenFilter) (s
 
 pub record TakesFilter (text : List ℕ) (p : Packet) (taken : Option TakenFilter) : Type 0 where
   pub some : IfSome taken (λ t. (s : Section) × IsFilterTaken text p t s)
-  pub each : (s : Section) (rest : List ℕ) → IsSection s → text ≡ text_of_rows (section_rows s) ++ rest
+  pub each : (s : Section) (rest : List ℕ) → IsSection s
+      → text ≡ text_of_rows (section_rows s) ++ rest
       → IsSomeAnd taken (λ t. t.rest.now ≡ rest)

@@ -14,8 +14,8 @@ use acl_rows::rows_behind;
 use acl_text::{Memory, behind, is_filter_name, split_at_byte};
 use std::alloc::Global;
 
-/// What the filter at the front of a text does to a packet, its name as a section, and what the text has behind
-/// it.
+/// What the filter at the front of a text does to a packet, its name as a section, and what the text
+/// has behind it.
 #[derive(Clone, Copy, Drop)]
 pub(crate) struct TakenFilter<'a> {
     pub(crate) name: &'a [u8],

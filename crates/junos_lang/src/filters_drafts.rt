@@ -1,8 +1,8 @@
 ghost use Rattle.std.specs.Prelude.{◌≡◌, ◌∷◌, [], OnOk, IfOk, Some};
 ghost use Rattle.acl_text.specs.Cuts.{views};
 ghost use Rattle.acl_rows.specs.FamilyWords.{family_in};
-ghost use Rattle.junos_lang.specs.ScanSteps.{draft_of};
 ghost use Rattle.junos_lang.specs.ReadingSteps.{no_term, no_section, no_draft, numbers_in, ranges_in, listed_prefix_in, note_in, with_prefix, with_list, with_word, with_pair, end_in, end_term, end_section, take_outer, take_family, take_filter, take_head, take_term, take_part, take_address, take_row};
+ghost use Rattle.junos_lang.specs.ScanSteps.{draft_of};
 
 use crate::documents::{Doc, JTerm, JTest, Section};
 use acl_packet::{Family, Prefix, Verdict};

@@ -25,8 +25,8 @@ pub(crate) struct TakenTerm<'a> {
     pub(crate) rest: &'a [u8],
 }
 
-/// Takes the term of a filter of the family that the text begins with. `None` where it begins with no
-/// valid term.
+/// Takes the term of a filter of the family that the text begins with. `None` where it begins with
+/// no valid term.
 pub(crate) fn take_term<'a>(
     alloc: Global,
     family: Family,

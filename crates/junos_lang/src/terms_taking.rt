@@ -11,15 +11,17 @@ use acl_rows::{are_distinct_names, rows_behind};
 use acl_text::Memory;
 use std::alloc::Global;
 
-/// What the terms at the front of a text do to a packet, and what the text has behind the end of their filter.
+/// What the terms at the front of a text do to a packet, and what the text has behind the end of
+/// their filter.
 #[derive(Clone, Copy, Drop)]
 pub(crate) struct TakenTerms<'a> {
     pub(crate) outcome: Outcome,
     pub(crate) rest: &'a [u8],
 }
 
-/// Takes the terms of a filter of the family that the text begins with, and the rows that end the filter.
-/// One term at a time is held, and the names of all. `None` where these are no terms of a filter.
+/// Takes the terms of a filter of the family that the text begins with, and the rows that end the
+/// filter. One term at a time is held, and the names of all. `None` where these are no terms of a
+/// filter.
 pub(crate) fn take_terms<'a>(
     alloc: Global,
     family: Family,

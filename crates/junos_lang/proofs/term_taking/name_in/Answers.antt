@@ -1,4 +1,4 @@
-use Rattle.std.proofs.Common.{◌≡◌, ◌+◌, ◌<◌, List, ℕ, ◌++◌, codes, length, take, None, Some, refl, sym, ap, ◌∙◌, arith}
+use Rattle.std.proofs.Common.{◌≡◌, ◌+◌, List, ℕ, ◌++◌, codes, length, take, Some, refl, sym, ap, ◌∙◌, arith}
 use Rattle.std.proofs.lemmas.Bool.{false≢true}
 use Rattle.std.proofs.lemmas.List.{append_cancel_left, length-append, take_at}
 use Rattle.std.proofs.lemmas.Option.{none-some, same_Some}
@@ -27,7 +27,7 @@ returns-in_err-front-clause-each c = λ rest e.
     let t = c.args.term.now in
     let more : List ℕ = t.name ++ rest in
     let words : c.in_ok-words.words.now ≡ more = same_Some c.in_ok-words.words.now more
-        (c.in_ok-words.ensures ∙ behind_note c.args.text.now (text_of_rows (note_rows t.note)) c.in_ok-head.head.now more c.in_ok-head.ensures.some e) in
+    (c.in_ok-words.ensures ∙ behind_note c.args.text.now (text_of_rows (note_rows t.note)) c.in_ok-head.head.now more c.in_ok-head.ensures.some e) in
     let long : length more ≡ length t.name + length rest = length-append t.name rest in
     absurd (omega (arith, c.in_err-front.ensures.cases, ap length words, ap length c.as_slice-name.ensures, long))
 
@@ -36,8 +36,8 @@ returns-else-eq-clause-each c = λ rest e.
     let t = c.args.term.now in
     let more : List ℕ = t.name ++ rest in
     let words : c.in_ok-words.words.now ≡ more = same_Some c.in_ok-words.words.now more
-        (c.in_ok-words.ensures ∙ behind_note c.args.text.now (text_of_rows (note_rows t.note)) c.in_ok-head.head.now more c.in_ok-head.ensures.some e) in
+    (c.in_ok-words.ensures ∙ behind_note c.args.text.now (text_of_rows (note_rows t.note)) c.in_ok-head.head.now more c.in_ok-head.ensures.some e) in
     let name = c.as_slice-name.result.now in
     let front : c.in_ok-front.front.now ≡ name =
-        c.in_ok-front.ensures.cases.1 ∙ ap (take (length name)) (words ∙ ap (λ n. n ++ rest) (sym c.as_slice-name.ensures)) ∙ take_at name rest (length name) refl in
+    c.in_ok-front.ensures.cases.1 ∙ ap (take (length name)) (words ∙ ap (λ n. n ++ rest) (sym c.as_slice-name.ensures)) ∙ take_at name rest (length name) refl in
     false≢true (sym c.if-eq.false ∙ c.eq.ensures ∙ bytes_same c.in_ok-front.front.now name front)
