@@ -179,7 +179,7 @@ test_read ss s t (Some Established) e = refl
 test_read ss s t (Some Initial) e = refl
 test_read ss s t (Some Rst) e = refl
 
-conditions_read : (ss : List Section) (s : Section) (t : JTerm) (n : Option (List ℕ)) (name : List ℕ) → IsTerm s.family t
+pub conditions_read : (ss : List Section) (s : Section) (t : JTerm) (n : Option (List ℕ)) (name : List ℕ) → IsTerm s.family t
     → read (at ss s (record no_term { note = n; name = name })) (condition_rows s.family t)
     ≡ at ss s (record t { note = n; name = name; syslog = false; verdict = Accept })
 unfolding condition_rows
@@ -214,12 +214,12 @@ conditions_read ss s t n name h =
     let from_dst = then (at ss s b) (at ss s c) last (address_rows Destination t.dst) protos (address_read ss s b Destination t.dst h.destinations) from_protos in
     then (at ss s a) (at ss s b) last (address_rows Source t.src) dst (address_read ss s a Source t.src h.sources) from_dst
 
-from_read : (ss : List Section) (s : Section) (t u : JTerm) (rows : List Row) → read (at ss s t) rows ≡ at ss s u → read (at ss s t) (from_rows rows) ≡ at ss s u
+pub from_read : (ss : List Section) (s : Section) (t u : JTerm) (rows : List Row) → read (at ss s t) rows ≡ at ss s u → read (at ss s t) (from_rows rows) ≡ at ss s u
 unfolding from_rows take_row
 from_read ss s t u [] h = h
 from_read ss s t u (r ∷ rows) h = then (at ss s t) (at ss s u) (at ss s u) (r ∷ rows) (closing 16 ∷ []) h refl
 
-then_read : (ss : List Section) (s : Section) (t : JTerm) (protos : List ℕ) (b : Bool) (v : Verdict) → t.syslog ≡ false → verdict_fits v protos ≡ true
+pub then_read : (ss : List Section) (s : Section) (t : JTerm) (protos : List ℕ) (b : Bool) (v : Verdict) → t.syslog ≡ false → verdict_fits v protos ≡ true
     → read (at ss s t) (then_rows b v) ≡ at ss s (record t { syslog = b; verdict = v })
 unfolding then_rows take_row with_word with_pair end_in
 then_read ss s t protos true Accept e h = refl
@@ -241,7 +241,7 @@ joined_more w [] = refl
 joined_more w (v ∷ words) =
     ap (λ t. w ++ 32 ∷ t) (joined_more v words) ∙ sym (append_assoc w (32 ∷ join_with_byte 32 (v ∷ words)) (codes " */"))
 
-without_end : (text : List ℕ) → note_in (text ++ codes " */") ≡ text
+pub without_end : (text : List ℕ) → note_in (text ++ codes " */") ≡ text
 unfolding note_in
 without_end text =
     let e : length (text ++ codes " */") - 3 ≡ length text = omega (arith, length-append text (codes " */")) in
@@ -253,7 +253,7 @@ unfolding take_row take_head
 note_taken ss s t w words =
     ap (λ n. at ss s (record t { note = Some n })) (ap note_in (joined_more w words) ∙ without_end (join_with_byte 32 (w ∷ words)))
 
-note_read : (ss : List Section) (s : Section) (o : Option (List ℕ)) → read (at ss s no_term) (note_rows o) ≡ at ss s (record no_term { note = o })
+pub note_read : (ss : List Section) (s : Section) (o : Option (List ℕ)) → read (at ss s no_term) (note_rows o) ≡ at ss s (record no_term { note = o })
 unfolding note_row
 note_read ss s None = refl
 note_read ss s (Some text) =
@@ -264,7 +264,7 @@ note_read ss s (Some text) =
 abbrev with_term : Section → JTerm → Section
 with_term s t = record s { terms = s.terms ++ t ∷ [] }
 
-fitting_verdict : (f : Family) (t : JTerm) → IsTerm f t → verdict_fits t.verdict t.protos ≡ true
+pub fitting_verdict : (f : Family) (t : JTerm) → IsTerm f t → verdict_fits t.verdict t.protos ≡ true
 fitting_verdict f t h =
     let types = and_parts (ports_fit t) _ h.fit in
     let icodes = and_parts (types_fit f t) _ types.1 in

@@ -1,5 +1,9 @@
 pub mod ConditionLaws
 pub mod DocumentLaws
+pub mod FilterTakingLaws
 pub mod SafeRows
+pub mod SectionNameLaws
+pub mod TermTakingLaws
+pub mod TermsTakingLaws
 pub mod ValidityLaws
 pub mod WalkLaws

@@ -128,7 +128,7 @@ unfolding note_row
 note_safe None h = tt
 note_safe (Some text) h = search (both_words, word, text_words text h)
 
-term_safe : (f : Family) (t : JTerm) → IsTerm f t → AreRows (term_rows f t)
+pub term_safe : (f : Family) (t : JTerm) → IsTerm f t → AreRows (term_rows f t)
 unfolding term_rows
 term_safe f t h =
     let head : IsRow (term_row t.name) = search (word, plain_word t.name h.named) in

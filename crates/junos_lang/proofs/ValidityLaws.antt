@@ -11,6 +11,7 @@ use Rattle.std.proofs.lemmas.Bool.{false≢true}
 use Rattle.std.proofs.lemmas.Bool.Decides.{Decides-and, Decides-like, Decides-ltb}
 use Rattle.std.proofs.lemmas.Map.Text.{is_eq-slice_cmp}
 use Rattle.acl_packet.specs.declared.addresses.Family.{Family}
+use Rattle.acl_packet.specs.declared.addresses.Family.TheVariants.{V4, V6}
 use Rattle.acl_text.specs.Names.{is_name, is_filter_name, is_safe_text}
 use Rattle.acl_rows.specs.ApartSteps.{are_apart}
 use Rattle.acl_rows.specs.PortRangeSteps.{is_port_range}
@@ -22,6 +23,7 @@ use Rattle.acl_rows.specs.RuleParts.{IsAddresses, is_empty}
 use Rattle.junos_lang.specs.declared.documents.Section.{Section}
 use Rattle.junos_lang.specs.declared.documents.JTerm.{JTerm}
 use Rattle.junos_lang.specs.Documents.{parts_fit, IsTerm, term_names, IsSection, name_of, filter_names}
+use Rattle.junos_lang.proofs.SectionNameLaws.{same_names}
 use Rattle.junos_lang.specs.ValiditySteps.{filter_name, is_note, are_named, are_addresses, are_ports, are_numbers, is_term, is_section}
 
 -- two names are the same where family and filter's name are
@@ -29,10 +31,10 @@ abbrev filters_cmp : Bool × Bor (List ℕ) → Bool × Bor (List ℕ) → Order
 filters_cmp a b = ordering_then (bool_cmp a.0 b.0) (slice_cmp nat_cmp a.1.now b.1.now)
 
 same_filters : (a b : Bool × Bor (List ℕ)) → eq_by_cmp filters_cmp a b ≡ bytes_eq (filter_name a) (filter_name b)
-same_filters (false, a) (false, b) = is_eq-slice_cmp a.now b.now
-same_filters (false, a) (true, b) = refl
-same_filters (true, a) (false, b) = refl
-same_filters (true, a) (true, b) = is_eq-slice_cmp a.now b.now
+same_filters (false, a) (false, b) = is_eq-slice_cmp a.now b.now ∙ same_names V4 V4 a.now b.now
+same_filters (false, a) (true, b) = same_names V4 V6 a.now b.now
+same_filters (true, a) (false, b) = same_names V6 V4 a.now b.now
+same_filters (true, a) (true, b) = is_eq-slice_cmp a.now b.now ∙ same_names V6 V6 a.now b.now
 
 pub filters_apart : (filters : List (Bool × Bor (List ℕ))) (doc : List Section) → map filter_name filters ≡ map name_of doc
     → are_apart (eq_by_cmp filters_cmp) filters ≡ are_apart bytes_eq (map name_of doc)
@@ -47,7 +49,7 @@ note_decides : (o : Option (List ℕ)) → Decides (is_note o) (IfSome o (λ tex
 note_decides None = (λ h. tt, λ h. refl)
 note_decides (Some text) = holds (is_safe_text text)
 
-term_decides : (f : Family) (t : JTerm) → Decides (is_term f t) (IsTerm f t)
+pub term_decides : (f : Family) (t : JTerm) → Decides (is_term f t) (IsTerm f t)
 term_decides f t =
     let names = Decides-and (is_note t.note) (is_name t.name) (note_decides t.note) (holds (is_name t.name)) in
     let listed = all_decides (is_addresses f) (IsAddresses f) (addresses_decide f) in

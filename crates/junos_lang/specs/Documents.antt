@@ -95,10 +95,10 @@ abbrev pub family_word : Family → List ℕ
 family_word V4 = codes "inet"
 family_word V6 = codes "inet6"
 
--- The name of a section in its document: the family's word, a space and the filter's name. Filters
--- of two families may have one name.
+-- The name of a section in its document, as its first row has it: the filter's name, a space and the
+-- family's word. Filters of two families may have one name.
 abbrev pub name_of : Section → List ℕ
-name_of s = family_word s.family ++ 32 ∷ s.name
+name_of s = s.name ++ 32 ∷ family_word s.family
 
 -- The one name that a filter takes in its document.
 abbrev pub filter_names : Section → List (List ℕ)

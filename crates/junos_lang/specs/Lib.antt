@@ -1,6 +1,7 @@
 pub mod ConditionSteps
 pub mod Documents
 pub mod ReadingSteps
+pub mod ScanSteps
 pub mod Texts
 pub mod ValiditySteps
 pub mod Walks

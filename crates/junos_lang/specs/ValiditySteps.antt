@@ -41,5 +41,5 @@ is_section s = (is_filter_name s.name && not (is_empty s.terms))
 
 -- The name of a section, from whether it is of IPv6 and its filter's name.
 abbrev pub filter_name : Bool × Bor (List ℕ) → List ℕ
-filter_name (false, name) = family_word V4 ++ 32 ∷ name.now
-filter_name (true, name) = family_word V6 ++ 32 ∷ name.now
+filter_name (false, name) = name.now ++ 32 ∷ family_word V4
+filter_name (true, name) = name.now ++ 32 ∷ family_word V6

@@ -54,9 +54,28 @@ impl RowForm<JTerm> for OfFamily {
     }
 }
 
+/// A term of a filter of the family.
 #[derive(Drop)]
-struct Note<'a> {
-    note: &'a Option<Bytes>,
+pub(crate) struct TermRows<'a> {
+    pub(crate) family: Family,
+    pub(crate) term: &'a JTerm,
+}
+
+impl<'a> Rows for TermRows<'a> {
+    ghost rows = { λ t. term_rows t.family t.term.now };
+
+    fn put_rows<O: Out>(&self, out: &mut O) -> Result<(), PutFault> {
+        let form = OfFamily {
+            family: self.family,
+        };
+        form.put_item(self.term, out)
+    }
+}
+
+/// The note of a term, if it has one.
+#[derive(Drop)]
+pub(crate) struct Note<'a> {
+    pub(crate) note: &'a Option<Bytes>,
 }
 
 impl<'a> Rows for Note<'a> {

@@ -2,6 +2,7 @@ ghost use Rattle.std.specs.Prelude.{◌≡◌, ◌∷◌, [], OnOk, IfOk, Some};
 ghost use Rattle.acl_text.specs.Cuts.{views};
 ghost use Rattle.acl_rows.specs.FamilyWords.{family_in};
 ghost use Rattle.junos_lang.specs.ReadingSteps.{no_term, no_section, no_draft, numbers_in, ranges_in, listed_prefix_in, note_in, with_prefix, with_list, with_word, with_pair, end_in, end_term, end_section, take_outer, take_family, take_filter, take_head, take_term, take_part, take_address, take_row};
+ghost use Rattle.junos_lang.specs.ScanSteps.{draft_of};
 
 use crate::documents::{Doc, JTerm, JTest, Section};
 use acl_packet::{Family, Prefix, Verdict};
@@ -67,6 +68,27 @@ impl DocumentDraft<Section> for FiltersDraft {
 }
 
 impl FiltersDraft {
+    /// Nothing has been read of a filter of the family.
+    pub(crate) fn of_family(alloc: Global, family: Family) -> FiltersDraft
+        ensures { result ≡ draft_of family }
+    {
+        let mut section = no_section(alloc);
+        section.family = family;
+        FiltersDraft {
+            sections: Items::new(alloc),
+            section,
+            term: no_term(alloc),
+            end: End::Source,
+        }
+    }
+
+    /// The term whose rows come.
+    pub(crate) fn into_term(self) -> JTerm
+        ensures { result ≡ self.term }
+    {
+        self.term
+    }
+
     #[tactic(auto, unfolding(crate::specs::ReadingSteps::take_outer))]
     fn take_outer(&mut self, alloc: Global, words: &[&[u8]]) -> Result<(), Memory>
         ensures { OnOk result (self.new ≡ take_outer self.old (views words.now)) }

@@ -7,8 +7,12 @@ mod conditions;
 mod document_rows;
 mod documents;
 mod filter_rows;
+mod filter_taking;
 mod filters_drafts;
 mod junos;
+mod scanning;
+mod term_taking;
+mod terms_taking;
 mod validity;
 mod walking;
 

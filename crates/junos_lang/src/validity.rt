@@ -65,7 +65,7 @@ fn are_terms(family: Family, terms: &[JTerm]) -> bool
     terms.iter().all(|term| is_term(family, term))
 }
 
-fn is_term(family: Family, term: &JTerm) -> bool
+pub(crate) fn is_term(family: Family, term: &JTerm) -> bool
     ensures { result ≡ is_term family term.now }
 {
     if !are_named(term) || !are_addresses(family, term) {

@@ -18,7 +18,7 @@ pub(crate) fn walk(terms: &[JTerm], packet: &Packet) -> Outcome
     Outcome::unlogged(Verdict::Deny)
 }
 
-fn decided_by(term: &JTerm) -> Outcome
+pub(crate) fn decided_by(term: &JTerm) -> Outcome
     ensures { result ≡ decided_by term.now }
 {
     Outcome {
@@ -27,7 +27,7 @@ fn decided_by(term: &JTerm) -> Outcome
     }
 }
 
-fn term_holds(term: &JTerm, packet: &Packet) -> bool
+pub(crate) fn term_holds(term: &JTerm, packet: &Packet) -> bool
     ensures { result ≡ term_holds term.now packet.now }
 {
     admit_addresses(term.src.as_slice(), term.dst.as_slice(), packet)
