@@ -1,5 +1,8 @@
+pub mod ChainScanLaws
 pub mod DocumentLaws
+pub mod FirstRowLaws
 pub mod PortWords
+pub mod RowScanLaws
 pub mod RuleReadingLaws
 pub mod SafeRowLaws
 pub mod ValidityLaws

@@ -1,6 +1,6 @@
 ghost use Rattle.std.specs.Prelude.{◌≡◌, IfOk};
 ghost use Rattle.ipt_lang.specs.Documents.{IsRemark};
-ghost use Rattle.ipt_lang.specs.ScanSteps.{IsBehind, TakesChain, TakesChains, TakesRules};
+ghost use Rattle.ipt_lang.specs.ScanSteps.{IsBehind, IsChainName, TakesChain, TakesChains, TakesRules};
 ghost use Rattle.ipt_lang.specs.Texts.{remark_rows};
 
 use crate::chain_rows::{JumpRow, OfChain, TargetRow};
@@ -114,6 +114,7 @@ fn take_rules<'a>(
     packet: &Packet,
     so_far: Outcome,
 ) -> Result<TakenRules<'a>, Memory>
+    requires { IsChainName chain.now.name.now }
     ensures { IfOk result (TakesRules chain.now.hook chain.now.family chain.now.name.now
         text.now packet.now so_far) }
 {

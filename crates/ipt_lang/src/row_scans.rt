@@ -31,8 +31,10 @@ pub(crate) fn take_remark<'a>(text: &'a [u8]) -> Option<Taken<'a, &'a [u8]>>
     if !is_safe_text(remark) {
         return None;
     }
-    let rest = rows_behind(text, &RemarkRow { text: remark })?;
-    Some(Taken { item: remark, rest })
+    match rows_behind(text, &RemarkRow { text: remark }) {
+        Some(rest) => Some(Taken { item: remark, rest }),
+        None => None,
+    }
 }
 
 fn remark_in(text: &[u8]) -> &[u8]
@@ -49,8 +51,10 @@ pub(crate) fn take_name<'a>(hook: Hook, text: &'a [u8]) -> Option<Taken<'a, &'a 
     if !is_chain_name(name) {
         return None;
     }
-    let rest = rows_behind(text, &ChainHead { hook, name })?;
-    Some(Taken { item: name, rest })
+    match rows_behind(text, &ChainHead { hook, name }) {
+        Some(rest) => Some(Taken { item: name, rest }),
+        None => None,
+    }
 }
 
 fn name_in(text: &[u8]) -> &[u8]
@@ -65,6 +69,7 @@ pub(crate) fn take_rule<'a>(
     chain: &OfChain<'_>,
     text: &'a [u8],
 ) -> Result<Option<Taken<'a, Rule>>, Memory>
+    requires { IsChainName chain.now.name.now }
     ensures { IfOk result (TakesItem (IsRule chain.now.family)
         (rule_rows chain.now.hook chain.now.family chain.now.name.now) (λ r. r) text.now) }
 {
@@ -106,8 +111,10 @@ pub(crate) fn take_target(text: &[u8]) -> Option<Taken<'_, TargetRow>>
     ensures { TakesItem IsAny target_rows (λ t. t) text.now result }
 {
     let target = target_in(text);
-    let rest = rows_behind(text, &target)?;
-    Some(Taken { item: target, rest })
+    match rows_behind(text, &target) {
+        Some(rest) => Some(Taken { item: target, rest }),
+        None => None,
+    }
 }
 
 fn target_in(text: &[u8]) -> TargetRow
