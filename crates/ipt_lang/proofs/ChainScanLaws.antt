@@ -88,11 +88,10 @@ pub record Starts (rows : List Row) : Type 0 where
   pub no_policy : begins_with (codes "-P") first ≡ false
 
 pub chain_starts : (hook : Hook) (f : Family) (c : Chain) → IsChain f c → Starts (chain_rows hook f c)
-unfolding chain_rows
+unfolding chain_rows remark_rows
 chain_starts hook f c h = start c.remarks h.remarks (flat_map (rule_rows hook f c.name) c.rules ++ jump_rows hook c.name) where
   start : (remarks : List (List ℕ)) → AllByRecursion IsRemark remarks → (rows : List Row)
       → Starts (flat_map remark_rows remarks ++ (chain_row hook c.name ∷ rows))
-  unfolding remark_rows
   start [] k rows = record {
     first = codes "-N" ∷ chain_name hook c.name ∷ [];
     others = rows;

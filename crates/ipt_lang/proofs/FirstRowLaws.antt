@@ -6,6 +6,7 @@ use Rattle.std.proofs.lemmas.List.{length-append}
 use Rattle.std.proofs.lemmas.Option.{some_pair_parts}
 use Rattle.acl_text.specs.Cuts.{cut_at, has_byte}
 use Rattle.acl_text.proofs.CutLaws.{cut-again, has-append}
+use Rattle.acl_text.proofs.ListLaws.{all_append}
 use Rattle.acl_rows.specs.Rows.{Row, row, row_line, row_text, text_of_rows, words_in}
 use Rattle.acl_rows.specs.RowSteps.{row_in, IsRow, AreWords}
 use Rattle.acl_rows.proofs.PutLaws.{rows_append}
@@ -105,13 +106,17 @@ lacks_unless IsItem rows text said again none x more h e =
     let same = again x more h e in
     none more (subst IsItem (sym same) h) (e ∙ ap (λ y. text_of_rows (rows y) ++ more) (sym same))
 
--- items, and one more behind them
+-- the text begins with these items
+abbrev pub Passed : {X : Type 0} → (X → Type 0) → (X → List Row) → List ℕ → List X → List ℕ → Type 0
+Passed IsItem rows text items rest = AllByRecursion IsItem items × (text ≡ text_of_rows (flat_map rows items) ++ rest)
+
+-- and with one more
 pub one_more : {X : Type 0} (IsItem : X → Type 0) (rows : X → List Row) (text : List ℕ) (items : List X) (x : X) (rest behind : List ℕ)
-    → text ≡ text_of_rows (flat_map rows items) ++ rest → rest ≡ text_of_rows (rows x) ++ behind
-    → text ≡ text_of_rows (flat_map rows (items ++ x ∷ [])) ++ behind
-one_more IsItem rows text [] x rest behind e f =
-    e ∙ f ∙ sym (item_first rows x [] behind)
-one_more IsItem rows text (y ∷ items) x rest behind e f =
-    let tail = text_of_rows (flat_map rows items) ++ rest in
-    e ∙ item_first rows y items rest ∙ ap (λ t. text_of_rows (rows y) ++ t) (one_more IsItem rows tail items x rest behind refl f)
-    ∙ sym (item_first rows y (items ++ x ∷ []) behind)
+    → Passed IsItem rows text items rest → IsItem x → rest ≡ text_of_rows (rows x) ++ behind → Passed IsItem rows text (items ++ x ∷ []) behind
+one_more {X = X} IsItem rows text items x rest behind h k e =
+    (all_append IsItem items (x ∷ []) h.0 (k, tt), h.1 ∙ more items rest e) where
+      more : (xs : List X) (r : List ℕ) → r ≡ text_of_rows (rows x) ++ behind
+          → text_of_rows (flat_map rows xs) ++ r ≡ text_of_rows (flat_map rows (xs ++ x ∷ [])) ++ behind
+      more [] r f = f ∙ sym (item_first rows x [] behind)
+      more (y ∷ xs) r f =
+          item_first rows y xs r ∙ ap (λ t. text_of_rows (rows y) ++ t) (more xs r f) ∙ sym (item_first rows y (xs ++ x ∷ []) behind)

@@ -5,5 +5,6 @@ pub mod PortWords
 pub mod RowScanLaws
 pub mod RuleReadingLaws
 pub mod SafeRowLaws
+pub mod ScanWalkLaws
 pub mod ValidityLaws
 pub mod WalkLaws
