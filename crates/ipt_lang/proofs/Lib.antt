@@ -6,5 +6,6 @@ pub mod RowScanLaws
 pub mod RuleReadingLaws
 pub mod SafeRowLaws
 pub mod ScanWalkLaws
+pub mod SectionScanLaws
 pub mod ValidityLaws
 pub mod WalkLaws

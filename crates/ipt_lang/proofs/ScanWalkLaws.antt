@@ -1,5 +1,6 @@
 -- What rules and chains do to a packet, one after the other.
-use Rattle.std.proofs.Common.{◌≡◌, Bool, true, false, cond, List, [], ◌∷◌, ◌++◌, map, refl, ap, sym, ◌∙◌}
+use Rattle.std.proofs.Common.{◌≡◌, ℕ, Bool, true, false, cond, List, [], ◌∷◌, ◌++◌, map, refl, ap, sym, ◌∙◌}
+use Rattle.std.specs.Borrow.{Bor}
 use Rattle.std.specs.List.{AllByRecursion}
 use Rattle.std.proofs.lemmas.Bool.{false≢true}
 use Rattle.acl_packet.specs.declared.addresses.Family.{Family}
@@ -7,6 +8,7 @@ use Rattle.acl_packet.specs.declared.filtering.Outcome.{Outcome}
 use Rattle.acl_packet.specs.declared.filtering.Verdict.{Verdict}
 use Rattle.acl_packet.specs.declared.filtering.Verdict.TheVariants.{Accept, Deny, Reject, Reset, Left}
 use Rattle.acl_packet.specs.declared.packets.Packet.{Packet}
+use Rattle.acl_text.specs.Cuts.{views}
 use Rattle.ipt_lang.specs.declared.documents.Act.{Act}
 use Rattle.ipt_lang.specs.declared.documents.Act.TheVariants.{Log, Decide}
 use Rattle.ipt_lang.specs.declared.documents.Chain.{Chain}
@@ -77,3 +79,7 @@ chains_more (d ∷ chains) c p logged =
 pub names_more : (chains : List Chain) (c : Chain) → chain_names (chains ++ c ∷ []) ≡ chain_names chains ++ c.name ∷ []
 names_more [] c = refl
 names_more (d ∷ chains) c = ap (λ names. d.name ∷ names) (names_more chains c)
+
+pub views_more : (names : List (Bor (List ℕ))) (name : Bor (List ℕ)) → views (names ++ name ∷ []) ≡ views names ++ name.now ∷ []
+views_more [] name = refl
+views_more (n ∷ names) name = ap (λ ns. n.now ∷ ns) (views_more names name)

@@ -155,7 +155,7 @@ pub record IsBody (hook : Hook) (family : Family) (text : List ℕ) (packet : Pa
     (s : Section) : Type 0 where
   pub valid : IsSection s
   pub target : (s.hook ≡ hook) × (s.family ≡ family)
-  pub written : text ≡ body_text hook family s.accept s.chains taken.rest.now
+  pub written : text ≡ body_text s.hook s.family s.accept s.chains taken.rest.now
   pub decided : taken.outcome ≡ section_outcome s packet
 
 -- What a section has behind its first row is taken.
