@@ -1,5 +1,5 @@
 -- A chain is taken where a text begins with one, and a text begins with one alone.
-use Rattle.std.proofs.Common.{◌≡◌, ℕ, ◌+◌, ◌<◌, Bool, true, false, List, [], ◌∷◌, ◌++◌, length, flat_map, map, codes, Option, None, Some, refl, ap, sym, ◌∙◌, append-nil, subst}
+use Rattle.std.proofs.Common.{◌≡◌, ℕ, ◌<◌, false, List, [], ◌∷◌, ◌++◌, length, flat_map, codes, refl, ap, sym, ◌∙◌, append-nil, subst}
 use Rattle.std.specs.List.{AllByRecursion}
 use Rattle.acl_packet.specs.declared.addresses.Family.{Family}
 use Rattle.acl_packet.specs.declared.filtering.Hook.{Hook}
@@ -70,8 +70,7 @@ chain_once hook f c d a b h k e =
     } in
     let p = remarks_passed hook f text c.remarks (named_text hook f c a) remarked d b k e in
     let q = name_passed hook f c.name (ruled_text hook f c a) h.named d b k p.1 in
-    let r = rules_passed hook f c.name (ruled_text hook f c a) c.rules (text_of_rows (jump_rows hook c.name) ++ a) ruled d b k q.0 q.1 in
-    (
+    let r = rules_passed hook f c.name (ruled_text hook f c a) c.rules (text_of_rows (jump_rows hook c.name) ++ a) ruled d b k q.0 q.1 in (
       ap (λ ts. chain_of ts c.name c.rules) p.0 ∙ ap (λ n. chain_of d.remarks n c.rules) q.0 ∙ ap (λ rs. chain_of d.remarks d.name rs) r.0,
       jump_once hook c.name d.name a b h.named k.named r.1,
     )

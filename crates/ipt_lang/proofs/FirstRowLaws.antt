@@ -11,7 +11,7 @@ use Rattle.acl_rows.specs.Rows.{Row, row, row_line, row_text, text_of_rows, word
 use Rattle.acl_rows.specs.RowSteps.{row_in, IsRow, AreWords}
 use Rattle.acl_rows.proofs.PutLaws.{rows_append}
 use Rattle.acl_rows.proofs.RowLaws.{row-again}
-use Rattle.ipt_lang.specs.ScanSteps.{Lacks, IsFront, before_cut, first_line}
+use Rattle.ipt_lang.specs.ScanSteps.{Lacks, before_cut, first_line}
 
 -- ---- one row
 

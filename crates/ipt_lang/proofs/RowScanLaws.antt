@@ -177,8 +177,7 @@ neither_policy hook text accepts drops false more h e = drops more e
 
 pub target_once : Once IsAny target_rows
 target_once t u a b h k e =
-    let same = row_once (target_words t.hook t.family) (target_words u.hook u.family) [] [] a b (target_safe t.hook t.family) (target_safe u.hook u.family) e in
-    (
+    let same = row_once (target_words t.hook t.family) (target_words u.hook u.family) [] [] a b (target_safe t.hook t.family) (target_safe u.hook u.family) e in (
       sym (line_again t.hook t.family) ∙ ap (λ ws. target_at (cut_at 32 (drop 12 (join_with_byte 32 ws)))) same.0 ∙ line_again u.hook u.family,
       same.1,
     )

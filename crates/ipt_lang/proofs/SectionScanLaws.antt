@@ -1,11 +1,11 @@
 -- A section is taken where a text begins with one.
-use Rattle.std.proofs.Common.{◌≡◌, ℕ, ◌<◌, Bool, List, [], ◌∷◌, ◌++◌, length, flat_map, Option, None, Some, refl, ap, sym, subst, ◌∙◌, append-nil}
+use Rattle.std.proofs.Common.{◌≡◌, ℕ, ◌<◌, Bool, List, [], ◌∷◌, ◌++◌, length, flat_map, Option, ap, sym, subst, ◌∙◌, append-nil}
 use Rattle.std.specs.List.{AllByRecursion}
 use Rattle.std.specs.Option.{IsSomeAnd}
 use Rattle.acl_packet.specs.declared.addresses.Family.{Family}
 use Rattle.acl_packet.specs.declared.filtering.Hook.{Hook}
 use Rattle.acl_packet.specs.declared.packets.Packet.{Packet}
-use Rattle.acl_rows.specs.Rows.{Row, text_of_rows}
+use Rattle.acl_rows.specs.Rows.{text_of_rows}
 use Rattle.acl_rows.specs.declared.scanning.TakenSection.{TakenSection}
 use Rattle.ipt_lang.specs.declared.chain_rows.TargetRow.{TargetRow}
 use Rattle.ipt_lang.specs.declared.chain_scans.TakenChains.{TakenChains}

@@ -21,9 +21,9 @@ use Rattle.ipt_lang.specs.declared.row_scans.TakenPolicy.{TakenPolicy}
 use Rattle.ipt_lang.specs.declared.chain_scans.TakenRules.{TakenRules}
 use Rattle.ipt_lang.specs.declared.chain_scans.TakenChain.{TakenChain}
 use Rattle.ipt_lang.specs.declared.chain_scans.TakenChains.{TakenChains}
-use Rattle.ipt_lang.specs.Documents.{IsChain, IsRemark, IsRule, IsSection, chain_names, is_chain_name}
+use Rattle.ipt_lang.specs.Documents.{IsChain, IsRule, IsSection, chain_names, is_chain_name}
 use Rattle.ipt_lang.specs.ReadingSteps.{hook_in, rule_in}
-use Rattle.ipt_lang.specs.Texts.{chain_row, chain_rows, default_rows, remark_rows, rule_rows, target_row, text_of}
+use Rattle.ipt_lang.specs.Texts.{chain_row, chain_rows, default_rows, rule_rows, target_row, text_of}
 use Rattle.ipt_lang.specs.Walks.{chains_walk, go_on, outcome_so_far, policy_verdict, rules_walk, section_outcome}
 
 -- ---- items

@@ -190,5 +190,9 @@ fn first_line(text: &[u8]) -> &[u8]
 fn behind(text: &[u8], count: usize) -> &[u8]
     ensures { result.now ≡ drop count text.now }
 {
-    if count <= text.len() { &text[count..] } else { &[] }
+    if count <= text.len() {
+        &text[count..]
+    } else {
+        &[]
+    }
 }

@@ -11,8 +11,7 @@ loop-remark-smaller c = row_shorter _ [] c.loop-remark.rest.now c.in-Some.remark
 pub loop-remark-preserved : goal.loop-remark-preserved
 loop-remark-preserved c =
     let so_far = c.loop-remark.invariant in
-    let text = c.in-Some.remark.item.now in
-    (
+    let text = c.in-Some.remark.item.now in (
       so_far.0 ++ text ∷ [],
       one_more IsRemark remark_rows _ so_far.0 text c.loop-remark.rest.now c.in-Some.remark.rest.now so_far.1 c.in-Some.ensures.0 c.in-Some.ensures.1,
     )

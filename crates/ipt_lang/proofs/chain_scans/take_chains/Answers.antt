@@ -24,8 +24,7 @@ loop-names-preserved c =
     let target = c.args.target.now in
     let here = subst (TakesChain target.hook target.family c.loop-names.rest.now c.args.packet.now c.loop-names.outcome) c.in-Some.is c.in_ok-chain.ensures in
     let so_far = c.loop-names.invariant in
-    let chain = here.0 in
-    (
+    let chain = here.0 in (
       so_far.0 ++ chain ∷ [],
       one_more (IsChain target.family) (chain_rows target.hook target.family) _ so_far.0 chain c.loop-names.rest.now c.in-Some.chain.rest.now so_far.1
           here.1.valid here.1.written,

@@ -1,4 +1,4 @@
-use Rattle.std.proofs.Common.{◌≡◌, false, List, ℕ, length}
+use Rattle.std.proofs.Common.{◌≡◌, false, List, length}
 use Rattle.acl_text.specs.Cuts.{views}
 use Rattle.ipt_lang.specs.declared.documents.Chain.{Chain}
 use Rattle.ipt_lang.specs.Documents.{IsChain, chain_names}

@@ -24,8 +24,7 @@ loop-taken-preserved c =
     let rows = rule_rows chain.hook chain.family chain.name.now in
     let here = subst (TakesItem (IsRule chain.family) rows (λ r. r) c.loop-taken.rest.now) c.in-Some.is c.in_ok-taken.ensures in
     let so_far = c.loop-taken.invariant in
-    let rule = c.in-Some.taken.item in
-    (
+    let rule = c.in-Some.taken.item in (
       so_far.0 ++ rule ∷ [],
       one_more (IsRule chain.family) rows _ so_far.0 rule c.loop-taken.rest.now c.in-Some.taken.rest.now so_far.1 here.0 here.1,
       c.one_rule_more-outcome.ensures

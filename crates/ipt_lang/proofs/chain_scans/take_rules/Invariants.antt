@@ -1,4 +1,4 @@
-use Rattle.std.proofs.Common.{◌≡◌, List, ℕ, length}
+use Rattle.std.proofs.Common.{◌≡◌, List, length}
 use Rattle.ipt_lang.specs.declared.documents.Rule.{Rule}
 use Rattle.ipt_lang.specs.Documents.{IsRule}
 use Rattle.ipt_lang.specs.Texts.{rule_rows}

@@ -1,7 +1,6 @@
-use Rattle.std.proofs.Common.{◌≡◌, [], ◌∷◌, ◌++◌, Option, None, Some, ap, sym, subst, ◌∙◌}
+use Rattle.std.proofs.Common.{[], ◌∷◌, ◌++◌, None, Some, ap, sym, subst, ◌∙◌}
 use Rattle.acl_text.specs.Cuts.{views}
-use Rattle.acl_rows.specs.Scans.{TakesSection}
-use Rattle.ipt_lang.specs.Documents.{family_word, hook_word, name_of}
+use Rattle.ipt_lang.specs.Documents.{family_word, hook_word}
 use Rattle.ipt_lang.specs.ScanSteps.{TakesBody}
 use Rattle.ipt_lang.proofs.ScanWalkLaws.{views_more}
 use Rattle.ipt_lang.proofs.SectionScanLaws.{no_target, section_each, section_shorter, section_written}
@@ -34,13 +33,16 @@ returns c =
     let name = ap (λ h. hook_word h ++ 32 ∷ family_word target.family) (sym body.some.1.target.0)
     ∙ ap (λ f. hook_word s.hook ++ 32 ∷ family_word f) (sym body.some.1.target.1) in
     record {
-      some = (s, record {
-        valid = body.some.1.valid;
-        written = written;
-        named = ap views c.in_ok-push.ensures.items ∙ views_more c.args.names.now.items c.target_words.result
-            ∙ ap (λ n. views c.args.names.now.items ++ n ∷ []) (c.target_words.ensures ∙ name);
-        decided = body.some.1.decided;
-        shorter = section_shorter c.args.text.now taken.rest.now s written;
-      });
+      some = (
+        s,
+        record {
+          valid = body.some.1.valid;
+          written = written;
+          named = ap views c.in_ok-push.ensures.items ∙ views_more c.args.names.now.items c.target_words.result
+              ∙ ap (λ n. views c.args.names.now.items ++ n ∷ []) (c.target_words.ensures ∙ name);
+          decided = body.some.1.decided;
+          shorter = section_shorter c.args.text.now taken.rest.now s written;
+        },
+      );
       each = section_each c.args.text.now target head.rest.now c.args.packet.now (Some taken) c.in-Some.ensures.1 body;
     }
