@@ -1,6 +1,11 @@
+pub mod ChainScanLaws
 pub mod DocumentLaws
+pub mod FirstRowLaws
 pub mod PortWords
+pub mod RowScanLaws
 pub mod RuleReadingLaws
 pub mod SafeRowLaws
+pub mod ScanWalkLaws
+pub mod SectionScanLaws
 pub mod ValidityLaws
 pub mod WalkLaws

@@ -191,7 +191,7 @@ fitting_end f r h =
     let ends = flags_fit r && act_fits r.proto r.act in
     and_parts (code_fits r) ends (and_parts (ports_fit r && type_fits f r) (code_fits r && ends) h.fit).1
 
-fitting_act : (f : Family) (r : Rule) → IsRule f r → act_fits r.proto r.act ≡ true
+pub fitting_act : (f : Family) (r : Rule) → IsRule f r → act_fits r.proto r.act ≡ true
 fitting_act f r h = (and_parts (flags_fit r) (act_fits r.proto r.act) (fitting_end f r h).1).1
 
 pub rule_again : (f : Family) (r : Rule) → IsRule f r → rule_in f (rule_words f r) ≡ r

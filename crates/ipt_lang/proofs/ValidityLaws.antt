@@ -50,7 +50,7 @@ code_decides : (o : Option ℕ) → Decides (number_fits 0 255 o) (IfSome o (λ 
 code_decides None = (λ h. tt, λ h. refl)
 code_decides (Some n) = Decides-like (number_fits 0 255 (Some n)) (λ h. h.1) (λ h. (omega arith, h)) (number_decides 0 255 (Some n))
 
-rule_decides : (f : Family) (r : Rule) → Decides (is_rule f r) (IsRule f r)
+pub rule_decides : (f : Family) (r : Rule) → Decides (is_rule f r) (IsRule f r)
 rule_decides f r =
     let icmp = Decides-and (number_fits 0 254 r.itype) (number_fits 0 255 r.icode) (type_decides r.itype) (code_decides r.icode) in
     let numbers = Decides-and (number_fits 1 255 r.proto) (number_fits 0 254 r.itype && number_fits 0 255 r.icode) (number_decides 1 255 r.proto) icmp in

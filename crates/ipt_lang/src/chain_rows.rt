@@ -56,10 +56,11 @@ impl Rows for TargetRow {
     }
 }
 
+/// The row of a section's policy, where one is said.
 #[derive(Drop)]
-struct DefaultRows {
-    hook: Hook,
-    accept: Option<bool>,
+pub(crate) struct DefaultRows {
+    pub(crate) hook: Hook,
+    pub(crate) accept: Option<bool>,
 }
 
 impl Rows for DefaultRows {

@@ -225,7 +225,7 @@ fn no_chain(alloc: Global) -> Chain
 }
 
 #[tactic(auto, unfolding(crate::specs::ReadingSteps::hook_in))]
-fn hook_of(word: &[u8]) -> Hook
+pub(crate) fn hook_of(word: &[u8]) -> Hook
     ensures { result ≡ hook_in word.now }
 {
     if word == b"OUTPUT".as_slice() {

@@ -3,12 +3,15 @@
 #![tactic(auto)]
 
 mod chain_rows;
+mod chain_scans;
 mod chains_drafts;
 mod documents;
 mod iptables;
 mod ports;
+mod row_scans;
 mod rule_drafts;
 mod rule_words;
+mod scanning;
 mod validity;
 mod walking;
 

@@ -1,8 +1,8 @@
-ghost use Rattle.std.specs.Prelude.{◌≡◌, ◌&&◌, IfOk};
+ghost use Rattle.std.specs.Prelude.{◌≡◌, ◌∷◌, ◌++◌, ◌&&◌, IfOk};
 ghost use Rattle.std.specs.List.{list_all};
 ghost use Rattle.acl_rows.specs.ApartSteps.{are_apart};
 ghost use Rattle.acl_rows.specs.RuleParts.{has_port_proto, is_proto};
-ghost use Rattle.ipt_lang.specs.Documents.{act_fits, chain_names, code_fits, flags_fit, is_chain_name, name_of, parts_fit, ports_fit, type_fits, weight_of};
+ghost use Rattle.ipt_lang.specs.Documents.{act_fits, chain_names, code_fits, family_word, flags_fit, hook_word, is_chain_name, name_of, parts_fit, ports_fit, type_fits, weight_of};
 ghost use Rattle.ipt_lang.specs.ValiditySteps.{are_addresses, are_numbers, are_ports, are_remarks, has_room, is_address, is_chain, is_port_list, is_rule, is_section};
 
 use crate::documents::{Act, Chain, Rule, Section};
@@ -18,14 +18,15 @@ impl Named for Section {
     ghost name = { name_of };
 
     fn name(&self) -> &[u8] {
-        target_words(self)
+        target_words(self.hook, self.family)
     }
 }
 
-fn target_words(section: &Section) -> &'static [u8]
-    ensures { result.now ≡ name_of section.now }
+/// The words of a section's target, which are its name.
+pub(crate) fn target_words(hook: Hook, family: Family) -> &'static [u8]
+    ensures { result.now ≡ hook_word hook ++ 32 ∷ family_word family }
 {
-    match (section.hook, section.family) {
+    match (hook, family) {
         (Hook::Input, Family::V4) => b"INPUT inet",
         (Hook::Input, Family::V6) => b"INPUT inet6",
         (Hook::Output, Family::V4) => b"OUTPUT inet",
@@ -71,7 +72,7 @@ fn are_remarks(texts: &[Bytes]) -> bool
     texts.iter().all(|text| is_safe_text(text.as_slice()))
 }
 
-fn is_chain_name(name: &[u8]) -> bool
+pub(crate) fn is_chain_name(name: &[u8]) -> bool
     ensures { result ≡ is_chain_name name.now }
 {
     is_name(name) && name.len() <= 24
@@ -83,7 +84,7 @@ fn are_rules(family: Family, rules: &[Rule]) -> bool
     rules.iter().all(|rule| is_rule(family, rule))
 }
 
-fn is_rule(family: Family, rule: &Rule) -> bool
+pub(crate) fn is_rule(family: Family, rule: &Rule) -> bool
     ensures { result ≡ is_rule family rule.now }
 {
     if !are_numbers(rule) || !are_addresses(family, rule) {

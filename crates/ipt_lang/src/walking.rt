@@ -1,5 +1,5 @@
-ghost use Rattle.std.specs.Prelude.{◌≡◌};
-ghost use Rattle.ipt_lang.specs.Walks.{address_holds, chains_walk, ends_hold, flags_hold, icmp_holds, outcome_so_far, policy_verdict, rule_holds, rules_walk, tests_hold, walk};
+ghost use Rattle.std.specs.Prelude.{◌≡◌, [], ◌∷◌};
+ghost use Rattle.ipt_lang.specs.Walks.{address_holds, chains_walk, ends_hold, flags_hold, go_on, icmp_holds, outcome_so_far, policy_verdict, rule_holds, rules_walk, tests_hold, walk};
 
 use crate::documents::{Act, Chain, Flags, Rule};
 use acl_packet::{Outcome, Packet, Prefix, Verdict, has_flag};
@@ -8,10 +8,16 @@ use acl_rows::{ACK, RST, SYN, admit_ports, number_holds, state_holds};
 pub(crate) fn walk(accept: Option<bool>, chains: &[Chain], packet: &Packet) -> Outcome
     ensures { result ≡ walk accept chains.now packet.now }
 {
-    let behind = chains_walk(chains, packet, false);
-    match behind.verdict {
-        Verdict::Left => outcome_so_far(policy_verdict(accept), behind.logged),
-        _ => behind,
+    at_end(accept, chains_walk(chains, packet, false))
+}
+
+/// What is done to a packet at the end of its chains, behind which the policy decides.
+pub(crate) fn at_end(accept: Option<bool>, so_far: Outcome) -> Outcome
+    ensures { result ≡ go_on so_far (λ logged. outcome_so_far (policy_verdict accept) logged) }
+{
+    match so_far.verdict {
+        Verdict::Left => outcome_so_far(policy_verdict(accept), so_far.logged),
+        _ => so_far,
     }
 }
 
@@ -25,7 +31,8 @@ fn policy_verdict(accept: Option<bool>) -> Verdict
     }
 }
 
-fn outcome_so_far(verdict: Verdict, logged: bool) -> Outcome
+/// What a packet has met so far; `Left` while no rule has decided.
+pub(crate) fn outcome_so_far(verdict: Verdict, logged: bool) -> Outcome
     ensures { result ≡ outcome_so_far verdict logged }
 {
     Outcome { verdict, logged }
@@ -60,6 +67,30 @@ fn rules_walk(rules: &[Rule], packet: &Packet, logged: bool) -> Outcome
         }
     }
     outcome_so_far(Verdict::Left, logged)
+}
+
+/// What has been decided on a packet that comes to one more rule.
+#[tactic(auto, unfolding(crate::specs::Walks::rules_walk))]
+pub(crate) fn one_rule_more(so_far: Outcome, rule: &Rule, packet: &Packet) -> Outcome
+    ensures { result ≡ go_on so_far (λ logged. rules_walk (rule.now ∷ []) packet.now logged) }
+{
+    match so_far.verdict {
+        Verdict::Left => one_rule(rule, packet, so_far.logged),
+        _ => so_far,
+    }
+}
+
+#[tactic(auto, unfolding(crate::specs::Walks::rules_walk))]
+fn one_rule(rule: &Rule, packet: &Packet, logged: bool) -> Outcome
+    ensures { result ≡ rules_walk (rule.now ∷ []) packet.now logged }
+{
+    if !rule_holds(rule, packet) {
+        return outcome_so_far(Verdict::Left, logged);
+    }
+    match rule.act {
+        Act::Decide(verdict) => outcome_so_far(verdict, logged),
+        Act::Log => outcome_so_far(Verdict::Left, true),
+    }
 }
 
 fn rule_holds(rule: &Rule, packet: &Packet) -> bool
