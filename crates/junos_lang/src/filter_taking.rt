@@ -1,10 +1,9 @@
 ghost use Rattle.std.specs.Prelude.{◌≡◌, ◌++◌, ℕ, IfNone, IfOk, IfSome, List, None, Some, if◌then◌else◌, option_map, true};
 ghost use Rattle.acl_packet.specs.Addresses.{same_family};
-ghost use Rattle.acl_text.specs.Names.{is_filter_name as is_a_filter_name};
+ghost use Rattle.acl_text.specs.Names.{is_filter_name};
 ghost use Rattle.acl_rows.specs.Rows.{text_of_rows};
 ghost use Rattle.junos_lang.specs.Documents.{family_word};
 ghost use Rattle.junos_lang.specs.ScanSteps.{TakesFilter, head_in, head_parts, known_family_in, section_name_in};
-ghost use Rattle.junos_lang.specs.ReadingSteps.{note_in};
 ghost use Rattle.junos_lang.specs.Texts.{head_rows};
 
 use crate::filter_rows::SectionHead;
@@ -61,10 +60,10 @@ pub(crate) fn take_filter<'a>(
 
 // What the text has behind the head, where the name is one of a filter.
 fn body_behind<'a>(text: &'a [u8], head: &FilterHead<'_>) -> Option<&'a [u8]>
-    ensures some { IfSome result (λ body. (is_a_filter_name head.now.filter.now ≡ true)
+    ensures some { IfSome result (λ body. (is_filter_name head.now.filter.now ≡ true)
         × (text.now ≡ text_of_rows (head_rows (family_word head.now.family) head.now.filter.now)
         ++ body.now)) }
-    ensures none { IfNone result (is_a_filter_name head.now.filter.now ≡ true → (body : List ℕ)
+    ensures none { IfNone result (is_filter_name head.now.filter.now ≡ true → (body : List ℕ)
         → text.now ≡ text_of_rows (head_rows (family_word head.now.family) head.now.filter.now)
         ++ body → ⊥) }
 {
