@@ -2,8 +2,6 @@
 use Rattle.std.proofs.Common.{◌≡◌, ℕ, Bool, false, ◌&&◌, List, [], ◌∷◌, ◌++◌, flat_map, codes, refl, append-nil, append_assoc, ap, sym, ◌∙◌}
 use Rattle.std.specs.Str.{bytes_eq}
 use Rattle.std.proofs.lemmas.Bool.{false≢true}
-use Rattle.acl_packet.specs.declared.addresses.Family.{Family}
-use Rattle.acl_packet.specs.declared.addresses.Family.TheVariants.{V4, V6}
 use Rattle.acl_packet.specs.declared.addresses.Families.{Families}
 use Rattle.acl_packet.specs.declared.addresses.Families.TheVariants.{Inet, Inet6, Mixed}
 use Rattle.acl_packet.specs.Addresses.{first_family, same_family}
@@ -17,6 +15,7 @@ use Rattle.acl_platform.specs.declared.filters.Filter.{Filter}
 use Rattle.acl_platform.specs.SoundFilters.{target_of}
 use Rattle.acl_platform.proofs.OneName
 use Rattle.junos_lang.specs.Documents.{family_word, name_of}
+use Rattle.junos_lang.proofs.SectionNameLaws.{same_names}
 use Rattle.junos_lang.specs.Texts.{end_rows, head_rows, section_rows, term_rows}
 use Rattle.gen_junos.specs.SectionNames.{FirstLine, IsOfJunos, NamesDiffer}
 use Rattle.gen_junos.specs.Sections.{section_of, terms_of}
@@ -61,16 +60,10 @@ families-same Inet6 Inet6 m n = refl
 families-same Inet6 Mixed m n = absurd (false≢true (sym n))
 families-same Mixed gs m n = absurd (false≢true (sym m))
 
-same-names : (f g : Family) (a b : List ℕ) → (same_family f g && bytes_eq a b) ≡ bytes_eq (family_word f ++ 32 ∷ a) (family_word g ++ 32 ∷ b)
-same-names V4 V4 a b = refl
-same-names V4 V6 a b = refl
-same-names V6 V4 a b = refl
-same-names V6 V6 a b = refl
-
 not-same : (f g : Filter) (stateful : Bool) → IsOfJunos f → IsOfJunos g → clash (target_of stateful f) (target_of stateful g) ≡ false
     → bytes_eq (name_of (section_of f)) (name_of (section_of g)) ≡ false
 not-same f g stateful h k e =
-    sym (same-names (first_family f.families) (first_family g.families) f.name g.name)
+    sym (same_names (first_family f.families) (first_family g.families) f.name g.name)
     ∙ ap (λ b. b && bytes_eq f.name g.name) (families-same f.families g.families h.1 k.1)
     ∙ sym (OneName.clash-of Juniper f g stateful h.0 k.0) ∙ e
 
