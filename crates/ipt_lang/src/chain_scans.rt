@@ -18,8 +18,8 @@ pub(crate) struct TakenRules<'a> {
     pub(crate) rest: &'a [u8],
 }
 
-/// A chain that was taken from the front of a text: its name, what has been decided at its end, and what the text
-/// has behind it.
+/// A chain that was taken from the front of a text: its name, what has been decided at its end, and
+/// what the text has behind it.
 #[derive(Clone, Copy, Drop)]
 pub(crate) struct TakenChain<'a> {
     pub(crate) name: &'a [u8],
@@ -27,8 +27,8 @@ pub(crate) struct TakenChain<'a> {
     pub(crate) rest: &'a [u8],
 }
 
-/// The chains that were taken from the front of a text: their names, what they decide, and what the text has behind
-/// them.
+/// The chains that were taken from the front of a text: their names, what they decide, and what the
+/// text has behind them.
 #[derive(Drop)]
 pub(crate) struct TakenChains<'a> {
     pub(crate) names: Vec<&'a [u8]>,
@@ -106,7 +106,8 @@ fn behind_remarks(text: &[u8]) -> &[u8]
     rest
 }
 
-// Takes the rules of the chain that the text begins with, for a packet on which this has been decided.
+// Takes the rules of the chain that the text begins with, for a packet on which this has been
+// decided.
 fn take_rules<'a>(
     alloc: Global,
     chain: &OfChain<'_>,

@@ -99,7 +99,8 @@ struct OneRule<'a> {
 }
 
 impl<'a> Rows for OneRule<'a> {
-    ghost rows = { λ r. rule_rows r.chain.now.hook r.chain.now.family r.chain.now.name.now r.rule.now };
+    ghost rows = { λ r.
+        rule_rows r.chain.now.hook r.chain.now.family r.chain.now.name.now r.rule.now };
 
     fn put_rows<O: Out>(&self, out: &mut O) -> Result<(), PutFault> {
         self.chain.put_item(self.rule, out)
