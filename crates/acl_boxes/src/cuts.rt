@@ -7,7 +7,7 @@ ghost use Rattle.acl_boxes.specs.Boxes.{AreBoundaries};
 ghost use Rattle.acl_boxes.specs.CutSteps.{EndsFrom, Gathers, held, held_cuts};
 ghost use Rattle.acl_boxes.specs.Runs.{cuts};
 
-use crate::columns::{begins_by, passed};
+use crate::rows::{begins_by, passed};
 use acl_sets::{Range, RangeSet};
 use acl_text::Memory;
 use std::alloc::Global;
