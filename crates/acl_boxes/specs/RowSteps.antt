@@ -1,4 +1,4 @@
--- Places that are put into rows, for private functions alone.
+-- How places are put into the rows of values: for private functions alone.
 use Rattle.std.specs.Prelude.{◌≡◌, ℕ, ◌<◌, Bool, ◌&&◌, ◌||◌, ◌==◌, List, [], length, slice_index, slice_index_or}
 use Rattle.acl_boxes.specs.PlaceSteps.{has}
 

@@ -1,4 +1,4 @@
-ghost use Rattle.std.specs.Prelude.{◌≡◌, ℕ, ◌*◌, ◌<◌, ◌&&◌, ◌||◌, ◌==◌, Bool, false, IfOk, OnOk, [], length, map, slice_index, slice_index_or};
+ghost use Rattle.std.specs.Prelude.{◌≡◌, ℕ, ◌*◌, ◌<◌, ◌&&◌, false, IfOk, [], length, map, slice_index, slice_index_or};
 ghost use Rattle.std.specs.List.{All, list_all};
 ghost use Rattle.std.specs.List.Sorted.{IsStrictlyIncreasing};
 ghost use Rattle.acl_sets.specs.Ranges.{holds};
@@ -66,7 +66,8 @@ fn put_side(rows: &mut Vec<Places>, values: &[u128], set: &RangeSet, place: usiz
     requires count { length rows.old.items ≡ length values.now }
     requires room { (i : ℕ) → i < length values.now
         → place < 64 * length (slice_index_or rows.old.items i []) }
-    ensures { PutsAlong (λ x. holds set.now.ranges x) place values.now rows.old.items rows.new.items }
+    ensures { PutsAlong (λ x. holds set.now.ranges x) place values.now
+        rows.old.items rows.new.items }
 {
     put_along(rows, values, set.ranges(), place);
 }
