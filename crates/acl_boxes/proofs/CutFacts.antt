@@ -260,6 +260,11 @@ gathers_one top up own rs os qs old new eo eq n m e x =
 pub gathers_none : (own : ℕ → Bool) (old : List ℕ) → Gathers (λ x. own x && false) old old
 gathers_none own old x = (λ h. inl h, λ h. elim h [ inl before ↦ before | inr pass ↦ absurd (false≢true (and_parts (own x) false pass).1) ])
 
+-- in another order, or once each
+pub gathers_same : (test : ℕ → Bool) (old mid new : List ℕ) → Gathers test old mid
+    → ((x : ℕ) → Contains new x ↔ Contains mid x) → Gathers test old new
+gathers_same test old mid new g same x = (λ h. (g x).0 ((same x).0 h), λ h. (same x).1 ((g x).1 h))
+
 -- one more test
 pub gathers_more : (own test : ℕ → Bool) (both : ℕ → Bool) (more : ℕ → Bool) (a b c : List ℕ)
     → ((x : ℕ) → both x ≡ (test x || more x)) → Gathers (λ x. own x && test x) a b

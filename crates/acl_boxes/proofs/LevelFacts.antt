@@ -1,27 +1,12 @@
-use Rattle.std.proofs.Common.{◌≡◌, ℕ, ◌<◌, zero, suc, Bool, false, nat_lt, List, [], ◌∷◌, length, map, get_or, Bor, refl, sym, ap, ◌∙◌, subst, arith, Option, Some, None, Result, Ok, Err}
+use Rattle.std.proofs.Common.{◌≡◌, ℕ, ◌<◌, nat_lt, List, [], ◌∷◌, length, map, get_or, Bor, refl, sym, ap, ◌∙◌, subst, Option, Some, None, Result, Ok, Err}
 use Rattle.std.specs.Result.{IfOk}
 use Rattle.std.proofs.lemmas.Bool.{ltb-true, lt-ltb}
-use Rattle.std.proofs.lemmas.List.{get_or-map, length-map}
-use Rattle.std.specs.List.{All}
 use Rattle.acl_sets.specs.Ranges.{Numbers, holds}
 use Rattle.acl_boxes.specs.declared.axes.Axis.{Axis}
 use Rattle.acl_boxes.specs.declared.levels.Level.{Level}
 use Rattle.acl_boxes.specs.PlaceSteps.{has}
 use Rattle.acl_boxes.specs.LevelSteps.{row_of, has_point, IsPoint, IsFree, FindsFree}
-use Rattle.acl_boxes.specs.SearchSteps.{IsPlace, box_has, IsOutside, FindsOutside, column_of, bit_of, IsLevelOf, AreLevels}
-
-pub columns-length : (xs : List ℕ) (sides : List (Bor Numbers))
-    → All (λ c. length c ≡ length xs) (map (λ (s : Bor Numbers). column_of xs s.now.ranges) sides)
-columns-length xs [] k d lt = absurd (omega arith)
-columns-length xs (s ∷ sides) zero d lt = length-map xs (λ x. holds s.now.ranges x)
-columns-length xs (s ∷ sides) (suc k) d lt = columns-length xs sides k d (omega arith)
-
-pub columns-bits : (xs : List ℕ) (sides : List (Bor Numbers)) (i b : ℕ) → i < length xs
-    → bit_of (map (λ (s : Bor Numbers). column_of xs s.now.ranges) sides) i b
-    ≡ holds (get_or (map (λ (s : Bor Numbers). s.now.ranges) sides) b []) (get_or xs i 0)
-columns-bits xs [] i b lt = refl
-columns-bits xs (s ∷ sides) i zero lt = get_or-map (λ x. holds s.now.ranges x) xs i 0 false lt
-columns-bits xs (s ∷ sides) i (suc b) lt = columns-bits xs sides i b lt
+use Rattle.acl_boxes.specs.SearchSteps.{IsPlace, box_has, IsOutside, FindsOutside, IsLevelOf, AreLevels}
 
 pub place_point : (cs : List Axis) (ls : List Level) (p : List ℕ) → AreLevels cs ls → IsPlace cs p → IsPoint ls p
 place_point [] [] [] are place = tt
@@ -76,28 +61,16 @@ finds cs ls all boxes are below (Some p) found =
           found.first q (place_point cs ls q are at) is_before (outside_free cs ls all boxes are below q at outside);
     }
 
-pub level_of : (c : Axis) (l : Level) (columns : List (List Bool)) (xs : List ℕ) (sides : List (Bor Numbers))
-    → columns ≡ map (λ (s : Bor Numbers). column_of xs s.now.ranges) sides
-    → xs ≡ c.values.items → sides ≡ c.sides.items → length l.rows.items ≡ length c.values.items
-    → ((i b : ℕ) → i < length c.values.items → has (row_of l i) b ≡ bit_of columns i b)
+pub level_of : (c : Axis) (l : Level) (xs : List ℕ) (sides : List (Bor Numbers)) → xs ≡ c.values.items → sides ≡ c.sides.items
+    → length l.rows.items ≡ length xs
+    → ((i b : ℕ) → i < length xs → has (row_of l i) b ≡ holds (get_or (map (λ (s : Bor Numbers). s.now.ranges) sides) b []) (get_or xs i 0))
     → IsLevelOf c l
-level_of c l columns xs sides e ex es count bits =
-    let e2 : columns ≡ map (λ (s : Bor Numbers). column_of c.values.items s.now.ranges) c.sides.items =
-    e ∙ ap (λ (ys : List ℕ). map (λ (s : Bor Numbers). column_of ys s.now.ranges) sides) ex
-    ∙ ap (λ (ss : List (Bor Numbers)). map (λ (s : Bor Numbers). column_of c.values.items s.now.ranges) ss) es in
-    record {
-      rows = count;
-      bits = λ i b lt. bits i b lt ∙ ap (λ (cs : List (List Bool)). bit_of cs i b) e2
-          ∙ columns-bits c.values.items c.sides.items i b lt;
-    }
-
-pub lengths_of : (xs : List ℕ) (sides : List (Bor Numbers)) (columns : List (List Bool)) (n : ℕ)
-    → columns ≡ map (λ (s : Bor Numbers). column_of xs s.now.ranges) sides → n ≡ length xs
-    → All (λ c. length c ≡ n) columns
-lengths_of xs sides columns n e same =
-    subst (λ (cs : List (List Bool)). All (λ c. length c ≡ n) cs) (sym e)
-    (subst (λ (m : ℕ). All (λ c. length c ≡ m) (map (λ (s : Bor Numbers). column_of xs s.now.ranges) sides)) (sym same)
-    (columns-length xs sides))
+level_of c l xs sides ex es count bits = record {
+  rows = count ∙ ap length ex;
+  bits = λ i b lt. bits i b (subst (λ (n : ℕ). i < n) (ap length (sym ex)) lt)
+      ∙ ap (λ (ss : List (Bor Numbers)). holds (get_or (map (λ (s : Bor Numbers). s.now.ranges) ss) b []) (get_or xs i 0)) es
+      ∙ ap (λ (ys : List ℕ). holds (get_or (map (λ (s : Bor Numbers). s.now.ranges) c.sides.items) b []) (get_or ys i 0)) ex;
+}
 
 pub finds_result : {E : Type 0} (cs : List Axis) (ls : List Level) (all : List ℕ) (boxes : ℕ)
     → AreLevels cs ls → AreBelow all boxes

@@ -1,13 +1,10 @@
-use Rattle.std.proofs.Common.{◌++◌, take, Result, Ok, Err, Vec, Global, ◌≡◌, ℕ, ◌+◌, ◌<◌, ◌≤◌, Bool, true, false, ◌&&◌, ◌||◌, nat_le, List, [], ◌∷◌, length, get_or, map, refl, sym, ap, ◌∙◌, arith, inl, inr}
+use Rattle.std.proofs.Common.{◌≡◌, ℕ, ◌+◌, ◌<◌, ◌≤◌, Bool, true, false, ◌&&◌, ◌||◌, nat_le, List, [], ◌∷◌, length, get_or, refl, sym, ap, ◌∙◌, arith, inl, inr}
 use Rattle.std.proofs.lemmas.Bool.{cases_lt, lt-ltb, le-ltb, lt-leb, le-leb, or_from, and_right, and_left, false≢true}
-use Rattle.std.proofs.lemmas.List.{map_more}
 use Rattle.std.proofs.lemmas.List.Kept.{AllPairs-from_increasing}
 use Rattle.std.specs.List.Sorted.{IsStrictlyIncreasing}
-use Rattle.std.specs.Result.{IfOk}
 use Rattle.acl_sets.specs.declared.sets.Range.{Range}
 use Rattle.acl_sets.specs.Ranges.{holds, IsNormal}
 use Rattle.acl_sets.specs.SweepSteps.{passed, begins_by}
-use Rattle.acl_boxes.specs.SearchSteps.{column_of}
 
 pub passed-passed : (g h : ℕ) (rs : List Range) → h ≤ g → passed g (passed h rs) ≡ passed g rs
 passed-passed g h [] le = refl
@@ -41,12 +38,6 @@ begins-holds floor top (r ∷ rs) x n = elim (cases_lt r.high x) [
       (below_floor (r.high + 2) top rs x n.3 (omega arith)))
 ]
 
-pub answers-column : (top : ℕ) (rs : List Range) (xs : List ℕ) → IsNormal 0 top rs
-    → map (λ x. begins_by x (passed x rs)) xs ≡ column_of xs rs
-answers-column top rs [] n = refl
-answers-column top rs (x ∷ xs) n =
-    rw (begins-holds 0 top rs x n, answers-column top rs xs n) refl
-
 -- the step of the sweep
 pub sweep_more : (rs rest : List Range) (xs : List ℕ) (i : ℕ) → IsStrictlyIncreasing xs → i < length xs
     → ((k : ℕ) → i ≤ k → k < length xs → passed (get_or xs k 0) rest ≡ passed (get_or xs k 0) rs)
@@ -55,17 +46,3 @@ pub sweep_more : (rs rest : List Range) (xs : List ℕ) (i : ℕ) → IsStrictly
 sweep_more rs rest xs i rising within before k le lt =
     let less = AllPairs-from_increasing xs rising i k 0 (omega arith) lt in
     passed-passed (get_or xs k 0) (get_or xs i 0) rest (omega arith) ∙ before k (omega arith) lt
-
-pub answers_more : (rs : List Range) (out : List Bool) (xs : List ℕ) (i : ℕ) → i < length xs
-    → out ≡ map (λ x. begins_by x (passed x rs)) (take i xs)
-    → out ++ begins_by (get_or xs i 0) (passed (get_or xs i 0) rs) ∷ [] ≡ map (λ x. begins_by x (passed x rs)) (take (i + 1) xs)
-answers_more rs out xs i lt e =
-    ap (λ bs. bs ++ begins_by (get_or xs i 0) (passed (get_or xs i 0) rs) ∷ []) e
-    ∙ sym (map_more (λ x. begins_by x (passed x rs)) xs i 0 lt)
-
-pub column_result : {E : Type 0} (top : ℕ) (rs ranges : List Range) (xs : List ℕ) → ranges ≡ rs → IsNormal 0 top rs
-    → (r : Result (Vec Bool Global) E) → IfOk r (λ v. v.items ≡ map (λ x. begins_by x (passed x ranges)) xs)
-    → IfOk r (λ v. v.items ≡ column_of xs rs)
-column_result top rs ranges xs e n (Ok v) h =
-    h ∙ ap (λ (ys : List Range). map (λ x. begins_by x (passed x ys)) xs) e ∙ answers-column top rs xs n
-column_result top rs ranges xs e n (Err f) h = tt

@@ -4,5 +4,6 @@ pub mod Laws
 pub mod LevelSteps
 pub mod Order
 pub mod PlaceSteps
+pub mod RowSteps
 pub mod Runs
 pub mod SearchSteps

@@ -1,7 +1,6 @@
 -- The search among the places of values, for private functions alone.
-use Rattle.std.specs.Prelude.{◌≡◌, ℕ, ◌<◌, Bool, true, false, ◌&&◌, List, [], ◌∷◌, length, map, slice_index, slice_index_or, Option, Some, None}
+use Rattle.std.specs.Prelude.{◌≡◌, ℕ, ◌<◌, Bool, true, ◌&&◌, List, [], ◌∷◌, length, slice_index, Option, Some, None}
 use Rattle.std.specs.List.Sorted.{IsStrictlyIncreasing}
-use Rattle.acl_sets.specs.declared.sets.Range.{Range}
 use Rattle.acl_sets.specs.Ranges.{holds}
 use Rattle.acl_boxes.specs.declared.axes.Axis.{Axis}
 use Rattle.acl_boxes.specs.declared.levels.Level.{Level}
@@ -48,13 +47,7 @@ abbrev pub FindsOutside : List Axis → ℕ → Option (List ℕ) → Type 0
 FindsOutside axes boxes None = (q : List ℕ) → IsPlace axes q → IsOutside axes boxes q → ⊥
 FindsOutside axes boxes (Some p) = IsFirstOutside axes boxes p
 
--- ---- columns and rows
-
-abbrev pub column_of : List ℕ → List Range → List Bool
-column_of values ranges = map (λ x. holds ranges x) values
-
-abbrev pub bit_of : List (List Bool) → ℕ → ℕ → Bool
-bit_of columns i b = slice_index_or (slice_index_or columns b []) i false
+-- ---- rows
 
 -- A level has a row for each value, with the boxes whose sides hold it.
 pub record IsLevelOf (a : Axis) (l : Level) : Type 0 where

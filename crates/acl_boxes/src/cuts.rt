@@ -7,10 +7,13 @@ ghost use Rattle.acl_boxes.specs.Boxes.{AreBoundaries};
 ghost use Rattle.acl_boxes.specs.CutSteps.{EndsFrom, Gathers, held, held_cuts};
 ghost use Rattle.acl_boxes.specs.Runs.{cuts};
 
-use crate::columns::{begins_by, passed};
+use crate::rows::{begins_by, passed};
 use acl_sets::{Range, RangeSet};
 use acl_text::Memory;
 use std::alloc::Global;
+
+// So many cuts may stand in a list before it is looked through for those that stand there more than once.
+const FEW: usize = 4096;
 
 /// Puts the number, where the ranges have it, and goes on to the ranges that do not end below it.
 fn push_held<'a>(out: &mut Vec<u128>, x: u128, own: &'a [Range]) -> Result<&'a [Range], Memory>
@@ -90,6 +93,15 @@ fn numbers_in(alloc: Global, set: &RangeSet, numbers: &[u128]) -> Result<Vec<u12
     )
 }
 
+/// The numbers of a list once each, in rising order.
+fn put_in_order(numbers: &mut Vec<u128>)
+    ensures rising { IsStrictlyIncreasing numbers.new.items }
+    ensures kept { (x : ℕ) → Contains numbers.new.items x ↔ Contains numbers.old.items x }
+{
+    numbers.sort_unstable();
+    numbers.dedup();
+}
+
 // What a set cuts of another one.
 fn push_cuts_of(out: &mut Vec<u128>, own: &RangeSet, set: &RangeSet) -> Result<(), Memory>
     ensures { OnOk result (Gathers
@@ -98,13 +110,39 @@ fn push_cuts_of(out: &mut Vec<u128>, own: &RangeSet, set: &RangeSet) -> Result<(
     push_cuts(out, own.ranges(), set.ranges())
 }
 
+// Puts the numbers in order, once each, where there are more than so many. Returns how many there may be the next time.
+fn keep_once(numbers: &mut Vec<u128>, most: usize) -> usize
+    ensures { (x : ℕ) → Contains numbers.new.items x ↔ Contains numbers.old.items x }
+{
+    if numbers.len() <= most {
+        return most;
+    }
+    put_in_order(numbers);
+    numbers.len().saturating_mul(2).max(most)
+}
+
+// The same, and what many sets cut does not pile up.
+fn push_cuts_once(
+    out: &mut Vec<u128>,
+    own: &RangeSet,
+    set: &RangeSet,
+    most: usize,
+) -> Result<usize, Memory>
+    ensures { OnOk result (Gathers
+        (λ x. holds own.now.ranges x && cuts (λ y. holds set.now.ranges y) x) out.old.items out.new.items) }
+{
+    push_cuts_of(out, own, set)?;
+    Ok(keep_once(out, most))
+}
+
 fn push_all_cuts(out: &mut Vec<u128>, own: &RangeSet, sets: &[&RangeSet]) -> Result<(), Memory>
     ensures { OnOk result (Gathers
         (λ x. holds own.now.ranges x && list_any (λ s. cuts (λ y. holds s.now.ranges y) x) sets.now)
         out.old.items out.new.items) }
 {
+    let mut most = FEW;
     for set in sets {
-        push_cuts_of(out, own, set)?;
+        most = push_cuts_once(out, own, set, most)?;
     }
     Ok(())
 }
@@ -118,15 +156,6 @@ fn gather(alloc: Global, own: &RangeSet, numbers: &[u128]) -> Result<Vec<u128>, 
     let inside = numbers_in(alloc, own, numbers)?;
     out.extend_from_slice(&inside)?;
     Ok(out)
-}
-
-/// The numbers of a list once each, in rising order.
-fn put_in_order(numbers: &mut Vec<u128>)
-    ensures rising { IsStrictlyIncreasing numbers.new.items }
-    ensures kept { (x : ℕ) → Contains numbers.new.items x ↔ Contains numbers.old.items x }
-{
-    numbers.sort_unstable();
-    numbers.dedup();
 }
 
 /// The boundaries of a set: where a run of its numbers begins, and each cut that lies in it.

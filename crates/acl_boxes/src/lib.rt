@@ -2,11 +2,11 @@
 #![tactic(auto)]
 
 mod axes;
-mod columns;
 mod cuts;
 mod laws;
 mod levels;
 mod places;
+mod rows;
 mod searches;
 mod spaces;
 mod walks;

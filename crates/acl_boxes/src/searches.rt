@@ -5,9 +5,9 @@ ghost use Rattle.acl_boxes.specs.LevelSteps.{IsLayered, IsCovered};
 ghost use Rattle.acl_boxes.specs.SearchSteps.{AreLevels, FindsOutside, IsLevelOf, IsSized};
 
 use crate::axes::Axis;
-use crate::columns::{columns, meet_all, rows};
 use crate::levels::Level;
 use crate::places::Places;
+use crate::rows::{make_rows, meet_all};
 use crate::walks::{Point, first_free_below};
 use acl_text::Memory;
 use std::alloc::Global;
@@ -30,9 +30,8 @@ fn make_level(alloc: Global, axis: &Axis, boxes: usize, covered: Places) -> Resu
         All (λ r. length r ≡ words_for boxes) l.rows.items) }
     ensures covered { IfOk result (λ l. l.covered ≡ covered) }
 {
-    let columns = columns(alloc, &axis.values, &axis.sides)?;
     Ok(Level {
-        rows: rows(alloc, &columns, axis.values.len())?,
+        rows: make_rows(alloc, &axis.values, &axis.sides)?,
         covered,
     })
 }

@@ -19,7 +19,7 @@ loop-set-preserved c =
     (λ x. cuts (λ y. holds item.now.ranges y) x) _ _ _
     (λ x. list_any_more (λ (s : Bor Numbers). cuts (λ y. holds s.now.ranges y) x) sets i item c.loop-set-test.true
     ∙ ap (λ (s : Bor Numbers). list_any (λ (q : Bor Numbers). cuts (λ y. holds q.now.ranges y) x) (take i sets) || cuts (λ y. holds s.now.ranges y) x) (sym c.set-item.is))
-    c.loop-set.invariant c.in_ok-push_cuts_of.ensures
+    c.loop-set.invariant c.in_ok-most.ensures
 
 pub returns : goal.returns
 returns c =

@@ -1,7 +1,7 @@
 use Rattle.std.proofs.Common.{◌≡◌, ℕ, ◌&&◌, length, take}
 use Rattle.std.specs.List.{list_all}
 use Rattle.acl_boxes.specs.PlaceSteps.{has}
-use Rattle.acl_boxes.proofs.columns.meet_all.Given as goal
+use Rattle.acl_boxes.proofs.rows.meet_all.Given as goal
 
 abbrev pub invariant-loop-row : goal.invariant-loop-row
 invariant-loop-row l =
