@@ -6,7 +6,7 @@ use Rattle.std.proofs.lemmas.List.Splits.{join_with_byte-slice_split}
 use Rattle.std.proofs.lemmas.List.Sums.{fold-append}
 use Rattle.std.proofs.lemmas.List.{length-append}
 use Rattle.acl_text.specs.Cuts.{cut_at, has_byte}
-use Rattle.acl_text.proofs.CutLaws.{cut-found, has-append, none-cut}
+use Rattle.acl_text.proofs.CutLaws.{cut-again, cut-found, has-append, none-cut}
 use Rattle.acl_rows.specs.Rows.{Row, row, spaced, row_line, row_text, text_of_rows, is_space, words_in}
 use Rattle.acl_rows.specs.RowSteps.{row_in, rows_in, IsWord, begins, IsRow}
 
@@ -129,15 +129,36 @@ joined_no_feed [] h = refl
 joined_no_feed (w ∷ []) h = h.0.no_feed
 joined_no_feed (w ∷ v ∷ ws) h = has-append 10 w (32 ∷ join_with_byte 32 (v ∷ ws)) h.0.no_feed (joined_no_feed (v ∷ ws) h.1)
 
+pub line_no_feed : (r : Row) → IsRow r → has_byte 10 (row_line r) ≡ false
+line_no_feed r h = has-append 10 (replicate r.indent 32) (join_with_byte 32 r.words) (spaces_no_feed r.indent) (joined_no_feed r.words h.words)
+
+pub row_first : (r : Row) (more : List ℕ) → row_text r ++ more ≡ row_line r ++ 10 ∷ more
+unfolding row_text
+row_first r more = append_assoc (row_line r) (10 ∷ []) more
+
+-- the first line of a text that begins with a row, and its words
+pub line_there : (r : Row) (more : List ℕ) → IsRow r → cut_at 10 (row_text r ++ more) ≡ Some (row_line r, more)
+line_there r more h = ap (cut_at 10) (row_first r more) ∙ cut-again 10 (row_line r) more (line_no_feed r h)
+
+pub words_there : (ws : List (List ℕ)) → IsRow (row 0 ws) → words_in (join_with_byte 32 ws) ≡ ws
+unfolding row_in
+words_there ws h =
+    let again = row-again (row 0 ws) h in
+    let line : List ℕ = join_with_byte 32 ws in
+    ap (λ n. words_in (drop n line)) (sym (ap (λ r. r.indent) again)) ∙ ap (λ r. r.words) again
+
+-- the rows of a text that begins with rows
+pub rows_before : (rows : List Row) (more : List ℕ) → AllByRecursion IsRow rows → rows_in (text_of_rows rows ++ more) ≡ rows ++ rows_in more
+rows_before [] more h = refl
+rows_before (r ∷ rows) more h =
+    let rest : List ℕ = text_of_rows rows ++ more in
+    ap rows_in (append_assoc (row_text r) (text_of_rows rows) more ∙ row_first r rest)
+    ∙ ap (map row_in) (cut_there 10 (row_line r) rest (line_no_feed r h.0))
+    ∙ ap (λ x. x ∷ rows_in rest) (row-again r h.0) ∙ ap (λ xs. r ∷ xs) (rows_before rows more h.1)
+
 -- the rows of a text, and the empty one behind its last line feed
 rows_again : (rows : List Row) → AllByRecursion IsRow rows → rows_in (text_of_rows rows) ≡ rows ++ row_in [] ∷ []
-unfolding row_text
-rows_again [] h = refl
-rows_again (r ∷ rows) h =
-    let no_feed = has-append 10 (replicate r.indent 32) (join_with_byte 32 r.words) (spaces_no_feed r.indent) (joined_no_feed r.words h.0.words) in
-    ap rows_in (append_assoc (row_line r) (10 ∷ []) (text_of_rows rows))
-    ∙ ap (map row_in) (cut_there 10 (row_line r) (text_of_rows rows) no_feed)
-    ∙ ap (λ x. x ∷ rows_in (text_of_rows rows)) (row-again r h.0) ∙ ap (λ xs. r ∷ xs) (rows_again rows h.1)
+rows_again rows h = ap rows_in (sym (append-nil (text_of_rows rows))) ∙ rows_before rows [] h
 
 -- the rows of a text are that of its first line and those of the lines behind it
 pub first_row : (text line rest : List ℕ) → cut_at 10 text ≡ Some (line, rest) → rows_in text ≡ row_in line ∷ rows_in rest

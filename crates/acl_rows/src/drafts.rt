@@ -53,8 +53,8 @@ fn take_line<D: Draft>(alloc: Global, draft: &mut D, line: &[u8]) -> Result<(), 
     draft.take_row(alloc, indent, RowWords::new(&line[indent..]))
 }
 
-// How many spaces the line begins with.
-fn indent_of(line: &[u8]) -> usize
+/// How many spaces the line begins with.
+pub fn indent_of(line: &[u8]) -> usize
     ensures exact { result ≡ prefix_len is_space line.now }
     ensures fits { result ≤ length line.now }
 {

@@ -23,7 +23,7 @@ mod scanning;
 
 pub use apart::{are_distinct, are_distinct_names};
 pub use comparing::{is_text_of, rows_behind};
-pub use drafts::{DocumentDraft, Draft};
+pub use drafts::{DocumentDraft, Draft, indent_of};
 pub use each_word::{EachWord, WordForm};
 pub use family_words::{families_of, family_named};
 pub use item_lists::{ItemsBehind, OneItem};

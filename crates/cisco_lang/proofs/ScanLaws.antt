@@ -1,6 +1,6 @@
 -- What is taken from the front of a text is what stands there, and all that stands there is taken: rows, items and lists.
-use Rattle.std.proofs.Common.{◌≡◌, ℕ, zero, suc, ◌<◌, length, Bool, true, false, cond, List, [], ◌∷◌, ◌++◌, drop, flat_map, replicate, Option, None, Some, option_map, option_and_then, refl, ap, sym, subst, ◌∙◌, append_assoc, append-nil, arith, ◌||◌}
-use Rattle.std.specs.List.{AllByRecursion, prefix_len, join_with_byte}
+use Rattle.std.proofs.Common.{◌≡◌, ℕ, ◌<◌, length, Bool, true, false, cond, List, [], ◌∷◌, ◌++◌, drop, flat_map, Option, None, Some, option_map, option_and_then, refl, ap, sym, subst, ◌∙◌, append_assoc, append-nil, arith, ◌||◌}
+use Rattle.std.specs.List.{AllByRecursion}
 use Rattle.std.proofs.lemmas.Bool.{cond-true}
 use Rattle.std.proofs.lemmas.Grind.{flat_map-append}
 use Rattle.std.proofs.lemmas.List.{length-append}
@@ -10,13 +10,13 @@ use Rattle.acl_packet.proofs.ChoiceLaws.{guarded}
 use Rattle.acl_packet.specs.declared.addresses.Family.{Family}
 use Rattle.acl_packet.specs.declared.packets.Packet.{Packet}
 use Rattle.acl_packet.specs.declared.filtering.Outcome.{Outcome}
-use Rattle.acl_text.specs.Cuts.{behind, cut_at, has_byte}
-use Rattle.acl_text.proofs.CutLaws.{behind-again, behind-found, cut-again, has-append}
+use Rattle.acl_text.specs.Cuts.{behind, cut_at}
+use Rattle.acl_text.proofs.CutLaws.{behind-again, behind-found}
 use Rattle.acl_text.proofs.ListLaws.{all_append}
 use Rattle.acl_text.proofs.OptionStepLaws.{mapped}
-use Rattle.acl_rows.specs.Rows.{Row, row, row_line, row_text, text_of_rows, is_space, words_in}
-use Rattle.acl_rows.specs.RowSteps.{row_in, IsRow, AreWords, begins}
-use Rattle.acl_rows.proofs.RowLaws.{row-again}
+use Rattle.acl_rows.specs.Rows.{Row, row, row_line, row_text, text_of_rows, words_in}
+use Rattle.acl_rows.specs.RowSteps.{IsRow}
+use Rattle.acl_rows.proofs.RowLaws.{line_there, words_there}
 use Rattle.cisco_lang.specs.declared.documents.Item.{Item}
 use Rattle.cisco_lang.specs.declared.documents.Item.TheVariants.{Remark, Entry as AnEntry}
 use Rattle.cisco_lang.specs.declared.documents.Entry.{Entry}
@@ -50,31 +50,9 @@ rows_missing rows text h =
 pub rows_split : (xs ys : List Row) (text : List ℕ) → text_of_rows (xs ++ ys) ++ text ≡ text_of_rows xs ++ (text_of_rows ys ++ text)
 rows_split xs ys text = ap (λ t. t ++ text) (flat_map-append row_text xs ys) ∙ append_assoc (text_of_rows xs) (text_of_rows ys) text
 
-spaces_no_feed : (n : ℕ) → has_byte 10 (replicate n 32) ≡ false
-spaces_no_feed zero = refl
-spaces_no_feed (suc n) = spaces_no_feed n
-
-joined_no_feed : (ws : List (List ℕ)) → AreWords ws → has_byte 10 (join_with_byte 32 ws) ≡ false
-joined_no_feed [] h = refl
-joined_no_feed (w ∷ []) h = h.0.no_feed
-joined_no_feed (w ∷ v ∷ ws) h = has-append 10 w (32 ∷ join_with_byte 32 (v ∷ ws)) h.0.no_feed (joined_no_feed (v ∷ ws) h.1)
-
 -- the first line of a text that begins with a row
 pub line_again : (r : Row) (more : List ℕ) → IsRow r → cut_at 10 (text_of_rows (r ∷ []) ++ more) ≡ Some (row_line r, more)
-unfolding row_text
-line_again r more h =
-    let no_feed = has-append 10 (replicate r.indent 32) (join_with_byte 32 r.words) (spaces_no_feed r.indent) (joined_no_feed r.words h.words) in
-    ap (λ t. cut_at 10 (t ++ more)) (append-nil (row_line r ++ 10 ∷ []))
-    ∙ ap (cut_at 10) (append_assoc (row_line r) (10 ∷ []) more) ∙ cut-again 10 (row_line r) more no_feed
-
--- the words of a line
-pub words_again : (ws : List (List ℕ)) → begins ws ≡ true → AreWords ws → words_in (join_with_byte 32 ws) ≡ ws
-unfolding row_in
-words_again ws s h =
-    let line : List ℕ = join_with_byte 32 ws in
-    let e : row_in line ≡ row 0 ws = row-again (row 0 ws) (record { start = s; words = h }) in
-    let none : prefix_len is_space line ≡ 0 = ap (λ r. r.indent) e in
-    sym (ap (λ n. words_in (drop n line)) none) ∙ ap (λ r. r.words) e
+line_again r more h = ap (λ t. cut_at 10 (t ++ more)) (append-nil (row_text r)) ∙ line_there r more h
 
 -- rows have bytes
 pub row_long : (r : Row) (rest : List ℕ) → length rest < length (text_of_rows (r ∷ []) ++ rest)
@@ -97,7 +75,7 @@ item_taken_again f i more h =
     let text : List ℕ = text_of_rows rows ++ more in
     let safe : IsRow r = let P : List Row → Type 0 = AllByRecursion IsRow in (subst P (one_row f i) (item_safe f i h)).0 in
     let cut : cut_at 10 text ≡ Some (row_line r, more) = ap (λ rs. cut_at 10 (text_of_rows rs ++ more)) (one_row f i) ∙ line_again r more safe in
-    let words : drop 1 (words_in (row_line r)) ≡ item_words f i = words_again (item_words f i) safe.start safe.words in
+    let words : drop 1 (words_in (row_line r)) ≡ item_words f i = words_there (item_words f i) (record { start = safe.start; words = safe.words }) in
     ap (option_and_then (λ (c : List ℕ × List ℕ). item_behind f (item_in f (drop 1 (words_in c.0))) text)) cut
     ∙ ap (λ ws. item_behind f (item_in f ws) text) words ∙ ap (λ j. item_behind f j text) (item_again f i h)
     ∙ cond-true _ _ _ ((item_decides f i).1 h) ∙ ap (option_map (λ (rest : List ℕ). (entry_part i, rest))) (behind-again (text_of_rows rows) more)

@@ -40,7 +40,8 @@ use Rattle.cisco_lang.specs.Walks.{items_of, section_outcome, walk}
 use Rattle.cisco_lang.proofs.DocumentLaws.{families_again}
 use Rattle.cisco_lang.proofs.SafeRows.{head_safe, heading_safe, heads_safe}
 use Rattle.cisco_lang.proofs.ValidityLaws.{head_of}
-use Rattle.cisco_lang.proofs.ScanLaws.{line_again, list_split, row_long, rows_split, words_again}
+use Rattle.acl_rows.proofs.RowLaws.{words_there}
+use Rattle.cisco_lang.proofs.ScanLaws.{line_again, list_split, row_long, rows_split}
 
 -- ---- names
 
@@ -51,7 +52,7 @@ four_words line a b c d e =
 
 -- the last two words of a row of four
 four_again : (a b c d : List ℕ) → IsRow (row 0 (a ∷ b ∷ c ∷ d ∷ [])) → third_and_fourth (row_line (row 0 (a ∷ b ∷ c ∷ d ∷ []))) ≡ (c, d)
-four_again a b c d h = four_words (row_line (row 0 (a ∷ b ∷ c ∷ d ∷ []))) a b c d (words_again (a ∷ b ∷ c ∷ d ∷ []) h.start h.words)
+four_again a b c d h = four_words (row_line (row 0 (a ∷ b ∷ c ∷ d ∷ []))) a b c d (words_there (a ∷ b ∷ c ∷ d ∷ []) (record { start = h.start; words = h.words }))
 
 abbrev six : List ℕ → List ℕ
 six name = codes "ipv6-" ++ name

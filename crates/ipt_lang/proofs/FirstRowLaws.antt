@@ -1,24 +1,18 @@
 -- What a text of rows begins with: its first row, and items of rows.
-use Rattle.std.proofs.Common.{◌≡◌, ℕ, ◌+◌, ◌<◌, Bool, true, false, List, [], ◌∷◌, ◌++◌, length, drop, flat_map, Some, refl, ap, sym, ◌∙◌, append_assoc, subst, arith}
+use Rattle.std.proofs.Common.{◌≡◌, ℕ, ◌+◌, ◌<◌, Bool, true, false, List, [], ◌∷◌, ◌++◌, length, flat_map, Some, refl, ap, sym, ◌∙◌, append_assoc, subst, arith}
 use Rattle.std.specs.List.{AllByRecursion, join_with_byte}
 use Rattle.std.proofs.lemmas.Bool.{false≢true}
 use Rattle.std.proofs.lemmas.List.{length-append}
 use Rattle.std.proofs.lemmas.Option.{some_pair_parts}
-use Rattle.acl_text.specs.Cuts.{cut_at, has_byte}
-use Rattle.acl_text.proofs.CutLaws.{cut-again, has-append}
+use Rattle.acl_text.specs.Cuts.{cut_at}
 use Rattle.acl_text.proofs.ListLaws.{all_append}
 use Rattle.acl_rows.specs.Rows.{Row, row, row_line, row_text, text_of_rows, words_in}
-use Rattle.acl_rows.specs.RowSteps.{row_in, IsRow, AreWords}
+use Rattle.acl_rows.specs.RowSteps.{IsRow}
 use Rattle.acl_rows.proofs.PutLaws.{rows_append}
-use Rattle.acl_rows.proofs.RowLaws.{row-again}
+use Rattle.acl_rows.proofs.RowLaws.{line_there, words_there}
 use Rattle.ipt_lang.specs.ScanSteps.{Lacks, before_cut, first_line}
 
 -- ---- one row
-
-no_feed : (ws : List (List ℕ)) → AreWords ws → has_byte 10 (join_with_byte 32 ws) ≡ false
-no_feed [] h = refl
-no_feed (w ∷ []) h = h.0.no_feed
-no_feed (w ∷ v ∷ ws) h = has-append 10 w (32 ∷ join_with_byte 32 (v ∷ ws)) h.0.no_feed (no_feed (v ∷ ws) h.1)
 
 -- what stands behind the first row
 pub row_first : (r : Row) (rows : List Row) (more : List ℕ) → text_of_rows (r ∷ rows) ++ more ≡ row_text r ++ (text_of_rows rows ++ more)
@@ -26,30 +20,19 @@ row_first r rows more = append_assoc (row_text r) (text_of_rows rows) more
 
 pub first_cut : (ws : List (List ℕ)) (rows : List Row) (more : List ℕ) → IsRow (row 0 ws)
     → cut_at 10 (text_of_rows (row 0 ws ∷ rows) ++ more) ≡ Some (join_with_byte 32 ws, text_of_rows rows ++ more)
-unfolding row_text
-first_cut ws rows more h =
-    let line = join_with_byte 32 ws in
-    let rest = text_of_rows rows ++ more in
-    ap (cut_at 10) (row_first (row 0 ws) rows more ∙ append_assoc line (10 ∷ []) rest) ∙ cut-again 10 line rest (no_feed ws h.words)
+first_cut ws rows more h = ap (cut_at 10) (row_first (row 0 ws) rows more) ∙ line_there (row 0 ws) (text_of_rows rows ++ more) h
 
 pub first_line_again : (ws : List (List ℕ)) (rows : List Row) (more : List ℕ) → IsRow (row 0 ws)
     → first_line (text_of_rows (row 0 ws ∷ rows) ++ more) ≡ join_with_byte 32 ws
 unfolding first_line
 first_line_again ws rows more h = ap (λ o. before_cut o (text_of_rows (row 0 ws ∷ rows) ++ more)) (first_cut ws rows more h)
 
-pub line_words : (ws : List (List ℕ)) → IsRow (row 0 ws) → words_in (join_with_byte 32 ws) ≡ ws
-unfolding row_in
-line_words ws h =
-    let again = row-again (row 0 ws) h in
-    let line = join_with_byte 32 ws in
-    ap (λ n. words_in (drop n line)) (sym (ap (λ r. r.indent) again)) ∙ ap (λ r. r.words) again
-
 -- a text begins with one row alone
 pub row_once : (ws vs : List (List ℕ)) (rows others : List Row) (a b : List ℕ) → IsRow (row 0 ws) → IsRow (row 0 vs)
     → text_of_rows (row 0 ws ∷ rows) ++ a ≡ text_of_rows (row 0 vs ∷ others) ++ b → (ws ≡ vs) × (text_of_rows rows ++ a ≡ text_of_rows others ++ b)
 row_once ws vs rows others a b h k e =
     let same = some_pair_parts _ _ _ _ (sym (first_cut ws rows a h) ∙ ap (cut_at 10) e ∙ first_cut vs others b k) in
-    (sym (line_words ws h) ∙ ap words_in same.0 ∙ line_words vs k, same.1)
+    (sym (words_there ws h) ∙ ap words_in same.0 ∙ words_there vs k, same.1)
 
 pub other_row : (test : List (List ℕ) → Bool) (ws vs : List (List ℕ)) (rows others : List Row) (a b : List ℕ) → IsRow (row 0 ws) → IsRow (row 0 vs)
     → test ws ≡ true → test vs ≡ false → text_of_rows (row 0 ws ∷ rows) ++ a ≡ text_of_rows (row 0 vs ∷ others) ++ b → ⊥

@@ -19,7 +19,8 @@ use Rattle.ipt_lang.specs.ReadingSteps.{hook_in, rule_in}
 use Rattle.ipt_lang.specs.ScanSteps.{IsAny, IsChainName, Lacks, name_in, name_rows, policy_rows, remark_in, scanned_rule, target, target_at, target_in, target_rows}
 use Rattle.ipt_lang.specs.Texts.{chain_name, chain_row, default_rows, default_word, jump_row, remark_rows, rule_row, rule_rows, rule_words, target_row}
 use Rattle.ipt_lang.proofs.DocumentLaws.{no_hook, own_hook}
-use Rattle.ipt_lang.proofs.FirstRowLaws.{Once, first_line_again, line_words, other_row, row_once}
+use Rattle.acl_rows.proofs.RowLaws.{words_there}
+use Rattle.ipt_lang.proofs.FirstRowLaws.{Once, first_line_again, other_row, row_once}
 use Rattle.ipt_lang.proofs.RuleReadingLaws.{rule_again}
 use Rattle.ipt_lang.proofs.SafeRowLaws.{family_safe, hook_safe, name_safe, remark_safe, rule_safe}
 
@@ -79,7 +80,7 @@ scanned_again hook f name text r more n h e =
     let words = behind_name hook name (rule_words f r) in
     let safe = rule_row_safe hook f name r n h in
     ap (scanned_rule f) e ∙ ap (λ l. rule_in f (drop 1 (drop 1 (words_in l)))) (first_line_again words [] more safe)
-    ∙ ap (λ ws. rule_in f (drop 1 (drop 1 ws))) (line_words words safe) ∙ rule_again f r h
+    ∙ ap (λ ws. rule_in f (drop 1 (drop 1 ws))) (words_there words safe) ∙ rule_again f r h
 
 pub rule_once : (hook : Hook) (f : Family) (name : List ℕ) → IsChainName name → Once (IsRule f) (rule_rows hook f name)
 unfolding rule_rows

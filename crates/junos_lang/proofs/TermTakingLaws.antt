@@ -1,5 +1,5 @@
 -- A term is read again from its text, whatever stands behind it.
-use Rattle.std.proofs.Common.{◌≡◌, ℕ, zero, suc, ◌+◌, ◌<◌, Bool, true, false, cond, ◌&&◌, nat_le, List, [], ◌∷◌, ◌++◌, length, map, codes, replicate, Option, None, Some, IfSome, is_some, option_map, refl, ap, sym, subst, ◌∙◌, append_assoc, length-append, arith}
+use Rattle.std.proofs.Common.{◌≡◌, ℕ, ◌+◌, ◌<◌, Bool, true, false, cond, ◌&&◌, nat_le, List, [], ◌∷◌, ◌++◌, length, map, codes, Option, None, Some, IfSome, is_some, option_map, refl, ap, sym, subst, ◌∙◌, append_assoc, length-append, arith}
 use Rattle.std.specs.Fmt.{decimal}
 use Rattle.std.specs.List.{AllByRecursion, fold, join_with_byte}
 use Rattle.std.specs.Option.{IsSomeAnd}
@@ -10,14 +10,14 @@ use Rattle.acl_packet.specs.declared.addresses.Family.{Family}
 use Rattle.acl_packet.specs.declared.addresses.Prefix.{Prefix}
 use Rattle.acl_packet.specs.declared.filtering.Verdict.{Verdict}
 use Rattle.acl_packet.specs.declared.filtering.Verdict.TheVariants.{Accept}
-use Rattle.acl_text.specs.Cuts.{behind, has_byte}
-use Rattle.acl_text.proofs.CutLaws.{behind-again, has-append}
+use Rattle.acl_text.specs.Cuts.{behind}
+use Rattle.acl_text.proofs.CutLaws.{behind-again}
 use Rattle.acl_text.proofs.ListLaws.{all_append}
-use Rattle.acl_rows.specs.Rows.{Row, row, row_line, row_text, text_of_rows, words_in}
-use Rattle.acl_rows.specs.RowSteps.{row_in, rows_in, IsRow, IsWord}
+use Rattle.acl_rows.specs.Rows.{Row, row, row_text, text_of_rows, words_in}
+use Rattle.acl_rows.specs.RowSteps.{rows_in}
 use Rattle.acl_rows.specs.declared.rule_parts.End.{End}
 use Rattle.acl_rows.specs.declared.rule_parts.End.TheVariants.{Source, Destination}
-use Rattle.acl_rows.proofs.RowLaws.{cut_there, row-again, split_some}
+use Rattle.acl_rows.proofs.RowLaws.{rows_before, split_some}
 use Rattle.junos_lang.specs.declared.conditions.Condition.{Condition}
 use Rattle.junos_lang.specs.declared.conditions.Condition.TheVariants.{SourcePort, DestinationPort, IcmpType, IcmpCode}
 use Rattle.junos_lang.specs.declared.documents.JTerm.{JTerm}
@@ -31,27 +31,6 @@ use Rattle.junos_lang.specs.ScanSteps.{HasTerm, IsTermTaken, TakesTerm, draft_of
 use Rattle.junos_lang.specs.Texts.{address_rows, closing, condition_rows, from_rows, list_row, list_rows, note_row, note_rows, prefix_row, protocol_of, range_word, syslog_rows, term_row, term_rows, test_rows, then_rows}
 use Rattle.junos_lang.proofs.DocumentLaws.{conditions_read, fitting_verdict, from_read, note_read, then_read}
 use Rattle.junos_lang.proofs.SafeRows.{term_safe}
-
--- ---- rows ahead of any text
-
-spaces_no_feed : (n : ℕ) → has_byte 10 (replicate n 32) ≡ false
-spaces_no_feed zero = refl
-spaces_no_feed (suc n) = spaces_no_feed n
-
-joined_no_feed : (ws : List (List ℕ)) → AllByRecursion IsWord ws → has_byte 10 (join_with_byte 32 ws) ≡ false
-joined_no_feed [] h = refl
-joined_no_feed (w ∷ []) h = h.0.no_feed
-joined_no_feed (w ∷ v ∷ ws) h = has-append 10 w (32 ∷ join_with_byte 32 (v ∷ ws)) h.0.no_feed (joined_no_feed (v ∷ ws) h.1)
-
-rows_before : (rows : List Row) (more : List ℕ) → AllByRecursion IsRow rows → rows_in (text_of_rows rows ++ more) ≡ rows ++ rows_in more
-unfolding row_text
-rows_before [] more h = refl
-rows_before (r ∷ rows) more h =
-    let rest : List ℕ = text_of_rows rows ++ more in
-    let no_feed = has-append 10 (replicate r.indent 32) (join_with_byte 32 r.words) (spaces_no_feed r.indent) (joined_no_feed r.words h.0.words) in
-    ap rows_in (append_assoc (row_line r ++ 10 ∷ []) (text_of_rows rows) more ∙ append_assoc (row_line r) (10 ∷ []) rest)
-    ∙ ap (map row_in) (cut_there 10 (row_line r) rest no_feed)
-    ∙ ap (λ x. x ∷ rows_in rest) (row-again r h.0) ∙ ap (λ xs. r ∷ xs) (rows_before rows more h.1)
 
 -- ---- rows within a term
 

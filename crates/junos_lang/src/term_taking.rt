@@ -13,7 +13,7 @@ use crate::documents::JTerm;
 use crate::filters_drafts::FiltersDraft;
 use crate::validity::is_term;
 use acl_packet::Family;
-use acl_rows::{Draft, RowWords, rows_behind};
+use acl_rows::{Draft, RowWords, indent_of, rows_behind};
 use acl_text::{Memory, behind, split_at_byte};
 use std::alloc::Global;
 
@@ -106,19 +106,6 @@ fn take_line(alloc: Global, draft: &mut FiltersDraft, line: &[u8]) -> Result<boo
     }
     draft.take_row(alloc, indent, words)?;
     Ok(true)
-}
-
-// How many spaces the line begins with.
-fn indent_of(line: &[u8]) -> usize
-    ensures exact { result ≡ prefix_len is_space line.now }
-    ensures fits { result ≤ length line.now }
-{
-    for (i, byte) in line.iter().enumerate() {
-        if *byte != b' ' {
-            return i;
-        }
-    }
-    line.len()
 }
 
 #[tactic(auto, unfolding(crate::specs::ScanSteps::ends_term))]

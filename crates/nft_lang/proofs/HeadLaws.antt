@@ -18,7 +18,7 @@ use Rattle.nft_lang.specs.Texts.{default_word, families_word, head_rows, hook_wo
 use Rattle.nft_lang.proofs.DocumentLaws.{default_again, families_again, hook_again, number_again, priority_again}
 use Rattle.nft_lang.proofs.RuleReadingLaws.{up_to_none}
 use Rattle.nft_lang.proofs.SafeRows.{head_safe}
-use Rattle.nft_lang.proofs.ScanLaws.{line_no_feed, row_first}
+use Rattle.acl_rows.proofs.RowLaws.{line_no_feed, row_first}
 
 -- ---- parts
 

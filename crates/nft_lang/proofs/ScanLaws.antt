@@ -1,6 +1,6 @@
 -- What is written of items and sections is taken again from the front of a text, and nothing else is.
-use Rattle.std.proofs.Common.{◌≡◌, ℕ, zero, suc, ◌+◌, ◌<◌, Bool, true, false, cond, List, [], ◌∷◌, ◌++◌, replicate, length, drop, get_or, flat_map, codes, Option, None, Some, option_and_then, refl, ap, sym, subst, ◌∙◌, append_assoc, append-nil, arith, length-append}
-use Rattle.std.specs.List.{AllByRecursion, join_with_byte, prefix_len}
+use Rattle.std.proofs.Common.{◌≡◌, ℕ, ◌+◌, ◌<◌, Bool, true, false, cond, List, [], ◌∷◌, ◌++◌, replicate, length, get_or, flat_map, codes, Option, None, Some, option_and_then, refl, ap, sym, subst, ◌∙◌, append_assoc, append-nil, arith, length-append}
+use Rattle.std.specs.List.{AllByRecursion, join_with_byte}
 use Rattle.std.specs.Option.{option_or}
 use Rattle.std.proofs.lemmas.Bool.{cond-true}
 use Rattle.std.proofs.lemmas.Grind.{flat_map-append}
@@ -10,13 +10,13 @@ use Rattle.std.proofs.lemmas.Option.{cond_some, none-some, option_and_then_some,
 use Rattle.acl_packet.specs.declared.addresses.Families.{Families}
 use Rattle.acl_packet.specs.declared.filtering.Outcome.{Outcome}
 use Rattle.acl_packet.specs.declared.packets.Packet.{Packet}
-use Rattle.acl_text.specs.Cuts.{behind, cut_at, has_byte}
-use Rattle.acl_text.proofs.CutLaws.{behind-again, cut-again, has-append}
+use Rattle.acl_text.specs.Cuts.{behind, cut_at}
+use Rattle.acl_text.proofs.CutLaws.{behind-again}
 use Rattle.acl_text.proofs.ListLaws.{all_append}
-use Rattle.acl_rows.specs.Rows.{Row, row, row_line, row_text, text_of_rows, is_space, words_in}
-use Rattle.acl_rows.specs.RowSteps.{AreRows, AreWords, IsRow, row_in}
+use Rattle.acl_rows.specs.Rows.{row, row_text, text_of_rows, words_in}
+use Rattle.acl_rows.specs.RowSteps.{AreRows, IsRow}
 use Rattle.acl_rows.proofs.ListLaws.{joined_text}
-use Rattle.acl_rows.proofs.RowLaws.{row-again}
+use Rattle.acl_rows.proofs.RowLaws.{line_there, row_first, words_there}
 use Rattle.nft_lang.specs.declared.documents.Item.{Item}
 use Rattle.nft_lang.specs.declared.documents.Item.TheVariants.{Remark, Rule as ARule}
 use Rattle.nft_lang.specs.declared.scanning.Taken.{Taken}
@@ -30,36 +30,6 @@ use Rattle.nft_lang.proofs.DocumentLaws.{plain_parts}
 use Rattle.nft_lang.proofs.RuleReadingLaws.{rule_again}
 use Rattle.nft_lang.proofs.SafeRows.{item_safe, rule_begins}
 use Rattle.nft_lang.proofs.ValidityLaws.{item_decides}
-
--- ---- lines
-
-spaces_no_feed : (n : ℕ) → has_byte 10 (replicate n 32) ≡ false
-spaces_no_feed zero = refl
-spaces_no_feed (suc n) = spaces_no_feed n
-
-joined_no_feed : (ws : List (List ℕ)) → AreWords ws → has_byte 10 (join_with_byte 32 ws) ≡ false
-joined_no_feed [] h = refl
-joined_no_feed (w ∷ []) h = h.0.no_feed
-joined_no_feed (w ∷ v ∷ ws) h = has-append 10 w (32 ∷ join_with_byte 32 (v ∷ ws)) h.0.no_feed (joined_no_feed (v ∷ ws) h.1)
-
-pub line_no_feed : (r : Row) → IsRow r → has_byte 10 (row_line r) ≡ false
-line_no_feed r h = has-append 10 (replicate r.indent 32) (join_with_byte 32 r.words) (spaces_no_feed r.indent) (joined_no_feed r.words h.words)
-
-pub row_first : (r : Row) (rest : List ℕ) → row_text r ++ rest ≡ row_line r ++ 10 ∷ rest
-unfolding row_text
-row_first r rest = append_assoc (row_line r) (10 ∷ []) rest
-
-line_there : (r : Row) (rest : List ℕ) → IsRow r → cut_at 10 (row_text r ++ rest) ≡ Some (row_line r, rest)
-line_there r rest h = ap (cut_at 10) (row_first r rest) ∙ cut-again 10 (row_line r) rest (line_no_feed r h)
-
-words_there : (ws : List (List ℕ)) → IsRow (row 0 ws) → words_in (join_with_byte 32 ws) ≡ ws
-unfolding row_in
-words_there ws h =
-    let line = join_with_byte 32 ws in
-    let read = row-again (row 0 ws) h in
-    let unindented : prefix_len is_space line ≡ 0 = ap (λ r. r.indent) read in
-    let words : words_in (drop (prefix_len is_space line) line) ≡ ws = ap (λ r. r.words) read in
-    ap (λ n. words_in (drop n line)) (sym unindented) ∙ words
 
 -- ---- items
 
