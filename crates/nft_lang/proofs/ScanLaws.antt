@@ -1,12 +1,12 @@
 -- What is written of items and sections is taken again from the front of a text, and nothing else is.
-use Rattle.std.proofs.Common.{◌≡◌, ℕ, ◌+◌, ◌<◌, Bool, true, false, cond, List, [], ◌∷◌, ◌++◌, replicate, length, get_or, flat_map, codes, Option, None, Some, option_and_then, refl, ap, sym, subst, ◌∙◌, append_assoc, append-nil, arith, length-append}
+use Rattle.std.proofs.Common.{◌≡◌, ℕ, ◌+◌, ◌<◌, Bool, true, false, cond, List, [], ◌∷◌, ◌++◌, replicate, length, get_or, flat_map, codes, Option, None, Some, option_and_then, option_map, refl, ap, sym, subst, ◌∙◌, append_assoc, append-nil, arith, length-append}
 use Rattle.std.specs.List.{AllByRecursion, join_with_byte}
 use Rattle.std.specs.Option.{option_or}
-use Rattle.std.proofs.lemmas.Bool.{cond-true}
+use Rattle.std.proofs.lemmas.Bool.{false≢true}
 use Rattle.std.proofs.lemmas.Grind.{flat_map-append}
 use Rattle.std.proofs.lemmas.List.{append_cancel_left}
 use Rattle.std.proofs.lemmas.List.Splits.{join_with_byte-slice_split}
-use Rattle.std.proofs.lemmas.Option.{cond_some, none-some, option_and_then_some, same_Some}
+use Rattle.std.proofs.lemmas.Option.{none-some, same_Some}
 use Rattle.acl_packet.specs.declared.addresses.Families.{Families}
 use Rattle.acl_packet.specs.declared.filtering.Outcome.{Outcome}
 use Rattle.acl_packet.specs.declared.packets.Packet.{Packet}
@@ -22,7 +22,7 @@ use Rattle.nft_lang.specs.declared.documents.Item.TheVariants.{Remark, Rule as A
 use Rattle.nft_lang.specs.declared.scanning.Taken.{Taken}
 use Rattle.nft_lang.specs.Documents.{IsItem}
 use Rattle.nft_lang.specs.ReadingSteps.{item_in, rule_in}
-use Rattle.nft_lang.specs.ScanSteps.{ItemsTaken, item_text_in, if_valid, valid_item_in, item_text, TakesItem, items_text, TakesItems}
+use Rattle.nft_lang.specs.ScanSteps.{ItemsTaken, item_text_in, first_item_in, item_text, TakesItem, items_text, TakesItems}
 use Rattle.nft_lang.specs.Texts.{end_rows, item_rows, rule_words}
 use Rattle.nft_lang.specs.ValiditySteps.{is_item}
 use Rattle.nft_lang.specs.Walks.{first_holding, rule_holds, decided_by}
@@ -95,53 +95,50 @@ item_again families (ARule r) h =
     ∙ ap (λ t. cond t (Remark (join_with_byte 32 b.rest)) (ARule (rule_in families (b.first ∷ b.rest)))) parts.0
     ∙ ap (λ ws. ARule (rule_in families ws)) (sym b.is) ∙ ap ARule (rule_again families r h)
 
-valid_again : (families : Families) (item : Item) (rest : List ℕ) → IsItem families item
-    → valid_item_in families (item_text families item ++ rest) ≡ Some item
-unfolding valid_item_in if_valid
-valid_again families item rest h =
-    ap (option_and_then (λ words. if_valid families (item_in families (words_in words)))) (item_text_there families item rest h)
-    ∙ ap (λ ws. if_valid families (item_in families ws)) (words_again families item h)
-    ∙ ap (if_valid families) (item_again families item h) ∙ cond-true (is_item families item) _ _ ((item_decides families item).1 h)
-
-valid_one : (families : Families) (item found : Item) → if_valid families found ≡ Some item → IsItem families item
-unfolding if_valid
-valid_one families item found e =
-    let p = cond_some (is_item families found) found item e in
-    subst (IsItem families) p.1 ((item_decides families found).0 p.0)
-
-valid_found : (families : Families) (item : Item) (text : List ℕ) → valid_item_in families text ≡ Some item → IsItem families item
-unfolding valid_item_in
-valid_found families item text e =
-    option_and_then_some (λ words. if_valid families (item_in families (words_in words))) (item_text_in text) item e
-    (λ words _ found. valid_one families item (item_in families (words_in words)) found)
+first_again : (families : Families) (item : Item) (rest : List ℕ) → IsItem families item
+    → first_item_in families (item_text families item ++ rest) ≡ Some item
+unfolding first_item_in
+first_again families item rest h =
+    ap (option_map (λ words. item_in families (words_in words))) (item_text_there families item rest h)
+    ∙ ap (λ ws. Some (item_in families ws)) (words_again families item h) ∙ ap Some (item_again families item h)
 
 -- the item that is read is the one that is written
-read_is_written : (families : Families) (text more : List ℕ) (o : Option Item) (item : Item) → valid_item_in families text ≡ o
+read_is_written : (families : Families) (text more : List ℕ) (o : Option Item) (item : Item) → first_item_in families text ≡ o
     → IsItem families item → text ≡ item_text families item ++ more → o ≡ Some item
-read_is_written families text more o item v h e = sym v ∙ ap (valid_item_in families) e ∙ valid_again families item more h
+read_is_written families text more o item v h e = sym v ∙ ap (first_item_in families) e ∙ first_again families item more h
 
-pub item_taken : (families : Families) (p : Packet) (text : List ℕ) (item : Item) (taken : Taken) → valid_item_in families text ≡ Some item
-    → text ≡ item_text families item ++ taken.rest.now → taken.decided ≡ first_holding (item ∷ []) p → TakesItem families p text (Some taken)
-item_taken families p text item taken v w d = record {
-  some = (item, record { valid = valid_found families item text v; written_first = w; decided = d });
+pub item_taken : (families : Families) (p : Packet) (text : List ℕ) (item : Item) (taken : Taken) → first_item_in families text ≡ Some item
+    → is_item families item ≡ true → text ≡ item_text families item ++ taken.rest.now → taken.decided ≡ first_holding (item ∷ []) p
+    → TakesItem families p text (Some taken)
+item_taken families p text item taken v valid w d = record {
+  some = (item, record { valid = (item_decides families item).0 valid; written_first = w; decided = d });
   each = λ other more h e.
       let same = same_Some item other (read_is_written families text more (Some item) other v h e) in
       append_cancel_left (item_text families other) taken.rest.now more (ap (λ x. item_text families x ++ taken.rest.now) (sym same) ∙ sym w ∙ e);
 }
 
-pub none_read : (families : Families) (p : Packet) (text : List ℕ) → valid_item_in families text ≡ None → TakesItem families p text None
+pub none_read : (families : Families) (p : Packet) (text : List ℕ) → first_item_in families text ≡ None → TakesItem families p text None
 none_read families p text v = record {
   some = tt;
   each = λ other more h e. absurd (none-some other (read_is_written families text more None other v h e));
 }
 
-pub none_written : (families : Families) (p : Packet) (text : List ℕ) (item : Item) → valid_item_in families text ≡ Some item
+pub none_written : (families : Families) (p : Packet) (text : List ℕ) (item : Item) → first_item_in families text ≡ Some item
     → ((rest : List ℕ) → text ≡ item_text families item ++ rest → ⊥) → TakesItem families p text None
 none_written families p text item v n = record {
   some = tt;
   each = λ other more h e.
       let same = same_Some item other (read_is_written families text more (Some item) other v h e) in
       absurd (n more (e ∙ ap (λ x. item_text families x ++ more) (sym same)));
+}
+
+pub none_valid : (families : Families) (p : Packet) (text : List ℕ) (item : Item) → first_item_in families text ≡ Some item
+    → is_item families item ≡ false → TakesItem families p text None
+none_valid families p text item v n = record {
+  some = tt;
+  each = λ other more h e.
+      let same = same_Some item other (read_is_written families text more (Some item) other v h e) in
+      absurd (false≢true (sym n ∙ ap (is_item families) same ∙ (item_decides families other).1 h));
 }
 
 -- ---- the items of a chain

@@ -1,5 +1,5 @@
 -- Taking a section from the front of a text: its head, then item by item.
-use Rattle.std.specs.Prelude.{◌≡◌, ℕ, zero, suc, if◌then◌else◌, List, [], ◌∷◌, ◌++◌, replicate, flat_map, codes, Option, None, Some, IfSome, option_and_then, unwrap_or}
+use Rattle.std.specs.Prelude.{◌≡◌, ℕ, zero, suc, if◌then◌else◌, List, [], ◌∷◌, ◌++◌, replicate, flat_map, codes, Option, None, Some, IfSome, option_and_then, option_map, unwrap_or}
 use Rattle.std.specs.List.{AllByRecursion}
 use Rattle.std.specs.Option.{IsSomeAnd, option_map_or}
 use Rattle.std.specs.Str.{bytes_eq}
@@ -18,7 +18,6 @@ use Rattle.nft_lang.specs.declared.scanning.Taken.{Taken}
 use Rattle.nft_lang.specs.Documents.{IsItem}
 use Rattle.nft_lang.specs.ReadingSteps.{hook_in, item_in, priority_in, table_in, up_to}
 use Rattle.nft_lang.specs.Texts.{end_rows, head_rows, item_rows, section_rows}
-use Rattle.nft_lang.specs.ValiditySteps.{is_item}
 use Rattle.nft_lang.specs.Walks.{first_holding, policy_verdict, section_outcome}
 
 -- ---- what is taken
@@ -45,15 +44,10 @@ unfoldable pub item_text_in : List ℕ → Option (List ℕ)
 item_text_in text =
     option_and_then (λ (cut : List ℕ × List ℕ). behind (replicate 8 32) cut.0) (cut_at 10 text)
 
--- The item, if it is valid.
-unfoldable pub if_valid : Families → Item → Option Item
-if_valid families item = if is_item families item then Some item else None
-
--- The item that the first line says.
-unfoldable pub valid_item_in : Families → List ℕ → Option Item
-valid_item_in families text =
-    option_and_then (λ words. if_valid families (item_in families (words_in words)))
-    (item_text_in text)
+-- The item that the first line says, whatever that is.
+unfoldable pub first_item_in : Families → List ℕ → Option Item
+first_item_in families text =
+    option_map (λ words. item_in families (words_in words)) (item_text_in text)
 
 abbrev pub item_text : Families → Item → List ℕ
 item_text families item = text_of_rows (item_rows families item)

@@ -1,6 +1,6 @@
 ghost use Rattle.std.specs.Prelude.{◌≡◌, ◌^◌, ◌<◌, ◌∷◌, [], IfOk, option_map, true};
 ghost use Rattle.nft_lang.specs.Documents.{fits_i32};
-ghost use Rattle.nft_lang.specs.ScanSteps.{TakesChain, TakesItem, TakesItems, behind_byte, head_in, if_valid, item_text_in, name_in, outcome_from, part_at, valid_item_in};
+ghost use Rattle.nft_lang.specs.ScanSteps.{TakesChain, TakesItem, TakesItems, behind_byte, first_item_in, head_in, item_text_in, name_in, outcome_from, part_at};
 ghost use Rattle.nft_lang.specs.Texts.{item_rows};
 ghost use Rattle.nft_lang.specs.Walks.{first_holding};
 
@@ -98,8 +98,8 @@ fn take_items<'a>(
     }
 }
 
-// Takes the item that the text begins with. The first line says which it would be, and is compared
-// with the row of that one.
+// Takes the item that the text begins with. The first line says which it would be, and is compared with the row of that one
+// before the item is judged, since the elements of its sets are sorted for that.
 fn take_item<'a>(
     alloc: Global,
     families: Families,
@@ -108,21 +108,32 @@ fn take_item<'a>(
 ) -> Result<Option<Taken<'a>>, Memory>
     ensures { IfOk result (TakesItem families packet.now text.now) }
 {
-    match valid_item_of(alloc, families, text)? {
-        Some(item) => {
-            let row = ItemRow {
-                families,
-                item: &item,
-            };
-            match rows_behind(text, &row) {
-                Some(rest) => Ok(Some(Taken {
-                    decided: decided_by_item(&item, packet),
-                    rest,
-                })),
-                None => Ok(None),
-            }
-        }
+    match first_item_of(alloc, families, text)? {
+        Some(item) => take_if_valid(alloc, families, &item, text, packet),
         None => Ok(None),
+    }
+}
+
+fn take_if_valid<'a>(
+    alloc: Global,
+    families: Families,
+    item: &Item,
+    text: &'a [u8],
+    packet: &Packet,
+) -> Result<Option<Taken<'a>>, Memory>
+    requires { first_item_in families text.now ≡ Some item.now }
+    ensures { IfOk result (TakesItem families packet.now text.now) }
+{
+    let Some(rest) = rows_behind(text, &ItemRow { families, item }) else {
+        return Ok(None);
+    };
+    if is_item(alloc, families, item)? {
+        Ok(Some(Taken {
+            decided: decided_by_item(item, packet),
+            rest,
+        }))
+    } else {
+        Ok(None)
     }
 }
 
@@ -142,28 +153,14 @@ fn decided_by_item(item: &Item, packet: &Packet) -> Option<Outcome>
     }
 }
 
-// What the first line of the text says, if that is a valid item.
-#[tactic(auto, unfolding(crate::specs::ScanSteps::valid_item_in))]
-fn valid_item_of(alloc: Global, families: Families, text: &[u8]) -> Result<Option<Item>, Memory>
-    ensures { IfOk result (λ o. o ≡ valid_item_in families text.now) }
+// The item that the first line of the text says, whatever that is.
+#[tactic(auto, unfolding(crate::specs::ScanSteps::first_item_in))]
+fn first_item_of(alloc: Global, families: Families, text: &[u8]) -> Result<Option<Item>, Memory>
+    ensures { IfOk result (λ o. o ≡ first_item_in families text.now) }
 {
     match item_text_of(text) {
-        Some(words) => {
-            let item = item_of(alloc, families, RowWords::new(words))?;
-            if_valid(alloc, families, item)
-        }
+        Some(words) => Ok(Some(item_of(alloc, families, RowWords::new(words))?)),
         None => Ok(None),
-    }
-}
-
-#[tactic(auto, unfolding(crate::specs::ScanSteps::if_valid))]
-fn if_valid(alloc: Global, families: Families, item: Item) -> Result<Option<Item>, Memory>
-    ensures { IfOk result (λ o. o ≡ if_valid families item) }
-{
-    if is_item(alloc, families, &item)? {
-        Ok(Some(item))
-    } else {
-        Ok(None)
     }
 }
 
