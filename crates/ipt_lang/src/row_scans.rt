@@ -40,7 +40,7 @@ pub(crate) fn take_remark<'a>(text: &'a [u8]) -> Option<Taken<'a, &'a [u8]>>
 fn remark_in(text: &[u8]) -> &[u8]
     ensures { result.now ≡ remark_in text.now }
 {
-    behind(first_line(text), 2)
+    behind(first_line(text), b"# ".len())
 }
 
 /// Takes the row of a new chain, and of it the chain's name.
@@ -60,7 +60,7 @@ pub(crate) fn take_name<'a>(hook: Hook, text: &'a [u8]) -> Option<Taken<'a, &'a 
 fn name_in(text: &[u8]) -> &[u8]
     ensures { result.now ≡ name_in text.now }
 {
-    behind(first_line(text), 5)
+    behind(first_line(text), b"-N I_".len())
 }
 
 /// Takes the rule of the chain that the text begins with.
@@ -121,7 +121,7 @@ pub(crate) fn take_target(text: &[u8]) -> Option<Taken<'_, TargetRow>>
 fn target_in(text: &[u8]) -> TargetRow
     ensures { result ≡ target_in text.now }
 {
-    match split_at_byte(behind(first_line(text), 12), b' ') {
+    match split_at_byte(behind(first_line(text), b"## iptables ".len()), b' ') {
         Some((hook, family)) => target_of(hook, family),
         None => target_of(&[], &[]),
     }
