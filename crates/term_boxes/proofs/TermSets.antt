@@ -1,17 +1,18 @@
 -- The sides of a term's boxes: what they hold, and that they are sets of numbers of their coordinates.
-use Rattle.std.proofs.Common.{◌≡◌, ℕ, ◌≤◌, Bool, true, false, cond, not, ◌&&◌, ◌||◌, ◌==◌, nat_le, List, [], ◌∷◌, ◌++◌, flat_map, refl, ap, sym, ◌∙◌, arith}
+use Rattle.acl_text.specs.declared.texts.Memory.{Memory}
+use Rattle.std.proofs.Common.{◌≡◌, ℕ, ◌≤◌, Bool, true, false, cond, not, ◌&&◌, ◌||◌, ◌==◌, nat_le, List, [], ◌∷◌, ◌++◌, flat_map, refl, ap, sym, ◌∙◌, arith, ◌<◌, ◌⊎◌, inl, inr, subst, Result, Ok, Err, IfOk}
 use Rattle.std.specs.List.{AllByRecursion}
-use Rattle.std.proofs.lemmas.Bool.{both_ways, eq-eqb, eqb-true, false_from_ne_true, le-leb}
+use Rattle.std.proofs.lemmas.Bool.{both_ways, eq-eqb, eqb-true, false_from_ne_true, le-leb, and_right, cases_lt}
 use Rattle.acl_packet.specs.declared.addresses.Family.{Family}
 use Rattle.acl_packet.specs.declared.addresses.Family.TheVariants.{V4, V6}
 use Rattle.acl_packet.specs.declared.packet_fields.Field.{Field}
 use Rattle.acl_packet.specs.declared.packet_fields.Field.TheVariants.{Protocol, SourcePort, DestinationPort, IcmpType, IcmpCode}
 use Rattle.acl_packet.specs.Addresses.{top_address}
 use Rattle.acl_packet.specs.Packets.{foreign_of, top_of}
-use Rattle.acl_sets.specs.ComputableSets.{cut_all, is_all}
-use Rattle.acl_sets.specs.Ranges.{IsRange, Numbers, holds}
-use Rattle.acl_sets.proofs.ComputableSetLaws.{covers-holds, cut_all-holds, cut_all-normal}
-use Rattle.acl_sets.proofs.RangeLaws.{are_ranges, ends_of, in_range}
+use Rattle.acl_sets.specs.ComputableSets.{cut_all, is_all, shared_all}
+use Rattle.acl_sets.specs.Ranges.{IsRange, Numbers, holds, IsNormal}
+use Rattle.acl_sets.proofs.ComputableSetLaws.{covers-holds, cut_all-holds, cut_all-normal, intersection-computed}
+use Rattle.acl_sets.proofs.RangeLaws.{are_ranges, ends_of, in_range, past_top}
 use Rattle.acl_text.proofs.ListLaws.{all_append}
 use Rattle.acl_terms.specs.declared.options.Mode.{Mode}
 use Rattle.acl_terms.specs.declared.options.Mode.TheVariants.{Stateful, Stateless}
@@ -29,6 +30,26 @@ use Rattle.term_boxes.specs.NumberSets.{ack_or_rst, but_tcp, client_ports, initi
 use Rattle.term_boxes.specs.TermBoxes.{TermsHaveBoxes, boxes_of, established_ports, failing, failing_addresses, failing_boxes, failing_ports, pair_box, passing, protocols_in, seeming_new}
 use Rattle.term_boxes.proofs.HeldNumbers.{up-to-holds}
 use Rattle.term_boxes.proofs.SideSets.{but-tcp-set, not-initial-set, one-run, outside-set, sides, two-runs, up-to-set}
+
+-- ---- a set that has all numbers, with another one
+
+with_all : (s e : Numbers) → s.top ≡ e.top → IsNormal 0 s.top s.ranges → IsNormal 0 e.top e.ranges → is_all s ≡ true → e.ranges ≡ shared_all e.ranges s.ranges
+with_all s e tops n m all =
+    let k : IsNormal 0 s.top e.ranges = subst (λ top. IsNormal 0 top e.ranges) (sym tops) m in
+    intersection-computed s.top s.ranges e.ranges e.ranges n k k (λ x. by_top x (cases_lt s.top x)) where
+      by_top : (x : ℕ) → (s.top < x) ⊎ (x ≤ s.top) → holds e.ranges x ≡ (holds s.ranges x && holds e.ranges x)
+      by_top x (inl past) =
+          let none : holds e.ranges x ≡ false = past_top 0 e.top e.ranges x m (omega (arith, tops, past)) in
+          none ∙ sym (ap (λ b. holds s.ranges x && b) none ∙ and_right (holds s.ranges x) false refl)
+      by_top x (inr within) = sym (ap (λ b. b && holds e.ranges x) (covers-holds s.ranges 0 s.top x all (omega arith) within))
+
+-- What is shared of the other set is what both have.
+pub all_shared : (s e : Numbers) → s.top ≡ e.top → IsNormal 0 s.top s.ranges → is_all s ≡ true → (r : Result Numbers Memory)
+    → IfOk r (λ u. u ≡ e) → IfOk r (λ u. IsNormal 0 u.top u.ranges) → IfOk r (λ u. u ≡ in_both s e)
+all_shared s e tops n all (Ok u) same normal =
+    let m : IsNormal 0 e.top e.ranges = subst (λ (v : Numbers). IsNormal 0 v.top v.ranges) same normal in
+    same ∙ ap (λ rs. record { top = e.top; ranges = rs }) (with_all s e tops n m all) ∙ ap (λ top. record { top = top; ranges = shared_all e.ranges s.ranges }) (sym tops)
+all_shared s e tops n all (Err memory) same normal = tt
 
 -- ---- sets of a term
 

@@ -1,6 +1,6 @@
 ghost use Rattle.std.specs.Prelude.{◌≡◌, ◌∷◌, [], IfOk};
 ghost use Rattle.acl_packet.specs.Packets.{foreign_of};
-ghost use Rattle.acl_terms.specs.Resolved.{destinations_on, sources_on};
+ghost use Rattle.acl_terms.specs.Resolved.{destinations_on, in_both, sources_on};
 ghost use Rattle.term_boxes.specs.TermBoxes.{own_box, pair_box, protocols_in};
 
 use crate::boxes::PacketBox;
@@ -26,6 +26,19 @@ fn protocols_in(alloc: Global, family: Family, term: &Term) -> Result<RangeSet, 
     term.protos.subtract(alloc, &others)
 }
 
+// The numbers of both sets. Where the one has all of them, the other is shared and not copied.
+fn in_both(alloc: Global, set: &RangeSet, other: &RangeSet) -> Result<RangeSet, Memory>
+    requires { set.now.top ≡ other.now.top }
+    ensures { IfOk result (λ s. s ≡ in_both set.now other.now) }
+{
+    // all of them are one range
+    if set.ranges().len() == 1 && set.is_all() {
+        other.share()
+    } else {
+        set.intersect(alloc, other)
+    }
+}
+
 // The sources of the term on the side.
 #[tactic(auto, using(acl_terms::proofs::SideLaws::source_tops))]
 fn sources_on(alloc: Global, side: Side, family: Family, term: &Term) -> Result<RangeSet, Memory>
@@ -33,7 +46,7 @@ fn sources_on(alloc: Global, side: Side, family: Family, term: &Term) -> Result<
 {
     let set = source_in(family, term);
     match side {
-        Side::Source => set.intersect(alloc, either_in(family, term)),
+        Side::Source => in_both(alloc, set, either_in(family, term)),
         Side::Whole | Side::Destination => set.share(),
     }
 }
@@ -50,7 +63,7 @@ fn destinations_on(
 {
     let set = destination_in(family, term);
     match side {
-        Side::Destination => set.intersect(alloc, either_in(family, term)),
+        Side::Destination => in_both(alloc, set, either_in(family, term)),
         Side::Whole | Side::Source => set.share(),
     }
 }
