@@ -1,5 +1,5 @@
 -- What a section of a text does to a packet, where the sections are taken from the text one by one, and none is held.
-use Rattle.std.specs.Prelude.{◌≡◌, ℕ, ◌<◌, List, ◌∷◌, ◌++◌, flat_map, length, Option, None, Some, IfSome}
+use Rattle.std.specs.Prelude.{◌≡◌, ℕ, ◌<◌, List, ◌∷◌, ◌++◌, flat_map, length, Option, None, Some, IfNone, IfSome}
 use Rattle.std.specs.List.{AllByRecursion}
 use Rattle.std.specs.Option.{IsSomeAnd}
 use Rattle.acl_packet.specs.declared.filtering.Outcome.{Outcome}
@@ -26,11 +26,12 @@ pub record IsTaken {S : Type 0} (IsSection : S → Type 0) (names : S → List (
   pub shorter : length taken.rest.now < length text
 
 -- A section is taken from the front of a text, if the text begins with one. Where the text is that of valid sections, it is the
--- first of them.
+-- first of them. Where none is taken, the names are as they were.
 pub record TakesSection {S : Type 0} (IsSection : S → Type 0) (names : S → List (List ℕ)) (rows : S → List Row)
     (outcome : S → Packet → Option Outcome) (text : List ℕ) (packet : Packet) (before after : List (List ℕ))
     (taken : Option TakenSection) : Type 0 where
   pub some : IfSome taken (λ t. (section : S) × IsTaken IsSection names rows outcome text packet before after t section)
+  pub none : IfNone taken (after ≡ before)
   pub each : (section : S) (others : List S) → IsSection section → AllByRecursion IsSection others
       → text ≡ text_of_rows (flat_map rows (section ∷ others))
       → IsSomeAnd taken (λ t. t.rest.now ≡ text_of_rows (flat_map rows others))

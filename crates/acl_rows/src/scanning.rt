@@ -35,7 +35,7 @@ pub trait Scan: Language {
     ghost use Rattle.acl_rows.specs.Scans.{TakesSection};
 
     /// Takes the section that the text begins with, and puts its names behind the others. `None` where the text is none of
-    /// a document.
+    /// a document; the names are as they were then.
     fn take_section<'a>(
         alloc: Global,
         text: &'a [u8],

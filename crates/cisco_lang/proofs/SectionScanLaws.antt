@@ -329,9 +329,10 @@ headed s others text h e =
     ap heading_taken (e ∙ section_split s others)
     ∙ heading_again s.name s.families (text_of_rows (flat_map list_rows s.lists) ++ text_of_rows (flat_map section_rows others)) h.named
 
-pub no_heading : (p : Packet) (text : List ℕ) (before after : List (List ℕ)) → None ≡ heading_taken text → Takes text p before after None
-no_heading p text before after n = record {
+pub no_heading : (p : Packet) (text : List ℕ) (names : List (List ℕ)) → None ≡ heading_taken text → Takes text p names names None
+no_heading p text names n = record {
   some = tt;
+  none = refl;
   each = λ s others h k e.
       none-some (s.name, s.families, text_of_rows (flat_map list_rows s.lists) ++ text_of_rows (flat_map section_rows others)) (n ∙ headed s others text h e);
 }
@@ -347,10 +348,11 @@ lists_there name fs p text rest taken s others m t h e =
     let P : List ℕ × Families × List ℕ → Type 0 = λ x. TakesLists x.1 x.0 p x.2 taken in
     (subst P same t).each s.lists more h.named (record { heads = h.heads; valid = h.lists }) refl
 
-pub no_lists : (name : List ℕ) (fs : Families) (p : Packet) (text rest : List ℕ) (before after : List (List ℕ))
-    → Some (name, fs, rest) ≡ heading_taken text → TakesLists fs name p rest None → Takes text p before after None
-no_lists name fs p text rest before after m t = record {
+pub no_lists : (name : List ℕ) (fs : Families) (p : Packet) (text rest : List ℕ) (names : List (List ℕ))
+    → Some (name, fs, rest) ≡ heading_taken text → TakesLists fs name p rest None → Takes text p names names None
+no_lists name fs p text rest names m t = record {
   some = tt;
+  none = refl;
   each = λ s others h k e. lists_there name fs p text rest None s others m t h e;
 }
 
@@ -381,5 +383,6 @@ section_taken name fs p text rest before after lists m t n =
           shorter = omega (arith, long, parts, whole);
         },
       );
+      none = tt;
       each = λ s others h k e. lists_there name fs p text rest (Some lists) s others m t h e;
     }

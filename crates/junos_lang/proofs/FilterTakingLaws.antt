@@ -222,5 +222,6 @@ section_taken text p before after u t k name outcome rest =
           shorter = section_shortens s text t.rest.now written;
         },
       );
+      none = tt;
       each = λ s' others v all e. rest ∙ k.each s' (text_of_rows (flat_map section_rows others)) v (e ∙ sections_text s' others);
     }

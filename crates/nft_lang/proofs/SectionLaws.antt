@@ -121,10 +121,11 @@ section_taken p text before after taken head r small fits takes n =
           shorter = section_shorter head items text taken.rest.now is.written_first;
         },
       );
+      none = tt;
       each = λ s others h _ e. each_section p text (Some taken) head r takes s others h e;
     }
 
-pub no_section : (p : Packet) (text : List ℕ) (before after : List (List ℕ)) (head : TableHead) → head ≡ head_in text → TakesChain head p text None
-    → TakesSection IsSection table_names section_rows section_outcome text p before after None
-no_section p text before after head r takes =
-    record { some = tt; each = λ s others h _ e. each_section p text None head r takes s others h e }
+pub no_section : (p : Packet) (text : List ℕ) (names : List (List ℕ)) (head : TableHead) → head ≡ head_in text → TakesChain head p text None
+    → TakesSection IsSection table_names section_rows section_outcome text p names names None
+no_section p text names head r takes =
+    record { some = tt; none = refl; each = λ s others h _ e. each_section p text None head r takes s others h e }

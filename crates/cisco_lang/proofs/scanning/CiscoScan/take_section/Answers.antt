@@ -4,13 +4,13 @@ use Rattle.cisco_lang.proofs.scanning.CiscoScan.take_section.Goals as goal
 
 pub returns-in_default : goal.returns-in_default
 returns-in_default c =
-    let names = views c.args.names.now.items in no_heading c.args.packet.now c.args.text.now names names c.in_default.ensures
+    let names = views c.args.names.now.items in no_heading c.args.packet.now c.args.text.now names c.in_default.ensures
 
 pub returns-in_default-take_lists : goal.returns-in_default-take_lists
 returns-in_default-take_lists c =
     let names = views c.args.names.now.items in
     let heading = c.in-Some.heading in
-    no_lists heading.name.now heading.families c.args.packet.now c.args.text.now heading.rest.now names names c.in-Some.ensures c.in_default-take_lists.ensures
+    no_lists heading.name.now heading.families c.args.packet.now c.args.text.now heading.rest.now names c.in-Some.ensures c.in_default-take_lists.ensures
 
 pub returns : goal.returns
 returns c =

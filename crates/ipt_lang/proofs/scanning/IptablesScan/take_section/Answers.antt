@@ -1,4 +1,4 @@
-use Rattle.std.proofs.Common.{[], ◌∷◌, ◌++◌, None, Some, ap, sym, subst, ◌∙◌}
+use Rattle.std.proofs.Common.{[], ◌∷◌, ◌++◌, None, Some, refl, ap, sym, subst, ◌∙◌}
 use Rattle.acl_text.specs.Cuts.{views}
 use Rattle.ipt_lang.specs.Documents.{family_word, hook_word}
 use Rattle.ipt_lang.specs.ScanSteps.{TakesBody}
@@ -9,6 +9,7 @@ use Rattle.ipt_lang.proofs.scanning.IptablesScan.take_section.Goals as goal
 pub returns-in_default : goal.returns-in_default
 returns-in_default c = record {
   some = tt;
+  none = refl;
   each = λ s others h k e. absurd (no_target c.args.text.now c.in_default.ensures s others e);
 }
 
@@ -19,6 +20,7 @@ returns-in_default-2 c =
     let body = subst (TakesBody target.hook target.family head.rest.now c.args.packet.now) c.in_default-2.is c.in_ok-taken.ensures in
     record {
       some = tt;
+      none = refl;
       each = section_each c.args.text.now target head.rest.now c.args.packet.now None c.in-Some.ensures.1 body;
     }
 
@@ -44,5 +46,6 @@ returns c =
           shorter = section_shorter c.args.text.now taken.rest.now s written;
         },
       );
+      none = tt;
       each = section_each c.args.text.now target head.rest.now c.args.packet.now (Some taken) c.in-Some.ensures.1 body;
     }

@@ -16,4 +16,4 @@ pub returns-in-None : goal.returns-in-None
 returns-in-None c =
     let head = c.head_of.result in
     let takes = subst (TakesChain head c.args.packet.now c.args.text.now) c.in-None.is c.in_ok-taken.ensures in
-    no_section c.args.packet.now c.args.text.now (views c.args.names.now.items) (views c.args.names.now.items) head c.head_of.ensures.is takes
+    no_section c.args.packet.now c.args.text.now (views c.args.names.now.items) head c.head_of.ensures.is takes
