@@ -3,8 +3,8 @@ ghost use Rattle.std.specs.Prelude.{◌≡◌, ◌≤◌, [], true, false, Some,
 use acl_text::{Out, PutFault};
 use std::marker::Model;
 
-// So many bytes have room.
-const ROOM: usize = 256;
+// So many bytes have room: more than a row of a device has, and few enough to be cleared in no time.
+const ROOM: usize = 192;
 
 /// The text of a line that is put together before it is put.
 ///
@@ -23,10 +23,11 @@ impl Model for LineText {
 
     ghost view = { λ t. (take t.end t.bytes, t.is_open) };
 
-    ghost invariant = { λ t. t.end ≤ 256 };
+    ghost invariant = { λ t. t.end ≤ 192 };
 }
 
 impl LineText {
+    #[inline]
     pub(crate) fn new() -> LineText
         ensures { result ≡ ([], true) }
     {
@@ -37,6 +38,7 @@ impl LineText {
         }
     }
 
+    #[inline]
     pub(crate) fn as_slice(&self) -> &[u8]
         ensures { result.now ≡ self.now.0 }
     {
@@ -56,6 +58,7 @@ impl Out for LineText {
     // it has no rest
     ghost keeps_rest = { λ x y. Unit {0} };
 
+    #[inline(always)]
     fn put(&mut self, bytes: &[u8]) -> Result<(), PutFault> {
         if bytes.len() > ROOM - self.end {
             self.is_open = false;
