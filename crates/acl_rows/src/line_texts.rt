@@ -1,4 +1,4 @@
-ghost use Rattle.std.specs.Prelude.{◌≡◌, ◌≤◌, [], true, false, Some, IsTrue, take, if◌then◌else◌};
+ghost use Rattle.std.specs.Prelude.{◌≡◌, ◌≤◌, [], true, false, Some, IsTrue, take, length, if◌then◌else◌};
 
 use acl_text::{Out, PutFault};
 use std::marker::Model;
@@ -65,7 +65,7 @@ impl Out for LineText {
             return Err(PutFault::Failed);
         }
         let end = self.end + bytes.len();
-        self.bytes[self.end..end].copy_from_slice(bytes);
+        copy_bytes(&mut self.bytes[self.end..end], bytes);
         self.end = end;
         Ok(())
     }
@@ -73,4 +73,23 @@ impl Out for LineText {
     ghost rest_same = { λ x. tt };
 
     ghost rest_goes_on = { λ x y z p q. tt };
+}
+
+// Writes the bytes over as many. As few as a word or an address has are written without a call, in
+// two parts that may overlap.
+#[inline(always)]
+fn copy_bytes(target: &mut [u8], bytes: &[u8])
+    requires { length target.old ≡ length bytes.now }
+    ensures { target.new ≡ bytes.now }
+{
+    let len = bytes.len();
+    if 8 <= len && len <= 16 {
+        target[..8].copy_from_slice(&bytes[..8]);
+        target[len - 8..].copy_from_slice(&bytes[len - 8..]);
+    } else if 4 <= len && len < 8 {
+        target[..4].copy_from_slice(&bytes[..4]);
+        target[len - 4..].copy_from_slice(&bytes[len - 4..]);
+    } else {
+        target.copy_from_slice(bytes);
+    }
 }
