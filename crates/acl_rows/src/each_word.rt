@@ -25,6 +25,7 @@ pub struct EachWord<'a, T, F> {
 impl<'a, T, F: WordForm<T>> Words for EachWord<'a, T, F> {
     ghost words = { λ e. map (F.item_text e.form) e.items.now };
 
+    #[inline]
     fn put_spaced<O: Out>(&self, out: &mut O) -> Result<(), PutFault> {
         put_each_word(self.items, &self.form, out)
     }

@@ -15,6 +15,7 @@ pub struct OneItem<'a, T, F> {
 impl<'a, T, F: WordForm<T>> Piece for OneItem<'a, T, F> {
     ghost text = { λ o. F.item_text o.form.now o.item.now };
 
+    #[inline]
     fn put_into<O: Out>(&self, out: &mut O) -> Result<(), PutFault> {
         self.form.put_item_into(self.item, out)
     }
@@ -32,6 +33,7 @@ impl<'a, T, F: WordForm<T>> Piece for ItemsBehind<'a, T, F> {
     ghost text = { λ b.
         flat_map (λ x. b.separator.now ++ F.item_text b.form.now x) b.items.now };
 
+    #[inline]
     fn put_into<O: Out>(&self, out: &mut O) -> Result<(), PutFault> {
         put_items(self.separator, self.items, self.form, out)
     }

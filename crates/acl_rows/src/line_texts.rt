@@ -1,10 +1,10 @@
-ghost use Rattle.std.specs.Prelude.{◌≡◌, ◌≤◌, [], true, false, Some, IsTrue, take, if◌then◌else◌};
+ghost use Rattle.std.specs.Prelude.{◌≡◌, ◌≤◌, [], true, false, Some, IsTrue, take, length, if◌then◌else◌};
 
 use acl_text::{Out, PutFault};
 use std::marker::Model;
 
-// So many bytes have room.
-const ROOM: usize = 256;
+// So many bytes have room: more than a row of a device has, and few enough to be cleared in no time.
+const ROOM: usize = 192;
 
 /// The text of a line that is put together before it is put.
 ///
@@ -23,10 +23,11 @@ impl Model for LineText {
 
     ghost view = { λ t. (take t.end t.bytes, t.is_open) };
 
-    ghost invariant = { λ t. t.end ≤ 256 };
+    ghost invariant = { λ t. t.end ≤ 192 };
 }
 
 impl LineText {
+    #[inline]
     pub(crate) fn new() -> LineText
         ensures { result ≡ ([], true) }
     {
@@ -37,6 +38,7 @@ impl LineText {
         }
     }
 
+    #[inline]
     pub(crate) fn as_slice(&self) -> &[u8]
         ensures { result.now ≡ self.now.0 }
     {
@@ -56,13 +58,14 @@ impl Out for LineText {
     // it has no rest
     ghost keeps_rest = { λ x y. Unit {0} };
 
+    #[inline(always)]
     fn put(&mut self, bytes: &[u8]) -> Result<(), PutFault> {
         if bytes.len() > ROOM - self.end {
             self.is_open = false;
             return Err(PutFault::Failed);
         }
         let end = self.end + bytes.len();
-        self.bytes[self.end..end].copy_from_slice(bytes);
+        copy_bytes(&mut self.bytes[self.end..end], bytes);
         self.end = end;
         Ok(())
     }
@@ -70,4 +73,23 @@ impl Out for LineText {
     ghost rest_same = { λ x. tt };
 
     ghost rest_goes_on = { λ x y z p q. tt };
+}
+
+// Writes the bytes over as many. As few as a word or an address has are written without a call, in
+// two parts that may overlap.
+#[inline(always)]
+fn copy_bytes(target: &mut [u8], bytes: &[u8])
+    requires { length target.old ≡ length bytes.now }
+    ensures { target.new ≡ bytes.now }
+{
+    let len = bytes.len();
+    if 8 <= len && len <= 16 {
+        target[..8].copy_from_slice(&bytes[..8]);
+        target[len - 8..].copy_from_slice(&bytes[len - 8..]);
+    } else if 4 <= len && len < 8 {
+        target[..4].copy_from_slice(&bytes[..4]);
+        target[len - 4..].copy_from_slice(&bytes[len - 4..]);
+    } else {
+        target.copy_from_slice(bytes);
+    }
 }

@@ -21,6 +21,7 @@ pub trait Piece {
 impl Piece for &[u8] {
     ghost text = { λ s. s.now };
 
+    #[inline]
     fn put_into<O: Out>(&self, out: &mut O) -> Result<(), PutFault> {
         out.put(self)
     }
@@ -30,6 +31,7 @@ impl Piece for &[u8] {
 impl<A: Piece, B: Piece> Piece for (A, B) {
     ghost text = { λ p. A.text p.0 ++ B.text p.1 };
 
+    #[inline]
     fn put_into<O: Out>(&self, out: &mut O) -> Result<(), PutFault> {
         self.0.put_into(out)?;
         self.1.put_into(out)
@@ -45,6 +47,7 @@ pub struct Number {
 impl Piece for Number {
     ghost text = { λ n. decimal n.number };
 
+    #[inline]
     fn put_into<O: Out>(&self, out: &mut O) -> Result<(), PutFault> {
         put_number(out, self.number)
     }
@@ -60,6 +63,7 @@ pub struct Address {
 impl Piece for Address {
     ghost text = { λ a. address_text a.family a.address };
 
+    #[inline]
     fn put_into<O: Out>(&self, out: &mut O) -> Result<(), PutFault> {
         put_address(out, self.family, self.address)
     }
@@ -74,6 +78,7 @@ pub struct Wildcard {
 impl Piece for Wildcard {
     ghost text = { λ w. wildcard_text w.len };
 
+    #[inline]
     fn put_into<O: Out>(&self, out: &mut O) -> Result<(), PutFault> {
         put_wildcard(out, self.len)
     }
@@ -83,6 +88,7 @@ impl Piece for Wildcard {
 impl Piece for Prefix {
     ghost text = { prefix_text };
 
+    #[inline]
     fn put_into<O: Out>(&self, out: &mut O) -> Result<(), PutFault> {
         put_prefix(out, self)
     }
@@ -107,6 +113,7 @@ pub struct OneWord<P> {
 impl<P: Piece> Words for OneWord<P> {
     ghost words = { λ w. P.text w.piece ∷ [] };
 
+    #[inline]
     fn put_spaced<O: Out>(&self, out: &mut O) -> Result<(), PutFault> {
         out.put(b" ")?;
         self.piece.put_into(out)
@@ -117,6 +124,7 @@ impl<P: Piece> Words for OneWord<P> {
 impl<'a> Words for &'a [&'a [u8]] {
     ghost words = { λ w. views w.now };
 
+    #[inline]
     fn put_spaced<O: Out>(&self, out: &mut O) -> Result<(), PutFault> {
         put_words(self, out)
     }
@@ -137,6 +145,7 @@ pub fn put_words<O: Out>(words: &[&[u8]], out: &mut O) -> Result<(), PutFault>
 impl<A: Words, B: Words> Words for (A, B) {
     ghost words = { λ p. A.words p.0 ++ B.words p.1 };
 
+    #[inline]
     fn put_spaced<O: Out>(&self, out: &mut O) -> Result<(), PutFault> {
         self.0.put_spaced(out)?;
         self.1.put_spaced(out)
@@ -147,6 +156,7 @@ impl<A: Words, B: Words> Words for (A, B) {
 impl<W: Words> Words for Option<W> {
     ghost words = { λ o. or_nothing W.words o };
 
+    #[inline]
     fn put_spaced<O: Out>(&self, out: &mut O) -> Result<(), PutFault> {
         match self {
             Some(part) => part.put_spaced(out),
@@ -164,6 +174,7 @@ pub struct FreeText<'a> {
 impl<'a> Words for FreeText<'a> {
     ghost words = { λ t. words_in t.text.now };
 
+    #[inline]
     fn put_spaced<O: Out>(&self, out: &mut O) -> Result<(), PutFault> {
         out.put(b" ")?;
         out.put(self.text)

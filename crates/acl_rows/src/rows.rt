@@ -18,16 +18,27 @@ pub struct Row<P, W> {
 impl<P: Piece, W: Words> Piece for Row<P, W> {
     ghost text = { λ r. row_text (row r.indent (P.text r.first ∷ W.words r.rest)) };
 
+    #[inline]
     fn put_into<O: Out>(&self, out: &mut O) -> Result<(), PutFault> {
         let mut text = LineText::new();
         match put_parts(self, &mut text) {
             Ok(()) => out.put(text.as_slice()),
-            // a longer line is put part by part
-            Err(_) => put_parts(self, out),
+            Err(_) => put_long(self, out),
         }
     }
 }
 
+// A line that is too long for its text is put part by part.
+#[cold]
+fn put_long<P: Piece, W: Words, O: Out>(line: &Row<P, W>, out: &mut O) -> Result<(), PutFault>
+    requires { IsTrue (O.is_open out.old) }
+    ensures { Puts O.Out out.old out.new
+        (row_text (row line.now.indent (P.text line.now.first ∷ W.words line.now.rest))) result }
+{
+    put_parts(line, out)
+}
+
+#[inline]
 fn put_parts<P: Piece, W: Words, O: Out>(line: &Row<P, W>, out: &mut O) -> Result<(), PutFault>
     requires { IsTrue (O.is_open out.old) }
     ensures { Puts O.Out out.old out.new
@@ -42,6 +53,7 @@ fn put_parts<P: Piece, W: Words, O: Out>(line: &Row<P, W>, out: &mut O) -> Resul
 const SPACES: [u8; 32] = [b' '; 32];
 
 // Puts so many spaces, by one put where they are as few as rows of a device have.
+#[inline]
 fn put_spaces<O: Out>(count: usize, out: &mut O) -> Result<(), PutFault>
     requires { IsTrue (O.is_open out.old) }
     ensures { Puts O.Out out.old out.new (replicate count 32) result }
@@ -53,6 +65,7 @@ fn put_spaces<O: Out>(count: usize, out: &mut O) -> Result<(), PutFault>
     }
 }
 
+#[cold]
 fn put_each_space<O: Out>(count: usize, out: &mut O) -> Result<(), PutFault>
     requires { IsTrue (O.is_open out.old) }
     ensures { Puts O.Out out.old out.new (replicate count 32) result }
@@ -77,6 +90,7 @@ pub trait Rows {
 impl<P: Piece, W: Words> Rows for Row<P, W> {
     ghost rows = { λ r. row r.indent (P.text r.first ∷ W.words r.rest) ∷ [] };
 
+    #[inline]
     fn put_rows<O: Out>(&self, out: &mut O) -> Result<(), PutFault> {
         self.put_into(out)
     }
@@ -86,6 +100,7 @@ impl<P: Piece, W: Words> Rows for Row<P, W> {
 impl<A: Rows, B: Rows> Rows for (A, B) {
     ghost rows = { λ p. A.rows p.0 ++ B.rows p.1 };
 
+    #[inline]
     fn put_rows<O: Out>(&self, out: &mut O) -> Result<(), PutFault> {
         self.0.put_rows(out)?;
         self.1.put_rows(out)
@@ -109,6 +124,7 @@ pub struct AsRows;
 impl<T: Rows> RowForm<T> for AsRows {
     ghost item_rows = { λ f item. T.rows item };
 
+    #[inline]
     fn put_item<O: Out>(&self, item: &T, out: &mut O) -> Result<(), PutFault> {
         item.put_rows(out)
     }
@@ -124,6 +140,7 @@ pub struct Each<'a, T, F> {
 impl<'a, T, F: RowForm<T>> Rows for Each<'a, T, F> {
     ghost rows = { λ e. flat_map (F.item_rows e.form) e.items.now };
 
+    #[inline]
     fn put_rows<O: Out>(&self, out: &mut O) -> Result<(), PutFault> {
         put_each(self.items, &self.form, out)
     }

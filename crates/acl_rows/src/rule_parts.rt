@@ -135,6 +135,7 @@ impl Words for LogWord {
     ghost words = { λ l. log_words l.log };
 
     #[tactic(auto, unfolding(crate::specs::RuleParts::log_words))]
+    #[inline]
     fn put_spaced<O: Out>(&self, out: &mut O) -> Result<(), PutFault> {
         if self.log {
             put_words(&[b"log"], out)

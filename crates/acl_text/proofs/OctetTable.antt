@@ -1,13 +1,14 @@
 -- The table of the numbers from 0 to 255 has each of them in decimal, and one is written as the front of three bytes.
-use Rattle.std.proofs.Common.{◌≡◌, ℕ, zero, suc, ◌+◌, ◌-◌, ◌*◌, ◌/◌, ◌%◌, ◌<◌, ◌≤◌, Bool, true, ◌&&◌, List, [], ◌∷◌, ◌++◌, length, take, drop, decimal, refl, ap, sym, subst, ◌∙◌, inl, inr, arith, lit≤, eq-zero-or-pos, take-take, take-add, take_at, drop_at, length-take-le}
+use Rattle.std.proofs.Common.{◌≡◌, ℕ, zero, suc, ◌+◌, ◌-◌, ◌*◌, ◌/◌, ◌%◌, ◌<◌, ◌≤◌, Bool, true, ◌==◌, ◌&&◌, List, [], ◌∷◌, ◌++◌, length, take, drop, get_or, decimal, refl, ap, sym, subst, ◌∙◌, inl, inr, arith, lit≤, eq-zero-or-pos, take-take, take-add, take_at, drop_at, length-take-le}
 use Rattle.std.specs.Str.{bytes_eq}
 use Rattle.std.proofs.lemmas.Bool.{and_parts, cases_lt}
+use Rattle.std.proofs.lemmas.Bool.Decides.{Decides-eqb}
 use Rattle.std.proofs.Math.Seq.{take-append_seam}
 use Rattle.std.proofs.lemmas.Slice.{take-put_mid}
 use borrow.Rule.Slice.PartMut.{put_mid}
 use Rattle.std.proofs.lemmas.Slice.Eq.{bytes_eq-Decides}
 use Rattle.std.proofs.lemmas.Fmt.{decimal_digit, decimal_step}
-use Rattle.acl_text.specs.declared.octets.TheConstants.{OCTETS}
+use Rattle.acl_text.specs.declared.octets.TheConstants.{OCTETS, DIGITS}
 
 abbrev one : ℕ → List ℕ
 one n = (48 + n) ∷ []
@@ -82,3 +83,28 @@ written_front a ys i k n within few =
     let front = length-take-le i a within in
     sym (take-take (i + n) (i + length ys) (put_mid i k a ys) (omega (arith, few))) ∙ ap (take (i + n)) (take-put_mid i k a ys (i + length ys) refl within)
     ∙ take-add i n (take i a ++ ys) ∙ (λ j. take_at (take i a) ys i front j ++ take n (drop_at (take i a) ys i front j))
+
+-- so many numbers of the table of digits, from a first one on, are the same
+abbrev are : ℕ → ℕ → ℕ → ℕ → Bool
+are v d first zero = true
+are v d first (suc n) = (get_or DIGITS (first + n) d == v) && are v d first n
+
+each_is : (v d first m n : ℕ) → are v d first m ≡ true → first ≤ n → n < first + m → get_or DIGITS n d ≡ v
+each_is v d first zero n t l h = absurd (omega (arith, l, h))
+each_is v d first (suc m) n t l h =
+    let k = first + m in
+    let both = and_parts (get_or DIGITS k d == v) (are v d first m) t in
+    elim (eq-zero-or-pos (k - n)) [
+      | inl z ↦ let same : k ≡ n = omega (arith, z, l, h) in subst (λ (i : ℕ). get_or DIGITS i d ≡ v) same ((Decides-eqb (get_or DIGITS k d) v).0 both.0)
+      | inr g ↦ each_is v d first m n both.1 l (omega (arith, g))
+    ]
+
+pub digits_at : (n d : ℕ) → n < 256 → get_or DIGITS n d ≡ length (decimal n)
+digits_at n d h =
+    elim (cases_lt n 10) [
+      | inl few ↦ rw (one_digit n few) (each_is 1 d 0 10 n refl (omega arith) few)
+      | inr some ↦ elim (cases_lt n 100) [
+        | inl few ↦ rw (two_digits n some few) (each_is 2 d 10 90 n refl some few)
+        | inr many ↦ rw (three_digits n many h) (each_is 3 d 100 156 n refl many h)
+      ]
+    ]

@@ -2,6 +2,7 @@ ghost use Rattle.std.specs.Prelude.{◌≡◌, ◌+◌, ◌^◌, ◌<◌, ◌≤
 ghost use Rattle.acl_text.specs.Ipv4.{ipv4_in, ipv4_text};
 
 use crate::cuts::split_at_byte;
+use crate::ipv4_text::DottedText;
 use crate::short::ShortText;
 use acl_packet::read_number;
 use itoa::Buffer;
@@ -22,15 +23,6 @@ pub(crate) fn read_ipv4(text: &[u8]) -> Option<u128>
     Some(((a * 256 + b) * 256 + c) * 256 + d)
 }
 
-pub(crate) fn push_byte(text: &mut ShortText, n: u128)
-    requires room { length text.old + 4 ≤ 64 }
-    requires small { n < 256 }
-    ensures items { text.new ≡ text.old ++ decimal n }
-    ensures len { length text.new ≤ length text.old + 3 }
-{
-    text.push_octet(n as u8);
-}
-
 // The first number of an address, which is any of 104 bits where the address is no IPv4 one.
 fn push_first(text: &mut ShortText, n: u128)
     requires room { length text.old + 32 ≤ 64 }
@@ -49,22 +41,10 @@ pub(crate) fn push_ipv4(text: &mut ShortText, address: u128)
     ensures len { length text.new ≤ length text.old + 44 }
 {
     if address < 4_294_967_296 {
-        push_small(text, address as u32);
+        text.push_all(DottedText::new(address as u32).as_slice());
     } else {
         push_wide(text, address);
     }
-}
-
-#[tactic(auto, unfolding(crate::specs::Ipv4::ipv4_text))]
-fn push_small(text: &mut ShortText, address: u32)
-    requires { length text.old + 16 ≤ 64 }
-    ensures items { text.new ≡ text.old ++ ipv4_text address }
-    ensures len { length text.new ≤ length text.old + 15 }
-{
-    text.push_pointed((address >> 24) as u8);
-    text.push_pointed(((address >> 16) % 256) as u8);
-    text.push_pointed(((address >> 8) % 256) as u8);
-    text.push_octet((address % 256) as u8);
 }
 
 #[cold]
@@ -76,9 +56,9 @@ fn push_wide(text: &mut ShortText, address: u128)
 {
     push_first(text, address >> 24);
     text.push(b'.');
-    push_byte(text, (address >> 16) % 256);
+    text.push_octet(((address >> 16) % 256) as u8);
     text.push(b'.');
-    push_byte(text, (address >> 8) % 256);
+    text.push_octet(((address >> 8) % 256) as u8);
     text.push(b'.');
-    push_byte(text, address % 256);
+    text.push_octet((address % 256) as u8);
 }

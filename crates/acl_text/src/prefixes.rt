@@ -1,11 +1,13 @@
-ghost use Rattle.std.specs.Prelude.{◌≡◌, ℕ, ◌+◌, ◌-◌, ◌^◌, ◌<◌, ◌≤◌, ◌++◌, length, IsTrue, IfSome, IfNone, bytes_eq};
+ghost use Rattle.std.specs.Prelude.{◌≡◌, ℕ, ◌+◌, ◌-◌, ◌^◌, ◌<◌, ◌≤◌, ◌∷◌, ◌++◌, decimal, length, IsTrue, IfSome, IfNone, bytes_eq};
 ghost use Rattle.acl_packet.specs.declared.addresses.Prefix.{Prefix as PrefixData};
 ghost use Rattle.acl_packet.specs.Addresses.{width_of, IsPrefix};
 ghost use Rattle.acl_text.specs.Puts.{Puts};
 ghost use Rattle.acl_text.specs.AddressTexts.{spelling_in, address_text, address_in, block_of, IsPrefixText, family_in, full_in, block_in, prefix_in, prefix_text, spelled_prefix_in, wildcard_text};
+ghost use Rattle.acl_text.specs.Ipv4.{ipv4_text};
 
 use crate::cuts::{contains_byte, split_at_byte};
-use crate::ipv4::{push_byte, push_ipv4, read_ipv4};
+use crate::ipv4::{push_ipv4, read_ipv4};
+use crate::ipv4_text::DottedText;
 use crate::ipv6::read_ipv6;
 use crate::ipv6_text::push_ipv6;
 use crate::output::{Out, PutFault};
@@ -165,12 +167,35 @@ fn push_prefix(text: &mut ShortText, prefix: &Prefix)
 {
     push_address(text, prefix.family, prefix.first);
     text.push(b'/');
-    push_byte(text, u128::from(prefix.len));
+    text.push_octet(prefix.len);
 }
+
+// An address above it is none of IPv4.
+const IPV4_TOP: u128 = 0xffff_ffff;
 
 /// Puts the text of the address: of an IPv4 address four decimal numbers with `.` between, of an IPv6 address
 /// the form of RFC 5952 sections 4.1 to 4.3, never with an IPv4 address in it.
 pub fn put_address<O: Out>(out: &mut O, family: Family, address: u128) -> Result<(), PutFault>
+    requires { IsTrue (O.is_open out.old) }
+    ensures { Puts O.Out out.old out.new (address_text family address) result }
+{
+    if family == Family::V4 && address <= IPV4_TOP {
+        put_dotted(out, address as u32)
+    } else {
+        put_long_address(out, family, address)
+    }
+}
+
+#[inline]
+fn put_dotted<O: Out>(out: &mut O, address: u32) -> Result<(), PutFault>
+    requires { IsTrue (O.is_open out.old) }
+    ensures { Puts O.Out out.old out.new (ipv4_text address) result }
+{
+    let text = DottedText::new(address);
+    out.put(text.as_slice())
+}
+
+fn put_long_address<O: Out>(out: &mut O, family: Family, address: u128) -> Result<(), PutFault>
     requires { IsTrue (O.is_open out.old) }
     ensures { Puts O.Out out.old out.new (address_text family address) result }
 {
@@ -180,7 +205,30 @@ pub fn put_address<O: Out>(out: &mut O, family: Family, address: u128) -> Result
 }
 
 /// Puts the text of the prefix: its first address, `/` and its length.
+#[tactic(auto, unfolding(crate::specs::AddressTexts::prefix_text))]
 pub fn put_prefix<O: Out>(out: &mut O, prefix: &Prefix) -> Result<(), PutFault>
+    requires { IsTrue (O.is_open out.old) }
+    ensures { Puts O.Out out.old out.new (prefix_text prefix.now) result }
+{
+    if prefix.family == Family::V4 && prefix.first <= IPV4_TOP {
+        put_dotted_prefix(out, prefix.first as u32, prefix.len)
+    } else {
+        put_long_prefix(out, prefix)
+    }
+}
+
+#[inline]
+fn put_dotted_prefix<O: Out>(out: &mut O, first: u32, len: u8) -> Result<(), PutFault>
+    requires { IsTrue (O.is_open out.old) }
+    ensures { Puts O.Out out.old out.new (ipv4_text first ++ 47 ∷ decimal len) result }
+{
+    let mut text = DottedText::new(first);
+    text.push(b'/');
+    text.push_octet(len);
+    out.put(text.as_slice())
+}
+
+fn put_long_prefix<O: Out>(out: &mut O, prefix: &Prefix) -> Result<(), PutFault>
     requires { IsTrue (O.is_open out.old) }
     ensures { Puts O.Out out.old out.new (prefix_text prefix.now) result }
 {
@@ -196,13 +244,11 @@ pub fn put_wildcard<O: Out>(out: &mut O, len: u8) -> Result<(), PutFault>
     requires { IsTrue (O.is_open out.old) }
     ensures { Puts O.Out out.old out.new (wildcard_text len) result }
 {
-    let mut text = ShortText::new();
-    push_ipv4(&mut text, bits_behind(len));
-    out.put(text.as_slice())
+    put_dotted(out, bits_behind(len))
 }
 
-fn bits_behind(len: u8) -> u128
+fn bits_behind(len: u8) -> u32
     ensures { result ≡ 2 ^ (32 - len) - 1 }
 {
-    (1u128 << 32u8.saturating_sub(len)) - 1
+    ((1u64 << 32u8.saturating_sub(len)) - 1) as u32
 }

@@ -62,14 +62,4 @@ impl ShortText {
         self.bytes[self.end..self.end + 4].copy_from_slice(octet_bytes(n));
         self.end += octet_digits(n);
     }
-
-    /// Adds the number in decimal, and a point.
-    pub(crate) fn push_pointed(&mut self, n: u8)
-        requires { length self.old + 4 ≤ 64 }
-        ensures items { self.new ≡ self.old ++ (decimal n ++ 46 ∷ []) }
-        ensures len { length self.new ≤ length self.old + 4 }
-    {
-        self.bytes[self.end..self.end + 4].copy_from_slice(octet_bytes(n));
-        self.end += octet_digits(n) + 1;
-    }
 }

@@ -1,12 +1,13 @@
-use Rattle.std.proofs.Common.{length, ap, sym, arith}
-use Rattle.acl_text.proofs.OctetTable.{one_digit, two_digits, three_digits}
+use Rattle.std.proofs.Common.{◌∙◌, ◌≤◌, subst, sym, ap, arith}
+use Rattle.acl_text.specs.declared.octets.TheConstants.{DIGITS}
+use Rattle.std.proofs.Common.{get_or}
+use Rattle.acl_text.proofs.OctetTable.{digits_at, few_digits}
 use Rattle.acl_text.proofs.octets.octet_digits.Goals as goal
 
-pub returns-then-n-lt10-clause-exact : goal.returns-then-n-lt10-clause-exact
-returns-then-n-lt10-clause-exact c = sym (ap length (one_digit c.args.n c.if-n-lt10.true))
+pub returns-clause-exact : goal.returns-clause-exact
+returns-clause-exact c =
+    c.from-2.ensures ∙ ap (λ i. get_or DIGITS i _) c.from.ensures ∙ digits_at c.args.n _ (omega (arith, c.ranges.n.fits))
 
-pub returns-then-n-lt100-clause-exact : goal.returns-then-n-lt100-clause-exact
-returns-then-n-lt100-clause-exact c = sym (ap length (two_digits c.args.n (omega (arith, c.if-n-lt10.false)) c.if-n-lt100.true))
-
-pub returns-else-n-lt100-clause-exact : goal.returns-else-n-lt100-clause-exact
-returns-else-n-lt100-clause-exact c = sym (ap length (three_digits c.args.n (omega (arith, c.if-n-lt100.false)) (omega (arith, c.ranges.n.fits))))
+pub returns-clause-few : goal.returns-clause-few
+returns-clause-few c =
+    subst (λ k. k ≤ 3) (sym (returns-clause-exact c)) (few_digits c.args.n (omega (arith, c.ranges.n.fits)))

@@ -1,7 +1,7 @@
 use Rattle.std.proofs.Common.{◌+◌, ◌-◌, ◌++◌, take, ap, ◌∙◌, arith}
 use borrow.Rule.Slice.PartMut.{put_mid}
 use Rattle.acl_text.proofs.OctetTable.{written_front}
-use Rattle.acl_text.proofs.short.ShortText.push_pointed.Goals as goal
+use Rattle.acl_text.proofs.ipv4_text.DottedText.push_pointed.Goals as goal
 
 pub returns-clause-items : goal.returns-clause-items
 returns-clause-items c =
