@@ -126,7 +126,7 @@ items_get (d ∷ ds) (suc i) h = items_get ds i (omega arith)
 
 -- ---- the rows of the graph
 
-pub row_at : (base ds : List Definition) (i : ℕ) (row : List ℕ) → i < length ds → row ≡ get_or (graph_in base ds) i row → row ≡ targets base (items_at ds i)
+pub row_at : (base ds : List Definition) (i : ℕ) (row : List ℕ) → i < length ds → row ≡ get_or (graph_in base ds) i [] → row ≡ targets base (items_at ds i)
 row_at base [] i row h e = absurd (omega arith)
 row_at base (d ∷ ds) zero row h e = e
 row_at base (d ∷ ds) (suc i) row h e = row_at base ds i row (omega arith) e

@@ -6,6 +6,7 @@ pub mod MarkLaws
 pub mod OrderedPorts
 pub mod ReachLaws
 pub mod ReadLaws
+pub mod RowLaws
 pub mod TableLaws
 pub mod WalkLaws
 pub mod ClearedMarks

@@ -11,5 +11,6 @@ pub mod PortLaws
 pub mod Ports
 pub mod RankSteps
 pub mod Reach
+pub mod Rows
 pub mod TableViewSteps
 pub mod Tables

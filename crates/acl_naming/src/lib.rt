@@ -7,6 +7,7 @@ mod item_words;
 mod laws;
 mod line_parts;
 mod linking;
+mod links;
 mod lookups;
 mod marking;
 mod marks;
@@ -14,6 +15,7 @@ mod naming_files;
 mod naming_items;
 mod ranking;
 mod reaching;
+mod rows;
 mod tables;
 
 pub use bases::{

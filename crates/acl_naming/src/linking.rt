@@ -1,11 +1,11 @@
-ghost use Rattle.std.specs.Prelude.{◌≡◌, ◌<◌, ◌++◌, [], ◌∷◌, length, IfOk, OnOk};
+ghost use Rattle.std.specs.Prelude.{◌≡◌, ◌<◌, length, IfOk};
 ghost use Rattle.std.specs.List.{All};
 ghost use Rattle.acl_naming.specs.Definitions.{items_at};
 ghost use Rattle.acl_naming.specs.GraphSteps.{graph_of, targets};
 
-use crate::naming_items::Item;
+use crate::links::Links;
 use crate::tables::Table;
-use acl_text::{Items, Memory};
+use acl_text::Memory;
 use std::alloc::Global;
 use std::marker::Model;
 
@@ -14,7 +14,7 @@ use std::marker::Model;
 #[derive(Drop)]
 pub struct LinkedTable {
     table: Table,
-    links: Items<Items<usize>>,
+    links: Links,
 }
 
 impl Model for LinkedTable {
@@ -31,37 +31,14 @@ impl Model for LinkedTable {
     ghost invariant = { λ t. t.links ≡ graph_of t.table };
 }
 
-fn push_link(table: &Table, item: &Item, row: &mut Items<usize>) -> Result<(), Memory>
-    ensures { OnOk result (row.new ≡ row.old ++ targets table.now (item.now ∷ [])) }
+fn links_of(alloc: Global, table: &Table) -> Result<Links, Memory>
+    ensures { IfOk result (λ l. l ≡ graph_of table.now) }
 {
-    match item {
-        Item::Name(reference) => match table.index_of(reference.name.as_slice()) {
-            Some(index) => row.push(index),
-            None => Ok(()),
-        },
-        Item::Network(_) => Ok(()),
-        Item::Service(_) => Ok(()),
-    }
-}
-
-fn row_of(alloc: Global, table: &Table, items: &[Item]) -> Result<Items<usize>, Memory>
-    ensures { IfOk result (λ r. r ≡ targets table.now items.now) }
-{
-    let mut row = Items::new(alloc);
-    for item in items {
-        push_link(table, item, &mut row)?;
-    }
-    Ok(row)
-}
-
-fn rows_of(alloc: Global, table: &Table) -> Result<Items<Items<usize>>, Memory>
-    ensures { IfOk result (λ g. g ≡ graph_of table.now) }
-{
-    let mut rows = Items::new(alloc);
+    let mut links = Links::with_capacity(alloc, table.len())?;
     for i in 0..table.len() {
-        rows.push(row_of(alloc, table, table.items_at(i))?)?;
+        links = links.with_row(table, table.items_at(i))?;
     }
-    Ok(rows)
+    Ok(links)
 }
 
 impl LinkedTable {
@@ -69,7 +46,7 @@ impl LinkedTable {
     pub fn new(alloc: Global, table: Table) -> Result<LinkedTable, Memory>
         ensures { IfOk result (λ t. t ≡ table) }
     {
-        let links = rows_of(alloc, &table)?;
+        let links = links_of(alloc, &table)?;
         Ok(LinkedTable { table, links })
     }
 
@@ -91,6 +68,6 @@ impl LinkedTable {
         ensures exact { result.now ≡ targets self.now (items_at self.now index) }
         ensures within { All (λ j. j < length self.now) result.now }
     {
-        self.links.as_slice()[index].as_slice()
+        self.links.row(index)
     }
 }

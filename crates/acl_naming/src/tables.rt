@@ -1,26 +1,32 @@
-ghost use Rattle.std.specs.Prelude.{◌≡◌, ℕ, ◌<◌, List, [], ◌∷◌, ◌++◌, None, Some, length, OnOk, IfSome};
+ghost use Rattle.std.specs.Prelude.{◌≡◌, ℕ, ◌+◌, ◌<◌, List, [], ◌∷◌, ◌++◌, None, Some, length, OnOk, IfSome};
+ghost use Rattle.indexmap.specs.IndexMap.{index_map_len};
 ghost use Rattle.acl_naming.specs.Definitions.{index_of, items_at, items_count};
+ghost use Rattle.acl_naming.specs.Rows.{begin_at};
 ghost use Rattle.acl_naming.specs.Tables.{name_at, place_at, with_item};
+ghost use Rattle.acl_naming.specs.TableViewSteps.{begins_of};
 
 use crate::naming_items::Item;
+use crate::rows::part;
 use acl_text::{Items, Memory, Place};
 use indexmap::IndexMap;
 use std::alloc::Global;
 use std::marker::Model;
 
-/// What is kept of a definition beside its name.
+/// What is kept of a definition beside its name: its place, and where its items begin.
 #[derive(Drop)]
 pub struct TableEntry {
     place: Place,
-    items: Items<Item>,
+    from: usize,
 }
 
 /// The definitions of one kind, in order of appearance. A contract sees their list.
+///
+/// The items of all stand one behind the other, since only the last definition gets more.
 #[derive(Drop)]
 pub struct Table {
     alloc: Global,
     kept: IndexMap<Vec<u8>, TableEntry>,
-    used: usize,
+    items: Items<Item>,
 }
 
 impl Model for Table {
@@ -29,13 +35,33 @@ impl Model for Table {
 
     ghost Value = { List Definition };
 
-    ghost use Rattle.std.specs.Prelude.{◌≡◌, map};
-    ghost use Rattle.acl_naming.specs.Definitions.{items_count};
-    ghost use Rattle.acl_naming.specs.TableViewSteps.{definition_of};
+    ghost use Rattle.acl_naming.specs.TableViewSteps.{AreLaid, definitions_of};
 
-    ghost view = { λ t. map definition_of t.kept.entries };
+    ghost view = { λ t. definitions_of t.kept.entries t.items };
 
-    ghost invariant = { λ t. t.used ≡ items_count (map definition_of t.kept.entries) };
+    ghost invariant = { λ t. AreLaid t.kept.entries t.items };
+}
+
+// Where the items of the definition at the index begin; the end, where there is none.
+fn begin_at(kept: &IndexMap<Vec<u8>, TableEntry>, index: usize, end: usize) -> usize
+    ensures { result ≡ begin_at (begins_of kept.now.entries) index end }
+{
+    match kept.get_index(index) {
+        Some((_, entry)) => entry.from,
+        None => end,
+    }
+}
+
+// Where they end.
+fn end_at(kept: &IndexMap<Vec<u8>, TableEntry>, index: usize, end: usize) -> usize
+    requires { index < index_map_len kept.now }
+    ensures { result ≡ begin_at (begins_of kept.now.entries) (index + 1) end }
+{
+    if kept.len() > index + 1 {
+        begin_at(kept, index + 1, end)
+    } else {
+        end
+    }
 }
 
 impl Table {
@@ -45,7 +71,7 @@ impl Table {
         Table {
             alloc,
             kept: IndexMap::new(alloc),
-            used: 0,
+            items: Items::new(alloc),
         }
     }
 
@@ -58,7 +84,7 @@ impl Table {
     pub fn items_count(&self) -> usize
         ensures { result ≡ items_count self.now }
     {
-        self.used
+        self.items.as_slice().len()
     }
 
     pub fn index_of(&self, name: &[u8]) -> Option<usize>
@@ -72,10 +98,9 @@ impl Table {
         requires { index < length self.now }
         ensures { result.now ≡ items_at self.now index }
     {
-        match self.kept.get_index(index) {
-            Some((_, entry)) => entry.items.as_slice(),
-            None => unreachable!(),
-        }
+        let items = self.items.as_slice();
+        let from = begin_at(&self.kept, index, items.len());
+        part(items, from, end_at(&self.kept, index, items.len()))
     }
 
     pub fn name_at(&self, index: usize) -> &[u8]
@@ -104,10 +129,8 @@ impl Table {
         ensures { OnOk result (self.new
             ≡ self.old ++ record { name = name.now; place = place; items = [] } ∷ []) }
     {
-        let entry = TableEntry {
-            place,
-            items: Items::new(self.alloc),
-        };
+        let from = self.items.as_slice().len();
+        let entry = TableEntry { place, from };
         let name = Vec::from_slice(self.alloc, name)?;
         self.kept.insert(name, entry)?;
         Ok(())
@@ -119,13 +142,7 @@ impl Table {
         requires few { items_count self.old < 16384 }
         ensures { OnOk result (self.new ≡ with_item self.old item) }
     {
-        match self.kept.last_mut() {
-            Some(entry) => {
-                entry.items.push(item)?;
-                self.used += 1;
-                Ok(())
-            }
-            None => unreachable!(),
-        }
+        self.items.push(item)?;
+        Ok(())
     }
 }
