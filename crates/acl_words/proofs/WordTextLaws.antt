@@ -1,4 +1,4 @@
--- One more word, in the text and in the places, and the first of them.
+-- One more word, in the text and in the places, and the first of them; the texts of words as lines.
 use Rattle.std.proofs.Common.{◌≡◌, ℕ, List, [], ◌∷◌, ◌++◌, None, Some, map, refl, ap, sym, ◌∙◌, append_assoc, append-nil}
 use Rattle.std.specs.List.{AllByRecursion}
 use Rattle.std.specs.Option.{option_map_or}
@@ -6,7 +6,9 @@ use Rattle.std.proofs.lemmas.List.{map-append}
 use Rattle.std.proofs.lemmas.List.Concat.{flat_map-append}
 use Rattle.std.proofs.lemmas.List.Elements.{All-nil, All-cons, All-append, recursion_from_All}
 use Rattle.acl_text.specs.declared.faults.Place.{Place}
+use Rattle.acl_text.specs.Cursors.{lines_of, or_all}
 use Rattle.acl_text.specs.Cuts.{cut_at}
+use Rattle.acl_text.proofs.CursorLaws.{lines_step}
 use Rattle.acl_text.proofs.CutLaws.{cut-again}
 use Rattle.acl_lines.specs.LineTexts.{HasNoFeed}
 use Rattle.acl_words.specs.declared.word_lists.Word.{Word}
@@ -61,3 +63,17 @@ words_with words w places places' text text' h e p t =
     let k : AreKept (words ++ w ∷ []) places' text' = rw (p, t) (kept_with words w places text h e) in
     let is : words_at places' text' ≡ words ++ w ∷ [] = words_are (words ++ w ∷ []) places' text' k in
     (is, rw (is) k)
+
+lines_again : (words : List Word) → AllByRecursion (λ w. HasNoFeed w.text) words
+    → lines_of (text_of words) ≡ map (λ w. w.text) words
+lines_again [] h = refl
+lines_again (w ∷ ws) h =
+    lines_step (text_of (w ∷ ws)) w.text (text_of ws)
+    (ap (or_all (text_of (w ∷ ws))) (ap (cut_at 10) (append_assoc w.text (10 ∷ []) (text_of ws)) ∙ cut-again 10 w.text (text_of ws) h.0))
+    ∙ ap (λ (texts : List (List ℕ)). w.text ∷ texts) (lines_again ws h.1)
+
+-- The lines of a text of words are the texts of these words.
+pub lines_are : (words : List Word) (places : List Place) (text : List ℕ) → AreKept words places text
+    → lines_of text ≡ map (λ w. w.text) words
+lines_are words places text h = rw (h.text_is)
+    (lines_again words (recursion_from_All (λ (w : Word). HasNoFeed w.text) words h.no_feeds))

@@ -1,4 +1,5 @@
-ghost use Rattle.std.specs.Prelude.{◌≡◌, [], ◌∷◌, ◌++◌, IfSome, IfNone, OnOk, OnErr, drop, length, take};
+ghost use Rattle.std.specs.Prelude.{◌≡◌, [], ◌∷◌, ◌++◌, IfSome, IfNone, OnOk, OnErr, drop, length, map, take};
+ghost use Rattle.acl_text.specs.Cursors.{lines_of};
 ghost use Rattle.acl_lines.specs.LineTexts.{HasNoFeed};
 
 use crate::place_lists::{PlaceList, PlacesLeft};
@@ -128,6 +129,16 @@ impl WordList {
             rest: self.text.as_slice(),
             places: self.places.iter(),
         }
+    }
+
+    /// The words as one text, each with a line feed behind it.
+    ///
+    /// The lines of the text are the texts of the words. So where two lists have the same text, they have the same words in
+    /// the same order, whatever their places.
+    pub fn text(&self) -> &[u8]
+        ensures { lines_of result.now ≡ map (λ w. w.text) self.now }
+    {
+        self.text.as_slice()
     }
 
     /// The first word. `None` exactly where there is none.
