@@ -146,6 +146,7 @@ impl<'a, T, F: RowForm<T>> Rows for Each<'a, T, F> {
     }
 }
 
+#[inline]
 fn put_each<T, F: RowForm<T>, O: Out>(items: &[T], form: &F, out: &mut O) -> Result<(), PutFault>
     requires { IsTrue (O.is_open out.old) }
     ensures { Puts O.Out out.old out.new
