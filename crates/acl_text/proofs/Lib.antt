@@ -6,6 +6,7 @@ pub mod CursorLaws
 pub mod CutLaws
 pub mod DigitLaws
 pub mod Dotted
+pub mod FrontLaws
 pub mod Gaps
 pub mod GroupSteps
 pub mod Groups

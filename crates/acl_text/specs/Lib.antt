@@ -3,6 +3,7 @@ pub mod AnsweredCodes
 pub mod Answers
 pub mod Cursors
 pub mod Cuts
+pub mod Fronts
 pub mod Ipv4
 pub mod Ipv6
 pub mod Names

@@ -7,6 +7,7 @@ mod decimals;
 mod faults;
 mod file_lines;
 mod ipv4;
+mod ipv4_fronts;
 mod ipv4_text;
 mod ipv6;
 mod ipv6_text;

@@ -7,6 +7,7 @@ ghost use Rattle.acl_text.specs.Ipv4.{ipv4_text};
 
 use crate::cuts::{contains_byte, split_at_byte};
 use crate::ipv4::{push_ipv4, read_ipv4};
+use crate::ipv4_fronts::read_at_once;
 use crate::ipv4_text::DottedText;
 use crate::ipv6::read_ipv6;
 use crate::ipv6_text::push_ipv6;
@@ -27,8 +28,18 @@ pub fn read_prefix(word: &[u8]) -> Option<Prefix>
     prefix_of(word)
 }
 
-#[tactic(auto, unfolding(crate::specs::AddressTexts::prefix_in))]
+// Most words are read at once.
 fn prefix_of(word: &[u8]) -> Option<Prefix>
+    ensures { result ≡ prefix_in word.now }
+{
+    match read_at_once(word) {
+        Some(prefix) => Some(prefix),
+        None => any_prefix_of(word),
+    }
+}
+
+#[tactic(auto, unfolding(crate::specs::AddressTexts::prefix_in))]
+fn any_prefix_of(word: &[u8]) -> Option<Prefix>
     ensures { result ≡ prefix_in word.now }
 {
     match split_at_byte(word, b'/') {
@@ -64,7 +75,7 @@ fn read_block(family: Family, address: &[u8], len: &[u8]) -> Option<Prefix>
     Some(block_of(family, value, len as u8))
 }
 
-fn block_of(family: Family, value: u128, len: u8) -> Prefix
+pub(crate) fn block_of(family: Family, value: u128, len: u8) -> Prefix
     requires { len ≤ width_of family }
     ensures { result ≡ block_of family value len }
 {
