@@ -6,5 +6,6 @@ pub mod SafeRows
 pub mod ScanLaws
 pub mod SectionLaws
 pub mod SetLaws
+pub mod StartLaws
 pub mod ValidityLaws
 pub mod WalkLaws

@@ -23,6 +23,7 @@ use Rattle.nft_lang.specs.declared.scanning.Taken.{Taken}
 use Rattle.nft_lang.specs.Documents.{IsItem}
 use Rattle.nft_lang.specs.ReadingSteps.{item_in, rule_in}
 use Rattle.nft_lang.specs.ScanSteps.{ItemsTaken, item_text_in, first_item_in, item_text, TakesItem, items_text, TakesItems}
+use Rattle.nft_lang.specs.StartSteps.{IsRefused}
 use Rattle.nft_lang.specs.Texts.{end_rows, item_rows, rule_words}
 use Rattle.nft_lang.specs.ValiditySteps.{is_item}
 use Rattle.nft_lang.specs.Walks.{first_holding, rule_holds, decided_by}
@@ -139,6 +140,14 @@ none_valid families p text item v n = record {
   each = λ other more h e.
       let same = same_Some item other (read_is_written families text more (Some item) other v h e) in
       absurd (false≢true (sym n ∙ ap (is_item families) same ∙ (item_decides families other).1 h));
+}
+
+pub none_refused : (families : Families) (p : Packet) (text : List ℕ) → IsRefused families text → TakesItem families p text None
+none_refused families p text refused = record {
+  some = tt;
+  each = λ other more h e.
+      let says = ap (first_item_in families) e ∙ first_again families other more h in
+      absurd (false≢true (sym (refused other says) ∙ (item_decides families other).1 h));
 }
 
 -- ---- the items of a chain

@@ -1,7 +1,9 @@
 pub mod Documents
+pub mod PlaceSteps
 pub mod ReadingSteps
 pub mod RuleRowSteps
 pub mod ScanSteps
+pub mod StartSteps
 pub mod Texts
 pub mod ValiditySteps
 pub mod Walks

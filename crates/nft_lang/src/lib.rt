@@ -10,6 +10,7 @@ mod rule_drafts;
 mod rule_words;
 mod scanning;
 mod sets;
+mod start_drafts;
 mod tables_drafts;
 mod validity;
 mod walking;

@@ -1,8 +1,9 @@
-ghost use Rattle.std.specs.Prelude.{◌≡◌, ◌≤◌, ℕ, Bool, true, IfOk, map};
-ghost use Rattle.std.specs.List.{list_all};
+ghost use Rattle.std.specs.Prelude.{◌≡◌, ◌≤◌, ℕ, Bool, true, IfOk};
+ghost use Rattle.std.specs.List.{list_all, range_with_len};
 ghost use Rattle.acl_rows.specs.ApartSteps.{are_apart, are_rising, is_below_first, TellsApart};
 ghost use Rattle.acl_rows.specs.PortRangeSteps.{is_port_range};
 ghost use Rattle.nft_lang.specs.Documents.{ports_overlap, prefixes_overlap};
+ghost use Rattle.nft_lang.specs.PlaceSteps.{is_below_at, start_at};
 ghost use Rattle.nft_lang.specs.ValiditySteps.{ports_below, prefix_below};
 
 use acl_packet::Prefix;
@@ -75,45 +76,67 @@ impl Element for (u16, u16) {
     fn neighbours_tell() {}
 }
 
-/// Whether no two of the elements overlap.
+/// Whether no two of the elements overlap. Their places are sorted, which take four bytes each.
 pub(crate) fn are_apart<T: Element>(alloc: Global, elements: &[T]) -> Result<bool, Memory>
     requires { list_all T.is_sound elements.now ≡ true }
     ensures { IfOk result (λ b. b ≡ are_apart T.overlap elements.now) }
 {
     T::neighbours_tell();
-    let mut sorted = references(alloc, elements)?;
-    sorted.sort_unstable_by_key(|element| element.start());
-    Ok(are_rising(sorted.as_slice()))
+    let mut sorted = places(alloc, elements.len())?;
+    sorted.sort_unstable_by_key(|place| start_at(elements, *place));
+    Ok(are_rising(elements, sorted.as_slice()))
 }
 
-fn references<'a, T>(alloc: Global, elements: &'a [T]) -> Result<Vec<&'a T>, Memory>
-    ensures { IfOk result (λ v. map (λ r. r.now) v.items ≡ elements.now) }
+// More elements than have places of 32 bits find no memory.
+fn places(alloc: Global, count: usize) -> Result<Vec<u32>, Memory>
+    ensures { IfOk result (λ v. v.items ≡ range_with_len 0 count) }
 {
-    let mut references = Vec::with_capacity(alloc, elements.len())?;
-    for element in elements {
-        references.push(element)?;
+    let Ok(end) = u32::try_from(count) else {
+        return Err(Memory);
+    };
+    let mut places = Vec::with_capacity(alloc, count)?;
+    for place in 0..end {
+        places.push(place)?;
     }
-    Ok(references)
+    Ok(places)
 }
 
-// Whether each element is below the next one.
-#[tactic(auto, unfolding(acl_rows::specs::ApartSteps::are_rising))]
-fn are_rising<T: Element>(elements: &[&T]) -> bool
-    ensures { result ≡ are_rising (λ x y. T.below x.now y.now) elements.now }
+fn start_at<T: Element>(elements: &[T], place: u32) -> u128
+    ensures { result ≡ start_at T.start elements.now place }
 {
-    for (i, element) in elements.iter().enumerate() {
-        if !is_below_first(element, &elements[i + 1..]) {
+    match elements.get(place as usize) {
+        Some(element) => element.start(),
+        None => 0,
+    }
+}
+
+// Whether each element is below the next one, by their places.
+#[tactic(auto, unfolding(acl_rows::specs::ApartSteps::are_rising))]
+fn are_rising<T: Element>(elements: &[T], places: &[u32]) -> bool
+    ensures { result ≡ are_rising (is_below_at T.below elements.now) places.now }
+{
+    for (i, place) in places.iter().enumerate() {
+        if !is_below_first(elements, *place, &places[i + 1..]) {
             return false;
         }
     }
     true
 }
 
-fn is_below_first<T: Element>(element: &&T, others: &[&T]) -> bool
-    ensures { result ≡ is_below_first (λ x y. T.below x.now y.now) element.now others.now }
+fn is_below_first<T: Element>(elements: &[T], place: u32, others: &[u32]) -> bool
+    ensures { result ≡ is_below_first (is_below_at T.below elements.now) place others.now }
 {
     match others {
         [] => true,
-        [next, ..] => element.is_below(next),
+        [next, ..] => is_below_at(elements, place, *next),
+    }
+}
+
+fn is_below_at<T: Element>(elements: &[T], place: u32, other: u32) -> bool
+    ensures { result ≡ is_below_at T.below elements.now place other }
+{
+    match (elements.get(place as usize), elements.get(other as usize)) {
+        (Some(element), Some(next)) => element.is_below(next),
+        _ => false,
     }
 }

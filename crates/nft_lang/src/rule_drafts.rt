@@ -247,7 +247,7 @@ pub(crate) fn up_to(word: &[u8], end: u8) -> &[u8]
     }
 }
 
-fn nfproto_of(word: &[u8]) -> Family
+pub(crate) fn nfproto_of(word: &[u8]) -> Family
     ensures { result ≡ nfproto_in word.now }
 {
     if word == b"ipv6".as_slice() {
@@ -258,7 +258,7 @@ fn nfproto_of(word: &[u8]) -> Family
 }
 
 #[tactic(auto, unfolding(crate::specs::ReadingSteps::next_in))]
-fn next_of(word: &[u8]) -> Next
+pub(crate) fn next_of(word: &[u8]) -> Next
     ensures { result ≡ next_in word.now }
 {
     if word == b"nfproto".as_slice() {
@@ -282,7 +282,7 @@ fn next_of(word: &[u8]) -> Next
     }
 }
 
-fn in_set(next: Next, word: &[u8]) -> Next
+pub(crate) fn in_set(next: Next, word: &[u8]) -> Next
     ensures { result ≡ in_set next word.now }
 {
     if word == b"}".as_slice() {

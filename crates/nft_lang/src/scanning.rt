@@ -1,6 +1,7 @@
 ghost use Rattle.std.specs.Prelude.{◌≡◌, ◌^◌, ◌<◌, ◌∷◌, [], IfOk, option_map, true};
 ghost use Rattle.nft_lang.specs.Documents.{fits_i32};
 ghost use Rattle.nft_lang.specs.ScanSteps.{TakesChain, TakesItem, TakesItems, behind_byte, first_item_in, head_in, item_text_in, name_in, outcome_from, part_at};
+ghost use Rattle.nft_lang.specs.StartSteps.{IsRefused};
 ghost use Rattle.nft_lang.specs.Texts.{item_rows};
 ghost use Rattle.nft_lang.specs.Walks.{first_holding};
 
@@ -8,6 +9,7 @@ use crate::chain_rows::{OfFamilies, SectionEnd, TableHead};
 use crate::documents::Item;
 use crate::nftables::Nftables;
 use crate::rule_drafts::up_to;
+use crate::start_drafts::is_seen_invalid;
 use crate::tables_drafts::{hook_of, item_of, priority_of, table_of};
 use crate::validity::is_item;
 use crate::walking::{decided_by, policy_verdict, rule_holds};
@@ -15,6 +17,9 @@ use acl_packet::{Families, Outcome, Packet};
 use acl_rows::{RowForm, RowWords, Rows, Scan, TakenSection, families_of, rows_behind};
 use acl_text::{Memory, Out, PutFault, behind, split_at_byte};
 use std::alloc::Global;
+
+// The length of a line from which on it is looked at before it is read.
+const LONG: usize = 1 << 20;
 
 // The rows of a section are read when they come, and no item is held.
 impl Scan for Nftables {
@@ -108,9 +113,25 @@ fn take_item<'a>(
 ) -> Result<Option<Taken<'a>>, Memory>
     ensures { IfOk result (TakesItem families packet.now text.now) }
 {
+    if is_refused(alloc, families, text)? {
+        return Ok(None);
+    }
     match first_item_of(alloc, families, text)? {
         Some(item) => take_if_valid(alloc, families, &item, text, packet),
         None => Ok(None),
+    }
+}
+
+// Whether the first line is long and is seen to say no valid item. A short line is not looked at, since what it says takes
+// little memory.
+fn is_refused(alloc: Global, families: Families, text: &[u8]) -> Result<bool, Memory>
+    ensures { IfOk result (λ b. b ≡ true → IsRefused families text.now) }
+{
+    match item_text_of(text) {
+        Some(words) if words.len() >= LONG => {
+            Ok(is_seen_invalid(alloc, families, RowWords::new(words))?)
+        }
+        _ => Ok(false),
     }
 }
 
