@@ -1,4 +1,4 @@
-ghost use Rattle.std.specs.Prelude.{◌≡◌, ◌≤◌, ℕ, List, IsTrue, Some, min, length, flat_map};
+ghost use Rattle.std.specs.Prelude.{◌≡◌, ◌≤◌, ℕ, List, [], ◌∷◌, IsTrue, Some, min, length, flat_map};
 ghost use Rattle.std.specs.List.{All};
 ghost use Rattle.acl_text.specs.Output.{COUNT_END};
 ghost use Rattle.acl_text.specs.Puts.{Puts};
@@ -46,6 +46,7 @@ impl<'a, T: Copy> Choices for &'a [T] {
 
     ghost items = { λ s. s.now };
 
+    #[inline]
     fn put_each<F: RowForm<T>, O: Out>(&self, form: &F, out: &mut O) -> Result<(), PutFault> {
         let each = Each {
             items: self,
@@ -59,6 +60,27 @@ impl<'a, T: Copy> Choices for &'a [T] {
     }
 }
 
+/// One choice alone.
+#[derive(Clone, Copy)]
+pub(crate) struct OneChoice<T> {
+    pub(crate) choice: T,
+}
+
+impl<T: Copy> Choices for OneChoice<T> {
+    type Item = T;
+
+    ghost items = { λ o. o.choice ∷ [] };
+
+    #[inline]
+    fn put_each<F: RowForm<T>, O: Out>(&self, form: &F, out: &mut O) -> Result<(), PutFault> {
+        form.put_item(&self.choice, out)
+    }
+
+    fn count(&self) -> u64 {
+        1
+    }
+}
+
 // A form that stands elsewhere.
 #[derive_where(Clone, Copy)]
 struct Shared<'a, F> {
@@ -68,6 +90,7 @@ struct Shared<'a, F> {
 impl<'a, T, F: RowForm<T>> RowForm<T> for Shared<'a, F> {
     ghost item_rows = { λ s item. F.item_rows s.form.now item };
 
+    #[inline]
     fn put_item<O: Out>(&self, item: &T, out: &mut O) -> Result<(), PutFault> {
         self.form.put_item(item, out)
     }
@@ -169,7 +192,8 @@ fn put_ranges<F: RowForm<Option<(u16, u16)>>, O: Out>(
     Ok(())
 }
 
-fn ends_of(range: &Range) -> (u16, u16)
+#[inline]
+pub(crate) fn ends_of(range: &Range) -> (u16, u16)
     requires { IsRange 65535 range.now }
     ensures { result ≡ (range.now.low, range.now.high) }
 {
@@ -182,6 +206,7 @@ impl<A: Choices, B: Choices> Choices for (A, B) {
 
     ghost items = { λ p. pairs (A.items p.0) (B.items p.1) };
 
+    #[inline]
     fn put_each<F: RowForm<(A::Item, B::Item)>, O: Out>(
         &self,
         form: &F,
@@ -210,6 +235,7 @@ impl<'a, A: Copy, B: Choices, F: RowForm<(A, B::Item)>> RowForm<A> for WithSecon
     ghost item_rows = { λ w first.
         flat_map (λ second. F.item_rows w.form.now (first, second)) (B.items w.seconds.now) };
 
+    #[inline]
     fn put_item<O: Out>(&self, item: &A, out: &mut O) -> Result<(), PutFault> {
         let each = WithFirst {
             first: *item,
@@ -229,6 +255,7 @@ struct WithFirst<'a, A, F> {
 impl<'a, A: Copy, B: Copy, F: RowForm<(A, B)>> RowForm<B> for WithFirst<'a, A, F> {
     ghost item_rows = { λ w second. F.item_rows w.form.now (w.first, second) };
 
+    #[inline]
     fn put_item<O: Out>(&self, item: &B, out: &mut O) -> Result<(), PutFault> {
         self.form.put_item(&(self.first, *item), out)
     }

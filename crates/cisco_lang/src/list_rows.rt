@@ -1,4 +1,4 @@
-ghost use Rattle.std.specs.Prelude.{◌≡◌, ◌∷◌, [], codes, IsTrue};
+ghost use Rattle.std.specs.Prelude.{◌≡◌, ◌∷◌, ◌++◌, [], codes, IsTrue};
 ghost use Rattle.acl_text.specs.Cuts.{views};
 ghost use Rattle.acl_text.specs.Puts.{Puts};
 ghost use Rattle.acl_rows.specs.Rows.{row, spaced, text_of_rows, words_in};
@@ -25,6 +25,7 @@ impl Rows for EntryRow {
     ghost rows = { λ r. item_rows r.family (AnEntry r.entry) };
 
     #[tactic(auto, unfolding(crate::specs::Texts::item_rows, crate::specs::Texts::entry_words))]
+    #[inline]
     fn put_rows<O: Out>(&self, out: &mut O) -> Result<(), PutFault> {
         let family = self.family;
         let entry = self.entry;
@@ -69,6 +70,7 @@ pub struct RemarkRow<'a> {
 impl<'a> Rows for RemarkRow<'a> {
     ghost rows = { λ r. row 1 (codes "remark" ∷ words_in r.text.now) ∷ [] };
 
+    #[inline]
     fn put_rows<O: Out>(&self, out: &mut O) -> Result<(), PutFault> {
         let row = Row {
             indent: 1,
@@ -89,6 +91,7 @@ pub struct ListHead<'a> {
 impl<'a> Rows for ListHead<'a> {
     ghost rows = { λ h. head_rows h.family h.name.now };
 
+    #[inline]
     fn put_rows<O: Out>(&self, out: &mut O) -> Result<(), PutFault> {
         match self.family {
             Family::V4 => put_head(b"ip", &[b"access-list", b"extended", self.name], out),
@@ -123,6 +126,7 @@ pub struct ListEnd;
 impl Rows for ListEnd {
     ghost rows = { λ e. end_rows };
 
+    #[inline]
     fn put_rows<O: Out>(&self, out: &mut O) -> Result<(), PutFault> {
         let none: &[&[u8]] = &[];
         let row = Row {
@@ -144,6 +148,7 @@ pub struct SectionHead<'a> {
 impl<'a> Rows for SectionHead<'a> {
     ghost rows = { λ h. section_row h.name.now h.families ∷ [] };
 
+    #[inline]
     fn put_rows<O: Out>(&self, out: &mut O) -> Result<(), PutFault> {
         let row = Row {
             indent: 0,
@@ -175,12 +180,14 @@ fn families_word(families: Families) -> &'static [u8]
 }
 
 /// The word of what an entry does.
+#[inline]
 pub fn action_word(permit: bool) -> &'static [u8]
     ensures { result.now ≡ action_word permit }
 {
     if permit { b"permit" } else { b"deny" }
 }
 
+#[inline]
 fn any_word(family: Family) -> &'static [u8]
     ensures { result.now ≡ any_word family }
 {
@@ -200,6 +207,7 @@ impl Piece for Protocol {
     ghost text = { λ p. proto_word p.family p.number };
 
     #[tactic(auto, unfolding(crate::specs::Texts::proto_word))]
+    #[inline]
     fn put_into<O: Out>(&self, out: &mut O) -> Result<(), PutFault> {
         match self.number {
             None => out.put(any_word(self.family)),
@@ -228,6 +236,7 @@ impl Words for EndWords {
     ghost words = { λ e. end_words e.family e.place e.ports };
 
     #[tactic(auto, unfolding(crate::specs::Texts::end_words))]
+    #[inline]
     fn put_spaced<O: Out>(&self, out: &mut O) -> Result<(), PutFault> {
         let place = AddressWords {
             family: self.family,
@@ -248,18 +257,16 @@ impl Words for AddressWords {
     ghost words = { λ p. address_words p.family p.place };
 
     #[tactic(auto, unfolding(crate::specs::Texts::address_words))]
+    #[inline]
     fn put_spaced<O: Out>(&self, out: &mut O) -> Result<(), PutFault> {
         if self.place.len == 0 {
-            put_words(&[b"any"], out)
+            out.put(b" any")
         } else if self.place.len == self.family.width() {
-            let host = OneWord {
-                piece: b"host".as_slice(),
-            };
             let address = Address {
                 family: self.family,
                 address: self.place.first,
             };
-            (host, OneWord { piece: address }).put_spaced(out)
+            put_keyed(b" host ", address, out)
         } else {
             self.put_masked(out)
         }
@@ -267,6 +274,7 @@ impl Words for AddressWords {
 }
 
 impl AddressWords {
+    #[inline]
     fn put_masked<O: Out>(&self, out: &mut O) -> Result<(), PutFault>
         requires { IsTrue (O.is_open out.old) }
         ensures { Puts O.Out out.old out.new
@@ -288,6 +296,15 @@ impl AddressWords {
     }
 }
 
+// Puts a word and the one that it names, by two puts; the key is the first between two spaces.
+#[inline]
+fn put_keyed<P: Piece + Drop, O: Out>(key: &[u8], piece: P, out: &mut O) -> Result<(), PutFault>
+    requires { IsTrue (O.is_open out.old) }
+    ensures { Puts O.Out out.old out.new (key.now ++ (P.text piece ++ [])) result }
+{
+    (key, piece).put_into(out)
+}
+
 #[derive(Drop)]
 struct PortWords {
     ports: Option<(u16, u16)>,
@@ -297,15 +314,13 @@ impl Words for PortWords {
     ghost words = { λ p. ports_words p.ports };
 
     #[tactic(auto, unfolding(crate::specs::Texts::ports_words))]
+    #[inline]
     fn put_spaced<O: Out>(&self, out: &mut O) -> Result<(), PutFault> {
         match self.ports {
             None => Ok(()),
             Some((low, high)) => {
                 if low == high {
-                    let one = OneWord {
-                        piece: b"eq".as_slice(),
-                    };
-                    (one, port(low)).put_spaced(out)
+                    put_keyed(b" eq ", port(low).piece, out)
                 } else {
                     let range = OneWord {
                         piece: b"range".as_slice(),
@@ -317,6 +332,7 @@ impl Words for PortWords {
     }
 }
 
+#[inline]
 fn port(number: u16) -> OneWord<Number>
     ensures { result ≡ record { piece = record { number = number } } }
 {
@@ -336,6 +352,7 @@ impl Words for IcmpWords {
     ghost words = { λ t. icmp_words t.itype t.icode };
 
     #[tactic(auto, unfolding(crate::specs::Texts::icmp_words))]
+    #[inline]
     fn put_spaced<O: Out>(&self, out: &mut O) -> Result<(), PutFault> {
         let itype = NumberWord { number: self.itype };
         let icode = NumberWord { number: self.icode };
@@ -352,6 +369,7 @@ impl Words for NumberWord {
     ghost words = { λ t. number_words t.number };
 
     #[tactic(auto, unfolding(crate::specs::Texts::number_words))]
+    #[inline]
     fn put_spaced<O: Out>(&self, out: &mut O) -> Result<(), PutFault> {
         match self.number {
             None => Ok(()),
@@ -369,6 +387,7 @@ impl Words for FlagWords {
     ghost words = { λ t. flags_words t.flags };
 
     #[tactic(auto, unfolding(crate::specs::Texts::flags_words))]
+    #[inline]
     fn put_spaced<O: Out>(&self, out: &mut O) -> Result<(), PutFault> {
         match self.flags {
             None => Ok(()),
@@ -389,6 +408,7 @@ impl RowForm<Item> for OfFamily {
     ghost item_rows = { λ f i. item_rows f.family i };
 
     #[tactic(auto, unfolding(crate::specs::Texts::item_rows))]
+    #[inline]
     fn put_item<O: Out>(&self, item: &Item, out: &mut O) -> Result<(), PutFault> {
         match item {
             Item::Remark(text) => RemarkRow {
@@ -408,6 +428,7 @@ impl Rows for AccessList {
     ghost rows = { list_rows };
 
     #[tactic(auto, unfolding(crate::specs::Texts::list_rows))]
+    #[inline]
     fn put_rows<O: Out>(&self, out: &mut O) -> Result<(), PutFault> {
         let head = ListHead {
             family: self.family,
@@ -427,6 +448,7 @@ impl Rows for Section {
     ghost rows = { section_rows };
 
     #[tactic(auto, unfolding(crate::specs::Texts::section_rows))]
+    #[inline]
     fn put_rows<O: Out>(&self, out: &mut O) -> Result<(), PutFault> {
         let head = SectionHead {
             name: self.name.as_slice(),
