@@ -1,5 +1,5 @@
 -- The starts that are read of a rule's words alone are those of the rule, and where two are the same it is not valid.
-use Rattle.std.proofs.Common.{◌≡◌, ℕ, zero, suc, ◌+◌, ◌-◌, ◌<◌, Bool, true, false, cond, not, ◌||◌, ◌&&◌, nat_eq, nat_le, nat_lt, List, [], ◌∷◌, ◌++◌, length, map, take, drop, codes, Option, None, Some, option_map, refl, ap, sym, ◌∙◌, arith}
+use Rattle.std.proofs.Common.{◌≡◌, ℕ, zero, suc, ◌+◌, ◌-◌, ◌<◌, Bool, true, false, cond, not, ◌||◌, ◌&&◌, nat_eq, nat_le, nat_lt, List, [], ◌∷◌, ◌++◌, length, map, take, drop, codes, Option, None, Some, IfNone, option_map, refl, ap, sym, ◌∙◌, arith}
 use Rattle.std.specs.Cmp.{unsigned_tied}
 use Rattle.std.specs.List.{fold, join_with_byte, list_all, list_any}
 use Rattle.std.specs.Option.{option_map_or}
@@ -207,8 +207,8 @@ starts_apart ps h =
 -- ---- what is seen not to be valid
 
 distinct_of_rule : (families : Families) (words : List (List ℕ)) → are_apart prefixes_overlap (rule_in families words).src ≡ true
-    → are_apart prefixes_overlap (rule_in families words).dst ≡ true → has_distinct_starts families words ≡ true
-unfolding has_distinct_starts rule_in
+    → are_apart prefixes_overlap (rule_in families words).dst ≡ true → has_distinct_starts (starts_in families words) ≡ true
+unfolding rule_in
 distinct_of_rule families words h k =
     let d = fold take_word (draft (no_rule (first_family families)) Keyword) words in
     ap (λ s. are_distinct_starts s.src && are_distinct_starts s.dst) (starts_seen families words)
@@ -230,18 +230,24 @@ false_where true c h e = absurd (false≢true (sym e ∙ h refl))
 false_where false c h e = refl
 
 pub twins_refused : (families : Families) (words : List (List ℕ)) → begins_with (codes "#") words ≡ false
-    → has_distinct_starts families words ≡ false → is_item families (item_in families words) ≡ false
+    → has_distinct_starts (starts_in families words) ≡ false → is_item families (item_in families words) ≡ false
 unfolding item_in
 twins_refused families words no_remark twins =
     let r = rule_in families words in
     ap (λ b. is_item families (cond b (Remark (join_with_byte 32 (drop 1 words))) (ARule r))) no_remark
-    ∙ false_where (is_rule families r) (has_distinct_starts families words)
+    ∙ false_where (is_rule families r) (has_distinct_starts (starts_in families words))
     (λ h. let ends = valid_apart families r h in distinct_of_rule families words ends.0 ends.1) twins
 
-pub words_refused : (families : Families) (text words : List ℕ) → item_text_in text ≡ Some words
+words_refused : (families : Families) (text words : List ℕ) → item_text_in text ≡ Some words
     → is_item families (item_in families (words_in words)) ≡ false → IsRefused families text
 unfolding first_item_in
 words_refused families text words e h item says =
     let same = same_Some (item_in families (words_in words)) item
     (sym (ap (option_map (λ ws. item_in families (words_in ws))) e) ∙ says) in
     ap (is_item families) (sym same) ∙ h
+
+pub still_refused : {A : Type 0} (o : Option A) (families : Families) (text line : List ℕ) (words : List (List ℕ)) → item_text_in text ≡ Some line
+    → words ≡ words_in line → IfNone o (is_item families (item_in families words) ≡ false) → IfNone o (IsRefused families text)
+still_refused (Some rooms) families text line words e same h = tt
+still_refused None families text line words e same h =
+    words_refused families text line e (ap (λ ws. is_item families (item_in families ws)) (sym same) ∙ h)

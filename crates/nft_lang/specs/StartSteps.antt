@@ -23,7 +23,7 @@ use Rattle.nft_lang.specs.ValiditySteps.{is_item}
 
 -- So many of a set are looked at.
 unfoldable pub most_starts : ℕ
-most_starts = 1310720
+most_starts = 1450000
 
 -- One more start, where there is room.
 unfoldable pub with_start : List ℕ → ℕ → List ℕ
@@ -67,9 +67,8 @@ abbrev pub are_distinct_starts : List ℕ → Bool
 are_distinct_starts starts = are_apart (eq_by_cmp nat_cmp) starts
 
 -- Whether no two prefixes of a set begin at one address, as far as they are looked at.
-unfoldable pub has_distinct_starts : Families → List (List ℕ) → Bool
-has_distinct_starts families words =
-    are_distinct_starts (starts_in families words).src && are_distinct_starts (starts_in families words).dst
+abbrev pub has_distinct_starts : StartDraft → Bool
+has_distinct_starts d = are_distinct_starts d.src && are_distinct_starts d.dst
 
 -- The first line says no valid item.
 abbrev pub IsRefused : Families → List ℕ → Type 0

@@ -19,6 +19,20 @@ pub(crate) enum Next {
     Codes,
 }
 
+/// Room for so many prefixes of each end.
+#[derive(Clone, Copy)]
+pub(crate) struct Rooms {
+    pub(crate) src: usize,
+    pub(crate) dst: usize,
+}
+
+impl Rooms {
+    /// Room for none: what is read takes it as it comes.
+    pub(crate) fn none() -> Rooms {
+        Rooms { src: 0, dst: 0 }
+    }
+}
+
 /// What has been read of a rule's words.
 #[derive(Drop)]
 struct RuleDraft {
@@ -26,17 +40,18 @@ struct RuleDraft {
     next: Next,
 }
 
-/// The rule of the words, in a table of the families. No words are refused: what means nothing
-/// changes nothing.
+/// The rule of the words, in a table of the families, whose sets have those rooms from the start. No words are refused: what
+/// means nothing changes nothing.
 #[tactic(auto, unfolding(crate::specs::ReadingSteps::rule_in))]
 pub(crate) fn rule_of(
     alloc: Global,
     families: Families,
     words: RowWords<'_>,
+    rooms: Rooms,
 ) -> Result<Rule, Memory>
     ensures { IfOk result (λ r. r ≡ rule_in families words.entry) }
 {
-    let mut draft = RuleDraft::new(alloc, families.first_family());
+    let mut draft = RuleDraft::new(alloc, families.first_family(), rooms)?;
     let mut rest = words;
     while let Some(word) = rest.next() {
         draft.take_word(word)?;
@@ -45,14 +60,14 @@ pub(crate) fn rule_of(
 }
 
 impl RuleDraft {
-    fn new(alloc: Global, family: Family) -> RuleDraft
-        ensures { result ≡ draft (no_rule family) Next.Keyword }
+    fn new(alloc: Global, family: Family, rooms: Rooms) -> Result<RuleDraft, Memory>
+        ensures { IfOk result (λ d. d ≡ draft (no_rule family) Next.Keyword) }
     {
         let rule = Rule {
             family,
             proto: None,
-            src: Items::new(alloc),
-            dst: Items::new(alloc),
+            src: Items::with_capacity(alloc, rooms.src)?,
+            dst: Items::with_capacity(alloc, rooms.dst)?,
             sports: Items::new(alloc),
             dports: Items::new(alloc),
             itypes: Items::new(alloc),
@@ -62,10 +77,10 @@ impl RuleDraft {
             log: false,
             verdict: Verdict::Deny,
         };
-        RuleDraft {
+        Ok(RuleDraft {
             rule,
             next: Next::Keyword,
-        }
+        })
     }
 
     #[tactic(auto, unfolding(crate::specs::ReadingSteps::take_as))]

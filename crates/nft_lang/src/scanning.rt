@@ -1,4 +1,4 @@
-ghost use Rattle.std.specs.Prelude.{◌≡◌, ◌^◌, ◌<◌, ◌∷◌, [], IfOk, option_map, true};
+ghost use Rattle.std.specs.Prelude.{◌≡◌, ◌^◌, ◌<◌, ◌∷◌, [], IfNone, IfOk, option_map, true};
 ghost use Rattle.nft_lang.specs.Documents.{fits_i32};
 ghost use Rattle.nft_lang.specs.ScanSteps.{TakesChain, TakesItem, TakesItems, behind_byte, first_item_in, head_in, item_text_in, name_in, outcome_from, part_at};
 ghost use Rattle.nft_lang.specs.StartSteps.{IsRefused};
@@ -8,8 +8,8 @@ ghost use Rattle.nft_lang.specs.Walks.{first_holding};
 use crate::chain_rows::{OfFamilies, SectionEnd, TableHead};
 use crate::documents::Item;
 use crate::nftables::Nftables;
-use crate::rule_drafts::up_to;
-use crate::start_drafts::is_seen_invalid;
+use crate::rule_drafts::{Rooms, up_to};
+use crate::start_drafts::rooms_of;
 use crate::tables_drafts::{hook_of, item_of, priority_of, table_of};
 use crate::validity::is_item;
 use crate::walking::{decided_by, policy_verdict, rule_holds};
@@ -113,25 +113,25 @@ fn take_item<'a>(
 ) -> Result<Option<Taken<'a>>, Memory>
     ensures { IfOk result (TakesItem families packet.now text.now) }
 {
-    if is_refused(alloc, families, text)? {
+    let Some(rooms) = rooms_in(alloc, families, text)? else {
         return Ok(None);
-    }
-    match first_item_of(alloc, families, text)? {
+    };
+    match first_item_of(alloc, families, text, rooms)? {
         Some(item) => take_if_valid(alloc, families, &item, text, packet),
         None => Ok(None),
     }
 }
 
-// Whether the first line is long and is seen to say no valid item. A short line is not looked at, since what it says takes
-// little memory.
-fn is_refused(alloc: Global, families: Families, text: &[u8]) -> Result<bool, Memory>
-    ensures { IfOk result (λ b. b ≡ true → IsRefused families text.now) }
+// How many prefixes the first line has, where it is long. `None` where it is seen to say no valid item. A short line is not
+// looked at, since what it says takes little memory.
+fn rooms_in(alloc: Global, families: Families, text: &[u8]) -> Result<Option<Rooms>, Memory>
+    ensures { IfOk result (λ o. IfNone o (IsRefused families text.now)) }
 {
     match item_text_of(text) {
         Some(words) if words.len() >= LONG => {
-            Ok(is_seen_invalid(alloc, families, RowWords::new(words))?)
+            Ok(rooms_of(alloc, families, RowWords::new(words))?)
         }
-        _ => Ok(false),
+        _ => Ok(Some(Rooms::none())),
     }
 }
 
@@ -176,11 +176,19 @@ fn decided_by_item(item: &Item, packet: &Packet) -> Option<Outcome>
 
 // The item that the first line of the text says, whatever that is.
 #[tactic(auto, unfolding(crate::specs::ScanSteps::first_item_in))]
-fn first_item_of(alloc: Global, families: Families, text: &[u8]) -> Result<Option<Item>, Memory>
+fn first_item_of(
+    alloc: Global,
+    families: Families,
+    text: &[u8],
+    rooms: Rooms,
+) -> Result<Option<Item>, Memory>
     ensures { IfOk result (λ o. o ≡ first_item_in families text.now) }
 {
     match item_text_of(text) {
-        Some(words) => Ok(Some(item_of(alloc, families, RowWords::new(words))?)),
+        Some(words) => {
+            let item = item_of(alloc, families, RowWords::new(words), rooms)?;
+            Ok(Some(item))
+        }
         None => Ok(None),
     }
 }

@@ -1,56 +1,61 @@
-ghost use Rattle.std.specs.Prelude.{◌≡◌, [], IfOk, OnOk, false, true};
+ghost use Rattle.std.specs.Prelude.{◌≡◌, [], IfNone, IfOk, OnOk, false};
 ghost use Rattle.acl_packet.specs.Decimals.{number_in};
 ghost use Rattle.acl_text.specs.PortRanges.{ports_in};
 ghost use Rattle.nft_lang.specs.ReadingSteps.{item_in, up_to};
 ghost use Rattle.nft_lang.specs.StartSteps.{address_step, are_distinct_starts, has_distinct_starts, next_behind, no_starts, start_step, starts_in, step_as, with_address_start, with_next, with_start};
 ghost use Rattle.nft_lang.specs.ValiditySteps.{is_item};
 
-use crate::rule_drafts::{Next, in_set, next_of, nfproto_of, up_to};
+use crate::rule_drafts::{Next, Rooms, in_set, next_of, nfproto_of, up_to};
 use acl_packet::{Families, Family, Prefix};
 use acl_rows::{End, RowWords, are_distinct};
 use acl_text::{Memory, read_ports, read_spelled_prefix, read_u8};
 use std::alloc::Global;
 use std::marker::Model;
 
-// More prefixes than a text of 16 MB has room for, of which no two overlap: their words take 12 bytes and more, but for
-// those of the few shortest.
-const MOST_STARTS: usize = 1_310_720;
+// A text of 16 MB has room for about as many prefixes that all begin at other addresses: with its space a word takes 12 bytes
+// and more, but for the half a million shortest, which take 11.
+const MOST_STARTS: usize = 1_450_000;
 
-/// Whether the words are seen to be those of no valid item, before what they say is held.
-pub(crate) fn is_seen_invalid(
+// There is room from the start, since what grows may be held twice for a while; of room that is not used no memory is taken.
+// It is 32 MB, so that the C library gives it back when it is let go, and keeps to that for smaller pieces.
+const ROOM_OF_STARTS: usize = 1 << 21;
+
+/// How many prefixes the sets of the words' rule have. `None` where the words are seen to be those of no valid item, before
+/// what they say is held.
+pub(crate) fn rooms_of(
     alloc: Global,
     families: Families,
     words: RowWords<'_>,
-) -> Result<bool, Memory>
-    ensures { IfOk result (λ b. b ≡ true
-        → is_item families (item_in families words.entry) ≡ false) }
+) -> Result<Option<Rooms>, Memory>
+    ensures { IfOk result (λ o. IfNone o (is_item families (item_in families words.entry) ≡ false)) }
 {
     if words.begins_with(b"#") {
-        Ok(false)
+        return Ok(Some(Rooms::none()));
+    }
+    let draft = starts_of(alloc, families, words)?;
+    let rooms = Rooms {
+        src: draft.src.len(),
+        dst: draft.dst.len(),
+    };
+    if has_distinct_starts(draft) {
+        Ok(Some(rooms))
     } else {
-        Ok(!has_distinct_starts(alloc, families, words)?)
+        Ok(None)
     }
 }
 
-// Whether no two prefixes of a set of the rule begin at one address, as far as they are looked at. Two that do overlap. What
-// is held of a prefix is half of what the rule would hold, and never of more than so many.
-#[tactic(auto, unfolding(crate::specs::StartSteps::has_distinct_starts))]
-fn has_distinct_starts(
-    alloc: Global,
-    families: Families,
-    words: RowWords<'_>,
-) -> Result<bool, Memory>
-    ensures { IfOk result (λ b. b ≡ has_distinct_starts families words.entry) }
+// Whether no two prefixes of a set begin at one address, as far as they are looked at. Two that do overlap.
+fn has_distinct_starts(draft: StartDraft) -> bool
+    ensures { result ≡ has_distinct_starts draft }
 {
-    let draft = starts_of(alloc, families, words)?;
-    Ok(draft.src.are_distinct() && draft.dst.are_distinct())
+    draft.src.are_distinct() && draft.dst.are_distinct()
 }
 
 #[tactic(auto, unfolding(crate::specs::StartSteps::starts_in))]
 fn starts_of(alloc: Global, families: Families, words: RowWords<'_>) -> Result<StartDraft, Memory>
     ensures { IfOk result (λ d. d ≡ starts_in families words.entry) }
 {
-    let mut draft = StartDraft::new(alloc, families.first_family());
+    let mut draft = StartDraft::new(alloc, families.first_family())?;
     let mut rest = words;
     while let Some(word) = rest.next() {
         draft.take_word(word)?;
@@ -73,12 +78,16 @@ impl Model for Starts {
 }
 
 impl Starts {
-    fn new(alloc: Global) -> Starts
-        ensures { result ≡ [] }
+    fn new(alloc: Global) -> Result<Starts, Memory>
+        ensures { IfOk result (λ starts. starts ≡ []) }
     {
-        Starts {
-            items: Vec::new(alloc),
-        }
+        Ok(Starts {
+            items: Vec::with_capacity(alloc, ROOM_OF_STARTS)?,
+        })
+    }
+
+    fn len(&self) -> usize {
+        self.items.len()
     }
 
     #[tactic(auto, unfolding(crate::specs::StartSteps::with_start, crate::specs::StartSteps::most_starts))]
@@ -108,15 +117,15 @@ struct StartDraft {
 }
 
 impl StartDraft {
-    fn new(alloc: Global, family: Family) -> StartDraft
-        ensures { result ≡ no_starts family }
+    fn new(alloc: Global, family: Family) -> Result<StartDraft, Memory>
+        ensures { IfOk result (λ d. d ≡ no_starts family) }
     {
-        StartDraft {
+        Ok(StartDraft {
             family,
             next: Next::Keyword,
-            src: Starts::new(alloc),
-            dst: Starts::new(alloc),
-        }
+            src: Starts::new(alloc)?,
+            dst: Starts::new(alloc)?,
+        })
     }
 
     #[tactic(auto, unfolding(crate::specs::StartSteps::step_as))]

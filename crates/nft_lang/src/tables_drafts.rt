@@ -4,7 +4,7 @@ ghost use Rattle.acl_text.specs.SignedNumbers.{below_zero_in, from_zero_in, sign
 ghost use Rattle.nft_lang.specs.ReadingSteps.{no_section, hook_in, table_in, priority_in, item_in, begin_section, with_chain, end_section, take_four, take_outer, take_chain, take_inner, take_row, no_draft};
 
 use crate::documents::{Doc, Item, Section};
-use crate::rule_drafts::{rule_of, up_to};
+use crate::rule_drafts::{Rooms, rule_of, up_to};
 use acl_packet::{Families, Hook};
 use acl_rows::{DocumentDraft, Draft, RowWords, families_of};
 use acl_text::{Bytes, Items, Memory, behind, read_number};
@@ -108,7 +108,7 @@ impl TablesDraft {
             self.take_chain(few.as_slice());
             Ok(())
         } else {
-            let item = item_of(alloc, self.section.families, words)?;
+            let item = item_of(alloc, self.section.families, words, Rooms::none())?;
             self.section.items.push(item)
         }
     }
@@ -205,6 +205,7 @@ pub(crate) fn item_of(
     alloc: Global,
     families: Families,
     words: RowWords<'_>,
+    rooms: Rooms,
 ) -> Result<Item, Memory>
     ensures { IfOk result (λ i. i ≡ item_in families words.entry) }
 {
@@ -212,6 +213,6 @@ pub(crate) fn item_of(
         let text = words.behind_first().text();
         Ok(Item::Remark(Bytes::from_slice(alloc, text)?))
     } else {
-        Ok(Item::Rule(rule_of(alloc, families, words)?))
+        Ok(Item::Rule(rule_of(alloc, families, words, rooms)?))
     }
 }
