@@ -25,7 +25,7 @@ use acl_host::Tree;
 use acl_naming::Checked;
 use acl_policy::{Block, Policy, RawTerm};
 use acl_splice::Sources;
-use acl_terms::{Term, resolve};
+use acl_terms::{KnownAddresses, Term, resolve_with};
 use acl_text::{Items, Refusal, Rejection};
 use std::alloc::Global;
 
@@ -96,7 +96,7 @@ fn resolve_policy(
     }
 }
 
-// The terms of the blocks, one list for each.
+// The terms of the blocks, one list for each. Terms that name the same networks share the sets of their addresses.
 fn resolve_blocks(
     alloc: Global,
     definitions: &Checked,
@@ -106,23 +106,29 @@ fn resolve_blocks(
     ensures slip { Judges result (blocks_slip definitions.now blocks.now) }
     ensures terms { IfOk result (AreResolvedIn definitions.now blocks.now) }
 {
+    let mut known = KnownAddresses::new(alloc, definitions);
     let mut lists = Items::new(alloc);
     for block in blocks {
-        let terms = resolve_terms(alloc, definitions, block.terms.as_slice())?;
+        let terms = resolve_terms(alloc, block.terms.as_slice(), &mut known)?;
         lists.push(terms)?;
     }
     Ok(lists)
 }
 
 // The terms of a block.
-fn resolve_terms(alloc: Global, definitions: &Checked, raws: &[RawTerm]) -> Result<Terms, Refusal>
+fn resolve_terms<'a>(
+    alloc: Global,
+    raws: &'a [RawTerm],
+    known: &mut KnownAddresses<'a>,
+) -> Result<Terms, Refusal>
     requires { All IsRawTerm raws.now }
-    ensures slip { Judges result (terms_slip definitions.now raws.now) }
-    ensures terms { IfOk result (AreResolved definitions.now raws.now) }
+    ensures slip { Judges result (terms_slip known.old raws.now) }
+    ensures terms { IfOk result (AreResolved known.old raws.now) }
+    ensures same { known.new ≡ known.old }
 {
     let mut terms = Items::new(alloc);
     for raw in raws {
-        let term = resolve(alloc, definitions, raw)?;
+        let term = resolve_with(alloc, raw, known)?;
         terms.push(term)?;
     }
     Ok(terms)

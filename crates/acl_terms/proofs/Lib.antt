@@ -4,6 +4,7 @@ pub mod DistinctLaws
 pub mod EmptyLaws
 pub mod FieldLaws
 pub mod GatheredLaws
+pub mod KnownLaws
 pub mod LifeLaws
 pub mod MatchLaws
 pub mod NumberLaws

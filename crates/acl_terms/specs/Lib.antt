@@ -1,5 +1,6 @@
 pub mod ComputableTerms
 pub mod DistinctSteps
+pub mod KnownAddresses
 pub mod Living
 pub mod Matching
 pub mod Options

@@ -6,32 +6,45 @@ ghost use Rattle.acl_text.specs.Refusals.{Judges, first_in};
 ghost use Rattle.acl_naming.specs.declared.reaching.Wanted.TheVariants as wanted;
 ghost use Rattle.acl_naming.specs.LookupSteps.{AddsReach};
 ghost use Rattle.acl_terms.specs.Matching.{Admits, AnyOf, IsAddress, NamesAddress};
-ghost use Rattle.acl_terms.specs.Sets.{IsAddressSet, IsSetOf};
-ghost use Rattle.acl_terms.specs.SetSteps.{ends_slip};
-ghost use Rattle.acl_terms.specs.Slips.{network_slip, networks_slip};
+ghost use Rattle.acl_terms.specs.Sets.{IsSetOf};
+ghost use Rattle.acl_terms.specs.Slips.{network_slip};
 
 use crate::checks::refusal_at;
 use crate::new_words::NewWords;
 use acl_naming::{Checked, Lookup, Marks, add_networks};
 use acl_packet::Family;
-use acl_policy::{RawTerm, WordList, WordRef};
+use acl_policy::{WordList, WordRef};
 use acl_sets::{Range, RangeSet};
-use acl_text::{Code, Refusal};
+use acl_text::{Code, Memory, Refusal};
 use std::alloc::Global;
 
-/// Addresses of both families.
+// Of more ranges than these it is worth to keep what was gathered.
+const MANY: usize = 8;
+
+/// Addresses of both families, and of how many ranges they were gathered.
 #[derive(Drop)]
 pub(crate) struct Addresses {
     pub(crate) v4: RangeSet,
     pub(crate) v6: RangeSet,
+    gathered: usize,
 }
 
-/// The addresses of a term's two ends, and those of which it asks either end.
-#[derive(Drop)]
-pub(crate) struct Ends {
-    pub(crate) src: Addresses,
-    pub(crate) dst: Addresses,
-    pub(crate) either: Addresses,
+impl Addresses {
+    /// The same addresses, which are not copied.
+    pub(crate) fn share(&self) -> Result<Addresses, Memory>
+        ensures { IfOk result (λ a. a ≡ self.now) }
+    {
+        Ok(Addresses {
+            v4: self.v4.share()?,
+            v6: self.v6.share()?,
+            gathered: self.gathered,
+        })
+    }
+
+    /// Whether they are dear to gather, and to hold more than once.
+    pub(crate) fn are_many(&self) -> bool {
+        self.gathered > MANY
+    }
 }
 
 // Puts the addresses that the word's name reaches behind those of each family.
@@ -72,13 +85,18 @@ fn addresses_of_words(alloc: Global, base: &Checked, words: &WordList) -> Result
     while let Some(word) = left.next()? {
         add_word(alloc, base, &word, &mut marks, &mut v4, &mut v6)?;
     }
+    let gathered = v4.len().saturating_add(v6.len());
     let v4 = RangeSet::from_vec(alloc, Family::V4.top_address(), v4)?;
     let v6 = RangeSet::from_vec(alloc, Family::V6.top_address(), v6)?;
-    Ok(Addresses { v4, v6 })
+    Ok(Addresses { v4, v6, gathered })
 }
 
-// The same, or all where no word is written.
-fn admitted_addresses(alloc: Global, base: &Checked, words: &WordList) -> Result<Addresses, Refusal>
+/// The same, or all where no word is written.
+pub(crate) fn admitted_addresses(
+    alloc: Global,
+    base: &Checked,
+    words: &WordList,
+) -> Result<Addresses, Refusal>
     ensures judged { Judges result (first_in (network_slip base.now.networks) words.now) }
     ensures v4 { IfOk result (λ a. IsSetOf (λ x. Admits (NamesAddress base.now V4 x) words.now)
         (top_address V4) a.v4) }
@@ -89,13 +107,14 @@ fn admitted_addresses(alloc: Global, base: &Checked, words: &WordList) -> Result
         None => Ok(Addresses {
             v4: RangeSet::all(alloc, Family::V4.top_address())?,
             v6: RangeSet::all(alloc, Family::V6.top_address())?,
+            gathered: 0,
         }),
         Some(_) => addresses_of_words(alloc, base, words),
     }
 }
 
-// The addresses of an end: those of the words, less the excluded ones. Where none is excluded nothing is copied.
-fn end_of(
+/// The addresses of an end: those of the words, less the excluded ones. Where none is excluded nothing is copied.
+pub(crate) fn end_of(
     alloc: Global,
     base: &Checked,
     words: &WordList,
@@ -116,33 +135,8 @@ fn end_of(
             Ok(Addresses {
                 v4: taken.v4.subtract(alloc, &excluded.v4)?,
                 v6: taken.v6.subtract(alloc, &excluded.v6)?,
+                gathered: taken.gathered.saturating_add(excluded.gathered),
             })
         }
     }
-}
-
-// The addresses of a term's ends, end by end, and those of either end.
-fn by_ends(alloc: Global, base: &Checked, raw: &RawTerm) -> Result<Ends, Refusal>
-    ensures judged { Judges result (ends_slip base.now.networks raw.now) }
-    ensures v4 { IfOk result (λ e.
-        IsAddressSet base.now V4 raw.now e.src.v4 e.dst.v4 e.either.v4) }
-    ensures v6 { IfOk result (λ e.
-        IsAddressSet base.now V6 raw.now e.src.v6 e.dst.v6 e.either.v6) }
-{
-    let src = end_of(alloc, base, &raw.sources, &raw.source_excludes)?;
-    let dst = end_of(alloc, base, &raw.destinations, &raw.destination_excludes)?;
-    let either = admitted_addresses(alloc, base, &raw.addresses)?;
-    Ok(Ends { src, dst, either })
-}
-
-/// The addresses of a term's ends, or the first name that no network has.
-#[tactic(auto, using(crate::proofs::SlipLaws::networks_by_ends))]
-pub(crate) fn ends_of(alloc: Global, base: &Checked, raw: &RawTerm) -> Result<Ends, Refusal>
-    ensures judged { Judges result (networks_slip base.now.networks raw.now) }
-    ensures v4 { IfOk result (λ e.
-        IsAddressSet base.now V4 raw.now e.src.v4 e.dst.v4 e.either.v4) }
-    ensures v6 { IfOk result (λ e.
-        IsAddressSet base.now V6 raw.now e.src.v6 e.dst.v6 e.either.v6) }
-{
-    by_ends(alloc, base, raw)
 }

@@ -5,6 +5,8 @@ mod addresses;
 mod checks;
 mod distinct;
 mod emptiness;
+mod ends;
+mod known_addresses;
 mod laws;
 mod living;
 mod matching;
@@ -18,6 +20,7 @@ mod sides;
 mod terms;
 
 pub use emptiness::{is_empty_in, is_pair_empty};
+pub use known_addresses::KnownAddresses;
 pub use laws::{
     empty_terms_match_none, policies_decide_as_written, terms_are_one, terms_are_there,
     terms_live_as_written, terms_match_as_written,
@@ -25,7 +28,7 @@ pub use laws::{
 pub use living::is_live;
 pub use matching::{destination_in, either_in, matches, set_in, source_in};
 pub use options::{Mode, Opt};
-pub use resolving::resolve;
+pub use resolving::{resolve, resolve_with};
 pub use side_sets::{dports_on, pairs_of, sports_on};
 pub use sides::{Side, SidePair};
 pub use terms::{Platforms, Term};

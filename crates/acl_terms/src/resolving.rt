@@ -8,8 +8,9 @@ ghost use Rattle.acl_terms.specs.Sets.{AreSetsOf};
 ghost use Rattle.acl_terms.specs.SetSteps.{sets_by};
 ghost use Rattle.acl_terms.specs.Slips.{slip_of};
 
-use crate::addresses::{Ends, ends_of};
 use crate::checks::{check_port_protocol, check_words, icmp_family, option_of, verdict_of};
+use crate::ends::{Ends, ends_of};
+use crate::known_addresses::KnownAddresses;
 use crate::living::{platforms_of, some_platforms};
 use crate::ports::{TermPorts, ports_of_term};
 use crate::protocols::{admitted_codes, admitted_protocols, admitted_types, protocols_of};
@@ -32,12 +33,18 @@ struct TermParts {
 
 // The sets of the term, or its first slip.
 #[tactic(auto, unfolding(crate::specs::Slips::slip_of))]
-fn parts_of(alloc: Global, base: &Checked, raw: &RawTerm) -> Result<TermParts, Refusal>
-    ensures judged { Judges result (slip_of base.now raw.now) }
-    ensures sets { IfOk result (λ p. AreSetsOf base.now raw.now (sets_by p)) }
+fn parts_of<'a>(
+    alloc: Global,
+    raw: &'a RawTerm,
+    known: &mut KnownAddresses<'a>,
+) -> Result<TermParts, Refusal>
+    ensures judged { Judges result (slip_of known.old raw.now) }
+    ensures sets { IfOk result (λ p. AreSetsOf known.old raw.now (sets_by p)) }
+    ensures same { known.new ≡ known.old }
 {
+    let base = known.base();
     let protos = protocols_of(alloc, &raw.protocols)?;
-    let ends = ends_of(alloc, base, raw)?;
+    let ends = ends_of(alloc, raw, known)?;
     check_port_protocol(alloc, &protos, raw)?;
     let ports = ports_of_term(alloc, base, &protos, raw)?;
     check_words(alloc, &protos, raw)?;
@@ -74,7 +81,26 @@ pub fn resolve(alloc: Global, base: &Checked, raw: &RawTerm) -> Result<Term, Ref
     ensures computed { IfOk result (λ t. sets_in t ≡ sets_of base.now raw.now) }
     ensures resolved { IfOk result (IsResolved base.now raw.now) }
 {
-    let parts = parts_of(alloc, base, raw)?;
+    let mut known = KnownAddresses::new(alloc, base);
+    resolve_with(alloc, raw, &mut known)
+}
+
+/// The same, where the addresses that are known of other terms are shared. Those of this term are known from now on.
+pub fn resolve_with<'a>(
+    alloc: Global,
+    raw: &'a RawTerm,
+    known: &mut KnownAddresses<'a>,
+) -> Result<Term, Refusal>
+    requires { IsRawTerm raw.now }
+    ensures slip { Judges result (slip_of known.old raw.now) }
+    ensures complete { slip_of known.old raw.now ≡ None → GivesValue result }
+    ensures sets { IfOk result (λ t. AreSetsOf known.old raw.now (sets_in t)) }
+    ensures fields { IfOk result (AreFieldsOf raw.now) }
+    ensures computed { IfOk result (λ t. sets_in t ≡ sets_of known.old raw.now) }
+    ensures resolved { IfOk result (IsResolved known.old raw.now) }
+    ensures same { known.new ≡ known.old }
+{
+    let parts = parts_of(alloc, raw, known)?;
     let TermParts {
         ends: Ends { src, dst, either },
         protos,

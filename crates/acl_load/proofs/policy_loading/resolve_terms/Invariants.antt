@@ -4,6 +4,7 @@ use Rattle.acl_load.proofs.policy_loading.resolve_terms.Given as goal
 
 abbrev pub invariant-loop-raw : goal.invariant-loop-raw
 invariant-loop-raw l = record {
-  slip : terms_slip l.definitions (drop l.raw-index l.raws) ≡ terms_slip l.definitions l.raws;
-  terms : AreResolved l.definitions (take l.raw-index l.raws) l.terms;
+  slip : terms_slip l.known (drop l.raw-index l.raws) ≡ terms_slip l.known l.raws;
+  terms : AreResolved l.known (take l.raw-index l.raws) l.terms;
+  same : l.known ≡ l.initial.known;
 }

@@ -9,7 +9,7 @@ use Rattle.acl_terms.proofs.resolving.parts_of.Goals as goal
 
 pub returns-clause-sets : goal.returns-clause-sets
 returns-clause-sets c =
-    let n = c.args.base.now in
+    let n = c.args.known.now in
     let raw = c.args.raw.now in
     let p : TermParts = record {
       ends = c.in_ok-ends.ends;
@@ -19,8 +19,9 @@ returns-clause-sets c =
       icodes = c.in_ok-admitted_codes.field-0;
     } in
     let protos : c.in_ok-protos.protos.items ≡ protocols_of raw.protocols = c.in_ok-protos.ensures in
+    let reached = rw c.base-base.ensures at c.in_ok-ports.ensures.ports in
     let ports = subst (λ (qs : List ℕ). IsPortSet n qs raw p.ports.sports p.ports.dports p.ports.ports)
-    (c.deref-2.ensures.value ∙ protos) c.in_ok-ports.ensures.ports in
+    (c.deref-2.ensures.value ∙ protos) reached in
     let types = subst (λ (f : Option Family). IsSetOf (IsType f raw.icmp_types) 255 p.itypes)
     (c.icmp_family-family.ensures ∙ ap icmp_family (c.deref-4.ensures.value ∙ protos)) c.in_ok-admitted_types.ensures in
     sets_are n raw p c.in_ok-ends.ensures.v4 c.in_ok-ends.ensures.v6 c.in_ok-admitted_protocols.ensures ports types

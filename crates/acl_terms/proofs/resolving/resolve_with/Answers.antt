@@ -5,13 +5,13 @@ use Rattle.acl_terms.specs.SetSteps.{sets_by}
 use Rattle.acl_text.specs.Notes.{note_of}
 use Rattle.acl_terms.proofs.ComputedLaws.{sets_computed}
 use Rattle.acl_terms.proofs.SoundLaws.{sound-fields}
-use Rattle.acl_terms.proofs.resolving.resolve.Goals as goal
+use Rattle.acl_terms.proofs.resolving.resolve_with.Goals as goal
 
 pub invariant_of-result : goal.invariant_of-result
 invariant_of-result c =
     let p = c.in_ok-parts.parts in
     record {
-      sound = sound-fields c.args.base.now c.args.raw.now (sets_by p) c.in_ok-name.name c.in_ok-note.note
+      sound = sound-fields c.args.known.now c.args.raw.now (sets_by p) c.in_ok-name.name c.in_ok-note.note
           c.is_written.result c.is_written-2.result c.is_written-3.result c.option_of.result c.verdict_of.result
           (c.in_ok-name.ensures ∙ c.as_slice.ensures) (c.in_ok-note.ensures.exact ∙ ap note_of c.as_slice-2.ensures)
           c.is_written.ensures c.is_written-2.ensures c.is_written-3.ensures
@@ -22,4 +22,4 @@ invariant_of-result c =
 pub returns-clause-computed : goal.returns-clause-computed
 returns-clause-computed c =
     let p = c.in_ok-parts.parts in
-    sets_computed c.args.base.now c.args.raw.now (sets_by p) c.in_ok-parts.ensures.sets
+    sets_computed c.args.known.now c.args.raw.now (sets_by p) c.in_ok-parts.ensures.sets

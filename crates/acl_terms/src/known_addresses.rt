@@ -1,0 +1,133 @@
+ghost use Rattle.std.specs.Prelude.{◌≡◌, [], IfOk, IfSome};
+ghost use Rattle.std.specs.Option.{option_or};
+ghost use Rattle.acl_packet.specs.declared.addresses.Family.TheVariants.{V4, V6};
+ghost use Rattle.acl_packet.specs.Addresses.{top_address};
+ghost use Rattle.acl_text.specs.Refusals.{Judges, first_in};
+ghost use Rattle.acl_terms.specs.KnownAddresses.{AreKnownFor};
+ghost use Rattle.acl_terms.specs.Matching.{IsAddress, IsNamedAddress};
+ghost use Rattle.acl_terms.specs.Sets.{IsSetOf};
+ghost use Rattle.acl_terms.specs.Slips.{network_slip};
+
+use crate::addresses::{Addresses, admitted_addresses, end_of};
+use acl_naming::Checked;
+use acl_policy::WordList;
+use acl_text::{Memory, Refusal};
+use indexmap::IndexMap;
+use std::alloc::Global;
+use std::marker::Model;
+
+/// The addresses of lists of words that terms of a policy had so far, over the definitions of its names.
+///
+/// Many terms name the same networks. Where the words are the same, in the same order and with the same excluded ones, their
+/// addresses are gathered once, and terms share the sets. A contract sees the definitions.
+#[derive(Drop)]
+pub struct KnownAddresses<'a> {
+    base: &'a Checked,
+    lists: IndexMap<(&'a [u8], &'a [u8]), Addresses>,
+}
+
+impl<'a> Model for KnownAddresses<'a> {
+    ghost use Rattle.acl_naming.specs.Definitions.{Naming};
+    ghost use Rattle.acl_terms.specs.KnownAddresses.{AreKnown};
+
+    ghost Value = { Naming };
+
+    ghost view = { λ k. k.base.now };
+
+    ghost invariant = { λ k. AreKnown k.base.now k.lists.entries };
+}
+
+impl<'a> KnownAddresses<'a> {
+    /// No addresses are known.
+    pub fn new(alloc: Global, base: &'a Checked) -> KnownAddresses<'a>
+        ensures { result ≡ base.now }
+    {
+        KnownAddresses {
+            base,
+            lists: IndexMap::new(alloc),
+        }
+    }
+
+    /// The definitions.
+    pub(crate) fn base(&self) -> &'a Checked
+        ensures { result.now ≡ self.now }
+    {
+        self.base
+    }
+
+    // The addresses that are known of words of these texts.
+    fn find(&self, named: &'a [u8], excluded: &'a [u8]) -> Result<Option<Addresses>, Memory>
+        ensures { IfOk result (λ o. IfSome o (AreKnownFor self.now named.now excluded.now)) }
+    {
+        match self.lists.get(&(named, excluded)) {
+            Some(known) => Ok(Some(known.share()?)),
+            None => Ok(None),
+        }
+    }
+
+    // The addresses of words of these texts are known from now on, where they take memory: others are as soon made anew.
+    fn keep(
+        &mut self,
+        named: &'a [u8],
+        excluded: &'a [u8],
+        addresses: &Addresses,
+    ) -> Result<(), Memory>
+        requires { AreKnownFor self.old named.now excluded.now addresses.now }
+        ensures { self.new ≡ self.old }
+    {
+        if addresses.are_many() {
+            let shared = addresses.share()?;
+            self.lists.insert((named, excluded), shared)?;
+        }
+        Ok(())
+    }
+
+    /// The addresses of an end: those of the words, less those of the excluded ones.
+    pub(crate) fn end_of(
+        &mut self,
+        alloc: Global,
+        words: &'a WordList,
+        excludes: &'a WordList,
+    ) -> Result<Addresses, Refusal>
+        ensures judged { Judges result (option_or
+            (first_in (network_slip self.old.networks) words.now)
+            (first_in (network_slip self.old.networks) excludes.now)) }
+        ensures v4 { IfOk result (λ a. IsSetOf (IsAddress self.old V4 words.now excludes.now)
+            (top_address V4) a.v4) }
+        ensures v6 { IfOk result (λ a. IsSetOf (IsAddress self.old V6 words.now excludes.now)
+            (top_address V6) a.v6) }
+        ensures same { self.new ≡ self.old }
+    {
+        let named = words.text();
+        let excluded = excludes.text();
+        if let Some(known) = self.find(named, excluded)? {
+            return Ok(known);
+        }
+        let addresses = end_of(alloc, self.base(), words, excludes)?;
+        self.keep(named, excluded, &addresses)?;
+        Ok(addresses)
+    }
+
+    /// The addresses of the words, or all where no word is written.
+    pub(crate) fn addresses_of(
+        &mut self,
+        alloc: Global,
+        words: &'a WordList,
+    ) -> Result<Addresses, Refusal>
+        ensures judged { Judges result (first_in (network_slip self.old.networks) words.now) }
+        ensures v4 { IfOk result (λ a. IsSetOf (IsNamedAddress self.old V4 words.now)
+            (top_address V4) a.v4) }
+        ensures v6 { IfOk result (λ a. IsSetOf (IsNamedAddress self.old V6 words.now)
+            (top_address V6) a.v6) }
+        ensures same { self.new ≡ self.old }
+    {
+        let named = words.text();
+        let excluded: &'a [u8] = &[];
+        if let Some(known) = self.find(named, excluded)? {
+            return Ok(known);
+        }
+        let addresses = admitted_addresses(alloc, self.base(), words)?;
+        self.keep(named, excluded, &addresses)?;
+        Ok(addresses)
+    }
+}
