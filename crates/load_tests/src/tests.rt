@@ -2,3 +2,4 @@ mod files;
 mod loads;
 mod policies;
 mod reports;
+mod shared_sets;

@@ -13,11 +13,12 @@ loop-block-preserved c =
     let block = c.block-item.result in
     let within : i < length blocks = omega arith in
     let had = c.loop-block.invariant in
-    let given = rw c.as_slice.ensures at c.in_ok-terms.ensures in
+    let given = rw (c.as_slice.ensures, had.same) at c.in_ok-terms.ensures in
     record {
       slip = slip-more (λ (b : Block). terms_slip definitions b.terms) blocks i block block within c.block-item.is
           given.slip had.slip;
       terms = zip-more (λ (b : Block) (ts : List Term). AreResolved definitions b.terms ts) blocks i block block
           c.loop-block.lists c.push.new.self c.in_ok-terms.terms within c.block-item.is c.in_ok-push.ensures.ok
           given.terms had.terms;
+      same = given.same;
     }
