@@ -28,15 +28,15 @@ impl Rows for EntryRow {
     #[inline]
     fn put_rows<O: Out>(&self, out: &mut O) -> Result<(), PutFault> {
         let family = self.family;
-        let entry = self.entry;
+        let entry = &self.entry;
         let source = EndWords {
             family,
-            place: entry.src,
+            place: &entry.src,
             ports: entry.sport,
         };
         let destination = EndWords {
             family,
-            place: entry.dst,
+            place: &entry.dst,
             ports: entry.dport,
         };
         let tests = (
@@ -225,25 +225,35 @@ impl Piece for Protocol {
     }
 }
 
+// The prefix is not copied: a row is written for each pair of them.
 #[derive(Drop)]
-struct EndWords {
+struct EndWords<'a> {
     family: Family,
-    place: Prefix,
+    place: &'a Prefix,
     ports: Option<(u16, u16)>,
 }
 
-impl Words for EndWords {
-    ghost words = { λ e. end_words e.family e.place e.ports };
+impl<'a> Words for EndWords<'a> {
+    ghost words = { λ e. end_words e.family e.place.now e.ports };
 
-    #[tactic(auto, unfolding(crate::specs::Texts::end_words))]
     #[inline]
     fn put_spaced<O: Out>(&self, out: &mut O) -> Result<(), PutFault> {
-        let place = AddressWords {
-            family: self.family,
-            place: self.place,
-        };
-        (place, PortWords { ports: self.ports }).put_spaced(out)
+        put_end(self.family, self.place, self.ports, out)
     }
+}
+
+#[tactic(auto, unfolding(crate::specs::Texts::end_words))]
+fn put_end<O: Out>(
+    family: Family,
+    place: &Prefix,
+    ports: Option<(u16, u16)>,
+    out: &mut O,
+) -> Result<(), PutFault>
+    requires { IsTrue (O.is_open out.old) }
+    ensures { Puts O.Out out.old out.new (spaced (end_words family place.now ports)) result }
+{
+    let place = PlaceWords { family, place };
+    (place, PortWords { ports }).put_spaced(out)
 }
 
 /// The words of an address of a list of the family.
@@ -255,6 +265,25 @@ pub struct AddressWords {
 
 impl Words for AddressWords {
     ghost words = { λ p. address_words p.family p.place };
+
+    #[inline]
+    fn put_spaced<O: Out>(&self, out: &mut O) -> Result<(), PutFault> {
+        let words = PlaceWords {
+            family: self.family,
+            place: &self.place,
+        };
+        words.put_spaced(out)
+    }
+}
+
+#[derive(Drop)]
+struct PlaceWords<'a> {
+    family: Family,
+    place: &'a Prefix,
+}
+
+impl<'a> Words for PlaceWords<'a> {
+    ghost words = { λ p. address_words p.family p.place.now };
 
     #[tactic(auto, unfolding(crate::specs::Texts::address_words))]
     #[inline]
@@ -268,31 +297,25 @@ impl Words for AddressWords {
             };
             put_keyed(b" host ", address, out)
         } else {
-            self.put_masked(out)
+            put_masked(self.family, self.place, out)
         }
     }
 }
 
-impl AddressWords {
-    #[inline]
-    fn put_masked<O: Out>(&self, out: &mut O) -> Result<(), PutFault>
-        requires { IsTrue (O.is_open out.old) }
-        ensures { Puts O.Out out.old out.new
-            (spaced (masked_words self.now.family self.now.place)) result }
-    {
-        match self.family {
-            Family::V4 => {
-                let address = Address {
-                    family: self.family,
-                    address: self.place.first,
-                };
-                let wildcard = Wildcard {
-                    len: self.place.len,
-                };
-                (OneWord { piece: address }, OneWord { piece: wildcard }).put_spaced(out)
-            }
-            Family::V6 => OneWord { piece: self.place }.put_spaced(out),
+fn put_masked<O: Out>(family: Family, place: &Prefix, out: &mut O) -> Result<(), PutFault>
+    requires { IsTrue (O.is_open out.old) }
+    ensures { Puts O.Out out.old out.new (spaced (masked_words family place.now)) result }
+{
+    match family {
+        Family::V4 => {
+            let address = Address {
+                family,
+                address: place.first,
+            };
+            let wildcard = Wildcard { len: place.len };
+            (OneWord { piece: address }, OneWord { piece: wildcard }).put_spaced(out)
         }
+        Family::V6 => OneWord { piece: *place }.put_spaced(out),
     }
 }
 
