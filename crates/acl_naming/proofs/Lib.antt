@@ -4,6 +4,7 @@ pub mod ComputedReachLaws
 pub mod GraphLaws
 pub mod MarkLaws
 pub mod OrderedPorts
+pub mod PlainTable
 pub mod ReachLaws
 pub mod ReadLaws
 pub mod RowLaws

@@ -13,11 +13,11 @@ use Rattle.acl_text.specs.declared.faults.Refusal.TheVariants as refusals
 use Rattle.acl_text.specs.Answers.{Stops, slip_told}
 use Rattle.acl_text.specs.Cursors.{is_white, words_of}
 use Rattle.acl_text.specs.Cuts.{cut_at, has_byte}
-use Rattle.acl_text.proofs.CutLaws.{cut-none, has-not, none-cut}
+use Rattle.acl_text.proofs.CutLaws.{cut-found, cut-none, has-append, has-not, none-cut}
 use Rattle.acl_text.specs.Refusals.{IsRefusalBy, slip}
 use Rattle.acl_naming.specs.declared.item_words.NamingKind.{NamingKind}
 use Rattle.acl_naming.specs.Definitions.{Definition}
-use Rattle.acl_naming.specs.LineSteps.{is_plain}
+use Rattle.acl_naming.specs.LineSteps.{IsPlainDefinition, is_plain}
 use Rattle.acl_naming.specs.NamingFiles.{TableOrSlip, bad_byte, in_front_of, is_bad, line_added, opens, split_added, trimmed, with_definition, with_items, without_comment, without_end}
 
 -- ---- white space at the end
@@ -78,3 +78,33 @@ plain_added kind place is_open ds line h =
 pub plain_opens : (is_open : Bool) (line : List ℕ) → list_all is_plain line ≡ true → opens is_open (without_comment line) ≡ is_open
 plain_opens is_open line h =
     ap (opens is_open) (no_comment line h) ∙ ap (λ b. is_open || b) (has-not is_plain 61 line h refl) ∙ or-false is_open
+
+-- ---- plain definitions
+
+good_joined : (name rest : List ℕ) → list_all is_plain name ≡ true → list_all is_plain rest ≡ true → bad_byte (name ++ 61 ∷ rest) ≡ None
+good_joined [] rest h k = good_bytes rest k
+good_joined (b ∷ bs) rest h k =
+    let p = and_parts (is_plain b) (list_all is_plain bs) h in
+    let q = and_parts (not (is_bad b) && not (b == 35)) (not (b == 61)) p.0 in
+    let good = and_parts (not (is_bad b)) (not (b == 35)) q.0 in
+    cond-false (is_bad b) _ _ (not_true (is_bad b) good.0) ∙ good_joined bs rest p.1 k
+
+no_comment_there : (line name rest : List ℕ) → IsPlainDefinition line name rest → without_comment line ≡ line
+no_comment_there line name rest d =
+    let same = (cut-found 61 line name rest (sym d.cut)).0 in
+    let lacks : has_byte 35 line ≡ false = ap (has_byte 35) same
+    ∙ has-append 35 name (61 ∷ rest) (has-not is_plain 35 name d.name_plain refl) (has-not is_plain 35 rest d.rest_plain refl) in
+    ap (λ o. option_map_or {U = List ℕ} (λ (p : List ℕ × List ℕ). p.0) o line) (cut-none 35 line lacks)
+
+-- a plain definition is its name and its items
+pub defined_added : (kind : NamingKind) (place : Place) (is_open : Bool) (ds : List Definition) (line name rest : List ℕ) → IsPlainDefinition line name rest
+    → line_added kind place is_open ds (without_comment line) ≡ with_definition kind place ds (trimmed name) rest
+defined_added kind place is_open ds line name rest d =
+    ap (line_added kind place is_open ds) (no_comment_there line name rest d)
+    ∙ ap (λ o. option_map_or {U = TableOrSlip} (λ (b : ℕ). Err (slip codes.BadByte place (b ∷ []))) o (split_added kind place is_open ds line))
+    (ap bad_byte (cut-found 61 line name rest (sym d.cut)).0 ∙ good_joined name rest d.name_plain d.rest_plain)
+    ∙ ap (λ o. option_map_or {U = TableOrSlip} (λ (p : List ℕ × List ℕ). with_definition kind place ds (trimmed p.0) p.1) o (with_items kind place is_open ds (words_of line))) (sym d.cut)
+
+pub defined_opens : (is_open : Bool) (line name rest : List ℕ) → IsPlainDefinition line name rest → true ≡ opens is_open (without_comment line)
+defined_opens is_open line name rest d =
+    cut_opens is_open line (name, rest) d.cut ∙ ap (opens is_open) (sym (no_comment_there line name rest d))

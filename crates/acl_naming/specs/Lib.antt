@@ -6,6 +6,7 @@ pub mod ItemWords
 pub mod LineSteps
 pub mod LookupSteps
 pub mod MarkSteps
+pub mod NameTexts
 pub mod NamingFiles
 pub mod PortLaws
 pub mod Ports

@@ -9,11 +9,10 @@ ghost use Rattle.acl_naming.specs.ItemWords.{
   service_ports_in,
 };
 
+use crate::name_texts::NameText;
 use crate::naming_items::{Item, PortsItem, PrefixItem, Reference};
 use acl_packet::protocol_number;
-use acl_text::{
-    Bytes, Memory, Place, contains_byte, is_name, read_ports, read_prefix, split_at_byte,
-};
+use acl_text::{Memory, Place, contains_byte, is_name, read_ports, read_prefix, split_at_byte};
 use std::alloc::Global;
 
 /// What a naming file defines.
@@ -46,7 +45,7 @@ fn read_name(alloc: Global, place: Place, word: &[u8]) -> Result<Option<Item>, M
     if !is_name(word) {
         return Ok(None);
     }
-    let name = Bytes::from_slice(alloc, word)?;
+    let name = NameText::from_slice(alloc, word)?;
     Ok(Some(Item::Name(Reference { place, name })))
 }
 

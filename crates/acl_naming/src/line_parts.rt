@@ -1,6 +1,6 @@
-ghost use Rattle.std.specs.Prelude.{◌≡◌, ◌≤◌};
+ghost use Rattle.std.specs.Prelude.{◌≡◌, ◌≤◌, IfSome};
 ghost use Rattle.std.specs.List.{list_all};
-ghost use Rattle.acl_naming.specs.LineSteps.{is_plain};
+ghost use Rattle.acl_naming.specs.LineSteps.{IsPlainDefinition, is_plain};
 ghost use Rattle.acl_naming.specs.NamingFiles.{bad_byte, is_bad, trimmed, without_comment, without_end};
 
 use acl_text::{is_white, skip_white, split_at_byte};
@@ -21,11 +21,14 @@ fn is_bad(byte: u8) -> bool
     !(33 <= byte && byte <= 126) && !is_white(byte)
 }
 
-// Whether the byte is a good one, and neither `#` nor `=`.
+// For each byte whether it is plain: a good one, and neither `#` nor `=`.
+static PLAIN: [u8; 256] =
+    *b"nnnnnnnnnynnnynnnnnnnnnnnnnnnnnnyyynyyyyyyyyyyyyyyyyyyyyyyyyynyyyyyyyyyyyyyyyyyyyyyyyyyyyyyyyyyyyyyyyyyyyyyyyyyyyyyyyyyyyyyyyyynnnnnnnnnnnnnnnnnnnnnnnnnnnnnnnnnnnnnnnnnnnnnnnnnnnnnnnnnnnnnnnnnnnnnnnnnnnnnnnnnnnnnnnnnnnnnnnnnnnnnnnnnnnnnnnnnnnnnnnnnnnnnnnnn";
+
 fn is_plain(byte: u8) -> bool
     ensures { result ≡ is_plain byte }
 {
-    !is_bad(byte) && byte != b'#' && byte != b'='
+    PLAIN[usize::from(byte)] == b'y'
 }
 
 /// Whether the line is plain, as most lines of items are: it has no comment, no `=` and no bad byte.
@@ -33,6 +36,19 @@ pub fn is_plain_line(line: &[u8]) -> bool
     ensures { result ≡ list_all is_plain line.now }
 {
     line.iter().all(|byte| is_plain(*byte))
+}
+
+/// The text before the `=` of a plain line that begins a definition, and the text behind it: there is no comment, no
+/// other `=` and no bad byte. `None` says nothing.
+pub fn plain_definition(line: &[u8]) -> Option<(&[u8], &[u8])>
+    ensures { IfSome result (λ p. IsPlainDefinition line.now p.0.now p.1.now) }
+{
+    let (name, rest) = split_at_byte(line, b'=')?;
+    if is_plain_line(name) && is_plain_line(rest) {
+        Some((name, rest))
+    } else {
+        None
+    }
 }
 
 /// The first byte that neither is white space nor prints.

@@ -17,7 +17,7 @@ ghost use Rattle.acl_naming.specs.NamingFiles.{
 };
 
 use crate::item_words::{NamingKind, read_item};
-use crate::line_parts::{bad_byte, is_plain_line, trimmed, without_comment};
+use crate::line_parts::{bad_byte, is_plain_line, plain_definition, trimmed, without_comment};
 use crate::tables::Table;
 use acl_text::{Code, Cursor, Place, Refusal, is_name, next_word, split_at_byte};
 use std::alloc::Global;
@@ -96,6 +96,7 @@ impl LineReader {
         self.add_items(table, rest)
     }
 
+    #[inline(always)]
     fn go_on(self, table: &mut Table, is_open: bool, text: &[u8]) -> Result<(), Refusal>
         requires { is_open ≡ true → 0 < length table.old }
         ensures gives { Leaves slip_told table.new result
@@ -146,7 +147,7 @@ impl LineReader {
     }
 
     // The same of a line that may have a comment.
-    #[tactic(auto, using(crate::proofs::ReadLaws::plain_added, crate::proofs::ReadLaws::plain_opens))]
+    #[tactic(auto, using(crate::proofs::ReadLaws::plain_added, crate::proofs::ReadLaws::plain_opens, crate::proofs::ReadLaws::defined_added, crate::proofs::ReadLaws::defined_opens))]
     fn add_whole(self, table: &mut Table, is_open: bool, line: &[u8]) -> Result<bool, Refusal>
         requires { is_open ≡ true → 0 < length table.old }
         ensures gives { Leaves slip_told table.new result
@@ -157,6 +158,10 @@ impl LineReader {
         if is_plain_line(line) {
             self.go_on(table, is_open, line)?;
             return Ok(is_open);
+        }
+        if let Some((name, rest)) = plain_definition(line) {
+            self.define(table, trimmed(name), rest)?;
+            return Ok(true);
         }
         self.add_line(table, is_open, without_comment(line))
     }

@@ -3,16 +3,17 @@ ghost use Rattle.acl_packet.specs.Addresses.{IsPrefix, has_address, top_address}
 ghost use Rattle.acl_sets.specs.Ranges.{IsRange, inside};
 ghost use Rattle.acl_naming.specs.Ports.{has_port, top_port};
 
+use crate::name_texts::NameText;
 use acl_packet::{Family, Prefix};
 use acl_sets::Range;
-use acl_text::{Bytes, Place};
+use acl_text::Place;
 use std::marker::Model;
 
 /// A name that a definition refers to, and the place where it stands.
 #[derive(Drop)]
 pub struct Reference {
     pub place: Place,
-    pub name: Bytes,
+    pub name: NameText,
 }
 
 /// A prefix as an item. A contract sees the prefix.

@@ -8,6 +8,7 @@ use crate::prefixes::block_of;
 use acl_packet::{Family, Prefix};
 
 // How many digits the text begins with, and what they are worth, where that is at most 255.
+#[inline(always)]
 fn digits_front(text: &[u8]) -> Option<(u32, usize)>
     ensures within { IfSome result (λ r. r.1 ≤ length text.now) }
     ensures digits { IfSome result (λ r. all_ascii_digits (take r.1 text.now) ≡ true) }
@@ -28,6 +29,7 @@ fn digits_front(text: &[u8]) -> Option<(u32, usize)>
 }
 
 // The number of a byte that the text begins with, and what stands behind it.
+#[inline(always)]
 fn byte_front(text: &[u8]) -> Option<(u32, &[u8])>
     ensures front { IfSome result (λ r. IsByteFront text.now r.1.now r.0) }
     ensures small { IfSome result (λ r. r.0 ≤ 255) }
