@@ -24,37 +24,87 @@ pub struct EntryRow {
 impl Rows for EntryRow {
     ghost rows = { λ r. item_rows r.family (AnEntry r.entry) };
 
+    #[inline]
+    fn put_rows<O: Out>(&self, out: &mut O) -> Result<(), PutFault> {
+        let entry = &self.entry;
+        let row = EntryParts {
+            family: self.family,
+            permit: entry.permit,
+            proto: entry.proto,
+            src: &entry.src,
+            sport: entry.sport,
+            dst: &entry.dst,
+            dport: entry.dport,
+            itype: entry.itype,
+            icode: entry.icode,
+            flags: entry.flags,
+            log: entry.log,
+        };
+        row.put_rows(out)
+    }
+}
+
+/// The row of an entry whose parts stand apart. The prefixes are not copied: a row is written for
+/// each pair of them.
+#[derive(Drop)]
+pub struct EntryParts<'a> {
+    pub family: Family,
+    pub permit: bool,
+    pub proto: Option<u8>,
+    pub src: &'a Prefix,
+    pub sport: Option<(u16, u16)>,
+    pub dst: &'a Prefix,
+    pub dport: Option<(u16, u16)>,
+    pub itype: Option<u8>,
+    pub icode: Option<u8>,
+    pub flags: Option<Flags>,
+    pub log: bool,
+}
+
+impl<'a> Rows for EntryParts<'a> {
+    ghost rows = { λ r. item_rows r.family (AnEntry (record {
+      permit = r.permit;
+      proto = r.proto;
+      src = r.src.now;
+      sport = r.sport;
+      dst = r.dst.now;
+      dport = r.dport;
+      itype = r.itype;
+      icode = r.icode;
+      flags = r.flags;
+      log = r.log;
+    })) };
+
     #[tactic(auto, unfolding(crate::specs::Texts::item_rows, crate::specs::Texts::entry_words))]
     #[inline]
     fn put_rows<O: Out>(&self, out: &mut O) -> Result<(), PutFault> {
         let family = self.family;
-        let entry = &self.entry;
         let source = EndWords {
             family,
-            place: &entry.src,
-            ports: entry.sport,
+            place: self.src,
+            ports: self.sport,
         };
         let destination = EndWords {
             family,
-            place: &entry.dst,
-            ports: entry.dport,
+            place: self.dst,
+            ports: self.dport,
         };
         let tests = (
             IcmpWords {
-                itype: entry.itype,
-                icode: entry.icode,
+                itype: self.itype,
+                icode: self.icode,
             },
-            (FlagWords { flags: entry.flags }, LogWord { log: entry.log }),
+            (FlagWords { flags: self.flags }, LogWord { log: self.log }),
         );
         let protocol = OneWord {
             piece: Protocol {
                 family,
-                number: entry.proto,
+                number: self.proto,
             },
         };
         let row = Row {
             indent: 1,
-            first: action_word(entry.permit),
+            first: action_word(self.permit),
             rest: (protocol, (source, (destination, tests))),
         };
         row.put_rows(out)
@@ -225,7 +275,6 @@ impl Piece for Protocol {
     }
 }
 
-// The prefix is not copied: a row is written for each pair of them.
 #[derive(Drop)]
 struct EndWords<'a> {
     family: Family,
@@ -236,12 +285,13 @@ struct EndWords<'a> {
 impl<'a> Words for EndWords<'a> {
     ghost words = { λ e. end_words e.family e.place.now e.ports };
 
-    #[inline]
+    #[inline(always)]
     fn put_spaced<O: Out>(&self, out: &mut O) -> Result<(), PutFault> {
         put_end(self.family, self.place, self.ports, out)
     }
 }
 
+#[inline(never)]
 #[tactic(auto, unfolding(crate::specs::Texts::end_words))]
 fn put_end<O: Out>(
     family: Family,

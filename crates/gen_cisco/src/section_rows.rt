@@ -26,7 +26,7 @@ use acl_platform::{
 };
 use acl_rows::{OneWord, Row, RowForm, Rows};
 use acl_text::{Out, PutFault};
-use cisco_lang::{Entry, EntryRow, Flags, ListEnd, ListHead, RemarkRow, SectionHead};
+use cisco_lang::{Entry, EntryParts, EntryRow, Flags, ListEnd, ListHead, RemarkRow, SectionHead};
 
 /// Puts the text of the section that the filter becomes, in an output that has to be open.
 /// Protocols, types and codes of its rules have to be numbers below 256, ports below 65,536.
@@ -223,38 +223,34 @@ struct OfRule<'a> {
 impl<'a> RowForm<Combination> for OfRule<'a> {
     ghost item_rows = { λ f c. item_rows f.rule.now.family (AnEntry (entry_of f.rule.now c)) };
 
+    #[inline]
     fn put_item<O: Out>(&self, item: &Combination, out: &mut O) -> Result<(), PutFault> {
-        let row = EntryRow {
-            family: self.rule.family,
-            entry: entry_of(self.rule, item),
+        let rule = self.rule;
+        let row = EntryParts {
+            family: rule.family,
+            permit: permits(rule.verdict),
+            proto: item.proto,
+            src: &item.src,
+            sport: item.sport,
+            dst: &item.dst,
+            dport: item.dport,
+            itype: item.itype,
+            icode: item.icode,
+            flags: flags_of(rule.test),
+            log: rule.log,
         };
         row.put_rows(out)
     }
 }
 
-fn entry_of(rule: &Rule, combination: &Combination) -> Entry
-    ensures { result ≡ entry_of rule.now combination.now }
-{
-    Entry {
-        permit: permits(rule.verdict),
-        proto: combination.proto,
-        src: combination.src,
-        sport: combination.sport,
-        dst: combination.dst,
-        dport: combination.dport,
-        itype: combination.itype,
-        icode: combination.icode,
-        flags: flags_of(rule.test),
-        log: rule.log,
-    }
-}
-
+#[inline]
 fn permits(verdict: Verdict) -> bool
     ensures { result ≡ permits verdict }
 {
     matches!(verdict, Verdict::Accept)
 }
 
+#[inline]
 fn flags_of(test: Test) -> Option<Flags>
     ensures { result ≡ flags_of test }
 {
