@@ -3,6 +3,7 @@ pub mod CheckLaws
 pub mod ComputedReachLaws
 pub mod GraphLaws
 pub mod MarkLaws
+pub mod MarkedWords
 pub mod OrderedPorts
 pub mod PlainTable
 pub mod ReachLaws

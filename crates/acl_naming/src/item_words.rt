@@ -1,4 +1,5 @@
-ghost use Rattle.std.specs.Prelude.{◌≡◌, option_map, IfOk};
+ghost use Rattle.std.specs.Prelude.{◌≡◌, ◌==◌, ◌||◌, option_map, IfOk};
+ghost use Rattle.std.specs.List.{list_any};
 ghost use Rattle.acl_text.specs.AddressTexts.{prefix_in};
 ghost use Rattle.acl_naming.specs.declared.naming_items.Item.TheVariants.{Network, Service};
 ghost use Rattle.acl_naming.specs.ItemWords.{
@@ -63,11 +64,18 @@ fn service(word: &[u8]) -> Option<Item>
     Some(Item::Service(ports))
 }
 
-#[tactic(auto, unfolding(crate::specs::ItemWords::network_in))]
+// Whether the word has `.` or `:`, as those of addresses do.
+fn has_mark(word: &[u8]) -> bool
+    ensures { result ≡ list_any (λ b. b == 46 || b == 58) word.now }
+{
+    word.iter().any(|byte| *byte == b'.' || *byte == b':')
+}
+
+#[tactic(auto, unfolding(crate::specs::ItemWords::network_in), using(crate::proofs::MarkedWords::either))]
 fn read_network(alloc: Global, place: Place, word: &[u8]) -> Result<Option<Item>, Memory>
     ensures { IfOk result (λ o. o ≡ network_in place word.now) }
 {
-    if contains_byte(word, b'.') || contains_byte(word, b':') {
+    if has_mark(word) {
         Ok(network(word))
     } else {
         read_name(alloc, place, word)
