@@ -59,6 +59,9 @@ impl<'a> KnownAddresses<'a> {
     fn find(&self, named: &'a [u8], excluded: &'a [u8]) -> Result<Option<Addresses>, Memory>
         ensures { IfOk result (λ o. IfSome o (AreKnownFor self.now named.now excluded.now)) }
     {
+        if self.lists.is_empty() {
+            return Ok(None);
+        }
         match self.lists.get(&(named, excluded)) {
             Some(known) => Ok(Some(known.share()?)),
             None => Ok(None),

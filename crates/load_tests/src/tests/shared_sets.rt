@@ -1,4 +1,4 @@
-use crate::tests::files::{Files, loaded, tree_of};
+use crate::tests::files::{loaded, tree_of};
 use acl_host::Tree;
 use acl_load::Loaded;
 use acl_sets::Range;
@@ -7,7 +7,7 @@ use std::alloc::Global;
 use std::test::Fail;
 
 // Terms of two blocks that name the same networks: on either end, with excluded ones, in another order, and of either end.
-static FILES: Files = &[
+static FILES: [(&str, &[u8]); 2] = [
     (
         "def/n.net",
         b"HOSTS = 10.0.0.1 10.0.0.3 10.0.0.5 10.0.0.7 10.0.0.9
@@ -156,7 +156,7 @@ fn loads_sets<T: Tree>(alloc: Global, tree: &mut T) -> bool {
 
 #[test]
 fn terms_of_the_same_names_have_the_same_sets(rt: HostRuntime) -> Result<(), Fail> {
-    let mut tree = tree_of(rt.alloc(), FILES)?;
+    let mut tree = tree_of(rt.alloc(), &FILES)?;
     assert!(rt; loads_sets(rt.alloc(), &mut tree));
     Ok(())
 }
