@@ -4,4 +4,5 @@ pub mod DefinitionsThere
 pub mod FaultLineLaws
 pub mod LoadLaws
 pub mod LoadedLaws
+mod LookLaws
 pub mod OneAnswer

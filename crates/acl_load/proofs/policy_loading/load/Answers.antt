@@ -5,6 +5,7 @@ use Rattle.acl_text.specs.Answers.{Gives, fault_told}
 use Rattle.acl_text.specs.declared.faults.Rejection.{Rejection}
 use Rattle.acl_load.specs.LoadedPolicies.{policy_at}
 use Rattle.acl_load.proofs.LoadedLaws.{loaded-told, stand-there, text-told}
+use Rattle.acl_load.proofs.LookLaws.{looks-behind}
 use Rattle.acl_load.proofs.policy_loading.load.Goals as goal
 
 pub returns-in_err-text-clause-loads : goal.returns-in_err-text-clause-loads
@@ -14,6 +15,11 @@ returns-in_err-text-clause-loads g c =
     text-told (g.T.Tree.files c.args.tree.now) c.args.folder.now path c.in_ok-definitions.definitions c.in_err-text.field-0.0 c.policy_at.result
     c.from_residual-in_err-text.result c.in_ok-definitions.ensures.loads c.in_err-text.was
     (subst Reads c.load_definitions.ensures.looks.only.looks.files_stay c.policy_at.ensures.gives) c.from_residual-in_err-text.ensures.1
+
+pub returns-in_err-text-clause-looks : goal.returns-in_err-text-clause-looks
+returns-in_err-text-clause-looks g c =
+    looks-behind _ c.args.tree.now c.load_definitions.new.tree c.policy_at.new.tree c.in_ok-definitions.definitions c.in_err-text.field-0.0
+    c.from_residual-in_err-text.result c.in_ok-definitions.ensures.looks c.in_err-text.ensures.reads c.from_residual-in_err-text.ensures.1
 
 pub returns-clause-loads : goal.returns-clause-loads
 returns-clause-loads g c =
