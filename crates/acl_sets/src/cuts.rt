@@ -21,6 +21,9 @@ fn longest_block(first: u128, last: u128) -> FreeBlock
     ensures longest { IsLongest first last result.free }
     ensures last { result.last + 1 ≡ first + 2 ^ result.free }
 {
+    if first == last {
+        return FreeBlock { free: 0, last };
+    }
     let free = first.trailing_zeros().min(most_free(last - first));
     FreeBlock {
         free: free as u8,

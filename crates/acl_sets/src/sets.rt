@@ -84,6 +84,12 @@ impl RangeSet {
         ensures exact { IfOk result (λ s. (x : ℕ) → holds s.ranges x ≡ holds ranges.items x) }
         ensures computed { IfOk result (λ s. s.ranges ≡ put_all ranges.items []) }
     {
+        if let [range] = ranges.as_slice() {
+            return Ok(RangeSet {
+                limit: top,
+                list: RangeList::of_one(*range),
+            });
+        }
         let rising = sweeps::sorted(ranges);
         let merged = sweeps::merged(alloc, &rising)?;
         Ok(RangeSet {

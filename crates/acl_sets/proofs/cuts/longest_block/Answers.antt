@@ -1,6 +1,12 @@
-use Rattle.std.proofs.Common.{arith}
+use Rattle.std.proofs.Common.{◌≡◌, arith}
 use Rattle.acl_sets.proofs.CutFacts.{longest}
 use Rattle.acl_sets.proofs.cuts.longest_block.Goals as goal
+
+pub returns-then-first-last-clause-longest : goal.returns-then-first-last-clause-longest
+returns-then-first-last-clause-longest c =
+    let alone : c.args.first ≡ c.args.last = c.if-first-last.true in
+    longest c.args.first c.args.last 0 0 c.requires (omega (arith, c.ranges.first.fits)) (omega arith)
+    (omega (arith, alone)) (omega arith) (omega arith)
 
 pub returns-clause-longest : goal.returns-clause-longest
 returns-clause-longest c =

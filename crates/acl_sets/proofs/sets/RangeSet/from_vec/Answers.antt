@@ -2,8 +2,8 @@ use Rattle.std.proofs.Common.{◌∙◌}
 use Rattle.acl_sets.proofs.SweepFacts.{merged-computed, ranges-normal, ranges-holds}
 use Rattle.acl_sets.proofs.sets.RangeSet.from_vec.Goals as goal
 
-pub invariant_of-result : goal.invariant_of-result
-invariant_of-result c =
+pub invariant_of-result-2 : goal.invariant_of-result-2
+invariant_of-result-2 c =
     ranges-normal c.args.top c.args.ranges.items _ c.requires
     (merged-computed c.args.top c.args.ranges.items _ _ _ c.requires c.sorted-rising.ensures.same
     c.sorted-rising.ensures.rising c.deref.ensures.value (c.in_ok-new.ensures ∙ c.in_ok-merged.ensures))
