@@ -41,7 +41,6 @@ impl Model for Base {
 }
 
 /// Definitions of which each name is defined and none reaches itself. A contract sees what it sees of a `Base`.
-#[derive(Drop)]
 pub struct Checked {
     networks: LinkedTable,
     services: LinkedTable,
@@ -53,6 +52,15 @@ impl Model for Checked {
     ghost Value = { Naming };
 
     ghost view = { λ c. record { networks = c.networks; services = c.services } };
+}
+
+// Where they are let go, that is one step, whatever they hold.
+impl Drop for Checked {
+    fn drop(self) {
+        let Checked { networks, services } = self;
+        drop(networks);
+        drop(services);
+    }
 }
 
 impl Base {

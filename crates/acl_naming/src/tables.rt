@@ -22,7 +22,6 @@ pub struct TableEntry {
 /// The definitions of one kind, in order of appearance. A contract sees their list.
 ///
 /// The items of all stand one behind the other, since only the last definition gets more.
-#[derive(Drop)]
 pub struct Table {
     alloc: Global,
     kept: IndexMap<Vec<u8>, TableEntry>,
@@ -40,6 +39,19 @@ impl Model for Table {
     ghost view = { λ t. definitions_of t.kept.entries t.items };
 
     ghost invariant = { λ t. AreLaid t.kept.entries t.items };
+}
+
+// Where a table is let go, that is one step, whatever it holds.
+impl Drop for Table {
+    fn drop(self) {
+        let Table {
+            alloc: _alloc,
+            kept,
+            items,
+        } = self;
+        drop(kept);
+        drop(items);
+    }
 }
 
 // Where the items of the definition at the index begin; the end, where there is none.
