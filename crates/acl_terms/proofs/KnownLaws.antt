@@ -51,7 +51,7 @@ admits-same Q [] (w ∷ ws) is a = absurd (omega (arith, ap length is))
 admits-same Q (v ∷ vs) [] is a = tt
 admits-same Q (v ∷ vs) (w ∷ ws) is a = any-same Q (v ∷ vs) (w ∷ ws) is a
 
-none-both : {X : Type 0} (a b : Option X) → a ≡ None → b ≡ None → option_or a b ≡ None
+pub none-both : {X : Type 0} (a b : Option X) → a ≡ None → b ≡ None → option_or a b ≡ None
 none-both a b e f = ap (λ o. option_or o b) e ∙ f
 
 slip-same : (question : Word → Option Slip) → AsksText question → (vs ws : List Word) → texts vs ≡ texts ws

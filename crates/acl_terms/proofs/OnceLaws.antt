@@ -1,5 +1,5 @@
 -- One more number or text that is taken once.
-use Rattle.std.proofs.Common.{◌≡◌, ◌⊎◌, ℕ, ◌+◌, ◌<◌, ◌≤◌, Bool, true, false, not, ◌==◌, ◌||◌, List, [], ◌∷◌, ◌++◌, length, drop, get_or, replicate, slice_set, inl, inr, refl, ap, sym, subst, ◌∙◌}
+use Rattle.std.proofs.Common.{◌≡◌, ◌⊎◌, ℕ, ◌+◌, ◌<◌, ◌≤◌, Bool, true, false, not, ◌==◌, ◌||◌, List, [], ◌∷◌, ◌++◌, length, drop, get_or, replicate, slice_set, Option, None, Some, MatchOption, option_to_list, inl, inr, refl, ap, sym, subst, ◌∙◌}
 use Rattle.std.specs.List.{list_any}
 use Rattle.std.specs.Str.{bytes_eq}
 use Rattle.std.specs.Borrow.{Bor}
@@ -7,6 +7,7 @@ use Rattle.std.proofs.lemmas.Bool.{cond-false, cond-true, eq-eqb, eqb-true, or_c
 use Rattle.std.proofs.lemmas.List.{drop_all, drop_more, map-append}
 use Rattle.std.proofs.lemmas.Bool.Decides.{same_from_decides}
 use Rattle.std.proofs.lemmas.List.Folds.{list_any-append}
+use Rattle.std.proofs.lemmas.Option.{none-some}
 use Rattle.indexmap.specs.IndexSet.{insert_key}
 use Rattle.acl_text.specs.Cuts.{views}
 use Rattle.acl_naming.specs.MarkSteps.{marked}
@@ -125,6 +126,18 @@ text-is-new keys keys' v w words old is put new left =
     ap views more ∙ map-append (λ (k : Key). k.now) keys (v ∷ []) ∙ ap (λ t. views keys ++ t ∷ []) is in
     ap (new_words (views keys)) left ∙ cond-false (list_any (bytes_eq w.text) (views keys)) _ _ unseen
     ∙ ap (λ ts. w ∷ new_words ts words) (sym seen)
+
+-- The words that were left, where the next one is taken out.
+pub rest-ahead : (o : Option Word) (old new : List Word) → MatchOption o ((old ≡ []) × (new ≡ [])) (λ w. old ≡ w ∷ new)
+    → old ≡ option_to_list o ++ new
+rest-ahead None old new h = h.0 ∙ sym h.1
+rest-ahead (Some w) old new h = h
+
+-- Where none was, none is left.
+pub none-ahead : (o : Option Word) (old new : List Word) → MatchOption o ((old ≡ []) × (new ≡ [])) (λ w. old ≡ w ∷ new)
+    → o ≡ None → new ≡ []
+none-ahead None old new h e = h.1
+none-ahead (Some w) old new h e = absurd (none-some w (sym e))
 
 pub text-was-seen : (keys keys' : List Key) (v : Key) (w : Word) (words old : List Word) → v.now ≡ w.text
     → keys' ≡ insert_key same_key keys v → false ≡ not (list_any (same_key v) keys) → old ≡ w ∷ words

@@ -1,11 +1,11 @@
-ghost use Rattle.std.specs.Prelude.{◌≡◌, IfOk, OnOk};
-ghost use Rattle.std.specs.Option.{option_or};
+ghost use Rattle.std.specs.Prelude.{◌≡◌, List, IfOk, OnOk};
 ghost use Rattle.acl_packet.specs.declared.addresses.Family.TheVariants.{V4, V6};
 ghost use Rattle.acl_packet.specs.Addresses.{top_address};
 ghost use Rattle.acl_text.specs.Refusals.{Judges, first_in};
 ghost use Rattle.acl_naming.specs.declared.reaching.Wanted.TheVariants as wanted;
 ghost use Rattle.acl_naming.specs.LookupSteps.{AddsReach};
-ghost use Rattle.acl_terms.specs.Matching.{Admits, AnyOf, IsAddress, NamesAddress};
+ghost use Rattle.acl_words.specs.declared.word_lists.Word.{Word};
+ghost use Rattle.acl_terms.specs.Matching.{Admits, AnyOf, IsAddress, IsNamedAddress, NamesAddress};
 ghost use Rattle.acl_terms.specs.Sets.{IsSetOf};
 ghost use Rattle.acl_terms.specs.Slips.{network_slip};
 
@@ -113,29 +113,32 @@ pub(crate) fn admitted_addresses(
     }
 }
 
-/// The addresses of an end: those of the words, less the excluded ones. Where none is excluded nothing is copied.
+/// The addresses of an end: those that some words name, less those of the excluded words. Where none is excluded nothing
+/// is copied.
 pub(crate) fn end_of(
     alloc: Global,
     base: &Checked,
-    words: &WordList,
+    named: Addresses,
     excludes: &WordList,
 ) -> Result<Addresses, Refusal>
-    ensures judged { Judges result (option_or (first_in (network_slip base.now.networks) words.now)
-        (first_in (network_slip base.now.networks) excludes.now)) }
-    ensures v4 { IfOk result (λ a. IsSetOf (IsAddress base.now V4 words.now excludes.now)
-        (top_address V4) a.v4) }
-    ensures v6 { IfOk result (λ a. IsSetOf (IsAddress base.now V6 words.now excludes.now)
-        (top_address V6) a.v6) }
+    requires v4 { named.v4.top ≡ top_address V4 }
+    requires v6 { named.v6.top ≡ top_address V6 }
+    ensures judged { Judges result (first_in (network_slip base.now.networks) excludes.now) }
+    ensures v4 { IfOk result (λ a. (words : List Word)
+        → IsSetOf (IsNamedAddress base.now V4 words) (top_address V4) named.v4
+        → IsSetOf (IsAddress base.now V4 words excludes.now) (top_address V4) a.v4) }
+    ensures v6 { IfOk result (λ a. (words : List Word)
+        → IsSetOf (IsNamedAddress base.now V6 words) (top_address V6) named.v6
+        → IsSetOf (IsAddress base.now V6 words excludes.now) (top_address V6) a.v6) }
 {
-    let taken = admitted_addresses(alloc, base, words)?;
     match excludes.first() {
-        None => Ok(taken),
+        None => Ok(named),
         Some(_) => {
             let excluded = addresses_of_words(alloc, base, excludes)?;
             Ok(Addresses {
-                v4: taken.v4.subtract(alloc, &excluded.v4)?,
-                v6: taken.v6.subtract(alloc, &excluded.v6)?,
-                gathered: taken.gathered.saturating_add(excluded.gathered),
+                v4: named.v4.subtract(alloc, &excluded.v4)?,
+                v6: named.v6.subtract(alloc, &excluded.v6)?,
+                gathered: named.gathered.saturating_add(excluded.gathered),
             })
         }
     }

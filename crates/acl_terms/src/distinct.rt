@@ -1,4 +1,4 @@
-ghost use Rattle.std.specs.Prelude.{◌≡◌, ℕ, ◌==◌, ◌||◌, false, length, replicate, IfOk, OnOk};
+ghost use Rattle.std.specs.Prelude.{◌≡◌, ℕ, ◌==◌, ◌||◌, length, IfOk, OnOk};
 ghost use Rattle.acl_terms.specs.DistinctSteps.{AreMarked, AreSame, has};
 
 use acl_text::Memory;
@@ -22,17 +22,11 @@ fn take(seen: &mut [bool], out: &mut Vec<u8>, number: u8) -> Result<(), Memory>
     Ok(())
 }
 
-fn no_marks(alloc: Global) -> Result<Vec<bool>, Memory>
-    ensures { IfOk result (λ v. v.items ≡ replicate 256 false) }
-{
-    Ok(vec![in alloc; false; 256]?)
-}
-
 /// The same numbers, each once.
 pub(crate) fn distinct(alloc: Global, numbers: &[u8]) -> Result<Vec<u8>, Memory>
     ensures { IfOk result (λ v. AreSame v.items numbers.now) }
 {
-    let mut seen = no_marks(alloc)?;
+    let mut seen = [false; 256];
     let mut out = Vec::new(alloc);
     for number in numbers {
         take(&mut seen, &mut out, *number)?;

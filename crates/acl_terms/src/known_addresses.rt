@@ -85,32 +85,6 @@ impl<'a> KnownAddresses<'a> {
         Ok(())
     }
 
-    /// The addresses of an end: those of the words, less those of the excluded ones.
-    pub(crate) fn end_of(
-        &mut self,
-        alloc: Global,
-        words: &'a WordList,
-        excludes: &'a WordList,
-    ) -> Result<Addresses, Refusal>
-        ensures judged { Judges result (option_or
-            (first_in (network_slip self.old.networks) words.now)
-            (first_in (network_slip self.old.networks) excludes.now)) }
-        ensures v4 { IfOk result (λ a. IsSetOf (IsAddress self.old V4 words.now excludes.now)
-            (top_address V4) a.v4) }
-        ensures v6 { IfOk result (λ a. IsSetOf (IsAddress self.old V6 words.now excludes.now)
-            (top_address V6) a.v6) }
-        ensures same { self.new ≡ self.old }
-    {
-        let named = words.text();
-        let excluded = excludes.text();
-        if let Some(known) = self.find(named, excluded)? {
-            return Ok(known);
-        }
-        let addresses = end_of(alloc, self.base(), words, excludes)?;
-        self.keep(named, excluded, &addresses)?;
-        Ok(addresses)
-    }
-
     /// The addresses of the words, or all where no word is written.
     pub(crate) fn addresses_of(
         &mut self,
@@ -131,6 +105,34 @@ impl<'a> KnownAddresses<'a> {
         }
         let addresses = admitted_addresses(alloc, self.base(), words)?;
         self.keep(named, excluded, &addresses)?;
+        Ok(addresses)
+    }
+
+    /// The addresses of an end: those of the words, less those of the excluded ones.
+    pub(crate) fn end_of(
+        &mut self,
+        alloc: Global,
+        words: &'a WordList,
+        excludes: &'a WordList,
+    ) -> Result<Addresses, Refusal>
+        ensures judged { Judges result (option_or
+            (first_in (network_slip self.old.networks) words.now)
+            (first_in (network_slip self.old.networks) excludes.now)) }
+        ensures v4 { IfOk result (λ a. IsSetOf (IsAddress self.old V4 words.now excludes.now)
+            (top_address V4) a.v4) }
+        ensures v6 { IfOk result (λ a. IsSetOf (IsAddress self.old V6 words.now excludes.now)
+            (top_address V6) a.v6) }
+        ensures same { self.new ≡ self.old }
+    {
+        if excludes.first().is_none() {
+            return self.addresses_of(alloc, words);
+        }
+        if let Some(known) = self.find(words.text(), excludes.text())? {
+            return Ok(known);
+        }
+        let named = self.addresses_of(alloc, words)?;
+        let addresses = end_of(alloc, self.base(), named, excludes)?;
+        self.keep(words.text(), excludes.text(), &addresses)?;
         Ok(addresses)
     }
 }

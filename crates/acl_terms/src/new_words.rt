@@ -12,36 +12,45 @@ use std::marker::Model;
 #[derive(Drop)]
 pub(crate) struct NewWords<'a> {
     seen: IndexSet<&'a [u8]>,
+    ahead: Option<WordRef<'a>>,
     words: WordsLeft<'a>,
 }
 
 impl<'a> Model for NewWords<'a> {
-    ghost use Rattle.std.specs.Prelude.{List};
+    ghost use Rattle.std.specs.Prelude.{◌≡◌, List, [], ◌++◌, None, option_to_list};
     ghost use Rattle.acl_text.specs.Cuts.{views};
     ghost use Rattle.acl_words.specs.declared.word_lists.Word.{Word};
     ghost use Rattle.acl_terms.specs.DistinctSteps.{new_words};
 
     ghost Value = { List Word };
 
-    ghost view = { λ s. new_words (views s.seen.keys) s.words };
+    ghost view = { λ s. new_words (views s.seen.keys) (option_to_list s.ahead ++ s.words) };
+
+    ghost invariant = { λ s. s.ahead ≡ None → s.words ≡ [] };
 }
 
 impl<'a> NewWords<'a> {
     pub(crate) fn new(alloc: Global, words: &'a WordList) -> NewWords<'a>
         ensures { result ≡ new_words [] words.now }
     {
+        let mut words = words.iter();
         NewWords {
             seen: IndexSet::new(alloc),
-            words: words.iter(),
+            ahead: words.next(),
+            words,
         }
     }
 
-    /// The next word whose text was not given before.
+    /// The next word whose text was not given before. A word that stands alone, as most do, is compared with none.
     pub(crate) fn next(&mut self) -> Result<Option<WordRef<'a>>, Memory>
         ensures some { IfOk result (λ o. IfSome o (λ w. self.old ≡ w ∷ self.new)) }
         ensures none { IfOk result (λ o. IfNone o (self.old ≡ [])) }
     {
-        while let Some(word) = self.words.next() {
+        while let Some(word) = self.ahead.take() {
+            self.ahead = self.words.next();
+            if self.ahead.is_none() && self.seen.is_empty() {
+                return Ok(Some(word));
+            }
             if self.seen.insert(word.text())? {
                 return Ok(Some(word));
             }

@@ -1,4 +1,5 @@
-ghost use Rattle.std.specs.Prelude.{◌≡◌, ◌≢◌, [], IfOk};
+ghost use Rattle.std.specs.Prelude.{◌≡◌, ◌≢◌, ◌||◌, ℕ, [], IfOk};
+ghost use Rattle.acl_sets.specs.Ranges.{IsNormal, holds};
 ghost use Rattle.acl_text.specs.Refusals.{Judges, first_in};
 ghost use Rattle.acl_naming.specs.Ports.{top_port};
 ghost use Rattle.acl_naming.specs.Reach.{ReachesPort};
@@ -13,7 +14,7 @@ use crate::new_words::NewWords;
 use acl_naming::{Checked, Lookup, ports_of};
 use acl_policy::{RawTerm, WordList, WordRef};
 use acl_sets::RangeSet;
-use acl_text::{Code, Refusal};
+use acl_text::{Code, Memory, Refusal};
 use std::alloc::Global;
 
 // The highest port.
@@ -47,6 +48,20 @@ fn ports_at(
     }
 }
 
+// The numbers of both sets. Where the first has none yet, nothing is made.
+fn joined(alloc: Global, set: RangeSet, more: RangeSet) -> Result<RangeSet, Memory>
+    requires { more.top ≡ set.top }
+    ensures top { IfOk result (λ s. s.top ≡ set.top) }
+    ensures normal { IfOk result (λ s. IsNormal 0 s.top s.ranges) }
+    ensures exact { IfOk result (λ s. (x : ℕ) → holds s.ranges x
+        ≡ (holds set.ranges x || holds more.ranges x)) }
+{
+    if set.is_empty() {
+        return Ok(more);
+    }
+    set.union(alloc, &more)
+}
+
 // The ports that it reaches with some of the protocols.
 fn ports_by(
     alloc: Global,
@@ -63,7 +78,7 @@ fn ports_by(
     let mut out = RangeSet::empty(alloc, TOP);
     for proto in protos {
         let more = ports_at(alloc, base, *proto, word)?;
-        out = out.union(alloc, &more)?;
+        out = joined(alloc, out, more)?;
     }
     Ok(out)
 }
@@ -86,7 +101,7 @@ fn ports_of_words(
     let mut left = NewWords::new(alloc, words);
     while let Some(word) = left.next()? {
         let more = ports_by(alloc, base, protos, &word)?;
-        out = out.union(alloc, &more)?;
+        out = joined(alloc, out, more)?;
     }
     Ok(out)
 }

@@ -4,7 +4,7 @@ use Rattle.acl_terms.proofs.distinct.distinct.Goals as goal
 
 pub loop-number-init : goal.loop-number-init
 loop-number-init c = rw c.new-out.ensures.items (
-    let none = nothing-marked c.in_ok-seen.seen.items c.in_ok-seen.ensures in
+    let none = nothing-marked _ refl in
     record {
       marks = none.0;
       long = none.1;

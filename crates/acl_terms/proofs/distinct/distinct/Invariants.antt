@@ -4,7 +4,7 @@ use Rattle.acl_terms.proofs.distinct.distinct.Given as goal
 
 abbrev pub invariant-loop-number : goal.invariant-loop-number
 invariant-loop-number l = record {
-  marks : AreMarked l.seen.items l.out.items;
-  long : length l.seen.items ≡ 256;
+  marks : AreMarked l.seen l.out.items;
+  long : length l.seen ≡ 256;
   same : (n : ℕ) → (has n l.out.items || has n (drop l.number-index l.numbers)) ≡ has n l.numbers;
 }
