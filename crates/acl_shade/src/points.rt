@@ -1,4 +1,4 @@
-ghost use Rattle.std.specs.Prelude.{◌≡◌, ℕ, ◌<◌, ◌≤◌, IfOk, OnOk, length, slice_index};
+ghost use Rattle.std.specs.Prelude.{◌≡◌, ℕ, ◌<◌, ◌≤◌, true, IfOk, OnOk, length, slice_index};
 ghost use Rattle.std.specs.List.Sorted.{IsNonDecreasing};
 
 use crate::parts::{Part, part_of};
@@ -10,15 +10,28 @@ use std::alloc::Global;
 // No more numbers are looked at: a row for each of them takes 4.5 MB at 1,024 terms.
 const MOST: usize = 35_000;
 
-/// The place of the first of the rising numbers that is not below this one. Most often it is the one named.
+// Whether the first of the rising numbers that is not below this one stands at the place.
+fn is_start(points: &[u128], at: usize, low: u128) -> bool
+    ensures within { result ≡ true → at < length points.now }
+    ensures below { result ≡ true → IsNonDecreasing points.now → (k : ℕ) → k < at
+        → slice_index points.now k < low }
+    ensures above { result ≡ true → low ≤ slice_index points.now at }
+{
+    at < points.len() && low <= points[at] && (at == 0 || points[at - 1] < low)
+}
+
+/// The place of the first of the rising numbers that is not below this one. Most often it is the one named, or the next.
 pub(crate) fn start_of(points: &[u128], near: usize, low: u128) -> usize
     ensures within { result ≤ length points.now }
     ensures below { IsNonDecreasing points.now → (k : ℕ) → k < result → slice_index points.now k < low }
     ensures above { IsNonDecreasing points.now → result < length points.now
         → low ≤ slice_index points.now result }
 {
-    if near < points.len() && low <= points[near] && (near == 0 || points[near - 1] < low) {
+    if is_start(points, near, low) {
         return near;
+    }
+    if near < points.len() && is_start(points, near + 1, low) {
+        return near + 1;
     }
     points.partition_point(|point| *point < low)
 }
