@@ -126,7 +126,7 @@ fn resolve_terms<'a>(
     ensures terms { IfOk result (AreResolved known.old raws.now) }
     ensures same { known.new ≡ known.old }
 {
-    let mut terms = Items::new(alloc);
+    let mut terms = Items::with_capacity(alloc, raws.len())?;
     for raw in raws {
         let term = resolve_with(alloc, raw, known)?;
         terms.push(term)?;
