@@ -1,6 +1,7 @@
 pub mod ApartLaws
 pub mod DecisionLaws
 pub mod EachWordLaws
+pub mod HalfLaws
 pub mod JoinLaws
 pub mod ListLaws
 pub mod NamingLaws

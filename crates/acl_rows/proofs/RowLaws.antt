@@ -5,9 +5,11 @@ use Rattle.std.proofs.lemmas.Bool.Decides.{Decides-eqb}
 use Rattle.std.proofs.lemmas.List.Splits.{join_with_byte-slice_split}
 use Rattle.std.proofs.lemmas.List.Sums.{fold-append}
 use Rattle.std.proofs.lemmas.List.{length-append}
+use Rattle.std.proofs.lemmas.Grind.{flat_map-append}
 use Rattle.acl_text.specs.Cuts.{cut_at, has_byte}
 use Rattle.acl_text.proofs.CutLaws.{cut-again, cut-found, has-append, none-cut}
 use Rattle.acl_rows.specs.Rows.{Row, row, spaced, row_line, row_text, text_of_rows, is_space, words_in}
+use Rattle.acl_rows.specs.RowHalves.{row_back, row_front}
 use Rattle.acl_rows.specs.RowSteps.{row_in, rows_in, IsWord, begins, IsRow}
 
 -- ---- words with one space between
@@ -34,6 +36,14 @@ free_spaced text =
 pub row_parts : (n : ℕ) (w : List ℕ) (ws : List (List ℕ)) → ((replicate n 32 ++ w) ++ spaced ws) ++ 10 ∷ [] ≡ row_text (row n (w ∷ ws))
 unfolding row_text
 row_parts n w ws = ap (λ t. t ++ 10 ∷ []) (append_assoc (replicate n 32) w (spaced ws) ∙ ap (λ t. replicate n 32 ++ t) (join_spaced w ws))
+
+-- the text of a row whose words stand apart
+pub row_halves : (n : ℕ) (w : List ℕ) (ws vs : List (List ℕ)) → row_text (row n (w ∷ (ws ++ vs))) ≡ row_front n w ws ++ row_back vs
+unfolding row_front row_back
+row_halves n w ws vs =
+    let front = replicate n 32 ++ w in
+    sym (row_parts n w (ws ++ vs)) ∙ ap (λ t. (front ++ t) ++ 10 ∷ []) (flat_map-append (λ (v : List ℕ). 32 ∷ v) ws vs)
+    ∙ ap (λ t. t ++ 10 ∷ []) (sym (append_assoc front (spaced ws) (spaced vs))) ∙ append_assoc (front ++ spaced ws) (spaced vs) (10 ∷ [])
 
 one_space_more : (n : ℕ) (text : List ℕ) → replicate n 32 ++ 32 ∷ text ≡ replicate (suc n) 32 ++ text
 one_space_more zero text = refl

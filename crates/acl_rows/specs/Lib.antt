@@ -2,9 +2,11 @@ pub mod ApartSteps
 pub mod ComparingSteps
 pub mod Documents
 pub mod FamilyWords
+pub mod LineHalfSteps
 pub mod PortRangeSteps
 pub mod PortRanges
 pub mod PrefixCheckSteps
+pub mod RowHalves
 pub mod RowSteps
 pub mod Rows
 pub mod ScanSteps

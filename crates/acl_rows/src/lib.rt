@@ -11,11 +11,13 @@ mod family_words;
 mod item_lists;
 mod languages;
 mod laws;
+mod line_halves;
 mod line_texts;
 mod named;
 mod pieces;
 mod port_ranges;
 mod prefix_checks;
+mod row_halves;
 mod row_words;
 mod rows;
 mod rule_parts;
@@ -32,10 +34,12 @@ pub use laws::{
     a_document_has_one_text, a_text_has_one_document, joined_documents_keep_outcomes,
     joined_texts_spell_joined_documents, the_empty_text_has_no_section,
 };
+pub use line_halves::{LineHalves, put_pairs};
 pub use named::{Named, have_distinct_names};
 pub use pieces::{Address, FreeText, Number, OneWord, Piece, Wildcard, Words, put_words};
 pub use port_ranges::{PortRange, RangeWords, are_port_ranges, is_port_range};
 pub use prefix_checks::{is_addresses, is_prefix_of};
+pub use row_halves::{RowBack, RowFront};
 pub use row_words::RowWords;
 pub use rows::{AsRows, Each, Row, RowForm, Rows};
 pub use rule_parts::{

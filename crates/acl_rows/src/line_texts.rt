@@ -1,7 +1,6 @@
 ghost use Rattle.std.specs.Prelude.{◌≡◌, ◌≤◌, [], true, false, Some, IsTrue, take, length, if◌then◌else◌};
 
 use acl_text::{Out, PutFault};
-use std::marker::Model;
 
 // So many bytes have room: more than a row of a device has, and few enough to be cleared in no time.
 const ROOM: usize = 192;
@@ -9,27 +8,19 @@ const ROOM: usize = 192;
 /// The text of a line that is put together before it is put.
 ///
 /// It refuses what it has no room for, and from then on nothing more may be put.
-#[derive(Drop)]
+#[derive(Clone, Copy)]
 pub(crate) struct LineText {
     bytes: [u8; ROOM],
     end: usize,
     is_open: bool,
-}
-
-impl Model for LineText {
-    ghost use Rattle.std.specs.Prelude.{List, ℕ, Bool, take, ◌≤◌};
-
-    ghost Value = { List ℕ × Bool };
-
-    ghost view = { λ t. (take t.end t.bytes, t.is_open) };
-
-    ghost invariant = { λ t. t.end ≤ 192 };
+    ghost fits: { end ≤ 192 },
 }
 
 impl LineText {
     #[inline]
     pub(crate) fn new() -> LineText
-        ensures { result ≡ ([], true) }
+        ensures text { take result.end result.bytes ≡ [] }
+        ensures open { result.is_open ≡ true }
     {
         LineText {
             bytes: [0; ROOM],
@@ -38,22 +29,41 @@ impl LineText {
         }
     }
 
+    /// A text that takes nothing.
+    #[inline]
+    pub(crate) fn closed() -> LineText
+        ensures { result.is_open ≡ false }
+    {
+        LineText {
+            bytes: [0; ROOM],
+            end: 0,
+            is_open: false,
+        }
+    }
+
+    #[inline]
+    pub(crate) fn is_open(&self) -> bool
+        ensures { result ≡ self.now.is_open }
+    {
+        self.is_open
+    }
+
     #[inline]
     pub(crate) fn as_slice(&self) -> &[u8]
-        ensures { result.now ≡ self.now.0 }
+        ensures { result.now ≡ take self.now.end self.now.bytes }
     {
         &self.bytes[..self.end]
     }
 }
 
 impl Out for LineText {
-    ghost told = { λ t. Some t.0 };
+    ghost told = { λ t. Some (take t.end t.bytes) };
 
-    ghost faults = { λ t. if t.1 then 0 else 1 };
+    ghost faults = { λ t. if t.is_open then 0 else 1 };
 
     ghost refusals = { λ t. 0 };
 
-    ghost is_open = { λ t. t.1 };
+    ghost is_open = { λ t. t.is_open };
 
     // it has no rest
     ghost keeps_rest = { λ x y. Unit {0} };

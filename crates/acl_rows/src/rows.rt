@@ -54,7 +54,7 @@ const SPACES: [u8; 32] = [b' '; 32];
 
 // Puts so many spaces, by one put where they are as few as rows of a device have.
 #[inline]
-fn put_spaces<O: Out>(count: usize, out: &mut O) -> Result<(), PutFault>
+pub(crate) fn put_spaces<O: Out>(count: usize, out: &mut O) -> Result<(), PutFault>
     requires { IsTrue (O.is_open out.old) }
     ensures { Puts O.Out out.old out.new (replicate count 32) result }
 {
