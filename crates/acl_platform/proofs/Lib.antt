@@ -4,6 +4,7 @@ pub mod CombinationFacts
 pub mod CombinationLaws
 pub mod ElementLaws
 pub mod FieldLaws
+pub mod HalfLaws
 pub mod EntryLaws
 mod NameSlotLaws
 pub mod NamedNumbers

@@ -60,27 +60,6 @@ impl<'a, T: Copy> Choices for &'a [T] {
     }
 }
 
-/// One choice alone.
-#[derive(Clone, Copy)]
-pub(crate) struct OneChoice<T> {
-    pub(crate) choice: T,
-}
-
-impl<T: Copy> Choices for OneChoice<T> {
-    type Item = T;
-
-    ghost items = { λ o. o.choice ∷ [] };
-
-    #[inline]
-    fn put_each<F: RowForm<T>, O: Out>(&self, form: &F, out: &mut O) -> Result<(), PutFault> {
-        form.put_item(&self.choice, out)
-    }
-
-    fn count(&self) -> u64 {
-        1
-    }
-}
-
 // A form that stands elsewhere.
 #[derive_where(Clone, Copy)]
 struct Shared<'a, F> {

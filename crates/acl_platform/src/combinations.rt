@@ -1,16 +1,18 @@
-ghost use Rattle.std.specs.Prelude.{◌≡◌, ◌≤◌, [], ◌∷◌, IfSome, IsTrue, min, length, flat_map};
+ghost use Rattle.std.specs.Prelude.{◌≡◌, ◌≤◌, ℕ, List, [], ◌∷◌, ◌++◌, Option, IfSome, IsTrue, min, length, flat_map};
 ghost use Rattle.acl_text.specs.Output.{COUNT_END};
 ghost use Rattle.acl_text.specs.Puts.{Puts};
 ghost use Rattle.acl_rows.specs.Rows.{text_of_rows};
-ghost use Rattle.acl_platform.specs.Choices.{range_choices};
+ghost use Rattle.acl_packet.specs.declared.addresses.Prefix.{Prefix};
+ghost use Rattle.acl_platform.specs.declared.combinations.Combination.{Combination};
+ghost use Rattle.acl_platform.specs.Choices.{pairs, range_choices};
 ghost use Rattle.acl_platform.specs.ChoiceSteps.{tails_of};
 ghost use Rattle.acl_platform.specs.Combinations.{IsSized, combination_of, combinations, parts_of};
 
-use crate::choices::{Choices, NumberChoices, OneChoice, RangeChoices, ends_of};
+use crate::choices::{Choices, NumberChoices, RangeChoices, ends_of};
 use crate::elements::ranges_of;
 use crate::rules::Rule;
 use acl_packet::Prefix;
-use acl_rows::RowForm;
+use acl_rows::{LineHalves, RowForm, put_pairs};
 use acl_sets::RangeSet;
 use acl_text::{Out, PutFault};
 
@@ -38,9 +40,58 @@ pub fn put_combinations<F: RowForm<Combination>, O: Out>(
     ensures { Puts O.Out out.old out.new
         (text_of_rows (flat_map (F.item_rows form.now) (combinations rule.now))) result }
 {
+    choices_of(rule).put_each(&InParts { form }, out)
+}
+
+/// How a combination is written as one line of two halves: what is the same for all destinations,
+/// and behind it what is the same for all sources.
+pub trait CombinationForm: RowForm<Combination> {
+    ghost front: { Self → Option ℕ → Prefix → Option (ℕ × ℕ) → List ℕ };
+
+    ghost back: { Self → Prefix → Option (ℕ × ℕ) → Option ℕ → Option ℕ → List ℕ };
+
+    /// Puts what the line begins with: protocol, source and source ports.
+    fn put_front<O: Out>(
+        &self,
+        proto: Option<u8>,
+        src: &Prefix,
+        sport: Option<(u16, u16)>,
+        out: &mut O,
+    ) -> Result<(), PutFault>
+        requires { IsTrue (O.is_open out.old) }
+        ensures { Puts O.Out out.old out.new (front self.now proto src.now sport) result };
+
+    /// Puts what the line ends with: destination, destination ports, type and code.
+    fn put_back<O: Out>(
+        &self,
+        dst: &Prefix,
+        dport: Option<(u16, u16)>,
+        itype: Option<u8>,
+        icode: Option<u8>,
+        out: &mut O,
+    ) -> Result<(), PutFault>
+        requires { IsTrue (O.is_open out.old) }
+        ensures { Puts O.Out out.old out.new (back self.now dst.now dport itype icode) result };
+
+    ghost is_halves: { (s : Self) (c : Combination) → text_of_rows (Self.item_rows s c)
+        ≡ front s c.proto c.src c.sport ++ back s c.dst c.dport c.itype c.icode };
+}
+
+/// Puts the line of each combination of the rule, the protocol outermost. Where the combinations
+/// differ in protocols and addresses alone, each half of a line is put together once for many lines.
+pub fn put_combinations_by_halves<F: CombinationForm, O: Out>(
+    rule: &Rule,
+    form: &F,
+    out: &mut O,
+) -> Result<(), PutFault>
+    requires open { IsTrue (O.is_open out.old) }
+    requires sized { IsSized rule.now }
+    ensures { Puts O.Out out.old out.new
+        (text_of_rows (flat_map (F.item_rows form.now) (combinations rule.now))) result }
+{
     match one_tail(rule) {
-        Some(tail) => choices_with(rule, tail).put_each(&InParts { form }, out),
-        None => choices_of(rule).put_each(&InParts { form }, out),
+        Some(tail) => put_protocols(rule, tail, form, out),
+        None => put_combinations(rule, form, out),
     }
 }
 
@@ -88,22 +139,6 @@ fn choices_of(rule: &Rule) -> PartChoices<'_>
     let protos = NumberChoices { set: &rule.protos };
     let ports = (sports, (dports, (itypes, icodes)));
     (protos, (rule.src.as_slice(), (rule.dst.as_slice(), ports)))
-}
-
-type TailChoices<'a> = (
-    NumberChoices<'a>,
-    (&'a [Prefix], (&'a [Prefix], OneChoice<Tail>)),
-);
-
-#[tactic(auto, using(crate::proofs::SoundRules::protocols_small))]
-fn choices_with(rule: &Rule, tail: Tail) -> TailChoices<'_>
-    requires sized { IsSized rule.now }
-    requires alone { tails_of rule.now ≡ tail ∷ [] }
-    ensures { ⟦<TailChoices<'static> as Choices>⟧.items result ≡ parts_of rule.now }
-{
-    let protos = NumberChoices { set: &rule.protos };
-    let tails = OneChoice { choice: tail };
-    (protos, (rule.src.as_slice(), (rule.dst.as_slice(), tails)))
 }
 
 // The tail of all combinations of the rule, where they have the same.
@@ -162,5 +197,76 @@ fn combination_of(parts: Parts) -> Combination
         dport,
         itype,
         icode,
+    }
+}
+
+#[tactic(auto, using(crate::proofs::SoundRules::protocols_small))]
+fn put_protocols<F: CombinationForm, O: Out>(
+    rule: &Rule,
+    tail: Tail,
+    form: &F,
+    out: &mut O,
+) -> Result<(), PutFault>
+    requires open { IsTrue (O.is_open out.old) }
+    requires sized { IsSized rule.now }
+    requires alone { tails_of rule.now ≡ tail ∷ [] }
+    ensures { Puts O.Out out.old out.new
+        (text_of_rows (flat_map (F.item_rows form.now) (combinations rule.now))) result }
+{
+    let each = OfProtocol { rule, tail, form };
+    NumberChoices { set: &rule.protos }.put_each(&each, out)
+}
+
+// A protocol, written with each pair of addresses.
+#[derive_where(Clone, Copy)]
+struct OfProtocol<'a, F> {
+    rule: &'a Rule,
+    tail: Tail,
+    form: &'a F,
+}
+
+impl<'a, F: CombinationForm> RowForm<Option<u8>> for OfProtocol<'a, F> {
+    ghost item_rows = { λ o proto.
+        flat_map (λ parts. F.item_rows o.form.now (combination_of (proto, parts)))
+        (pairs o.rule.now.src (pairs o.rule.now.dst (o.tail ∷ []))) };
+
+    fn put_item<O: Out>(&self, item: &Option<u8>, out: &mut O) -> Result<(), PutFault> {
+        let halves = AddressHalves {
+            proto: *item,
+            tail: self.tail,
+            form: self.form,
+        };
+        put_pairs(
+            self.rule.src.as_slice(),
+            self.rule.dst.as_slice(),
+            &halves,
+            out,
+        )
+    }
+}
+
+// A source and a destination, written with the protocol and the tail.
+#[derive_where(Clone, Copy)]
+struct AddressHalves<'a, F> {
+    proto: Option<u8>,
+    tail: Tail,
+    form: &'a F,
+}
+
+impl<'a, F: CombinationForm> LineHalves<Prefix, Prefix> for AddressHalves<'a, F> {
+    ghost front = { λ h src. F.front h.form.now h.proto src h.tail.0 };
+
+    ghost back = { λ h dst. F.back h.form.now dst h.tail.1.0 h.tail.1.1.0 h.tail.1.1.1 };
+
+    #[inline]
+    fn put_front<O: Out>(&self, first: &Prefix, out: &mut O) -> Result<(), PutFault> {
+        let (sport, _) = self.tail;
+        self.form.put_front(self.proto, first, sport, out)
+    }
+
+    #[inline]
+    fn put_back<O: Out>(&self, second: &Prefix, out: &mut O) -> Result<(), PutFault> {
+        let (_, (dport, (itype, icode))) = self.tail;
+        self.form.put_back(second, dport, itype, icode, out)
     }
 }

@@ -20,7 +20,9 @@ mod shared_rules;
 mod writing;
 
 pub use choices::{Choices, NumberChoices, RangeChoices};
-pub use combinations::{Combination, count_combinations, put_combinations};
+pub use combinations::{
+    Combination, CombinationForm, count_combinations, put_combinations, put_combinations_by_halves,
+};
 pub use elements::{address_elements, range_elements};
 pub use filtering::filter_outcome;
 pub use filters::{Feature, Filter, Limit};

@@ -5,14 +5,8 @@ use Rattle.acl_rows.proofs.PutLaws.{retold}
 use Rattle.acl_platform.specs.Combinations.{combination_of, parts_of}
 use Rattle.acl_platform.proofs.combinations.put_combinations.Goals as goal
 
-pub returns-in-Some : goal.returns-in-Some
-returns-in-Some g c =
-    let rows = g.F.RowForm.item_rows c.args.form.now in
-    retold (ap (λ parts. text_of_rows (flat_map (λ x. rows (combination_of x)) parts)) c.choices_with.ensures
-    ∙ ap text_of_rows (sym (flat_map-map rows combination_of (parts_of c.args.rule.now)))) c.put_each.ensures
-
-pub returns-in-None : goal.returns-in-None
-returns-in-None g c =
+pub returns : goal.returns
+returns g c =
     let rows = g.F.RowForm.item_rows c.args.form.now in
     retold (ap (λ parts. text_of_rows (flat_map (λ x. rows (combination_of x)) parts)) c.choices_of.ensures
-    ∙ ap text_of_rows (sym (flat_map-map rows combination_of (parts_of c.args.rule.now)))) c.put_each-in-None.ensures
+    ∙ ap text_of_rows (sym (flat_map-map rows combination_of (parts_of c.args.rule.now)))) c.put_each.ensures
