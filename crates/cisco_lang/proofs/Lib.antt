@@ -1,5 +1,6 @@
 pub mod DocumentLaws
 pub mod EntryReadingLaws
+pub mod HalfLaws
 pub mod SafeRows
 pub mod ScanLaws
 pub mod SectionScanLaws

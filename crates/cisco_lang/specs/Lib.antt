@@ -1,5 +1,6 @@
 pub mod AddressReading
 pub mod Documents
+pub mod EntryHalves
 pub mod ReadingSteps
 pub mod ScanSteps
 pub mod Texts

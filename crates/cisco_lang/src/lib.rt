@@ -16,6 +16,7 @@ pub use cisco::Cisco;
 pub use documents::{AccessList, Doc, Entry, Flags, Item, Section};
 pub use entry_reading::{next_word, take_place};
 pub use list_rows::{
-    AddressWords, EntryParts, EntryRow, ListEnd, ListHead, RemarkRow, SectionHead, action_word,
+    AddressWords, EntryBack, EntryFront, EntryHalves, EntryRow, ListEnd, ListHead, RemarkRow,
+    SectionHead, action_word,
 };
 pub use walking::verdict_of;

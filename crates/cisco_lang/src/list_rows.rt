@@ -4,13 +4,14 @@ ghost use Rattle.acl_text.specs.Puts.{Puts};
 ghost use Rattle.acl_rows.specs.Rows.{row, spaced, text_of_rows, words_in};
 ghost use Rattle.acl_rows.specs.RuleParts.{log_words};
 ghost use Rattle.cisco_lang.specs.declared.documents.Item.TheVariants.{Entry as AnEntry};
+ghost use Rattle.cisco_lang.specs.EntryHalves.{back_words, entry_back, entry_front, front_words};
 ghost use Rattle.cisco_lang.specs.Texts.{action_word, any_word, families_word, proto_word, masked_words, address_words, ports_words, number_words, icmp_words, flags_words, end_words, entry_words, item_rows, head_rows, end_rows, list_rows, section_row, section_rows};
 
 use crate::documents::{AccessList, Entry, Flags, Item, Section};
 use acl_packet::{Families, Family, Prefix};
 use acl_rows::{
-    Address, AsRows, Each, FreeText, LogWord, Number, OneWord, Piece, Row, RowForm, Rows, Wildcard,
-    Words, put_words,
+    Address, AsRows, Each, FreeText, LogWord, Number, OneWord, Piece, Row, RowBack, RowForm,
+    RowFront, Rows, Wildcard, Words, put_words,
 };
 use acl_text::{Out, PutFault};
 
@@ -24,15 +25,20 @@ pub struct EntryRow {
 impl Rows for EntryRow {
     ghost rows = { λ r. item_rows r.family (AnEntry r.entry) };
 
+    #[tactic(auto, unfolding(crate::specs::Texts::item_rows, crate::specs::Texts::entry_words, crate::specs::EntryHalves::front_words, crate::specs::EntryHalves::back_words))]
     #[inline]
     fn put_rows<O: Out>(&self, out: &mut O) -> Result<(), PutFault> {
+        let family = self.family;
         let entry = &self.entry;
-        let row = EntryParts {
-            family: self.family,
+        let front = EntryFront {
+            family,
             permit: entry.permit,
             proto: entry.proto,
             src: &entry.src,
             sport: entry.sport,
+        };
+        let back = EntryBack {
+            family,
             dst: &entry.dst,
             dport: entry.dport,
             itype: entry.itype,
@@ -40,19 +46,39 @@ impl Rows for EntryRow {
             flags: entry.flags,
             log: entry.log,
         };
-        row.put_rows(out)
+        EntryHalves { front, back }.put_rows(out)
     }
 }
 
-/// The row of an entry whose parts stand apart. The prefixes are not copied: a row is written for
-/// each pair of them.
-#[derive(Drop)]
-pub struct EntryParts<'a> {
+/// What the line of an entry begins with, up to the source and its ports. The prefix is not copied:
+/// a line is written for each pair of them.
+#[derive(Clone, Copy)]
+pub struct EntryFront<'a> {
     pub family: Family,
     pub permit: bool,
     pub proto: Option<u8>,
     pub src: &'a Prefix,
     pub sport: Option<(u16, u16)>,
+}
+
+impl<'a> Piece for EntryFront<'a> {
+    ghost text = { λ f. entry_front f.family f.permit f.proto f.src.now f.sport };
+
+    #[inline]
+    fn put_into<O: Out>(&self, out: &mut O) -> Result<(), PutFault> {
+        let front = RowFront {
+            indent: 1,
+            first: action_word(self.permit),
+            rest: FrontWords { front: *self },
+        };
+        front.put_into(out)
+    }
+}
+
+/// What the line of an entry ends with, from the destination on.
+#[derive(Clone, Copy)]
+pub struct EntryBack<'a> {
+    pub family: Family,
     pub dst: &'a Prefix,
     pub dport: Option<(u16, u16)>,
     pub itype: Option<u8>,
@@ -61,53 +87,97 @@ pub struct EntryParts<'a> {
     pub log: bool,
 }
 
-impl<'a> Rows for EntryParts<'a> {
-    ghost rows = { λ r. item_rows r.family (AnEntry (record {
-      permit = r.permit;
-      proto = r.proto;
-      src = r.src.now;
-      sport = r.sport;
-      dst = r.dst.now;
-      dport = r.dport;
-      itype = r.itype;
-      icode = r.icode;
-      flags = r.flags;
-      log = r.log;
-    })) };
+impl<'a> Piece for EntryBack<'a> {
+    ghost text = { λ b. entry_back b.family b.dst.now b.dport b.itype b.icode b.flags b.log };
 
-    #[tactic(auto, unfolding(crate::specs::Texts::item_rows, crate::specs::Texts::entry_words))]
+    #[inline]
+    fn put_into<O: Out>(&self, out: &mut O) -> Result<(), PutFault> {
+        let back = RowBack {
+            rest: BackWords { back: *self },
+        };
+        back.put_into(out)
+    }
+}
+
+/// The row of an entry whose halves stand apart.
+#[derive(Drop)]
+pub struct EntryHalves<'a> {
+    pub front: EntryFront<'a>,
+    pub back: EntryBack<'a>,
+}
+
+impl<'a> Rows for EntryHalves<'a> {
+    ghost rows = { λ h. row 1 (action_word h.front.permit
+        ∷ (front_words h.front.family h.front.proto h.front.src.now h.front.sport
+        ++ back_words h.back.family h.back.dst.now h.back.dport h.back.itype h.back.icode
+        h.back.flags h.back.log)) ∷ [] };
+
     #[inline]
     fn put_rows<O: Out>(&self, out: &mut O) -> Result<(), PutFault> {
-        let family = self.family;
-        let source = EndWords {
-            family,
-            place: self.src,
-            ports: self.sport,
+        let front = FrontWords { front: self.front };
+        let back = BackWords { back: self.back };
+        let row = Row {
+            indent: 1,
+            first: action_word(self.front.permit),
+            rest: (front, back),
         };
-        let destination = EndWords {
-            family,
-            place: self.dst,
-            ports: self.dport,
-        };
-        let tests = (
-            IcmpWords {
-                itype: self.itype,
-                icode: self.icode,
-            },
-            (FlagWords { flags: self.flags }, LogWord { log: self.log }),
-        );
+        row.put_rows(out)
+    }
+}
+
+// The words behind the action.
+#[derive(Clone, Copy)]
+struct FrontWords<'a> {
+    front: EntryFront<'a>,
+}
+
+impl<'a> Words for FrontWords<'a> {
+    ghost words = { λ w. front_words w.front.family w.front.proto w.front.src.now w.front.sport };
+
+    #[tactic(auto, unfolding(crate::specs::EntryHalves::front_words))]
+    #[inline]
+    fn put_spaced<O: Out>(&self, out: &mut O) -> Result<(), PutFault> {
+        let family = self.front.family;
         let protocol = OneWord {
             piece: Protocol {
                 family,
-                number: self.proto,
+                number: self.front.proto,
             },
         };
-        let row = Row {
-            indent: 1,
-            first: action_word(self.permit),
-            rest: (protocol, (source, (destination, tests))),
+        let source = EndWords {
+            family,
+            place: self.front.src,
+            ports: self.front.sport,
         };
-        row.put_rows(out)
+        (protocol, source).put_spaced(out)
+    }
+}
+
+// The words from the destination on.
+#[derive(Clone, Copy)]
+struct BackWords<'a> {
+    back: EntryBack<'a>,
+}
+
+impl<'a> Words for BackWords<'a> {
+    ghost words = { λ w. back_words w.back.family w.back.dst.now w.back.dport w.back.itype
+        w.back.icode w.back.flags w.back.log };
+
+    #[tactic(auto, unfolding(crate::specs::EntryHalves::back_words))]
+    #[inline]
+    fn put_spaced<O: Out>(&self, out: &mut O) -> Result<(), PutFault> {
+        let back = &self.back;
+        let destination = EndWords {
+            family: back.family,
+            place: back.dst,
+            ports: back.dport,
+        };
+        let icmp = IcmpWords {
+            itype: back.itype,
+            icode: back.icode,
+        };
+        let flags = FlagWords { flags: back.flags };
+        (destination, (icmp, (flags, LogWord { log: back.log }))).put_spaced(out)
     }
 }
 

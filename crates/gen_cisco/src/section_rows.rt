@@ -6,6 +6,8 @@ ghost use Rattle.acl_packet.specs.declared.addresses.Family.TheVariants.{V6};
 ghost use Rattle.acl_platform.specs.Combinations.{IsSized, combinations};
 ghost use Rattle.cisco_lang.specs.declared.documents.Flags.{Flags};
 ghost use Rattle.cisco_lang.specs.declared.documents.Item.TheVariants.{Entry as AnEntry, Remark};
+ghost use Rattle.cisco_lang.specs.EntryHalves.{entry_back, entry_front};
+ghost use Rattle.cisco_lang.proofs.HalfLaws.{entry_halves};
 ghost use Rattle.cisco_lang.specs.Texts.{end_rows, head_rows, item_rows, text_of};
 ghost use Rattle.gen_cisco.specs.RowSteps.{items_rows};
 ghost use Rattle.gen_cisco.specs.Sections.{
@@ -22,11 +24,15 @@ ghost use Rattle.gen_cisco.specs.Sections.{
 use crate::counts::{has_rule, is_of};
 use acl_packet::{Families, Family, Prefix, Verdict};
 use acl_platform::{
-    Combination, Filter, RemarkForm, RemarkRows, Rule, RuleForm, Test, put_combinations, put_rules,
+    Combination, CombinationForm, Filter, RemarkForm, RemarkRows, Rule, RuleForm, Test,
+    put_combinations_by_halves, put_rules,
 };
-use acl_rows::{OneWord, Row, RowForm, Rows};
+use acl_rows::{OneWord, Piece, Row, RowForm, Rows};
 use acl_text::{Out, PutFault};
-use cisco_lang::{Entry, EntryParts, EntryRow, Flags, ListEnd, ListHead, RemarkRow, SectionHead};
+use cisco_lang::{
+    Entry, EntryBack, EntryFront, EntryHalves, EntryRow, Flags, ListEnd, ListHead, RemarkRow,
+    SectionHead,
+};
 
 /// Puts the text of the section that the filter becomes, in an output that has to be open.
 /// Protocols, types and codes of its rules have to be numbers below 256, ports below 65,536.
@@ -210,7 +216,7 @@ impl<'a> Rows for Entries<'a> {
         (combinations e.rule.now) };
 
     fn put_rows<O: Out>(&self, out: &mut O) -> Result<(), PutFault> {
-        put_combinations(self.rule, &OfRule { rule: self.rule }, out)
+        put_combinations_by_halves(self.rule, &OfRule { rule: self.rule }, out)
     }
 }
 
@@ -223,23 +229,100 @@ struct OfRule<'a> {
 impl<'a> RowForm<Combination> for OfRule<'a> {
     ghost item_rows = { λ f c. item_rows f.rule.now.family (AnEntry (entry_of f.rule.now c)) };
 
+    #[tactic(auto, unfolding(cisco_lang::specs::Texts::item_rows, cisco_lang::specs::Texts::entry_words, cisco_lang::specs::EntryHalves::front_words, cisco_lang::specs::EntryHalves::back_words))]
     #[inline]
     fn put_item<O: Out>(&self, item: &Combination, out: &mut O) -> Result<(), PutFault> {
-        let rule = self.rule;
-        let row = EntryParts {
-            family: rule.family,
-            permit: permits(rule.verdict),
-            proto: item.proto,
-            src: &item.src,
-            sport: item.sport,
-            dst: &item.dst,
-            dport: item.dport,
-            itype: item.itype,
-            icode: item.icode,
-            flags: flags_of(rule.test),
-            log: rule.log,
+        let row = EntryHalves {
+            front: front_of(self.rule, item.proto, &item.src, item.sport),
+            back: back_of(self.rule, &item.dst, item.dport, item.itype, item.icode),
         };
         row.put_rows(out)
+    }
+}
+
+impl<'a> CombinationForm for OfRule<'a> {
+    ghost front = { λ f proto src sport.
+        entry_front f.rule.now.family (permits f.rule.now.verdict) proto src sport };
+
+    ghost back = { λ f dst dport itype icode. entry_back f.rule.now.family dst dport itype icode
+        (flags_of f.rule.now.test) f.rule.now.log };
+
+    #[inline]
+    fn put_front<O: Out>(
+        &self,
+        proto: Option<u8>,
+        src: &Prefix,
+        sport: Option<(u16, u16)>,
+        out: &mut O,
+    ) -> Result<(), PutFault> {
+        front_of(self.rule, proto, src, sport).put_into(out)
+    }
+
+    #[inline]
+    fn put_back<O: Out>(
+        &self,
+        dst: &Prefix,
+        dport: Option<(u16, u16)>,
+        itype: Option<u8>,
+        icode: Option<u8>,
+        out: &mut O,
+    ) -> Result<(), PutFault> {
+        back_of(self.rule, dst, dport, itype, icode).put_into(out)
+    }
+
+    ghost is_halves = { λ f c. entry_halves f.rule.now.family (entry_of f.rule.now c) };
+}
+
+#[inline]
+fn front_of<'a>(
+    rule: &Rule,
+    proto: Option<u8>,
+    src: &'a Prefix,
+    sport: Option<(u16, u16)>,
+) -> EntryFront<'a>
+    ensures { result ≡ record {
+      family = rule.now.family;
+      permit = permits rule.now.verdict;
+      proto = proto;
+      src = src.entry;
+      sport = sport;
+    } }
+{
+    EntryFront {
+        family: rule.family,
+        permit: permits(rule.verdict),
+        proto,
+        src,
+        sport,
+    }
+}
+
+#[inline]
+fn back_of<'a>(
+    rule: &Rule,
+    dst: &'a Prefix,
+    dport: Option<(u16, u16)>,
+    itype: Option<u8>,
+    icode: Option<u8>,
+) -> EntryBack<'a>
+    ensures { result ≡ record {
+      family = rule.now.family;
+      dst = dst.entry;
+      dport = dport;
+      itype = itype;
+      icode = icode;
+      flags = flags_of rule.now.test;
+      log = rule.now.log;
+    } }
+{
+    EntryBack {
+        family: rule.family,
+        dst,
+        dport,
+        itype,
+        icode,
+        flags: flags_of(rule.test),
+        log: rule.log,
     }
 }
 
