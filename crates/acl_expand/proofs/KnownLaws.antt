@@ -1,29 +1,27 @@
--- Targets that are alike have the same rules of the same terms.
-use Rattle.std.proofs.Common.{◌≡◌, Bool, true, false, cond, not, ◌&&◌, List, [], ◌∷◌, ◌++◌, map, flat_map, Option, None, Some, IfSome, refl, ap, sym, subst, ◌∙◌}
+-- Targets that are alike for terms have the same rules of them.
+use Rattle.std.proofs.Common.{◌≡◌, Bool, true, cond, not, ◌&&◌, List, [], ◌∷◌, ◌++◌, map, flat_map, None, refl, ap, sym, subst, ◌∙◌}
 use Rattle.std.specs.List.{AllByRecursion}
-use Rattle.std.specs.Option.{option_copied, option_or}
-use Rattle.std.specs.Borrow.{Bor}
-use Rattle.std.proofs.lemmas.Bool.{and_parts, false≢true}
-use Rattle.acl_packet.specs.declared.addresses.Families.{Families}
-use Rattle.acl_packet.specs.declared.addresses.Families.TheVariants.{Inet, Inet6, Mixed}
+use Rattle.std.specs.Option.{option_or}
 use Rattle.acl_packet.specs.declared.addresses.Family.{Family}
 use Rattle.acl_packet.specs.declared.addresses.Family.TheVariants.{V6}
+use Rattle.acl_packet.specs.declared.filtering.Verdict.{Verdict}
 use Rattle.acl_packet.specs.Addresses.{covers}
 use Rattle.acl_text.proofs.ListLaws.{all_append}
 use Rattle.acl_days.specs.declared.days.Day.{Day}
 use Rattle.acl_target.specs.declared.targets.Target.{Target}
-use Rattle.acl_target.specs.Clashes.{same_families, same_kind}
+use Rattle.acl_terms.specs.declared.options.Opt.{Opt}
+use Rattle.acl_terms.specs.declared.options.Opt.TheVariants as options
 use Rattle.acl_terms.specs.declared.options.Mode.TheVariants.{Stateful, Stateless}
+use Rattle.acl_terms.specs.declared.sides.Side.{Side}
 use Rattle.acl_terms.specs.declared.sides.SidePair.{SidePair}
 use Rattle.acl_terms.specs.declared.terms.Term.{Term}
 use Rattle.acl_terms.specs.Outcomes.{mode_of}
-use Rattle.acl_terms.specs.Resolved.{is_empty_in, is_pair_empty, is_term_live, pairs_of}
+use Rattle.acl_terms.specs.Resolved.{is_empty_in, is_pair_empty, is_term_live, pairs_of, sources_on, destinations_on, sports_on}
 use Rattle.acl_platform.specs.declared.rules.Rule.{Rule}
-use Rattle.acl_platform.proofs.AcceptedFilters.{same-kind-is}
 use Rattle.acl_expand.specs.ExpansionSlips.{first_slip, header_at, header_named, header_slip, prefix_slip, prefixes_of, slip_behind, term_slip}
-use Rattle.acl_expand.specs.KnownRules.{AlikeHaveTheSameRules, AreAlike, IsKnown, fits, same_answer}
-use Rattle.acl_expand.specs.KnownRuleSteps.{rules_for, target_rules}
-use Rattle.acl_expand.specs.TermRules.{conditions_by, family_rules, members, pair_rules, rule_of, rules_of, term_rules}
+use Rattle.acl_expand.specs.KnownRules.{AlikeHaveTheSameRules, AreAlike, IsAlike, IsKnown, asks_by_mode, class_of}
+use Rattle.acl_expand.specs.TermRules.{address_suffix, conditions_by, family_rules, least_list, members, pair_rules, port_suffix, rules_of, term_rules, verdict_on}
+use Rattle.acl_expand.specs.declared.conditions.Conditions.{Conditions}
 use Rattle.acl_expand.specs.declared.known_rules.TargetRules.{TargetRules}
 
 flat-same : {A B : Type 0} (f g : A → List B) → ((x : A) → f x ≡ g x) → (xs : List A) → flat_map f xs ≡ flat_map g xs
@@ -32,112 +30,106 @@ flat-same f g h (x ∷ xs) = ap (λ ys. ys ++ flat_map f xs) (h x) ∙ ap (λ ys
 
 -- ---- rules
 
-pair-same : (a b : Target) → AreAlike a b → (t : Term) (f : Family) (pair : SidePair) → pair_rules a t f pair ≡ pair_rules b t f pair
+-- The rule of a term with a verdict.
+abbrev rule-with : Family → Term → SidePair → Verdict → Conditions → Rule
+rule-with f t pair verdict c = record {
+  name = t.name ++ (address_suffix pair.addresses ++ (port_suffix pair.ports ++ c.suffix));
+  place = t.place;
+  note = t.note;
+  family = f;
+  src = least_list f (sources_on pair.addresses f t);
+  dst = least_list f (destinations_on pair.addresses f t);
+  protos = c.protos;
+  sports = sports_on pair.ports t;
+  dports = c.dports;
+  itypes = t.itypes;
+  icodes = t.icodes;
+  test = c.test;
+  verdict = verdict;
+  log = t.log;
+}
+
+-- An option that does not ask whether connections are known has the same conditions either way.
+conditions-same : (o : Opt) (a b : Bool) → (asks_by_mode o ≡ true → a ≡ b) → (f : Family) (t : Term) (side : Side)
+    → conditions_by o (cond a Stateful Stateless) f t side ≡ conditions_by o (cond b Stateful Stateless) f t side
+conditions-same options.Plain a b h f t side = refl
+conditions-same options.Established a b h f t side = ap (λ (s : Bool). conditions_by options.Established (cond s Stateful Stateless) f t side) (h refl)
+conditions-same options.TcpEstablished a b h f t side = ap (λ (s : Bool). conditions_by options.TcpEstablished (cond s Stateful Stateless) f t side) (h refl)
+conditions-same options.TcpInitial a b h f t side = refl
+conditions-same options.Rst a b h f t side = refl
+
+pair-same : (a b : Target) (today : Day) (t : Term) → IsAlike (class_of a) (class_of b) today t → (f : Family) (pair : SidePair)
+    → pair_rules a t f pair ≡ pair_rules b t f pair
 unfolding pair_rules
-pair-same a b h t f pair =
-    ap (λ k. cond (is_pair_empty f t pair) [] (map (rule_of k f t pair) (conditions_by t.option (mode_of a) f t pair.ports))) h.kind_is
-    ∙ ap (λ (s : Bool). cond (is_pair_empty f t pair) [] (map (rule_of b.kind f t pair) (conditions_by t.option (cond s Stateful Stateless) f t pair.ports))) h.stateful_is
+pair-same a b today t h f pair =
+    ap (λ v. cond (is_pair_empty f t pair) [] (map (rule-with f t pair v) (conditions_by t.option (mode_of a) f t pair.ports))) h.verdict_is
+    ∙ ap (λ cs. cond (is_pair_empty f t pair) [] (map (rule-with f t pair (verdict_on b.kind t.verdict)) cs))
+    (conditions-same t.option a.stateful b.stateful h.stateful_is f t pair.ports)
 
-family-same : (a b : Target) → AreAlike a b → (t : Term) (f : Family) → family_rules a t f ≡ family_rules b t f
+family-same : (a b : Target) (today : Day) (t : Term) → IsAlike (class_of a) (class_of b) today t → (f : Family)
+    → family_rules a t f ≡ family_rules b t f
 unfolding family_rules
-family-same a b h t f = flat-same (pair_rules a t f) (pair_rules b t f) (pair-same a b h t f) (pairs_of t)
+family-same a b today t h f = flat-same (pair_rules a t f) (pair_rules b t f) (pair-same a b today t h f) (pairs_of t)
 
-term-same : (a b : Target) → AreAlike a b → (today : Day) (t : Term) → term_rules a today t ≡ term_rules b today t
+term-same : (a b : Target) (today : Day) (t : Term) → a.families ≡ b.families → IsAlike (class_of a) (class_of b) today t
+    → term_rules a today t ≡ term_rules b today t
 unfolding term_rules
-term-same a b h today t =
-    ap (λ k. cond (is_term_live t k today) (flat_map (family_rules a t) (members a.families)) []) h.kind_is
-    ∙ ap (λ fs. cond (is_term_live t b.kind today) (flat_map (family_rules a t) (members fs)) []) h.families_are
+term-same a b today t families h =
+    ap (λ live. cond live (flat_map (family_rules a t) (members a.families)) []) h.live_is
+    ∙ ap (λ fs. cond (is_term_live t b.kind today) (flat_map (family_rules a t) (members fs)) []) families
     ∙ ap (λ rules. cond (is_term_live t b.kind today) rules [])
-    (flat-same (family_rules a t) (family_rules b t) (family-same a b h t) (members b.families))
+    (flat-same (family_rules a t) (family_rules b t) (family-same a b today t h) (members b.families))
 
-rules-same : (a b : Target) → AreAlike a b → (today : Day) (terms : List Term) → rules_of a today terms ≡ rules_of b today terms
-rules-same a b h today terms = flat-same (term_rules a today) (term_rules b today) (term-same a b h today) terms
+rules-same : (a b : Target) (today : Day) (terms : List Term) → a.families ≡ b.families
+    → AllByRecursion (IsAlike (class_of a) (class_of b) today) terms → rules_of a today terms ≡ rules_of b today terms
+rules-same a b today [] families h = refl
+rules-same a b today (t ∷ ts) families h =
+    ap (λ rules. rules ++ rules_of a today ts) (term-same a b today t families h.0)
+    ∙ ap (λ rules. term_rules b today t ++ rules) (rules-same a b today ts families h.1)
 
 -- ---- slips
 
-header-same : (a b : Target) → AreAlike a b → (today : Day) (t : Term) → header_slip a today t ≡ header_slip b today t
+header-same : (a b : Target) (today : Day) (t : Term) → a.families ≡ b.families → IsAlike (class_of a) (class_of b) today t
+    → header_slip a today t ≡ header_slip b today t
 unfolding header_slip
-header-same a b h today t =
-    ap (λ k. cond (is_term_live t k today && (covers a.families V6 && not (is_empty_in V6 t))) (header_at t (header_named t)) None) h.kind_is
-    ∙ ap (λ fs. cond (is_term_live t b.kind today && (covers fs V6 && not (is_empty_in V6 t))) (header_at t (header_named t)) None) h.families_are
+header-same a b today t families h =
+    ap (λ live. cond (live && (covers a.families V6 && not (is_empty_in V6 t))) (header_at t (header_named t)) None) h.live_is
+    ∙ ap (λ fs. cond (is_term_live t b.kind today && (covers fs V6 && not (is_empty_in V6 t))) (header_at t (header_named t)) None) families
 
-slips-same : (a b : Target) → AreAlike a b → (today : Day) (earlier terms : List Term)
+slips-same : (a b : Target) (today : Day) (earlier terms : List Term) → a.families ≡ b.families
+    → AllByRecursion (IsAlike (class_of a) (class_of b) today) earlier → AllByRecursion (IsAlike (class_of a) (class_of b) today) terms
     → slip_behind a today earlier terms ≡ slip_behind b today earlier terms
-slips-same a b h today earlier [] = refl
-slips-same a b h today earlier (t ∷ ts) =
+slips-same a b today earlier [] families before h = refl
+slips-same a b today earlier (t ∷ ts) families before h =
     let all = earlier ++ t ∷ [] in
+    let alike = all_append (IsAlike (class_of a) (class_of b) today) earlier (t ∷ []) before (h.0, tt) in
     ap (λ s. option_or (option_or s (prefix_slip t (prefixes_of (rules_of a today all)))) (slip_behind a today all ts))
-    (header-same a b h today t)
+    (header-same a b today t families h.0)
     ∙ ap (λ rules. option_or (option_or (header_slip b today t) (prefix_slip t (prefixes_of rules))) (slip_behind a today all ts))
-    (rules-same a b h today all)
-    ∙ ap (λ s. option_or (term_slip b today earlier t) s) (slips-same a b h today all ts)
+    (rules-same a b today all families alike)
+    ∙ ap (λ s. option_or (term_slip b today earlier t) s) (slips-same a b today all ts families alike h.1)
 
-first-same : (a b : Target) → AreAlike a b → (today : Day) (terms : List Term) → first_slip a today terms ≡ first_slip b today terms
+first-same : (a b : Target) (today : Day) (terms : List Term) → AreAlike (class_of a) (class_of b) today terms
+    → first_slip a today terms ≡ first_slip b today terms
 unfolding first_slip
-first-same a b h today terms = slips-same a b h today [] terms
+first-same a b today terms h = slips-same a b today [] terms h.families_are tt h.terms_are
 
 pub alike_have_the_same_rules : AlikeHaveTheSameRules
-alike_have_the_same_rules a b today terms h = (rules-same a b h today terms, first-same a b h today terms)
+alike_have_the_same_rules a b today terms h = (rules-same a b today terms h.families_are h.terms_are, first-same a b today terms h)
 
--- ---- rules that fit a target
+-- ---- rules that are known
 
-same-families-are : (a b : Families) → same_families a b ≡ true → a ≡ b
-same-families-are Inet Inet e = refl
-same-families-are Inet Inet6 e = absurd (false≢true e)
-same-families-are Inet Mixed e = absurd (false≢true e)
-same-families-are Inet6 Inet e = absurd (false≢true e)
-same-families-are Inet6 Inet6 e = refl
-same-families-are Inet6 Mixed e = absurd (false≢true e)
-same-families-are Mixed Inet e = absurd (false≢true e)
-same-families-are Mixed Inet6 e = absurd (false≢true e)
-same-families-are Mixed Mixed e = refl
-
-same-answer-is : (a b : Bool) → same_answer a b ≡ true → a ≡ b
-same-answer-is true true e = refl
-same-answer-is true false e = absurd (false≢true e)
-same-answer-is false true e = absurd (false≢true e)
-same-answer-is false false e = refl
-
--- They fit the targets that are like the one for which they were made.
-alike : (t u : Target) (rules : List Rule) → fits (target_rules t rules) u ≡ true → AreAlike u t
-alike t u rules e =
-    let p = and_parts (same_kind t.kind u.kind) (same_families t.families u.families && same_answer t.stateful u.stateful) e in
-    let q = and_parts (same_families t.families u.families) (same_answer t.stateful u.stateful) p.1 in
-    record {
-      kind_is = sym (same-kind-is t.kind u.kind p.0);
-      families_are = sym (same-families-are t.families u.families q.0);
-      stateful_is = sym (same-answer-is t.stateful u.stateful q.1);
-    }
-
-is-known : (today : Day) (terms : List Term) (t : Target) (rules : List Rule) → first_slip t today terms ≡ None
-    → rules ≡ rules_of t today terms → IsKnown today terms (target_rules t rules)
-is-known today terms t rules none is = record {
-  rules_are = λ u e. is ∙ sym (rules-same u t (alike t u rules e) today terms);
-  no_slip = λ u e. first-same u t (alike t u rules e) today terms ∙ none;
+is-known : (today : Day) (terms : List Term) (t : Target) (r : TargetRules) → r.class ≡ class_of t → first_slip t today terms ≡ None
+    → r.rules ≡ rules_of t today terms → IsKnown today terms r
+is-known today terms t r class none is = record {
+  rules_are = λ u h. is ∙ (alike_have_the_same_rules t u today terms (subst (λ c. AreAlike c (class_of u) today terms) class h)).0;
+  no_slip = λ u h. sym (alike_have_the_same_rules t u today terms (subst (λ c. AreAlike c (class_of u) today terms) class h)).1 ∙ none;
 }
 
 -- One list more is known.
 pub known-more : (today : Day) (terms : List Term) (t : Target) (old new : List TargetRules) (rules : List Rule)
     → AllByRecursion (IsKnown today terms) old → first_slip t today terms ≡ None → rules ≡ rules_of t today terms
-    → new ≡ old ++ target_rules t rules ∷ [] → AllByRecursion (IsKnown today terms) new
+    → new ≡ old ++ record { class = class_of t; rules = rules } ∷ [] → AllByRecursion (IsKnown today terms) new
 known-more today terms t old new rules known none is e =
-    rw e (all_append (IsKnown today terms) old (target_rules t rules ∷ []) known (is-known today terms t rules none is, tt))
-
--- What is known for a target are the rules of the terms there.
-pub known-for : (today : Day) (terms : List Term) (t : Target) (lists : List TargetRules) → AllByRecursion (IsKnown today terms) lists
-    → IfSome (rules_for t lists) (λ rules. (first_slip t today terms ≡ None) × (rules ≡ rules_of t today terms))
-known-for today terms t [] known = tt
-known-for today terms t (r ∷ rs) known = by (fits r t) refl (known-for today terms t rs known.1)
-  where
-    by : (b : Bool) → fits r t ≡ b → IfSome (rules_for t rs) (λ rules. (first_slip t today terms ≡ None) × (rules ≡ rules_of t today terms))
-        → IfSome (cond b (Some r.rules) (rules_for t rs)) (λ rules. (first_slip t today terms ≡ None) × (rules ≡ rules_of t today terms))
-    by true e more = (known.0.no_slip t e, known.0.rules_are t e)
-    by false e more = more
-
-pub known-found : (today : Day) (terms : List Term) (t : Target) (lists slice : List TargetRules) (found : Option (Bor (List Rule))) (rules : Bor (List Rule))
-    → AllByRecursion (IsKnown today terms) lists → slice ≡ lists → found ≡ Some rules → option_copied found ≡ rules_for t slice
-    → (first_slip t today terms ≡ None) × (rules.now ≡ rules_of t today terms)
-known-found today terms t lists slice found rules known same is copied =
-    let e : Some rules.now ≡ rules_for t lists = sym (ap option_copied is) ∙ copied ∙ ap (rules_for t) same in
-    subst (λ (o : Option (List Rule)). IfSome o (λ rs. (first_slip t today terms ≡ None) × (rs ≡ rules_of t today terms))) (sym e)
-    (known-for today terms t lists known)
+    let r : TargetRules = record { class = class_of t; rules = rules } in
+    rw e (all_append (IsKnown today terms) old (r ∷ []) known (is-known today terms t r refl none is, tt))

@@ -51,7 +51,7 @@ pub(crate) fn rules_of(
     ensures judged { Judges result (first_slip target.now today terms.now) }
     ensures rules { IfOk result (λ rules. rules ≡ rules_of target.now today terms.now) }
 {
-    let mut rules = Items::new(alloc);
+    let mut rules = Items::with_capacity(alloc, terms.len())?;
     let mut prefixes = 0;
     for term in terms {
         prefixes = add_term(alloc, lists, &mut rules, prefixes, target, today, term)?;

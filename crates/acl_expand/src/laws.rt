@@ -7,8 +7,8 @@ pub fn filters_decide_as_written()
     ensures { FiltersDecideAsWritten }
 {}
 
-/// A law: on targets of one platform, with the same families, that know connections or do not, terms have the same
-/// rules, and the same first slip.
+/// A law: on targets with the same families, where each term is live on both or on neither, has the same verdict on both,
+/// and both know connections or do not, if its option asks for that, terms have the same rules, and the same first slip.
 pub fn alike_targets_have_the_same_rules()
     ensures { AlikeHaveTheSameRules }
 {}

@@ -8,6 +8,7 @@ mod known_rules;
 mod laws;
 mod rule_making;
 mod slips;
+mod target_classes;
 
 pub use expanding::expand;
 pub use known_rules::KnownRules;

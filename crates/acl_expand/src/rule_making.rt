@@ -44,7 +44,7 @@ fn cisco_verdict(verdict: Verdict) -> Verdict
     }
 }
 
-fn verdict_on(kind: Kind, verdict: Verdict) -> Verdict
+pub(crate) fn verdict_on(kind: Kind, verdict: Verdict) -> Verdict
     ensures { result ≡ verdict_on kind verdict }
 {
     match kind {
