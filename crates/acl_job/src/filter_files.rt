@@ -11,6 +11,7 @@ use acl_platform::Filter;
 use acl_policy::Kind;
 use acl_render::render;
 use acl_text::{Items, PutFault};
+use std::alloc::Global;
 
 /// A file that is to be written: its platform, its path, and its filters in order.
 #[derive(Drop)]
@@ -20,15 +21,15 @@ pub struct FilterFile {
     pub filters: Items<Filter>,
 }
 
-// Writes the file. Its text goes into the tree as it is made: no text is held.
-fn write_filters<T: Tree>(tree: &mut T, file: &FilterFile) -> Result<(), WriteFault>
+// Writes the file. Its text goes into the tree as it is made: none is held but a part that filters in a row share.
+fn write_filters<T: Tree>(alloc: Global, tree: &mut T, file: &FilterFile) -> Result<(), WriteFault>
     requires begun { T.begun tree.old ≡ None }
     requires fits { IsWritable file.now }
     ensures { WritesFile T.Tree tree.old tree.new (string_bytes file.now.path)
         (text_on file.now.kind file.now.filters) result }
 {
     tree.begin(file.path.as_str())?;
-    match render(file.kind, file.filters.as_slice(), tree) {
+    match render(alloc, file.kind, file.filters.as_slice(), tree) {
         Ok(()) => tree.finish(),
         Err(PutFault::Failed) => Err(WriteFault::Failed),
         Err(PutFault::Memory) => Err(WriteFault::Memory),
@@ -38,7 +39,11 @@ fn write_filters<T: Tree>(tree: &mut T, file: &FilterFile) -> Result<(), WriteFa
 /// Writes each file whole, in order.
 ///
 /// The first failure ends the writing: the files before that one are written, and those behind it are as they were.
-pub fn write_files<T: Tree>(tree: &mut T, files: &[FilterFile]) -> Result<(), WriteFault>
+pub fn write_files<T: Tree>(
+    alloc: Global,
+    tree: &mut T,
+    files: &[FilterFile],
+) -> Result<(), WriteFault>
     requires begun { T.begun tree.old ≡ None }
     requires differ { PathsDiffer (map file_view files.now) }
     requires fit { All IsWritable files.now }
@@ -47,8 +52,8 @@ pub fn write_files<T: Tree>(tree: &mut T, files: &[FilterFile]) -> Result<(), Wr
     match files {
         [] => Ok(()),
         [first, rest @ ..] => {
-            write_filters(tree, first)?;
-            write_files(tree, rest)
+            write_filters(alloc, tree, first)?;
+            write_files(alloc, tree, rest)
         }
     }
 }

@@ -43,11 +43,12 @@ module _ {S : Type 0} (rows : S → List Row) (section : Filter → S) where
       joined_text rows (map section fs) (map section gs)
       ∙ ap (λ sections. text_of_rows (flat_map rows sections)) (sym (map-append section fs gs))
 
-  pub written-split : (fs : List Filter) (i : ℕ) (f : Filter) → i < length fs
-      → (written (take i fs) ++ written (get_or fs i f ∷ [])) ++ written (drop (i + 1) fs) ≡ written fs
-  written-split fs i f h =
+  pub written-split : (fs : List Filter) (i : ℕ) (f : Filter) → f ≡ get_or fs i f → i < length fs
+      → (written (take i fs) ++ written (f ∷ [])) ++ written (drop (i + 1) fs) ≡ written fs
+  written-split fs i f is h =
       let here = get_or fs i f ∷ [] in
-      ap (λ text. text ++ written (drop (i + 1) fs)) (joined (take i fs) here)
+      ap (λ x. (written (take i fs) ++ written (x ∷ [])) ++ written (drop (i + 1) fs)) is
+      ∙ ap (λ text. text ++ written (drop (i + 1) fs)) (joined (take i fs) here)
       ∙ joined (take i fs ++ here) (drop (i + 1) fs)
       ∙ ap written (append_assoc (take i fs) here (drop (i + 1) fs)
       ∙ ap (λ rest. take i fs ++ rest) (sym (drop_more fs i f h)) ∙ take-append-drop i fs)

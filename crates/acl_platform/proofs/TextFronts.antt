@@ -1,10 +1,12 @@
 -- Texts that are put item by item, up to one that is refused.
-use Rattle.std.proofs.Common.{◌≡◌, ℕ, ◌+◌, ◌<◌, Bool, List, ◌++◌, length, take, drop, get_or, flat_map, Option, Result, Err, IsErrAnd, refl, ap, ◌∙◌}
+use Rattle.std.proofs.Common.{◌≡◌, ℕ, ◌+◌, ◌-◌, ◌<◌, Bool, List, ◌++◌, length, take, drop, get_or, flat_map, Option, Result, Err, IsErrAnd, refl, ap, ◌∙◌, arith}
+use Rattle.std.proofs.lemmas.List.{length-drop, take_all, take-append-drop}
 use Rattle.std.proofs.lemmas.Result.{err_from_is_err_and}
 use Rattle.acl_text.specs.declared.output.PutFault.{PutFault}
 use Rattle.acl_text.specs.Output.{PutsBy}
 use Rattle.acl_text.proofs.Putting.{done, goes_on, stops}
 use Rattle.acl_rows.specs.Rows.{Row, text_of_rows}
+use Rattle.acl_rows.proofs.ListLaws.{joined_text}
 use Rattle.acl_rows.proofs.PutLaws.{each_split, retold}
 
 -- the rows of the items before one, of that one, and of those behind it
@@ -25,3 +27,12 @@ pub refused : {S T : Type 0} {told : S → Option (List ℕ)} {faults refusals :
 refused rest r all law p q h =
     let err = err_from_is_err_and r h in
     rw (err.1, err.2) (retold all (stops rest (goes_on law p q) refl))
+
+-- the text of items in front, and that of the part behind them
+pub front-text : {A : Type 0} (rows : A → List Row) (xs : List A) (n : ℕ) (front : List ℕ) → front ≡ text_of_rows (flat_map rows (take n xs))
+    → front ++ text_of_rows (flat_map rows (take (length xs - n) (drop n xs))) ≡ text_of_rows (flat_map rows xs)
+front-text rows xs n front is =
+    let behind : take (length xs - n) (drop n xs) ≡ drop n xs = let e = length-drop n xs in take_all (length xs - n) (drop n xs) (omega (arith, e)) in
+    ap (λ text. text ++ text_of_rows (flat_map rows (take (length xs - n) (drop n xs)))) is
+    ∙ ap (λ rest. text_of_rows (flat_map rows (take n xs)) ++ text_of_rows (flat_map rows rest)) behind
+    ∙ joined_text rows (take n xs) (drop n xs) ∙ ap (λ ys. text_of_rows (flat_map rows ys)) (take-append-drop n xs)

@@ -5,6 +5,7 @@
 mod choices;
 mod combinations;
 mod elements;
+mod family_texts;
 mod filtering;
 mod filters;
 mod laws;
@@ -14,7 +15,9 @@ mod platforms;
 mod remarks;
 mod rule_counts;
 mod rule_rows;
+mod rule_texts;
 mod rules;
+mod same_rules;
 mod seen_names;
 mod shared_rules;
 mod writing;
@@ -24,6 +27,7 @@ pub use combinations::{
     Combination, CombinationForm, count_combinations, put_combinations, put_combinations_by_halves,
 };
 pub use elements::{address_elements, range_elements};
+pub use family_texts::FamilyTexts;
 pub use filtering::filter_outcome;
 pub use filters::{Feature, Filter, Limit};
 pub use laws::{combinations_hold_what_the_sets_hold, sound_rules_have_combinations};
@@ -33,6 +37,8 @@ pub use platforms::{Platform, count_within_limits};
 pub use remarks::{NoteRows, RemarkForm, RemarkRows};
 pub use rule_counts::{RuleCount, count_rules};
 pub use rule_rows::{RuleForm, put_rules};
+pub use rule_texts::RuleTexts;
 pub use rules::{Rule, Rules, Test, set_of};
+pub use same_rules::are_same;
 pub use shared_rules::SharedRules;
 pub use writing::write_all;

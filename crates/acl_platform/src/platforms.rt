@@ -1,4 +1,4 @@
-ghost use Rattle.std.specs.Prelude.{◌≡◌, ℕ, List, [], ◌∷◌, Bool, true, IsTrue, flat_map, min};
+ghost use Rattle.std.specs.Prelude.{◌≡◌, ℕ, List, [], ◌∷◌, Bool, true, IsTrue, flat_map, map, min};
 ghost use Rattle.std.specs.List.{All};
 ghost use Rattle.acl_text.specs.Output.{COUNT_END};
 ghost use Rattle.acl_text.specs.Puts.{Puts};
@@ -14,6 +14,7 @@ use crate::filters::{Filter, Limit};
 use crate::limits::{RuleLimits, count_in_limit, first_limit};
 use acl_rows::Language;
 use acl_text::{Out, PutFault};
+use std::alloc::Global;
 
 /// A platform: a language of documents, and the section of it that a filter becomes.
 ///
@@ -44,6 +45,26 @@ pub trait Platform: RuleLimits {
         requires sound { IsSound filter.now }
         ensures { Puts O.Out out.old out.new
             (text_of_rows (flat_map Self.Language.rows (section self.now filter.now ∷ []))) result };
+
+    /// Puts the text of the sections of filters, in order: sound ones that the platform handles, in an
+    /// output that has to be open.
+    fn put_sections<O: Out>(
+        &self,
+        alloc: Global,
+        filters: &[Filter],
+        out: &mut O,
+    ) -> Result<(), PutFault>
+        requires open { IsTrue (O.is_open out.old) }
+        requires handled { All (λ f. handles self.now f ≡ true) filters.now }
+        requires sound { All IsSound filters.now }
+        ensures { Puts O.Out out.old out.new
+            (text_of_rows (flat_map Self.Language.rows (map (section self.now) filters.now))) result }
+    {
+        for filter in filters {
+            self.put_section(filter, out)?;
+        }
+        Ok(())
+    }
 
     /// A law: the text of the section of a filter that is taken spells the document of that section.
     fn a_section_is_spelled()

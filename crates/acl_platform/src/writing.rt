@@ -10,11 +10,13 @@ ghost use Rattle.acl_platform.specs.Platforms.{DecidesAs, IsAccepted};
 use crate::filters::Filter;
 use crate::platforms::Platform;
 use acl_text::{Out, PutFault};
+use std::alloc::Global;
 
 /// Puts the text of the one document whose sections are those of the filters, in order.
 ///
 /// The section at a place decides the packets of its filter's families as that filter does.
 pub fn write_all<P: Platform, O: Out>(
+    alloc: Global,
     platform: &P,
     filters: &[Filter],
     out: &mut O,
@@ -34,8 +36,5 @@ pub fn write_all<P: Platform, O: Out>(
 {
     P::a_section_is_spelled();
     P::a_section_decides();
-    for filter in filters {
-        platform.put_section(filter, out)?;
-    }
-    Ok(())
+    platform.put_sections(alloc, filters, out)
 }

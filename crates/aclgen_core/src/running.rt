@@ -37,7 +37,7 @@ pub fn aclgen<T: Tree, O: Sink, E: Sink, C: Clock>(
     match decide(alloc, words, tree, clock) {
         Decision::Usage => refuse(err, usage_line().as_bytes(), Ended::Usage),
         Decision::Refused(fault, line) => refuse(err, line.as_slice(), Ended::Rejected(fault)),
-        Decision::Planned(work) => carry_out(&work, tree, out, err),
+        Decision::Planned(work) => carry_out(alloc, &work, tree, out, err),
         Decision::Outside(which) => tell_outside(err, outside_line(which), which),
         Decision::Memory => Ended::Memory,
     }

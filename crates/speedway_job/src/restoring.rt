@@ -32,7 +32,7 @@ fn text_of(alloc: Global, filters: &[Filter]) -> Result<Option<Whole>, Memory>
         return Ok(None);
     }
     let mut text = Whole::new(alloc);
-    match write_all(&Speedway, filters, &mut text) {
+    match write_all(alloc, &Speedway, filters, &mut text) {
         Ok(()) => Ok(Some(text)),
         Err(_) => Err(Memory),
     }

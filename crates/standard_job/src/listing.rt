@@ -28,7 +28,7 @@ fn text_of(alloc: Global, first: u8, filters: &[Filter]) -> Result<Option<Whole>
         return Ok(None);
     }
     let mut text = Whole::new(alloc);
-    match write_all(&Standard { first }, filters, &mut text) {
+    match write_all(alloc, &Standard { first }, filters, &mut text) {
         Ok(()) => Ok(Some(text)),
         Err(_) => Err(Memory),
     }

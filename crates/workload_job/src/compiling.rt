@@ -64,7 +64,7 @@ pub fn compile_workload(alloc: Global, terms: u32) -> Result<Work, Memory>
 {
     let mut tree = workload_tree(alloc, terms)?;
     let work = plan_workload(alloc, terms, &mut tree)?;
-    match write_files(&mut tree, work.files.as_slice()) {
+    match write_files(alloc, &mut tree, work.files.as_slice()) {
         Ok(()) => Ok(work),
         Err(_) => Err(Memory),
     }

@@ -36,7 +36,7 @@ pub(crate) fn are_written<P: Platform>(
         (flat_map P.Language.names (map (P.section platform.now) filters.now)) }
 {
     let mut out = Whole::new(alloc);
-    write_all(platform, filters, &mut out)?;
+    write_all(alloc, platform, filters, &mut out)?;
     Ok(
         out.as_slice() == text.as_bytes()
             && sections_of::<P>(alloc, out.as_slice())? == Some(filters.len()),

@@ -28,8 +28,8 @@ fn a_file_holds_what_is_rendered(rt: HostRuntime) -> Result<(), Fail> {
     let mut tree = MemTree::new(alloc);
     tree.begin("out/a.acl")?;
     let filters = [edge];
-    render(Kind::Cisco, &filters, &mut text)?;
-    render(Kind::Cisco, &filters, &mut tree)?;
+    render(alloc, Kind::Cisco, &filters, &mut text)?;
+    render(alloc, Kind::Cisco, &filters, &mut tree)?;
     tree.finish()?;
     assert_eq!(rt; tree.file("out/a.acl"), Some(text.as_slice()));
     assert_eq!(rt; text.as_slice(), EDGE);

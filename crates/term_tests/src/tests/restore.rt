@@ -29,7 +29,7 @@ fn text_of(alloc: Global, filter: Filter) -> Result<Whole, Fail>
     let mut out = Whole::new(alloc);
     if let (Kind::Iptables, Ending::Accept | Ending::Deny) = (filter.kind, filter.ending) {
         if count_within_limits(&Speedway, &filter) == Ok(2) {
-            write_all(&Speedway, &[filter], &mut out)?;
+            write_all(alloc, &Speedway, &[filter], &mut out)?;
         }
     }
     Ok(out)

@@ -33,7 +33,7 @@ fn text_of(alloc: Global, filter: Filter) -> Result<Whole, Fail>
     let platform = Standard { first: 10 };
     if let (Kind::Cisco, Families::Inet, 1) = (filter.kind, filter.families, filter.number) {
         if count_within_limits(&platform, &filter) == Ok(1) {
-            write_all(&platform, &[filter], &mut out)?;
+            write_all(alloc, &platform, &[filter], &mut out)?;
         }
     }
     Ok(out)
