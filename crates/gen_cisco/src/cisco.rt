@@ -2,10 +2,11 @@ ghost use Rattle.gen_cisco.specs.Limits.{is_for_cisco};
 ghost use Rattle.gen_cisco.specs.Sections.{entry_count, section_of};
 
 use crate::counts::list_count;
-use crate::section_rows::put_section;
+use crate::section_rows::{put_section, put_sections};
 use acl_packet::{Families, Family};
 use acl_platform::{Filter, Platform};
 use acl_text::{Out, PutFault};
+use std::alloc::Global;
 
 /// The platform of Cisco IOS extended access lists, of IPv4 and of IPv6.
 pub struct Cisco;
@@ -33,6 +34,15 @@ impl Platform for Cisco {
     #[tactic(auto, using(acl_platform::proofs::SoundRules::all_sized))]
     fn put_section<O: Out>(&self, filter: &Filter, out: &mut O) -> Result<(), PutFault> {
         put_section(filter, out)
+    }
+
+    fn put_sections<O: Out>(
+        &self,
+        alloc: Global,
+        filters: &[Filter],
+        out: &mut O,
+    ) -> Result<(), PutFault> {
+        put_sections(alloc, filters, out)
     }
 
     #[tactic(auto, using(crate::proofs::SectionLaws::section_is_spelled))]

@@ -2,8 +2,9 @@ ghost use Rattle.std.specs.Prelude.{◌≡◌, ◌++◌, ◌∷◌, [], codes, f
 ghost use Rattle.std.specs.List.{All};
 ghost use Rattle.acl_text.specs.Puts.{Puts};
 ghost use Rattle.acl_rows.specs.Rows.{row, text_of_rows, words_in};
-ghost use Rattle.acl_packet.specs.declared.addresses.Family.TheVariants.{V6};
+ghost use Rattle.acl_packet.specs.declared.addresses.Family.TheVariants.{V4, V6};
 ghost use Rattle.acl_platform.specs.Combinations.{IsSized, combinations};
+ghost use Rattle.acl_platform.specs.SoundFilters.{IsSound};
 ghost use Rattle.cisco_lang.specs.declared.documents.Flags.{Flags};
 ghost use Rattle.cisco_lang.specs.declared.documents.Item.TheVariants.{Entry as AnEntry, Remark};
 ghost use Rattle.cisco_lang.specs.EntryHalves.{entry_back, entry_front};
@@ -24,8 +25,8 @@ ghost use Rattle.gen_cisco.specs.Sections.{
 use crate::counts::{has_rule, is_of};
 use acl_packet::{Families, Family, Prefix, Verdict};
 use acl_platform::{
-    Combination, CombinationForm, Filter, RemarkForm, RemarkRows, Rule, RuleForm, Test,
-    put_combinations_by_halves, put_rules,
+    Combination, CombinationForm, FamilyTexts, Filter, RemarkForm, RemarkRows, Rule, RuleForm,
+    RuleTexts, Test, put_combinations_by_halves,
 };
 use acl_rows::{OneWord, Piece, Row, RowForm, Rows};
 use acl_text::{Out, PutFault};
@@ -33,6 +34,7 @@ use cisco_lang::{
     Entry, EntryBack, EntryFront, EntryHalves, EntryRow, Flags, ListEnd, ListHead, RemarkRow,
     SectionHead,
 };
+use std::alloc::Global;
 
 /// Puts the text of the section that the filter becomes, in an output that has to be open.
 /// Protocols, types and codes of its rules have to be numbers below 256, ports below 65,536.
@@ -41,20 +43,58 @@ pub(crate) fn put_section<O: Out>(filter: &Filter, out: &mut O) -> Result<(), Pu
     requires sized { All IsSized filter.now.rules }
     ensures { Puts O.Out out.old out.new (text_of (section_of filter.now ∷ [])) result }
 {
+    put_section_by(&texts_of(filter.rules.as_slice()), filter, out)
+}
+
+/// Puts the text of the sections that the filters become. That of rules which several filters in a
+/// row have is made once.
+#[tactic(auto, using(acl_platform::proofs::SoundRules::all_sized))]
+pub(crate) fn put_sections<O: Out>(
+    alloc: Global,
+    filters: &[Filter],
+    out: &mut O,
+) -> Result<(), PutFault>
+    requires open { IsTrue (O.is_open out.old) }
+    requires sound { All IsSound filters.now }
+    ensures { Puts O.Out out.old out.new (text_of (map section_of filters.now)) result }
+{
+    let mut texts = texts_of(&[]);
+    for filter in filters {
+        texts.turn_to(alloc, filter.families, filter.rules.as_slice());
+        put_section_by(&texts, filter, out)?;
+    }
+    Ok(())
+}
+
+fn texts_of(rules: &[Rule]) -> FamilyTexts<'_, InFamily>
+    requires { All IsSized rules.now }
+    ensures v4 { result.v4.form.family ≡ V4 }
+    ensures v6 { result.v6.form.family ≡ V6 }
+    ensures rules { result.v4.rules.now ≡ rules.now }
+{
+    let v4 = InFamily { family: Family::V4 };
+    let v6 = InFamily { family: Family::V6 };
+    FamilyTexts::new(v4, v6, rules)
+}
+
+fn put_section_by<O: Out>(
+    texts: &FamilyTexts<'_, InFamily>,
+    filter: &Filter,
+    out: &mut O,
+) -> Result<(), PutFault>
+    requires open { IsTrue (O.is_open out.old) }
+    requires v4 { texts.now.v4.form.family ≡ V4 }
+    requires v6 { texts.now.v6.form.family ≡ V6 }
+    requires rules { texts.now.v4.rules.now ≡ filter.now.rules }
+    ensures { Puts O.Out out.old out.new (text_of (section_of filter.now ∷ [])) result }
+{
     let name = filter.name.as_slice();
-    let rules = filter.rules.as_slice();
     let section = SectionHead {
         name,
         families: filter.families,
     };
-    let v4 = ListItems {
-        family: Family::V4,
-        rules,
-    };
-    let v6 = ListItems {
-        family: Family::V6,
-        rules,
-    };
+    let v4 = ListItems { texts: &texts.v4 };
+    let v6 = ListItems { texts: &texts.v6 };
     match filter.families {
         Families::Inet => {
             let head = ListHead {
@@ -117,19 +157,18 @@ impl<'a> Rows for MixedHead<'a> {
 
 // The items of the list of a family.
 #[derive(Drop)]
-struct ListItems<'a> {
-    family: Family,
-    rules: &'a [Rule],
-    ghost sized: { All IsSized rules.now },
+struct ListItems<'a, 'r> {
+    texts: &'a RuleTexts<'r, InFamily>,
 }
 
-impl<'a> Rows for ListItems<'a> {
-    ghost rows = { λ l. items_rows l.family (list_items l.family l.rules.now) };
+impl<'a, 'r> Rows for ListItems<'a, 'r> {
+    ghost rows = { λ l. items_rows l.texts.now.form.family
+        (list_items l.texts.now.form.family l.texts.now.rules.now) };
 
     fn put_rows<O: Out>(&self, out: &mut O) -> Result<(), PutFault> {
-        let family = self.family;
-        if has_rule(family, self.rules) {
-            put_rules(self.rules, &InFamily { family }, out)
+        let family = self.texts.form.family;
+        if has_rule(family, self.texts.rules) {
+            self.texts.put_rows(out)
         } else {
             put_closing(family, out)
         }

@@ -1,9 +1,10 @@
 ghost use Rattle.gen_junos.specs.Limits.{is_for_junos};
 ghost use Rattle.gen_junos.specs.Sections.{entry_count, section_of};
 
-use crate::section_rows::put_section;
+use crate::section_rows::{put_section, put_sections};
 use acl_platform::{Filter, Platform, count_rules};
 use acl_text::{Out, PutFault};
+use std::alloc::Global;
 
 /// The platform of Junos firewall filters, of IPv4 or of IPv6.
 pub struct Junos;
@@ -29,6 +30,15 @@ impl Platform for Junos {
     #[tactic(auto, using(acl_platform::proofs::SoundRules::all_sized))]
     fn put_section<O: Out>(&self, filter: &Filter, out: &mut O) -> Result<(), PutFault> {
         put_section(filter, out)
+    }
+
+    fn put_sections<O: Out>(
+        &self,
+        alloc: Global,
+        filters: &[Filter],
+        out: &mut O,
+    ) -> Result<(), PutFault> {
+        put_sections(alloc, filters, out)
     }
 
     #[tactic(auto, using(crate::proofs::SectionLaws::section_is_spelled))]

@@ -1,7 +1,9 @@
-ghost use Rattle.std.specs.Prelude.{◌∷◌, [], flat_map, IsTrue};
+ghost use Rattle.std.specs.Prelude.{◌≡◌, ◌∷◌, [], flat_map, map, IsTrue};
 ghost use Rattle.std.specs.List.{All};
 ghost use Rattle.acl_text.specs.Puts.{Puts};
 ghost use Rattle.acl_platform.specs.Combinations.{IsSized};
+ghost use Rattle.acl_platform.specs.SoundFilters.{IsSound};
+ghost use Rattle.acl_packet.specs.declared.addresses.Family.TheVariants.{V4, V6};
 ghost use Rattle.acl_packet.specs.Addresses.{first_family};
 ghost use Rattle.junos_lang.specs.Texts.{note_row, term_rows, text_of};
 ghost use Rattle.gen_junos.specs.Sections.{
@@ -13,15 +15,61 @@ ghost use Rattle.gen_junos.specs.Sections.{
 
 use crate::condition_rows::RuleConditions;
 use acl_packet::{Family, Verdict};
-use acl_platform::{Filter, NoteRows, RemarkForm, Rule, RuleForm, put_rules};
+use acl_platform::{FamilyTexts, Filter, NoteRows, RemarkForm, Rule, RuleForm, RuleTexts};
 use acl_rows::Rows;
 use acl_text::{Out, PutFault};
 use junos_lang::{NoteRow, SectionEnd, SectionHead, TermEnd, TermHead, ThenRows};
+use std::alloc::Global;
 
 /// Puts the text of the section that the filter becomes.
 pub(crate) fn put_section<O: Out>(filter: &Filter, out: &mut O) -> Result<(), PutFault>
     requires open { IsTrue (O.is_open out.old) }
     requires sized { All IsSized filter.now.rules }
+    ensures { Puts O.Out out.old out.new (text_of (section_of filter.now ∷ [])) result }
+{
+    put_section_by(&texts_of(filter.rules.as_slice()), filter, out)
+}
+
+/// Puts the text of the sections that the filters become. That of rules which several filters in a
+/// row have is made once.
+#[tactic(auto, using(acl_platform::proofs::SoundRules::all_sized))]
+pub(crate) fn put_sections<O: Out>(
+    alloc: Global,
+    filters: &[Filter],
+    out: &mut O,
+) -> Result<(), PutFault>
+    requires open { IsTrue (O.is_open out.old) }
+    requires sound { All IsSound filters.now }
+    ensures { Puts O.Out out.old out.new (text_of (map section_of filters.now)) result }
+{
+    let mut texts = texts_of(&[]);
+    for filter in filters {
+        texts.turn_to(alloc, filter.families, filter.rules.as_slice());
+        put_section_by(&texts, filter, out)?;
+    }
+    Ok(())
+}
+
+fn texts_of(rules: &[Rule]) -> FamilyTexts<'_, InFamily>
+    requires { All IsSized rules.now }
+    ensures v4 { result.v4.form.family ≡ V4 }
+    ensures v6 { result.v6.form.family ≡ V6 }
+    ensures rules { result.v4.rules.now ≡ rules.now }
+{
+    let v4 = InFamily { family: Family::V4 };
+    let v6 = InFamily { family: Family::V6 };
+    FamilyTexts::new(v4, v6, rules)
+}
+
+fn put_section_by<O: Out>(
+    texts: &FamilyTexts<'_, InFamily>,
+    filter: &Filter,
+    out: &mut O,
+) -> Result<(), PutFault>
+    requires open { IsTrue (O.is_open out.old) }
+    requires v4 { texts.now.v4.form.family ≡ V4 }
+    requires v6 { texts.now.v6.form.family ≡ V6 }
+    requires rules { texts.now.v4.rules.now ≡ filter.now.rules }
     ensures { Puts O.Out out.old out.new (text_of (section_of filter.now ∷ [])) result }
 {
     let family = filter.families.first_family();
@@ -30,29 +78,41 @@ pub(crate) fn put_section<O: Out>(filter: &Filter, out: &mut O) -> Result<(), Pu
         name: filter.name.as_slice(),
     };
     let terms = TermRows {
-        family,
-        rules: filter.rules.as_slice(),
+        texts: texts_in(family, texts),
     };
     (head, (terms, SectionEnd)).put_rows(out)
 }
 
-// The terms of rules.
-#[derive(Drop)]
-struct TermRows<'a> {
+fn texts_in<'a, 'r>(
     family: Family,
-    rules: &'a [Rule],
-    ghost sized: { All IsSized rules.now },
+    texts: &'a FamilyTexts<'r, InFamily>,
+) -> &'a RuleTexts<'r, InFamily>
+    requires v4 { texts.now.v4.form.family ≡ V4 }
+    requires v6 { texts.now.v6.form.family ≡ V6 }
+    ensures family { result.now.form.family ≡ family }
+    ensures rules { result.now.rules.now ≡ texts.now.v4.rules.now }
+{
+    match family {
+        Family::V4 => &texts.v4,
+        Family::V6 => &texts.v6,
+    }
 }
 
-impl<'a> Rows for TermRows<'a> {
-    ghost rows = { λ t. flat_map (term_rows t.family) (terms_of t.rules.now) };
+// The terms of rules.
+#[derive(Drop)]
+struct TermRows<'a, 'r> {
+    texts: &'a RuleTexts<'r, InFamily>,
+}
+
+impl<'a, 'r> Rows for TermRows<'a, 'r> {
+    ghost rows = { λ t. flat_map (term_rows t.texts.now.form.family) (terms_of t.texts.now.rules.now) };
 
     fn put_rows<O: Out>(&self, out: &mut O) -> Result<(), PutFault> {
-        let family = self.family;
-        if self.rules.is_empty() {
+        if self.texts.rules.is_empty() {
+            let family = self.texts.form.family;
             DefaultTerm { family }.put_rows(out)
         } else {
-            put_rules(self.rules, &InFamily { family }, out)
+            self.texts.put_rows(out)
         }
     }
 }
