@@ -1,4 +1,4 @@
-ghost use Rattle.std.specs.Prelude.{◌≡◌, ◌≤◌, Some, IfOk, length, take, flat_map};
+ghost use Rattle.std.specs.Prelude.{◌≡◌, ◌≤◌, Some, length, take, flat_map};
 ghost use Rattle.std.specs.List.{All};
 ghost use Rattle.acl_rows.specs.Rows.{text_of_rows};
 ghost use Rattle.acl_platform.specs.Combinations.{IsSized};
@@ -6,11 +6,11 @@ ghost use Rattle.acl_platform.specs.Combinations.{IsSized};
 use crate::rule_rows::{RuleForm, put_rules};
 use crate::rules::Rule;
 use acl_rows::Rows;
-use acl_text::{Out, PutFault, Whole};
+use acl_text::{Out, PutFault};
 use std::alloc::Global;
 
-// No more rules are kept as text from so many bytes on.
-const MOST_BYTES: usize = 2_097_152;
+// So many bytes of text are kept at most.
+const MOST_BYTES: usize = 1_048_576;
 
 /// Rules in a form, and the text of those in front, where it is kept.
 #[derive(Drop)]
@@ -21,13 +21,13 @@ pub struct RuleTexts<'a, F: RuleForm + Drop> {
     ghost sized: { All IsSized rules.now },
     ghost within: { (f : _) → front ≡ Some f → f.count ≤ length rules.now },
     ghost kept: { (f : _) → front ≡ Some f
-        → f.text.bytes ≡ text_of_rows (flat_map (F.rule_rows form) (take f.count rules.now)) },
+        → f.text.items ≡ text_of_rows (flat_map (F.rule_rows form) (take f.count rules.now)) },
 }
 
 // The text of so many rules, from the first on.
 #[derive(Drop)]
 struct Front {
-    text: Whole,
+    text: Vec<u8>,
     count: usize,
 }
 
@@ -55,13 +55,13 @@ impl<'a, F: RuleForm + Drop> RuleTexts<'a, F> {
         self.front = None;
     }
 
-    /// Keeps the text of the rules, up to a number of bytes. Where memory is wanted, none is kept.
+    /// Keeps the text of the rules in front, as far as there is room and memory for it.
     pub fn keep(&mut self, alloc: Global)
         ensures form { self.new.form ≡ self.old.form }
         ensures rules { self.new.rules.now ≡ self.old.rules.now }
     {
         if self.front.is_none() {
-            self.front = front_of(alloc, self.rules, &self.form).ok();
+            self.front = Some(front_of(alloc, self.rules, &self.form));
         }
     }
 }
@@ -81,21 +81,63 @@ impl<'a, F: RuleForm + Drop> Rows for RuleTexts<'a, F> {
     }
 }
 
-fn front_of<F: RuleForm>(alloc: Global, rules: &[Rule], form: &F) -> Result<Front, PutFault>
-    requires { All IsSized rules.now }
-    ensures within { IfOk result (λ f. f.count ≤ length rules.now) }
-    ensures kept { IfOk result (λ f. f.text.bytes
-        ≡ text_of_rows (flat_map (F.rule_rows form.now) (take f.count rules.now))) }
-{
-    let mut text = Whole::new(alloc);
-    for (i, rule) in rules.iter().enumerate() {
-        if text.as_slice().len() >= MOST_BYTES {
-            return Ok(Front { text, count: i });
+// A text that is kept. It refuses what it has no room for, and from then on nothing more may be put.
+#[derive(Drop)]
+struct KeptText {
+    bytes: Vec<u8>,
+    is_open: bool,
+}
+
+impl Out for KeptText {
+    ghost use Rattle.std.specs.Prelude.{Some, if◌then◌else◌};
+
+    ghost told = { λ t. Some t.bytes.items };
+
+    ghost faults = { λ t. if t.is_open then 0 else 1 };
+
+    ghost refusals = { λ t. 0 };
+
+    ghost is_open = { λ t. t.is_open };
+
+    // it has no rest
+    ghost keeps_rest = { λ x y. Unit {0} };
+
+    fn put(&mut self, bytes: &[u8]) -> Result<(), PutFault> {
+        let has_room = bytes.len() <= MOST_BYTES.saturating_sub(self.bytes.len());
+        if has_room && self.bytes.extend_from_slice(bytes).is_ok() {
+            return Ok(());
         }
-        form.put_rule(rule, &mut text)?;
+        self.is_open = false;
+        Err(PutFault::Failed)
     }
-    Ok(Front {
-        text,
+
+    ghost rest_same = { λ x. tt };
+
+    ghost rest_goes_on = { λ x y z p q. tt };
+}
+
+fn front_of<F: RuleForm>(alloc: Global, rules: &[Rule], form: &F) -> Front
+    requires { All IsSized rules.now }
+    ensures within { result.count ≤ length rules.now }
+    ensures kept { result.text.items
+        ≡ text_of_rows (flat_map (F.rule_rows form.now) (take result.count rules.now)) }
+{
+    let mut text = KeptText {
+        bytes: Vec::new(alloc),
+        is_open: true,
+    };
+    for (i, rule) in rules.iter().enumerate() {
+        let length = text.bytes.len();
+        if form.put_rule(rule, &mut text).is_err() {
+            text.bytes.truncate(length);
+            return Front {
+                text: text.bytes,
+                count: i,
+            };
+        }
+    }
+    Front {
+        text: text.bytes,
         count: rules.len(),
-    })
+    }
 }
