@@ -65,25 +65,48 @@ out/a.acl: cisco low extended: entries 1
 out/a.acl: cisco sums extended: entries 1
 ";
 
-const TWO_ALIKE: &[u8] =
-    b"header { target:: cisco edge extended target:: cisco rim extended }\nterm t { action:: accept }\n";
+// The text of the rules of the third is what was kept of the second.
+const THREE_ALIKE: &[u8] =
+    b"header { target:: cisco edge mixed target:: cisco rim mixed target:: cisco shore mixed }\nterm t { action:: accept }\n";
 
-const ALIKE_SECTIONS: &[u8] = b"! cisco edge extended
+const ALIKE_SECTIONS: &[u8] = b"! cisco edge mixed
 no ip access-list extended edge
 ip access-list extended edge
  remark t
  permit ip any any
 exit
-! cisco rim extended
+no ipv6 access-list ipv6-edge
+ipv6 access-list ipv6-edge
+ remark t
+ permit ipv6 any any
+exit
+! cisco rim mixed
 no ip access-list extended rim
 ip access-list extended rim
  remark t
  permit ip any any
 exit
+no ipv6 access-list ipv6-rim
+ipv6 access-list ipv6-rim
+ remark t
+ permit ipv6 any any
+exit
+! cisco shore mixed
+no ip access-list extended shore
+ip access-list extended shore
+ remark t
+ permit ip any any
+exit
+no ipv6 access-list ipv6-shore
+ipv6 access-list ipv6-shore
+ remark t
+ permit ipv6 any any
+exit
 ";
 
-const ALIKE_REPORT: &[u8] = b"out/a.acl: cisco edge extended: entries 1
-out/a.acl: cisco rim extended: entries 1
+const ALIKE_REPORT: &[u8] = b"out/a.acl: cisco edge mixed: entries 2
+out/a.acl: cisco rim mixed: entries 2
+out/a.acl: cisco shore mixed: entries 2
 ";
 
 const TWO_TERMS: &[u8] = b"out/w.acl: cisco w mixed: entries 8
@@ -93,7 +116,7 @@ out/w.nft: nftables forward mixed: entries 24
 ";
 
 const CASE: Case = Case {
-    policy: TWO_ALIKE,
+    policy: THREE_ALIKE,
     words: DATED,
     calls: NONE,
     status: 0,
