@@ -65,8 +65,8 @@ impl<'a, R: Files> DiskTree<'a, R> {
 // Writes what is gathered, and puts the file into its place.
 fn end<R: Files>(rt: &R, opened: &mut Opened<R>, gathered: &mut Gathered) -> io::Result<()>
     ensures written { OnOk result (Appends (R.File.contents opened.old.file)
-        (R.File.contents opened.new.file) gathered.old.bytes.items) }
-    ensures none { gathered.new.bytes.items ≡ [] }
+        (R.File.contents opened.new.file) gathered.old) }
+    ensures none { gathered.new ≡ [] }
 {
     gathered.write_out(&mut opened.file)?;
     opened.settle(rt)

@@ -2,33 +2,45 @@ ghost use Rattle.std.specs.Prelude.{◌≡◌, ◌++◌, [], OnOk, if◌then◌e
 ghost use Rattle.std.specs.Io.KnownBytes.{Appends, append_known};
 
 use crate::whole_writes::write_whole;
-use arrayvec::ArrayVec;
 use std::io;
 use std::io::Write;
+use std::marker::Model;
 
 // So many bytes are gathered.
 const ROOM: usize = 65_536;
 
-/// Bytes on their way to a file, gathered so that many small pieces are few writes.
+/// Bytes on their way to a file, gathered so that many small pieces are few writes. A contract sees the bytes.
 #[derive(Drop)]
 pub(crate) struct Gathered {
-    bytes: ArrayVec<u8, ROOM>,
+    room: [u8; ROOM],
+    end: usize,
+}
+
+impl Model for Gathered {
+    ghost use Rattle.std.specs.Prelude.{◌≤◌, ℕ, List, take};
+
+    ghost Value = { List ℕ };
+
+    ghost view = { λ g. take g.end g.room };
+
+    ghost invariant = { λ g. g.end ≤ 65536 };
 }
 
 impl Gathered {
     /// Nothing is gathered.
     pub(crate) fn new() -> Gathered
-        ensures { result.bytes.items ≡ [] }
+        ensures { result ≡ [] }
     {
         Gathered {
-            bytes: ArrayVec::new(),
+            room: [0; ROOM],
+            end: 0,
         }
     }
 
     /// Takes the bytes behind those that are gathered, and writes what has no room.
     pub(crate) fn put<W: Write>(&mut self, writer: &mut W, bytes: &[u8]) -> io::Result<()>
-        ensures { OnOk result (Appends (append_known (W.contents writer.old) self.old.bytes.items)
-            (append_known (W.contents writer.new) self.new.bytes.items) bytes.now) }
+        ensures { OnOk result (Appends (append_known (W.contents writer.old) self.old)
+            (append_known (W.contents writer.new) self.new) bytes.now) }
     {
         if self.take(bytes) {
             return Ok(());
@@ -43,26 +55,32 @@ impl Gathered {
     /// Writes what is gathered. Nothing is gathered then, also where it fails.
     pub(crate) fn write_out<W: Write>(&mut self, writer: &mut W) -> io::Result<()>
         ensures written { OnOk result (Appends (W.contents writer.old) (W.contents writer.new)
-            self.old.bytes.items) }
-        ensures none { self.new.bytes.items ≡ [] }
+            self.old) }
+        ensures none { self.new ≡ [] }
     {
-        let written = write_whole(writer, self.bytes.as_slice());
-        self.bytes.clear();
+        let written = write_whole(writer, &self.room[..self.end]);
+        self.clear();
         written
     }
 
     /// Lets go what is gathered.
     pub(crate) fn clear(&mut self)
-        ensures { self.new.bytes.items ≡ [] }
+        ensures { self.new ≡ [] }
     {
-        self.bytes.clear();
+        self.end = 0;
     }
 
     // Takes the bytes behind those that are gathered, or none where they have no room.
     fn take(&mut self, bytes: &[u8]) -> bool
-        ensures { self.new.bytes.items ≡ (if result then self.old.bytes.items ++ bytes.now
-            else self.old.bytes.items) }
+        ensures { self.new ≡ (if result then self.old ++ bytes.now
+            else self.old) }
     {
-        self.bytes.try_extend_from_slice(bytes).is_ok()
+        if bytes.len() > ROOM - self.end {
+            return false;
+        }
+        let end = self.end + bytes.len();
+        self.room[self.end..end].copy_from_slice(bytes);
+        self.end = end;
+        true
     }
 }
