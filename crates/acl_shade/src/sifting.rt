@@ -54,8 +54,9 @@ fn sift(
     Ok(())
 }
 
-fn is_none_left(left: &[u64]) -> bool {
-    left.iter().all(|word| *word == 0)
+// The first term has no earlier one, so its row tells nothing.
+fn is_none_left(left: &[u64], width: usize) -> bool {
+    left.iter().skip(width).all(|word| *word == 0)
 }
 
 // Takes from what is left for each term earlier ones that do not shade it. A few terms are not sifted.
@@ -69,7 +70,7 @@ fn sift_all(alloc: Global, terms: &[Term], width: usize, left: &mut [u64]) -> Re
         return Ok(());
     }
     for part in PARTS {
-        if is_none_left(left) {
+        if is_none_left(left, width) {
             break;
         }
         sift(alloc, part, terms, width, left)?;
