@@ -8,6 +8,7 @@ use Rattle.acl_packet.specs.declared.filtering.Verdict.{Verdict}
 use Rattle.acl_packet.specs.Addresses.{covers}
 use Rattle.acl_text.proofs.ListLaws.{all_append}
 use Rattle.acl_days.specs.declared.days.Day.{Day}
+use Rattle.acl_target.specs.declared.targets.Kind.TheVariants.{Cisco}
 use Rattle.acl_target.specs.declared.targets.Target.{Target}
 use Rattle.acl_terms.specs.declared.options.Opt.{Opt}
 use Rattle.acl_terms.specs.declared.options.Opt.TheVariants as options
@@ -16,11 +17,11 @@ use Rattle.acl_terms.specs.declared.sides.Side.{Side}
 use Rattle.acl_terms.specs.declared.sides.SidePair.{SidePair}
 use Rattle.acl_terms.specs.declared.terms.Term.{Term}
 use Rattle.acl_terms.specs.Outcomes.{mode_of}
-use Rattle.acl_terms.specs.Resolved.{is_empty_in, is_pair_empty, is_term_live, pairs_of, sources_on, destinations_on, sports_on}
+use Rattle.acl_terms.specs.Resolved.{is_empty_in, is_pair_empty, is_term_live, pairs_of}
 use Rattle.acl_platform.specs.declared.rules.Rule.{Rule}
 use Rattle.acl_expand.specs.ExpansionSlips.{first_slip, header_at, header_named, header_slip, prefix_slip, prefixes_of, slip_behind, term_slip}
 use Rattle.acl_expand.specs.KnownRules.{AlikeHaveTheSameRules, AreAlike, IsAlike, IsKnown, asks_by_mode, class_of}
-use Rattle.acl_expand.specs.TermRules.{address_suffix, conditions_by, family_rules, least_list, members, pair_rules, port_suffix, rules_of, term_rules, verdict_on}
+use Rattle.acl_expand.specs.TermRules.{conditions_by, family_rules, members, pair_rules, rule_of, rules_of, term_rules, verdict_on}
 use Rattle.acl_expand.specs.declared.conditions.Conditions.{Conditions}
 use Rattle.acl_expand.specs.declared.known_rules.TargetRules.{TargetRules}
 
@@ -30,24 +31,9 @@ flat-same f g h (x ∷ xs) = ap (λ ys. ys ++ flat_map f xs) (h x) ∙ ap (λ ys
 
 -- ---- rules
 
--- The rule of a term with a verdict.
+-- The rule of a term with a verdict, on whichever platform.
 abbrev rule-with : Family → Term → SidePair → Verdict → Conditions → Rule
-rule-with f t pair verdict c = record {
-  name = t.name ++ (address_suffix pair.addresses ++ (port_suffix pair.ports ++ c.suffix));
-  place = t.place;
-  note = t.note;
-  family = f;
-  src = least_list f (sources_on pair.addresses f t);
-  dst = least_list f (destinations_on pair.addresses f t);
-  protos = c.protos;
-  sports = sports_on pair.ports t;
-  dports = c.dports;
-  itypes = t.itypes;
-  icodes = t.icodes;
-  test = c.test;
-  verdict = verdict;
-  log = t.log;
-}
+rule-with f t pair verdict c = record (rule_of Cisco f t pair c) { verdict = verdict }
 
 -- An option that does not ask whether connections are known has the same conditions either way.
 conditions-same : (o : Opt) (a b : Bool) → (asks_by_mode o ≡ true → a ≡ b) → (f : Family) (t : Term) (side : Side)

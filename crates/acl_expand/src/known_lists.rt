@@ -4,7 +4,7 @@ ghost use Rattle.acl_expand.specs.TermRules.{least_list};
 
 use acl_packet::{Family, Prefix};
 use acl_sets::{Prefixes, Range, RangeSet, least_prefixes};
-use acl_text::Memory;
+use acl_text::{Items, Memory};
 use indexmap::IndexMap;
 use std::alloc::Global;
 
@@ -17,12 +17,21 @@ struct KnownList {
     ghost least: { list ≡ least_list family set },
 }
 
+// The list of all addresses of a family.
+#[derive(Drop)]
+struct AllList {
+    family: Family,
+    list: Prefixes,
+    ghost all: { list ≡ everywhere family ∷ [] },
+}
+
 /// Least lists of sets so far.
 ///
 /// Many terms name the same addresses, and each has its rules on targets of different kinds. So a list is made once,
-/// and rules share it.
+/// and rules share it. The list of one range is as soon made anew.
 #[derive(Drop)]
 pub(crate) struct KnownLists {
+    all: Items<AllList>,
     lists: IndexMap<u128, KnownList>,
 }
 
@@ -49,19 +58,6 @@ fn everywhere(alloc: Global, family: Family) -> Result<Prefixes, Memory>
     )
 }
 
-// The least list of a set. Most rules have all addresses on one side, for which nothing has to be computed.
-#[tactic(auto, using(crate::proofs::SetForms::all_listed))]
-fn new_list(alloc: Global, family: Family, set: &RangeSet) -> Result<Prefixes, Memory>
-    requires { set.now.top + 1 ≡ 2 ^ width_of family }
-    ensures { IfOk result (λ ps. ps ≡ least_list family set.now) }
-{
-    if set.is_all() {
-        everywhere(alloc, family)
-    } else {
-        least_prefixes(alloc, set, family)
-    }
-}
-
 impl KnownList {
     #[tactic(auto, using(crate::proofs::SetForms::same_list))]
     fn is_of(&self, family: Family, set: &RangeSet) -> bool
@@ -75,8 +71,27 @@ impl KnownLists {
     /// No list is known.
     pub(crate) fn new(alloc: Global) -> KnownLists {
         KnownLists {
+            all: Items::new(alloc),
             lists: IndexMap::new(alloc),
         }
+    }
+
+    // Most rules have all addresses on one side.
+    fn all_of(&mut self, alloc: Global, family: Family) -> Result<Prefixes, Memory>
+        ensures { IfOk result (λ ps. ps ≡ everywhere family ∷ []) }
+    {
+        for known in self.all.as_slice() {
+            if known.family == family {
+                return known.list.share();
+            }
+        }
+        let list = everywhere(alloc, family)?;
+        let shared = list.share()?;
+        self.all.push(AllList {
+            family,
+            list: shared,
+        })?;
+        Ok(list)
     }
 
     fn find(&self, digest: u128, family: Family, set: &RangeSet) -> Result<Option<Prefixes>, Memory>
@@ -88,8 +103,28 @@ impl KnownLists {
         }
     }
 
-    /// The least list of a set of addresses of the family, which is known from now on.
+    /// The least list of a set of addresses of the family.
+    #[tactic(auto, using(crate::proofs::SetForms::all_listed))]
     pub(crate) fn list_of(
+        &mut self,
+        alloc: Global,
+        family: Family,
+        set: &RangeSet,
+    ) -> Result<Prefixes, Memory>
+        requires { set.now.top + 1 ≡ 2 ^ width_of family }
+        ensures { IfOk result (λ ps. ps ≡ least_list family set.now) }
+    {
+        if set.is_all() {
+            self.all_of(alloc, family)
+        } else if set.ranges().len() <= 1 {
+            least_prefixes(alloc, set, family)
+        } else {
+            self.shared_list(alloc, family, set)
+        }
+    }
+
+    // The same, for a set of several ranges, whose list is known from now on.
+    fn shared_list(
         &mut self,
         alloc: Global,
         family: Family,
@@ -102,7 +137,7 @@ impl KnownLists {
         if let Some(list) = self.find(digest, family, set)? {
             return Ok(list);
         }
-        let list = new_list(alloc, family, set)?;
+        let list = least_prefixes(alloc, set, family)?;
         let known = KnownList {
             family,
             set: set.share()?,

@@ -48,7 +48,8 @@ fn ports_at(
     }
 }
 
-// The numbers of both sets. Where the first has none yet, nothing is made.
+// The numbers of both sets. Nothing is made where the first has none yet, nor where both have the same, as with a service
+// that has its port over TCP and over UDP.
 fn joined(alloc: Global, set: RangeSet, more: RangeSet) -> Result<RangeSet, Memory>
     requires { more.top ≡ set.top }
     ensures top { IfOk result (λ s. s.top ≡ set.top) }
@@ -58,6 +59,9 @@ fn joined(alloc: Global, set: RangeSet, more: RangeSet) -> Result<RangeSet, Memo
 {
     if set.is_empty() {
         return Ok(more);
+    }
+    if set.is_same(&more) {
+        return Ok(set);
     }
     set.union(alloc, &more)
 }

@@ -82,7 +82,7 @@ fn numbers_in(alloc: Global, numbers: &[u8]) -> Result<RangeSet, Memory>
 {
     let numbers = distinct(alloc, numbers)?;
     let ranges = singles(alloc, &numbers)?;
-    RangeSet::from_ranges(alloc, TOP, &ranges)
+    RangeSet::from_vec(alloc, TOP, ranges)
 }
 
 /// The protocols of a term: all where no word is written.
