@@ -1,5 +1,6 @@
 -- Texts that are put item by item, up to one that is refused.
-use Rattle.std.proofs.Common.{◌≡◌, ℕ, ◌+◌, ◌-◌, ◌<◌, Bool, List, ◌++◌, length, take, drop, get_or, flat_map, Option, Result, Err, IsErrAnd, refl, ap, ◌∙◌, arith}
+use Rattle.std.proofs.Common.{◌≡◌, ℕ, ◌+◌, ◌-◌, ◌<◌, ◌≤◌, Bool, List, ◌++◌, length, take, drop, get_or, flat_map, Option, Result, Err, IsErrAnd, refl, ap, sym, subst, ◌∙◌, arith}
+use Rattle.std.proofs.Math.Seq.{take-add}
 use Rattle.std.proofs.lemmas.List.{length-drop, take_all, take-append-drop}
 use Rattle.std.proofs.lemmas.Result.{err_from_is_err_and}
 use Rattle.acl_text.specs.declared.output.PutFault.{PutFault}
@@ -36,3 +37,21 @@ front-text rows xs n front is =
     ap (λ text. text ++ text_of_rows (flat_map rows (take (length xs - n) (drop n xs)))) is
     ∙ ap (λ rest. text_of_rows (flat_map rows (take n xs)) ++ text_of_rows (flat_map rows rest)) behind
     ∙ joined_text rows (take n xs) (drop n xs) ∙ ap (λ ys. text_of_rows (flat_map rows ys)) (take-append-drop n xs)
+
+-- ---- lines of a text
+
+-- a front of a text, and the line behind it
+pub line-behind : (text line : List ℕ) (n : ℕ) → line ≡ take (length line) (take (length text - n) (drop n text))
+    → take n text ++ line ≡ take (n + length line) text
+line-behind text line n is =
+    let e = length-drop n text in
+    let behind : take (length text - n) (drop n text) ≡ drop n text = take_all (length text - n) (drop n text) (omega (arith, e)) in
+    ap (λ l. take n text ++ l) is ∙ ap (λ rest. take n text ++ take (length line) rest) behind ∙ sym (take-add n (length line) text)
+
+pub line-within : (text line : List ℕ) (n : ℕ) → n ≤ length text → length line ≤ length (take (length text - n) (drop n text))
+    → n + length line ≤ length text
+line-within text line n small within =
+    let e = length-drop n text in
+    let behind : take (length text - n) (drop n text) ≡ drop n text = take_all (length text - n) (drop n text) (omega (arith, e)) in
+    let w : length line ≤ length (drop n text) = subst (λ xs. length line ≤ length xs) behind within in
+    omega (arith, e, w, small)

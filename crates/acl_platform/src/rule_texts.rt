@@ -1,5 +1,6 @@
-ghost use Rattle.std.specs.Prelude.{◌≡◌, ◌≤◌, Some, length, take, flat_map};
+ghost use Rattle.std.specs.Prelude.{◌≡◌, ◌<◌, ◌≤◌, Some, IsTrue, length, take, flat_map};
 ghost use Rattle.std.specs.List.{All};
+ghost use Rattle.acl_text.specs.Puts.{Puts};
 ghost use Rattle.acl_rows.specs.Rows.{text_of_rows};
 ghost use Rattle.acl_platform.specs.Combinations.{IsSized};
 
@@ -69,16 +70,43 @@ impl<'a, F: RuleForm + Drop> RuleTexts<'a, F> {
 impl<'a, F: RuleForm + Drop> Rows for RuleTexts<'a, F> {
     ghost rows = { λ t. flat_map (F.rule_rows t.form) t.rules.now };
 
-    // The text that is kept is put at once.
     fn put_rows<O: Out>(&self, out: &mut O) -> Result<(), PutFault> {
         match &self.front {
             Some(front) => {
-                out.put(front.text.as_slice())?;
+                put_lines(front.text.as_slice(), out)?;
                 put_rules(&self.rules[front.count..], &self.form, out)
             }
             None => put_rules(self.rules, &self.form, out),
         }
     }
+}
+
+// The first line of the text, with its line feed.
+fn line_of(text: &[u8]) -> &[u8]
+    ensures some { 0 < length text.now → 0 < length result.now }
+    ensures within { length result.now ≤ length text.now }
+    ensures front { result.now ≡ take (length result.now) text.now }
+{
+    for (i, byte) in text.iter().enumerate() {
+        if *byte == b'\n' {
+            return &text[..i + 1];
+        }
+    }
+    text
+}
+
+// Puts the text. No put has bytes of two lines.
+fn put_lines<O: Out>(text: &[u8], out: &mut O) -> Result<(), PutFault>
+    requires { IsTrue (O.is_open out.old) }
+    ensures { Puts O.Out out.old out.new text.now result }
+{
+    let mut from = 0;
+    while from < text.len() {
+        let line = line_of(&text[from..]);
+        out.put(line)?;
+        from += line.len();
+    }
+    Ok(())
 }
 
 // A text that is kept. It refuses what it has no room for, and from then on nothing more may be put.
