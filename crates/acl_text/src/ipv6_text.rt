@@ -11,8 +11,8 @@ pub(crate) fn push_ipv6(text: &mut ShortText, address: u128)
     ensures len { length text.new ≤ length text.old + 40 }
 {
     let groups = groups_of(address);
-    let (before, run) = longest_run(&groups);
-    push_shortened(text, &groups, before, run);
+    let longest = zero_runs(&groups);
+    push_shortened(text, &groups, longest.before, longest.run);
 }
 
 /// Adds the texts of the groups, with `::` for a run of two or more of them.
@@ -47,34 +47,41 @@ fn groups_of(address: u128) -> [u16; 8]
     ]
 }
 
-/// How many zeros stand at the front.
-fn zeros(groups: &[u16]) -> usize
-    ensures exact { result ≡ zeros groups.now }
-    ensures within { result ≤ length groups.now }
-{
-    for (i, group) in groups.iter().enumerate() {
-        if *group != 0 {
-            return i;
-        }
-    }
-    groups.len()
+/// The zeros at the front of groups, and their longest run of zeros, the first among equals: how many
+/// groups stand before it, and how many it has.
+#[derive(Clone, Copy)]
+struct ZeroRuns {
+    front: usize,
+    before: usize,
+    run: usize,
 }
 
-/// The longest run of zeros, the first among equals: how many groups stand before it, and how many it has.
-fn longest_run(groups: &[u16]) -> (usize, usize)
-    ensures exact { result ≡ longest_run groups.now }
-    ensures within { result.0 + result.1 ≤ length groups.now }
+fn zero_runs(groups: &[u16]) -> ZeroRuns
+    ensures front { result.front ≡ zeros groups.now }
+    ensures longest { (result.before, result.run) ≡ longest_run groups.now }
+    ensures front_within { result.front ≤ length groups.now }
+    ensures run_within { result.before + result.run ≤ length groups.now }
 {
-    match groups {
-        [] => (0, 0),
-        [_, rest @ ..] => {
-            let (before, run) = longest_run(rest);
-            let here = zeros(groups);
-            if run <= here {
-                (0, here)
-            } else {
-                (before + 1, run)
-            }
+    let [group, rest @ ..] = groups else {
+        return ZeroRuns {
+            front: 0,
+            before: 0,
+            run: 0,
+        };
+    };
+    let behind = zero_runs(rest);
+    let front = if *group == 0 { behind.front + 1 } else { 0 };
+    if behind.run <= front {
+        ZeroRuns {
+            front,
+            before: 0,
+            run: front,
+        }
+    } else {
+        ZeroRuns {
+            front,
+            before: behind.before + 1,
+            run: behind.run,
         }
     }
 }
