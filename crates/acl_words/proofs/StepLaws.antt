@@ -3,7 +3,7 @@ use Rattle.std.proofs.Common.{◌≡◌, zero, suc, List, [], ◌∷◌, ◌++�
 use Rattle.acl_text.specs.declared.faults.Place.{Place}
 use Rattle.acl_words.specs.declared.place_lists.PlaceStep.{PlaceStep}
 use Rattle.acl_words.specs.declared.place_lists.PlaceStep.TheVariants.{Same, Next, Own}
-use Rattle.acl_words.specs.PlaceSteps.{AreStepped, added, kept_by, last_by, next_line, place_by, places_by, start}
+use Rattle.acl_words.specs.PlaceSteps.{AreStepped, added, kept_by, last_by, next_line, place_by, places_by}
 
 -- What steps lead to, with one more behind them.
 pub record IsStepped (p : Place) (own : List Place) (steps : List PlaceStep) (s : PlaceStep) (q : Place) : Type 0 where
@@ -52,11 +52,11 @@ step_more p (o ∷ own) (Own ∷ steps) s q kept is =
     }
 
 -- What a list of places is behind one more.
-pub stepped_with : (last q : Place) (own own' : List Place) (steps steps' : List PlaceStep) (s : PlaceStep)
-    → AreStepped last own steps → place_by s last (added s q) ≡ q
+pub stepped_with : (start last q : Place) (own own' : List Place) (steps steps' : List PlaceStep) (s : PlaceStep)
+    → AreStepped start last own steps → place_by s last (added s q) ≡ q
     → own' ≡ own ++ added s q → steps' ≡ steps ++ s ∷ []
-    → AreStepped q own' steps' × (places_by start own' steps' ≡ places_by start own steps ++ q ∷ [])
-stepped_with last q own own' steps steps' s h is o t =
+    → AreStepped start q own' steps' × (places_by start own' steps' ≡ places_by start own steps ++ q ∷ [])
+stepped_with start last q own own' steps steps' s h is o t =
     let r = step_more start own steps s q h.own_are
     (ap (λ l. place_by s l (added s q)) (sym h.last_is) ∙ is) in
     rw (o, t) (record { last_is = sym r.last_is; own_are = r.own_are }, r.places_are)

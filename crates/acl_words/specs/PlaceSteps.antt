@@ -4,9 +4,6 @@ use Rattle.acl_text.specs.declared.faults.Place.{Place}
 use Rattle.acl_words.specs.declared.place_lists.PlaceStep.{PlaceStep}
 use Rattle.acl_words.specs.declared.place_lists.PlaceStep.TheVariants.{Same, Next, Own}
 
-abbrev pub start : Place
-start = record { file = 0; line = 0 }
-
 -- The next line of the file. Behind the last number that a line can have, counting starts again at 0.
 abbrev pub next_line : Place → Place
 next_line p = if p.line == 4294967295 then record p { line = 0 } else record p { line = p.line + 1 }
@@ -47,6 +44,6 @@ kept_by (Next ∷ ss) = kept_by ss
 kept_by (Own ∷ ss) = suc (kept_by ss)
 
 -- Each kept place belongs to a step, and the last place is the one to which the steps lead.
-pub record AreStepped (last : Place) (own : List Place) (steps : List PlaceStep) : Type 0 where
+pub record AreStepped (start last : Place) (own : List Place) (steps : List PlaceStep) : Type 0 where
   pub last_is : last ≡ last_by start own steps
   pub own_are : kept_by steps ≡ length own

@@ -16,9 +16,11 @@ pub(crate) enum PlaceStep {
     Own,
 }
 
-/// A list of places, most of which follow from the ones before them. A contract sees the list.
+/// A list of places, most of which follow from the ones before them, the first from a place where the list
+/// starts. A contract sees the list.
 #[derive(Debug, Drop)]
 pub(crate) struct PlaceList {
+    start: Place,
     steps: Vec<PlaceStep>,
     own: Vec<Place>,
     last: Place,
@@ -27,13 +29,13 @@ pub(crate) struct PlaceList {
 impl Model for PlaceList {
     ghost use Rattle.std.specs.Prelude.{List};
     ghost use Rattle.acl_text.specs.declared.faults.Place.{Place};
-    ghost use Rattle.acl_words.specs.PlaceSteps.{AreStepped, places_by, start};
+    ghost use Rattle.acl_words.specs.PlaceSteps.{AreStepped, places_by};
 
     ghost Value = { List Place };
 
-    ghost view = { λ s. places_by start s.own.items s.steps.items };
+    ghost view = { λ s. places_by s.start s.own.items s.steps.items };
 
-    ghost invariant = { λ s. AreStepped s.last s.own.items s.steps.items };
+    ghost invariant = { λ s. AreStepped s.start s.last s.own.items s.steps.items };
 }
 
 /// The line behind the one at the place.
@@ -86,14 +88,15 @@ fn push_step(
 }
 
 impl PlaceList {
-    /// No places.
-    pub(crate) fn new(alloc: Global) -> PlaceList
+    /// No places. The list starts at the place, which takes the least room where it comes first.
+    pub(crate) fn starting_at(alloc: Global, start: Place) -> PlaceList
         ensures { result ≡ [] }
     {
         PlaceList {
+            start,
             steps: Vec::new(alloc),
             own: Vec::new(alloc),
-            last: Place { file: 0, line: 0 },
+            last: start,
         }
     }
 
@@ -121,7 +124,7 @@ impl PlaceList {
         ensures { result ≡ self.now }
     {
         PlacesLeft {
-            here: Place { file: 0, line: 0 },
+            here: self.start,
             steps: self.steps.as_slice(),
             own: self.own.as_slice(),
         }
@@ -159,6 +162,17 @@ impl<'a> Model for PlacesLeft<'a> {
 }
 
 impl<'a> PlacesLeft<'a> {
+    /// No places.
+    pub(crate) fn none() -> PlacesLeft<'a>
+        ensures { result ≡ [] }
+    {
+        PlacesLeft {
+            here: Place { file: 0, line: 0 },
+            steps: &[],
+            own: &[],
+        }
+    }
+
     /// The next place. `None` exactly where none is left.
     pub(crate) fn next(&mut self) -> Option<Place>
         ensures some { IfSome result (λ p. self.old ≡ p ∷ self.new) }

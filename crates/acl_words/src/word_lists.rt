@@ -56,15 +56,15 @@ impl<'a> WordRef<'a> {
     }
 }
 
-/// A list of words without line feeds, kept as one text with a line feed behind each word, and the steps that tell
-/// their places: some three bytes a word beside its own. A contract sees the list of the words.
+// Words without line feeds, kept as one text with a line feed behind each word, and the steps that tell
+// their places: some three bytes a word beside its own. A contract sees the list of the words.
 #[derive(Debug, Drop)]
-pub struct WordList {
+struct WordText {
     text: Vec<u8>,
     places: PlaceList,
 }
 
-impl Model for WordList {
+impl Model for WordText {
     ghost use Rattle.std.specs.Prelude.{List};
     ghost use Rattle.acl_words.specs.declared.word_lists.Word.{Word};
     ghost use Rattle.acl_words.specs.WordTextSteps.{AreKept, words_at};
@@ -76,7 +76,7 @@ impl Model for WordList {
     ghost invariant = { λ s. AreKept (words_at s.places s.text.items) s.places s.text.items };
 }
 
-/// Adds the word to the text and the places. Where memory is wanted some of it may stand at the end of the text.
+// Adds the word to the text and the places. Where memory is wanted some of it may stand at the end of the text.
 fn push_word(
     all: &mut Vec<u8>,
     places: &mut PlaceList,
@@ -93,19 +93,19 @@ fn push_word(
     places.push(place)
 }
 
-impl WordList {
-    /// No words.
-    pub fn new(alloc: Global) -> WordList
+impl WordText {
+    // No words so far, the first of which is to stand at the place.
+    fn starting_at(alloc: Global, place: Place) -> WordText
         ensures { result ≡ [] }
     {
-        WordList {
+        WordText {
             text: Vec::new(alloc),
-            places: PlaceList::new(alloc),
+            places: PlaceList::starting_at(alloc, place),
         }
     }
 
-    /// Adds a word at the end. Where memory is wanted the list is as it was.
-    pub fn push(&mut self, place: Place, text: &[u8]) -> Result<(), Memory>
+    // Adds a word at the end. Where memory is wanted the words are as they were.
+    fn push(&mut self, place: Place, text: &[u8]) -> Result<(), Memory>
         requires { HasNoFeed text.now }
         ensures ok { OnOk result (self.new
             ≡ self.old ++ record { place = place; text = text.now } ∷ []) }
@@ -121,13 +121,74 @@ impl WordList {
         }
     }
 
-    /// The words in order.
-    pub fn iter(&self) -> WordsLeft<'_>
+    fn iter(&self) -> WordsLeft<'_>
         ensures { result ≡ self.now }
     {
         WordsLeft {
             rest: self.text.as_slice(),
             places: self.places.iter(),
+        }
+    }
+
+    fn text(&self) -> &[u8]
+        ensures { lines_of result.now ≡ map (λ w. w.text) self.now }
+    {
+        self.text.as_slice()
+    }
+}
+
+/// A list of words without line feeds. One without words, as most lists of a term are, takes no memory. A
+/// contract sees the list of the words.
+#[derive(Debug, Drop)]
+pub struct WordList {
+    alloc: Global,
+    kept: Option<Box<WordText>>,
+}
+
+impl Model for WordList {
+    ghost use Rattle.std.specs.Prelude.{List, []};
+    ghost use Rattle.std.specs.Option.{option_map_or};
+    ghost use Rattle.acl_words.specs.declared.word_lists.Word.{Word};
+
+    ghost Value = { List Word };
+
+    ghost view = { λ s. option_map_or (λ k. k.value) s.kept [] };
+}
+
+impl WordList {
+    /// No words.
+    pub fn new(alloc: Global) -> WordList
+        ensures { result ≡ [] }
+    {
+        WordList { alloc, kept: None }
+    }
+
+    /// Adds a word at the end. Where memory is wanted the list is as it was.
+    pub fn push(&mut self, place: Place, text: &[u8]) -> Result<(), Memory>
+        requires { HasNoFeed text.now }
+        ensures ok { OnOk result (self.new
+            ≡ self.old ++ record { place = place; text = text.now } ∷ []) }
+        ensures err { OnErr result (self.new ≡ self.old) }
+    {
+        if let Some(kept) = &mut self.kept {
+            return kept.push(place, text);
+        }
+        let mut first = WordText::starting_at(self.alloc, place);
+        first.push(place, text)?;
+        self.kept = Some(Box::new(self.alloc, first)?);
+        Ok(())
+    }
+
+    /// The words in order.
+    pub fn iter(&self) -> WordsLeft<'_>
+        ensures { result ≡ self.now }
+    {
+        match &self.kept {
+            Some(kept) => kept.iter(),
+            None => WordsLeft {
+                rest: &[],
+                places: PlacesLeft::none(),
+            },
         }
     }
 
@@ -138,7 +199,10 @@ impl WordList {
     pub fn text(&self) -> &[u8]
         ensures { lines_of result.now ≡ map (λ w. w.text) self.now }
     {
-        self.text.as_slice()
+        match &self.kept {
+            Some(kept) => kept.text(),
+            None => &[],
+        }
     }
 
     /// The first word. `None` exactly where there is none.
