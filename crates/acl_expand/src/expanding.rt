@@ -11,6 +11,7 @@ use crate::known_lists::KnownLists;
 use crate::rule_making::push_term;
 use crate::slips::{check_header, check_prefixes, prefixes_behind};
 use acl_days::Day;
+use acl_packet::Families;
 use acl_platform::{Filter, Rules, SharedRules};
 use acl_target::Target;
 use acl_terms::Term;
@@ -39,6 +40,14 @@ fn add_term(
     Ok(total)
 }
 
+// Room for the rules of so many terms: most have one in each family.
+fn room_for(terms: usize, families: Families) -> usize {
+    match families {
+        Families::Inet | Families::Inet6 => terms,
+        Families::Mixed => terms.saturating_mul(2),
+    }
+}
+
 /// The rules of the terms, or their first slip.
 #[tactic(auto, using(crate::proofs::SlipLaws::first_slip_is_counted))]
 pub(crate) fn rules_of(
@@ -51,7 +60,7 @@ pub(crate) fn rules_of(
     ensures judged { Judges result (first_slip target.now today terms.now) }
     ensures rules { IfOk result (λ rules. rules ≡ rules_of target.now today terms.now) }
 {
-    let mut rules = Items::with_capacity(alloc, terms.len())?;
+    let mut rules = Items::with_capacity(alloc, room_for(terms.len(), target.families))?;
     let mut prefixes = 0;
     for term in terms {
         prefixes = add_term(alloc, lists, &mut rules, prefixes, target, today, term)?;

@@ -135,7 +135,7 @@ fn push_cut_along<'a>(
 pub fn cut(alloc: Global, ranges: &[Range], others: &[Range]) -> Result<Vec<Range>, Memory>
     ensures { IfOk result (λ v. v.items ≡ walk (λ r qs. cut_along r qs) ranges.now others.now) }
 {
-    let mut out = Vec::new(alloc);
+    let mut out = Vec::with_capacity(alloc, ranges.len())?;
     let mut rest = others;
     for range in ranges {
         rest = push_cut_along(&mut out, *range, rest)?;
