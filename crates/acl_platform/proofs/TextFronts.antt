@@ -1,6 +1,5 @@
 -- Texts that are put item by item, up to one that is refused.
-use Rattle.std.proofs.Common.{◌≡◌, ℕ, ◌+◌, ◌-◌, ◌<◌, ◌≤◌, Bool, List, ◌++◌, length, take, drop, get_or, flat_map, Option, Result, Err, IsErrAnd, refl, ap, sym, subst, ◌∙◌, arith}
-use Rattle.std.proofs.Math.Seq.{take-add}
+use Rattle.std.proofs.Common.{◌≡◌, ℕ, ◌+◌, ◌-◌, ◌<◌, Bool, List, ◌++◌, length, take, drop, get_or, flat_map, Option, Result, Err, IsErrAnd, refl, ap, ◌∙◌, append_assoc, arith}
 use Rattle.std.proofs.lemmas.List.{length-drop, take_all, take-append-drop}
 use Rattle.std.proofs.lemmas.Result.{err_from_is_err_and}
 use Rattle.acl_text.specs.declared.output.PutFault.{PutFault}
@@ -40,18 +39,9 @@ front-text rows xs n front is =
 
 -- ---- lines of a text
 
--- a front of a text, and the line behind it
-pub line-behind : (text line : List ℕ) (n : ℕ) → line ≡ take (length line) (take (length text - n) (drop n text))
-    → take n text ++ line ≡ take (n + length line) text
-line-behind text line n is =
-    let e = length-drop n text in
-    let behind : take (length text - n) (drop n text) ≡ drop n text = take_all (length text - n) (drop n text) (omega (arith, e)) in
-    ap (λ l. take n text ++ l) is ∙ ap (λ rest. take n text ++ take (length line) rest) behind ∙ sym (take-add n (length line) text)
-
-pub line-within : (text line : List ℕ) (n : ℕ) → n ≤ length text → length line ≤ length (take (length text - n) (drop n text))
-    → n + length line ≤ length text
-line-within text line n small within =
-    let e = length-drop n text in
-    let behind : take (length text - n) (drop n text) ≡ drop n text = take_all (length text - n) (drop n text) (omega (arith, e)) in
-    let w : length line ≤ length (drop n text) = subst (λ xs. length line ≤ length xs) behind within in
-    omega (arith, e, w, small)
+-- what is left of a text parts into a line and what is behind it
+pub line-split : {line more text : List ℕ} (front rest : List ℕ) (n : ℕ) → line ≡ take n rest → more ≡ drop n rest → front ++ rest ≡ text
+    → (front ++ line) ++ more ≡ text
+line-split {line = line} {more = more} front rest n is behind all =
+    append_assoc front line more ∙ ap (λ t. front ++ (t ++ more)) is ∙ ap (λ t. front ++ (take n rest ++ t)) behind
+    ∙ ap (λ t. front ++ t) (take-append-drop n rest) ∙ all

@@ -8,6 +8,7 @@ mod elements;
 mod family_texts;
 mod filtering;
 mod filters;
+mod kept_texts;
 mod laws;
 mod limits;
 mod numbers;
