@@ -2,9 +2,9 @@ ghost use Rattle.gen_cisco.specs.Limits.{is_for_cisco};
 ghost use Rattle.gen_cisco.specs.Sections.{entry_count, section_of};
 
 use crate::counts::list_count;
-use crate::section_rows::{put_section, put_sections};
+use crate::section_rows::InFamily;
 use acl_packet::{Families, Family};
-use acl_platform::{Filter, Platform};
+use acl_platform::{Filter, Platform, put_section_by, put_sections_by};
 use acl_text::{Out, PutFault};
 use std::alloc::Global;
 
@@ -31,9 +31,8 @@ impl Platform for Cisco {
 
     ghost section = { λ _. section_of };
 
-    #[tactic(auto, using(acl_platform::proofs::SoundRules::all_sized))]
     fn put_section<O: Out>(&self, filter: &Filter, out: &mut O) -> Result<(), PutFault> {
-        put_section(filter, out)
+        put_section_by::<InFamily, O>(filter, out)
     }
 
     fn put_sections<O: Out>(
@@ -42,7 +41,7 @@ impl Platform for Cisco {
         filters: &[Filter],
         out: &mut O,
     ) -> Result<(), PutFault> {
-        put_sections(alloc, filters, out)
+        put_sections_by::<InFamily, O>(alloc, filters, out)
     }
 
     #[tactic(auto, using(crate::proofs::SectionLaws::section_is_spelled))]

@@ -1,15 +1,13 @@
-ghost use Rattle.std.specs.Prelude.{◌≡◌, ◌++◌, ◌∷◌, [], codes, flat_map, map, IsTrue};
-ghost use Rattle.std.specs.List.{All};
+ghost use Rattle.std.specs.Prelude.{◌≡◌, ◌++◌, codes, flat_map, map, IsTrue};
 ghost use Rattle.acl_text.specs.Puts.{Puts};
 ghost use Rattle.acl_rows.specs.Rows.{row, text_of_rows, words_in};
-ghost use Rattle.acl_packet.specs.declared.addresses.Family.TheVariants.{V4, V6};
+ghost use Rattle.acl_packet.specs.declared.addresses.Family.TheVariants.{V6};
 ghost use Rattle.acl_platform.specs.Combinations.{IsSized, combinations};
-ghost use Rattle.acl_platform.specs.SoundFilters.{IsSound};
 ghost use Rattle.cisco_lang.specs.declared.documents.Flags.{Flags};
 ghost use Rattle.cisco_lang.specs.declared.documents.Item.TheVariants.{Entry as AnEntry, Remark};
 ghost use Rattle.cisco_lang.specs.EntryHalves.{entry_back, entry_front};
 ghost use Rattle.cisco_lang.proofs.HalfLaws.{entry_halves};
-ghost use Rattle.cisco_lang.specs.Texts.{end_rows, head_rows, item_rows, text_of};
+ghost use Rattle.cisco_lang.specs.Texts.{end_rows, head_rows, item_rows};
 ghost use Rattle.gen_cisco.specs.RowSteps.{items_rows};
 ghost use Rattle.gen_cisco.specs.Sections.{
   closing_entries,
@@ -26,7 +24,7 @@ use crate::counts::{has_rule, is_of};
 use acl_packet::{Families, Family, Prefix, Verdict};
 use acl_platform::{
     Combination, CombinationForm, FamilyTexts, Filter, RemarkForm, RemarkRows, Rule, RuleForm,
-    RuleTexts, Test, put_combinations_by_halves,
+    RuleTexts, SectionForm, Test, put_combinations_by_halves,
 };
 use acl_rows::{OneWord, Piece, Row, RowForm, Rows};
 use acl_text::{Out, PutFault};
@@ -34,90 +32,60 @@ use cisco_lang::{
     Entry, EntryBack, EntryFront, EntryHalves, EntryRow, Flags, ListEnd, ListHead, RemarkRow,
     SectionHead,
 };
-use std::alloc::Global;
 
-/// Puts the text of the section that the filter becomes, in an output that has to be open.
-/// Protocols, types and codes of its rules have to be numbers below 256, ports below 65,536.
-pub(crate) fn put_section<O: Out>(filter: &Filter, out: &mut O) -> Result<(), PutFault>
-    requires open { IsTrue (O.is_open out.old) }
-    requires sized { All IsSized filter.now.rules }
-    ensures { Puts O.Out out.old out.new (text_of (section_of filter.now ∷ [])) result }
-{
-    put_section_by(&texts_of(filter.rules.as_slice()), filter, out)
+/// The items of the rules that are of the family.
+#[derive(Drop)]
+pub(crate) struct InFamily {
+    family: Family,
 }
 
-/// Puts the text of the sections that the filters become. That of rules which several filters in a
-/// row have is made once.
-#[tactic(auto, using(acl_platform::proofs::SoundRules::all_sized))]
-pub(crate) fn put_sections<O: Out>(
-    alloc: Global,
-    filters: &[Filter],
-    out: &mut O,
-) -> Result<(), PutFault>
-    requires open { IsTrue (O.is_open out.old) }
-    requires sound { All IsSound filters.now }
-    ensures { Puts O.Out out.old out.new (text_of (map section_of filters.now)) result }
-{
-    let mut texts = texts_of(&[]);
-    for filter in filters {
-        texts.turn_to(alloc, filter.families, filter.rules.as_slice());
-        put_section_by(&texts, filter, out)?;
+impl SectionForm for InFamily {
+    type Language = cisco_lang::Cisco;
+
+    ghost family_of = { λ f. f.family };
+
+    ghost section = { section_of };
+
+    fn of_family(family: Family) -> InFamily {
+        InFamily { family }
     }
-    Ok(())
-}
 
-fn texts_of(rules: &[Rule]) -> FamilyTexts<'_, InFamily>
-    requires { All IsSized rules.now }
-    ensures v4 { result.v4.form.family ≡ V4 }
-    ensures v6 { result.v6.form.family ≡ V6 }
-    ensures rules { result.v4.rules.now ≡ rules.now }
-{
-    let v4 = InFamily { family: Family::V4 };
-    let v6 = InFamily { family: Family::V6 };
-    FamilyTexts::new(v4, v6, rules)
-}
-
-fn put_section_by<O: Out>(
-    texts: &FamilyTexts<'_, InFamily>,
-    filter: &Filter,
-    out: &mut O,
-) -> Result<(), PutFault>
-    requires open { IsTrue (O.is_open out.old) }
-    requires v4 { texts.now.v4.form.family ≡ V4 }
-    requires v6 { texts.now.v6.form.family ≡ V6 }
-    requires rules { texts.now.v4.rules.now ≡ filter.now.rules }
-    ensures { Puts O.Out out.old out.new (text_of (section_of filter.now ∷ [])) result }
-{
-    let name = filter.name.as_slice();
-    let section = SectionHead {
-        name,
-        families: filter.families,
-    };
-    let v4 = ListItems { texts: &texts.v4 };
-    let v6 = ListItems { texts: &texts.v6 };
-    match filter.families {
-        Families::Inet => {
-            let head = ListHead {
-                family: Family::V4,
-                name,
-            };
-            (section, (head, (v4, ListEnd))).put_rows(out)
-        }
-        Families::Inet6 => {
-            let head = ListHead {
-                family: Family::V6,
-                name,
-            };
-            (section, (head, (v6, ListEnd))).put_rows(out)
-        }
-        Families::Mixed => {
-            let head = ListHead {
-                family: Family::V4,
-                name,
-            };
-            let first = (head, (v4, ListEnd));
-            let second = (MixedHead { name }, (v6, ListEnd));
-            (section, (first, second)).put_rows(out)
+    fn put_over<O: Out>(
+        texts: &FamilyTexts<'_, InFamily>,
+        filter: &Filter,
+        out: &mut O,
+    ) -> Result<(), PutFault> {
+        let name = filter.name.as_slice();
+        let section = SectionHead {
+            name,
+            families: filter.families,
+        };
+        let v4 = ListItems { texts: &texts.v4 };
+        let v6 = ListItems { texts: &texts.v6 };
+        match filter.families {
+            Families::Inet => {
+                let head = ListHead {
+                    family: Family::V4,
+                    name,
+                };
+                (section, (head, (v4, ListEnd))).put_rows(out)
+            }
+            Families::Inet6 => {
+                let head = ListHead {
+                    family: Family::V6,
+                    name,
+                };
+                (section, (head, (v6, ListEnd))).put_rows(out)
+            }
+            Families::Mixed => {
+                let head = ListHead {
+                    family: Family::V4,
+                    name,
+                };
+                let first = (head, (v4, ListEnd));
+                let second = (MixedHead { name }, (v6, ListEnd));
+                (section, (first, second)).put_rows(out)
+            }
         }
     }
 }
@@ -212,12 +180,6 @@ fn wide_row(family: Family, permit: bool, proto: Option<u8>, itype: Option<u8>) 
             log: false,
         },
     }
-}
-
-// The items of the rules that are of the family.
-#[derive(Drop)]
-struct InFamily {
-    family: Family,
 }
 
 impl RuleForm for InFamily {

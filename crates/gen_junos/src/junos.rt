@@ -1,8 +1,8 @@
 ghost use Rattle.gen_junos.specs.Limits.{is_for_junos};
 ghost use Rattle.gen_junos.specs.Sections.{entry_count, section_of};
 
-use crate::section_rows::{put_section, put_sections};
-use acl_platform::{Filter, Platform, count_rules};
+use crate::section_rows::InFamily;
+use acl_platform::{Filter, Platform, count_rules, put_section_by, put_sections_by};
 use acl_text::{Out, PutFault};
 use std::alloc::Global;
 
@@ -27,9 +27,8 @@ impl Platform for Junos {
 
     ghost section = { λ _. section_of };
 
-    #[tactic(auto, using(acl_platform::proofs::SoundRules::all_sized))]
     fn put_section<O: Out>(&self, filter: &Filter, out: &mut O) -> Result<(), PutFault> {
-        put_section(filter, out)
+        put_section_by::<InFamily, O>(filter, out)
     }
 
     fn put_sections<O: Out>(
@@ -38,7 +37,7 @@ impl Platform for Junos {
         filters: &[Filter],
         out: &mut O,
     ) -> Result<(), PutFault> {
-        put_sections(alloc, filters, out)
+        put_sections_by::<InFamily, O>(alloc, filters, out)
     }
 
     #[tactic(auto, using(crate::proofs::SectionLaws::section_is_spelled))]

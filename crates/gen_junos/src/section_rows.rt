@@ -1,11 +1,7 @@
-ghost use Rattle.std.specs.Prelude.{◌≡◌, ◌∷◌, [], flat_map, map, IsTrue};
-ghost use Rattle.std.specs.List.{All};
-ghost use Rattle.acl_text.specs.Puts.{Puts};
-ghost use Rattle.acl_platform.specs.Combinations.{IsSized};
-ghost use Rattle.acl_platform.specs.SoundFilters.{IsSound};
+ghost use Rattle.std.specs.Prelude.{◌≡◌, ◌∷◌, [], flat_map};
 ghost use Rattle.acl_packet.specs.declared.addresses.Family.TheVariants.{V4, V6};
 ghost use Rattle.acl_packet.specs.Addresses.{first_family};
-ghost use Rattle.junos_lang.specs.Texts.{note_row, term_rows, text_of};
+ghost use Rattle.junos_lang.specs.Texts.{note_row, term_rows};
 ghost use Rattle.gen_junos.specs.Sections.{
   default_term,
   section_of,
@@ -15,72 +11,45 @@ ghost use Rattle.gen_junos.specs.Sections.{
 
 use crate::condition_rows::RuleConditions;
 use acl_packet::{Family, Verdict};
-use acl_platform::{FamilyTexts, Filter, NoteRows, RemarkForm, Rule, RuleForm, RuleTexts};
+use acl_platform::{
+    FamilyTexts, Filter, NoteRows, RemarkForm, Rule, RuleForm, RuleTexts, SectionForm,
+};
 use acl_rows::Rows;
 use acl_text::{Out, PutFault};
 use junos_lang::{NoteRow, SectionEnd, SectionHead, TermEnd, TermHead, ThenRows};
-use std::alloc::Global;
 
-/// Puts the text of the section that the filter becomes.
-pub(crate) fn put_section<O: Out>(filter: &Filter, out: &mut O) -> Result<(), PutFault>
-    requires open { IsTrue (O.is_open out.old) }
-    requires sized { All IsSized filter.now.rules }
-    ensures { Puts O.Out out.old out.new (text_of (section_of filter.now ∷ [])) result }
-{
-    put_section_by(&texts_of(filter.rules.as_slice()), filter, out)
+/// A rule as a term of a filter of the family.
+#[derive(Drop)]
+pub(crate) struct InFamily {
+    family: Family,
 }
 
-/// Puts the text of the sections that the filters become. That of rules which several filters in a
-/// row have is made once.
-#[tactic(auto, using(acl_platform::proofs::SoundRules::all_sized))]
-pub(crate) fn put_sections<O: Out>(
-    alloc: Global,
-    filters: &[Filter],
-    out: &mut O,
-) -> Result<(), PutFault>
-    requires open { IsTrue (O.is_open out.old) }
-    requires sound { All IsSound filters.now }
-    ensures { Puts O.Out out.old out.new (text_of (map section_of filters.now)) result }
-{
-    let mut texts = texts_of(&[]);
-    for filter in filters {
-        texts.turn_to(alloc, filter.families, filter.rules.as_slice());
-        put_section_by(&texts, filter, out)?;
+impl SectionForm for InFamily {
+    type Language = junos_lang::Junos;
+
+    ghost family_of = { λ f. f.family };
+
+    ghost section = { section_of };
+
+    fn of_family(family: Family) -> InFamily {
+        InFamily { family }
     }
-    Ok(())
-}
 
-fn texts_of(rules: &[Rule]) -> FamilyTexts<'_, InFamily>
-    requires { All IsSized rules.now }
-    ensures v4 { result.v4.form.family ≡ V4 }
-    ensures v6 { result.v6.form.family ≡ V6 }
-    ensures rules { result.v4.rules.now ≡ rules.now }
-{
-    let v4 = InFamily { family: Family::V4 };
-    let v6 = InFamily { family: Family::V6 };
-    FamilyTexts::new(v4, v6, rules)
-}
-
-fn put_section_by<O: Out>(
-    texts: &FamilyTexts<'_, InFamily>,
-    filter: &Filter,
-    out: &mut O,
-) -> Result<(), PutFault>
-    requires open { IsTrue (O.is_open out.old) }
-    requires v4 { texts.now.v4.form.family ≡ V4 }
-    requires v6 { texts.now.v6.form.family ≡ V6 }
-    requires rules { texts.now.v4.rules.now ≡ filter.now.rules }
-    ensures { Puts O.Out out.old out.new (text_of (section_of filter.now ∷ [])) result }
-{
-    let family = filter.families.first_family();
-    let head = SectionHead {
-        family,
-        name: filter.name.as_slice(),
-    };
-    let terms = TermRows {
-        texts: texts_in(family, texts),
-    };
-    (head, (terms, SectionEnd)).put_rows(out)
+    fn put_over<O: Out>(
+        texts: &FamilyTexts<'_, InFamily>,
+        filter: &Filter,
+        out: &mut O,
+    ) -> Result<(), PutFault> {
+        let family = filter.families.first_family();
+        let head = SectionHead {
+            family,
+            name: filter.name.as_slice(),
+        };
+        let terms = TermRows {
+            texts: texts_in(family, texts),
+        };
+        (head, (terms, SectionEnd)).put_rows(out)
+    }
 }
 
 fn texts_in<'a, 'r>(
@@ -136,12 +105,6 @@ impl Rows for DefaultTerm {
         };
         (head, (actions, TermEnd)).put_rows(out)
     }
-}
-
-// A rule as a term of a filter of the family.
-#[derive(Drop)]
-struct InFamily {
-    family: Family,
 }
 
 impl RuleForm for InFamily {

@@ -8,7 +8,7 @@ use Rattle.junos_lang.specs.Texts.{end_rows, head_rows, term_rows}
 use Rattle.acl_packet.specs.Addresses.{first_family}
 use Rattle.gen_junos.specs.Sections.{terms_of}
 use Rattle.gen_junos.proofs.Rows.{section-text}
-use Rattle.gen_junos.proofs.section_rows.put_section_by.Goals as goal
+use Rattle.gen_junos.proofs.section_rows.InFamilySectionForm.put_over.Goals as goal
 
 pub returns : goal.returns
 returns g c =

@@ -7,7 +7,7 @@ use Rattle.acl_platform.specs.declared.rules.Rule.{Rule}
 use Rattle.cisco_lang.specs.Texts.{head_rows, section_row}
 use Rattle.gen_cisco.specs.RowSteps.{list_body}
 use Rattle.gen_cisco.proofs.Rows.{both-lists, lists_rows, one-list, section-text}
-use Rattle.gen_cisco.proofs.section_rows.put_section_by.Goals as goal
+use Rattle.gen_cisco.proofs.section_rows.InFamilySectionForm.put_over.Goals as goal
 
 pub returns-in-Inet : goal.returns-in-Inet
 returns-in-Inet g c =
