@@ -13,10 +13,13 @@ use aclgen_core::status_without_words;
 use std::alloc::Global;
 use std::test::Fail;
 
-// A policy whose rules have each part that a rule may have, but for the flags.
+// A policy whose rules have each part that a rule may have, but for the flags. Of Cisco and of Junos it has
+// two targets that are alike: the rules of the second are put from a text that is kept.
 const POLICY: &[u8] = b"header {
   target:: cisco edge-in extended
+  target:: cisco rim-in extended
   target:: juniper edge-in
+  target:: juniper rim-in
   target:: iptables INPUT DROP
   target:: nftables inet input
 }
@@ -54,6 +57,23 @@ ip access-list extended edge-in
  remark est-udp
  permit udp any any range 1024 65535
 exit
+! cisco rim-in extended
+no ip access-list extended rim-in
+ip access-list extended rim-in
+ remark web
+ remark Not ours.
+ permit tcp 10.0.0.0 0.0.0.127 host 192.0.2.10 eq 80 log
+ permit tcp 10.0.0.0 0.0.0.127 host 192.0.2.10 range 8000 8080 log
+ permit tcp host 192.0.2.10 host 192.0.2.10 eq 80 log
+ permit tcp host 192.0.2.10 host 192.0.2.10 range 8000 8080 log
+ remark ping
+ deny icmp any any 0
+ deny icmp any any 8
+ remark est-tcp
+ permit tcp any any established
+ remark est-udp
+ permit udp any any range 1024 65535
+exit
 ",
     ),
     (
@@ -62,6 +82,58 @@ exit
 firewall {
     family inet {
         replace: filter edge-in {
+            /* Not ours. */
+            term web {
+                from {
+                    source-address {
+                        10.0.0.0/25;
+                        192.0.2.10/32;
+                    }
+                    destination-address {
+                        192.0.2.10/32;
+                    }
+                    protocol [ 6 ];
+                    destination-port [ 80 8000-8080 ];
+                }
+                then {
+                    syslog;
+                    accept;
+                }
+            }
+            term ping {
+                from {
+                    protocol [ 1 ];
+                    icmp-type [ 0 8 ];
+                }
+                then {
+                    reject;
+                }
+            }
+            term est-tcp {
+                from {
+                    protocol [ 6 ];
+                    tcp-established;
+                }
+                then {
+                    accept;
+                }
+            }
+            term est-udp {
+                from {
+                    protocol [ 17 ];
+                    destination-port [ 1024-65535 ];
+                }
+                then {
+                    accept;
+                }
+            }
+        }
+    }
+}
+/* juniper rim-in inet */
+firewall {
+    family inet {
+        replace: filter rim-in {
             /* Not ours. */
             term web {
                 from {
@@ -159,7 +231,9 @@ table ip aclgen_1 {
 ];
 
 const REPORT: &[u8] = b"out/a.acl: cisco edge-in extended: entries 8
+out/a.acl: cisco rim-in extended: entries 8
 out/a.jcl: juniper edge-in inet: entries 16
+out/a.jcl: juniper rim-in inet: entries 16
 out/a.ipt: iptables INPUT inet: entries 11
 out/a.nft: nftables input inet: entries 11
 ";
