@@ -5,7 +5,8 @@ pub mod GraphLaws
 pub mod MarkLaws
 pub mod MarkedWords
 pub mod OrderedPorts
-pub mod PlainTable
+pub mod InkTable
+pub mod LoneLaws
 pub mod ReachLaws
 pub mod ReadLaws
 pub mod RowLaws

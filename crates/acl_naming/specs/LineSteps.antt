@@ -1,11 +1,26 @@
--- Lines without a comment or a bad byte: those that begin no definition, and those that do.
-use Rattle.std.specs.Prelude.{◌≡◌, ℕ, Bool, true, not, ◌&&◌, ◌==◌, List, Some}
+-- Lines without a comment or a bad byte: those that begin no definition, also those of one word, and those that do.
+use Rattle.std.specs.Prelude.{◌≡◌, ℕ, Bool, true, not, ◌&&◌, ◌==◌, List, [], ◌∷◌, ◌++◌, Some}
 use Rattle.std.specs.List.{list_all}
+use Rattle.acl_text.specs.Cursors.{is_white, words_of}
 use Rattle.acl_text.specs.Cuts.{cut_at}
 use Rattle.acl_naming.specs.NamingFiles.{is_bad}
 
 abbrev pub is_plain : ℕ → Bool
 is_plain b = not (is_bad b) && not (b == 35) && not (b == 61)
+
+-- Plain, and no white space.
+abbrev pub is_ink : ℕ → Bool
+is_ink b = is_plain b && not (is_white b)
+
+-- A plain line of one word.
+pub record IsLoneWord (line word : List ℕ) : Type 0 where
+  pub plain : list_all is_plain line ≡ true
+  pub words : words_of line ≡ word ∷ []
+
+-- The bytes begin with such a line and its line feed (10).
+pub record IsLoneLine (bytes line word rest : List ℕ) : Type 0 where
+  pub joined : bytes ≡ line ++ 10 ∷ rest
+  pub lone : IsLoneWord line word
 
 -- All but the first `=` (61) is plain.
 pub record IsPlainDefinition (line name rest : List ℕ) : Type 0 where

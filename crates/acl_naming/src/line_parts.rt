@@ -1,6 +1,7 @@
-ghost use Rattle.std.specs.Prelude.{◌≡◌, ◌≤◌, IfSome};
+ghost use Rattle.std.specs.Prelude.{◌≡◌, ◌≤◌, ◌<◌, ◌∷◌, [], true, length, take, option_map, IfNone, IfSome};
 ghost use Rattle.std.specs.List.{list_all};
-ghost use Rattle.acl_naming.specs.LineSteps.{IsPlainDefinition, is_plain};
+ghost use Rattle.acl_naming.specs.LineSteps.{IsLoneLine, IsLoneWord, IsPlainDefinition, is_ink, is_plain};
+ghost use Rattle.acl_text.specs.Cursors.{first_line, is_white, lines_of};
 ghost use Rattle.acl_naming.specs.NamingFiles.{bad_byte, is_bad, trimmed, without_comment, without_end};
 
 use acl_text::{is_white, skip_white, split_at_byte};
@@ -21,14 +22,21 @@ fn is_bad(byte: u8) -> bool
     !(33 <= byte && byte <= 126) && !is_white(byte)
 }
 
-// For each byte whether it is plain: a good one, and neither `#` nor `=`.
-static PLAIN: [u8; 256] =
-    *b"nnnnnnnnnynnnynnnnnnnnnnnnnnnnnnyyynyyyyyyyyyyyyyyyyyyyyyyyyynyyyyyyyyyyyyyyyyyyyyyyyyyyyyyyyyyyyyyyyyyyyyyyyyyyyyyyyyyyyyyyyyynnnnnnnnnnnnnnnnnnnnnnnnnnnnnnnnnnnnnnnnnnnnnnnnnnnnnnnnnnnnnnnnnnnnnnnnnnnnnnnnnnnnnnnnnnnnnnnnnnnnnnnnnnnnnnnnnnnnnnnnnnnnnnnnn";
+// For each byte whether it is ink: a good one, and neither white space nor `#` nor `=`.
+static INK: [u8; 256] =
+    *b"nnnnnnnnnnnnnnnnnnnnnnnnnnnnnnnnnyynyyyyyyyyyyyyyyyyyyyyyyyyynyyyyyyyyyyyyyyyyyyyyyyyyyyyyyyyyyyyyyyyyyyyyyyyyyyyyyyyyyyyyyyyyynnnnnnnnnnnnnnnnnnnnnnnnnnnnnnnnnnnnnnnnnnnnnnnnnnnnnnnnnnnnnnnnnnnnnnnnnnnnnnnnnnnnnnnnnnnnnnnnnnnnnnnnnnnnnnnnnnnnnnnnnnnnnnnnn";
 
+fn is_ink(byte: u8) -> bool
+    ensures { result ≡ is_ink byte }
+{
+    INK[usize::from(byte)] == b'y'
+}
+
+#[tactic(auto, using(crate::proofs::LoneLaws::ink_or_white))]
 fn is_plain(byte: u8) -> bool
     ensures { result ≡ is_plain byte }
 {
-    PLAIN[usize::from(byte)] == b'y'
+    is_ink(byte) || is_white(byte)
 }
 
 /// Whether the line is plain, as most lines of items are: it has no comment, no `=` and no bad byte.
@@ -80,4 +88,80 @@ pub fn trimmed(text: &[u8]) -> &[u8]
     ensures { result.now ≡ trimmed text.now }
 {
     without_end(skip_white(text))
+}
+
+// How many bytes the text begins with that are white space.
+fn white_front(text: &[u8]) -> usize
+    ensures fits { result ≤ length text.now }
+    ensures white { list_all is_white (take result text.now) ≡ true }
+{
+    for (i, byte) in text.iter().enumerate() {
+        if !is_white(*byte) {
+            return i;
+        }
+    }
+    text.len()
+}
+
+// How many bytes it begins with that are ink.
+fn ink_front(text: &[u8]) -> usize
+    ensures fits { result ≤ length text.now }
+    ensures ink { list_all is_ink (take result text.now) ≡ true }
+{
+    for (i, byte) in text.iter().enumerate() {
+        if !is_ink(*byte) {
+            return i;
+        }
+    }
+    text.len()
+}
+
+// What stands behind a line feed, where the text begins with one.
+fn behind_feed(text: &[u8]) -> Option<&[u8]>
+    ensures { IfSome result (λ rest. text.now ≡ 10 ∷ rest.now) }
+{
+    match text {
+        [first, rest @ ..] if *first == b'\n' => Some(rest),
+        _ => None,
+    }
+}
+
+// The first line, its word, and the bytes behind it, where it is a plain line of one word. `None` says nothing.
+fn lone_line(bytes: &[u8]) -> Option<(&[u8], &[u8], &[u8])>
+    ensures { IfSome result (λ p. IsLoneLine bytes.now p.0.now p.1.now p.2.now) }
+{
+    let (front, text) = bytes.split_at(white_front(bytes));
+    let (word, behind) = text.split_at(ink_front(text));
+    if word.is_empty() {
+        return None;
+    }
+    let (end, behind) = behind.split_at(white_front(behind));
+    let rest = behind_feed(behind)?;
+    let size = front.len() + word.len() + end.len();
+    Some((&bytes[..size], word, rest))
+}
+
+fn any_line(bytes: &[u8]) -> Option<(&[u8], &[u8])>
+    ensures exact { option_map (λ p. (p.0.now, p.1.now)) result ≡ first_line bytes.now }
+    ensures shorter { IfSome result (λ p. length p.1.now < length bytes.now) }
+{
+    match split_at_byte(bytes, b'\n') {
+        Some((line, rest)) => Some((line, rest)),
+        None if bytes.is_empty() => None,
+        None => Some((bytes, &[])),
+    }
+}
+
+/// The first line, its word where it is plain and has one alone, as most lines have, and the bytes behind it.
+pub fn next_line(bytes: &[u8]) -> Option<(&[u8], Option<&[u8]>, &[u8])>
+    ensures some { IfSome result (λ p. lines_of bytes.now ≡ p.0.now ∷ lines_of p.2.now) }
+    ensures shorter { IfSome result (λ p. length p.2.now < length bytes.now) }
+    ensures lone { IfSome result (λ p. IfSome p.1 (λ w. IsLoneWord p.0.now w.now)) }
+    ensures none { IfNone result (lines_of bytes.now ≡ []) }
+{
+    if let Some((line, word, rest)) = lone_line(bytes) {
+        return Some((line, Some(word), rest));
+    }
+    let (line, rest) = any_line(bytes)?;
+    Some((line, None, rest))
 }

@@ -1,8 +1,9 @@
-ghost use Rattle.std.specs.Prelude.{◌≡◌, ◌<◌, ◌≤◌, ◌||◌, Bool, true, false, nat_le, length, IfOk, OnOk};
+ghost use Rattle.std.specs.Prelude.{◌≡◌, ◌<◌, ◌≤◌, ◌||◌, Bool, true, false, nat_le, length, IfOk, IfSome, OnOk};
 ghost use Rattle.acl_text.specs.Answers.{Leaves, slip_told};
 ghost use Rattle.acl_text.specs.Cursors.{words_of};
 ghost use Rattle.acl_text.specs.Cuts.{has_byte};
 ghost use Rattle.acl_text.specs.Refusals.{IsRefusalBy, slip};
+ghost use Rattle.acl_naming.specs.LineSteps.{IsLoneWord};
 ghost use Rattle.acl_naming.specs.NamingFiles.{
   with_items,
   with_definition,
@@ -17,9 +18,11 @@ ghost use Rattle.acl_naming.specs.NamingFiles.{
 };
 
 use crate::item_words::{NamingKind, read_item};
-use crate::line_parts::{bad_byte, is_plain_line, plain_definition, trimmed, without_comment};
+use crate::line_parts::{
+    bad_byte, is_plain_line, next_line, plain_definition, trimmed, without_comment,
+};
 use crate::tables::Table;
-use acl_text::{Code, Cursor, Place, Refusal, is_name, next_word, split_at_byte};
+use acl_text::{Code, Place, Refusal, is_name, next_word, split_at_byte};
 use std::alloc::Global;
 
 const MOST: usize = 16384;
@@ -165,6 +168,31 @@ impl LineReader {
         }
         self.add_line(table, is_open, without_comment(line))
     }
+
+    // The same, where it may be known to be plain and to have one word alone, as most lines have.
+    #[tactic(auto, using(crate::proofs::LoneLaws::lone_added, crate::proofs::LoneLaws::lone_opens))]
+    fn add_next(
+        self,
+        table: &mut Table,
+        is_open: bool,
+        line: &[u8],
+        word: Option<&[u8]>,
+    ) -> Result<bool, Refusal>
+        requires opened { is_open ≡ true → 0 < length table.old }
+        requires lone { IfSome word (λ w. IsLoneWord line.now w.now) }
+        ensures gives { Leaves slip_told table.new result
+            (line_added self.kind self.place is_open table.old (without_comment line.now)) }
+        ensures opened { IfOk result (λ o. o ≡ opens is_open (without_comment line.now)) }
+        ensures filled { IfOk result (λ o. o ≡ true → 0 < length table.new) }
+    {
+        match word {
+            Some(word) if is_open => {
+                self.add_item(table, word)?;
+                Ok(true)
+            }
+            _ => self.add_whole(table, is_open, line),
+        }
+    }
 }
 
 /// Adds the definitions of the file, or tells its first slip.
@@ -178,12 +206,15 @@ pub fn add_file(
     requires { length bytes.now ≤ 4194304 }
     ensures { Leaves slip_told table.new result (file_added kind file table.old bytes.now) }
 {
-    let mut cursor = Cursor::new(file, bytes);
+    let mut rest = bytes;
+    let mut number = 0;
     let mut is_open = false;
-    while let Some(line) = cursor.line() {
-        let place = cursor.place();
+    while let Some((line, word, behind)) = next_line(rest) {
+        number += 1;
+        let place = Place { file, line: number };
         let reader = LineReader { alloc, kind, place };
-        is_open = reader.add_whole(table, is_open, line)?;
+        is_open = reader.add_next(table, is_open, line, word)?;
+        rest = behind;
     }
     Ok(())
 }

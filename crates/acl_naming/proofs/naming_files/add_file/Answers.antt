@@ -2,6 +2,7 @@ use Rattle.std.proofs.Common.{◌≡◌, ℕ, ◌+◌, List, ap, sym, ◌∙◌}
 use Rattle.std.proofs.lemmas.Result.{err_from_is_err_and}
 use Rattle.acl_text.specs.declared.faults.Place.{Place}
 use Rattle.acl_text.specs.declared.faults.Slip.{Slip}
+use Rattle.acl_text.specs.Cursors.{lines_of}
 use Rattle.acl_naming.specs.Definitions.{Definition}
 use Rattle.acl_naming.specs.NamingFiles.{TableOrSlip, without_comment, opens, line_added, lines_added, file_added}
 use Rattle.acl_text.proofs.AnswerLaws.{step_stops, stops_whole}
@@ -16,25 +17,20 @@ returns-in_err-is_open c =
     let file = c.args.file in
     let is_open = c.loop-line.is_open in
     let table = c.loop-line.table in
-    let cursor = c.loop-line.cursor in
+    let number = c.loop-line.number in
     let text = without_comment c.in-Some.line.now in
-    let place : Place = record { file = file; line = cursor.line + 1 } in
-    let place_is : c.place-place.result ≡ place =
-    c.place-place.ensures ∙ ap (λ (f : ℕ). record { file = f; line = c.line.new.self.line }) (c.in-Some.ensures.2 ∙ c.loop-line.invariant.place)
-    ∙ ap (λ (n : ℕ). record { file = file; line = n }) c.in-Some.ensures.1 in
-    let rest : List Definition → TableOrSlip = λ more. lines_added kind file ((cursor.line + 1) + 1) (opens is_open text) more c.line.new.self.lines in
+    let place : Place = record { file = file; line = number + 1 } in
+    let rest : List Definition → TableOrSlip = λ more. lines_added kind file ((number + 1) + 1) (opens is_open text) more (lines_of c.in-Some.behind.now) in
     let whole : file_added kind file c.args.table.now c.args.bytes.now ≡ (line_added kind place is_open table text >>= rest) =
-    sym c.loop-line.invariant.goes ∙ ap (lines_added kind file (cursor.line + 1) is_open table) c.in-Some.ensures.0 in
-    let same : line_added kind c.place-place.result is_open table text ≡ line_added kind place is_open table text =
-    ap (λ (p : Place). line_added kind p is_open table text) place_is in
+    sym c.loop-line.invariant.goes ∙ ap (lines_added kind file (number + 1) is_open table) c.in-Some.ensures.some in
     let p = err_from_is_err_and c.from_residual.result c.from_residual.ensures.1 in
     rw (p.1, p.2)
-    (stops_whole slip_told c.in_err-is_open.field-0.0 (line_added kind c.place-place.result is_open table text)
+    (stops_whole slip_told c.in_err-is_open.field-0.0 (line_added kind place is_open table text)
     (file_added kind file c.args.table.now c.args.bytes.now) c.in_err-is_open.ensures.gives
-    (λ (s : Slip) h. whole ∙ step_stops (line_added kind place is_open table text) rest s (sym same ∙ h)))
+    (λ (s : Slip) h. whole ∙ step_stops (line_added kind place is_open table text) rest s h))
 
 pub returns : goal.returns
 unfolding file_added
 returns c =
     sym c.loop-line.invariant.goes
-    ∙ ap (lines_added c.args.kind c.args.file (c.loop-line.cursor.line + 1) c.loop-line.is_open c.loop-line.table) c.in_default.ensures.0
+    ∙ ap (lines_added c.args.kind c.args.file (c.loop-line.number + 1) c.loop-line.is_open c.loop-line.table) c.in_default.ensures.none

@@ -1,0 +1,149 @@
+-- Lines of one word.
+use Rattle.std.proofs.Common.{◌≡◌, ℕ, ◌+◌, ◌<◌, Bool, true, false, not, ◌&&◌, ◌||◌, ◌==◌, List, [], ◌∷◌, ◌++◌, length, take, drop, Some, None, Result, Ok, Err, inl, inr, refl, ap, sym, subst, ◌∙◌, arith}
+use Rattle.std.proofs.lemmas.Bool.{and_parts, and_from, or_cases, or_right, cond-true, cond-false, eqb-true}
+use Rattle.std.proofs.lemmas.List.{take_at, take-append-drop, length-append, append_assoc}
+use Rattle.std.specs.List.{list_all}
+use Rattle.acl_text.specs.declared.faults.Place.{Place}
+use Rattle.acl_text.specs.Cuts.{has_byte}
+use Rattle.acl_text.specs.Cursors.{begins_black, first_line, is_white, lines_of, onto_first, or_all, words_of}
+use Rattle.acl_text.specs.Steps.{◌>>=◌}
+use Rattle.acl_text.proofs.CursorLaws.{lines_step}
+use Rattle.acl_text.proofs.CutLaws.{cut-again, has-not}
+use Rattle.acl_naming.specs.declared.item_words.NamingKind.{NamingKind}
+use Rattle.acl_naming.specs.Definitions.{Definition}
+use Rattle.acl_naming.specs.LineSteps.{IsLoneLine, IsLoneWord, is_ink, is_plain}
+use Rattle.acl_naming.specs.NamingFiles.{TableOrSlip, item_added, line_added, opens, with_items, without_comment}
+use Rattle.acl_naming.proofs.ReadLaws.{plain_added, plain_opens}
+
+-- ---- bytes
+
+white_plain : (b : ℕ) → is_white b ≡ true → is_plain b ≡ true
+white_plain b h = elim (or_cases (b == 9 || b == 13) (b == 32) h) [
+  | inl l ↦ elim (or_cases (b == 9) (b == 13) l) [
+    | inl t ↦ subst (λ n. is_plain n ≡ true) (sym (eqb-true b 9 t)) refl
+    | inr r ↦ subst (λ n. is_plain n ≡ true) (sym (eqb-true b 13 r)) refl
+  ]
+  | inr s ↦ subst (λ n. is_plain n ≡ true) (sym (eqb-true b 32 s)) refl
+]
+
+without_or_with : (p w : Bool) → (w ≡ true → p ≡ true) → (p && not w || w) ≡ p
+without_or_with true true h = refl
+without_or_with true false h = refl
+without_or_with false true h = sym (h refl)
+without_or_with false false h = refl
+
+pub ink_or_white : (b : ℕ) → (is_ink b || is_white b) ≡ is_plain b
+ink_or_white b = without_or_with (is_plain b) (is_white b) (white_plain b)
+
+white_all : (bs : List ℕ) → list_all is_white bs ≡ true → list_all is_plain bs ≡ true
+white_all [] h = refl
+white_all (b ∷ bs) h =
+    let p = and_parts (is_white b) (list_all is_white bs) h in
+    and_from (is_plain b) (list_all is_plain bs) (white_plain b p.0) (white_all bs p.1)
+
+ink_all : (bs : List ℕ) → list_all is_ink bs ≡ true → list_all is_plain bs ≡ true
+ink_all [] h = refl
+ink_all (b ∷ bs) h =
+    let p = and_parts (is_ink b) (list_all is_ink bs) h in
+    and_from (is_plain b) (list_all is_plain bs) (and_parts (is_plain b) (not (is_white b)) p.0).0 (ink_all bs p.1)
+
+joined_all : (test : ℕ → Bool) (xs ys : List ℕ) → list_all test xs ≡ true → list_all test ys ≡ true → list_all test (xs ++ ys) ≡ true
+joined_all test [] ys h k = k
+joined_all test (x ∷ xs) ys h k =
+    let p = and_parts (test x) (list_all test xs) h in
+    and_from (test x) (list_all test (xs ++ ys)) p.0 (joined_all test xs ys p.1 k)
+
+-- ---- words
+
+front_words : (front bs : List ℕ) → list_all is_white front ≡ true → words_of (front ++ bs) ≡ words_of bs
+front_words [] bs h = refl
+front_words (b ∷ front) bs h =
+    let p = and_parts (is_white b) (list_all is_white front) h in
+    cond-true (is_white b) _ _ p.0 ∙ front_words front bs p.1
+
+white_words : (end : List ℕ) → list_all is_white end ≡ true → words_of end ≡ []
+white_words [] h = refl
+white_words (b ∷ end) h =
+    let p = and_parts (is_white b) (list_all is_white end) h in
+    cond-true (is_white b) _ _ p.0 ∙ white_words end p.1
+
+not_true : (b : Bool) → not b ≡ true → b ≡ false
+not_true true h = sym h
+not_true false h = refl
+
+ends_white : (end : List ℕ) → list_all is_white end ≡ true → begins_black end ≡ false
+ends_white [] h = refl
+ends_white (b ∷ end) h = ap not (and_parts (is_white b) (list_all is_white end) h).0
+
+one_word : (b : ℕ) (word end : List ℕ) → list_all is_ink (b ∷ word) ≡ true → list_all is_white end ≡ true → words_of (b ∷ (word ++ end)) ≡ (b ∷ word) ∷ []
+one_word b [] end h k =
+    let ink = and_parts (is_plain b) (not (is_white b)) (and_parts (is_ink b) true h).0 in
+    cond-false (is_white b) _ _ (not_true (is_white b) ink.1) ∙ cond-false (begins_black end) _ _ (ends_white end k) ∙ ap (λ t. (b ∷ []) ∷ t) (white_words end k)
+one_word b (c ∷ word) end h k =
+    let p = and_parts (is_ink b) (list_all is_ink (c ∷ word)) h in
+    let ink = and_parts (is_plain b) (not (is_white b)) p.0 in
+    let next = and_parts (is_plain c) (not (is_white c)) (and_parts (is_ink c) (list_all is_ink word) p.1).0 in
+    cond-false (is_white b) _ _ (not_true (is_white b) ink.1) ∙ cond-true (not (is_white c)) _ _ next.1 ∙ ap (onto_first b) (one_word c word end p.1 k)
+
+some_word : (word end : List ℕ) → 0 < length word → list_all is_ink word ≡ true → list_all is_white end ≡ true → words_of (word ++ end) ≡ word ∷ []
+some_word [] end l h k = absurd (omega arith)
+some_word (b ∷ word) end l h k = one_word b word end h k
+
+lone_of : (front word end : List ℕ) → list_all is_white front ≡ true → 0 < length word → list_all is_ink word ≡ true → list_all is_white end ≡ true
+    → IsLoneWord (front ++ (word ++ end)) word
+lone_of front word end f l w e = record {
+  plain = joined_all is_plain front (word ++ end) (white_all front f) (joined_all is_plain word end (ink_all word w) (white_all end e));
+  words = front_words front (word ++ end) f ∙ some_word word end l w e;
+}
+
+-- ---- lines
+
+all_joined : (front word end rest : List ℕ) → front ++ (word ++ (end ++ rest)) ≡ (front ++ (word ++ end)) ++ rest
+all_joined front word end rest = ap (λ t. front ++ t) (sym (append_assoc word end rest)) ∙ sym (append_assoc front (word ++ end) rest)
+
+pub some_long : (word : List ℕ) → (length word == 0) ≡ false → 0 < length word
+some_long [] h = absurd (cc)
+some_long (b ∷ word) h = omega arith
+
+pub split_whole : (bs xs ys : List ℕ) (n : ℕ) → xs ≡ take n bs → ys ≡ drop n bs → bs ≡ xs ++ ys
+split_whole bs xs ys n x y = sym (take-append-drop n bs) ∙ ap (λ t. t ++ drop n bs) (sym x) ∙ ap (λ t. xs ++ t) (sym y)
+
+-- the first line is white space, a word, and white space
+pub lone_line_is : (bytes front text word behind end tail rest line : List ℕ) (size : ℕ)
+    → bytes ≡ front ++ text → text ≡ word ++ behind → behind ≡ end ++ tail → tail ≡ 10 ∷ rest
+    → list_all is_white front ≡ true → 0 < length word → list_all is_ink word ≡ true → list_all is_white end ≡ true
+    → size ≡ length front + length word + length end → line ≡ take size bytes → IsLoneLine bytes line word rest
+lone_line_is bytes front text word behind end tail rest line size b t h g f l w e s is =
+    let own = front ++ (word ++ end) in
+    let whole : bytes ≡ own ++ 10 ∷ rest =
+    b ∙ ap (λ x. front ++ x) (t ∙ ap (λ x. word ++ x) (h ∙ ap (λ x. end ++ x) g)) ∙ all_joined front word end (10 ∷ rest) in
+    let long : length own ≡ size = omega (arith, s, length-append front (word ++ end), length-append word end) in
+    let same : own ≡ line = sym (is ∙ ap (take size) whole ∙ take_at own (10 ∷ rest) size long) in
+    record {
+      joined = whole ∙ ap (λ x. x ++ 10 ∷ rest) same;
+      lone = subst (λ x. IsLoneWord x word) same (lone_of front word end f l w e);
+    }
+
+pub lone_lines : (bytes line word rest : List ℕ) → IsLoneLine bytes line word rest → lines_of bytes ≡ line ∷ lines_of rest
+lone_lines bytes line word rest d =
+    lines_step bytes line rest (ap first_line d.joined ∙ ap (or_all (line ++ 10 ∷ rest)) (cut-again 10 line rest (has-not is_plain 10 line d.lone.plain refl)))
+
+pub lone_shorter : (bytes line word rest : List ℕ) → IsLoneLine bytes line word rest → length rest < length bytes
+lone_shorter bytes line word rest d = omega (arith, ap (λ (t : List ℕ). length t) d.joined, length-append line (10 ∷ rest))
+
+-- ---- what a line of one word adds
+
+ends_there : (o : TableOrSlip) → (o >>= λ ds. Ok ds) ≡ o
+ends_there (Ok ds) = refl
+ends_there (Err s) = refl
+
+pub lone_added : (kind : NamingKind) (place : Place) (is_open : Bool) (ds : List Definition) (line word : List ℕ) → is_open ≡ true → IsLoneWord line word
+    → line_added kind place is_open ds (without_comment line) ≡ item_added kind place ds word
+lone_added kind place is_open ds line word h d =
+    plain_added kind place is_open ds line d.plain
+    ∙ ap (with_items kind place is_open ds) d.words
+    ∙ ap (λ b. with_items kind place b ds (word ∷ [])) h
+    ∙ ends_there (item_added kind place ds word)
+
+pub lone_opens : (is_open : Bool) (line word : List ℕ) → is_open ≡ true → IsLoneWord line word → true ≡ opens is_open (without_comment line)
+lone_opens is_open line word h d = sym (plain_opens is_open line d.plain ∙ h)

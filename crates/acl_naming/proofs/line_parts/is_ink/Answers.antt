@@ -1,0 +1,9 @@
+use Rattle.std.proofs.Common.{ℕ, ◌<◌, ◌==◌, get_or, ap, ◌∙◌, arith}
+use Rattle.acl_naming.specs.declared.line_parts.TheConstants.{INK}
+use Rattle.acl_naming.proofs.InkTable.{ink_at}
+use Rattle.acl_naming.proofs.line_parts.is_ink.Goals as goal
+
+pub returns : goal.returns
+returns c =
+    let byte : c.args.byte < 256 = omega arith in
+    ap (λ (i : ℕ). get_or INK i 0 == 121) c.from.ensures ∙ ink_at c.args.byte byte

@@ -1,0 +1,27 @@
+use Rattle.std.proofs.Common.{ℕ, ◌<◌, List, length, refl, ap, sym, ◌∙◌}
+use Rattle.std.specs.List.{list_all}
+use Rattle.acl_text.specs.Cursors.{is_white}
+use Rattle.acl_naming.specs.LineSteps.{is_ink}
+use Rattle.acl_naming.proofs.LoneLaws.{lone_line_is, some_long, split_whole}
+use Rattle.acl_naming.proofs.line_parts.lone_line.Goals as goal
+
+pub returns : goal.returns
+returns c =
+    let bytes = c.args.bytes.now in
+    let front = c.split_at.result.0.now in
+    let text = c.split_at.result.1.now in
+    let word = c.split_at-2.result.0.now in
+    let behind = c.split_at-2.result.1.now in
+    let end = c.split_at-3.result.0.now in
+    let tail = c.split_at-3.result.1.now in
+    let long : 0 < length word = some_long word (sym c.is_empty.ensures ∙ c.if-is_empty.false) in
+    lone_line_is bytes front text word behind end tail c.in_ok-rest.rest.now _ _
+    (split_whole bytes front text c.white_front.result c.split_at.ensures.front c.split_at.ensures.back)
+    (split_whole text word behind c.ink_front.result c.split_at-2.ensures.front c.split_at-2.ensures.back)
+    (split_whole behind end tail c.white_front-2.result c.split_at-3.ensures.front c.split_at-3.ensures.back)
+    c.in_ok-rest.ensures
+    (ap (λ (t : List ℕ). list_all is_white t) c.split_at.ensures.front ∙ c.white_front.ensures.white)
+    long
+    (ap (λ (t : List ℕ). list_all is_ink t) c.split_at-2.ensures.front ∙ c.ink_front.ensures.ink)
+    (ap (λ (t : List ℕ). list_all is_white t) c.split_at-3.ensures.front ∙ c.white_front-2.ensures.white)
+    refl refl
