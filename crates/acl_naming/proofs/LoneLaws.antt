@@ -4,15 +4,15 @@ use Rattle.std.proofs.lemmas.Bool.{and_parts, and_from, or_cases, or_right, cond
 use Rattle.std.proofs.lemmas.List.{take_at, take-append-drop, length-append, append_assoc}
 use Rattle.std.specs.List.{list_all}
 use Rattle.acl_text.specs.declared.faults.Place.{Place}
-use Rattle.acl_text.specs.Cuts.{has_byte}
+use Rattle.acl_text.specs.Cuts.{cut_at, has_byte}
 use Rattle.acl_text.specs.Cursors.{begins_black, first_line, is_white, lines_of, onto_first, or_all, words_of}
 use Rattle.acl_text.specs.Steps.{◌>>=◌}
 use Rattle.acl_text.proofs.CursorLaws.{lines_step}
 use Rattle.acl_text.proofs.CutLaws.{cut-again, has-not}
 use Rattle.acl_naming.specs.declared.item_words.NamingKind.{NamingKind}
 use Rattle.acl_naming.specs.Definitions.{Definition}
-use Rattle.acl_naming.specs.LineSteps.{IsLoneLine, IsLoneWord, is_ink, is_plain}
-use Rattle.acl_naming.specs.NamingFiles.{TableOrSlip, item_added, line_added, opens, with_items, without_comment}
+use Rattle.acl_naming.specs.LineSteps.{IsLoneLine, IsLoneWord, IsNamed, IsPlainDefinition, is_ink, is_plain}
+use Rattle.acl_naming.specs.NamingFiles.{TableOrSlip, in_front_of, item_added, line_added, opens, trimmed, with_items, without_comment, without_end}
 use Rattle.acl_naming.proofs.ReadLaws.{plain_added, plain_opens}
 
 -- ---- bytes
@@ -130,6 +130,46 @@ lone_lines bytes line word rest d =
 
 pub lone_shorter : (bytes line word rest : List ℕ) → IsLoneLine bytes line word rest → length rest < length bytes
 lone_shorter bytes line word rest d = omega (arith, ap (λ (t : List ℕ). length t) d.joined, length-append line (10 ∷ rest))
+
+-- ---- names
+
+blank_end : (blank : List ℕ) → list_all is_white blank ≡ true → without_end blank ≡ []
+blank_end [] h = refl
+blank_end (b ∷ blank) h =
+    let p = and_parts (is_white b) (list_all is_white blank) h in
+    ap (in_front_of b) (blank_end blank p.1) ∙ cond-true (is_white b) _ _ p.0
+
+name_end : (b : ℕ) (name blank : List ℕ) → list_all is_ink (b ∷ name) ≡ true → list_all is_white blank ≡ true → without_end (b ∷ (name ++ blank)) ≡ b ∷ name
+name_end b [] blank h k =
+    let ink = and_parts (is_plain b) (not (is_white b)) (and_parts (is_ink b) true h).0 in
+    ap (in_front_of b) (blank_end blank k) ∙ cond-false (is_white b) _ _ (not_true (is_white b) ink.1)
+name_end b (c ∷ name) blank h k =
+    ap (in_front_of b) (name_end c name blank (and_parts (is_ink b) (list_all is_ink (c ∷ name)) h).1 k)
+
+name_trimmed : (name blank : List ℕ) → 0 < length name → list_all is_ink name ≡ true → list_all is_white blank ≡ true → trimmed (name ++ blank) ≡ name
+name_trimmed [] blank l h k = absurd (omega arith)
+name_trimmed (b ∷ name) blank l h k =
+    let ink = and_parts (is_plain b) (not (is_white b)) (and_parts (is_ink b) (list_all is_ink name) h).0 in
+    ap without_end (cond-false (is_white b) _ _ (not_true (is_white b) ink.1)) ∙ name_end b name blank h k
+
+-- a name, white space, `=` and plain items
+pub named_is : (line name behind blank tail items : List ℕ)
+    → line ≡ name ++ behind → behind ≡ blank ++ tail → tail ≡ 61 ∷ items
+    → 0 < length name → list_all is_ink name ≡ true → list_all is_white blank ≡ true → list_all is_plain items ≡ true → IsNamed line name items
+named_is line name behind blank tail items a b t l n w i =
+    let front = name ++ blank in
+    let plain = joined_all is_plain name blank (ink_all name n) (white_all blank w) in
+    let whole : line ≡ front ++ 61 ∷ items =
+    a ∙ ap (λ x. name ++ x) (b ∙ ap (λ x. blank ++ x) t) ∙ sym (append_assoc name blank (61 ∷ items)) in
+    record {
+      front = front;
+      plain = record {
+        cut = sym (ap (cut_at 61) whole ∙ cut-again 61 front items (has-not is_plain 61 front plain refl));
+        name_plain = plain;
+        rest_plain = i;
+      };
+      own = name_trimmed name blank l n w;
+    }
 
 -- ---- what a line of one word adds
 

@@ -1,17 +1,67 @@
--- Words that have one of two bytes.
-use Rattle.std.proofs.Common.{◌≡◌, ℕ, Bool, true, false, ◌||◌, ◌==◌, List, [], ◌∷◌, refl, ap, ◌∙◌}
-use Rattle.std.specs.List.{list_any}
-use Rattle.acl_text.specs.Cuts.{has_byte}
+-- Names and prefixes: a name has no `.` (46) or `:` (58), and a prefix has one of them.
+use Rattle.std.proofs.Common.{◌≡◌, ℕ, Bool, true, false, ◌&&◌, ◌||◌, ◌==◌, nat_le, List, [], ◌∷◌, ◌++◌, length, Option, Some, None, option_map, inl, inr, refl, ap, sym, ◌∙◌}
+use Rattle.std.specs.List.{list_all}
+use Rattle.std.specs.Option.{option_map_or}
+use Rattle.std.proofs.lemmas.Bool.{and_parts, or_parts, or_from, cond-true, cond-false, cases_Bool}
+use Rattle.std.proofs.lemmas.List.Folds.{list_any-append}
+use Rattle.acl_packet.specs.declared.addresses.Family.TheVariants.{V4, V6}
+use Rattle.acl_packet.specs.declared.addresses.Prefix.{Prefix}
+use Rattle.acl_text.specs.declared.faults.Place.{Place}
+use Rattle.acl_text.specs.AddressTexts.{block_in, family_in, full_in, prefix_in}
+use Rattle.acl_text.specs.Cuts.{cut_at, has_byte}
+use Rattle.acl_text.specs.Ipv4.{ipv4_in}
+use Rattle.acl_text.specs.Names.{is_name, is_name_byte}
+use Rattle.acl_text.proofs.CutLaws.{cut-found, cut-none, has-not}
+use Rattle.acl_naming.specs.declared.naming_items.Item.TheVariants.{Network}
+use Rattle.acl_naming.specs.ItemWords.{name_in, network_in}
 
-four : (a b x y : Bool) → ((a || b) || (x || y)) ≡ ((a || x) || (b || y))
-four true b x y = refl
-four false true true y = refl
-four false true false y = refl
-four false false x y = refl
+-- ---- names
 
-either_of : (c d : ℕ) (bs : List ℕ) → list_any (λ b. b == c || b == d) bs ≡ (has_byte c bs || has_byte d bs)
-either_of c d [] = refl
-either_of c d (b ∷ bs) = ap (λ (r : Bool). (b == c || b == d) || r) (either_of c d bs) ∙ four (b == c) (b == d) (has_byte c bs) (has_byte d bs)
+name_bytes : (word : List ℕ) → is_name word ≡ true → list_all is_name_byte word ≡ true
+name_bytes [] h = refl
+name_bytes (b ∷ bs) h = (and_parts (nat_le (length (b ∷ bs)) 128) (list_all is_name_byte (b ∷ bs)) h).1
 
-pub either : (bs : List ℕ) → list_any (λ b. b == 46 || b == 58) bs ≡ (has_byte 46 bs || has_byte 58 bs)
-either bs = either_of 46 58 bs
+pub named : (place : Place) (word : List ℕ) → is_name word ≡ true → network_in place word ≡ name_in place word
+unfolding network_in
+named place word h =
+    let bytes = name_bytes word h in
+    cond-false (has_byte 46 word || has_byte 58 word) _ _
+    (or_from (has_byte 46 word) (has_byte 58 word) (has-not is_name_byte 46 word bytes refl) (has-not is_name_byte 58 word bytes refl))
+
+-- ---- prefixes
+
+no_dot : (bs : List ℕ) → has_byte 46 bs ≡ false → ipv4_in bs ≡ None
+unfolding ipv4_in
+no_dot bs h = rw (cut-none 46 bs h) refl
+
+no_full : (bs : List ℕ) → has_byte 46 bs ≡ false → has_byte 58 bs ≡ false → full_in (family_in bs) bs ≡ None
+unfolding full_in
+no_full bs h k = rw (k, no_dot bs h) refl
+
+no_block : (bs len : List ℕ) → has_byte 46 bs ≡ false → has_byte 58 bs ≡ false → block_in (family_in bs) bs len ≡ None
+unfolding block_in
+no_block bs len h k = rw (k, no_dot bs h) refl
+
+front_lacks : (c : ℕ) (bs xs ys : List ℕ) → cut_at 47 bs ≡ Some (xs, ys) → has_byte c bs ≡ false → has_byte c xs ≡ false
+front_lacks c bs xs ys e h =
+    (or_parts (has_byte c xs) (has_byte c (47 ∷ ys))
+    (sym (list_any-append (λ b. b == c) xs (47 ∷ ys)) ∙ sym (ap (has_byte c) (cut-found 47 bs xs ys e).0) ∙ h)).0
+
+no_parts : (bs : List ℕ) (o : Option (List ℕ × List ℕ)) → cut_at 47 bs ≡ o → has_byte 46 bs ≡ false → has_byte 58 bs ≡ false
+    → option_map_or {U = Option Prefix} (λ p. block_in (family_in p.0) p.0 p.1) o (full_in (family_in bs) bs) ≡ None
+no_parts bs None e h k = no_full bs h k
+no_parts bs (Some p) e h k = no_block p.0 p.1 (front_lacks 46 bs p.0 p.1 e h) (front_lacks 58 bs p.0 p.1 e k)
+
+no_prefix : (bs : List ℕ) → has_byte 46 bs ≡ false → has_byte 58 bs ≡ false → prefix_in bs ≡ None
+unfolding prefix_in
+no_prefix bs h k = no_parts bs (cut_at 47 bs) refl h k
+
+pub unnamed : (place : Place) (word : List ℕ) → is_name word ≡ false → network_in place word ≡ option_map Network (prefix_in word)
+unfolding network_in
+unnamed place word h = elim (cases_Bool (has_byte 46 word || has_byte 58 word)) [
+  | inl t ↦ cond-true (has_byte 46 word || has_byte 58 word) _ _ t
+  | inr f ↦ let p = or_parts (has_byte 46 word) (has_byte 58 word) f in
+      cond-false (has_byte 46 word || has_byte 58 word) _ _ f
+      ∙ cond-false (is_name word) _ _ h
+      ∙ sym (ap (option_map Network) (no_prefix word p.0 p.1))
+]

@@ -17,7 +17,7 @@ use Rattle.acl_text.proofs.CutLaws.{cut-found, cut-none, has-append, has-not, no
 use Rattle.acl_text.specs.Refusals.{IsRefusalBy, slip}
 use Rattle.acl_naming.specs.declared.item_words.NamingKind.{NamingKind}
 use Rattle.acl_naming.specs.Definitions.{Definition}
-use Rattle.acl_naming.specs.LineSteps.{IsPlainDefinition, is_plain}
+use Rattle.acl_naming.specs.LineSteps.{IsNamed, IsPlainDefinition, is_plain}
 use Rattle.acl_naming.specs.NamingFiles.{TableOrSlip, bad_byte, in_front_of, is_bad, line_added, opens, split_added, trimmed, with_definition, with_items, without_comment, without_end}
 
 -- ---- white space at the end
@@ -97,7 +97,7 @@ no_comment_there line name rest d =
     ap (λ o. option_map_or {U = List ℕ} (λ (p : List ℕ × List ℕ). p.0) o line) (cut-none 35 line lacks)
 
 -- a plain definition is its name and its items
-pub defined_added : (kind : NamingKind) (place : Place) (is_open : Bool) (ds : List Definition) (line name rest : List ℕ) → IsPlainDefinition line name rest
+defined_added : (kind : NamingKind) (place : Place) (is_open : Bool) (ds : List Definition) (line name rest : List ℕ) → IsPlainDefinition line name rest
     → line_added kind place is_open ds (without_comment line) ≡ with_definition kind place ds (trimmed name) rest
 defined_added kind place is_open ds line name rest d =
     ap (line_added kind place is_open ds) (no_comment_there line name rest d)
@@ -105,6 +105,14 @@ defined_added kind place is_open ds line name rest d =
     (ap bad_byte (cut-found 61 line name rest (sym d.cut)).0 ∙ good_joined name rest d.name_plain d.rest_plain)
     ∙ ap (λ o. option_map_or {U = TableOrSlip} (λ (p : List ℕ × List ℕ). with_definition kind place ds (trimmed p.0) p.1) o (with_items kind place is_open ds (words_of line))) (sym d.cut)
 
-pub defined_opens : (is_open : Bool) (line name rest : List ℕ) → IsPlainDefinition line name rest → true ≡ opens is_open (without_comment line)
+defined_opens : (is_open : Bool) (line name rest : List ℕ) → IsPlainDefinition line name rest → true ≡ opens is_open (without_comment line)
 defined_opens is_open line name rest d =
     cut_opens is_open line (name, rest) d.cut ∙ ap (opens is_open) (sym (no_comment_there line name rest d))
+
+pub named_added : (kind : NamingKind) (place : Place) (is_open : Bool) (ds : List Definition) (line name items : List ℕ) → IsNamed line name items
+    → line_added kind place is_open ds (without_comment line) ≡ with_definition kind place ds name items
+named_added kind place is_open ds line name items d =
+    defined_added kind place is_open ds line d.front items d.plain ∙ ap (λ n. with_definition kind place ds n items) d.own
+
+pub named_opens : (is_open : Bool) (line name items : List ℕ) → IsNamed line name items → true ≡ opens is_open (without_comment line)
+named_opens is_open line name items d = defined_opens is_open line d.front items d.plain

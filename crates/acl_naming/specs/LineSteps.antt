@@ -3,7 +3,7 @@ use Rattle.std.specs.Prelude.{◌≡◌, ℕ, Bool, true, not, ◌&&◌, ◌==�
 use Rattle.std.specs.List.{list_all}
 use Rattle.acl_text.specs.Cursors.{is_white, words_of}
 use Rattle.acl_text.specs.Cuts.{cut_at}
-use Rattle.acl_naming.specs.NamingFiles.{is_bad}
+use Rattle.acl_naming.specs.NamingFiles.{is_bad, trimmed}
 
 abbrev pub is_plain : ℕ → Bool
 is_plain b = not (is_bad b) && not (b == 35) && not (b == 61)
@@ -27,3 +27,9 @@ pub record IsPlainDefinition (line name rest : List ℕ) : Type 0 where
   pub cut : Some (name, rest) ≡ cut_at 61 line
   pub name_plain : list_all is_plain name ≡ true
   pub rest_plain : list_all is_plain rest ≡ true
+
+-- Such a line, with its name and the text of its items.
+pub record IsNamed (line name items : List ℕ) : Type 0 where
+  pub front : List ℕ
+  pub plain : IsPlainDefinition line front items
+  pub own : trimmed front ≡ name

@@ -1,5 +1,4 @@
-ghost use Rattle.std.specs.Prelude.{◌≡◌, ◌==◌, ◌||◌, option_map, IfOk};
-ghost use Rattle.std.specs.List.{list_any};
+ghost use Rattle.std.specs.Prelude.{◌≡◌, option_map, IfOk};
 ghost use Rattle.acl_text.specs.AddressTexts.{prefix_in};
 ghost use Rattle.acl_naming.specs.declared.naming_items.Item.TheVariants.{Network, Service};
 ghost use Rattle.acl_naming.specs.ItemWords.{
@@ -64,21 +63,15 @@ fn service(word: &[u8]) -> Option<Item>
     Some(Item::Service(ports))
 }
 
-// Whether the word has `.` or `:`, as those of addresses do.
-fn has_mark(word: &[u8]) -> bool
-    ensures { result ≡ list_any (λ b. b == 46 || b == 58) word.now }
-{
-    word.iter().any(|byte| *byte == b'.' || *byte == b':')
-}
-
-#[tactic(auto, unfolding(crate::specs::ItemWords::network_in), using(crate::proofs::MarkedWords::either))]
+// A word that is no name is read as a prefix, since no prefix lacks both `.` and `:`.
+#[tactic(auto, using(crate::proofs::MarkedWords::named, crate::proofs::MarkedWords::unnamed))]
 fn read_network(alloc: Global, place: Place, word: &[u8]) -> Result<Option<Item>, Memory>
     ensures { IfOk result (λ o. o ≡ network_in place word.now) }
 {
-    if has_mark(word) {
-        Ok(network(word))
-    } else {
+    if is_name(word) {
         read_name(alloc, place, word)
+    } else {
+        Ok(network(word))
     }
 }
 

@@ -1,6 +1,6 @@
 ghost use Rattle.std.specs.Prelude.{◌≡◌, ◌≤◌, ◌<◌, ◌∷◌, [], true, length, take, option_map, IfNone, IfSome};
 ghost use Rattle.std.specs.List.{list_all};
-ghost use Rattle.acl_naming.specs.LineSteps.{IsLoneLine, IsLoneWord, IsPlainDefinition, is_ink, is_plain};
+ghost use Rattle.acl_naming.specs.LineSteps.{IsLoneLine, IsLoneWord, IsNamed, is_ink, is_plain};
 ghost use Rattle.acl_text.specs.Cursors.{first_line, is_white, lines_of};
 ghost use Rattle.acl_naming.specs.NamingFiles.{bad_byte, is_bad, trimmed, without_comment, without_end};
 
@@ -46,14 +46,19 @@ pub fn is_plain_line(line: &[u8]) -> bool
     line.iter().all(|byte| is_plain(*byte))
 }
 
-/// The text before the `=` of a plain line that begins a definition, and the text behind it: there is no comment, no
-/// other `=` and no bad byte. `None` says nothing.
+/// The name and the text of the items, where the line begins a definition with the name at its front, and there is no
+/// comment, no other `=` and no bad byte. `None` says nothing.
 pub fn plain_definition(line: &[u8]) -> Option<(&[u8], &[u8])>
-    ensures { IfSome result (λ p. IsPlainDefinition line.now p.0.now p.1.now) }
+    ensures { IfSome result (λ p. IsNamed line.now p.0.now p.1.now) }
 {
-    let (name, rest) = split_at_byte(line, b'=')?;
-    if is_plain_line(name) && is_plain_line(rest) {
-        Some((name, rest))
+    let (name, behind) = line.split_at(ink_front(line));
+    if name.is_empty() {
+        return None;
+    }
+    let (_, behind) = behind.split_at(white_front(behind));
+    let items = behind_byte(behind, b'=')?;
+    if is_plain_line(items) {
+        Some((name, items))
     } else {
         None
     }
@@ -116,12 +121,12 @@ fn ink_front(text: &[u8]) -> usize
     text.len()
 }
 
-// What stands behind a line feed, where the text begins with one.
-fn behind_feed(text: &[u8]) -> Option<&[u8]>
-    ensures { IfSome result (λ rest. text.now ≡ 10 ∷ rest.now) }
+// What stands behind the byte, where the text begins with it.
+fn behind_byte(text: &[u8], byte: u8) -> Option<&[u8]>
+    ensures { IfSome result (λ rest. text.now ≡ byte ∷ rest.now) }
 {
     match text {
-        [first, rest @ ..] if *first == b'\n' => Some(rest),
+        [first, rest @ ..] if *first == byte => Some(rest),
         _ => None,
     }
 }
@@ -136,7 +141,7 @@ fn lone_line(bytes: &[u8]) -> Option<(&[u8], &[u8], &[u8])>
         return None;
     }
     let (end, behind) = behind.split_at(white_front(behind));
-    let rest = behind_feed(behind)?;
+    let rest = behind_byte(behind, b'\n')?;
     let size = front.len() + word.len() + end.len();
     Some((&bytes[..size], word, rest))
 }

@@ -150,7 +150,7 @@ impl LineReader {
     }
 
     // The same of a line that may have a comment.
-    #[tactic(auto, using(crate::proofs::ReadLaws::plain_added, crate::proofs::ReadLaws::plain_opens, crate::proofs::ReadLaws::defined_added, crate::proofs::ReadLaws::defined_opens))]
+    #[tactic(auto, using(crate::proofs::ReadLaws::plain_added, crate::proofs::ReadLaws::plain_opens, crate::proofs::ReadLaws::named_added, crate::proofs::ReadLaws::named_opens))]
     fn add_whole(self, table: &mut Table, is_open: bool, line: &[u8]) -> Result<bool, Refusal>
         requires { is_open ≡ true → 0 < length table.old }
         ensures gives { Leaves slip_told table.new result
@@ -158,13 +158,13 @@ impl LineReader {
         ensures opened { IfOk result (λ o. o ≡ opens is_open (without_comment line.now)) }
         ensures filled { IfOk result (λ o. o ≡ true → 0 < length table.new) }
     {
+        if let Some((name, items)) = plain_definition(line) {
+            self.define(table, name, items)?;
+            return Ok(true);
+        }
         if is_plain_line(line) {
             self.go_on(table, is_open, line)?;
             return Ok(is_open);
-        }
-        if let Some((name, rest)) = plain_definition(line) {
-            self.define(table, trimmed(name), rest)?;
-            return Ok(true);
         }
         self.add_line(table, is_open, without_comment(line))
     }
