@@ -1,6 +1,7 @@
 -- How a contract sees the table of definitions: the items of all stand in one list.
-use Rattle.std.specs.Prelude.{◌≡◌, ℕ, List, [], ◌∷◌, length, map, Vec}
+use Rattle.std.specs.Prelude.{◌≡◌, ℕ, Bool, List, [], ◌∷◌, length, map, Vec}
 use Rattle.std.specs.List.{slice_range}
+use Rattle.std.specs.Str.{bytes_eq}
 use Rattle.std.specs.declared.alloc.Global.{Global}
 use Rattle.acl_naming.specs.declared.naming_items.Item.{Item}
 use Rattle.acl_naming.specs.declared.tables.TableEntry.{TableEntry}
@@ -11,6 +12,10 @@ abbrev pub Kept : Type 0
 Kept = Vec ℕ Global × TableEntry
 
 -- Where the items of each definition begin.
+-- Keys with the same bytes.
+abbrev pub same_name : Vec ℕ Global → Vec ℕ Global → Bool
+same_name a b = bytes_eq a.items b.items
+
 abbrev pub begins_of : List Kept → List ℕ
 begins_of es = map (λ e. e.1.from) es
 

@@ -1,8 +1,10 @@
-ghost use Rattle.std.specs.Prelude.{◌≡◌, ◌<◌, ◌≤◌, ◌||◌, Bool, true, false, nat_le, length, IfOk, IfSome, OnOk};
+ghost use Rattle.std.specs.Prelude.{◌≡◌, ◌<◌, ◌≤◌, ◌||◌, Bool, true, false, nat_le, is_some, if◌then◌else◌, length, IfOk, IfSome, OnOk};
 ghost use Rattle.acl_text.specs.Answers.{Leaves, slip_told};
 ghost use Rattle.acl_text.specs.Cursors.{words_of};
 ghost use Rattle.acl_text.specs.Cuts.{has_byte};
 ghost use Rattle.acl_text.specs.Refusals.{IsRefusalBy, slip};
+ghost use Rattle.acl_text.specs.declared.faults.Code.TheVariants as codes;
+ghost use Rattle.acl_naming.specs.Definitions.{index_of};
 ghost use Rattle.acl_naming.specs.LineSteps.{IsLoneWord};
 ghost use Rattle.acl_naming.specs.NamingFiles.{
   with_items,
@@ -80,6 +82,18 @@ impl LineReader {
         Ok(())
     }
 
+    // What is wrong with a name where there is no room for a definition more.
+    fn no_room(self, table: &Table, name: &[u8]) -> Refusal
+        ensures { IsRefusalBy (slip (if is_some (index_of table.now name.now) then codes.Twice
+            else codes.TooMany) self.place name.now) result }
+    {
+        if table.index_of(name).is_some() {
+            self.refusal(Code::Twice, name)
+        } else {
+            self.refusal(Code::TooMany, name)
+        }
+    }
+
     #[tactic(auto, unfolding(crate::specs::NamingFiles::with_definition))]
     fn define(self, table: &mut Table, name: &[u8], rest: &[u8]) -> Result<(), Refusal>
         ensures gives { Leaves slip_told table.new result
@@ -89,13 +103,12 @@ impl LineReader {
         if !is_name(name) {
             return Err(self.refusal(Code::BadName, name));
         }
-        if table.index_of(name).is_some() {
+        if is_full(table) {
+            return Err(self.no_room(table, name));
+        }
+        if !table.add(name, self.place)? {
             return Err(self.refusal(Code::Twice, name));
         }
-        if is_full(table) {
-            return Err(self.refusal(Code::TooMany, name));
-        }
-        table.add(name, self.place)?;
         self.add_items(table, rest)
     }
 

@@ -1,14 +1,15 @@
-ghost use Rattle.std.specs.Prelude.{◌≡◌, ℕ, ◌+◌, ◌<◌, List, [], ◌∷◌, ◌++◌, None, Some, length, OnOk, IfSome};
-ghost use Rattle.indexmap.specs.IndexMap.{index_map_len};
+ghost use Rattle.std.specs.Prelude.{◌≡◌, ℕ, ◌+◌, ◌<◌, List, [], ◌∷◌, ◌++◌, None, Some, true, not, false, is_some, length, IfOk, OnErr, OnOk, IfSome};
+ghost use Rattle.indexmap.specs.IndexMap.{get, index_map_len, insert_entry};
 ghost use Rattle.acl_naming.specs.Definitions.{index_of, items_at, items_count};
 ghost use Rattle.acl_naming.specs.Rows.{begin_at};
 ghost use Rattle.acl_naming.specs.Tables.{name_at, place_at, with_item};
-ghost use Rattle.acl_naming.specs.TableViewSteps.{begins_of};
+ghost use Rattle.acl_naming.specs.TableViewSteps.{begins_of, same_name};
 
 use crate::naming_items::Item;
 use crate::rows::part;
 use acl_text::{Items, Memory, Place};
 use indexmap::IndexMap;
+use indexmap::map::Entry;
 use std::alloc::Global;
 use std::marker::Model;
 
@@ -76,6 +77,25 @@ fn end_at(kept: &IndexMap<Vec<u8>, TableEntry>, index: usize, end: usize) -> usi
     }
 }
 
+// Puts the entry behind the others where none has the name, and tells whether it did.
+fn enter(
+    kept: &mut IndexMap<Vec<u8>, TableEntry>,
+    name: Vec<u8>,
+    entry: TableEntry,
+) -> Result<bool, Memory>
+    ensures told { IfOk result (λ added. added ≡ not (is_some (get same_name kept.old name))) }
+    ensures added { IfOk result (λ added. added ≡ true
+        → kept.new.entries ≡ insert_entry same_name kept.old.entries name entry) }
+    ensures same { IfOk result (λ added. added ≡ false → kept.new.entries ≡ kept.old.entries) }
+    ensures err { OnErr result (kept.new.entries ≡ kept.old.entries) }
+{
+    let Entry::Vacant(vacant) = kept.entry(name)? else {
+        return Ok(false);
+    };
+    vacant.insert(entry);
+    Ok(true)
+}
+
 impl Table {
     pub fn new(alloc: Global) -> Table
         ensures { result ≡ [] }
@@ -135,17 +155,16 @@ impl Table {
         }
     }
 
-    /// Adds a definition without items at the end.
-    pub fn add(&mut self, name: &[u8], place: Place) -> Result<(), Memory>
-        requires { index_of self.old name.now ≡ None }
-        ensures { OnOk result (self.new
+    /// Adds a definition without items at the end, or tells that one has the name.
+    pub fn add(&mut self, name: &[u8], place: Place) -> Result<bool, Memory>
+        ensures told { IfOk result (λ added. added ≡ not (is_some (index_of self.old name.now))) }
+        ensures added { IfOk result (λ added. added ≡ true → self.new
             ≡ self.old ++ record { name = name.now; place = place; items = [] } ∷ []) }
     {
         let from = self.items.as_slice().len();
-        let entry = TableEntry { place, from };
         let name = Vec::from_slice(self.alloc, name)?;
-        self.kept.insert(name, entry)?;
-        Ok(())
+        let is_new = enter(&mut self.kept, name, TableEntry { place, from })?;
+        Ok(is_new)
     }
 
     /// Adds an item to the last definition.
