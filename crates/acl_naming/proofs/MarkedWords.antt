@@ -13,7 +13,10 @@ use Rattle.acl_text.specs.Ipv4.{ipv4_in}
 use Rattle.acl_text.specs.Names.{is_name, is_name_byte}
 use Rattle.acl_text.proofs.CutLaws.{cut-found, cut-none, has-not}
 use Rattle.acl_naming.specs.declared.naming_items.Item.TheVariants.{Network}
-use Rattle.acl_naming.specs.ItemWords.{name_in, network_in}
+use Rattle.acl_naming.specs.declared.item_words.NamingKind.TheVariants.{Networks}
+use Rattle.acl_naming.specs.Definitions.{Definition}
+use Rattle.acl_naming.specs.ItemWords.{item_in, name_in, network_in}
+use Rattle.acl_naming.specs.NamingFiles.{item_added, item_put}
 
 -- ---- names
 
@@ -65,3 +68,9 @@ unnamed place word h = elim (cases_Bool (has_byte 46 word || has_byte 58 word)) 
       ∙ cond-false (is_name word) _ _ h
       ∙ sym (ap (option_map Network) (no_prefix word p.0 p.1))
 ]
+
+-- a network's word that is no name is added as a prefix
+pub prefix_added : (place : Place) (ds : List Definition) (word : List ℕ) → is_name word ≡ false
+    → item_added Networks place ds word ≡ item_put place ds word (option_map Network (prefix_in word))
+unfolding item_added item_in
+prefix_added place ds word h = ap (item_put place ds word) (unnamed place word h)

@@ -32,7 +32,7 @@ fn read_service_ports(word: &[u8]) -> Option<PortsItem>
     Some(PortsItem::new(proto, low, high))
 }
 
-fn read_block(word: &[u8]) -> Option<PrefixItem>
+pub fn read_block(word: &[u8]) -> Option<PrefixItem>
     ensures { result ≡ prefix_in word.now }
 {
     let prefix = read_prefix(word)?;

@@ -1,9 +1,11 @@
-ghost use Rattle.std.specs.Prelude.{◌≡◌, ◌<◌, ◌≤◌, ◌||◌, Bool, true, false, nat_le, is_some, if◌then◌else◌, length, IfOk, IfSome, OnOk};
+ghost use Rattle.std.specs.Prelude.{◌≡◌, ◌<◌, ◌≤◌, ◌||◌, Bool, true, false, nat_le, is_some, if◌then◌else◌, length, Some, option_map, IfOk, IfSome, OnOk};
 ghost use Rattle.acl_text.specs.Answers.{Leaves, slip_told};
 ghost use Rattle.acl_text.specs.Cursors.{words_of};
 ghost use Rattle.acl_text.specs.Cuts.{has_byte};
 ghost use Rattle.acl_text.specs.Refusals.{IsRefusalBy, slip};
 ghost use Rattle.acl_text.specs.declared.faults.Code.TheVariants as codes;
+ghost use Rattle.acl_text.specs.AddressTexts.{prefix_in};
+ghost use Rattle.acl_naming.specs.declared.naming_items.Item.TheVariants.{Network};
 ghost use Rattle.acl_naming.specs.Definitions.{index_of};
 ghost use Rattle.acl_naming.specs.LineSteps.{IsLoneWord};
 ghost use Rattle.acl_naming.specs.NamingFiles.{
@@ -11,6 +13,7 @@ ghost use Rattle.acl_naming.specs.NamingFiles.{
   with_definition,
   file_added,
   item_added,
+  item_put,
   items_added,
   line_added,
   most,
@@ -19,10 +22,11 @@ ghost use Rattle.acl_naming.specs.NamingFiles.{
   without_comment,
 };
 
-use crate::item_words::{NamingKind, read_item};
+use crate::item_words::{NamingKind, read_block, read_item};
 use crate::line_parts::{
     bad_byte, is_plain_line, next_line, plain_definition, trimmed, without_comment,
 };
+use crate::naming_items::Item;
 use crate::tables::Table;
 use acl_text::{Code, Place, Refusal, is_name, next_word, split_at_byte};
 use std::alloc::Global;
@@ -51,21 +55,57 @@ impl LineReader {
         Refusal::at(self.alloc, code, self.place, word)
     }
 
+    // Adds an item that was read, if any.
+    fn put_item(self, table: &mut Table, word: &[u8], item: Item) -> Result<(), Refusal>
+        requires { 0 < length table.old }
+        ensures gives { Leaves slip_told table.new result
+            (item_put self.place table.old word.now (Some item)) }
+        ensures filled { OnOk result (0 < length table.new) }
+    {
+        if table.items_count() >= MOST {
+            return Err(self.refusal(Code::TooMany, word));
+        }
+        table.push_item(item)?;
+        Ok(())
+    }
+
+    // Adds the prefix that a word has to be. Most items are prefixes, so this is kept short.
+    fn add_prefix(self, table: &mut Table, word: &[u8]) -> Result<(), Refusal>
+        requires { 0 < length table.old }
+        ensures gives { Leaves slip_told table.new result
+            (item_put self.place table.old word.now (option_map Network (prefix_in word.now))) }
+        ensures filled { OnOk result (0 < length table.new) }
+    {
+        match read_block(word) {
+            Some(block) => self.put_item(table, word, Item::Network(block)),
+            None => Err(self.refusal(Code::BadValue, word)),
+        }
+    }
+
     #[tactic(auto, unfolding(crate::specs::NamingFiles::item_added))]
+    fn add_any(self, table: &mut Table, word: &[u8]) -> Result<(), Refusal>
+        requires { 0 < length table.old }
+        ensures gives { Leaves slip_told table.new result
+            (item_added self.kind self.place table.old word.now) }
+        ensures filled { OnOk result (0 < length table.new) }
+    {
+        match read_item(self.alloc, self.kind, self.place, word)? {
+            Some(item) => self.put_item(table, word, item),
+            None => Err(self.refusal(Code::BadValue, word)),
+        }
+    }
+
+    #[tactic(auto, using(crate::proofs::MarkedWords::prefix_added))]
     fn add_item(self, table: &mut Table, word: &[u8]) -> Result<(), Refusal>
         requires { 0 < length table.old }
         ensures gives { Leaves slip_told table.new result
             (item_added self.kind self.place table.old word.now) }
         ensures filled { OnOk result (0 < length table.new) }
     {
-        let Some(item) = read_item(self.alloc, self.kind, self.place, word)? else {
-            return Err(self.refusal(Code::BadValue, word));
-        };
-        if table.items_count() >= MOST {
-            return Err(self.refusal(Code::TooMany, word));
+        match self.kind {
+            NamingKind::Networks if !is_name(word) => self.add_prefix(table, word),
+            _ => self.add_any(table, word),
         }
-        table.push_item(item)?;
-        Ok(())
     }
 
     fn add_items(self, table: &mut Table, text: &[u8]) -> Result<(), Refusal>
