@@ -1,17 +1,17 @@
 -- Lines of one word.
-use Rattle.std.proofs.Common.{◌≡◌, ℕ, ◌+◌, ◌<◌, Bool, true, false, not, ◌&&◌, ◌||◌, ◌==◌, List, [], ◌∷◌, ◌++◌, length, take, drop, Some, None, Result, Ok, Err, inl, inr, refl, ap, sym, subst, ◌∙◌, arith}
-use Rattle.std.proofs.lemmas.Bool.{and_parts, and_from, or_cases, or_right, cond-true, cond-false, eqb-true}
+use Rattle.std.proofs.Common.{◌≡◌, ℕ, ◌+◌, ◌<◌, Bool, true, false, not, ◌&&◌, ◌||◌, ◌==◌, List, [], ◌∷◌, ◌++◌, length, take, drop, Ok, Err, inl, inr, refl, ap, sym, subst, ◌∙◌, arith}
+use Rattle.std.proofs.lemmas.Bool.{and_parts, and_from, or_cases, cond-true, cond-false, eqb-true}
 use Rattle.std.proofs.lemmas.List.{take_at, take-append-drop, length-append, append_assoc}
 use Rattle.std.specs.List.{list_all}
 use Rattle.acl_text.specs.declared.faults.Place.{Place}
-use Rattle.acl_text.specs.Cuts.{cut_at, has_byte}
+use Rattle.acl_text.specs.Cuts.{cut_at}
 use Rattle.acl_text.specs.Cursors.{begins_black, first_line, is_white, lines_of, onto_first, or_all, words_of}
 use Rattle.acl_text.specs.Steps.{◌>>=◌}
 use Rattle.acl_text.proofs.CursorLaws.{lines_step}
 use Rattle.acl_text.proofs.CutLaws.{cut-again, has-not}
 use Rattle.acl_naming.specs.declared.item_words.NamingKind.{NamingKind}
 use Rattle.acl_naming.specs.Definitions.{Definition}
-use Rattle.acl_naming.specs.LineSteps.{IsLoneLine, IsLoneWord, IsNamed, IsPlainDefinition, is_ink, is_plain}
+use Rattle.acl_naming.specs.LineSteps.{IsLoneLine, IsLoneWord, IsNamed, is_ink, is_plain}
 use Rattle.acl_naming.specs.NamingFiles.{TableOrSlip, in_front_of, item_added, line_added, opens, trimmed, with_items, without_comment, without_end}
 use Rattle.acl_naming.proofs.ReadLaws.{plain_added, plain_opens}
 

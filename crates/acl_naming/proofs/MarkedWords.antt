@@ -1,10 +1,9 @@
 -- Names and prefixes: a name has no `.` (46) or `:` (58), and a prefix has one of them.
-use Rattle.std.proofs.Common.{◌≡◌, ℕ, Bool, true, false, ◌&&◌, ◌||◌, ◌==◌, nat_le, List, [], ◌∷◌, ◌++◌, length, Option, Some, None, option_map, inl, inr, refl, ap, sym, ◌∙◌}
+use Rattle.std.proofs.Common.{◌≡◌, ℕ, true, false, ◌||◌, ◌==◌, nat_le, List, [], ◌∷◌, length, Option, Some, None, option_map, inl, inr, refl, ap, sym, ◌∙◌}
 use Rattle.std.specs.List.{list_all}
 use Rattle.std.specs.Option.{option_map_or}
 use Rattle.std.proofs.lemmas.Bool.{and_parts, or_parts, or_from, cond-true, cond-false, cases_Bool}
 use Rattle.std.proofs.lemmas.List.Folds.{list_any-append}
-use Rattle.acl_packet.specs.declared.addresses.Family.TheVariants.{V4, V6}
 use Rattle.acl_packet.specs.declared.addresses.Prefix.{Prefix}
 use Rattle.acl_text.specs.declared.faults.Place.{Place}
 use Rattle.acl_text.specs.AddressTexts.{block_in, family_in, full_in, prefix_in}
@@ -12,7 +11,7 @@ use Rattle.acl_text.specs.Cuts.{cut_at, has_byte}
 use Rattle.acl_text.specs.Ipv4.{ipv4_in}
 use Rattle.acl_text.specs.Names.{is_name, is_name_byte}
 use Rattle.acl_text.proofs.CutLaws.{cut-found, cut-none, has-not}
-use Rattle.acl_naming.specs.declared.naming_items.Item.TheVariants.{Network}
+use Rattle.acl_naming.specs.declared.naming_items.Item.TheVariants.{Name, Network}
 use Rattle.acl_naming.specs.declared.item_words.NamingKind.TheVariants.{Networks}
 use Rattle.acl_naming.specs.Definitions.{Definition}
 use Rattle.acl_naming.specs.ItemWords.{item_in, name_in, network_in}
@@ -74,3 +73,9 @@ pub prefix_added : (place : Place) (ds : List Definition) (word : List ℕ) → 
     → item_added Networks place ds word ≡ item_put place ds word (option_map Network (prefix_in word))
 unfolding item_added item_in
 prefix_added place ds word h = ap (item_put place ds word) (unnamed place word h)
+
+-- a name is added as one
+pub name_added : (place : Place) (ds : List Definition) (word : List ℕ) → is_name word ≡ true
+    → item_added Networks place ds word ≡ item_put place ds word (Some (Name (record { place = place; name = word })))
+unfolding item_added item_in
+name_added place ds word h = ap (item_put place ds word) (named place word h ∙ cond-true (is_name word) _ _ h)

@@ -5,7 +5,7 @@ ghost use Rattle.acl_text.specs.Cuts.{has_byte};
 ghost use Rattle.acl_text.specs.Refusals.{IsRefusalBy, slip};
 ghost use Rattle.acl_text.specs.declared.faults.Code.TheVariants as codes;
 ghost use Rattle.acl_text.specs.AddressTexts.{prefix_in};
-ghost use Rattle.acl_naming.specs.declared.naming_items.Item.TheVariants.{Network};
+ghost use Rattle.acl_naming.specs.declared.naming_items.Item.TheVariants.{Name, Network};
 ghost use Rattle.acl_naming.specs.Definitions.{index_of};
 ghost use Rattle.acl_naming.specs.LineSteps.{IsLoneWord};
 ghost use Rattle.acl_naming.specs.NamingFiles.{
@@ -26,7 +26,8 @@ use crate::item_words::{NamingKind, read_block, read_item};
 use crate::line_parts::{
     bad_byte, is_plain_line, next_line, plain_definition, trimmed, without_comment,
 };
-use crate::naming_items::Item;
+use crate::name_texts::NameText;
+use crate::naming_items::{Item, Reference};
 use crate::tables::Table;
 use acl_text::{Code, Place, Refusal, is_name, next_word, split_at_byte};
 use std::alloc::Global;
@@ -82,6 +83,17 @@ impl LineReader {
         }
     }
 
+    fn add_name(self, table: &mut Table, word: &[u8]) -> Result<(), Refusal>
+        requires { 0 < length table.old }
+        ensures gives { Leaves slip_told table.new result (item_put self.place table.old word.now
+            (Some (Name (record { place = self.place; name = word.now })))) }
+        ensures filled { OnOk result (0 < length table.new) }
+    {
+        let name = NameText::from_slice(self.alloc, word)?;
+        let place = self.place;
+        self.put_item(table, word, Item::Name(Reference { place, name }))
+    }
+
     #[tactic(auto, unfolding(crate::specs::NamingFiles::item_added))]
     fn add_any(self, table: &mut Table, word: &[u8]) -> Result<(), Refusal>
         requires { 0 < length table.old }
@@ -95,7 +107,7 @@ impl LineReader {
         }
     }
 
-    #[tactic(auto, using(crate::proofs::MarkedWords::prefix_added))]
+    #[tactic(auto, using(crate::proofs::MarkedWords::name_added, crate::proofs::MarkedWords::prefix_added))]
     fn add_item(self, table: &mut Table, word: &[u8]) -> Result<(), Refusal>
         requires { 0 < length table.old }
         ensures gives { Leaves slip_told table.new result
@@ -103,8 +115,9 @@ impl LineReader {
         ensures filled { OnOk result (0 < length table.new) }
     {
         match self.kind {
-            NamingKind::Networks if !is_name(word) => self.add_prefix(table, word),
-            _ => self.add_any(table, word),
+            NamingKind::Networks if is_name(word) => self.add_name(table, word),
+            NamingKind::Networks => self.add_prefix(table, word),
+            NamingKind::Services => self.add_any(table, word),
         }
     }
 
