@@ -11,11 +11,11 @@ use Rattle.acl_naming.specs.Rows.{Ascend, begin_at}
 abbrev pub Kept : Type 0
 Kept = Vec ℕ Global × TableEntry
 
--- Where the items of each definition begin.
 -- Keys with the same bytes.
 abbrev pub same_name : Vec ℕ Global → Vec ℕ Global → Bool
 same_name a b = bytes_eq a.items b.items
 
+-- Where the items of each definition begin.
 abbrev pub begins_of : List Kept → List ℕ
 begins_of es = map (λ e. e.1.from) es
 
