@@ -1,6 +1,4 @@
 mod filters;
 mod reading;
-mod restore;
 mod shades;
-mod standard;
 mod terms;

@@ -1,39 +1,41 @@
 use acl_packet::{Family, icmp_number, protocol_number};
-use std::process::Abort;
-use std::rt::HostRuntime;
 
-fn protocol(rt: &impl Abort, word: &[u8], number: Option<u8>) {
-    assert_eq!(rt; protocol_number(word), number);
-}
-
-fn icmp(rt: &impl Abort, family: Family, word: &[u8], number: Option<u8>) {
-    assert_eq!(rt; icmp_number(family, word), number);
-}
+static PROTOCOLS: [(&str, Option<u8>); 11] = [
+    ("icmp", Some(1)),
+    ("tcp", Some(6)),
+    ("sctp", Some(132)),
+    ("1", Some(1)),
+    ("255", Some(255)),
+    ("0", None),
+    ("256", None),
+    ("017", None),
+    ("TCP", None),
+    ("+6", None),
+    ("", None),
+];
 
 #[test]
 fn protocols_by_word_and_by_number(rt: HostRuntime) {
-    protocol(&rt, b"icmp", Some(1));
-    protocol(&rt, b"tcp", Some(6));
-    protocol(&rt, b"sctp", Some(132));
-    protocol(&rt, b"1", Some(1));
-    protocol(&rt, b"255", Some(255));
-    protocol(&rt, b"0", None);
-    protocol(&rt, b"256", None);
-    protocol(&rt, b"017", None);
-    protocol(&rt, b"TCP", None);
-    protocol(&rt, b"+6", None);
-    protocol(&rt, b"", None);
+    for (word, number) in &PROTOCOLS {
+        assert!(rt; protocol_number(word.as_bytes()) == *number, "{word}");
+    }
 }
+
+static TYPES: [(Family, &str, Option<u8>); 9] = [
+    (Family::V4, "unreachable", Some(3)),
+    (Family::V6, "unreachable", None),
+    (Family::V4, "echo-request", Some(8)),
+    (Family::V6, "echo-request", Some(128)),
+    (Family::V6, "redirect-message", Some(137)),
+    (Family::V4, "0", Some(0)),
+    (Family::V6, "254", Some(254)),
+    (Family::V4, "255", None),
+    (Family::V6, "00", None),
+];
 
 #[test]
 fn types_are_those_of_the_family(rt: HostRuntime) {
-    icmp(&rt, Family::V4, b"unreachable", Some(3));
-    icmp(&rt, Family::V6, b"unreachable", None);
-    icmp(&rt, Family::V4, b"echo-request", Some(8));
-    icmp(&rt, Family::V6, b"echo-request", Some(128));
-    icmp(&rt, Family::V6, b"redirect-message", Some(137));
-    icmp(&rt, Family::V4, b"0", Some(0));
-    icmp(&rt, Family::V6, b"254", Some(254));
-    icmp(&rt, Family::V4, b"255", None);
-    icmp(&rt, Family::V6, b"00", None);
+    for (family, word, number) in &TYPES {
+        assert!(rt; icmp_number(*family, word.as_bytes()) == *number, "{word}");
+    }
 }

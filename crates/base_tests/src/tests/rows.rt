@@ -5,7 +5,7 @@ use acl_rows::{
     have_distinct_names, is_port_range, is_prefix_of, is_text_of,
 };
 use acl_text::{Memory, Out, PutFault};
-use std::alloc::Global;
+use std::alloc::{AllocError, Global};
 use std::test::Fail;
 
 // Numbers, a row each.
@@ -59,8 +59,8 @@ impl<'a> Named for Titled<'a> {
     }
 }
 
-#[test]
-fn compares_rows_with_a_text(rt: HostRuntime) {
+// Whether the text is that of a row with each kind of piece, and a row for each of two numbers behind it.
+fn is_text_of_rows(text: &str) -> bool {
     let address = Address {
         family: Family::V4,
         address: 0xc000_0200,
@@ -71,6 +71,7 @@ fn compares_rows_with_a_text(rt: HostRuntime) {
         len: 32,
     };
     let literals: &[&[u8]] = &[b"x", b"y"];
+    let numbers: &[u8] = &[7, 10];
     let head = Row {
         indent: 1,
         first: (b"a".as_slice(), b"b".as_slice()),
@@ -87,129 +88,156 @@ fn compares_rows_with_a_text(rt: HostRuntime) {
             ),
         ),
     };
-    let numbers: &[u8] = &[7, 10];
-    let rows = (
-        head,
-        Each {
-            items: numbers,
-            form: Numbered,
-        },
-    );
-    let cases = [
-        (
-            " ab 192.0.2.0 0.0.0.255 2001:db8::/32 x y to all\n  number 7\n  number 10\n",
-            true,
-        ),
-        (
-            " ab 192.0.2.0 0.0.0.255 2001:db8::/32 x y to all\n  number 7\n  number 11\n",
-            false,
-        ),
-        (
-            " ab 192.0.2.0  0.0.0.255 2001:db8::/32 x y to all\n  number 7\n  number 10\n",
-            false,
-        ),
-        (
-            " ab 192.0.2.0 0.0.0.255 2001:db8::/32 x y to all\n  number 7\n  number 10",
-            false,
-        ),
-        (
-            " ab 192.0.2.0 0.0.0.255 2001:db8::/32 x y to all\n  number 7\n  number 10\n\n",
-            false,
-        ),
-        ("", false),
-    ];
-    for (text, same) in cases {
-        assert_eq!(rt; is_text_of(text.as_bytes(), &rows), same, "at {text}");
+    let each = Each {
+        items: numbers,
+        form: Numbered,
+    };
+    is_text_of(text.as_bytes(), &(head, each))
+}
+
+static TEXTS: [(&str, bool); 6] = [
+    (
+        " ab 192.0.2.0 0.0.0.255 2001:db8::/32 x y to all\n  number 7\n  number 10\n",
+        true,
+    ),
+    (
+        " ab 192.0.2.0 0.0.0.255 2001:db8::/32 x y to all\n  number 7\n  number 11\n",
+        false,
+    ),
+    (
+        " ab 192.0.2.0  0.0.0.255 2001:db8::/32 x y to all\n  number 7\n  number 10\n",
+        false,
+    ),
+    (
+        " ab 192.0.2.0 0.0.0.255 2001:db8::/32 x y to all\n  number 7\n  number 10",
+        false,
+    ),
+    (
+        " ab 192.0.2.0 0.0.0.255 2001:db8::/32 x y to all\n  number 7\n  number 10\n\n",
+        false,
+    ),
+    ("", false),
+];
+
+#[test]
+fn compares_rows_with_a_text(rt: HostRuntime) {
+    for (text, same) in &TEXTS {
+        assert!(rt; is_text_of_rows(text) == *same, "at {text}");
+    }
+}
+
+// The words of the row `to  all` one after the other, and the text behind each.
+static WORDS: [(Option<&[u8]>, &[u8]); 4] = [
+    (Some(b"to"), b" all"),
+    (Some(b""), b"all"),
+    (Some(b"all"), b""),
+    (None, b""),
+];
+
+#[test]
+fn takes_words_of_a_row(rt: HostRuntime) {
+    let mut words = RowWords::new(b"to  all");
+    for (word, behind) in &WORDS {
+        assert!(rt; words.next() == *word && words.text() == *behind);
     }
 }
 
 #[test]
-fn takes_words_of_a_row(rt: HostRuntime) -> Result<(), Fail> {
-    let mut words = RowWords::new(b"to  all");
-    assert_eq!(rt; words.begins_with(b"to"), true);
-    assert_eq!(rt; words.next(), Some(b"to".as_slice()));
-    assert_eq!(rt; words.text(), b" all".as_slice());
-    assert_eq!(rt; words.few(rt.alloc())?.len(), 2);
-    assert_eq!(rt; words.next(), Some(b"".as_slice()));
-    assert_eq!(rt; words.next(), Some(b"all".as_slice()));
-    assert_eq!(rt; words.next(), None);
-    assert_eq!(rt; words.begins_with(b"to"), false);
-    assert_eq!(rt; words.text(), b"".as_slice());
-    let behind = RowWords::new(b"to all").behind_first();
-    assert_eq!(rt; behind.text(), b"all".as_slice());
+fn tells_words_of_a_row(rt: HostRuntime) -> Result<(), Fail> {
+    let words = RowWords::new(b"to  all");
+    assert!(rt; words.begins_with(b"to") && !words.begins_with(b"t"));
+    assert!(rt; words.few(rt.alloc())?.len() == 3);
+    assert!(rt; words.behind_first().text() == b" all".as_slice());
     Ok(())
+}
+
+fn differ(alloc: Global, names: &[&[u8]]) -> Result<bool, AllocError> {
+    Ok(are_distinct_names(Vec::from_slice(alloc, names)?))
+}
+
+fn numbers_differ(alloc: Global, numbers: &[u8]) -> Result<bool, AllocError> {
+    Ok(are_distinct(Vec::from_slice(alloc, numbers)?))
+}
+
+fn titles_differ(alloc: Global, one: &[u8], other: &[u8]) -> Result<bool, Memory> {
+    have_distinct_names(alloc, &[Titled { title: one }, Titled { title: other }])
 }
 
 #[test]
 fn tells_names(rt: HostRuntime) -> Result<(), Fail> {
     let alloc = rt.alloc();
-    let names: [&[u8]; 3] = [b"b", b"a", b"ab"];
-    assert_eq!(rt; are_distinct_names(Vec::from_slice(alloc, &names)?), true);
-    let names: [&[u8]; 3] = [b"b", b"a", b"b"];
-    assert_eq!(rt; are_distinct_names(Vec::from_slice(alloc, &names)?), false);
-    assert_eq!(rt; are_distinct(Vec::from_slice(alloc, &[7, 2, 5])?), true);
-    assert_eq!(rt; are_distinct(Vec::from_slice(alloc, &[7, 2, 7])?), false);
-    let items = [Titled { title: b"b" }, Titled { title: b"ab" }];
-    assert_eq!(rt; have_distinct_names(alloc, &items)?, true);
-    let items = [Titled { title: b"b" }, Titled { title: b"b" }];
-    assert_eq!(rt; have_distinct_names(alloc, &items)?, false);
+    assert!(rt; differ(alloc, &[b"b", b"a", b"ab"])? && !differ(alloc, &[b"b", b"a", b"b"])?);
+    assert!(rt; numbers_differ(alloc, &[7, 2, 5])? && !numbers_differ(alloc, &[7, 2, 7])?);
+    assert!(rt; titles_differ(alloc, b"b", b"ab")? && !titles_differ(alloc, b"b", b"b")?);
     Ok(())
 }
 
-#[test]
-fn tells_prefixes(rt: HostRuntime) {
-    let cases = [
-        (Family::V4, 0x0a00_0000, 8, true),
-        (Family::V4, 0x0a00_0001, 8, false),
-        (Family::V4, 0x0a00_0001, 32, true),
-        (Family::V4, 0, 33, false),
-        (Family::V4, 1 << 32, 32, false),
-        (Family::V6, 0, 0, true),
-        (Family::V6, 1, 0, false),
-        (Family::V6, 1, 128, true),
-    ];
-    for (family, first, len, is) in cases {
-        let prefix = Prefix { family, first, len };
-        assert_eq!(rt; is_prefix_of(family, &prefix), is, "at {first} {len}");
-    }
-    let four = Prefix {
-        family: Family::V4,
-        first: 0,
-        len: 0,
-    };
-    assert_eq!(rt; is_prefix_of(Family::V6, &four), false);
-}
+static PREFIXES: [(Family, u128, u8, bool); 8] = [
+    (Family::V4, 0x0a00_0000, 8, true),
+    (Family::V4, 0x0a00_0001, 8, false),
+    (Family::V4, 0x0a00_0001, 32, true),
+    (Family::V4, 0, 33, false),
+    (Family::V4, 1 << 32, 32, false),
+    (Family::V6, 0, 0, true),
+    (Family::V6, 1, 0, false),
+    (Family::V6, 1, 128, true),
+];
 
 #[test]
-fn writes_words_and_tells_items(rt: HostRuntime) {
+fn tells_prefixes(rt: HostRuntime) {
+    for (family, first, len, is) in &PREFIXES {
+        let prefix = Prefix {
+            family: *family,
+            first: *first,
+            len: *len,
+        };
+        assert!(rt; is_prefix_of(*family, &prefix) == *is, "at {first} {len}");
+    }
+    let four = Prefix::everywhere(Family::V4);
+    assert!(rt; !is_prefix_of(Family::V6, &four));
+}
+
+// Whether the text is a row with a word for each of two numbers.
+fn is_row_of_numbers(text: &[u8]) -> bool {
     let numbers: &[u8] = &[7, 10];
+    let rest = EachWord {
+        items: numbers,
+        form: InDecimal,
+    };
     let row = Row {
         indent: 0,
         first: b"numbers".as_slice(),
-        rest: EachWord {
-            items: numbers,
-            form: InDecimal,
-        },
+        rest,
     };
-    assert_eq!(rt; is_text_of(b"numbers 7 10\n", &row), true);
-    assert_eq!(rt; is_text_of(b"numbers 7\n", &row), false);
-    assert_eq!(rt; are_port_ranges(&[(22, 22), (0, 65535)]), true);
-    assert_eq!(rt; are_port_ranges(&[(22, 22), (2, 1)]), false);
-    assert_eq!(rt; is_port_range((2, 1)), false);
-    let ports = Row {
+    is_text_of(text, &row)
+}
+
+// Whether the text is a row with a range of ports, and a range of one port.
+fn is_row_of_ports(text: &[u8]) -> bool {
+    let first = PortRange {
+        low: 22,
+        high: 80,
+        separator: b':',
+    };
+    let rest = OneWord {
+        piece: PortRange { high: 22, ..first },
+    };
+    let row = Row {
         indent: 0,
-        first: PortRange {
-            low: 22,
-            high: 80,
-            separator: b':',
-        },
-        rest: OneWord {
-            piece: PortRange {
-                low: 22,
-                high: 22,
-                separator: b':',
-            },
-        },
+        first,
+        rest,
     };
-    assert_eq!(rt; is_text_of(b"22:80 22\n", &ports), true);
+    is_text_of(text, &row)
+}
+
+#[test]
+fn writes_a_word_for_each(rt: HostRuntime) {
+    assert!(rt; is_row_of_numbers(b"numbers 7 10\n") && !is_row_of_numbers(b"numbers 7\n"));
+    assert!(rt; is_row_of_ports(b"22:80 22\n"));
+}
+
+#[test]
+fn tells_port_ranges(rt: HostRuntime) {
+    assert!(rt; are_port_ranges(&[(22, 22), (0, 65535)]) && !are_port_ranges(&[(22, 22), (2, 1)]));
+    assert!(rt; !is_port_range((2, 1)));
 }

@@ -1,68 +1,25 @@
 use acl_packet::{Family, Prefix};
 use acl_text::{
-    Bytes, Cursor, Items, Memory, Out, Place, PutFault, ahead, behind, contains_byte, next_word,
+    Bytes, Cursor, Items, Memory, Place, PutFault, Whole, ahead, behind, contains_byte, next_word,
     put_address, put_number, put_pieces, put_prefix, put_wildcard, read_address, read_number,
     read_ports, read_prefix, read_signed, read_spelled_prefix, skip_white, split_at_byte,
 };
 use std::alloc::Global;
 use std::test::Fail;
 
-/// An output in memory.
-#[derive(Drop)]
-struct Kept {
-    text: Bytes,
-    refusals: u64,
-    refused: bool,
-}
-
-impl Kept {
-    ghost use Rattle.std.specs.Prelude.{◌≡◌, false};
-
-    fn new(alloc: Global) -> Kept
-        ensures { result.refused ≡ false }
-    {
-        Kept {
-            text: Bytes::new(alloc),
-            refusals: 0,
-            refused: false,
-        }
-    }
-}
-
-impl Out for Kept {
-    ghost use Rattle.std.specs.Prelude.{Some, not};
-
-    ghost told = { λ k. Some k.text };
-
-    ghost faults = { λ k. 0 };
-
-    ghost refusals = { λ k. k.refusals };
-
-    ghost is_open = { λ k. not k.refused };
-
-    ghost keeps_rest = { λ a b. Unit {0} };
-
-    fn put(&mut self, bytes: &[u8]) -> Result<(), PutFault> {
-        match self.text.push_all(bytes) {
-            Ok(()) => Ok(()),
-            Err(Memory) => {
-                self.refusals = self.refusals.saturating_add(1);
-                self.refused = true;
-                Err(PutFault::Memory)
-            }
-        }
-    }
-
-    ghost rest_same = { λ x. tt };
-
-    ghost rest_goes_on = { λ x y z h k. tt };
-}
-
 #[test]
 fn keeps_bytes(rt: HostRuntime) -> Result<(), Fail> {
     let mut bytes = Bytes::from_slice(rt.alloc(), b"ab")?;
     bytes.push_all(b"c")?;
-    assert_eq!(rt; bytes.as_slice(), b"abc".as_slice());
+    assert!(rt; bytes.as_slice() == b"abc".as_slice());
+    Ok(())
+}
+
+#[test]
+fn keeps_items(rt: HostRuntime) -> Result<(), Fail> {
+    let mut numbers = Items::new(rt.alloc());
+    numbers.push(6)?;
+    assert!(rt; numbers.as_slice() == [6].as_slice());
     Ok(())
 }
 
@@ -86,20 +43,17 @@ static NUMBERS: [(&str, u128, Option<u128>); 10] = [
 #[test]
 fn reads_numbers(rt: HostRuntime) {
     for (word, max, number) in &NUMBERS {
-        assert_eq!(rt; read_number(word.as_bytes(), *max), *number, "{word}");
+        assert!(rt; read_number(word.as_bytes(), *max) == *number, "{word}");
     }
 }
 
 #[test]
 fn puts_numbers(rt: HostRuntime) -> Result<(), Fail> {
-    let mut out = Kept::new(rt.alloc());
+    let mut out = Whole::new(rt.alloc());
     put_number(&mut out, 0)?;
     put_pieces(&mut out, &[b" ", b"and "])?;
     put_number(&mut out, u128::MAX)?;
-    assert_eq!(rt;
-        out.text.as_slice(),
-        b"0 and 340282366920938463463374607431768211455".as_slice()
-    );
+    assert!(rt; out.as_slice() == b"0 and 340282366920938463463374607431768211455".as_slice());
     Ok(())
 }
 
@@ -140,21 +94,21 @@ static PRINTED: [(&str, &str); 24] = [
     ("255.255.255.255/0", "0.0.0.0/0"),
 ];
 
+// Whether the word is a prefix with this text, which is its one spelling.
+fn is_printed_as(alloc: Global, word: &str, text: &str) -> Result<bool, PutFault> {
+    let Some(prefix) = read_prefix(word.as_bytes()) else {
+        return Ok(false);
+    };
+    let mut out = Whole::new(alloc);
+    put_prefix(&mut out, &prefix)?;
+    let again = read_spelled_prefix(prefix.family, text.as_bytes());
+    Ok(out.as_slice() == text.as_bytes() && again == Some(prefix))
+}
+
 #[test]
 fn prints_examples(rt: HostRuntime) -> Result<(), Fail> {
     for (word, text) in &PRINTED {
-        let Some(prefix) = read_prefix(word.as_bytes()) else {
-            assert!(rt; false, "{word} is not read");
-            return Ok(());
-        };
-        let mut out = Kept::new(rt.alloc());
-        put_prefix(&mut out, &prefix)?;
-        assert_eq!(rt; out.text.as_slice(), text.as_bytes(), "{word}");
-        assert_eq!(rt;
-            read_spelled_prefix(prefix.family, text.as_bytes()),
-            Some(prefix),
-            "{word}"
-        );
+        assert!(rt; is_printed_as(rt.alloc(), word, text)?, "{word}");
     }
     Ok(())
 }
@@ -191,112 +145,148 @@ static REFUSED: [&str; 26] = [
 #[test]
 fn refuses_other_words(rt: HostRuntime) {
     for word in &REFUSED {
-        assert_eq!(rt; read_prefix(word.as_bytes()), None, "{word}");
+        assert!(rt; read_prefix(word.as_bytes()).is_none(), "{word}");
     }
 }
 
+static SPELLED: [(Family, &str, Option<u128>); 9] = [
+    (Family::V4, "1.2.3.4", Some(0x0102_0304)),
+    (Family::V4, "01.2.3.4", None),
+    (Family::V4, "::1", None),
+    (Family::V6, "1.2.3.4", None),
+    (Family::V6, "::1", Some(1)),
+    (Family::V6, "0::1", None),
+    (Family::V6, "::A", None),
+    (Family::V6, "::0.0.0.1", None),
+    (Family::V6, "1::2:0:0:0:0", None),
+];
+
 #[test]
-fn reads_the_printed_text_alone(rt: HostRuntime) -> Result<(), Fail> {
-    let cases: [(Family, &str, Option<u128>); 9] = [
-        (Family::V4, "1.2.3.4", Some(0x0102_0304)),
-        (Family::V4, "01.2.3.4", None),
-        (Family::V4, "::1", None),
-        (Family::V6, "1.2.3.4", None),
-        (Family::V6, "::1", Some(1)),
-        (Family::V6, "0::1", None),
-        (Family::V6, "::A", None),
-        (Family::V6, "::0.0.0.1", None),
-        (Family::V6, "1::2:0:0:0:0", None),
-    ];
-    for (family, word, address) in cases {
-        assert_eq!(rt; read_address(family, word.as_bytes()), address, "{word}");
-        if let Some(a) = read_address(family, word.as_bytes()) {
-            let mut out = Kept::new(rt.alloc());
-            put_address(&mut out, family, a)?;
-            assert_eq!(rt; out.text.as_slice(), word.as_bytes());
-        }
+fn reads_the_printed_text_alone(rt: HostRuntime) {
+    for (family, word, address) in &SPELLED {
+        assert!(rt;
+            read_address(*family, word.as_bytes()) == *address,
+            "{word}"
+        );
     }
-    let ten = Prefix {
-        family: Family::V4,
-        first: 0x0a00_0000,
-        len: 8,
-    };
-    assert_eq!(rt; read_spelled_prefix(Family::V4, b"10.0.0.0/8"), Some(ten));
-    assert_eq!(rt; read_spelled_prefix(Family::V6, b"10.0.0.0/8"), None);
-    assert_eq!(rt; read_spelled_prefix(Family::V4, b"10.1.2.3/8"), None);
-    assert_eq!(rt; read_spelled_prefix(Family::V4, b"10.0.0.0"), None);
+}
+
+const TEN: Prefix = Prefix {
+    family: Family::V4,
+    first: 0x0a00_0000,
+    len: 8,
+};
+
+#[test]
+fn reads_the_one_spelling_of_a_prefix(rt: HostRuntime) {
+    assert!(rt; read_spelled_prefix(Family::V4, b"10.0.0.0/8") == Some(TEN));
+    assert!(rt; read_spelled_prefix(Family::V6, b"10.0.0.0/8").is_none());
+    assert!(rt; read_spelled_prefix(Family::V4, b"10.1.2.3/8").is_none());
+    assert!(rt; read_spelled_prefix(Family::V4, b"10.0.0.0").is_none());
+}
+
+#[test]
+fn puts_an_address(rt: HostRuntime) -> Result<(), Fail> {
+    let mut out = Whole::new(rt.alloc());
+    put_address(&mut out, Family::V4, 0x0102_0304)?;
+    put_address(&mut out, Family::V6, 1)?;
+    assert!(rt; out.as_slice() == b"1.2.3.4::1".as_slice());
     Ok(())
+}
+
+static WILDCARDS: [(u8, &str); 4] = [
+    (0, "255.255.255.255"),
+    (9, "0.127.255.255"),
+    (31, "0.0.0.1"),
+    (32, "0.0.0.0"),
+];
+
+fn is_wildcard(alloc: Global, len: u8, text: &str) -> Result<bool, PutFault> {
+    let mut out = Whole::new(alloc);
+    if len <= 32 {
+        put_wildcard(&mut out, len)?;
+    }
+    Ok(out.as_slice() == text.as_bytes())
 }
 
 #[test]
 fn puts_wildcards(rt: HostRuntime) -> Result<(), Fail> {
-    let cases: [(u8, &str); 4] = [
-        (0, "255.255.255.255"),
-        (9, "0.127.255.255"),
-        (31, "0.0.0.1"),
-        (32, "0.0.0.0"),
-    ];
-    for (len, text) in cases {
-        let mut out = Kept::new(rt.alloc());
-        if len <= 32 {
-            put_wildcard(&mut out, len)?;
-        }
-        assert_eq!(rt; out.text.as_slice(), text.as_bytes());
+    for (len, text) in &WILDCARDS {
+        assert!(rt; is_wildcard(rt.alloc(), *len, text)?, "{len}");
     }
     Ok(())
 }
 
+// The lines of a text, and how many were taken behind each.
+static LINES: [(Option<&[u8]>, u32); 4] = [
+    (Some(b"a b\r"), 1),
+    (Some(b""), 2),
+    (Some(b"last"), 3),
+    (None, 3),
+];
+
 #[test]
 fn gives_each_line_once(rt: HostRuntime) {
     let mut cursor = Cursor::new(3, b"a b\r\n\nlast");
-    assert_eq!(rt; cursor.place(), Place { file: 3, line: 0 });
-    assert_eq!(rt; cursor.line(), Some(b"a b\r".as_slice()));
-    assert_eq!(rt; cursor.line(), Some(b"".as_slice()));
-    assert_eq!(rt; cursor.place(), Place { file: 3, line: 2 });
-    assert_eq!(rt; cursor.line(), Some(b"last".as_slice()));
-    assert_eq!(rt; cursor.line(), None);
-    assert_eq!(rt; cursor.place(), Place { file: 3, line: 3 });
+    for (text, line) in &LINES {
+        let place = Place {
+            file: 3,
+            line: *line,
+        };
+        assert!(rt; cursor.line() == *text && cursor.place() == place, "{line}");
+    }
 }
+
+static WORDS: [(usize, Option<(usize, usize)>); 3] = [
+    (0, Some((1, 3))),
+    (3, Some((5, 6))),
+    (6, None),
+];
 
 #[test]
 fn gives_the_bounds_of_words(rt: HostRuntime) {
     let line = b" ab\t c\r";
-    assert_eq!(rt; next_word(line, 0), Some((1, 3)));
-    assert_eq!(rt; next_word(line, 3), Some((5, 6)));
-    assert_eq!(rt; next_word(line, 6), None);
-    assert_eq!(rt; next_word(b"", 0), None);
+    for (from, word) in &WORDS {
+        assert!(rt;
+            *from <= line.len() && next_word(line, *from) == *word,
+            "{from}"
+        );
+    }
+    assert!(rt; next_word(b"", 0).is_none());
 }
 
 #[test]
 fn cuts_at_the_first_of_a_byte(rt: HostRuntime) {
-    assert_eq!(rt; contains_byte(b"A = B", b'='), true);
-    assert_eq!(rt; contains_byte(b"A B", b'='), false);
+    assert!(rt; contains_byte(b"A = B", b'=') && !contains_byte(b"A B", b'='));
     let parts = split_at_byte(b"A = B = C", b'=');
-    assert_eq!(rt; parts, Some((b"A ".as_slice(), b" B = C".as_slice())));
-    assert_eq!(rt; split_at_byte(b"A B", b'=').is_some(), false);
+    assert!(rt; parts == Some((b"A ".as_slice(), b" B = C".as_slice())));
+    assert!(rt; split_at_byte(b"A B", b'=').is_none());
+}
+
+static SIGNED: [(&str, Option<i32>); 3] = [
+    ("-32768", Some(-32_768)),
+    ("32768", None),
+    ("-0", None),
+];
+
+#[test]
+fn reads_signed_numbers(rt: HostRuntime) {
+    for (word, number) in &SIGNED {
+        let read = read_signed(word.as_bytes(), 32_768, 32_767);
+        assert!(rt; read == *number, "{word}");
+    }
 }
 
 #[test]
-fn reads_signed_numbers_and_ports(rt: HostRuntime) {
-    assert_eq!(rt; read_signed(b"-32768", 32_768, 32_767), Some(-32_768));
-    assert_eq!(rt; read_signed(b"32768", 32_768, 32_767), None);
-    assert_eq!(rt; read_signed(b"-0", 32_768, 32_767), None);
-    assert_eq!(rt; read_ports(b"80-443", b'-'), Some((80, 443)));
-    assert_eq!(rt; read_ports(b"65535", b':'), Some((65_535, 65_535)));
-    assert_eq!(rt; read_ports(b"443-80", b'-'), None);
+fn reads_ports(rt: HostRuntime) {
+    assert!(rt; read_ports(b"80-443", b'-') == Some((80, 443)));
+    assert!(rt; read_ports(b"65535", b':') == Some((65_535, 65_535)));
+    assert!(rt; read_ports(b"443-80", b'-').is_none());
 }
 
 #[test]
-fn cuts_texts_at_their_ends(rt: HostRuntime) -> Result<(), Fail> {
-    assert_eq!(rt;
-        behind(b"no list", b"no ").expect(&rt, "a list"),
-        b"list".as_slice()
-    );
-    assert_eq!(rt; ahead(b"80;", b";").expect(&rt, "a port"), b"80".as_slice());
-    assert_eq!(rt; ahead(b"80", b";").is_some(), false);
-    assert_eq!(rt; skip_white(b" \t\rx "), b"x ".as_slice());
-    let mut numbers = Items::new(rt.alloc());
-    numbers.push(6)?;
-    assert_eq!(rt; numbers.as_slice(), [6].as_slice());
-    Ok(())
+fn cuts_texts_at_their_ends(rt: HostRuntime) {
+    assert!(rt; behind(b"no list", b"no ") == Some(b"list".as_slice()));
+    assert!(rt; ahead(b"80;", b";") == Some(b"80".as_slice()) && ahead(b"80", b";").is_none());
+    assert!(rt; skip_white(b" \t\rx ") == b"x ".as_slice());
 }

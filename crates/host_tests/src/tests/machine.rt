@@ -1,5 +1,5 @@
 use crate::tests::looks::{lacks, lists, reads, writes};
-use acl_host::{Clock, ClockFault, Sink, Tree};
+use acl_host::{Clock, ClockFault, Sink, Tree, join_path};
 use acl_machine::{DiskTree, StdSink, SystemClock};
 use acl_text::Memory;
 use std::alloc::Global;
@@ -50,71 +50,125 @@ fn day_of(time: SystemTime) -> i64 {
 }
 
 #[test]
-fn the_machines_clock_tells_the_day(rt: HostRuntime) -> Result<(), Fail> {
+fn a_clock_tells_the_day(rt: HostRuntime) {
     for (seconds, day) in &TIMES {
-        assert_eq!(rt; stopped_day(*seconds), *day);
+        assert!(rt; stopped_day(*seconds) == *day, "at {seconds}");
     }
     let silent = Stopped { since_1970: None };
-    assert_eq!(rt; SystemClock::new(&silent).today(), Err(ClockFault::Failed));
+    assert!(rt; SystemClock::new(&silent).today() == Err(ClockFault::Failed));
+}
+
+#[test]
+fn the_machines_clock_tells_today(rt: HostRuntime) -> Result<(), Fail> {
     let before = SystemTime::now(&rt)?;
     let day = SystemClock::new(&rt).today()?;
     let after = SystemTime::now(&rt)?;
-    assert!(rt; day_of(before) <= i64::from(day.number));
-    assert!(rt; i64::from(day.number) <= day_of(after));
+    let number = i64::from(day.number);
+    assert!(rt; day_of(before) <= number && number <= day_of(after));
     Ok(())
-}
-
-// A path below the folder.
-fn below(folder: &String, name: &str) -> Result<String, Memory> {
-    let mut path = String::from_str(*folder.allocator(), folder.as_str())?;
-    path.push_str("/")?;
-    path.push_str(name)?;
-    Ok(path)
 }
 
 // A folder of this process's own, for the test of the name.
 fn own_folder(rt: &HostRuntime, test: &str) -> Result<String, Fail> {
-    let mut path = format!(in rt.alloc(); "/tmp/host_tests_{}_", process::id(rt.process()))?;
-    path.push_str(test)?;
+    let path = format!(in rt.alloc(); "/tmp/host_tests_{}_{test}", process::id(rt.process()))?;
     fs::create_dir(rt, path.as_str())?;
     Ok(path)
 }
 
-// Folders and files in the folder, which is empty.
-fn fill(rt: &HostRuntime, folder: &String) -> Result<(), Fail> {
-    fs::create_dir(rt, below(folder, "x.net")?.as_str())?;
-    fs::write(rt, below(folder, "x.net/z.net")?.as_str(), "z")?;
-    fs::write(rt, below(folder, "b.net")?.as_str(), "b")?;
-    fs::write(rt, below(folder, "C")?.as_str(), "cc")?;
+fn make_folder(rt: &HostRuntime, folder: &str, name: &str) -> Result<(), Fail> {
+    let path = join_path(rt.alloc(), folder, name)?;
+    fs::create_dir(rt, path.as_str())?;
     Ok(())
+}
+
+fn make_file(rt: &HostRuntime, folder: &str, name: &str, text: &str) -> Result<(), Fail> {
+    let path = join_path(rt.alloc(), folder, name)?;
+    fs::write(rt, path.as_str(), text)?;
+    Ok(())
+}
+
+// Folders and files in the folder, which is empty.
+fn fill(rt: &HostRuntime, folder: &str) -> Result<(), Fail> {
+    make_folder(rt, folder, "x.net")?;
+    make_file(rt, folder, "x.net/z.net", "z")?;
+    make_file(rt, folder, "b.net", "b")?;
+    make_file(rt, folder, "C", "cc")
+}
+
+fn lists_at(rt: &HostRuntime, folder: &str, names: &str) -> Result<bool, Memory> {
+    lists(rt.alloc(), &mut DiskTree::new(rt), folder, names)
+}
+
+fn lists_below(rt: &HostRuntime, folder: &str, name: &str, names: &str) -> Result<bool, Memory> {
+    let path = join_path(rt.alloc(), folder, name)?;
+    lists_at(rt, path.as_str(), names)
+}
+
+fn reads_below(
+    rt: &HostRuntime,
+    folder: &str,
+    name: &str,
+    most: usize,
+    bytes: &[u8],
+) -> Result<bool, Memory> {
+    let path = join_path(rt.alloc(), folder, name)?;
+    Ok(reads(
+        rt.alloc(),
+        &mut DiskTree::new(rt),
+        path.as_str(),
+        most,
+        bytes,
+    ))
+}
+
+fn lacks_below(rt: &HostRuntime, folder: &str, name: &str) -> Result<bool, Memory> {
+    let path = join_path(rt.alloc(), folder, name)?;
+    Ok(lacks(rt.alloc(), &mut DiskTree::new(rt), path.as_str()))
+}
+
+fn writes_below(
+    rt: &HostRuntime,
+    folder: &str,
+    name: &str,
+    pieces: &[&[u8]],
+) -> Result<bool, Memory> {
+    let path = join_path(rt.alloc(), folder, name)?;
+    Ok(writes(&mut DiskTree::new(rt), path.as_str(), pieces))
 }
 
 #[test]
 fn the_machines_folders_are_listed(rt: HostRuntime) -> Result<(), Fail> {
-    let alloc = rt.alloc();
     let folder = own_folder(&rt, "list")?;
-    let file = below(&folder, "C")?;
-    let mut tree = DiskTree::new(&rt);
-    assert!(rt; lists(alloc, &mut tree, folder.as_str(), "absent")?);
-    fill(&rt, &folder)?;
-    assert!(rt; lists(alloc, &mut tree, folder.as_str(), "C b.net ")?);
-    assert!(rt; lists(alloc, &mut tree, file.as_str(), "absent")?);
+    assert!(rt; lists_at(&rt, folder.as_str(), "absent")?);
+    fill(&rt, folder.as_str())?;
+    assert!(rt; lists_at(&rt, folder.as_str(), "C b.net ")?);
+    assert!(rt; lists_below(&rt, folder.as_str(), "C", "absent")?);
     fs::remove_dir_all(&rt, folder.as_str())?;
-    assert!(rt; lists(alloc, &mut tree, folder.as_str(), "absent")?);
+    assert!(rt; lists_at(&rt, folder.as_str(), "absent")?);
     Ok(())
 }
 
 #[test]
-fn the_machines_files_are_read(rt: HostRuntime) -> Result<(), Fail> {
-    let folder = own_folder(&rt, "read")?;
-    fill(&rt, &folder)?;
-    let file = below(&folder, "C")?;
-    let mut tree = DiskTree::new(&rt);
-    assert!(rt; reads(rt.alloc(), &mut tree, file.as_str(), 1, b"c"));
-    assert!(rt; reads(rt.alloc(), &mut tree, file.as_str(), usize::MAX, b"cc"));
+fn the_machines_files_are_read_and_written(rt: HostRuntime) -> Result<(), Fail> {
+    let folder = own_folder(&rt, "files")?;
+    fill(&rt, folder.as_str())?;
+    assert!(rt; reads_below(&rt, folder.as_str(), "C", 1, b"c")?);
+    assert!(rt; reads_below(&rt, folder.as_str(), "C", usize::MAX, b"cc")?);
     // a folder is no file, and nothing lies under a file
-    assert!(rt; lacks(rt.alloc(), &mut tree, folder.as_str()));
-    assert!(rt; lacks(rt.alloc(), &mut tree, below(&file, "b")?.as_str()));
+    assert!(rt; lacks_below(&rt, folder.as_str(), "x.net")?);
+    assert!(rt; lacks_below(&rt, folder.as_str(), "C/b")?);
+    assert!(rt;
+        writes_below(
+            &rt,
+            folder.as_str(),
+            "C",
+            &[b"1".as_slice(), b"".as_slice()]
+        )?
+    );
+    assert!(rt; reads_below(&rt, folder.as_str(), "C", 9, b"1")?);
+    // no folder is made
+    assert!(rt; !writes_below(&rt, folder.as_str(), "no/C", &[])?);
+    assert!(rt; !writes(&mut DiskTree::new(&rt), "/dev/full", &[b"x".as_slice()]));
     fs::remove_dir_all(&rt, folder.as_str())?;
     Ok(())
 }
@@ -130,47 +184,34 @@ fn long(alloc: Global, count: usize) -> Result<Vec<u8>, Memory> {
     Ok(bytes)
 }
 
+// Whether the first of the file are `abc` and so many of the bytes.
+fn has_front(rt: &HostRuntime, path: &str, most: usize, count: usize, bytes: &[u8]) -> bool {
+    match DiskTree::new(rt).read(rt.alloc(), path, most) {
+        Ok(front) => match front.as_slice().strip_prefix(b"abc".as_slice()) {
+            Some(rest) => rest.len() == count && bytes.starts_with(rest),
+            None => false,
+        },
+        Err(_) => false,
+    }
+}
+
+fn keeps_long_file(rt: &HostRuntime, path: &str) -> Result<bool, Memory> {
+    let bytes = long(rt.alloc(), 70_000)?;
+    let pieces = [b"ab".as_slice(), b"c".as_slice(), bytes.as_slice()];
+    Ok(
+        writes(&mut DiskTree::new(rt), path, &pieces)
+            && has_front(rt, path, usize::MAX, 70_000, bytes.as_slice())
+            && has_front(rt, path, 9000, 8997, bytes.as_slice()),
+    )
+}
+
 // Pieces are put one behind the other, and a file is longer than what one call reads.
 #[test]
 fn a_long_file_is_written_and_read(rt: HostRuntime) -> Result<(), Fail> {
-    let folder = own_folder(&rt, "long")?;
-    let path = below(&folder, "x")?;
-    let behind = long(rt.alloc(), 70_000)?;
-    let mut whole = vec![in rt.alloc(); b'a', b'b', b'c']?;
-    whole.extend_from_slice(behind.as_slice())?;
-    let mut tree = DiskTree::new(&rt);
-    let pieces = [b"ab".as_slice(), b"c".as_slice(), behind.as_slice()];
-    assert!(rt; writes(&mut tree, path.as_str(), &pieces));
-    assert!(rt;
-        reads(
-            rt.alloc(),
-            &mut tree,
-            path.as_str(),
-            usize::MAX,
-            whole.as_slice()
-        )
-    );
-    match whole.as_slice().get(..9000) {
-        Some(front) => assert!(rt; reads(rt.alloc(), &mut tree, path.as_str(), 9000, front)),
-        None => panic!(rt; "a short file"),
-    }
-    fs::remove_dir_all(&rt, folder.as_str())?;
-    Ok(())
-}
-
-#[test]
-fn the_machines_files_are_written(rt: HostRuntime) -> Result<(), Fail> {
-    let folder = own_folder(&rt, "write")?;
-    fill(&rt, &folder)?;
-    let file = below(&folder, "C")?;
-    let deep = below(&folder, "no/C")?;
-    let mut tree = DiskTree::new(&rt);
-    assert!(rt; writes(&mut tree, file.as_str(), &[b"1".as_slice(), b"".as_slice()]));
-    assert!(rt; reads(rt.alloc(), &mut tree, file.as_str(), 9, b"1"));
-    // no folder is made
-    assert!(rt; !writes(&mut tree, deep.as_str(), &[]));
-    assert!(rt; !writes(&mut tree, "/dev/full", &[b"x".as_slice()]));
-    fs::remove_dir_all(&rt, folder.as_str())?;
+    let path = own_folder(&rt, "long")?;
+    let file = join_path(rt.alloc(), path.as_str(), "x")?;
+    assert!(rt; keeps_long_file(&rt, file.as_str())?);
+    fs::remove_dir_all(&rt, path.as_str())?;
     Ok(())
 }
 
@@ -178,15 +219,22 @@ fn puts<S: Sink>(sink: &mut S, bytes: &[u8]) -> bool {
     sink.write(bytes).is_ok()
 }
 
+// Whether two texts are put into the file.
+fn puts_into(rt: &HostRuntime, path: &str) -> Result<bool, Fail> {
+    let mut sink = StdSink::new(fs::create(rt, path)?);
+    Ok(puts(&mut sink, b"hi") && puts(&mut sink, b"!"))
+}
+
+fn has_bytes(rt: &HostRuntime, path: &str, bytes: &[u8]) -> Result<bool, Fail> {
+    Ok(fs::read(rt, path)?.as_slice() == bytes)
+}
+
 #[test]
 fn a_stream_of_the_machine_is_written(rt: HostRuntime) -> Result<(), Fail> {
     let folder = own_folder(&rt, "sink")?;
-    let path = below(&folder, "out")?;
-    let mut sink = StdSink::new(fs::create(&rt, path.as_str())?);
-    assert!(rt; puts(&mut sink, b"hi") && puts(&mut sink, b"!"));
-    assert_eq!(rt; fs::read(&rt, path.as_str())?.as_slice(), b"hi!".as_slice());
-    let mut full = StdSink::new(fs::create(&rt, "/dev/full")?);
-    assert!(rt; !puts(&mut full, b"hi"));
+    let path = join_path(rt.alloc(), folder.as_str(), "out")?;
+    assert!(rt; puts_into(&rt, path.as_str())? && has_bytes(&rt, path.as_str(), b"hi!")?);
+    assert!(rt; !puts_into(&rt, "/dev/full")?);
     fs::remove_dir_all(&rt, folder.as_str())?;
     Ok(())
 }

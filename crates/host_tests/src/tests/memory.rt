@@ -28,23 +28,29 @@ static FILES: [(&str, &[u8]); 5] = [
     ("def/a.svc", b""),
 ];
 
+// Whether the tree tells of its files as it is to.
+fn is_looked_at(alloc: Global, tree: &mut MemTree) -> Result<bool, Memory> {
+    Ok(
+        lists(alloc, tree, "def", "B.net a.svc n.net ")?
+            && lists(alloc, tree, "de", "absent")?
+            && reads(alloc, tree, "def/n.net", 2, b"A ")
+            && reads(alloc, tree, "def/n.net", 9, b"A = ")
+            && lacks(alloc, tree, "def"),
+    )
+}
+
 #[test]
 fn a_tree_in_memory_is_looked_at(rt: HostRuntime) -> Result<(), Fail> {
     let mut tree = tree_of(rt.alloc(), &FILES)?;
-    assert!(rt; lists(rt.alloc(), &mut tree, "def", "B.net a.svc n.net ")?);
-    assert!(rt; lists(rt.alloc(), &mut tree, "de", "absent")?);
-    assert!(rt; reads(rt.alloc(), &mut tree, "def/n.net", 2, b"A "));
-    assert!(rt; reads(rt.alloc(), &mut tree, "def/n.net", 9, b"A = "));
-    assert!(rt; lacks(rt.alloc(), &mut tree, "def"));
+    assert!(rt; is_looked_at(rt.alloc(), &mut tree)?);
     Ok(())
 }
 
 #[test]
-fn a_file_in_memory_is_written(rt: HostRuntime) -> Result<(), Fail> {
+fn a_file_in_memory_is_written(rt: HostRuntime) {
     let mut tree = MemTree::new(rt.alloc());
     assert!(rt; writes(&mut tree, "x", &[b"hi".as_slice()]));
-    assert_eq!(rt; tree.file("x"), Some(b"hi".as_slice()));
-    Ok(())
+    assert!(rt; tree.file("x") == Some(b"hi".as_slice()));
 }
 
 // The bytes of the whole file, or its fault.
@@ -72,16 +78,43 @@ fn listing_text<T: Tree>(alloc: Global, tree: &mut T, dir: &str) -> Result<Strin
     }
 }
 
+fn gives<T: Tree>(
+    alloc: Global,
+    tree: &mut T,
+    path: &str,
+    most: u32,
+    text: &str,
+) -> Result<bool, Memory>
+    ensures { T.begun tree.new ≡ T.begun tree.old }
+{
+    Ok(whole_text(alloc, tree, path, most)?.as_str() == text)
+}
+
+fn names<T: Tree>(alloc: Global, tree: &mut T, dir: &str, text: &str) -> Result<bool, Memory>
+    ensures { T.begun tree.new ≡ T.begun tree.old }
+{
+    Ok(listing_text(alloc, tree, dir)?.as_str() == text)
+}
+
 #[test]
 fn whole_files_are_read(rt: HostRuntime) -> Result<(), Fail> {
     let alloc = rt.alloc();
-    let path = join_path(alloc, "def", "n.net")?;
-    let mut tree = tree_of(alloc, &[(path.as_str(), b"A = ".as_slice())])?;
-    assert!(rt; whole_text(alloc, &mut tree, "def/n.net", 4)?.as_str() == "A = ");
-    assert!(rt; whole_text(alloc, &mut tree, "def/n.net", 3)?.as_str() == "TooLong def/n.net");
-    assert!(rt; listing_text(alloc, &mut tree, "def/")?.as_str() == "n.net ");
-    assert!(rt; listing_text(alloc, &mut tree, "no")?.as_str() == "NoFile");
+    let mut tree = tree_of(alloc, &FILES)?;
+    assert!(rt; gives(alloc, &mut tree, "def/n.net", 4, "A = ")?);
+    assert!(rt; gives(alloc, &mut tree, "def/n.net", 3, "TooLong def/n.net")?);
+    assert!(rt; names(alloc, &mut tree, "def/", "B.net a.svc n.net ")?);
+    assert!(rt; names(alloc, &mut tree, "no", "NoFile")?);
     Ok(())
+}
+
+// Whether the second listing and the first reading fail alone.
+fn fails_once(alloc: Global, tree: &mut MemTree) -> Result<bool, Memory> {
+    Ok(
+        lists(alloc, tree, "a", "absent")?
+            && lists(alloc, tree, "a", "failed")?
+            && !lacks(alloc, tree, "a")
+            && lacks(alloc, tree, "a"),
+    )
 }
 
 #[test]
@@ -89,14 +122,17 @@ fn listed_calls_fail(rt: HostRuntime) -> Result<(), Fail> {
     let mut tree = MemTree::new(rt.alloc());
     tree.fail(Op::List, 2)?;
     tree.fail(Op::Read, 1)?;
+    assert!(rt; fails_once(rt.alloc(), &mut tree)?);
+    Ok(())
+}
+
+#[test]
+fn a_writing_fails(rt: HostRuntime) -> Result<(), Fail> {
+    let mut tree = MemTree::new(rt.alloc());
     tree.fail(Op::Begin, 2)?;
-    assert!(rt; lists(rt.alloc(), &mut tree, "a", "absent")?);
-    assert!(rt; lists(rt.alloc(), &mut tree, "a", "failed")?);
-    assert!(rt; !lacks(rt.alloc(), &mut tree, "a"));
-    assert!(rt; lacks(rt.alloc(), &mut tree, "a"));
     assert!(rt; writes(&mut tree, "one", &[]));
-    assert_eq!(rt; write_file(&mut tree, "two", &[]), Err(WriteFault::Failed));
-    assert_eq!(rt; tree.file("two"), None);
+    assert!(rt; write_file(&mut tree, "two", &[]) == Err(WriteFault::Failed));
+    assert!(rt; tree.file("two").is_none());
     Ok(())
 }
 
@@ -105,15 +141,15 @@ fn a_sink_in_memory_is_written(rt: HostRuntime) -> Result<(), Fail> {
     let mut sink = MemSink::new(rt.alloc());
     sink.fail(2)?;
     sink.write(b"hi")?;
-    assert_eq!(rt; sink.write(b"lost"), Err(WriteFault::Failed));
+    assert!(rt; sink.write(b"lost") == Err(WriteFault::Failed));
     sink.write(b"!")?;
-    assert_eq!(rt; sink.as_slice(), b"hi!".as_slice());
+    assert!(rt; sink.as_slice() == b"hi!".as_slice());
     Ok(())
 }
 
 #[test]
 fn a_fixed_clock_tells_its_day(rt: HostRuntime) {
     let day = Day { number: 20468 };
-    assert_eq!(rt; FixedClock::new(day, false).today(), Ok(day));
-    assert_eq!(rt; FixedClock::new(day, true).today(), Err(ClockFault::Failed));
+    assert!(rt; FixedClock::new(day, false).today() == Ok(day));
+    assert!(rt; FixedClock::new(day, true).today() == Err(ClockFault::Failed));
 }
