@@ -7,7 +7,7 @@ use crate::tests::runs::{
 };
 use crate::tests::words::words_of;
 use acl_days::Day;
-use acl_memory::{MemSink, MemTree, Op, SureClock, SureSink, SureTree};
+use acl_memory::{MemTree, Op, SureClock, SureSink, SureTree};
 use acl_text::Memory;
 use aclgen_core::status_without_words;
 use std::alloc::Global;
@@ -456,11 +456,15 @@ static CASES: [Case; 21] = [
     },
 ];
 
+fn leaves(alloc: Global, case: &Case) -> Result<bool, Memory> {
+    let left = left_by(alloc, POLICY, case.words, &case.calls)?;
+    Ok(is_left(&left, case))
+}
+
 #[test]
 fn each_call_outside_fails_once(rt: HostRuntime) -> Result<(), Fail> {
     for (place, case) in CASES.iter().enumerate() {
-        let left = left_by(rt.alloc(), POLICY, case.words, &case.calls)?;
-        assert!(rt; is_left(&left, case), "case {place}");
+        assert!(rt; leaves(rt.alloc(), case)?, "case {place}");
     }
     Ok(())
 }
@@ -482,11 +486,10 @@ fn cut_off(op: Op, nth: u32, whole: usize) -> Case {
 #[test]
 fn each_file_is_begun_and_finished_once(rt: HostRuntime) -> Result<(), Fail> {
     for before in 0..4u32 {
-        for op in [Op::Begin, Op::Finish] {
-            let case = cut_off(op, before + 1, before as usize);
-            let left = left_by(rt.alloc(), POLICY, case.words, &case.calls)?;
-            assert!(rt; is_left(&left, &case), "{op:?} behind {before}");
-        }
+        let begin = cut_off(Op::Begin, before + 1, before as usize);
+        assert!(rt; leaves(rt.alloc(), &begin)?, "begun behind {before}");
+        let finish = cut_off(Op::Finish, before + 1, before as usize);
+        assert!(rt; leaves(rt.alloc(), &finish)?, "finished behind {before}");
     }
     Ok(())
 }
@@ -524,6 +527,47 @@ fn count_lines() -> usize {
     count
 }
 
+// A run of which the append of that number fails.
+#[derive(Clone, Copy)]
+enum Appended {
+    // It has no such append, and is done.
+    Done,
+    // It was cut off behind so many whole files. How much there is of the next one, where it ends with a line.
+    Cut(usize, Option<usize>),
+    // It left something else.
+    Other,
+}
+
+fn appended(alloc: Global, nth: u32) -> Result<Appended, Memory> {
+    let case = cut_off(Op::Append, nth, 0);
+    let left = left_by(alloc, POLICY, case.words, &case.calls)?;
+    if is_left(&left, &DONE) {
+        return Ok(Appended::Done);
+    }
+    match files_before_the_cut(&left, &case) {
+        Some(whole) => Ok(Appended::Cut(whole, cut_at_a_line(&left.tree, whole))),
+        None => Ok(Appended::Other),
+    }
+}
+
+// The place of a cut behind `last`, where a line begins there that did not begin at `last`.
+fn next_line(cut: Appended, last: (usize, usize)) -> Option<(usize, usize)> {
+    match cut {
+        Appended::Cut(whole, Some(length)) if (whole, length) != last => Some((whole, length)),
+        _ => None,
+    }
+}
+
+// Whether the cut is behind as many whole files as the last one, or behind one more.
+fn goes_on(cut: Appended, before: usize) -> Option<usize> {
+    match cut {
+        Appended::Cut(whole, _) if whole == before || whole == before.saturating_add(1) => {
+            Some(whole)
+        }
+        _ => None,
+    }
+}
+
 // Appends are counted upwards until none of that number is made. Each line begins with one of its own: no append has
 // bytes of two lines.
 #[test]
@@ -532,25 +576,17 @@ fn each_append_fails_once(rt: HostRuntime) -> Result<(), Fail> {
     let mut lines = 0usize;
     let mut last = (usize::MAX, 0usize);
     for nth in 1..10_000u32 {
-        let case = cut_off(Op::Append, nth, 0);
-        let left = left_by(rt.alloc(), POLICY, case.words, &case.calls)?;
-        if left.status == 0 {
-            assert!(rt; is_left(&left, &DONE) && before == 3, "append {nth}");
-            assert_eq!(rt; lines, count_lines());
+        let cut = appended(rt.alloc(), nth)?;
+        if let Appended::Done = cut {
+            assert!(rt; before == 3 && lines == count_lines(), "append {nth}");
             return Ok(());
         }
-        let whole = files_before_the_cut(&left, &case).unwrap_or(usize::MAX);
-        assert!(rt;
-            whole == before || whole == before.saturating_add(1),
-            "append {nth}"
-        );
-        before = whole;
-        match cut_at_a_line(&left.tree, whole) {
-            Some(length) if last != (whole, length) => {
-                lines = lines.saturating_add(1);
-                last = (whole, length);
-            }
-            _ => {}
+        let whole = goes_on(cut, before);
+        assert!(rt; whole.is_some(), "append {nth}");
+        before = whole.unwrap_or(before);
+        if let Some(place) = next_line(cut, last) {
+            lines = lines.saturating_add(1);
+            last = place;
         }
     }
     assert!(rt; false, "each run failed");
@@ -568,9 +604,16 @@ fn sure_tree(alloc: Global) -> Result<SureTree, Memory>
     Ok(tree)
 }
 
-#[test]
-fn a_run_over_objects_that_never_fail_is_done(rt: HostRuntime) -> Result<(), Fail> {
-    let alloc = rt.alloc();
+fn has_files(tree: &SureTree) -> bool {
+    for (path, text) in &FILES {
+        if tree.file(path) != Some(*text) {
+            return false;
+        }
+    }
+    true
+}
+
+fn is_done_surely(alloc: Global) -> Result<bool, Memory> {
     let words = words_of(alloc, UNDATED)?;
     let mut tree = sure_tree(alloc)?;
     let mut out = SureSink::new(alloc);
@@ -584,36 +627,33 @@ fn a_run_over_objects_that_never_fail_is_done(rt: HostRuntime) -> Result<(), Fai
         &mut err,
         &mut clock,
     );
-    assert_eq!(rt; status, 0);
-    assert_eq!(rt; out.as_slice(), REPORT);
-    assert!(rt; err.as_slice().is_empty());
-    for (path, text) in &FILES {
-        assert!(rt; tree.file(path) == Some(*text), "{path}");
-    }
+    let streams = out.as_slice() == REPORT && err.as_slice().is_empty();
+    Ok(status == 0 && streams && has_files(&tree))
+}
+
+#[test]
+fn a_run_over_objects_that_never_fail_is_done(rt: HostRuntime) -> Result<(), Fail> {
+    assert!(rt; is_done_surely(rt.alloc())?);
     Ok(())
 }
 
-// The status and the line where the machine gives no words.
-fn without_words(
+// Whether this is the status and the line where the machine gives no words.
+fn ends_without_words(
     alloc: Global,
     wanted_memory: bool,
     failing: u32,
-) -> Result<(u8, MemSink), Memory> {
+    status: u8,
+    line: &[u8],
+) -> Result<bool, Memory> {
     let mut err = sink_with(alloc, failing)?;
-    let status = status_without_words(wanted_memory, &mut err);
-    Ok((status, err))
+    let found = status_without_words(wanted_memory, &mut err);
+    Ok(found == status && err.as_slice() == line)
 }
 
 #[test]
 fn words_that_are_no_text_are_no_command_line(rt: HostRuntime) -> Result<(), Fail> {
-    let (status, err) = without_words(rt.alloc(), false, 0)?;
-    assert_eq!(rt; status, 2);
-    assert_eq!(rt; err.as_slice(), USAGE);
-    let (status, err) = without_words(rt.alloc(), false, 1)?;
-    assert_eq!(rt; status, 3);
-    assert!(rt; err.as_slice().is_empty());
-    let (status, err) = without_words(rt.alloc(), true, 0)?;
-    assert_eq!(rt; status, 4);
-    assert!(rt; err.as_slice().is_empty());
+    assert!(rt; ends_without_words(rt.alloc(), false, 0, 2, USAGE)?);
+    assert!(rt; ends_without_words(rt.alloc(), false, 1, 3, b"")?);
+    assert!(rt; ends_without_words(rt.alloc(), true, 0, 4, b"")?);
     Ok(())
 }

@@ -2,21 +2,20 @@ use acl_workload::workload;
 use std::str;
 use std::test::Fail;
 
+const NETWORKS: &[u8] =
+    b"N0 = 10.0.0.0/25 10.0.0.128/25 2001:db8:0::/48\nN1 = 10.0.1.0/25 10.0.1.128/25 2001:db8:1::/48\n";
+
+const SERVICES: &[u8] = b"S0 = 1000/tcp 1000/udp\nS1 = 1001/tcp 1001/udp\n";
+
+const POLICY: &[u8] =
+    b"header {\n  target:: cisco w mixed\n  target:: juniper w inet\n  target:: iptables FORWARD DROP\n  target:: nftables mixed forward\n}\nterm t0 {\n  source-address:: N0\n  destination-port:: S0\n  protocol:: tcp udp\n  action:: accept\n}\nterm t1 {\n  source-address:: N1\n  destination-port:: S1\n  protocol:: tcp udp\n  action:: accept\n}\n";
+
 #[test]
 fn two_of_each_are_made(rt: HostRuntime) -> Result<(), Fail> {
     let two = workload(rt.alloc(), 2)?;
-    assert_eq!(rt;
-        two.networks.as_slice(),
-        b"N0 = 10.0.0.0/25 10.0.0.128/25 2001:db8:0::/48\nN1 = 10.0.1.0/25 10.0.1.128/25 2001:db8:1::/48\n".as_slice()
-    );
-    assert_eq!(rt;
-        two.services.as_slice(),
-        b"S0 = 1000/tcp 1000/udp\nS1 = 1001/tcp 1001/udp\n".as_slice()
-    );
-    assert_eq!(rt;
-        two.policy.as_slice(),
-        b"header {\n  target:: cisco w mixed\n  target:: juniper w inet\n  target:: iptables FORWARD DROP\n  target:: nftables mixed forward\n}\nterm t0 {\n  source-address:: N0\n  destination-port:: S0\n  protocol:: tcp udp\n  action:: accept\n}\nterm t1 {\n  source-address:: N1\n  destination-port:: S1\n  protocol:: tcp udp\n  action:: accept\n}\n".as_slice()
-    );
+    assert!(rt; two.networks.as_slice() == NETWORKS);
+    assert!(rt; two.services.as_slice() == SERVICES);
+    assert!(rt; two.policy.as_slice() == POLICY);
     Ok(())
 }
 

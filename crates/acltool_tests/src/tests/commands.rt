@@ -1,4 +1,6 @@
 use crate::tests::runs::{Calls, Case, NONE, is_left};
+use acl_text::Memory;
+use std::alloc::Global;
 use std::test::Fail;
 
 const RESTORE: &str =
@@ -221,26 +223,41 @@ fn each_command_answers(rt: HostRuntime) -> Result<(), Fail> {
     Ok(())
 }
 
+// A run of each command.
+static RUNS: [(&str, &[u8]); 3] = [(RESTORE, WEB), (DEAD, TWICE), (STANDARD, SOURCES)];
+
+// Whether the run ends by this line where these calls fail.
+fn is_cut_off(
+    alloc: Global,
+    words: &'static str,
+    policy: &'static [u8],
+    calls: &Calls,
+    err: &'static [u8],
+) -> Result<bool, Memory> {
+    let case = Case {
+        words,
+        policy,
+        status: 3,
+        out: b"",
+        err,
+    };
+    is_left(alloc, &case, calls)
+}
+
+const UNREAD: Calls = Calls { read: 1, ..NONE };
+
+const UNTOLD: Calls = Calls { out: 1, ..NONE };
+
 #[test]
 fn a_failure_outside_is_told(rt: HostRuntime) -> Result<(), Fail> {
-    for (words, policy) in [(RESTORE, WEB), (DEAD, TWICE), (STANDARD, SOURCES)] {
-        let unread = Case {
-            words,
-            policy,
-            status: 3,
-            out: b"",
-            err: b"acltool: read failed\n",
-        };
+    for (words, policy) in &RUNS {
+        let alloc = rt.alloc();
         assert!(rt;
-            is_left(rt.alloc(), &unread, &Calls { read: 1, ..NONE })?,
+            is_cut_off(alloc, words, policy, &UNREAD, b"acltool: read failed\n")?,
             "{words}"
         );
-        let untold = Case {
-            err: b"acltool: output failed\n",
-            ..unread
-        };
         assert!(rt;
-            is_left(rt.alloc(), &untold, &Calls { out: 1, ..NONE })?,
+            is_cut_off(alloc, words, policy, &UNTOLD, b"acltool: output failed\n")?,
             "{words}"
         );
     }

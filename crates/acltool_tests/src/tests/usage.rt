@@ -33,9 +33,9 @@ static WRONG: [&str; 26] = [
 
 #[test]
 fn other_words_are_no_command_line(rt: HostRuntime) -> Result<(), Fail> {
-    for words in WRONG {
+    for words in &WRONG {
         let case = Case {
-            words,
+            words: *words,
             policy: b"",
             status: 2,
             out: b"",

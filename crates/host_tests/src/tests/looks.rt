@@ -3,7 +3,6 @@ ghost use Rattle.std.specs.Prelude.{◌≡◌, None};
 use acl_host::{Tree, TreeFault, write_file};
 use acl_text::Memory;
 use std::alloc::Global;
-use std::str;
 
 // What the tree says of the folder: each name with a space behind it, or why there are none.
 fn names_text<T: Tree>(alloc: Global, tree: &mut T, dir: &str) -> Result<String, Memory>
@@ -24,31 +23,25 @@ pub(crate) fn spaced(alloc: Global, names: &[String]) -> Result<String, Memory> 
     Ok(text)
 }
 
-fn fault_text(alloc: Global, fault: TreeFault) -> Result<String, Memory> {
-    let text = match fault {
+fn fault_word(fault: TreeFault) -> &'static str {
+    match fault {
         TreeFault::Absent => "absent",
         TreeFault::Failed => "failed",
         TreeFault::Memory => "memory",
-    };
-    Ok(String::from_str(alloc, text)?)
+    }
+}
+
+fn fault_text(alloc: Global, fault: TreeFault) -> Result<String, Memory> {
+    Ok(String::from_str(alloc, fault_word(fault))?)
 }
 
 // Whether the tree says just this of the folder.
-pub(crate) fn lists<T: Tree>(
-    alloc: Global,
-    tree: &mut T,
-    dir: &str,
-    names: &str,
-) -> Result<bool, Memory>
+pub(crate) fn lists<T: Tree>(alloc: Global, tree: &mut T, dir: &str, names: &str) -> bool
     ensures { T.begun tree.new ≡ T.begun tree.old }
 {
-    Ok(names_text(alloc, tree, dir)?.as_str() == names)
-}
-
-pub(crate) fn text(bytes: &[u8]) -> &str {
-    match str::from_utf8(bytes) {
-        Ok(text) => text,
-        Err(_) => "?",
+    match names_text(alloc, tree, dir) {
+        Ok(text) => text.as_str() == names,
+        Err(_) => false,
     }
 }
 

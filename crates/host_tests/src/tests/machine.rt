@@ -1,3 +1,5 @@
+ghost use Rattle.std.specs.Prelude.{◌≡◌, None};
+
 use crate::tests::looks::{lacks, lists, reads, writes};
 use acl_host::{Clock, ClockFault, Sink, Tree, join_path};
 use acl_machine::{DiskTree, StdSink, SystemClock};
@@ -95,30 +97,25 @@ fn fill(rt: &HostRuntime, folder: &str) -> Result<(), Fail> {
     make_file(rt, folder, "C", "cc")
 }
 
-fn lists_at(rt: &HostRuntime, folder: &str, names: &str) -> Result<bool, Memory> {
+fn lists_at(rt: &HostRuntime, folder: &str, names: &str) -> bool {
     lists(rt.alloc(), &mut DiskTree::new(rt), folder, names)
 }
 
-fn lists_below(rt: &HostRuntime, folder: &str, name: &str, names: &str) -> Result<bool, Memory> {
-    let path = join_path(rt.alloc(), folder, name)?;
-    lists_at(rt, path.as_str(), names)
+// Whether the folder has just its files, and a file is no folder.
+fn is_listed(rt: &HostRuntime, folder: &str) -> Result<bool, Memory> {
+    let path = join_path(rt.alloc(), folder, "C")?;
+    Ok(lists_at(rt, folder, "C b.net ") && lists_at(rt, path.as_str(), "absent"))
 }
 
-fn reads_below(
-    rt: &HostRuntime,
-    folder: &str,
-    name: &str,
-    most: usize,
-    bytes: &[u8],
-) -> Result<bool, Memory> {
-    let path = join_path(rt.alloc(), folder, name)?;
-    Ok(reads(
-        rt.alloc(),
-        &mut DiskTree::new(rt),
-        path.as_str(),
-        most,
-        bytes,
-    ))
+#[test]
+fn the_machines_folders_are_listed(rt: HostRuntime) -> Result<(), Fail> {
+    let folder = own_folder(&rt, "list")?;
+    assert!(rt; lists_at(&rt, folder.as_str(), "absent"));
+    fill(&rt, folder.as_str())?;
+    assert!(rt; is_listed(&rt, folder.as_str())?);
+    fs::remove_dir_all(&rt, folder.as_str())?;
+    assert!(rt; lists_at(&rt, folder.as_str(), "absent"));
+    Ok(())
 }
 
 fn lacks_below(rt: &HostRuntime, folder: &str, name: &str) -> Result<bool, Memory> {
@@ -126,50 +123,38 @@ fn lacks_below(rt: &HostRuntime, folder: &str, name: &str) -> Result<bool, Memor
     Ok(lacks(rt.alloc(), &mut DiskTree::new(rt), path.as_str()))
 }
 
-fn writes_below(
-    rt: &HostRuntime,
-    folder: &str,
-    name: &str,
-    pieces: &[&[u8]],
-) -> Result<bool, Memory> {
-    let path = join_path(rt.alloc(), folder, name)?;
-    Ok(writes(&mut DiskTree::new(rt), path.as_str(), pieces))
+// Whether the bytes of a file are read, at most so many, and others take their place.
+fn is_read_and_written<T: Tree>(alloc: Global, tree: &mut T, path: &str) -> bool
+    requires { T.begun tree.old ≡ None }
+{
+    reads(alloc, tree, path, 1, b"c")
+        && reads(alloc, tree, path, usize::MAX, b"cc")
+        && writes(tree, path, &[b"1".as_slice(), b"".as_slice()])
+        && reads(alloc, tree, path, 9, b"1")
 }
 
-#[test]
-fn the_machines_folders_are_listed(rt: HostRuntime) -> Result<(), Fail> {
-    let folder = own_folder(&rt, "list")?;
-    assert!(rt; lists_at(&rt, folder.as_str(), "absent")?);
-    fill(&rt, folder.as_str())?;
-    assert!(rt; lists_at(&rt, folder.as_str(), "C b.net ")?);
-    assert!(rt; lists_below(&rt, folder.as_str(), "C", "absent")?);
-    fs::remove_dir_all(&rt, folder.as_str())?;
-    assert!(rt; lists_at(&rt, folder.as_str(), "absent")?);
-    Ok(())
+fn is_kept_below(rt: &HostRuntime, folder: &str, name: &str) -> Result<bool, Memory> {
+    let path = join_path(rt.alloc(), folder, name)?;
+    Ok(is_read_and_written(rt.alloc(), &mut DiskTree::new(rt), path.as_str()))
+}
+
+fn writes_below(rt: &HostRuntime, folder: &str, name: &str) -> Result<bool, Memory> {
+    let path = join_path(rt.alloc(), folder, name)?;
+    Ok(writes(&mut DiskTree::new(rt), path.as_str(), &[]))
 }
 
 #[test]
 fn the_machines_files_are_read_and_written(rt: HostRuntime) -> Result<(), Fail> {
     let folder = own_folder(&rt, "files")?;
     fill(&rt, folder.as_str())?;
-    assert!(rt; reads_below(&rt, folder.as_str(), "C", 1, b"c")?);
-    assert!(rt; reads_below(&rt, folder.as_str(), "C", usize::MAX, b"cc")?);
+    assert!(rt; is_kept_below(&rt, folder.as_str(), "C")?);
     // a folder is no file, and nothing lies under a file
     assert!(rt; lacks_below(&rt, folder.as_str(), "x.net")?);
     assert!(rt; lacks_below(&rt, folder.as_str(), "C/b")?);
-    assert!(rt;
-        writes_below(
-            &rt,
-            folder.as_str(),
-            "C",
-            &[b"1".as_slice(), b"".as_slice()]
-        )?
-    );
-    assert!(rt; reads_below(&rt, folder.as_str(), "C", 9, b"1")?);
     // no folder is made
-    assert!(rt; !writes_below(&rt, folder.as_str(), "no/C", &[])?);
-    assert!(rt; !writes(&mut DiskTree::new(&rt), "/dev/full", &[b"x".as_slice()]));
+    assert!(rt; !writes_below(&rt, folder.as_str(), "no/C")?);
     fs::remove_dir_all(&rt, folder.as_str())?;
+    assert!(rt; !writes(&mut DiskTree::new(&rt), "/dev/full", &[b"x".as_slice()]));
     Ok(())
 }
 

@@ -1,6 +1,6 @@
-ghost use Rattle.std.specs.Prelude.{◌≡◌};
+ghost use Rattle.std.specs.Prelude.{◌≡◌, None};
 
-use crate::tests::looks::{lacks, lists, reads, spaced, text, writes};
+use crate::tests::looks::{lacks, lists, reads, writes};
 use acl_days::Day;
 use acl_host::{
     Clock, ClockFault, ListFault, ReadFault, Sink, Tree, WriteFault, join_path, listing,
@@ -29,20 +29,20 @@ static FILES: [(&str, &[u8]); 5] = [
 ];
 
 // Whether the tree tells of its files as it is to.
-fn is_looked_at(alloc: Global, tree: &mut MemTree) -> Result<bool, Memory> {
-    Ok(
-        lists(alloc, tree, "def", "B.net a.svc n.net ")?
-            && lists(alloc, tree, "de", "absent")?
-            && reads(alloc, tree, "def/n.net", 2, b"A ")
-            && reads(alloc, tree, "def/n.net", 9, b"A = ")
-            && lacks(alloc, tree, "def"),
-    )
+fn is_looked_at<T: Tree>(alloc: Global, tree: &mut T) -> bool
+    ensures { T.begun tree.new ≡ T.begun tree.old }
+{
+    lists(alloc, tree, "def", "B.net a.svc n.net ")
+        && lists(alloc, tree, "de", "absent")
+        && reads(alloc, tree, "def/n.net", 2, b"A ")
+        && reads(alloc, tree, "def/n.net", 9, b"A = ")
+        && lacks(alloc, tree, "def")
 }
 
 #[test]
 fn a_tree_in_memory_is_looked_at(rt: HostRuntime) -> Result<(), Fail> {
     let mut tree = tree_of(rt.alloc(), &FILES)?;
-    assert!(rt; is_looked_at(rt.alloc(), &mut tree)?);
+    assert!(rt; is_looked_at(rt.alloc(), &mut tree));
     Ok(())
 }
 
@@ -53,68 +53,74 @@ fn a_file_in_memory_is_written(rt: HostRuntime) {
     assert!(rt; tree.file("x") == Some(b"hi".as_slice()));
 }
 
-// The bytes of the whole file, or its fault.
-fn whole_text<T: Tree>(alloc: Global, tree: &mut T, path: &str, most: u32) -> Result<String, Memory>
+// Whether these are the bytes of the whole file.
+fn gives<T: Tree>(alloc: Global, tree: &mut T, path: &str, most: u32, bytes: &[u8]) -> bool
     ensures { T.begun tree.new ≡ T.begun tree.old }
 {
     match read_whole(alloc, tree, path, most as usize, Code::TooLong) {
-        Ok(bytes) => Ok(format!(in alloc; "{}", text(bytes.as_slice()))?),
-        Err(ReadFault::Fault(fault)) => {
-            let label = text(fault.label.as_slice());
-            Ok(format!(in alloc; "{:?} {label}", fault.code)?)
-        }
-        Err(_) => Ok(String::from_str(alloc, "failed")?),
+        Ok(read) => read.as_slice() == bytes,
+        Err(_) => false,
     }
 }
 
-// The names of the folder, each with a space behind it, or the folder's fault.
-fn listing_text<T: Tree>(alloc: Global, tree: &mut T, dir: &str) -> Result<String, Memory>
+// Whether the file is refused, since it is longer.
+fn is_longer<T: Tree>(alloc: Global, tree: &mut T, path: &str, most: u32) -> bool
+    ensures { T.begun tree.new ≡ T.begun tree.old }
+{
+    match read_whole(alloc, tree, path, most as usize, Code::TooLong) {
+        Err(ReadFault::Fault(fault)) => {
+            fault.code == Code::TooLong && fault.label.as_slice() == path.as_bytes()
+        }
+        _ => false,
+    }
+}
+
+// Whether the folder has just these files.
+fn has_three<T: Tree>(alloc: Global, tree: &mut T, dir: &str, files: [&str; 3]) -> bool
     ensures { T.begun tree.new ≡ T.begun tree.old }
 {
     match listing(alloc, tree, dir) {
-        Ok(names) => spaced(alloc, names.as_slice()),
-        Err(ListFault::Fault(fault)) => Ok(format!(in alloc; "{:?}", fault.code)?),
-        Err(_) => Ok(String::from_str(alloc, "failed")?),
+        Ok(names) => match names.as_slice() {
+            [one, two, three] => [one.as_str(), two.as_str(), three.as_str()] == files,
+            _ => false,
+        },
+        Err(_) => false,
     }
 }
 
-fn gives<T: Tree>(
-    alloc: Global,
-    tree: &mut T,
-    path: &str,
-    most: u32,
-    text: &str,
-) -> Result<bool, Memory>
+fn is_no_folder<T: Tree>(alloc: Global, tree: &mut T, dir: &str) -> bool
     ensures { T.begun tree.new ≡ T.begun tree.old }
 {
-    Ok(whole_text(alloc, tree, path, most)?.as_str() == text)
+    match listing(alloc, tree, dir) {
+        Err(ListFault::Fault(fault)) => fault.code == Code::NoFile,
+        _ => false,
+    }
 }
 
-fn names<T: Tree>(alloc: Global, tree: &mut T, dir: &str, text: &str) -> Result<bool, Memory>
+fn is_read_whole<T: Tree>(alloc: Global, tree: &mut T) -> bool
     ensures { T.begun tree.new ≡ T.begun tree.old }
 {
-    Ok(listing_text(alloc, tree, dir)?.as_str() == text)
+    gives(alloc, tree, "def/n.net", 4, b"A = ")
+        && is_longer(alloc, tree, "def/n.net", 3)
+        && has_three(alloc, tree, "def/", ["B.net", "a.svc", "n.net"])
+        && is_no_folder(alloc, tree, "no")
 }
 
 #[test]
 fn whole_files_are_read(rt: HostRuntime) -> Result<(), Fail> {
-    let alloc = rt.alloc();
-    let mut tree = tree_of(alloc, &FILES)?;
-    assert!(rt; gives(alloc, &mut tree, "def/n.net", 4, "A = ")?);
-    assert!(rt; gives(alloc, &mut tree, "def/n.net", 3, "TooLong def/n.net")?);
-    assert!(rt; names(alloc, &mut tree, "def/", "B.net a.svc n.net ")?);
-    assert!(rt; names(alloc, &mut tree, "no", "NoFile")?);
+    let mut tree = tree_of(rt.alloc(), &FILES)?;
+    assert!(rt; is_read_whole(rt.alloc(), &mut tree));
     Ok(())
 }
 
 // Whether the second listing and the first reading fail alone.
-fn fails_once(alloc: Global, tree: &mut MemTree) -> Result<bool, Memory> {
-    Ok(
-        lists(alloc, tree, "a", "absent")?
-            && lists(alloc, tree, "a", "failed")?
-            && !lacks(alloc, tree, "a")
-            && lacks(alloc, tree, "a"),
-    )
+fn fails_once<T: Tree>(alloc: Global, tree: &mut T) -> bool
+    ensures { T.begun tree.new ≡ T.begun tree.old }
+{
+    lists(alloc, tree, "a", "absent")
+        && lists(alloc, tree, "a", "failed")
+        && !lacks(alloc, tree, "a")
+        && lacks(alloc, tree, "a")
 }
 
 #[test]
@@ -122,27 +128,38 @@ fn listed_calls_fail(rt: HostRuntime) -> Result<(), Fail> {
     let mut tree = MemTree::new(rt.alloc());
     tree.fail(Op::List, 2)?;
     tree.fail(Op::Read, 1)?;
-    assert!(rt; fails_once(rt.alloc(), &mut tree)?);
+    assert!(rt; fails_once(rt.alloc(), &mut tree));
     Ok(())
+}
+
+// Whether one file is written, and the next one fails.
+fn is_written_once<T: Tree>(tree: &mut T) -> bool
+    requires { T.begun tree.old ≡ None }
+{
+    writes(tree, "one", &[]) && write_file(tree, "two", &[]) == Err(WriteFault::Failed)
 }
 
 #[test]
 fn a_writing_fails(rt: HostRuntime) -> Result<(), Fail> {
     let mut tree = MemTree::new(rt.alloc());
     tree.fail(Op::Begin, 2)?;
-    assert!(rt; writes(&mut tree, "one", &[]));
-    assert!(rt; write_file(&mut tree, "two", &[]) == Err(WriteFault::Failed));
-    assert!(rt; tree.file("two").is_none());
+    assert!(rt; is_written_once(&mut tree));
+    assert!(rt; tree.file("one").is_some() && tree.file("two").is_none());
     Ok(())
+}
+
+// Whether two texts are written, and one between them is not.
+fn is_written_around<S: Sink>(sink: &mut S) -> bool {
+    sink.write(b"hi").is_ok()
+        && sink.write(b"lost") == Err(WriteFault::Failed)
+        && sink.write(b"!").is_ok()
 }
 
 #[test]
 fn a_sink_in_memory_is_written(rt: HostRuntime) -> Result<(), Fail> {
     let mut sink = MemSink::new(rt.alloc());
     sink.fail(2)?;
-    sink.write(b"hi")?;
-    assert!(rt; sink.write(b"lost") == Err(WriteFault::Failed));
-    sink.write(b"!")?;
+    assert!(rt; is_written_around(&mut sink));
     assert!(rt; sink.as_slice() == b"hi!".as_slice());
     Ok(())
 }

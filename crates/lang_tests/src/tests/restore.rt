@@ -156,31 +156,33 @@ const ARGUMENTS: &[u8] = b"## iptables INPUT inet
 -A INPUT -j I_web
 ";
 
-// The text in the language of the document's one section.
-fn text_in<L: Language<Section = Section>>(
+// Whether the document is one section, which has this text in the language.
+fn is_text_in<L: Language<Section = Section>>(
     alloc: Global,
     doc: &Option<Doc>,
-) -> Result<Whole, Fail> {
+    text: &[u8],
+) -> Result<bool, Fail> {
     let mut out = Whole::new(alloc);
     if let Some(doc) = doc {
         if let [section] = doc.as_slice() {
             L::put_section(section, &mut out)?;
         }
     }
-    Ok(out)
+    Ok(out.as_slice() == text)
 }
 
 #[test]
-fn a_filter_is_one_document_in_both_languages(rt: HostRuntime) -> Result<(), Fail> {
-    let alloc = rt.alloc();
-    let restored = read_restore(alloc, RESTORED)?;
-    let arguments = read_document::<Iptables>(alloc, ARGUMENTS)?;
-    assert_eq!(rt;
-        text_in::<Iptables>(alloc, &restored)?.as_slice(),
-        ARGUMENTS
-    );
-    assert_eq!(rt; text_in::<Restore>(alloc, &arguments)?.as_slice(), RESTORED);
-    assert!(rt; read_restore(alloc, ARGUMENTS)?.is_none());
-    assert!(rt; read_document::<Iptables>(alloc, RESTORED)?.is_none());
+fn what_is_restored_is_put_as_arguments(rt: HostRuntime) -> Result<(), Fail> {
+    let restored = read_restore(rt.alloc(), RESTORED)?;
+    assert!(rt; is_text_in::<Iptables>(rt.alloc(), &restored, ARGUMENTS)?);
+    assert!(rt; read_restore(rt.alloc(), ARGUMENTS)?.is_none());
+    Ok(())
+}
+
+#[test]
+fn arguments_are_put_as_what_is_restored(rt: HostRuntime) -> Result<(), Fail> {
+    let arguments = read_document::<Iptables>(rt.alloc(), ARGUMENTS)?;
+    assert!(rt; is_text_in::<Restore>(rt.alloc(), &arguments, RESTORED)?);
+    assert!(rt; read_document::<Iptables>(rt.alloc(), RESTORED)?.is_none());
     Ok(())
 }

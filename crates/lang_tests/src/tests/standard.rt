@@ -201,10 +201,10 @@ fn told(
 #[test]
 fn a_document_is_told(rt: HostRuntime) -> Result<(), Fail> {
     let alloc = rt.alloc();
-    assert_eq!(rt; told(alloc, DENYING, 0, &PACKET)?, Some(DENIED));
-    assert_eq!(rt; told(alloc, REMARKS, 0, &PACKET)?, Some(ACCEPTED));
-    assert_eq!(rt; told(alloc, REMARKS, 0, &PACKET_OF_SIX)?, None);
-    assert_eq!(rt; told(alloc, REMARKS, 1, &PACKET)?, None);
+    assert!(rt; told(alloc, DENYING, 0, &PACKET)? == Some(DENIED));
+    assert!(rt; told(alloc, REMARKS, 0, &PACKET)? == Some(ACCEPTED));
+    assert!(rt; told(alloc, REMARKS, 0, &PACKET_OF_SIX)?.is_none());
+    assert!(rt; told(alloc, REMARKS, 1, &PACKET)?.is_none());
     assert!(rt; read(alloc, b"access-list 10 permit any\n")?.is_none());
     Ok(())
 }

@@ -32,7 +32,7 @@ fn fault_line(alloc: Global, fault: &Fault) -> Result<Whole, PutFault> {
 }
 
 // The line of the fault, or what else is answered.
-pub(crate) fn refusal_line(alloc: Global, refusal: &LoadFault) -> Result<Whole, PutFault> {
+fn refusal_line(alloc: Global, refusal: &LoadFault) -> Result<Whole, PutFault> {
     match refusal {
         LoadFault::Fault(fault) => fault_line(alloc, fault),
         LoadFault::List => text_line(alloc, b"list"),
@@ -41,9 +41,14 @@ pub(crate) fn refusal_line(alloc: Global, refusal: &LoadFault) -> Result<Whole, 
     }
 }
 
-pub(crate) fn line_of<T: Tree>(alloc: Global, tree: &mut T) -> Result<Whole, PutFault> {
+fn line_of<T: Tree>(alloc: Global, tree: &mut T) -> Result<Whole, PutFault> {
     match loaded(alloc, tree) {
         Ok(_) => text_line(alloc, b"loaded"),
         Err(refusal) => refusal_line(alloc, &refusal),
     }
+}
+
+// Whether this is the line that is told of the load.
+pub(crate) fn tells<T: Tree>(alloc: Global, tree: &mut T, line: &[u8]) -> Result<bool, PutFault> {
+    Ok(line_of(alloc, tree)?.as_slice() == line)
 }

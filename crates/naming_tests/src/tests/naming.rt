@@ -5,7 +5,6 @@ use acl_packet::Family;
 use acl_sets::{Range, RangeSet};
 use acl_text::{Code, Place, Refusal};
 use std::alloc::Global;
-use std::process::Abort;
 use std::test::Fail;
 
 const MOST_BYTES: usize = 4_194_304;
@@ -196,113 +195,128 @@ static NAMES: [Case; 8] = [
     },
 ];
 
-fn expect_slip<T: Drop>(
-    rt: &impl Abort,
+// Whether the answer is this slip.
+fn is_slip<T: Drop>(
     answer: Result<T, Refusal>,
     file: u32,
     code: Code,
     line: u32,
     word: &[u8],
-) {
+) -> bool {
     match answer {
         Err(Refusal::Slip(slip)) => {
-            assert_eq!(rt; slip.code, code);
-            assert_eq!(rt; slip.place, Place { file, line });
-            assert_eq!(rt; slip.word.as_slice(), word);
+            slip.code == code && slip.place == Place { file, line } && slip.word.as_slice() == word
         }
-        Err(Refusal::Memory) => assert!(rt; false),
-        Ok(_) => assert!(rt; false),
+        Err(Refusal::Memory) => false,
+        Ok(_) => false,
     }
 }
 
-fn networks(rt: &impl Abort, base: Base, file: u32, text: &[u8]) -> Result<Base, Refusal> {
-    assert!(rt; text.len() <= MOST_BYTES);
+fn networks(base: Base, file: u32, text: &[u8]) -> Result<Base, Refusal> {
+    if text.len() > MOST_BYTES {
+        return Err(Refusal::Memory);
+    }
     read_networks(base, file, text)
 }
 
-fn services(rt: &impl Abort, base: Base, file: u32, text: &[u8]) -> Result<Base, Refusal> {
-    assert!(rt; text.len() <= MOST_BYTES);
+fn services(base: Base, file: u32, text: &[u8]) -> Result<Base, Refusal> {
+    if text.len() > MOST_BYTES {
+        return Err(Refusal::Memory);
+    }
     read_services(base, file, text)
 }
 
-fn expect_network_slip(rt: &impl Abort, alloc: Global, case: &Case) {
-    let answer = networks(rt, Base::new(alloc), 3, case.text);
-    expect_slip(rt, answer, 3, case.code, case.line, case.word);
+fn slips_in_networks(alloc: Global, case: &Case) -> bool {
+    let answer = networks(Base::new(alloc), 3, case.text);
+    is_slip(answer, 3, case.code, case.line, case.word)
 }
 
-fn expect_service_slip(rt: &impl Abort, alloc: Global, case: &Case) {
-    let answer = services(rt, Base::new(alloc), 4, case.text);
-    expect_slip(rt, answer, 4, case.code, case.line, case.word);
+fn slips_in_services(alloc: Global, case: &Case) -> bool {
+    let answer = services(Base::new(alloc), 4, case.text);
+    is_slip(answer, 4, case.code, case.line, case.word)
 }
 
-fn expect_check_slip(rt: &impl Abort, alloc: Global, case: &Case) -> Result<(), Fail> {
-    let base = networks(rt, Base::new(alloc), 5, case.text)?;
-    expect_slip(rt, check_base(base), 5, case.code, case.line, case.word);
-    Ok(())
+// Whether the networks, which are read, slip by this name.
+fn slips_at(
+    alloc: Global,
+    text: &[u8],
+    code: Code,
+    line: u32,
+    word: &[u8],
+) -> Result<bool, Refusal> {
+    let base = networks(Base::new(alloc), 5, text)?;
+    Ok(is_slip(check_base(base), 5, code, line, word))
 }
 
-fn expect_ranges(rt: &impl Abort, answer: Result<RangeSet, Lookup>, ranges: &[Range]) {
+fn example(alloc: Global, first: &[u8], second: &[u8]) -> Result<Checked, Refusal> {
+    let base = networks(Base::new(alloc), 0, first)?;
+    check_base(services(base, 1, second)?)
+}
+
+fn has_ranges(answer: Result<RangeSet, Lookup>, ranges: &[Range]) -> bool {
     match answer {
-        Ok(set) => assert_eq!(rt; set.ranges(), ranges),
-        Err(_) => assert!(rt; false),
+        Ok(set) => set.ranges() == ranges,
+        Err(_) => false,
     }
 }
 
-fn expect_none(rt: &impl Abort, answer: Result<RangeSet, Lookup>, lookup: Lookup) {
+fn is_refused(answer: Result<RangeSet, Lookup>, lookup: Lookup) -> bool {
     match answer {
-        Ok(_) => assert!(rt; false),
-        Err(found) => assert_eq!(rt; found, lookup),
+        Ok(_) => false,
+        Err(found) => found == lookup,
     }
-}
-
-fn example(rt: &impl Abort, alloc: Global, first: &[u8], second: &[u8]) -> Result<Checked, Fail> {
-    let base = networks(rt, Base::new(alloc), 0, first)?;
-    let base = services(rt, base, 1, second)?;
-    Ok(check_base(base)?)
 }
 
 #[test]
 fn slips_of_networks(rt: HostRuntime) {
-    for case in NETWORKS.iter() {
-        expect_network_slip(&rt, rt.alloc(), case);
+    for (place, case) in NETWORKS.iter().enumerate() {
+        assert!(rt; slips_in_networks(rt.alloc(), case), "case {place}");
     }
 }
 
 #[test]
 fn slips_of_services(rt: HostRuntime) {
-    for case in SERVICES.iter() {
-        expect_service_slip(&rt, rt.alloc(), case);
+    for (place, case) in SERVICES.iter().enumerate() {
+        assert!(rt; slips_in_services(rt.alloc(), case), "case {place}");
     }
 }
 
 #[test]
 fn an_undefined_name_comes_before_a_cycle(rt: HostRuntime) -> Result<(), Fail> {
-    for case in NAMES.iter() {
-        expect_check_slip(&rt, rt.alloc(), case)?;
+    for (place, case) in NAMES.iter().enumerate() {
+        let slips = slips_at(rt.alloc(), case.text, case.code, case.line, case.word)?;
+        assert!(rt; slips, "case {place}");
     }
     Ok(())
 }
 
+// A text, and the slip that is told of it behind another file, which defines A.
+static SECONDS: [Case; 2] = [
+    Case {
+        text: b"\nC = B\n A = 1.2.3.4",
+        code: Code::Twice,
+        line: 3,
+        word: b"A",
+    },
+    Case {
+        text: b"# A\n1.2.3.5\n",
+        code: Code::NoDefinition,
+        line: 2,
+        word: b"1.2.3.5",
+    },
+];
+
+fn slips_behind(alloc: Global, case: &Case) -> Result<bool, Refusal> {
+    let base = networks(Base::new(alloc), 0, b"A = 1.2.3.4")?;
+    let answer = networks(base, 2, case.text);
+    Ok(is_slip(answer, 2, case.code, case.line, case.word))
+}
+
 #[test]
 fn files_are_read_one_after_the_other(rt: HostRuntime) -> Result<(), Fail> {
-    let base = networks(&rt, Base::new(rt.alloc()), 0, b"A = 1.2.3.4")?;
-    expect_slip(
-        &rt,
-        networks(&rt, base, 2, b"\nC = B\n A = 1.2.3.4"),
-        2,
-        Code::Twice,
-        3,
-        b"A",
-    );
-    let base = networks(&rt, Base::new(rt.alloc()), 0, b"A = 1.2.3.4")?;
-    expect_slip(
-        &rt,
-        networks(&rt, base, 1, b"# A\n1.2.3.5\n"),
-        1,
-        Code::NoDefinition,
-        2,
-        b"1.2.3.5",
-    );
+    for (place, case) in SECONDS.iter().enumerate() {
+        assert!(rt; slips_behind(rt.alloc(), case)?, "case {place}");
+    }
     Ok(())
 }
 
@@ -311,40 +325,66 @@ static FIRST: &[u8] =
 
 static SECOND: &[u8] = b"DNS = 53/tcp 53/udp\nWEB = 80-81/tcp DNS\n";
 
+const HOST: Range = Range {
+    low: 0xc000_020a,
+    high: 0xc000_020a,
+};
+
+const HOSTS: Range = Range {
+    high: 0xc000_020b,
+    ..HOST
+};
+
+// A name, its family, and the addresses.
+static ADDRESSES: [(Family, &[u8], &[Range]); 4] = [
+    (Family::V4, b"WEB", &[HOST]),
+    (Family::V4, b"ALL", &[HOSTS]),
+    (Family::V6, b"DB", &[]),
+    (Family::V4, b"NONE", &[]),
+];
+
 #[test]
 fn addresses_of_names(rt: HostRuntime) -> Result<(), Fail> {
-    let alloc = rt.alloc();
-    let base = example(&rt, alloc, FIRST, SECOND)?;
-    let web = [Range {
-        low: 0xc000_020a,
-        high: 0xc000_020a,
-    }];
-    let all = [Range {
-        low: 0xc000_020a,
-        high: 0xc000_020b,
-    }];
-    expect_ranges(&rt, networks_of(alloc, &base, Family::V4, b"WEB"), &web);
-    expect_ranges(&rt, networks_of(alloc, &base, Family::V4, b"ALL"), &all);
-    expect_ranges(&rt, networks_of(alloc, &base, Family::V6, b"DB"), &[]);
-    expect_ranges(&rt, networks_of(alloc, &base, Family::V4, b"NONE"), &[]);
-    expect_none(
-        &rt,
-        networks_of(alloc, &base, Family::V4, b"DNS"),
-        Lookup::Unknown,
-    );
+    let base = example(rt.alloc(), FIRST, SECOND)?;
+    for (place, (family, name, ranges)) in ADDRESSES.iter().enumerate() {
+        let answer = networks_of(rt.alloc(), &base, *family, name);
+        assert!(rt; has_ranges(answer, ranges), "name {place}");
+    }
+    let answer = networks_of(rt.alloc(), &base, Family::V4, b"DNS");
+    assert!(rt; is_refused(answer, Lookup::Unknown));
+    Ok(())
+}
+
+const DNS: Range = Range { low: 53, high: 53 };
+
+const WEB: Range = Range { low: 80, high: 81 };
+
+// A name, a protocol, and the ports.
+static PORTS: [(u8, &[u8], &[Range]); 2] = [(17, b"DNS", &[DNS]), (6, b"WEB", &[DNS, WEB])];
+
+// A name, a protocol, and why it has no ports.
+static NO_PORTS: [(u8, &[u8], Lookup); 2] = [
+    (132, b"DNS", Lookup::NoPort),
+    (6, b"ALL", Lookup::Unknown),
+];
+
+#[test]
+fn ports_of_names(rt: HostRuntime) -> Result<(), Fail> {
+    let base = example(rt.alloc(), FIRST, SECOND)?;
+    for (place, (proto, name, ranges)) in PORTS.iter().enumerate() {
+        let answer = ports_of(rt.alloc(), &base, *proto, name);
+        assert!(rt; has_ranges(answer, ranges), "name {place}");
+    }
     Ok(())
 }
 
 #[test]
-fn ports_of_names(rt: HostRuntime) -> Result<(), Fail> {
-    let alloc = rt.alloc();
-    let base = example(&rt, alloc, FIRST, SECOND)?;
-    let dns = [Range { low: 53, high: 53 }];
-    let web = [Range { low: 53, high: 53 }, Range { low: 80, high: 81 }];
-    expect_ranges(&rt, ports_of(alloc, &base, 17, b"DNS"), &dns);
-    expect_ranges(&rt, ports_of(alloc, &base, 6, b"WEB"), &web);
-    expect_none(&rt, ports_of(alloc, &base, 132, b"DNS"), Lookup::NoPort);
-    expect_none(&rt, ports_of(alloc, &base, 6, b"ALL"), Lookup::Unknown);
+fn names_without_ports(rt: HostRuntime) -> Result<(), Fail> {
+    let base = example(rt.alloc(), FIRST, SECOND)?;
+    for (place, (proto, name, lookup)) in NO_PORTS.iter().enumerate() {
+        let answer = ports_of(rt.alloc(), &base, *proto, name);
+        assert!(rt; is_refused(answer, *lookup), "name {place}");
+    }
     Ok(())
 }
 
@@ -378,71 +418,61 @@ fn rising(alloc: Global, word: &str) -> Result<Vec<u8>, Fail> {
     Ok(text)
 }
 
+const LAST: Range = Range {
+    low: 0xc000_0201,
+    high: 0xc000_0201,
+};
+
+// Whether the name stands for the one address in the networks.
+fn leads_to_last(alloc: Global, text: &[u8], name: &[u8]) -> Result<bool, Refusal> {
+    let base = example(alloc, text, b"")?;
+    Ok(has_ranges(networks_of(alloc, &base, Family::V4, name), &[LAST]))
+}
+
 // The chain and the name at its far end, whichever way it goes.
 #[test]
 fn a_long_chain_is_followed_to_its_end(rt: HostRuntime) -> Result<(), Fail> {
-    let alloc = rt.alloc();
-    let last = [Range {
-        low: 0xc000_0201,
-        high: 0xc000_0201,
-    }];
-    let up = example(&rt, alloc, &rising(alloc, "192.0.2.1")?, b"")?;
-    expect_ranges(&rt, networks_of(alloc, &up, Family::V4, b"N8000"), &last);
-    let down = example(&rt, alloc, &falling(alloc, "192.0.2.1")?, b"")?;
-    expect_ranges(&rt, networks_of(alloc, &down, Family::V4, b"N0"), &last);
-    Ok(())
-}
-
-// A text of many names, and the slip that is told of it.
-fn expect_long_slip(
-    rt: &impl Abort,
-    alloc: Global,
-    text: &[u8],
-    code: Code,
-    line: u32,
-    word: &[u8],
-) -> Result<(), Fail> {
-    let base = networks(rt, Base::new(alloc), 0, text)?;
-    expect_slip(rt, check_base(base), 0, code, line, word);
+    let up = rising(rt.alloc(), "192.0.2.1")?;
+    assert!(rt; leads_to_last(rt.alloc(), &up, b"N8000")?);
+    let down = falling(rt.alloc(), "192.0.2.1")?;
+    assert!(rt; leads_to_last(rt.alloc(), &down, b"N0")?);
     Ok(())
 }
 
 #[test]
 fn a_ring_behind_a_long_chain_is_found(rt: HostRuntime) -> Result<(), Fail> {
     let text = falling(rt.alloc(), "N7999")?;
-    expect_long_slip(&rt, rt.alloc(), &text, Code::Cycle, 8000, b"N7999")
+    assert!(rt; slips_at(rt.alloc(), &text, Code::Cycle, 8000, b"N7999")?);
+    Ok(())
 }
 
 // All names are one ring, and a name behind it is defined nowhere.
 #[test]
 fn a_ring_of_all_names_is_found(rt: HostRuntime) -> Result<(), Fail> {
     let mut text = rising(rt.alloc(), "N8000")?;
-    expect_long_slip(&rt, rt.alloc(), &text, Code::Cycle, 1, b"N0")?;
+    assert!(rt; slips_at(rt.alloc(), &text, Code::Cycle, 1, b"N0")?);
     text.extend_from_slice(b"Z = Z0\n")?;
-    expect_long_slip(&rt, rt.alloc(), &text, Code::Undefined, 8002, b"Z0")
+    assert!(rt; slips_at(rt.alloc(), &text, Code::Undefined, 8002, b"Z0")?);
+    Ok(())
+}
+
+// As many items as there may be, and a text behind them that slips.
+fn full_slips(alloc: Global) -> Result<bool, Fail> {
+    let full = many(alloc, 16384, b"A =", b" 1.2.3.4")?;
+    let base = networks(Base::new(alloc), 0, &full)?;
+    let answer = networks(base, 1, b"B =\n = \n");
+    Ok(is_slip(answer, 1, Code::BadName, 2, b""))
+}
+
+fn over_slips(alloc: Global) -> Result<bool, Fail> {
+    let over = many(alloc, 16385, b"A =", b"\n B")?;
+    let answer = networks(Base::new(alloc), 0, &over);
+    Ok(is_slip(answer, 0, Code::TooMany, 16386, b"B"))
 }
 
 #[test]
 fn items_up_to_the_limit(rt: HostRuntime) -> Result<(), Fail> {
-    let alloc = rt.alloc();
-    let full = many(alloc, 16384, b"A =", b" 1.2.3.4")?;
-    let base = networks(&rt, Base::new(alloc), 0, &full)?;
-    expect_slip(
-        &rt,
-        networks(&rt, base, 1, b"B =\n = \n"),
-        1,
-        Code::BadName,
-        2,
-        b"",
-    );
-    let over = many(alloc, 16385, b"A =", b"\n B")?;
-    expect_slip(
-        &rt,
-        networks(&rt, Base::new(alloc), 0, &over),
-        0,
-        Code::TooMany,
-        16386,
-        b"B",
-    );
+    assert!(rt; full_slips(rt.alloc())?);
+    assert!(rt; over_slips(rt.alloc())?);
     Ok(())
 }

@@ -47,8 +47,8 @@ pub(crate) fn are_written<P: Platform>(
 #[test]
 fn each_code_counts(rt: HostRuntime) -> Result<(), Fail> {
     let rule = unreachable(rt.alloc())?;
-    assert_eq!(rt; Junos.count_rule(&rule), 5);
-    assert_eq!(rt; Nftables.count_rule(&rule), 4);
-    assert_eq!(rt; Iptables.count_rule(&rule), 3);
+    assert!(rt; Junos.count_rule(&rule) == 5);
+    assert!(rt; Nftables.count_rule(&rule) == 4);
+    assert!(rt; Iptables.count_rule(&rule) == 3);
     Ok(())
 }

@@ -86,17 +86,15 @@ impl RowForm<Combination> for InNumbers {
     }
 }
 
+const EACH: &[u8] = b"1 6 80\n1 6 443\n2 6 80\n2 6 443\n1 17 80\n1 17 443\n2 17 80\n2 17 443\n";
+
 #[test]
 fn writes_each_combination(rt: HostRuntime) -> Result<(), Fail> {
     let alloc = rt.alloc();
     let rule = web(alloc)?;
     let mut out = Whole::new(alloc);
     put_combinations(&rule, &InNumbers, &mut out)?;
-    assert_eq!(rt;
-        out.as_slice(),
-        b"1 6 80\n1 6 443\n2 6 80\n2 6 443\n1 17 80\n1 17 443\n2 17 80\n2 17 443\n".as_slice()
-    );
-    assert_eq!(rt; count_combinations(&rule), 8);
+    assert!(rt; out.as_slice() == EACH && count_combinations(&rule) == 8);
     Ok(())
 }
 
@@ -166,7 +164,10 @@ fn the_first_rule_or_the_ending_decides(rt: HostRuntime) -> Result<(), Fail> {
     };
     let filter = filter(alloc, &head, rules)?;
     for (place, (packet, outcome)) in OUTCOMES.iter().enumerate() {
-        assert_eq!(rt; filter_outcome(&filter, packet), *outcome, "packet {place}");
+        assert!(rt;
+            filter_outcome(&filter, packet) == *outcome,
+            "packet {place}"
+        );
     }
     Ok(())
 }

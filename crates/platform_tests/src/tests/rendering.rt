@@ -23,7 +23,7 @@ const EDGE: &[u8] =
 fn a_file_holds_what_is_rendered(rt: HostRuntime) -> Result<(), Fail> {
     let alloc = rt.alloc();
     let edge = filter(alloc, &EDGE_HEAD, Rules::new(alloc))?;
-    assert_eq!(rt; count_within_limits(&edge), Ok(1));
+    assert!(rt; count_within_limits(&edge) == Ok(1));
     let mut text = Whole::new(alloc);
     let mut tree = MemTree::new(alloc);
     tree.begin("out/a.acl")?;
@@ -31,7 +31,6 @@ fn a_file_holds_what_is_rendered(rt: HostRuntime) -> Result<(), Fail> {
     render(alloc, Kind::Cisco, &filters, &mut text)?;
     render(alloc, Kind::Cisco, &filters, &mut tree)?;
     tree.finish()?;
-    assert_eq!(rt; tree.file("out/a.acl"), Some(text.as_slice()));
-    assert_eq!(rt; text.as_slice(), EDGE);
+    assert!(rt; text.as_slice() == EDGE && tree.file("out/a.acl") == Some(EDGE));
     Ok(())
 }

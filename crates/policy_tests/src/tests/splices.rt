@@ -147,6 +147,6 @@ fn a_reading_that_fails_is_outside(rt: HostRuntime) -> Result<(), Fail> {
         &[("pol/a.pol", b"#include 'b.inc'\n"), ("pol/b.inc", b"x")],
     )?;
     tree.fail(Op::Read, 2)?;
-    assert_eq!(rt; gathered(rt.alloc(), &mut tree)?.as_str(), "outside");
+    assert!(rt; gathered(rt.alloc(), &mut tree)?.as_str() == "outside");
     Ok(())
 }

@@ -20,6 +20,7 @@ fn shown(alloc: Global, word: &Token<'_>) -> Result<String, Memory> {
     Ok(format!(in alloc; "{}{form}{};", word.place().line, text(word.text()))?)
 }
 
+// The words of two lines, each with its line and form.
 fn words_of(alloc: Global, first: &[u8], second: &[u8]) -> Result<String, Memory>
     requires first { HasNoFeed first.now }
     requires second { HasNoFeed second.now }
@@ -49,7 +50,10 @@ fn words_have_forms_and_places(rt: HostRuntime) -> Result<(), Fail> {
         (b"x::\x01y a\x02::", b"\"\"", "1kx::;1x\x01;1x\x02;2q;"),
     ];
     for (first, second, words) in table {
-        assert_eq!(rt; words_of(rt.alloc(), first, second)?.as_str(), words);
+        assert!(rt;
+            words_of(rt.alloc(), first, second)?.as_str() == words,
+            "{words}"
+        );
     }
     Ok(())
 }
