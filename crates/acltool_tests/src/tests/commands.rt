@@ -253,11 +253,11 @@ fn a_failure_outside_is_told(rt: HostRuntime) -> Result<(), Fail> {
     for (words, policy) in &RUNS {
         let alloc = rt.alloc();
         assert!(rt;
-            is_cut_off(alloc, words, policy, &UNREAD, b"acltool: read failed\n")?,
+            is_cut_off(alloc, *words, *policy, &UNREAD, b"acltool: read failed\n")?,
             "{words}"
         );
         assert!(rt;
-            is_cut_off(alloc, words, policy, &UNTOLD, b"acltool: output failed\n")?,
+            is_cut_off(alloc, *words, *policy, &UNTOLD, b"acltool: output failed\n")?,
             "{words}"
         );
     }
