@@ -4,9 +4,8 @@ use acl_rows::{
     RowWords, Rows, Wildcard, WordForm, are_distinct, are_distinct_names, are_port_ranges,
     have_distinct_names, is_port_range, is_prefix_of, is_text_of,
 };
-use acl_text::{Memory, Out, PutFault};
-use std::alloc::{AllocError, Global};
-use std::test::Fail;
+use acl_text::{Out, PutFault};
+use std::alloc::Global;
 
 // Numbers, a row each.
 #[derive(Drop)]
@@ -142,34 +141,48 @@ fn takes_words_of_a_row(rt: HostRuntime) {
     }
 }
 
+fn count_few(alloc: Global, text: &[u8]) -> Option<usize> {
+    match RowWords::new(text).few(alloc) {
+        Ok(few) => Some(few.len()),
+        Err(_) => None,
+    }
+}
+
 #[test]
-fn tells_words_of_a_row(rt: HostRuntime) -> Result<(), Fail> {
+fn tells_words_of_a_row(rt: HostRuntime) {
     let words = RowWords::new(b"to  all");
     assert!(rt; words.begins_with(b"to") && !words.begins_with(b"t"));
-    assert!(rt; words.few(rt.alloc())?.len() == 3);
     assert!(rt; words.behind_first().text() == b" all".as_slice());
-    Ok(())
+    assert!(rt; count_few(rt.alloc(), b"to  all") == Some(3));
 }
 
-fn differ(alloc: Global, names: &[&[u8]]) -> Result<bool, AllocError> {
-    Ok(are_distinct_names(Vec::from_slice(alloc, names)?))
+fn differ(alloc: Global, names: &[&[u8]]) -> Option<bool> {
+    match Vec::from_slice(alloc, names) {
+        Ok(names) => Some(are_distinct_names(names)),
+        Err(_) => None,
+    }
 }
 
-fn numbers_differ(alloc: Global, numbers: &[u8]) -> Result<bool, AllocError> {
-    Ok(are_distinct(Vec::from_slice(alloc, numbers)?))
+fn numbers_differ(alloc: Global, numbers: &[u8]) -> Option<bool> {
+    match Vec::from_slice(alloc, numbers) {
+        Ok(numbers) => Some(are_distinct(numbers)),
+        Err(_) => None,
+    }
 }
 
-fn titles_differ(alloc: Global, one: &[u8], other: &[u8]) -> Result<bool, Memory> {
-    have_distinct_names(alloc, &[Titled { title: one }, Titled { title: other }])
+fn titles_differ(alloc: Global, one: &[u8], other: &[u8]) -> Option<bool> {
+    have_distinct_names(alloc, &[Titled { title: one }, Titled { title: other }]).ok()
 }
 
 #[test]
-fn tells_names(rt: HostRuntime) -> Result<(), Fail> {
+fn tells_names(rt: HostRuntime) {
     let alloc = rt.alloc();
-    assert!(rt; differ(alloc, &[b"b", b"a", b"ab"])? && !differ(alloc, &[b"b", b"a", b"b"])?);
-    assert!(rt; numbers_differ(alloc, &[7, 2, 5])? && !numbers_differ(alloc, &[7, 2, 7])?);
-    assert!(rt; titles_differ(alloc, b"b", b"ab")? && !titles_differ(alloc, b"b", b"b")?);
-    Ok(())
+    assert!(rt; differ(alloc, &[b"b", b"a", b"ab"]) == Some(true));
+    assert!(rt; differ(alloc, &[b"b", b"a", b"b"]) == Some(false));
+    assert!(rt; numbers_differ(alloc, &[7, 2, 5]) == Some(true));
+    assert!(rt; numbers_differ(alloc, &[7, 2, 7]) == Some(false));
+    assert!(rt; titles_differ(alloc, b"b", b"ab") == Some(true));
+    assert!(rt; titles_differ(alloc, b"b", b"b") == Some(false));
 }
 
 static PREFIXES: [(Family, u128, u8, bool); 8] = [
@@ -231,13 +244,9 @@ fn is_row_of_ports(text: &[u8]) -> bool {
 }
 
 #[test]
-fn writes_a_word_for_each(rt: HostRuntime) {
+fn tells_rows_of_words_and_port_ranges(rt: HostRuntime) {
     assert!(rt; is_row_of_numbers(b"numbers 7 10\n") && !is_row_of_numbers(b"numbers 7\n"));
     assert!(rt; is_row_of_ports(b"22:80 22\n"));
-}
-
-#[test]
-fn tells_port_ranges(rt: HostRuntime) {
     assert!(rt; are_port_ranges(&[(22, 22), (0, 65535)]) && !are_port_ranges(&[(22, 22), (2, 1)]));
     assert!(rt; !is_port_range((2, 1)));
 }

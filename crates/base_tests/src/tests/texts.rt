@@ -1,3 +1,5 @@
+ghost use Rattle.std.specs.Prelude.{◌≡◌, true};
+
 use acl_packet::{Family, Prefix};
 use acl_text::{
     Bytes, Cursor, Items, Memory, Place, PutFault, Whole, ahead, behind, contains_byte, next_word,
@@ -47,14 +49,20 @@ fn reads_numbers(rt: HostRuntime) {
     }
 }
 
+// Puts the least number and the greatest one, and what stands between.
+fn put_two(out: &mut Whole) -> Result<(), PutFault>
+    requires { out.old.is_open ≡ true }
+{
+    put_number(out, 0)?;
+    put_pieces(out, &[b" ", b"and "])?;
+    put_number(out, u128::MAX)
+}
+
 #[test]
-fn puts_numbers(rt: HostRuntime) -> Result<(), Fail> {
+fn puts_numbers(rt: HostRuntime) {
     let mut out = Whole::new(rt.alloc());
-    put_number(&mut out, 0)?;
-    put_pieces(&mut out, &[b" ", b"and "])?;
-    put_number(&mut out, u128::MAX)?;
+    assert!(rt; put_two(&mut out).is_ok());
     assert!(rt; out.as_slice() == b"0 and 340282366920938463463374607431768211455".as_slice());
-    Ok(())
 }
 
 // The examples of RFC 4291 section 2.2 and of RFC 5952 sections 4 and 5, the latter without a dotted tail.
@@ -177,21 +185,25 @@ const TEN: Prefix = Prefix {
     len: 8,
 };
 
-#[test]
-fn reads_the_one_spelling_of_a_prefix(rt: HostRuntime) {
-    assert!(rt; read_spelled_prefix(Family::V4, b"10.0.0.0/8") == Some(TEN));
-    assert!(rt; read_spelled_prefix(Family::V6, b"10.0.0.0/8").is_none());
-    assert!(rt; read_spelled_prefix(Family::V4, b"10.1.2.3/8").is_none());
-    assert!(rt; read_spelled_prefix(Family::V4, b"10.0.0.0").is_none());
+fn is_spelled_once() -> bool {
+    read_spelled_prefix(Family::V4, b"10.0.0.0/8") == Some(TEN)
+        && read_spelled_prefix(Family::V6, b"10.0.0.0/8").is_none()
+        && read_spelled_prefix(Family::V4, b"10.1.2.3/8").is_none()
+        && read_spelled_prefix(Family::V4, b"10.0.0.0").is_none()
+}
+
+fn put_addresses(out: &mut Whole) -> Result<(), PutFault>
+    requires { out.old.is_open ≡ true }
+{
+    put_address(out, Family::V4, 0x0102_0304)?;
+    put_address(out, Family::V6, 1)
 }
 
 #[test]
-fn puts_an_address(rt: HostRuntime) -> Result<(), Fail> {
+fn puts_an_address_of_each_family(rt: HostRuntime) {
     let mut out = Whole::new(rt.alloc());
-    put_address(&mut out, Family::V4, 0x0102_0304)?;
-    put_address(&mut out, Family::V6, 1)?;
+    assert!(rt; put_addresses(&mut out).is_ok());
     assert!(rt; out.as_slice() == b"1.2.3.4::1".as_slice());
-    Ok(())
 }
 
 static WILDCARDS: [(u8, &str); 4] = [
@@ -255,12 +267,32 @@ fn gives_the_bounds_of_words(rt: HostRuntime) {
     assert!(rt; next_word(b"", 0).is_none());
 }
 
+fn is_cut_at_a_byte() -> bool {
+    split_at_byte(b"A = B = C", b'=') == Some((b"A ".as_slice(), b" B = C".as_slice()))
+        && split_at_byte(b"A B", b'=').is_none()
+        && contains_byte(b"A = B", b'=')
+        && !contains_byte(b"A B", b'=')
+}
+
+fn is_cut_at_its_ends() -> bool {
+    behind(b"no list", b"no ") == Some(b"list".as_slice())
+        && ahead(b"80;", b";") == Some(b"80".as_slice())
+        && ahead(b"80", b";").is_none()
+        && skip_white(b" \t\rx ") == b"x ".as_slice()
+}
+
+fn are_ports_read() -> bool {
+    read_ports(b"80-443", b'-') == Some((80, 443))
+        && read_ports(b"65535", b':') == Some((65_535, 65_535))
+        && read_ports(b"443-80", b'-').is_none()
+}
+
 #[test]
-fn cuts_at_the_first_of_a_byte(rt: HostRuntime) {
-    assert!(rt; contains_byte(b"A = B", b'=') && !contains_byte(b"A B", b'='));
-    let parts = split_at_byte(b"A = B = C", b'=');
-    assert!(rt; parts == Some((b"A ".as_slice(), b" B = C".as_slice())));
-    assert!(rt; split_at_byte(b"A B", b'=').is_none());
+fn cuts_and_reads_short_texts(rt: HostRuntime) {
+    assert!(rt; is_spelled_once());
+    assert!(rt; is_cut_at_a_byte());
+    assert!(rt; is_cut_at_its_ends());
+    assert!(rt; are_ports_read());
 }
 
 static SIGNED: [(&str, Option<i32>); 3] = [
@@ -275,18 +307,4 @@ fn reads_signed_numbers(rt: HostRuntime) {
         let read = read_signed(word.as_bytes(), 32_768, 32_767);
         assert!(rt; read == *number, "{word}");
     }
-}
-
-#[test]
-fn reads_ports(rt: HostRuntime) {
-    assert!(rt; read_ports(b"80-443", b'-') == Some((80, 443)));
-    assert!(rt; read_ports(b"65535", b':') == Some((65_535, 65_535)));
-    assert!(rt; read_ports(b"443-80", b'-').is_none());
-}
-
-#[test]
-fn cuts_texts_at_their_ends(rt: HostRuntime) {
-    assert!(rt; behind(b"no list", b"no ") == Some(b"list".as_slice()));
-    assert!(rt; ahead(b"80;", b";") == Some(b"80".as_slice()) && ahead(b"80", b";").is_none());
-    assert!(rt; skip_white(b" \t\rx ") == b"x ".as_slice());
 }
