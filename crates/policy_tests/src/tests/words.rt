@@ -37,21 +37,23 @@ fn words_of(alloc: Global, first: &[u8], second: &[u8]) -> Result<String, Memory
     Ok(all)
 }
 
+// Two lines, and their words.
+static LINES: [(&[u8], &[u8], &str); 4] = [
+    (
+        b":: ::: a:::b a:b",
+        b"2001:db8::1",
+        "1k::;1k::;1w:;1ka::;1w:b;1wa:b;2k2001:db8::;2w1;",
+    ),
+    (b"a{b}# \x01\"", b"c#\"", "1wa;1b{;1wb;1e};2wc;"),
+    (b"x\"a # b\r", b"c\"d \"e", "1wx;1qa # b\r\nc;2wd;2u\";"),
+    (b"x::\x01y a\x02::", b"\"\"", "1kx::;1x\x01;1x\x02;2q;"),
+];
+
 #[test]
 fn words_have_forms_and_places(rt: HostRuntime) -> Result<(), Fail> {
-    let table: [(&[u8], &[u8], &str); 4] = [
-        (
-            b":: ::: a:::b a:b",
-            b"2001:db8::1",
-            "1k::;1k::;1w:;1ka::;1w:b;1wa:b;2k2001:db8::;2w1;",
-        ),
-        (b"a{b}# \x01\"", b"c#\"", "1wa;1b{;1wb;1e};2wc;"),
-        (b"x\"a # b\r", b"c\"d \"e", "1wx;1qa # b\r\nc;2wd;2u\";"),
-        (b"x::\x01y a\x02::", b"\"\"", "1kx::;1x\x01;1x\x02;2q;"),
-    ];
-    for (first, second, words) in table {
+    for (first, second, words) in &LINES {
         assert!(rt;
-            words_of(rt.alloc(), first, second)?.as_str() == words,
+            words_of(rt.alloc(), first, second)?.as_str() == *words,
             "{words}"
         );
     }
