@@ -4,7 +4,7 @@ use acl_load::Loaded;
 use acl_memory::{MemTree, Op};
 use acl_packet::Verdict;
 use acl_terms::Term;
-use acl_text::{Memory, PutFault};
+use acl_text::Memory;
 use std::alloc::Global;
 use std::test::Fail;
 
@@ -107,9 +107,9 @@ static FAULTS: [(Files, &[u8]); 15] = [
     ),
 ];
 
-fn tells_of(alloc: Global, files: &[(&str, &[u8])], line: &[u8]) -> Result<bool, PutFault> {
+fn tells_of(alloc: Global, files: &[(&str, &[u8])], line: &[u8]) -> Result<bool, Fail> {
     let mut tree = tree_of(alloc, files)?;
-    tells(alloc, &mut tree, line)
+    Ok(tells(alloc, &mut tree, line)?)
 }
 
 #[test]
