@@ -538,7 +538,7 @@ enum Appended {
     Other,
 }
 
-fn appended(alloc: Global, nth: u32) -> Result<Appended, Memory> {
+fn run_to_append(alloc: Global, nth: u32) -> Result<Appended, Memory> {
     let case = cut_off(Op::Append, nth, 0);
     let left = left_by(alloc, POLICY, case.words, &case.calls)?;
     if is_left(&left, &DONE) {
@@ -576,7 +576,7 @@ fn each_append_fails_once(rt: HostRuntime) -> Result<(), Fail> {
     let mut lines = 0usize;
     let mut last = (usize::MAX, 0usize);
     for nth in 1..10_000u32 {
-        let cut = appended(rt.alloc(), nth)?;
+        let cut = run_to_append(rt.alloc(), nth)?;
         if let Appended::Done = cut {
             assert!(rt; before == 3 && lines == count_lines(), "append {nth}");
             return Ok(());
