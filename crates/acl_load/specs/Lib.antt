@@ -3,3 +3,4 @@ pub mod FaultLines
 pub mod LoadFaults
 pub mod LoadedPolicies
 pub mod Loading
+pub mod ResolvedPolicies

@@ -9,6 +9,7 @@ mod loading;
 mod naming_paths;
 mod policy_loading;
 mod policy_texts;
+mod resolved_policies;
 mod slips;
 
 pub use fault_lines::put_fault;
@@ -17,3 +18,4 @@ pub use load_faults::LoadFault;
 pub use loading::load_definitions;
 pub use policy_loading::{Loaded, TermLists, Terms, load};
 pub use policy_texts::{label_at, policy_fault};
+pub use resolved_policies::{ResolvedPolicy, TargetLists, settle};
