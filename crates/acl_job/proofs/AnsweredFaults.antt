@@ -11,26 +11,28 @@ use Rattle.acl_target.specs.declared.targets.Target.{Target}
 use Rattle.acl_terms.specs.declared.terms.Term.{Term}
 use Rattle.acl_shade.specs.ComputableShading.{shading_term}
 use Rattle.acl_load.specs.declared.policy_loading.Loaded.{Loaded}
+use Rattle.acl_load.specs.declared.resolved_policies.ResolvedPolicy.{ResolvedPolicy}
+use Rattle.acl_load.specs.ResolvedPolicies.{resolved_of}
 use Rattle.acl_load.proofs.AnsweredFaults.{goes_on_answered, policy_loads_answered}
 use Rattle.acl_options.specs.CommandLines.{Options}
 use Rattle.acl_options.specs.ComputableOptions.{options_of}
 use Rattle.acl_filters.specs.FilterRequests.{loaded_slip, request_slip, requests_of}
 use Rattle.acl_job.specs.Job.{IsJob, IsJobOf, Plan, Plans, job_slip, or_slip, plan_of, planned}
 use Rattle.acl_run.specs.Told.{or_day}
-use Rattle.acl_job.specs.ShadedSlips.{asked_shaded, block_shaded, loaded_shaded, shaded_slip, slip_at}
+use Rattle.acl_job.specs.ShadedSlips.{asked_shaded, block_shaded, policy_shaded, shaded_slip, slip_at}
 use Rattle.acl_filters.proofs.AnsweredSlips.{map_good, request_good}
 
 shaded_good : (targets : List Target) (today : Day) (terms : List Term) (p : ℕ × Term) → SlipIsAnswered (slip_at targets today terms p)
 shaded_good targets today terms (place, t) = map_good (shaded_slip t) (shading_term targets today terms place) (λ _. tt)
 
-loaded_good : (today : Day) (loaded : Loaded) → SlipIsAnswered (loaded_shaded today loaded)
-loaded_good today loaded = first_answered (block_shaded today) (zip loaded.policy.blocks loaded.terms)
-    (λ b. first_answered (slip_at b.0.targets today b.1) (enumerate_from 0 b.1) (shaded_good b.0.targets today b.1))
+policy_good : (today : Day) (policy : ResolvedPolicy) → SlipIsAnswered (policy_shaded today policy)
+policy_good today policy = first_answered (block_shaded today) (zip policy.targets policy.terms)
+    (λ b. first_answered (slip_at b.0 today b.1) (enumerate_from 0 b.1) (shaded_good b.0 today b.1))
 
 job_good : (o : Options) (today : Day) (loaded : Loaded) → SlipIsAnswered (job_slip o today loaded)
 job_good o today loaded = either_answered (loaded_slip today loaded) (asked_shaded o.shade_check today loaded)
     (first_answered (request_slip today) (requests_of loaded) (request_good today))
-    (either (λ (s : Option Slip). SlipIsAnswered s) o.shade_check _ _ (loaded_good today loaded) tt)
+    (either (λ (s : Option Slip). SlipIsAnswered s) o.shade_check _ _ (policy_good today (resolved_of loaded)) tt)
 
 or_slip_good : (labels : List (List ℕ)) (o : Option Slip) (plan : Plan) → SlipIsAnswered o → FailsAnswered (or_slip labels o plan)
 or_slip_good labels (Some slip) plan h = h

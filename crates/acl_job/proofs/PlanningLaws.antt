@@ -25,6 +25,7 @@ use Rattle.acl_load.specs.declared.policy_loading.Loaded.{Loaded}
 use Rattle.acl_load.specs.declared.load_faults.LoadFault.TheVariants as loads
 use Rattle.acl_load.specs.LoadFaults.{LoadsFiles, of_rejection}
 use Rattle.acl_load.specs.LoadedPolicies.{AreResolvedIn, LoadsPolicy}
+use Rattle.acl_load.specs.ResolvedPolicies.{resolved_of}
 use Rattle.acl_render.specs.PlatformFiles.{AreApart, IsTaken, text_on}
 use Rattle.acl_options.specs.CommandLines.{Options}
 use Rattle.acl_report.specs.Reports.{terms_report}
@@ -185,7 +186,7 @@ short-with today kind path [] h = tt
 short-with today kind path (r ∷ rs) h = (all-by (filter_for today) (IsTakenFor today) IsShort (short-one today) (r ∷ rs) h, tt)
 
 pub is-planned : (o : Options) (today : Day) (loaded : Loaded) (drafts : FileDrafts) (work : Work) → JudgesAll o today loaded drafts
-    → IsWorkOf (terms_report today o.exp_info loaded) drafts work → IsPolicy loaded.policy
+    → IsWorkOf (terms_report today o.exp_info (resolved_of loaded)) drafts work → IsPolicy loaded.policy
     → AreResolvedIn loaded.definitions loaded.policy.blocks loaded.terms → IsPlanned o today loaded work
 is-planned o today loaded drafts work judged w fits resolved =
     let p = judged.prepared in
@@ -204,7 +205,7 @@ is-planned o today loaded drafts work judged w fits resolved =
       ready = record {
         texts_are = texts ∙ flat-same (texts_on drafts) (λ k. map (file_of today) (files_on o all k)) text platforms
             ∙ sym (map-flat (file_of today) (files_on o all) platforms);
-        report_is = w.report_is ∙ ap (λ t. terms_report today o.exp_info loaded ++ t)
+        report_is = w.report_is ∙ ap (λ t. terms_report today o.exp_info (resolved_of loaded) ++ t)
             (flat-same (λ k. (draft_on k drafts).report.bytes) (λ k. flat_map (file_report today) (files_on o all k)) line platforms
             ∙ flat_twice (file_report today) (files_on o all) platforms);
         short = all-flat (λ f. AllByRecursion IsShort (filters_of today f)) (files_on o all)

@@ -11,6 +11,7 @@ use Rattle.acl_target.specs.declared.targets.Kind.{Kind}
 use Rattle.acl_target.specs.declared.targets.Kind.TheVariants.{Cisco, Juniper, Iptables, Nftables}
 use Rattle.acl_load.specs.declared.policy_loading.Loaded.{Loaded}
 use Rattle.acl_load.specs.LoadedPolicies.{FirstFaultOr, LoadsPolicy}
+use Rattle.acl_load.specs.ResolvedPolicies.{resolved_of}
 use Rattle.acl_platform.specs.declared.filters.Filter.{Filter}
 use Rattle.acl_render.specs.PlatformFiles.{count_of, text_on}
 use Rattle.acl_report.specs.Reports.{count_line, terms_report}
@@ -51,7 +52,7 @@ plan_of o today loaded = record {
   today = today;
   blocks = blocks_of loaded;
   files = flat_map (files_on o (requests_of loaded)) platforms;
-  term_lines = terms_report today o.exp_info loaded;
+  term_lines = terms_report today o.exp_info (resolved_of loaded);
 }
 
 -- A slip is told with the label of its file.

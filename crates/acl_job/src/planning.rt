@@ -1,7 +1,10 @@
 ghost use Rattle.std.specs.Prelude.{◌≡◌, true, IfOk, OnOk};
 ghost use Rattle.std.specs.List.{All};
-ghost use Rattle.acl_policy.specs.Conditions.{IsBlock, IsPolicy};
+ghost use Rattle.acl_target.specs.TargetData.{IsTarget};
+ghost use Rattle.acl_policy.specs.Conditions.{IsPolicy};
+ghost use Rattle.acl_load.specs.declared.policy_loading.Loaded.{Loaded};
 ghost use Rattle.acl_load.specs.LoadedPolicies.{AreResolvedIn};
+ghost use Rattle.acl_load.specs.ResolvedPolicies.{resolved_of};
 ghost use Rattle.acl_load.specs.LoadFaults.{LoadsFiles};
 ghost use Rattle.acl_report.specs.ShadedLists.{AreShadedIn};
 ghost use Rattle.acl_options.specs.CodeViews.{options_view};
@@ -18,7 +21,7 @@ use crate::preparing::{FileDraft, FileDrafts, prepare};
 use crate::shading::refuse_shaded;
 use acl_days::Day;
 use acl_host::Tree;
-use acl_load::{LoadFault, Loaded, load, policy_fault};
+use acl_load::{LoadFault, ResolvedPolicy, load, policy_fault, settle};
 use acl_options::Options;
 use acl_policy::Kind;
 use acl_report::{ShadedLists, report_terms, shaded_lists};
@@ -72,16 +75,17 @@ fn judge(
     alloc: Global,
     options: &Options<'_>,
     today: Day,
-    loaded: &Loaded,
+    policy: &ResolvedPolicy,
     shaded: &ShadedLists,
 ) -> Result<FileDrafts, Refusal>
-    requires blocks { All IsBlock loaded.now.policy.blocks }
-    requires shaded { AreShadedIn today loaded.now shaded.now }
-    ensures { JudgesSo (options_view options.now) today loaded.now result }
+    requires sound { All (All IsTarget) policy.now.targets }
+    requires shaded { AreShadedIn today policy.now shaded.now }
+    ensures { (loaded : Loaded) → resolved_of loaded ≡ policy.now
+        → JudgesSo (options_view options.now) today loaded result }
 {
-    let drafts = prepare(alloc, today, options.output, options.policy, loaded)?;
+    let drafts = prepare(alloc, today, options.output, options.policy, policy)?;
     if options.shade_check {
-        refuse_shaded(alloc, loaded, shaded)?;
+        refuse_shaded(alloc, policy, shaded)?;
     }
     Ok(drafts)
 }
@@ -92,21 +96,22 @@ fn plan_with(
     alloc: Global,
     options: &Options<'_>,
     today: Day,
-    loaded: &Loaded,
+    policy: &ResolvedPolicy,
     shaded: &ShadedLists,
 ) -> Result<Work, Rejection>
-    requires fits { IsPolicy loaded.now.policy }
-    requires terms { AreResolvedIn loaded.now.definitions loaded.now.policy.blocks loaded.now.terms }
-    requires shaded { AreShadedIn today loaded.now shaded.now }
-    ensures { PlansLoaded (options_view options.now) today loaded.now result }
+    requires sound { All (All IsTarget) policy.now.targets }
+    requires shaded { AreShadedIn today policy.now shaded.now }
+    ensures { (loaded : Loaded) → IsPolicy loaded.policy
+        → AreResolvedIn loaded.definitions loaded.policy.blocks loaded.terms → resolved_of loaded ≡ policy.now
+        → PlansLoaded (options_view options.now) today loaded result }
 {
-    match judge(alloc, options, today, loaded, shaded) {
+    match judge(alloc, options, today, policy, shaded) {
         Ok(drafts) => {
-            let report = report_terms(alloc, loaded, shaded, today, options.exp_info)?;
+            let report = report_terms(alloc, policy, shaded, today, options.exp_info)?;
             Ok(work_of(alloc, drafts, report)?)
         }
         Err(Refusal::Slip(slip)) => {
-            Err(Rejection::Fault(policy_fault(alloc, &loaded.sources, slip)?))
+            Err(Rejection::Fault(policy_fault(alloc, &policy.sources, slip)?))
         }
         Err(Refusal::Memory) => Err(Rejection::Memory),
     }
@@ -117,14 +122,15 @@ fn plan(
     alloc: Global,
     options: &Options<'_>,
     today: Day,
-    loaded: &Loaded,
+    policy: &ResolvedPolicy,
 ) -> Result<Work, Rejection>
-    requires fits { IsPolicy loaded.now.policy }
-    requires terms { AreResolvedIn loaded.now.definitions loaded.now.policy.blocks loaded.now.terms }
-    ensures { PlansLoaded (options_view options.now) today loaded.now result }
+    requires { All (All IsTarget) policy.now.targets }
+    ensures { (loaded : Loaded) → IsPolicy loaded.policy
+        → AreResolvedIn loaded.definitions loaded.policy.blocks loaded.terms → resolved_of loaded ≡ policy.now
+        → PlansLoaded (options_view options.now) today loaded result }
 {
-    let shaded = shaded_lists(alloc, loaded, today)?;
-    plan_with(alloc, options, today, loaded, &shaded)
+    let shaded = shaded_lists(alloc, policy, today)?;
+    plan_with(alloc, options, today, policy, &shaded)
 }
 
 /// What is to be written for that day, or the first fault of the files.
@@ -138,5 +144,6 @@ pub fn make_work<T: Tree>(
     ensures looks { LoadsFiles T.Tree tree.old tree.new result }
 {
     let loaded = load(alloc, tree, options.definitions, options.policy)?;
-    Ok(plan(alloc, options, today, &loaded)?)
+    let policy = settle(alloc, loaded)?;
+    Ok(plan(alloc, options, today, &policy)?)
 }

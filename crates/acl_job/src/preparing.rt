@@ -2,7 +2,9 @@ ghost use Rattle.std.specs.Prelude.{◌≡◌, ◌++◌, ◌∷◌, [], None, tr
 ghost use Rattle.std.specs.List.{All};
 ghost use Rattle.acl_target.specs.TargetData.{IsTarget};
 ghost use Rattle.acl_policy.specs.declared.raw_terms.RawTerm.{RawTerm};
-ghost use Rattle.acl_policy.specs.Conditions.{IsBlock};
+ghost use Rattle.acl_policy.specs.declared.blocks.Block.{Block};
+ghost use Rattle.acl_load.specs.declared.policy_loading.Loaded.{Loaded};
+ghost use Rattle.acl_load.specs.ResolvedPolicies.{resolved_of, targets_in};
 ghost use Rattle.acl_expand.specs.KnownRules.{AreKnown};
 ghost use Rattle.acl_job.specs.FilterPaths.{path_of};
 ghost use Rattle.acl_filters.specs.FilterRequests.{request_of, requests_in};
@@ -19,10 +21,10 @@ use crate::filter_paths::path_of;
 use acl_days::Day;
 use acl_expand::KnownRules;
 use acl_filters::checked_filter;
-use acl_load::{Loaded, Terms};
+use acl_load::{ResolvedPolicy, Terms};
 use acl_platform::Filter;
-use acl_policy::{Block, Kind, Target};
 use acl_report::put_count;
+use acl_target::{Kind, Target, Targets};
 use acl_terms::Term;
 use acl_text::{Items, Memory, Refusal, Whole};
 use std::alloc::Global;
@@ -107,27 +109,28 @@ fn add_filters(
     }
 }
 
-// Adds the filters of each block, whose terms are those of the list at its place.
+// Adds the filters of each block, of which the targets and the terms stand at its place.
 fn add_blocks(
     alloc: Global,
     today: Day,
-    blocks: &[Block],
+    targets: &[Targets],
     lists: &[Terms],
     drafts: &mut FileDrafts,
 ) -> Result<(), Refusal>
-    requires sound { All IsBlock blocks.now }
+    requires sound { All (All IsTarget) targets.now }
     requires open { AreOpen drafts.old }
-    ensures { Adds today (requests_in blocks.now lists.now) drafts.old drafts.new result }
+    ensures { (blocks : List Block) → targets_in blocks ≡ targets.now
+        → Adds today (requests_in blocks lists.now) drafts.old drafts.new result }
 {
-    let [block, more @ ..] = blocks else {
+    let [first, more @ ..] = targets else {
         return Ok(());
     };
     let [terms, others @ ..] = lists else {
         return Ok(());
     };
-    let targets = block.targets.as_slice();
+    let first = first.as_slice();
     let mut known = KnownRules::new(alloc);
-    add_filters(alloc, today, targets, terms.as_slice(), &mut known, drafts)?;
+    add_filters(alloc, today, first, terms.as_slice(), &mut known, drafts)?;
     add_blocks(alloc, today, more, others, drafts)
 }
 
@@ -159,13 +162,14 @@ pub fn prepare(
     today: Day,
     output: &str,
     policy: &str,
-    loaded: &Loaded,
+    resolved: &ResolvedPolicy,
 ) -> Result<FileDrafts, Refusal>
-    requires { All IsBlock loaded.now.policy.blocks }
-    ensures { Prepares output.now policy.now today loaded.now result }
+    requires { All (All IsTarget) resolved.now.targets }
+    ensures { (loaded : Loaded) → resolved_of loaded ≡ resolved.now
+        → Prepares output.now policy.now today loaded result }
 {
-    let blocks = loaded.policy.blocks.as_slice();
+    let targets = resolved.targets.as_slice();
     let mut drafts = no_files(alloc, output, policy)?;
-    add_blocks(alloc, today, blocks, loaded.terms.as_slice(), &mut drafts)?;
+    add_blocks(alloc, today, targets, resolved.terms.as_slice(), &mut drafts)?;
     Ok(drafts)
 }

@@ -4,12 +4,12 @@ ghost use Rattle.acl_days.specs.declared.days.Day.{Day};
 ghost use Rattle.acl_target.specs.declared.targets.Target.{Target};
 ghost use Rattle.acl_shade.specs.ShadedPlaces.{AreShadedPlaces};
 ghost use Rattle.acl_report.specs.ShadedLists.{AreShadedIn, AreShadedLists};
-ghost use Rattle.acl_job.specs.ShadedSlips.{block_shaded, loaded_shaded, terms_shaded};
+ghost use Rattle.acl_job.specs.ShadedSlips.{block_shaded, policy_shaded, terms_shaded};
 
-use acl_load::{Loaded, Terms};
-use acl_policy::Block;
+use acl_load::{ResolvedPolicy, Terms};
 use acl_report::ShadedLists;
 use acl_shade::shading_term;
+use acl_target::Targets;
 use acl_terms::Term;
 use acl_text::{Code, Items, Refusal};
 use std::alloc::Global;
@@ -28,17 +28,17 @@ fn refuse_in_block(alloc: Global, terms: &[Term], places: &[Option<usize>]) -> R
     Ok(())
 }
 
-// The same of each block, whose terms are those of the list at its place.
+// The same of each block, of which the targets and the terms stand at its place.
 fn refuse_in_blocks(
     alloc: Global,
-    blocks: &[Block],
+    targets: &[Targets],
     lists: &[Terms],
     shaded: &[Items<Option<usize>>],
 ) -> Result<(), Refusal>
-    ensures { (today : Day) → AreShadedLists today (zip blocks.now lists.now) shaded.now
-        → Judges result (first_in (block_shaded today) (zip blocks.now lists.now)) }
+    ensures { (today : Day) → AreShadedLists today (zip targets.now lists.now) shaded.now
+        → Judges result (first_in (block_shaded today) (zip targets.now lists.now)) }
 {
-    let [_, more @ ..] = blocks else {
+    let [_, more @ ..] = targets else {
         return Ok(());
     };
     let [terms, others @ ..] = lists else {
@@ -52,10 +52,14 @@ fn refuse_in_blocks(
 }
 
 /// Refuses the policy's first term that an earlier one of its block shades that day.
-pub fn refuse_shaded(alloc: Global, loaded: &Loaded, shaded: &ShadedLists) -> Result<(), Refusal>
-    ensures { (today : Day) → AreShadedIn today loaded.now shaded.now
-        → Judges result (loaded_shaded today loaded.now) }
+pub fn refuse_shaded(
+    alloc: Global,
+    policy: &ResolvedPolicy,
+    shaded: &ShadedLists,
+) -> Result<(), Refusal>
+    ensures { (today : Day) → AreShadedIn today policy.now shaded.now
+        → Judges result (policy_shaded today policy.now) }
 {
-    let blocks = loaded.policy.blocks.as_slice();
-    refuse_in_blocks(alloc, blocks, loaded.terms.as_slice(), shaded.as_slice())
+    let targets = policy.targets.as_slice();
+    refuse_in_blocks(alloc, targets, policy.terms.as_slice(), shaded.as_slice())
 }

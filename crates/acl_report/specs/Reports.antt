@@ -9,11 +9,10 @@ use Rattle.acl_days.specs.declared.days.Day.{Day}
 use Rattle.acl_days.specs.DaySteps.{date_text}
 use Rattle.acl_target.specs.declared.targets.Target.{Target}
 use Rattle.acl_target.specs.TargetTexts.{target_text}
-use Rattle.acl_policy.specs.declared.blocks.Block.{Block}
 use Rattle.acl_terms.specs.declared.terms.Term.{Term}
 use Rattle.acl_terms.specs.Resolved.{is_empty_in, is_term_live}
 use Rattle.acl_shade.specs.ComputableShading.{shading_term}
-use Rattle.acl_load.specs.declared.policy_loading.Loaded.{Loaded}
+use Rattle.acl_load.specs.declared.resolved_policies.ResolvedPolicy.{ResolvedPolicy}
 
 -- ---- when there is something to tell
 
@@ -104,12 +103,12 @@ term_lines labels today weeks targets terms (place, t) = expired_lines labels to
 
 -- ---- a whole policy
 
--- The lines on the terms of a block, in order.
-unfoldable pub block_lines : List (List ℕ) → Day → ℕ → Block × List Term → List ℕ
+-- The lines on the terms of a block, of which the targets and the terms are given, in order.
+unfoldable pub block_lines : List (List ℕ) → Day → ℕ → List Target × List Term → List ℕ
 block_lines labels today weeks b =
-    flat_map (term_lines labels today weeks b.0.targets b.1) (enumerate_from 0 b.1)
+    flat_map (term_lines labels today weeks b.0 b.1) (enumerate_from 0 b.1)
 
--- The lines on all terms of a policy that is loaded, block by block, for a day and so many weeks behind it.
-abbrev pub terms_report : Day → ℕ → Loaded → List ℕ
-terms_report today weeks loaded =
-    flat_map (block_lines loaded.sources.labels today weeks) (zip loaded.policy.blocks loaded.terms)
+-- The lines on all terms of a policy, block by block, for a day and so many weeks behind it.
+abbrev pub terms_report : Day → ℕ → ResolvedPolicy → List ℕ
+terms_report today weeks policy =
+    flat_map (block_lines policy.sources.labels today weeks) (zip policy.targets policy.terms)

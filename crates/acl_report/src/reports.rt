@@ -5,30 +5,30 @@ ghost use Rattle.acl_report.specs.ShadedLists.{AreShadedIn, AreShadedLists};
 use crate::shaded::ShadedLists;
 use crate::term_lines::BlockLines;
 use acl_days::Day;
-use acl_load::{Loaded, Terms};
-use acl_policy::Block;
+use acl_load::{ResolvedPolicy, Terms};
 use acl_splice::Sources;
+use acl_target::Targets;
 use acl_text::{Items, Memory, PutFault, Whole};
 use std::alloc::Global;
 
-// Puts the lines on the terms of each block, which are those of the list at its place.
+// Puts the lines on the terms of each block, of which the targets and the terms stand at its place.
 #[tactic(auto, unfolding(crate::specs::Reports::block_lines))]
 fn put_blocks(
     report: &mut Whole,
     sources: &Sources,
     today: Day,
     weeks: u16,
-    blocks: &[Block],
+    targets: &[Targets],
     lists: &[Terms],
     shaded: &[Items<Option<usize>>],
 ) -> Result<(), PutFault>
     requires open { report.old.is_open ≡ true }
-    requires shaded { AreShadedLists today (zip blocks.now lists.now) shaded.now }
+    requires shaded { AreShadedLists today (zip targets.now lists.now) shaded.now }
     ensures text { OnOk result (report.new.bytes ≡ report.old.bytes
-        ++ flat_map (block_lines sources.now.labels today weeks) (zip blocks.now lists.now)) }
+        ++ flat_map (block_lines sources.now.labels today weeks) (zip targets.now lists.now)) }
     ensures opened { OnOk result (report.new.is_open ≡ true) }
 {
-    let [block, more @ ..] = blocks else {
+    let [first, more @ ..] = targets else {
         return Ok(());
     };
     let [terms, others @ ..] = lists else {
@@ -41,7 +41,7 @@ fn put_blocks(
         sources,
         today,
         weeks,
-        targets: block.targets.as_slice(),
+        targets: first.as_slice(),
         terms: terms.as_slice(),
         shaded: places.as_slice(),
     };
@@ -56,27 +56,24 @@ fn put_blocks(
 /// block it is live and empty. It fails only where memory is wanted.
 pub fn report_terms(
     alloc: Global,
-    loaded: &Loaded,
+    policy: &ResolvedPolicy,
     shaded: &ShadedLists,
     today: Day,
     weeks: u16,
 ) -> Result<Whole, Memory>
-    requires { AreShadedIn today loaded.now shaded.now }
-    ensures text { IfOk result (λ report. report.bytes ≡ terms_report today weeks loaded.now) }
+    requires { AreShadedIn today policy.now shaded.now }
+    ensures text { IfOk result (λ report. report.bytes ≡ terms_report today weeks policy.now) }
     ensures opened { IfOk result (λ report. report.is_open ≡ true) }
 {
     let mut report = Whole::new(alloc);
-    let blocks = loaded.policy.blocks.as_slice();
-    let lists = loaded.terms.as_slice();
-    let shaded = shaded.as_slice();
     match put_blocks(
         &mut report,
-        &loaded.sources,
+        &policy.sources,
         today,
         weeks,
-        blocks,
-        lists,
-        shaded,
+        policy.targets.as_slice(),
+        policy.terms.as_slice(),
+        shaded.as_slice(),
     ) {
         Ok(()) => Ok(report),
         Err(_) => Err(Memory),

@@ -2,10 +2,10 @@ ghost use Rattle.std.specs.Prelude.{◌≡◌, true, IfOk};
 
 use crate::tests::files::loaded;
 use acl_days::{Day, read_day};
-use acl_load::Loaded;
+use acl_load::{Loaded, ResolvedPolicy, settle};
 use acl_memory::MemTree;
-use acl_policy::Block;
 use acl_report::{put_count, report_terms, shaded_lists};
+use acl_target::Targets;
 use acl_text::{Memory, Whole};
 use std::alloc::Global;
 use std::test::Fail;
@@ -34,30 +34,35 @@ fn day(text: &[u8]) -> Result<Day, Memory> {
     }
 }
 
-fn put_counts(report: &mut Whole, blocks: &[Block], entries: u64) -> Result<(), Memory>
+fn put_counts(report: &mut Whole, targets: &[Targets], entries: u64) -> Result<(), Memory>
     requires { report.old.is_open ≡ true }
 {
-    let [block, ..] = blocks else {
+    let [first, ..] = targets else {
         return Ok(());
     };
-    let [target, ..] = block.targets.as_slice() else {
+    let [target, ..] = first.as_slice() else {
         return Ok(());
     };
     put_count(report, b"out/a.acl", target, entries)
 }
 
-fn terms_report(alloc: Global, loaded: &Loaded, today: Day, weeks: u16) -> Result<Whole, Memory>
+fn terms_report(
+    alloc: Global,
+    policy: &ResolvedPolicy,
+    today: Day,
+    weeks: u16,
+) -> Result<Whole, Memory>
     ensures { IfOk result (λ report. report.is_open ≡ true) }
 {
-    let shaded = shaded_lists(alloc, loaded, today)?;
-    report_terms(alloc, loaded, &shaded, today, weeks)
+    let shaded = shaded_lists(alloc, policy, today)?;
+    report_terms(alloc, policy, &shaded, today, weeks)
 }
 
 // The report on the policy `pol/a.pol` that day, with five entries for its first target.
 fn report(alloc: Global, policy: &[u8], today: &[u8], weeks: u16) -> Result<Whole, Memory> {
-    let loaded = load_policy(alloc, policy)?;
-    let mut report = terms_report(alloc, &loaded, day(today)?, weeks)?;
-    put_counts(&mut report, loaded.policy.blocks.as_slice(), 5)?;
+    let policy = settle(alloc, load_policy(alloc, policy)?)?;
+    let mut report = terms_report(alloc, &policy, day(today)?, weeks)?;
+    put_counts(&mut report, policy.targets.as_slice(), 5)?;
     Ok(report)
 }
 

@@ -2,4 +2,4 @@ use Rattle.std.proofs.Common.{length}
 use Rattle.acl_job.proofs.preparing.+add_blocks.Given as goal
 
 abbrev pub decreases-add_blocks : goal.decreases-add_blocks
-decreases-add_blocks l = length l.blocks.now
+decreases-add_blocks l = length l.targets.now

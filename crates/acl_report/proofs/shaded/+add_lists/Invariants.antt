@@ -2,4 +2,4 @@ use Rattle.std.proofs.Common.{length}
 use Rattle.acl_report.proofs.shaded.+add_lists.Given as goal
 
 abbrev pub decreases-add_lists : goal.decreases-add_lists
-decreases-add_lists l = length l.blocks.now
+decreases-add_lists l = length l.targets.now
