@@ -14,7 +14,6 @@ use Rattle.acl_text.specs.declared.faults.Rejection.TheVariants as rejections
 use Rattle.acl_text.proofs.ListLaws.{all_append}
 use Rattle.acl_days.specs.declared.days.Day.{Day}
 use Rattle.acl_host.specs.Files.{File, join_path}
-use Rattle.acl_host.specs.Outside.{TreeMembers}
 use Rattle.acl_target.specs.declared.targets.Kind.{Kind}
 use Rattle.acl_target.specs.declared.targets.Kind.TheVariants.{Cisco, Juniper, Iptables, Nftables}
 use Rattle.acl_target.specs.Clashes.{same_kind}
@@ -22,8 +21,7 @@ use Rattle.acl_policy.specs.Conditions.{IsPolicy}
 use Rattle.acl_platform.specs.declared.filters.Filter.{Filter}
 use Rattle.acl_load.specs.declared.load_faults.LoadFault.{LoadFault}
 use Rattle.acl_load.specs.declared.policy_loading.Loaded.{Loaded}
-use Rattle.acl_load.specs.declared.load_faults.LoadFault.TheVariants as loads
-use Rattle.acl_load.specs.LoadFaults.{LoadsFiles, of_rejection}
+use Rattle.acl_load.specs.LoadFaults.{of_rejection}
 use Rattle.acl_load.specs.LoadedPolicies.{AreResolvedIn, LoadsPolicy}
 use Rattle.acl_load.specs.ResolvedPolicies.{resolved_of}
 use Rattle.acl_render.specs.PlatformFiles.{AreApart, IsTaken, text_on}

@@ -1,9 +1,11 @@
 -- The filters of a policy: lists that are added one behind the other.
 use Rattle.std.proofs.Common.{◌≡◌, ℕ, ◌≤◌, ◌-◌, Bool, true, false, if◌then◌else◌, List, [], ◌∷◌, ◌++◌, map, take, drop, length, get_or, None, Some, Result, Ok, Err, refl, ap, sym, subst, ◌∙◌, append_assoc, append-nil, arith}
 use Rattle.std.specs.Prelude.{IsErrAnd, flat_map}
+use Rattle.std.specs.List.{All}
 use Rattle.std.specs.String.{string_bytes}
 use Rattle.std.proofs.lemmas.Grind.{flat_map-append}
-use Rattle.std.proofs.lemmas.List.{map-append, take_rest}
+use Rattle.std.proofs.lemmas.List.{map-append}
+use Rattle.std.proofs.lemmas.List.Elements.{All-from_recursion, recursion_from_All}
 use Rattle.std.specs.Option.{option_or}
 use Rattle.acl_text.specs.declared.faults.Refusal.{Refusal}
 use Rattle.acl_text.specs.declared.faults.Refusal.TheVariants as refusals
@@ -13,20 +15,25 @@ use Rattle.acl_target.specs.declared.targets.Kind.{Kind}
 use Rattle.acl_target.specs.declared.targets.Kind.TheVariants.{Cisco, Juniper, Iptables, Nftables}
 use Rattle.acl_target.specs.declared.targets.Target.{Target}
 use Rattle.acl_target.specs.Clashes.{same_kind}
+use Rattle.acl_target.specs.TargetData.{IsTarget}
 use Rattle.acl_policy.specs.declared.blocks.Block.{Block}
 use Rattle.acl_policy.specs.declared.raw_terms.RawTerm.{RawTerm}
+use Rattle.acl_policy.specs.Conditions.{IsBlock}
 use Rattle.acl_terms.specs.declared.terms.Term.{Term}
 use Rattle.acl_terms.proofs.SlipLaws.{first-in-append}
 use Rattle.acl_platform.specs.declared.filters.Filter.{Filter}
 use Rattle.acl_load.specs.declared.policy_loading.Loaded.{Loaded}
+use Rattle.acl_load.specs.ResolvedPolicies.{targets_in}
 use Rattle.acl_filters.specs.AskedFilters.{FilterRequest}
-use Rattle.acl_filters.specs.FilterRequests.{block_requests, filter_for, request_of, request_slip, requests_in, requests_of, requests_on, requests_slip}
+use Rattle.acl_filters.specs.FilterRequests.{filter_for, request_of, request_slip, requests_in, requests_of, requests_on, requests_slip}
 use Rattle.acl_report.specs.Reports.{count_line}
 use Rattle.acl_job.specs.Job.{report_line}
 use Rattle.acl_job.specs.PreparingSteps.{Adds, AddsAll, AddsOne, AddsTo, AreEmptyDrafts, AreOpen, PreparesAll, draft_on, with_draft}
 use Rattle.acl_filters.specs.CheckedFilters.{ChecksFilter, IsTakenFor}
 use Rattle.acl_job.specs.declared.preparing.FileDraft.{FileDraft}
 use Rattle.acl_job.specs.declared.preparing.FileDrafts.{FileDrafts}
+use Rattle.acl_filters.proofs.ApartLaws.{all-by}
+use Rattle.acl_filters.proofs.BlockLists.{first-rest}
 use Rattle.acl_filters.proofs.FilterLaws.{both-none}
 
 -- ---- a filter goes into its platform's file
@@ -176,7 +183,53 @@ adds-written today written terms t p q h = record {
   taken = h.taken;
 }
 
+-- ---- the targets of blocks
+
+-- Where there are no targets, there are no blocks, and nothing is asked for.
+pub none-asked : (blocks : List Block) (targets : List (List Target)) (lists : List (List Term)) → length targets ≡ 0
+    → targets_in blocks ≡ targets → requests_in blocks lists ≡ []
+none-asked [] targets lists none same = refl
+none-asked (b ∷ bs) [] lists none same = absurd (cc)
+none-asked (b ∷ bs) (t ∷ ts) lists none same = absurd (omega (arith, none))
+
+pub nothing-asked : (blocks : List Block) (lists : List (List Term)) → length lists ≡ 0 → requests_in blocks lists ≡ []
+nothing-asked [] lists none = refl
+nothing-asked (b ∷ bs) [] none = refl
+nothing-asked (b ∷ bs) (l ∷ ls) none = absurd (omega (arith, none))
+
+-- What is asked for in blocks whose first one has these targets: a filter for each of them, and then what the other
+-- blocks ask for.
+pub record FirstAsks (blocks : List Block) (targets more : List (List Target)) (first : List Target) (lists others : List (List Term)) (terms : List Term)
+    : Type 0 where
+  pub written : List RawTerm
+  pub rest : List Block
+  pub rest_is : targets_in rest ≡ more
+  pub asks : requests_in blocks lists ≡ map (request_of written terms) first ++ requests_in rest others
+
+asks-behind : (blocks : List Block) (targets more : List (List Target)) (first : List Target) → targets ≡ first ∷ more → targets_in blocks ≡ targets
+    → (lists others : List (List Term)) (terms : List Term) → lists ≡ terms ∷ others → FirstAsks blocks targets more first lists others terms
+asks-behind [] targets more first is same lists others terms so = absurd (cc)
+asks-behind (b ∷ bs) targets more first is same lists others terms so =
+    let both : b.targets ∷ targets_in bs ≡ first ∷ more = same ∙ is in
+    let here : b.targets ≡ first = cc in
+    record {
+      written = b.terms;
+      rest = bs;
+      rest_is = cc;
+      asks = ap (λ ls. requests_in (b ∷ bs) ls) so ∙ ap (λ ts. map (request_of b.terms terms) ts ++ requests_in bs others) here;
+    }
+
+pub first-asks : (blocks : List Block) (targets : List (List Target)) (first : List Target) → 1 ≤ length targets → first ≡ get_or targets 0 first
+    → targets_in blocks ≡ targets → (lists : List (List Term)) (terms : List Term) → 1 ≤ length lists → terms ≡ get_or lists 0 terms
+    → FirstAsks blocks targets (take (length targets - 1) (drop 1 targets)) first lists (take (length lists - 1) (drop 1 lists)) terms
+first-asks blocks targets first some is same lists terms more so =
+    asks-behind blocks targets _ first (first-rest targets first some is) same lists _ terms (first-rest lists terms more so)
+
 -- ---- a whole policy
+
+pub targets-sound : (blocks : List Block) → All IsBlock blocks → All (All IsTarget) (targets_in blocks)
+targets-sound blocks h = All-from_recursion (All IsTarget) (targets_in blocks)
+    (all-by (λ (b : Block). b.targets) IsBlock (All IsTarget) (λ b x. x.targets_are) blocks (recursion_from_All IsBlock blocks h))
 
 pub prepared : (output policy : List ℕ) (today : Day) (loaded : Loaded) (old new : FileDrafts)
     → AreEmptyDrafts output policy old → AddsAll today (requests_of loaded) old new → PreparesAll output policy today loaded new

@@ -170,6 +170,12 @@ pub fn prepare(
 {
     let targets = resolved.targets.as_slice();
     let mut drafts = no_files(alloc, output, policy)?;
-    add_blocks(alloc, today, targets, resolved.terms.as_slice(), &mut drafts)?;
+    add_blocks(
+        alloc,
+        today,
+        targets,
+        resolved.terms.as_slice(),
+        &mut drafts,
+    )?;
     Ok(drafts)
 }
