@@ -14,10 +14,13 @@ fn source_port_bar(alloc: Global, family: Family) -> Result<PacketBox, Memory>
     ensures { IfOk result (λ b. b
         ≡ record (everything family) { protocols = without_ports; source_ports = from_one 65535 }) }
 {
-    let mut bar = PacketBox::everything(alloc, family)?;
-    bar.protocols = without_ports(alloc)?;
-    bar.source_ports = from_one(alloc, 65535)?;
-    Ok(bar)
+    let protocols = without_ports(alloc)?;
+    let ports = from_one(alloc, 65535)?;
+    Ok(
+        PacketBox::everything(alloc, family)?
+            .with_protocols(protocols)
+            .with_source_ports(ports),
+    )
 }
 
 // A destination port there.
@@ -25,10 +28,13 @@ fn destination_port_bar(alloc: Global, family: Family) -> Result<PacketBox, Memo
     ensures { IfOk result (λ b. b
         ≡ record (everything family) { protocols = without_ports; destination_ports = from_one 65535 }) }
 {
-    let mut bar = PacketBox::everything(alloc, family)?;
-    bar.protocols = without_ports(alloc)?;
-    bar.destination_ports = from_one(alloc, 65535)?;
-    Ok(bar)
+    let protocols = without_ports(alloc)?;
+    let ports = from_one(alloc, 65535)?;
+    Ok(
+        PacketBox::everything(alloc, family)?
+            .with_protocols(protocols)
+            .with_destination_ports(ports),
+    )
 }
 
 // A flag of TCP in another protocol.
@@ -36,10 +42,13 @@ fn flag_bar(alloc: Global, family: Family) -> Result<PacketBox, Memory>
     ensures { IfOk result (λ b. b
         ≡ record (everything family) { protocols = but_tcp; flags = from_one 63 }) }
 {
-    let mut bar = PacketBox::everything(alloc, family)?;
-    bar.protocols = but_tcp(alloc)?;
-    bar.flags = from_one(alloc, 63)?;
-    Ok(bar)
+    let protocols = but_tcp(alloc)?;
+    let flags = from_one(alloc, 63)?;
+    Ok(
+        PacketBox::everything(alloc, family)?
+            .with_protocols(protocols)
+            .with_flags(flags),
+    )
 }
 
 // A type where the protocol is not the family's ICMP.
@@ -47,10 +56,13 @@ fn type_bar(alloc: Global, family: Family) -> Result<PacketBox, Memory>
     ensures { IfOk result (λ b. b
         ≡ record (everything family) { protocols = but_icmp family; types = from_one 255 }) }
 {
-    let mut bar = PacketBox::everything(alloc, family)?;
-    bar.protocols = but_icmp(alloc, family)?;
-    bar.types = from_one(alloc, 255)?;
-    Ok(bar)
+    let protocols = but_icmp(alloc, family)?;
+    let types = from_one(alloc, 255)?;
+    Ok(
+        PacketBox::everything(alloc, family)?
+            .with_protocols(protocols)
+            .with_types(types),
+    )
 }
 
 // A code there.
@@ -58,19 +70,21 @@ fn code_bar(alloc: Global, family: Family) -> Result<PacketBox, Memory>
     ensures { IfOk result (λ b. b
         ≡ record (everything family) { protocols = but_icmp family; codes = from_one 255 }) }
 {
-    let mut bar = PacketBox::everything(alloc, family)?;
-    bar.protocols = but_icmp(alloc, family)?;
-    bar.codes = from_one(alloc, 255)?;
-    Ok(bar)
+    let protocols = but_icmp(alloc, family)?;
+    let codes = from_one(alloc, 255)?;
+    Ok(
+        PacketBox::everything(alloc, family)?
+            .with_protocols(protocols)
+            .with_codes(codes),
+    )
 }
 
 // An extension header for a protocol.
 fn header_bar(alloc: Global, family: Family) -> Result<PacketBox, Memory>
     ensures { IfOk result (λ b. b ≡ record (everything family) { protocols = extension_headers }) }
 {
-    let mut bar = PacketBox::everything(alloc, family)?;
-    bar.protocols = extension_headers(alloc)?;
-    Ok(bar)
+    let protocols = extension_headers(alloc)?;
+    Ok(PacketBox::everything(alloc, family)?.with_protocols(protocols))
 }
 
 fn push_port_bars(alloc: Global, out: &mut Items<PacketBox>, family: Family) -> Result<(), Memory>

@@ -47,17 +47,64 @@ impl PacketBox {
     pub(crate) fn share(&self) -> Result<PacketBox, Memory>
         ensures { IfOk result (λ b. b ≡ self.now) }
     {
+        let (sources, destinations) = share_both(&self.sources, &self.destinations)?;
+        let (source_ports, destination_ports) = share_both(
+            &self.source_ports,
+            &self.destination_ports,
+        )?;
+        let (types, codes) = share_both(&self.types, &self.codes)?;
+        let (flags, connections) = share_both(&self.flags, &self.connections)?;
         Ok(PacketBox {
-            sources: self.sources.share()?,
-            destinations: self.destinations.share()?,
+            sources,
+            destinations,
             protocols: self.protocols.share()?,
-            source_ports: self.source_ports.share()?,
-            destination_ports: self.destination_ports.share()?,
-            types: self.types.share()?,
-            codes: self.codes.share()?,
-            flags: self.flags.share()?,
-            connections: self.connections.share()?,
+            source_ports,
+            destination_ports,
+            types,
+            codes,
+            flags,
+            connections,
         })
+    }
+
+    pub(crate) fn with_protocols(self, protocols: RangeSet) -> PacketBox
+        ensures { result ≡ record self { protocols = protocols } }
+    {
+        let mut out = self;
+        out.protocols = protocols;
+        out
+    }
+
+    pub(crate) fn with_source_ports(self, ports: RangeSet) -> PacketBox
+        ensures { result ≡ record self { source_ports = ports } }
+    {
+        let mut out = self;
+        out.source_ports = ports;
+        out
+    }
+
+    pub(crate) fn with_destination_ports(self, ports: RangeSet) -> PacketBox
+        ensures { result ≡ record self { destination_ports = ports } }
+    {
+        let mut out = self;
+        out.destination_ports = ports;
+        out
+    }
+
+    pub(crate) fn with_types(self, types: RangeSet) -> PacketBox
+        ensures { result ≡ record self { types = types } }
+    {
+        let mut out = self;
+        out.types = types;
+        out
+    }
+
+    pub(crate) fn with_codes(self, codes: RangeSet) -> PacketBox
+        ensures { result ≡ record self { codes = codes } }
+    {
+        let mut out = self;
+        out.codes = codes;
+        out
     }
 
     pub(crate) fn with_flags(self, flags: RangeSet) -> PacketBox
@@ -75,4 +122,11 @@ impl PacketBox {
         out.connections = connections;
         out
     }
+}
+
+// Both sets, each for one place more.
+fn share_both(one: &RangeSet, other: &RangeSet) -> Result<(RangeSet, RangeSet), Memory>
+    ensures { IfOk result (λ both. both ≡ (one.now, other.now)) }
+{
+    Ok((one.share()?, other.share()?))
 }

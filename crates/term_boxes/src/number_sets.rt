@@ -79,25 +79,41 @@ pub(crate) fn but_icmp(alloc: Global, family: Family) -> Result<RangeSet, Memory
     }
 }
 
+const WITHOUT_PORTS: [Range; 4] = [
+    Range { low: 0, high: 5 },
+    Range { low: 7, high: 16 },
+    Range { low: 18, high: 131 },
+    Range {
+        low: 133,
+        high: 255,
+    },
+];
+
 pub(crate) fn without_ports(alloc: Global) -> Result<RangeSet, Memory>
     ensures { IfOk result (λ s. s ≡ without_ports) }
 {
-    let ranges = [run(0, 5), run(7, 16), run(18, 131), run(133, 255)];
-    set_of(alloc, 255, &ranges)
+    set_of(alloc, 255, &WITHOUT_PORTS)
 }
+
+const EXTENSION_HEADERS: [Range; 6] = [
+    Range { low: 0, high: 0 },
+    Range { low: 43, high: 44 },
+    Range { low: 51, high: 51 },
+    Range { low: 59, high: 60 },
+    Range {
+        low: 135,
+        high: 135,
+    },
+    Range {
+        low: 139,
+        high: 140,
+    },
+];
 
 pub(crate) fn extension_headers(alloc: Global) -> Result<RangeSet, Memory>
     ensures { IfOk result (λ s. s ≡ extension_headers) }
 {
-    let ranges = [
-        run(0, 0),
-        run(43, 44),
-        run(51, 51),
-        run(59, 60),
-        run(135, 135),
-        run(139, 140),
-    ];
-    set_of(alloc, 255, &ranges)
+    set_of(alloc, 255, &EXTENSION_HEADERS)
 }
 
 // ---- ports

@@ -41,10 +41,9 @@ fn established_tcp(alloc: Global, own: &PacketBox) -> Result<PacketBox, Memory>
     ensures { IfOk result (λ b. b
         ≡ record own.now { protocols = in_both own.now.protocols tcp; flags = ack_or_rst }) }
 {
-    let mut out = own.share()?;
-    out.protocols = own.protocols.intersect(alloc, &tcp(alloc)?)?;
-    out.flags = ack_or_rst(alloc)?;
-    Ok(out)
+    let protocols = own.protocols.intersect(alloc, &tcp(alloc)?)?;
+    let flags = ack_or_rst(alloc)?;
+    Ok(own.share()?.with_protocols(protocols).with_flags(flags))
 }
 
 // Other protocols that seem so.
@@ -56,10 +55,13 @@ fn established_others(alloc: Global, own: &PacketBox, named: bool) -> Result<Pac
       destination_ports = established_ports named own.now.destination_ports;
     }) }
 {
-    let mut out = own.share()?;
-    out.protocols = own.protocols.intersect(alloc, &but_tcp(alloc)?)?;
-    out.destination_ports = established_ports(alloc, &own.destination_ports, named)?;
-    Ok(out)
+    let protocols = own.protocols.intersect(alloc, &but_tcp(alloc)?)?;
+    let ports = established_ports(alloc, &own.destination_ports, named)?;
+    Ok(
+        own.share()?
+            .with_protocols(protocols)
+            .with_destination_ports(ports),
+    )
 }
 
 fn push_established(
@@ -108,10 +110,13 @@ fn new_tcp(alloc: Global, family: Family) -> Result<PacketBox, Memory>
     ensures { IfOk result (λ b. b
         ≡ record (everything family) { protocols = tcp; flags = neither_ack_nor_rst }) }
 {
-    let mut out = PacketBox::everything(alloc, family)?;
-    out.protocols = tcp(alloc)?;
-    out.flags = neither_ack_nor_rst(alloc)?;
-    Ok(out)
+    let protocols = tcp(alloc)?;
+    let flags = neither_ack_nor_rst(alloc)?;
+    Ok(
+        PacketBox::everything(alloc, family)?
+            .with_protocols(protocols)
+            .with_flags(flags),
+    )
 }
 
 // Other protocols that seem so.
@@ -119,10 +124,13 @@ fn new_others(alloc: Global, family: Family) -> Result<PacketBox, Memory>
     ensures { IfOk result (λ b. b
         ≡ record (everything family) { protocols = but_tcp; destination_ports = server_ports }) }
 {
-    let mut out = PacketBox::everything(alloc, family)?;
-    out.protocols = but_tcp(alloc)?;
-    out.destination_ports = server_ports(alloc)?;
-    Ok(out)
+    let protocols = but_tcp(alloc)?;
+    let ports = server_ports(alloc)?;
+    Ok(
+        PacketBox::everything(alloc, family)?
+            .with_protocols(protocols)
+            .with_destination_ports(ports),
+    )
 }
 
 fn push_new(
