@@ -538,16 +538,20 @@ enum Appended {
     Other,
 }
 
+fn what_came_of_it(left: &Left, case: &Case) -> Appended {
+    if is_left(left, &DONE) {
+        return Appended::Done;
+    }
+    match files_before_the_cut(left, case) {
+        Some(whole) => Appended::Cut(whole, cut_at_a_line(&left.tree, whole)),
+        None => Appended::Other,
+    }
+}
+
 fn run_to_append(alloc: Global, nth: u32) -> Result<Appended, Memory> {
     let case = cut_off(Op::Append, nth, 0);
     let left = left_by(alloc, POLICY, case.words, &case.calls)?;
-    if is_left(&left, &DONE) {
-        return Ok(Appended::Done);
-    }
-    match files_before_the_cut(&left, &case) {
-        Some(whole) => Ok(Appended::Cut(whole, cut_at_a_line(&left.tree, whole))),
-        None => Ok(Appended::Other),
-    }
+    Ok(what_came_of_it(&left, &case))
 }
 
 // The place of a cut behind `last`, where a line begins there that did not begin at `last`.

@@ -1,6 +1,6 @@
 ghost use Rattle.acl_packet.specs.Packets.{IsPacket};
 
-use crate::tests::runs::{DATED, NONE, left_by};
+use crate::tests::runs::{DATED, Left, NONE, left_by};
 use acl_packet::{Conn, Family, Outcome, Packet, Verdict, is_packet};
 use acl_target::Kind;
 use acl_text::Memory;
@@ -99,6 +99,20 @@ static PLATFORMS: [(Kind, &str, &str); 4] = [
 
 static ACTIONS: [(&str, Verdict); 2] = [("accept", Verdict::Accept), ("deny", Verdict::Deny)];
 
+// Whether the run is done, and what its file does to packets is this.
+fn is_decided(
+    alloc: Global,
+    left: &Left,
+    kind: Kind,
+    path: &str,
+    verdict: Verdict,
+) -> Result<bool, Memory> {
+    match left.tree.file(path) {
+        Some(text) => Ok(left.status == 0 && decides(alloc, kind, text, verdict)?),
+        None => Ok(false),
+    }
+}
+
 // What the platform's file does is what the term does, whatever its comment says.
 fn is_of_the_term_alone(
     alloc: Global,
@@ -109,10 +123,7 @@ fn is_of_the_term_alone(
     let (word, verdict) = *action;
     let policy = hostile_policy(alloc, target, word)?;
     let left = left_by(alloc, policy.as_bytes(), DATED, &NONE)?;
-    match left.tree.file(path) {
-        Some(text) => Ok(left.status == 0 && decides(alloc, kind, text, verdict)?),
-        None => Ok(false),
-    }
+    is_decided(alloc, &left, kind, path, verdict)
 }
 
 #[test]

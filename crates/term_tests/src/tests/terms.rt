@@ -31,12 +31,16 @@ fn term_of(alloc: Global, base: &Checked, items: &str) -> Result<Term, Refusal> 
     }
 }
 
+fn refusal_of(alloc: Global, base: &Checked, items: &str) -> Option<Refusal> {
+    term_of(alloc, base, items).err()
+}
+
 // The first slip of the term of these items.
 fn slip_of(alloc: Global, base: &Checked, items: &str) -> Result<String, Refusal> {
-    match term_of(alloc, base, items) {
-        Ok(_) => Ok(String::from_str(alloc, "none")?),
-        Err(Refusal::Slip(slip)) => Ok(shown_slip(alloc, &slip)?),
-        Err(Refusal::Memory) => Err(Refusal::Memory),
+    match refusal_of(alloc, base, items) {
+        None => Ok(String::from_str(alloc, "none")?),
+        Some(Refusal::Slip(slip)) => Ok(shown_slip(alloc, &slip)?),
+        Some(Refusal::Memory) => Err(Refusal::Memory),
     }
 }
 
