@@ -8,7 +8,7 @@ use std::alloc::Global;
 
 /// An axis of a space: the numbers that are asked for, the values that are chosen among them, and for each box the
 /// numbers that its side holds.
-#[derive(Debug, Drop)]
+#[derive(Drop)]
 pub struct Axis<'a> {
     pub own: &'a RangeSet,
     pub values: Vec<u128>,

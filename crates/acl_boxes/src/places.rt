@@ -6,7 +6,7 @@ use std::alloc::Global;
 use std::marker::Model;
 
 /// A set of places, 64 to a word. A contract sees the words.
-#[derive(Debug, Drop)]
+#[derive(Drop)]
 pub struct Places {
     words: Vec<u64>,
 }

@@ -8,7 +8,7 @@ use std::alloc::Global;
 use std::marker::Model;
 
 /// The place of a value for each coordinate. A contract sees the list.
-#[derive(Debug, Drop)]
+#[derive(Drop)]
 pub struct Point {
     steps: Vec<usize>,
 }

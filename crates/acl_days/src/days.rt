@@ -1,7 +1,7 @@
 ghost use Rattle.std.specs.Prelude.{ℤ, pos, negsuc, ◌≤ℤ◌};
 
 /// A day of the years 0001 to 9999 of the proleptic Gregorian calendar.
-#[derive(Clone, Copy, Debug, PartialEq, Eq)]
+#[derive(Clone, Copy, PartialEq, Eq)]
 pub struct Day {
     /// Days since 1970-01-01.
     pub number: i32,

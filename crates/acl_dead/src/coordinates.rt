@@ -4,7 +4,7 @@ ghost use Rattle.acl_dead.specs.CoordinateSteps.{coordinates};
 use acl_packet::Field;
 
 /// What a packet has a number of.
-#[derive(Clone, Copy, Debug, PartialEq, Eq)]
+#[derive(Clone, Copy, PartialEq, Eq)]
 pub(crate) enum Coordinate {
     Source,
     Destination,

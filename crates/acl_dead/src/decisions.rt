@@ -15,7 +15,7 @@ use acl_text::Memory;
 use std::alloc::Global;
 
 /// Whether a term decides a packet on a target.
-#[derive(Clone, Copy, Debug, PartialEq, Eq)]
+#[derive(Clone, Copy, PartialEq, Eq)]
 pub enum Decided {
     /// It decides this one.
     Packet(Packet),

@@ -6,7 +6,7 @@ use acl_text::{Fault, Memory, Rejection};
 use std::alloc::AllocError;
 
 /// Why the names in a folder were not given.
-#[derive(Debug, Drop)]
+#[derive(Drop)]
 pub enum ListFault {
     /// The folder has this fault.
     Fault(Fault),
@@ -25,7 +25,7 @@ impl From<Memory> for ListFault {
 }
 
 /// Why what files hold was not given.
-#[derive(Debug, Drop)]
+#[derive(Drop)]
 pub enum ReadFault {
     /// The input has this fault.
     Fault(Fault),

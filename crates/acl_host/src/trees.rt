@@ -42,7 +42,7 @@ impl From<AllocError> for TreeFault {
 }
 
 /// Names of files. A contract sees the list of their bytes.
-#[derive(Debug, Drop)]
+#[derive(Drop)]
 pub struct FileNames {
     names: Vec<String>,
 }

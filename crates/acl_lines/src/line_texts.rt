@@ -10,7 +10,7 @@ use std::marker::Model;
 
 /// A list of lines, kept as one text with a line feed behind each line, and the stretches that tell their
 /// places. A contract sees the list of the lines.
-#[derive(Debug, Drop)]
+#[derive(Drop)]
 pub struct Lines {
     text: Vec<u8>,
     stretches: Vec<Stretch>,

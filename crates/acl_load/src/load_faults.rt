@@ -3,7 +3,7 @@ use acl_text::{Fault, Memory, Rejection};
 use std::alloc::AllocError;
 
 /// Why nothing was loaded.
-#[derive(Debug, Drop)]
+#[derive(Drop)]
 pub enum LoadFault {
     /// The input has this fault, the first one.
     Fault(Fault),

@@ -5,7 +5,7 @@ use acl_text::Memory;
 use std::alloc::{AllocError, AllocFailed};
 
 /// Why a look-up of a name gives no set.
-#[derive(Clone, Copy, Debug, PartialEq, Eq)]
+#[derive(Clone, Copy, PartialEq, Eq)]
 pub enum Lookup {
     /// No definition has the name.
     Unknown,

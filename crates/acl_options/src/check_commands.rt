@@ -34,7 +34,7 @@ use packet_text::read_packet;
 use std::alloc::{AllocError, Global};
 
 /// A section of a file.
-#[derive(Clone, Copy, Debug)]
+#[derive(Clone, Copy)]
 pub struct FileSection<'a> {
     /// The file's path. It is not empty.
     pub path: &'a str,
@@ -45,7 +45,7 @@ pub struct FileSection<'a> {
 }
 
 /// What the words of aclcheck ask for.
-#[derive(Clone, Copy, Debug)]
+#[derive(Clone, Copy)]
 pub enum CheckCommand<'a> {
     /// What each target of the policy does to the packet.
     Policy(Inputs<'a>, Packet),

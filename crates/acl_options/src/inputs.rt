@@ -16,7 +16,7 @@ use acl_days::{Day, read_day};
 use clap::ArgMatches;
 
 /// What a command is to read.
-#[derive(Clone, Copy, Debug)]
+#[derive(Clone, Copy)]
 pub struct Inputs<'a> {
     /// The path of the policy. It is not empty, and does not end in `/`.
     pub policy: &'a str,

@@ -26,7 +26,7 @@ use clap::{ArgMatches, Command};
 use std::alloc::{AllocError, Global};
 
 /// What the words of acltool ask for.
-#[derive(Clone, Copy, Debug)]
+#[derive(Clone, Copy)]
 pub enum ToolCommand<'a> {
     /// The text for iptables-restore, of the iptables targets of this family.
     Speedway(Inputs<'a>, Family),

@@ -54,7 +54,7 @@ impl Family {
 }
 
 /// The families that a filter is for.
-#[derive(Clone, Copy, Debug, PartialEq, Eq)]
+#[derive(Clone, Copy, PartialEq, Eq)]
 pub enum Families {
     Inet,
     Inet6,
@@ -91,7 +91,7 @@ impl Families {
 /// `first` is its lowest address as a number, and `len` the number of bits that are the same. It is a
 /// prefix of its family where `len` is at most the family's width, `first` is an address, and the bits of
 /// `first` behind the first `len` are 0: the fact `IsPrefix`.
-#[derive(Clone, Copy, Debug, PartialEq, Eq)]
+#[derive(Clone, Copy, PartialEq, Eq)]
 pub struct Prefix {
     pub first: u128,
     pub len: u8,

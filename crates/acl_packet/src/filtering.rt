@@ -1,5 +1,5 @@
 /// Where in a host a filter stands.
-#[derive(Clone, Copy, Debug, PartialEq, Eq)]
+#[derive(Clone, Copy, PartialEq, Eq)]
 pub enum Hook {
     Input,
     Output,
@@ -17,7 +17,7 @@ pub enum Verdict {
 }
 
 /// A verdict, and whether the packet is logged.
-#[derive(Clone, Copy, Debug, PartialEq, Eq)]
+#[derive(Clone, Copy, PartialEq, Eq)]
 pub struct Outcome {
     pub verdict: Verdict,
     pub logged: bool,

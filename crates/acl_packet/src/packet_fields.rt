@@ -8,7 +8,7 @@ use crate::addresses::Family;
 use crate::packets::{Packet, has_ports, is_icmp};
 
 /// The numbers of a packet, beside its addresses, that a filter has sets of.
-#[derive(Clone, Copy, Debug, PartialEq, Eq)]
+#[derive(Clone, Copy, PartialEq, Eq)]
 pub enum Field {
     Protocol,
     SourcePort,

@@ -12,7 +12,7 @@ use crate::addresses::Family;
 use crate::packet_fields::are_fitting;
 
 /// What connection tracking says of a packet's connection.
-#[derive(Clone, Copy, Debug, PartialEq, Eq)]
+#[derive(Clone, Copy, PartialEq, Eq)]
 pub enum Conn {
     New,
     Established,
@@ -35,7 +35,7 @@ impl Conn {
 ///
 /// Addresses are numbers. `proto` is the number in the IPv4 header, or the IPv6 header's next header.
 /// `flags` has FIN 1, SYN 2, RST 4, PSH 8, ACK 16 and URG 32. A field that the packet has not is 0.
-#[derive(Clone, Copy, Debug, PartialEq, Eq)]
+#[derive(Clone, Copy, PartialEq, Eq)]
 pub struct Packet {
     pub src: u128,
     pub dst: u128,

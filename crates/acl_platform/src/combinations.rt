@@ -17,7 +17,7 @@ use acl_sets::RangeSet;
 use acl_text::{Out, PutFault};
 
 /// A choice of each part of a rule; `None` is no condition.
-#[derive(Clone, Copy, Debug, PartialEq, Eq)]
+#[derive(Clone, Copy, PartialEq, Eq)]
 pub struct Combination {
     pub proto: Option<u8>,
     pub src: Prefix,

@@ -9,7 +9,7 @@ use acl_text::{Bytes, Place};
 /// A filter: the data of a target, and the rules that the terms of its block become.
 ///
 /// The first rule that holds a packet decides it, else the ending does.
-#[derive(Debug, Drop)]
+#[derive(Drop)]
 pub struct Filter {
     pub place: Place,
     pub kind: Kind,
@@ -24,7 +24,7 @@ pub struct Filter {
 }
 
 /// What a policy can ask for, and not each platform can say.
-#[derive(Clone, Copy, Debug, PartialEq, Eq)]
+#[derive(Clone, Copy, PartialEq, Eq)]
 pub enum Feature {
     /// The first packets of connections of TCP.
     TcpInitial,
@@ -49,7 +49,7 @@ impl Feature {
 
 /// Why a platform does not take a filter. The first three name a rule by its place in the list of
 /// rules, from 0.
-#[derive(Clone, Copy, Debug, PartialEq, Eq)]
+#[derive(Clone, Copy, PartialEq, Eq)]
 pub enum Limit {
     /// The rule's name is too long.
     NameLength(usize),

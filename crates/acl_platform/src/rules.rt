@@ -24,7 +24,7 @@ pub enum Test {
 ///
 /// It holds a packet where each of its sets and its test does. `place` is that of the term that it
 /// comes from, whose comments the note has.
-#[derive(Debug, Drop)]
+#[derive(Drop)]
 pub struct Rule {
     pub name: Bytes,
     pub place: Place,

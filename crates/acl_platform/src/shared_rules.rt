@@ -8,7 +8,7 @@ use std::marker::Model;
 use std::rc::Rc;
 
 /// The rules of a filter, in order, which other filters may have too. A contract sees the list of the rules.
-#[derive(Debug, Drop)]
+#[derive(Drop)]
 pub struct SharedRules {
     rules: Rc<Rules>,
 }

@@ -3,7 +3,7 @@ use acl_target::Targets;
 use acl_text::Items;
 
 /// A header's targets and the terms behind it.
-#[derive(Debug, Drop)]
+#[derive(Drop)]
 pub struct Block {
     pub targets: Targets,
     pub terms: RawTerms,
@@ -13,7 +13,7 @@ pub struct Block {
 pub type Blocks = Items<Block>;
 
 /// A policy: its blocks in order.
-#[derive(Debug, Drop)]
+#[derive(Drop)]
 pub struct Policy {
     pub blocks: Blocks,
 }

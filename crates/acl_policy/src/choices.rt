@@ -26,7 +26,7 @@ use acl_words::Token;
 use std::alloc::Global;
 
 /// What the words of a target line in any order have chosen so far.
-#[derive(Clone, Copy, Debug, PartialEq, Eq)]
+#[derive(Clone, Copy, PartialEq, Eq)]
 pub(crate) struct TargetChoices {
     /// Whether the policy word is `ACCEPT`, where there is one.
     pub(crate) accept: Option<bool>,

@@ -4,7 +4,7 @@ ghost use Rattle.acl_policy.specs.Keywords.{row_of, row_in, row_named};
 use crate::values::Takes;
 
 /// A keyword of a term.
-#[derive(Clone, Copy, Debug, PartialEq, Eq)]
+#[derive(Clone, Copy, PartialEq, Eq)]
 pub enum Keyword {
     Comment,
     Owner,
@@ -30,7 +30,7 @@ pub enum Keyword {
 }
 
 /// A keyword, and what its row of the table says of its values.
-#[derive(Clone, Copy, Debug, PartialEq, Eq)]
+#[derive(Clone, Copy, PartialEq, Eq)]
 pub(crate) struct KeywordRow {
     pub(crate) keyword: Keyword,
     pub(crate) takes: Takes,

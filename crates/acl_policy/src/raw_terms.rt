@@ -3,7 +3,7 @@ use acl_text::{Bytes, Items};
 use acl_words::{Word, WordList};
 
 /// A term as it is written: each field has the words of its keyword, in the order of the text.
-#[derive(Debug, Drop)]
+#[derive(Drop)]
 pub struct RawTerm {
     pub name: Word,
     /// The strings of `comment::` with a space between any two.

@@ -4,7 +4,7 @@ use crate::term_drafts::TermDraft;
 use acl_target::Targets;
 
 /// Where in the structure of a policy the reading stands.
-#[derive(Clone, Copy, Debug, PartialEq, Eq)]
+#[derive(Clone, Copy, PartialEq, Eq)]
 pub(crate) enum Part {
     /// Before the first header.
     Start,

@@ -28,7 +28,7 @@ use acl_words::{Form, Token, Word, WordList};
 use std::alloc::Global;
 
 /// What the values of a keyword are: but for the first two, words of some kind.
-#[derive(Clone, Copy, Debug, PartialEq, Eq)]
+#[derive(Clone, Copy, PartialEq, Eq)]
 pub enum Takes {
     /// A string.
     String,

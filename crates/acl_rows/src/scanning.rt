@@ -12,7 +12,7 @@ use acl_text::Memory;
 use std::alloc::Global;
 
 /// What is found of a section of a text.
-#[derive(Clone, Copy, Debug, PartialEq, Eq)]
+#[derive(Clone, Copy, PartialEq, Eq)]
 pub enum SectionVerdict {
     /// The text spells no document of the language.
     NoDocument,

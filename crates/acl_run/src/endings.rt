@@ -4,7 +4,7 @@ ghost use Rattle.acl_run.specs.Statuses.{status};
 use acl_text::Fault;
 
 /// What failed outside the program.
-#[derive(Clone, Copy, Debug, PartialEq, Eq)]
+#[derive(Clone, Copy, PartialEq, Eq)]
 pub enum Which {
     List,
     Read,
@@ -15,7 +15,7 @@ pub enum Which {
 }
 
 /// How a run ended.
-#[derive(Debug, Drop)]
+#[derive(Drop)]
 pub enum Ended {
     /// Every filter and the report were written.
     Done,

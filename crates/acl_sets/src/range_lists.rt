@@ -7,7 +7,7 @@ use std::alloc::Global;
 use std::marker::Model;
 
 // Most sets have one range, which stands in its place, and one without ranges takes no memory. The list of more is shared.
-#[derive(Debug, Drop)]
+#[derive(Drop)]
 enum Held {
     None([Range; 0]),
     One([Range; 1]),
@@ -15,7 +15,7 @@ enum Held {
 }
 
 /// The ranges of a set. A contract sees the list.
-#[derive(Debug)]
+
 pub(crate) struct RangeList {
     held: Held,
 }

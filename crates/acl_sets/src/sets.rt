@@ -10,7 +10,7 @@ use std::alloc::Global;
 use std::marker::Model;
 
 /// The numbers from `low` to `high`, both ends included.
-#[derive(Clone, Copy, Debug, PartialEq, Eq)]
+#[derive(Clone, Copy, PartialEq, Eq)]
 pub struct Range {
     pub low: u128,
     pub high: u128,
@@ -21,7 +21,7 @@ pub struct Range {
 /// A contract sees the top and the list of ranges, which is in normal form: rising, disjoint and
 /// not touching. A clause that is named `computed` gives the list or the answer once more, as a
 /// function of the lists: it follows from the clauses beside it.
-#[derive(Debug, Drop)]
+#[derive(Drop)]
 pub struct RangeSet {
     limit: u128,
     list: RangeList,

@@ -6,7 +6,7 @@ use std::marker::Model;
 use std::rc::Rc;
 
 /// A list that does not change, and that may stand in many places. A contract sees the list of the items.
-#[derive(Debug, Drop)]
+#[derive(Drop)]
 pub struct SharedList<T: Drop> {
     items: Rc<Vec<T>>,
 }

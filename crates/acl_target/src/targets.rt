@@ -2,7 +2,7 @@ use acl_packet::{Families, Hook};
 use acl_text::{Bytes, Items, Place};
 
 /// The platform of a target.
-#[derive(Clone, Copy, Debug, PartialEq, Eq)]
+#[derive(Clone, Copy, PartialEq, Eq)]
 pub enum Kind {
     Cisco,
     Juniper,
@@ -25,7 +25,7 @@ pub enum Ending {
 ///
 /// `place` is that of the keyword `target::`, and `number` counts the target lines of the platform in the
 /// policy from 1.
-#[derive(Debug, Drop)]
+#[derive(Drop)]
 pub struct Target {
     pub place: Place,
     pub kind: Kind,

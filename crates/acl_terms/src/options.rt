@@ -1,5 +1,5 @@
 /// What an option asks of a packet, beside its numbers.
-#[derive(Clone, Copy, Debug, PartialEq, Eq)]
+#[derive(Clone, Copy, PartialEq, Eq)]
 pub enum Opt {
     /// Nothing: no option is written.
     Plain,
@@ -10,7 +10,7 @@ pub enum Opt {
 }
 
 /// Whether a target knows the connections of packets.
-#[derive(Clone, Copy, Debug, PartialEq, Eq)]
+#[derive(Clone, Copy, PartialEq, Eq)]
 pub enum Mode {
     Stateful,
     Stateless,

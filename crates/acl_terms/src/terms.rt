@@ -5,7 +5,7 @@ use acl_sets::RangeSet;
 use acl_text::{Bytes, Place};
 
 /// Some of the four platforms.
-#[derive(Clone, Copy, Debug, PartialEq, Eq)]
+#[derive(Clone, Copy, PartialEq, Eq)]
 pub struct Platforms {
     pub cisco: bool,
     pub juniper: bool,
@@ -24,7 +24,7 @@ ghost use Rattle.acl_terms.specs.Soundness.{IsSoundTerm, normal-prop, one-number
 /// likewise. These, `protos`, `sports`, `dports`, `itypes` and `icodes` are all numbers where none are named.
 /// `addr_named`, `dport_named` and `port_named` say that `address::`, `destination-port::` and `port::` are written. `only` has the
 /// platforms of `platform::`, where it is written, and `never` those of `platform-exclude::`.
-#[derive(Debug, Drop)]
+#[derive(Drop)]
 pub struct Term {
     pub name: Bytes,
     pub place: Place,

@@ -6,7 +6,7 @@ use crate::texts::{Bytes, Memory};
 use std::alloc::{AllocError, AllocFailed};
 
 /// A line of a file of the run: the file by its number, the line from 1. Line 0 is no line.
-#[derive(Clone, Copy, Debug, PartialEq, Eq)]
+#[derive(Clone, Copy, PartialEq, Eq)]
 pub struct Place {
     pub file: u32,
     pub line: u32,
@@ -100,7 +100,7 @@ pub enum Code {
 }
 
 /// A fault of the input by the number of its file: what is wrong, where, and the word in error.
-#[derive(Debug, Drop)]
+#[derive(Drop)]
 pub struct Slip {
     pub code: Code,
     pub place: Place,
@@ -108,7 +108,7 @@ pub struct Slip {
 }
 
 /// Why a reader gave no value: the input has a slip, or memory was wanted.
-#[derive(Debug, Drop)]
+#[derive(Drop)]
 pub enum Refusal {
     Slip(Slip),
     Memory,
@@ -140,7 +140,7 @@ impl<T: Drop> From<AllocFailed<T>> for Refusal {
 
 /// A fault of the input: what is wrong, the label of the file, its line (0 where there is none), and the
 /// word in error (empty where there is none).
-#[derive(Debug, Drop)]
+#[derive(Drop)]
 pub struct Fault {
     pub code: Code,
     pub label: Bytes,
@@ -149,7 +149,7 @@ pub struct Fault {
 }
 
 /// Why a step that touches nothing outside gave no value: the input has a fault, or memory was wanted.
-#[derive(Debug, Drop)]
+#[derive(Drop)]
 pub enum Rejection {
     Fault(Fault),
     Memory,

@@ -2,7 +2,7 @@ use crate::faults::Place;
 use crate::texts::Bytes;
 
 /// A line of a file, without its line feed, and where it stands.
-#[derive(Debug, Drop)]
+#[derive(Drop)]
 pub struct Line {
     pub place: Place,
     pub text: Bytes,

@@ -5,7 +5,7 @@ use std::alloc::Global;
 use std::marker::Model;
 
 /// A list. A contract sees the list of the items.
-#[derive(Debug, Drop)]
+#[derive(Drop)]
 pub struct Items<T: Drop> {
     items: Vec<T>,
 }

@@ -1,5 +1,5 @@
 /// How a word is meant.
-#[derive(Clone, Copy, Debug, PartialEq, Eq)]
+#[derive(Clone, Copy, PartialEq, Eq)]
 pub enum Form {
     /// A run of bytes without `::`.
     Plain,

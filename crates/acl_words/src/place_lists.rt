@@ -6,7 +6,7 @@ use std::alloc::Global;
 use std::marker::Model;
 
 /// How the place of an item follows from that of the item before it.
-#[derive(Clone, Copy, Debug, PartialEq, Eq)]
+#[derive(Clone, Copy, PartialEq, Eq)]
 pub(crate) enum PlaceStep {
     /// The same line.
     Same,
@@ -18,7 +18,7 @@ pub(crate) enum PlaceStep {
 
 /// A list of places, most of which follow from the ones before them, the first from a place where the list
 /// starts. A contract sees the list.
-#[derive(Debug, Drop)]
+#[derive(Drop)]
 pub(crate) struct PlaceList {
     start: Place,
     steps: Vec<PlaceStep>,

@@ -7,7 +7,7 @@ use acl_text::Place;
 use std::marker::Model;
 
 /// A word of a policy: where it stands, how it is meant, and its bytes, which are those of the policy's text.
-#[derive(Debug, Drop)]
+#[derive(Drop)]
 pub struct Token<'a> {
     place: Place,
     form: Form,

@@ -8,14 +8,14 @@ use std::alloc::Global;
 use std::marker::Model;
 
 /// A word of a policy, or the bytes of a string, and where it stands.
-#[derive(Debug, Drop)]
+#[derive(Drop)]
 pub struct Word {
     pub place: Place,
     pub text: Bytes,
 }
 
 /// The same, with bytes that another holds.
-#[derive(Debug, Drop)]
+#[derive(Drop)]
 pub struct WordRef<'a> {
     place: Place,
     text: &'a [u8],
@@ -58,7 +58,7 @@ impl<'a> WordRef<'a> {
 
 // Words without line feeds, kept as one text with a line feed behind each word, and the steps that tell
 // their places: some three bytes a word beside its own. A contract sees the list of the words.
-#[derive(Debug, Drop)]
+#[derive(Drop)]
 struct WordText {
     text: Vec<u8>,
     places: PlaceList,
@@ -139,7 +139,7 @@ impl WordText {
 
 /// A list of words without line feeds. One without words, as most lists of a term are, takes no memory. A
 /// contract sees the list of the words.
-#[derive(Debug, Drop)]
+#[derive(Drop)]
 pub struct WordList {
     alloc: Global,
     kept: Option<Box<WordText>>,

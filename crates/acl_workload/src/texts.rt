@@ -1,7 +1,7 @@
 use acl_text::Bytes;
 
 /// The texts of a workload: two naming files, and a policy.
-#[derive(Debug, Drop)]
+#[derive(Drop)]
 pub struct Workload {
     /// A file of networks: `N0`, `N1` and so on.
     pub networks: Bytes,

@@ -4,7 +4,7 @@ use acl_packet::{Families, Family, Prefix};
 use acl_text::{Bytes, Items};
 
 /// A test of a packet's TCP flags.
-#[derive(Clone, Copy, Debug, PartialEq, Eq)]
+#[derive(Clone, Copy, PartialEq, Eq)]
 pub enum Flags {
     /// `established`: ACK or RST is set.
     Established,
@@ -16,7 +16,7 @@ pub enum Flags {
 
 /// An entry of a list: what it does, and which packets it holds. A part that is `None` is not
 /// written, and holds all. A prefix of length 0 is written `any`.
-#[derive(Clone, Copy, Debug, PartialEq, Eq)]
+#[derive(Clone, Copy, PartialEq, Eq)]
 pub struct Entry {
     pub permit: bool,
     pub proto: Option<u8>,
@@ -31,14 +31,14 @@ pub struct Entry {
 }
 
 /// A line of a list.
-#[derive(Debug, Drop)]
+#[derive(Drop)]
 pub enum Item {
     Remark(Bytes),
     Entry(Entry),
 }
 
 /// An access list.
-#[derive(Debug, Drop)]
+#[derive(Drop)]
 pub struct AccessList {
     pub family: Family,
     pub name: Bytes,
@@ -46,7 +46,7 @@ pub struct AccessList {
 }
 
 /// What is written for one target: one list, or in a mixed section one for each family.
-#[derive(Debug, Drop)]
+#[derive(Drop)]
 pub struct Section {
     pub name: Bytes,
     pub families: Families,

@@ -2,7 +2,7 @@ use acl_packet::{Family, Hook, Prefix, Verdict};
 use acl_text::{Bytes, Items};
 
 /// A test of a packet's TCP flags.
-#[derive(Clone, Copy, Debug, PartialEq, Eq)]
+#[derive(Clone, Copy, PartialEq, Eq)]
 pub enum Flags {
     /// `--tcp-flags ACK ACK`: ACK is set.
     Ack,
@@ -13,7 +13,7 @@ pub enum Flags {
 }
 
 /// What a rule does with the packets that it holds.
-#[derive(Clone, Copy, Debug, PartialEq, Eq)]
+#[derive(Clone, Copy, PartialEq, Eq)]
 pub enum Act {
     /// Logs the packet, which then goes on to the next rule.
     Log,
@@ -23,7 +23,7 @@ pub enum Act {
 
 /// A rule of a chain: which packets it holds, and what it does with them. A part that is `None`,
 /// `false` or a list without elements is not written, and holds all.
-#[derive(Debug, Drop)]
+#[derive(Drop)]
 pub struct Rule {
     pub proto: Option<u8>,
     pub src: Option<Prefix>,
@@ -41,7 +41,7 @@ pub struct Rule {
 }
 
 /// A chain, to which the hook's chain jumps.
-#[derive(Debug, Drop)]
+#[derive(Drop)]
 pub struct Chain {
     pub remarks: Items<Bytes>,
     /// The name without the hook's letter and the `_` behind it.
@@ -50,7 +50,7 @@ pub struct Chain {
 }
 
 /// What is written for one target: the rules of a hook for packets of a family.
-#[derive(Debug, Drop)]
+#[derive(Drop)]
 pub struct Section {
     pub hook: Hook,
     pub family: Family,

@@ -2,7 +2,7 @@ use acl_packet::{Family, Prefix, Verdict};
 use acl_text::{Bytes, Items};
 
 /// A test of a packet's TCP flags.
-#[derive(Clone, Copy, Debug, PartialEq, Eq)]
+#[derive(Clone, Copy, PartialEq, Eq)]
 pub enum JTest {
     /// `tcp-established`: ACK or RST is set.
     Established,
@@ -14,7 +14,7 @@ pub enum JTest {
 
 /// A term of a filter: which packets it holds, and what it does with them. A list without elements
 /// is no condition, and is not written.
-#[derive(Debug, Drop)]
+#[derive(Drop)]
 pub struct JTerm {
     /// The comment before the term.
     pub note: Option<Bytes>,
@@ -33,7 +33,7 @@ pub struct JTerm {
 }
 
 /// A filter of a family, as it is written for one target.
-#[derive(Debug, Drop)]
+#[derive(Drop)]
 pub struct Section {
     pub family: Family,
     pub name: Bytes,

@@ -2,7 +2,7 @@ use acl_packet::{Families, Family, Hook, Prefix, Verdict};
 use acl_text::{Bytes, Items};
 
 /// A test of a packet's TCP flags.
-#[derive(Clone, Copy, Debug, PartialEq, Eq)]
+#[derive(Clone, Copy, PartialEq, Eq)]
 pub enum Flags {
     /// `tcp flags & rst == rst`: RST is set.
     Rst,
@@ -12,7 +12,7 @@ pub enum Flags {
 
 /// A rule of a chain: which packets it holds, whether it logs them, and what it decides. A part that
 /// is `None`, `false` or a set without elements is not written, and holds all.
-#[derive(Debug, Drop)]
+#[derive(Drop)]
 pub struct Rule {
     /// The family of the packets, written only where the table is of both.
     pub family: Family,
@@ -33,7 +33,7 @@ pub struct Rule {
 }
 
 /// A line of a chain.
-#[derive(Debug, Drop)]
+#[derive(Drop)]
 pub enum Item {
     Remark(Bytes),
     Rule(Rule),
@@ -41,7 +41,7 @@ pub enum Item {
 
 /// What is written for one target: a table with one base chain, which replaces an older table of its
 /// name.
-#[derive(Debug, Drop)]
+#[derive(Drop)]
 pub struct Section {
     pub hook: Hook,
     pub families: Families,

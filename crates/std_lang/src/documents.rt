@@ -3,7 +3,7 @@ use acl_text::{Bytes, Items};
 
 /// An entry of a list: what it does, and the sources whose packets it holds. A prefix of length 0 is
 /// written `any`.
-#[derive(Clone, Copy, Debug, PartialEq, Eq)]
+#[derive(Clone, Copy, PartialEq, Eq)]
 pub struct Entry {
     pub permit: bool,
     pub src: Prefix,
@@ -11,14 +11,14 @@ pub struct Entry {
 }
 
 /// A line of a list.
-#[derive(Debug, Drop)]
+#[derive(Drop)]
 pub enum Item {
     Remark(Bytes),
     Entry(Entry),
 }
 
 /// What is written for one target: the list of a number.
-#[derive(Debug, Drop)]
+#[derive(Drop)]
 pub struct Section {
     pub number: u8,
     pub items: Items<Item>,

@@ -9,7 +9,7 @@ use std::alloc::Global;
 /// A set of packets of a family: what it holds along each coordinate, by itself.
 ///
 /// Flags and connections are told by their places, as in `packet_at`.
-#[derive(Debug, Drop)]
+#[derive(Drop)]
 pub struct PacketBox {
     pub sources: RangeSet,
     pub destinations: RangeSet,
