@@ -9,7 +9,7 @@ use Rattle.acl_naming.specs.Definitions.{Naming}
 use Rattle.acl_target.specs.declared.targets.Kind.{Kind}
 use Rattle.acl_policy.specs.Conditions.{IsBlock}
 use Rattle.acl_platform.specs.Platforms.{DecidesAs}
-use Rattle.acl_languages.specs.PlatformLanguages.{IsDocumentFor, SectionOn, outcome_on}
+use Rattle.acl_render.specs.PlatformLanguages.{IsDocumentFor, SectionOn, outcome_on}
 use Rattle.acl_load.specs.declared.policy_loading.Loaded.{Loaded}
 use Rattle.acl_load.specs.LoadedPolicies.{AreResolved, LoadedStands}
 use Rattle.acl_load.proofs.AnswersThere.{loaded-stands}

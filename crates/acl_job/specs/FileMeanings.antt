@@ -4,7 +4,7 @@ use Rattle.std.specs.Prelude.{ℕ, List, IsSomeAnd}
 use Rattle.acl_days.specs.declared.days.Day.{Day}
 use Rattle.acl_host.specs.Files.{File, file_at}
 use Rattle.acl_target.specs.declared.targets.Kind.{Kind}
-use Rattle.acl_languages.specs.PlatformLanguages.{IsTextFor}
+use Rattle.acl_render.specs.PlatformLanguages.{IsTextFor}
 use Rattle.acl_naming.specs.Definitions.{Naming}
 use Rattle.acl_filters.specs.AskedFilters.{FilterRequest}
 use Rattle.acl_filters.specs.FilterMeanings.{DecidesAsPolicy}

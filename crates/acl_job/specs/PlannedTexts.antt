@@ -3,7 +3,7 @@ use Rattle.std.specs.Prelude.{ℕ, List, Some, Ok}
 use Rattle.std.specs.List.{AllByRecursion}
 use Rattle.acl_days.specs.declared.days.Day.{Day}
 use Rattle.acl_host.specs.Files.{File}
-use Rattle.acl_languages.specs.PlatformLanguages.{IsDocumentFor}
+use Rattle.acl_render.specs.PlatformLanguages.{IsDocumentFor}
 use Rattle.acl_naming.specs.Definitions.{Naming}
 use Rattle.acl_render.specs.PlatformFiles.{sections_on, text_on}
 use Rattle.acl_job.specs.AskedFiles.{PlanFile}

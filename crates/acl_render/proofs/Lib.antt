@@ -1,5 +1,7 @@
-pub mod TakenFilters
-pub mod LeftLaws
+pub mod DocumentLaws
 pub mod FewerRulesLaws
+pub mod LeftLaws
 pub mod MeantTextsLaws
+pub mod ReadingForms
 pub mod ShortListsLaws
+pub mod TakenFilters

@@ -10,7 +10,7 @@ use Rattle.acl_platform.specs.declared.filters.Filter.{Filter}
 use Rattle.acl_platform.specs.Limits.{is_for}
 use Rattle.acl_platform.specs.Platforms.{DecidesAs, IsAccepted}
 use Rattle.acl_platform.proofs.Sections.{all-decide, all-spelled}
-use Rattle.acl_languages.specs.PlatformLanguages.{IsDocumentFor, IsTextFor, OneDocument, outcome_on, SpellsOn}
+use Rattle.acl_render.specs.PlatformLanguages.{IsDocumentFor, IsTextFor, OneDocument, outcome_on, SpellsOn}
 use Rattle.cisco_lang.specs.Documents as cisco_documents
 use Rattle.cisco_lang.specs.Texts as cisco_texts
 use Rattle.cisco_lang.specs.Walks as cisco_walks

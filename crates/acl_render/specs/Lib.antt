@@ -1,4 +1,5 @@
-pub mod PlatformFiles
 pub mod FewerRules
 pub mod MeantTexts
+pub mod PlatformFiles
+pub mod PlatformLanguages
 pub mod ShortLists

@@ -3,7 +3,7 @@ use Rattle.std.specs.Prelude.{◌↔◌, ◌≡◌, List}
 use Rattle.std.specs.List.{All}
 use Rattle.acl_target.specs.declared.targets.Kind.{Kind}
 use Rattle.acl_platform.specs.declared.filters.Filter.{Filter}
-use Rattle.acl_languages.specs.PlatformLanguages.{SectionOn, SpellsOn}
+use Rattle.acl_render.specs.PlatformLanguages.{SectionOn, SpellsOn}
 use Rattle.acl_render.specs.PlatformFiles.{AreApart, IsTaken, sections_on, text_on}
 
 -- Of filters that the platform takes, and that are apart, the text has one document: that of their sections.

@@ -7,7 +7,7 @@ use Rattle.acl_target.specs.Clashes.{clash}
 use Rattle.acl_platform.specs.declared.filters.Filter.{Filter}
 use Rattle.acl_platform.specs.declared.filters.Limit.{Limit}
 use Rattle.acl_platform.specs.SoundFilters.{IsSound, target_of}
-use Rattle.acl_languages.specs.PlatformLanguages.{SectionOn}
+use Rattle.acl_render.specs.PlatformLanguages.{SectionOn}
 use Rattle.cisco_lang.specs.Texts as cisco
 use Rattle.junos_lang.specs.Texts as junos
 use Rattle.ipt_lang.specs.Texts as ipt

@@ -1,8 +1,13 @@
 ghost use Rattle.acl_render.specs.FewerRules.{FewerRulesFit};
 ghost use Rattle.acl_render.specs.MeantTexts.{MeantTextsAreOfSections};
+ghost use Rattle.acl_render.specs.PlatformLanguages.{OneDocument};
 ghost use Rattle.acl_render.specs.ShortLists.{TakenFiltersAreShort};
 
-use acl_languages::a_text_has_one_document;
+use acl_rows::a_text_has_one_document as has_one_document;
+use cisco_lang::Cisco;
+use ipt_lang::Iptables;
+use junos_lang::Junos;
+use nft_lang::Nftables;
 
 /// A law: where a platform takes a filter, it takes the filter with some of its rules taken out, as
 /// long as a rule of each family stays that had one.
@@ -15,6 +20,16 @@ pub fn fewer_rules_fit()
 pub fn taken_filters_are_short()
     ensures { TakenFiltersAreShort }
 {}
+
+/// A law: a text has at most one document of a platform's language.
+pub fn a_text_has_one_document()
+    ensures { OneDocument }
+{
+    has_one_document::<Cisco>();
+    has_one_document::<Junos>();
+    has_one_document::<Iptables>();
+    has_one_document::<Nftables>();
+}
 
 /// A law: the text that is put for filters spells one document of the platform's language, and that is
 /// the sections which the filters become.

@@ -2,7 +2,7 @@ ghost use Rattle.std.specs.Prelude.{IsTrue};
 ghost use Rattle.std.specs.List.{All};
 ghost use Rattle.acl_text.specs.Puts.{Puts};
 ghost use Rattle.acl_platform.specs.Platforms.{DecidesAs};
-ghost use Rattle.acl_languages.specs.PlatformLanguages.{IsTextFor};
+ghost use Rattle.acl_render.specs.PlatformLanguages.{IsTextFor};
 ghost use Rattle.acl_render.specs.PlatformFiles.{AreApart, IsTaken, text_on};
 
 use acl_platform::{Filter, write_all};

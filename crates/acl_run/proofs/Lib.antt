@@ -1,6 +1,9 @@
 pub mod DecidingLaws
+pub mod DecidingTexts
 pub mod FaultCounts
 pub mod LoadingLaws
+pub mod PolicyAnswersLaws
+pub mod PrintingLaws
 pub mod Rows
 pub mod ToldLaws
 pub mod TriedLines

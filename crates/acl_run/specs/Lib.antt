@@ -2,7 +2,10 @@ pub mod Asked
 pub mod Deciding
 pub mod Endings
 pub mod Failures
+pub mod Finishing
 pub mod Lines
+pub mod PolicyAnswers
+pub mod Printing
 pub mod Statuses
 pub mod Telling
 pub mod Told

@@ -14,7 +14,7 @@ use Rattle.acl_filters.specs.FilterRequests.{filter_for, request_slip, requests_
 use Rattle.acl_filters.proofs.ApartLaws.{all-taken}
 use Rattle.acl_filters.proofs.FilterLaws.{both-none, requests-taken, targets-stand}
 use Rattle.acl_filters.proofs.MeantFilters.{decides-at, resolved-requests}
-use Rattle.acl_languages.specs.PlatformLanguages.{outcome_on}
+use Rattle.acl_render.specs.PlatformLanguages.{outcome_on}
 use Rattle.acl_load.specs.declared.policy_loading.Loaded.{Loaded}
 use Rattle.acl_load.specs.LoadedPolicies.{AreResolved, FirstFaultOr, LoadedStands, LoadsPolicy}
 use Rattle.acl_load.proofs.AnswersThere.{loaded-stands}

@@ -9,7 +9,7 @@ use Rattle.acl_packet.specs.declared.packets.Packet.{Packet}
 use Rattle.acl_days.specs.declared.days.Day.{Day}
 use Rattle.acl_filters.specs.AskedFilters.{FilterRequest}
 use Rattle.acl_filters.specs.FilterRequests.{filter_for, request_slip, requests_of}
-use Rattle.acl_languages.specs.PlatformLanguages.{outcome_on}
+use Rattle.acl_render.specs.PlatformLanguages.{outcome_on}
 use Rattle.acl_load.specs.declared.policy_loading.Loaded.{Loaded}
 use Rattle.acl_naming.specs.Definitions.{Naming}
 use Rattle.acl_render.specs.PlatformFiles.{sections_on}

@@ -1,7 +1,7 @@
 ghost use Rattle.acl_verdicts.specs.CheckLaws.{PolicyAnswersAreOne, SectionAnswersAreOne, SectionsAnswerAsThePolicy};
 ghost use Rattle.acl_verdicts.specs.Deciders.{OutcomesAreThePolicys};
 
-use acl_languages::a_text_has_one_document;
+use acl_render::a_text_has_one_document;
 
 /// A law: what is told to become of a packet is what the policy decides.
 pub fn outcomes_are_the_policys()

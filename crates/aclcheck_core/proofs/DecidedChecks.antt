@@ -14,7 +14,7 @@ use Rattle.acl_load.specs.declared.load_faults.LoadFault.{LoadFault}
 use Rattle.acl_load.specs.declared.load_faults.LoadFault.TheVariants as loads
 use Rattle.acl_options.specs.CheckCommands.{CheckRequest, AskPolicy, AskText, FileSection}
 use Rattle.acl_options.specs.Commands.{Inputs}
-use Rattle.acl_printing.specs.Finishing.{IsTextOf}
+use Rattle.acl_run.specs.Finishing.{IsTextOf}
 use Rattle.acl_run.specs.Deciding.{Asks, DecidesPlanned, DecidesSo, FollowsFrom, IsDayFor}
 use Rattle.acl_run.specs.Told.{or_day}
 use Rattle.acl_run.specs.Worlds.{Disk, Watch}

@@ -1,7 +1,7 @@
 -- A run that ends with a failed listing was decided so.
 use Rattle.std.proofs.Common.{◌≡◌, ℕ, inl, inr, List, Option, None, Some, ap, sym, subst, ◌∙◌}
 use Rattle.acl_text.specs.declared.wholes.Whole.{Whole}
-use Rattle.acl_printing.specs.Finishing.{Finishes}
+use Rattle.acl_run.specs.Finishing.{Finishes}
 use Rattle.acl_run.specs.Lines.{outside_line}
 use Rattle.acl_run.specs.Telling.{RefusesSo, Reports}
 use Rattle.acl_run.specs.Worlds.{Stream}

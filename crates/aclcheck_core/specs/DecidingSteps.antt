@@ -2,7 +2,7 @@
 use Rattle.std.specs.Prelude.{◌≡◌, true, Option}
 use Rattle.acl_text.specs.declared.wholes.Whole.{Whole}
 use Rattle.acl_options.specs.CheckCommands.{CheckRequest}
-use Rattle.acl_printing.specs.Finishing.{IsTextOf}
+use Rattle.acl_run.specs.Finishing.{IsTextOf}
 use Rattle.acl_run.specs.Deciding.{Decides}
 use Rattle.acl_run.specs.Worlds.{Disk, Watch}
 use Rattle.acl_run.specs.declared.deciding.Decision.{Decision}

@@ -6,8 +6,7 @@ ghost use Rattle.acl_run.specs.Worlds.{stream, world_of};
 use crate::program::AclCheck;
 use crate::running::aclcheck;
 use acl_host::{Clock, Sink, Tree};
-use acl_printing::Program;
-use acl_run::{end_without_words, status_of};
+use acl_run::{Program, end_without_words, status_of};
 use std::alloc::Global;
 
 /// The whole run, and the exit status of the program: that of the ending, as `aclcheck` tells it.

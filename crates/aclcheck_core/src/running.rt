@@ -6,8 +6,7 @@ ghost use Rattle.acl_run.specs.Worlds.{world_of};
 use crate::deciding::decide;
 use crate::program::AclCheck;
 use acl_host::{Clock, Sink, Tree};
-use acl_printing::finish;
-use acl_run::Ended;
+use acl_run::{Ended, finish};
 use acl_verdicts::answers_are_one;
 use std::alloc::Global;
 

@@ -14,15 +14,15 @@ use Rattle.acl_options.specs.Commands.{IsCount, value_in}
 use Rattle.acl_run.specs.Told.{or_day}
 use Rattle.acl_run.proofs.DecidingLaws.{IsJobFor}
 use Rattle.acl_run.proofs.Rows.{HasOneJob}
-use Rattle.acl_printing.specs.Finishing.{IsTextOf}
-use Rattle.acl_printing.specs.PolicyAnswers.{Makes}
-use Rattle.acl_printing.proofs.PolicyAnswersLaws.{one-policy-answer}
-use Rattle.speedway_job.specs.RestorePlans.{Restores, restores_slip}
-use Rattle.speedway_job.specs.RestorePlans as restores
-use Rattle.dead_job.specs.DeadLaws.{DeadAnswersAreOne}
-use Rattle.dead_job.specs.TermAnswers.{AnswersDead}
-use Rattle.standard_job.specs.ListPlans.{Lists, lists_slip}
-use Rattle.standard_job.specs.ListPlans as lists
+use Rattle.acl_run.specs.Finishing.{IsTextOf}
+use Rattle.acl_run.specs.PolicyAnswers.{Makes}
+use Rattle.acl_run.proofs.PolicyAnswersLaws.{one-policy-answer}
+use Rattle.acltool_core.specs.RestorePlans.{Restores, restores_slip}
+use Rattle.acltool_core.specs.RestorePlans as restores
+use Rattle.acltool_core.specs.DeadLaws.{DeadAnswersAreOne}
+use Rattle.acltool_core.specs.TermAnswers.{AnswersDead}
+use Rattle.acltool_core.specs.ListPlans.{Lists, lists_slip}
+use Rattle.acltool_core.specs.ListPlans as lists
 use Rattle.acltool_core.specs.AnsweringSteps.{IsAskable}
 use Rattle.acltool_core.specs.ToolRuns.{Answers, AnswersAs, IsJobOf, MeansAnswer, Restored, Decided, Listed, ToolAnswer, answer_as, asked, told_text}
 

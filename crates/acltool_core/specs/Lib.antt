@@ -1,4 +1,14 @@
 pub mod AnsweringSteps
+pub mod DeadLaws
+pub mod ListLaws
+pub mod ListMeanings
+pub mod ListPlans
+pub mod ListingSteps
 pub mod Programs
+pub mod RestoreMeanings
+pub mod RestorePlans
+pub mod RestoringSteps
+pub mod TellingSteps
+pub mod TermAnswers
 pub mod ToolLines
 pub mod ToolRuns

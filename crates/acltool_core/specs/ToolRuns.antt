@@ -9,10 +9,10 @@ use Rattle.acl_run.specs.Asked.{Asked}
 use Rattle.acl_run.specs.Told.{or_day}
 use Rattle.acl_run.specs.Worlds.{World}
 use Rattle.acl_run.specs.declared.endings.Ended.{Ended}
-use Rattle.acl_printing.specs.Printing.{Prints}
-use Rattle.speedway_job.specs.RestorePlans.{MeansPlan, RestorePlan, Restores, restored_text}
-use Rattle.dead_job.specs.TermAnswers.{AnswersDead, DeadAnswer, dead_text}
-use Rattle.standard_job.specs.ListPlans.{ListPlan, Lists, MeansPlan as MeansListPlan, listed_text}
+use Rattle.acl_run.specs.Printing.{Prints}
+use Rattle.acltool_core.specs.RestorePlans.{MeansPlan, RestorePlan, Restores, restored_text}
+use Rattle.acltool_core.specs.TermAnswers.{AnswersDead, DeadAnswer, dead_text}
+use Rattle.acltool_core.specs.ListPlans.{ListPlan, Lists, MeansPlan as MeansListPlan, listed_text}
 use Rattle.acltool_core.specs.ToolLines.{program_name, usage_line}
 
 -- ---- the answer

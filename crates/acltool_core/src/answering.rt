@@ -1,7 +1,7 @@
 ghost use Rattle.acl_load.specs.LoadFaults.{LoadsFiles};
 ghost use Rattle.acl_options.specs.CodeViews.{tool_view};
-ghost use Rattle.acl_printing.specs.Finishing.{IsTextOf};
-ghost use Rattle.acl_printing.specs.PolicyAnswers.{Makes};
+ghost use Rattle.acl_run.specs.Finishing.{IsTextOf};
+ghost use Rattle.acl_run.specs.PolicyAnswers.{Makes};
 ghost use Rattle.acltool_core.specs.AnsweringSteps.{IsAskable};
 ghost use Rattle.acltool_core.specs.ToolRuns.{Answers, MeansAnswer, told_text};
 
@@ -10,9 +10,9 @@ use acl_host::Tree;
 use acl_load::LoadFault;
 use acl_options::ToolCommand;
 use acl_text::Whole;
-use dead_job::tell_dead;
-use speedway_job::restore;
-use standard_job::list_targets;
+use crate::dead_telling::tell_dead;
+use crate::restoring::restore;
+use crate::listing::list_targets;
 use std::alloc::Global;
 
 /// The text of the answer to a command on that day, or the first fault; nothing where there is nothing to tell.

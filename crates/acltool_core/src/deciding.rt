@@ -1,6 +1,6 @@
 ghost use Rattle.std.specs.Prelude.{map};
 ghost use Rattle.std.specs.String.{string_bytes};
-ghost use Rattle.acl_printing.specs.Finishing.{IsTextOf};
+ghost use Rattle.acl_run.specs.Finishing.{IsTextOf};
 ghost use Rattle.acl_run.specs.Deciding.{Decides, LooksAlone};
 ghost use Rattle.acl_run.specs.Worlds.{disk, watch};
 ghost use Rattle.acltool_core.specs.ToolRuns.{MeansAnswer, asked, told_text};

@@ -1,5 +1,4 @@
-use acl_printing::Program;
-use acl_run::Which;
+use acl_run::{Program, Which};
 
 /// The program acltool.
 pub struct AclTool;

@@ -6,9 +6,8 @@ ghost use Rattle.acltool_core.specs.ToolRuns.{RunsTool};
 use crate::deciding::decide;
 use crate::program::AclTool;
 use acl_host::{Clock, Sink, Tree};
-use acl_printing::finish;
-use acl_run::Ended;
-use dead_job::dead_answers_are_one;
+use acl_run::{Ended, finish};
+use crate::laws::dead_answers_are_one;
 use std::alloc::Global;
 
 /// The whole run: the words are read as `acl_options::read_tool_command` reads them, the naming files and the policy are

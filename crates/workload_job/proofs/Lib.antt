@@ -1,1 +1,20 @@
+mod CountedTexts
+mod FileLines
+mod FilterCounts
+mod FilterLimits
+pub mod LoadedWorkloads
+mod NamingFacts
+mod NamingLaws
+mod NamingLines
+mod NamingRead
+mod NumberedNames
+mod OneBlock
+mod PolicyLines
+mod PolicyRead
+mod PolicyStands
+mod RangeLaws
+mod ReachedItems
+mod ResolvedTerms
+mod TermRules
+mod TextLengths
 pub mod WorkloadLaws

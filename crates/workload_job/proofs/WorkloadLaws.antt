@@ -18,10 +18,10 @@ use Rattle.acl_expand.specs.Expansions.{filter_of}
 use Rattle.acl_options.specs.CommandLines.{Options}
 use Rattle.acl_render.specs.PlatformFiles.{count_of}
 use Rattle.policy_grammar.specs.PolicyTexts.{block_meant, text_meant}
-use Rattle.workload_laws.specs.LoadedWorkloads.{FilterFits, IsLoadedWorkload, workload_counts, workload_targets}
-use Rattle.workload_laws.specs.WorkloadFiles.{workload_files}
-use Rattle.workload_laws.specs.WorkloadPolicies.{block_text, workload_text}
-use Rattle.workload_laws.proofs.LoadedWorkloads.{workloads_loaded}
+use Rattle.workload_job.specs.LoadedWorkloads.{FilterFits, IsLoadedWorkload, workload_counts, workload_targets}
+use Rattle.workload_job.specs.WorkloadFiles.{workload_files}
+use Rattle.workload_job.specs.WorkloadPolicies.{block_text, workload_text}
+use Rattle.workload_job.proofs.LoadedWorkloads.{workloads_loaded}
 use Rattle.acl_filters.specs.AskedFilters.{FilterRequest}
 use Rattle.acl_filters.specs.FilterRequests.{check_slip, filter_for, limit_slip, loaded_slip, request_of, request_slip, requests_in, requests_slip}
 use Rattle.acl_job.specs.Job.{Plan, Plans, files_on, job_slip, or_slip, plan_of, platforms}

@@ -8,8 +8,8 @@ use Rattle.acl_filters.specs.FilterRequests.{filter_for}
 use Rattle.acl_job.specs.Job.{Plan, Plans}
 use Rattle.acl_job.specs.Works.{IsReady}
 use Rattle.acl_job.specs.declared.planning.Work.{Work}
-use Rattle.workload_laws.specs.LoadedWorkloads.{workload_counts}
-use Rattle.workload_laws.specs.WorkloadFiles.{workload_files, workload_folder, workload_path}
+use Rattle.workload_job.specs.LoadedWorkloads.{workload_counts}
+use Rattle.workload_job.specs.WorkloadFiles.{workload_files, workload_folder, workload_path}
 
 -- What is asked for: no words are read. Its files are `workload_files`.
 abbrev pub workload_options : Options

@@ -2,15 +2,15 @@ ghost use Rattle.std.specs.Prelude.{◌≡◌, ◌≤◌, IfOk, None};
 ghost use Rattle.acl_memory.specs.MemoryTrees.{contents};
 ghost use Rattle.acl_job.specs.Works.{AreWritable};
 ghost use Rattle.workload_job.specs.WorkloadPlans.{MakesWorkload};
-ghost use Rattle.workload_laws.specs.WorkloadFiles.{workload_files};
+ghost use Rattle.workload_job.specs.WorkloadFiles.{workload_files};
 
+use crate::workloads::workload;
 use acl_days::Day;
 use acl_job::{Work, make_work, write_files};
 use acl_load::LoadFault;
 use acl_memory::MemTree;
 use acl_options::Options;
 use acl_text::Memory;
-use acl_workload::workload;
 use std::alloc::Global;
 
 // 2026-01-01

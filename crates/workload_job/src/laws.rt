@@ -1,4 +1,11 @@
+ghost use Rattle.workload_job.specs.LoadedWorkloads.{WorkloadsAreLoaded};
 ghost use Rattle.workload_job.specs.WorkloadPlans.{WorkloadsHaveNoFault};
+
+/// A law: a workload of 1 to 1024 terms is loaded, and its filters can be written, whatever the day.
+#[tactic(auto, using(crate::proofs::LoadedWorkloads::workloads_loaded))]
+pub fn workloads_are_loaded()
+    ensures { WorkloadsAreLoaded }
+{}
 
 /// A law: the workload of 1 to 1024 terms has a plan, and so no fault.
 #[tactic(auto, using(crate::proofs::WorkloadLaws::workloads_planned))]

@@ -1,4 +1,4 @@
-use acl_workload::workload;
+use workload_job::workload;
 use std::str;
 use std::test::Fail;
 

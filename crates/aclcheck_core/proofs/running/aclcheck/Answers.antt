@@ -1,7 +1,7 @@
 use Rattle.std.proofs.Common.{map}
 use Rattle.std.specs.String.{string_bytes}
 use Rattle.acl_options.specs.ComputableChecks.{check_request_of}
-use Rattle.acl_printing.proofs.PrintingLaws.{prints}
+use Rattle.acl_run.proofs.PrintingLaws.{prints}
 use Rattle.aclcheck_core.specs.CheckRuns.{JoinsSections, asked, told_text}
 use Rattle.aclcheck_core.specs.FaultLines.{program_name, usage_line}
 use Rattle.aclcheck_core.proofs.DecidedChecks.{one}

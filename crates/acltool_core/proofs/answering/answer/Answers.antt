@@ -1,11 +1,11 @@
 use Rattle.std.proofs.Common.{ap, sym, subst}
 use Rattle.acl_options.specs.CodeViews.{inputs_view, tool_view}
 use Rattle.acl_options.specs.ToolCommands.{ToolRequest}
-use Rattle.acl_printing.specs.Finishing.{IsTextOf}
-use Rattle.acl_printing.specs.PolicyAnswers.{Makes}
-use Rattle.speedway_job.specs.RestorePlans.{MeansPlan, Restores, restored_text}
-use Rattle.dead_job.specs.TermAnswers.{AnswersDead, dead_text}
-use Rattle.standard_job.specs.ListPlans.{Lists, MeansPlan as MeansListPlan, listed_text}
+use Rattle.acl_run.specs.Finishing.{IsTextOf}
+use Rattle.acl_run.specs.PolicyAnswers.{Makes}
+use Rattle.acltool_core.specs.RestorePlans.{MeansPlan, Restores, restored_text}
+use Rattle.acltool_core.specs.TermAnswers.{AnswersDead, dead_text}
+use Rattle.acltool_core.specs.ListPlans.{Lists, MeansPlan as MeansListPlan, listed_text}
 use Rattle.acltool_core.specs.ToolRuns.{Answers, MeansAnswer, Restored, Decided, Listed, told_text}
 use Rattle.acltool_core.proofs.ToolJobs.{made-as}
 use Rattle.acltool_core.proofs.answering.answer.Goals as goal

@@ -4,8 +4,8 @@ use Rattle.acl_options.specs.CodeViews.{tool_view}
 use Rattle.acl_options.specs.ComputableTools.{date_for}
 use Rattle.acl_options.specs.ToolCommands.{AsksForTool}
 use Rattle.acl_options.specs.declared.tool_commands.ToolCommand.{ToolCommand}
-use Rattle.acl_printing.specs.Finishing.{IsTextOf}
-use Rattle.acl_printing.proofs.DecidingTexts.{fault-decided, work-decided}
+use Rattle.acl_run.specs.Finishing.{IsTextOf}
+use Rattle.acl_run.proofs.DecidingTexts.{fault-decided, work-decided}
 use Rattle.acltool_core.specs.ToolRuns.{Answers, MeansAnswer, asked, told_text}
 use Rattle.acltool_core.proofs.ToolJobs.{answers-job, askable, asks-as}
 use Rattle.acltool_core.proofs.deciding.decide.Goals as goal

@@ -1,6 +1,6 @@
 use Rattle.std.proofs.Common.{map}
 use Rattle.std.specs.String.{string_bytes}
-use Rattle.acl_printing.proofs.PrintingLaws.{prints}
+use Rattle.acl_run.proofs.PrintingLaws.{prints}
 use Rattle.acltool_core.specs.ToolRuns.{MeansAnswer, asked, told_text}
 use Rattle.acltool_core.proofs.ToolJobs.{one}
 use Rattle.acltool_core.proofs.running.acltool.Goals as goal

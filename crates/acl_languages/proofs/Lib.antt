@@ -1,2 +1,0 @@
-pub mod DocumentLaws
-pub mod ReadingForms

@@ -1,3 +1,0 @@
-pub mod DecidingTexts
-pub mod PolicyAnswersLaws
-pub mod PrintingLaws

@@ -1,2 +1,0 @@
-pub mod OneAnswers
-pub mod TellingLaws

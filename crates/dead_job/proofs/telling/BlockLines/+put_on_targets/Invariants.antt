@@ -1,5 +1,0 @@
-use Rattle.std.proofs.Common.{length}
-use Rattle.dead_job.proofs.telling.BlockLines.+put_on_targets.Given as goal
-
-abbrev pub decreases-put_on_targets : goal.decreases-put_on_targets
-decreases-put_on_targets l = length l.targets.now

@@ -1,9 +1,0 @@
-use Rattle.dead_job.specs.TermAnswers.{question_on}
-use Rattle.dead_job.proofs.TellingLaws.{tells-put}
-use Rattle.dead_job.proofs.telling.BlockLines.put_on_target.Goals as goal
-
-pub returns-clause-tells : goal.returns-clause-tells
-returns-clause-tells c =
-    let block = c.args.self.now in
-    tells-put block.sources.now.labels block.today (question_on block.terms.now c.args.place c.args.term.now c.args.target.now) c.in_ok-decided.decided _ _
-    c.put_decided_line.result c.in_ok-decided.ensures c.put_decided_line.ensures.text

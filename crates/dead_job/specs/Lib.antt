@@ -1,3 +1,0 @@
-pub mod DeadLaws
-pub mod TellingSteps
-pub mod TermAnswers

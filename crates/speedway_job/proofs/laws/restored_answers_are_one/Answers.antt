@@ -1,8 +1,0 @@
-use Rattle.acl_filters.specs.FilterRequests.{requests_of}
-use Rattle.acl_printing.proofs.PolicyAnswersLaws.{one-policy-answer}
-use Rattle.speedway_job.specs.RestorePlans.{plan_of, restores_slip}
-use Rattle.speedway_job.proofs.laws.restored_answers_are_one.Goals as goal
-
-pub returns : goal.returns
-returns c = λ inputs family today files a b p q.
-    one-policy-answer inputs.definitions inputs.policy (λ l. restores_slip family today (requests_of l)) (plan_of family today) files a b p q

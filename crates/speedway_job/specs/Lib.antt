@@ -1,3 +1,0 @@
-pub mod RestoreMeanings
-pub mod RestorePlans
-pub mod RestoringSteps

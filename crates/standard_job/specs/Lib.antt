@@ -1,4 +1,0 @@
-pub mod ListLaws
-pub mod ListMeanings
-pub mod ListPlans
-pub mod ListingSteps
