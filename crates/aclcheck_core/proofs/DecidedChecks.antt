@@ -24,9 +24,9 @@ use Rattle.acl_run.specs.declared.endings.Which.{Which}
 use Rattle.acl_run.specs.declared.endings.Which.TheVariants as which
 use Rattle.acl_run.proofs.DecidingLaws.{decides-fault, decides-planned}
 use Rattle.acl_run.proofs.Rows.{HasOneJob}
-use Rattle.acl_verdicts.specs.CheckAnswers.{AsksPolicyOf, AsksSection, CheckAnswer, MakesText, OfPolicy, OfSection}
-use Rattle.acl_verdicts.specs.CheckLaws.{PolicyAnswersAreOne, SectionAnswersAreOne}
-use Rattle.acl_verdicts.proofs.WrittenSections.{sections-answer}
+use Rattle.aclcheck_core.specs.CheckAnswers.{AsksPolicyOf, AsksSection, CheckAnswer, MakesText, OfPolicy, OfSection}
+use Rattle.aclcheck_core.specs.CheckLaws.{PolicyAnswersAreOne, SectionAnswersAreOne}
+use Rattle.aclcheck_core.proofs.WrittenSections.{sections-answer}
 use Rattle.aclcheck_core.specs.CheckRuns.{IsJobOf, JoinsSections, asked_of, told_text}
 use Rattle.aclcheck_core.specs.DecidingSteps.{DecidesCheck}
 

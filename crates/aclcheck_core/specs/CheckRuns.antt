@@ -13,8 +13,8 @@ use Rattle.acl_run.specs.declared.endings.Ended.{Ended}
 use Rattle.acl_run.specs.declared.endings.Ended.TheVariants as ended
 use Rattle.acl_run.specs.declared.endings.Which.TheVariants as which
 use Rattle.acl_run.specs.Printing.{Prints}
-use Rattle.acl_verdicts.specs.CheckAnswers.{AsksPolicyOf, AsksSection, CheckAnswer, OfPolicy, OfSection, answer_text}
-use Rattle.acl_verdicts.specs.PolicyAnswers.{SectionsAnswer}
+use Rattle.aclcheck_core.specs.CheckAnswers.{AsksPolicyOf, AsksSection, CheckAnswer, OfPolicy, OfSection, answer_text}
+use Rattle.aclcheck_core.specs.PolicyAnswers.{SectionsAnswer}
 use Rattle.aclcheck_core.specs.FaultLines.{program_name, usage_line}
 
 -- ---- the answer

@@ -1,4 +1,10 @@
+pub mod AnswerSteps
+pub mod CheckAnswers
+pub mod CheckLaws
 pub mod CheckRuns
+pub mod Deciders
 pub mod DecidingSteps
 pub mod FaultLines
+pub mod PolicyAnswers
 pub mod Programs
+pub mod SectionAnswers

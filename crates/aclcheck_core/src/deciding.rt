@@ -13,7 +13,8 @@ use acl_options::{CheckCommand, FileSection, Inputs, read_check_command};
 use acl_packet::Packet;
 use acl_run::{Decision, Which, day_for, decision_on};
 use acl_text::Whole;
-use acl_verdicts::{answer_policy, answer_section};
+use crate::policies::answer_policy;
+use crate::sections::answer_section;
 use std::alloc::Global;
 
 // What is to be told of a policy.

@@ -7,7 +7,7 @@ use crate::deciding::decide;
 use crate::program::AclCheck;
 use acl_host::{Clock, Sink, Tree};
 use acl_run::{Ended, finish};
-use acl_verdicts::answers_are_one;
+use crate::laws::answers_are_one;
 use std::alloc::Global;
 
 /// The whole job: says what a policy, or a section of a file, does to one packet.

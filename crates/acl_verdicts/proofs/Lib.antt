@@ -1,4 +1,0 @@
-pub mod DeciderLaws
-pub mod MadeAnswers
-pub mod OneAnswers
-pub mod WrittenSections

@@ -1,5 +1,0 @@
-use Rattle.std.proofs.Common.{length}
-use Rattle.acl_verdicts.proofs.policies.+put_blocks.Given as goal
-
-abbrev pub decreases-put_blocks : goal.decreases-put_blocks
-decreases-put_blocks l = length l.blocks.now

@@ -1,6 +1,0 @@
-pub mod Deciders
-pub mod PolicyAnswers
-pub mod SectionAnswers
-pub mod CheckAnswers
-pub mod CheckLaws
-pub mod AnswerSteps
