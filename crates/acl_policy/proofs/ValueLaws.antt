@@ -4,7 +4,7 @@ use Rattle.std.specs.List.{All}
 use Rattle.std.proofs.lemmas.Bool.{and_parts}
 use Rattle.std.proofs.lemmas.List.Elements.{All-nil, All-cons}
 use Rattle.acl_text.specs.declared.faults.Slip.{Slip}
-use Rattle.acl_lines.specs.LineTexts.{HasNoFeed}
+use Rattle.acl_words.specs.LineTexts.{HasNoFeed}
 use Rattle.acl_words.specs.declared.forms.Form.{Form}
 use Rattle.acl_words.specs.declared.forms.Form.TheVariants as forms
 use Rattle.acl_words.specs.Tokens.{IsRun, Token}

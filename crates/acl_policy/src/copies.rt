@@ -4,8 +4,8 @@ use acl_target::Target;
 use acl_text::{Bytes, Memory};
 use std::alloc::Global;
 
-/// A copy of the target.
-pub(crate) fn copy_target(alloc: Global, target: &Target) -> Result<Target, Memory>
+/// A copy of the target. It fails only where memory is wanted.
+pub fn copy_target(alloc: Global, target: &Target) -> Result<Target, Memory>
     ensures { IfOk result (λ t. t ≡ target.now) }
 {
     Ok(Target {

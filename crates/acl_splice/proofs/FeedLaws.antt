@@ -2,7 +2,7 @@
 use Rattle.std.proofs.Common.{◌≡◌, ℕ, ◌==◌, Bool, true, false, if◌then◌else◌, List, [], ◌∷◌, refl, subst}
 use Rattle.std.specs.List.{AllByRecursion}
 use Rattle.acl_text.specs.Cursors.{onto_first, lines_of}
-use Rattle.acl_lines.specs.LineTexts.{HasNoFeed}
+use Rattle.acl_words.specs.LineTexts.{HasNoFeed}
 
 onto_line : (b : ℕ) (texts : List (List ℕ)) → (b == 10) ≡ false → AllByRecursion HasNoFeed texts
     → AllByRecursion HasNoFeed (onto_first b texts)

@@ -1,9 +1,9 @@
 ghost use Rattle.std.specs.Prelude.{◌≡◌, ◌<◌, ◌≤◌, false, option_map, slice_get, length, OnOk, IfOk};
-ghost use Rattle.acl_lines.specs.LineTexts.{HasNoFeed};
+ghost use Rattle.acl_words.specs.LineTexts.{HasNoFeed};
 ghost use Rattle.acl_splice.specs.Labels.{AreOfFiles};
 ghost use Rattle.acl_splice.specs.Splices.{nothing_read, with_line, with_file, with_include, is_long};
 
-use acl_lines::Lines;
+use acl_words::Lines;
 use acl_text::{Bytes, Memory, Place};
 use std::alloc::Global;
 use std::marker::Model;

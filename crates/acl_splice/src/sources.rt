@@ -2,7 +2,7 @@ ghost use Rattle.std.specs.Prelude.{◌≡◌, option_map, slice_get};
 ghost use Rattle.acl_splice.specs.Labels.{IsLabelled};
 
 use crate::partial_splices::PartialSplice;
-use acl_lines::Lines;
+use acl_words::Lines;
 use std::marker::Model;
 
 /// A policy with its included files spliced in.

@@ -1,6 +1,6 @@
 ghost use Rattle.std.specs.Prelude.{◌≡◌, ◌≤◌, ◌<◌, ◌++◌, true, length, IfSome, IfOk, OnOk};
 ghost use Rattle.std.specs.String.{string_bytes};
-ghost use Rattle.acl_lines.specs.LineTexts.{HasNoFeed};
+ghost use Rattle.acl_words.specs.LineTexts.{HasNoFeed};
 ghost use Rattle.acl_splice.specs.IncludeLines.{is_path, asked_in};
 ghost use Rattle.acl_splice.specs.Labels.{GoesOn};
 ghost use Rattle.acl_splice.specs.Splicing.{behind_line, behind_file, behind_include};

@@ -1,3 +1,4 @@
+pub mod LineLaws
 pub mod PlaceLaws
 pub mod ReadingLaws
 pub mod RunLaws

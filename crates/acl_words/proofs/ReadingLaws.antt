@@ -8,7 +8,7 @@ use Rattle.acl_text.specs.declared.faults.Place.{Place}
 use Rattle.acl_text.specs.declared.file_lines.Line.{Line}
 use Rattle.acl_text.specs.Cuts.{cut_at, has_byte}
 use Rattle.acl_text.proofs.CutLaws.{cut-found, none-cut}
-use Rattle.acl_lines.specs.LineTexts.{HasNoFeed, HaveNoFeeds, text_of}
+use Rattle.acl_words.specs.LineTexts.{HasNoFeed, HaveNoFeeds, text_of}
 use Rattle.acl_words.specs.declared.forms.Form.{Form}
 use Rattle.acl_words.specs.declared.forms.Form.TheVariants as forms
 use Rattle.acl_words.specs.Tokens.{Token}

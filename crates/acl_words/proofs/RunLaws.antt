@@ -5,7 +5,7 @@ use Rattle.std.proofs.lemmas.Bool.{and_from}
 use Rattle.std.proofs.lemmas.Option.{none-some}
 use Rattle.acl_packet.proofs.ChoiceLaws.{chosen}
 use Rattle.acl_text.proofs.CutLaws.{has-not}
-use Rattle.acl_lines.specs.LineTexts.{HasNoFeed}
+use Rattle.acl_words.specs.LineTexts.{HasNoFeed}
 use Rattle.acl_words.specs.declared.forms.Form.{Form}
 use Rattle.acl_words.specs.declared.forms.Form.TheVariants.{Plain, Keyword, Begin, End, Quoted, Unclosed, Bad}
 use Rattle.acl_words.specs.Bytes.{first_bad, is_printed}

@@ -10,7 +10,7 @@ use Rattle.acl_text.specs.Cursors.{lines_of, or_all}
 use Rattle.acl_text.specs.Cuts.{cut_at}
 use Rattle.acl_text.proofs.CursorLaws.{lines_step}
 use Rattle.acl_text.proofs.CutLaws.{cut-again}
-use Rattle.acl_lines.specs.LineTexts.{HasNoFeed}
+use Rattle.acl_words.specs.LineTexts.{HasNoFeed}
 use Rattle.acl_words.specs.declared.word_lists.Word.{Word}
 use Rattle.acl_words.specs.WordTextSteps.{AreKept, text_of, words_at}
 

@@ -1,8 +1,10 @@
 pub mod Bytes
+pub mod LineTexts
 pub mod PlaceSteps
 pub mod Places
 pub mod ReadingSteps
 pub mod ScanSteps
+pub mod Stretches
 pub mod Tokens
 pub mod WordTextSteps
 pub mod Words

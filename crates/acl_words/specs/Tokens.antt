@@ -1,7 +1,7 @@
 -- A word of a policy: where it stands, how it is meant, and its bytes.
 use Rattle.std.specs.Prelude.{ℕ, List}
 use Rattle.acl_text.specs.declared.faults.Place.{Place}
-use Rattle.acl_lines.specs.LineTexts.{HasNoFeed}
+use Rattle.acl_words.specs.LineTexts.{HasNoFeed}
 use Rattle.acl_words.specs.declared.forms.Form.{Form}
 use Rattle.acl_words.specs.declared.forms.Form.TheVariants.{Plain}
 

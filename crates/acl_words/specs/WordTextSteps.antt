@@ -4,7 +4,7 @@ use Rattle.std.specs.List.{All}
 use Rattle.std.specs.Option.{option_map_or}
 use Rattle.acl_text.specs.declared.faults.Place.{Place}
 use Rattle.acl_text.specs.Cuts.{cut_at}
-use Rattle.acl_lines.specs.LineTexts.{HasNoFeed}
+use Rattle.acl_words.specs.LineTexts.{HasNoFeed}
 use Rattle.acl_words.specs.declared.word_lists.Word.{Word}
 
 -- The text of words: each word with a line feed (10) behind it.

@@ -1,8 +1,8 @@
 ghost use Rattle.std.specs.Prelude.{◌≡◌, ◌∷◌};
-ghost use Rattle.acl_lines.specs.Stretches.{places_of};
+ghost use Rattle.acl_words.specs.Stretches.{places_of};
 ghost use Rattle.acl_words.specs.ReadingSteps.{next_reached, reached, reached_behind, reached_past};
 
-use acl_lines::Stretch;
+use crate::stretches::Stretch;
 use acl_text::Place;
 use std::marker::Model;
 
@@ -17,7 +17,7 @@ pub(crate) struct Places<'a> {
 
 impl<'a> Model for Places<'a> {
     ghost use Rattle.std.specs.Prelude.{◌+◌, ◌++◌, ◌≤◌};
-    ghost use Rattle.acl_lines.specs.Stretches.{places_from, places_of};
+    ghost use Rattle.acl_words.specs.Stretches.{places_from, places_of};
     ghost use Rattle.acl_words.specs.ReadingSteps.{Reached};
 
     ghost Value = { Reached };

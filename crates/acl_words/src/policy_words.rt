@@ -4,7 +4,7 @@ ghost use Rattle.acl_words.specs.Words.{words_of};
 
 use crate::scanning::Scan;
 use crate::tokens::Token;
-use acl_lines::Lines;
+use crate::line_texts::Lines;
 use std::marker::Model;
 
 /// The words of a policy that are not yet read, in order.

@@ -1,5 +1,5 @@
 ghost use Rattle.std.specs.Prelude.{◌≡◌, ◌≢◌, ◌∷◌, ◌<◌, [], true, false, length, take, IfSome, IfNone};
-ghost use Rattle.acl_lines.specs.Stretches.{places_of};
+ghost use Rattle.acl_words.specs.Stretches.{places_of};
 ghost use Rattle.acl_words.specs.Bytes.{in_run};
 ghost use Rattle.acl_words.specs.ReadingSteps.{is_blank, reached, words_on};
 ghost use Rattle.acl_words.specs.ScanSteps.{words_left};
@@ -10,7 +10,7 @@ use crate::forms::Form;
 use crate::places::Places;
 use crate::runs::{first_part, part_word};
 use crate::tokens::Token;
-use acl_lines::Stretch;
+use crate::stretches::Stretch;
 use acl_text::{is_white, split_at_byte};
 
 /// The text that is left, and the places of its lines.

@@ -1,6 +1,6 @@
 ghost use Rattle.std.specs.Prelude.{◌≡◌, [], ◌∷◌, ◌++◌, IfSome, IfNone, OnOk, OnErr, drop, length, map, take};
 ghost use Rattle.acl_text.specs.Cursors.{lines_of};
-ghost use Rattle.acl_lines.specs.LineTexts.{HasNoFeed};
+ghost use Rattle.acl_words.specs.LineTexts.{HasNoFeed};
 
 use crate::place_lists::{PlaceList, PlacesLeft};
 use acl_text::{Bytes, Memory, Place, split_at_byte};

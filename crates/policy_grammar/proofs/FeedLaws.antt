@@ -6,7 +6,7 @@ use Rattle.acl_text.specs.Cuts.{has_byte}
 use Rattle.acl_text.specs.declared.faults.Place.{Place}
 use Rattle.acl_text.specs.declared.file_lines.Line.{Line}
 use Rattle.acl_text.proofs.ListLaws.{all_append}
-use Rattle.acl_lines.specs.LineTexts.{HasNoFeed}
+use Rattle.acl_words.specs.LineTexts.{HasNoFeed}
 use Rattle.acl_words.specs.Words.{OpenPart, Between, line_mode, line_words, mode_behind, mode_in, words_at, words_from, words_in, words_of}
 
 -- The text before the first feed, and the texts behind the feeds.

@@ -3,7 +3,7 @@
 use Rattle.std.specs.Prelude.{◌≡◌, ◌<◌, List, ◌∷◌, length, Ok}
 use Rattle.std.specs.List.{AllByRecursion}
 use Rattle.acl_text.specs.declared.file_lines.Line.{Line}
-use Rattle.acl_lines.specs.LineTexts.{HasNoFeed}
+use Rattle.acl_words.specs.LineTexts.{HasNoFeed}
 use Rattle.acl_words.specs.Tokens.{Token}
 use Rattle.acl_words.specs.Words.{words_of}
 use Rattle.acl_policy.specs.declared.blocks.Policy.{Policy}

@@ -1,4 +1,4 @@
-use acl_lines::{Lines, Stretch};
+use acl_words::{Lines, Stretch};
 use acl_text::Place;
 use std::test::Fail;
 

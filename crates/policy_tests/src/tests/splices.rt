@@ -1,5 +1,5 @@
 use acl_host::Tree;
-use acl_lines::Lines;
+use acl_words::Lines;
 use acl_memory::{MemTree, Op};
 use acl_splice::{GatherFault, Sources, gather, label};
 use acl_text::{Fault, Memory};

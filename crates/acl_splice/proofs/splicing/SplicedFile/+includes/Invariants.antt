@@ -1,7 +1,7 @@
 use Rattle.std.proofs.Common.{◌≡◌, ◌+◌, ◌*◌, length, IfSome}
 use Rattle.std.specs.List.{AllByRecursion}
 use Rattle.acl_text.specs.Cursors.{lines_of}
-use Rattle.acl_lines.specs.LineTexts.{HasNoFeed}
+use Rattle.acl_words.specs.LineTexts.{HasNoFeed}
 use Rattle.acl_splice.specs.Labels.{GoesOn}
 use Rattle.acl_splice.specs.Splicing.{behind_lines, behind_include}
 use Rattle.acl_host.specs.Outside.{OnlyReads, members}

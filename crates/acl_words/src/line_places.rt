@@ -1,5 +1,5 @@
 ghost use Rattle.std.specs.Prelude.{◌≡◌, ◌∷◌, [], ◌++◌, OnOk, IfSome};
-ghost use Rattle.acl_lines.specs.Stretches.{places_in, places_of};
+ghost use Rattle.acl_words.specs.Stretches.{places_in, places_of};
 
 use crate::stretches::Stretch;
 use acl_text::{Memory, Place};

@@ -1,6 +1,6 @@
 ghost use Rattle.std.specs.Prelude.{◌≡◌, List, [], ◌∷◌, ◌++◌, map, OnOk, OnErr};
-ghost use Rattle.acl_lines.specs.LineTexts.{HasNoFeed, HaveNoFeeds, text_of};
-ghost use Rattle.acl_lines.specs.Stretches.{places_of};
+ghost use Rattle.acl_words.specs.LineTexts.{HasNoFeed, HaveNoFeeds, text_of};
+ghost use Rattle.acl_words.specs.Stretches.{places_of};
 
 use crate::line_places::push_place;
 use crate::stretches::Stretch;
@@ -19,8 +19,8 @@ pub struct Lines {
 impl Model for Lines {
     ghost use Rattle.std.specs.Prelude.{List};
     ghost use Rattle.acl_text.specs.declared.file_lines.Line.{Line};
-    ghost use Rattle.acl_lines.specs.LineTexts.{lines_at, AreKept};
-    ghost use Rattle.acl_lines.specs.Stretches.{places_of};
+    ghost use Rattle.acl_words.specs.LineTexts.{lines_at, AreKept};
+    ghost use Rattle.acl_words.specs.Stretches.{places_of};
 
     ghost Value = { List Line };
 

@@ -1,7 +1,7 @@
 -- The places of lines that follow one another.
 use Rattle.std.specs.Prelude.{ℕ, zero, suc, ◌+◌, List, [], ◌∷◌, flat_map}
 use Rattle.acl_text.specs.declared.faults.Place.{Place}
-use Rattle.acl_lines.specs.declared.stretches.Stretch.{Stretch}
+use Rattle.acl_words.specs.declared.stretches.Stretch.{Stretch}
 
 -- The places of so many lines of a file, from the first on.
 abbrev pub places_from : ℕ → ℕ → ℕ → List Place

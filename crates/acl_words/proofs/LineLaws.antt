@@ -9,8 +9,8 @@ use Rattle.acl_text.specs.declared.faults.Place.{Place}
 use Rattle.acl_text.specs.declared.file_lines.Line.{Line}
 use Rattle.acl_text.specs.Cursors.{onto_first, lines_of}
 use Rattle.acl_text.specs.Cuts.{has_byte}
-use Rattle.acl_lines.specs.LineTexts.{AreKept, HasNoFeed, lines_at, placed, text_of}
-use Rattle.acl_lines.specs.Stretches.{places_from}
+use Rattle.acl_words.specs.LineTexts.{AreKept, HasNoFeed, lines_at, placed, text_of}
+use Rattle.acl_words.specs.Stretches.{places_from}
 
 -- ---- places
 

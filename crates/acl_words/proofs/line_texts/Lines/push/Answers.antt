@@ -1,6 +1,6 @@
-use Rattle.acl_lines.specs.Stretches.{places_of}
-use Rattle.acl_lines.proofs.LineLaws.{lines_with}
-use Rattle.acl_lines.proofs.line_texts.Lines.push.Goals as goal
+use Rattle.acl_words.specs.Stretches.{places_of}
+use Rattle.acl_words.proofs.LineLaws.{lines_with}
+use Rattle.acl_words.proofs.line_texts.Lines.push.Goals as goal
 
 pub invariant_of-self : goal.invariant_of-self
 invariant_of-self c = (lines_with _ (record { place = c.args.place; text = c.args.text.now })

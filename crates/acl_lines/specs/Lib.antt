@@ -1,2 +1,0 @@
-pub mod LineTexts
-pub mod Stretches
