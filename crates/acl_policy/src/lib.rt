@@ -24,6 +24,7 @@ pub use acl_splice::{GatherFault, Sources, gather, label};
 pub use acl_target::{Ending, Kind, Target, Targets, put_target};
 pub use acl_words::{Word, WordList, WordRef, WordsLeft};
 pub use blocks::{Block, Blocks, Policy};
+pub use copies::copy_target;
 pub use keywords::Keyword;
 pub use policy_parsing::parse;
 pub use raw_terms::{RawTerm, RawTerms};

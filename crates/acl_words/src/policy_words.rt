@@ -2,9 +2,9 @@ ghost use Rattle.std.specs.Prelude.{◌≡◌, ◌∷◌, [], IfSome, IfNone};
 ghost use Rattle.acl_words.specs.Places.{HaveLinePlaces};
 ghost use Rattle.acl_words.specs.Words.{words_of};
 
+use crate::line_texts::Lines;
 use crate::scanning::Scan;
 use crate::tokens::Token;
-use crate::line_texts::Lines;
 use std::marker::Model;
 
 /// The words of a policy that are not yet read, in order.

@@ -9,8 +9,8 @@ ghost use Rattle.acl_words.specs.Words.{Between, word};
 use crate::forms::Form;
 use crate::places::Places;
 use crate::runs::{first_part, part_word};
-use crate::tokens::Token;
 use crate::stretches::Stretch;
+use crate::tokens::Token;
 use acl_text::{is_white, split_at_byte};
 
 /// The text that is left, and the places of its lines.

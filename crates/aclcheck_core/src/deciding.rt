@@ -8,13 +8,13 @@ ghost use Rattle.acl_run.specs.Deciding.{LooksAlone};
 ghost use Rattle.acl_run.specs.Worlds.{Watch, disk, watch};
 ghost use Rattle.aclcheck_core.specs.DecidingSteps.{DecidesCheck};
 
+use crate::policies::answer_policy;
+use crate::sections::answer_section;
 use acl_host::{Clock, Tree};
 use acl_options::{CheckCommand, FileSection, Inputs, read_check_command};
 use acl_packet::Packet;
 use acl_run::{Decision, Which, day_for, decision_on};
 use acl_text::Whole;
-use crate::policies::answer_policy;
-use crate::sections::answer_section;
 use std::alloc::Global;
 
 // What is to be told of a policy.

@@ -4,10 +4,10 @@ ghost use Rattle.aclcheck_core.specs.CheckRuns.{RunsCheck};
 ghost use Rattle.acl_run.specs.Worlds.{world_of};
 
 use crate::deciding::decide;
+use crate::laws::answers_are_one;
 use crate::program::AclCheck;
 use acl_host::{Clock, Sink, Tree};
 use acl_run::{Ended, finish};
-use crate::laws::answers_are_one;
 use std::alloc::Global;
 
 /// The whole job: says what a policy, or a section of a file, does to one packet.

@@ -5,14 +5,14 @@ ghost use Rattle.acl_run.specs.PolicyAnswers.{Makes};
 ghost use Rattle.acltool_core.specs.AnsweringSteps.{IsAskable};
 ghost use Rattle.acltool_core.specs.ToolRuns.{Answers, MeansAnswer, told_text};
 
+use crate::dead_telling::tell_dead;
+use crate::listing::list_targets;
+use crate::restoring::restore;
 use acl_days::Day;
 use acl_host::Tree;
 use acl_load::LoadFault;
 use acl_options::ToolCommand;
 use acl_text::Whole;
-use crate::dead_telling::tell_dead;
-use crate::restoring::restore;
-use crate::listing::list_targets;
 use std::alloc::Global;
 
 /// The text of the answer to a command on that day, or the first fault; nothing where there is nothing to tell.

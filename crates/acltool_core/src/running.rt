@@ -4,10 +4,10 @@ ghost use Rattle.acl_run.specs.Worlds.{world_of};
 ghost use Rattle.acltool_core.specs.ToolRuns.{RunsTool};
 
 use crate::deciding::decide;
+use crate::laws::dead_answers_are_one;
 use crate::program::AclTool;
 use acl_host::{Clock, Sink, Tree};
 use acl_run::{Ended, finish};
-use crate::laws::dead_answers_are_one;
 use std::alloc::Global;
 
 /// The whole run: the words are read as `acl_options::read_tool_command` reads them, the naming files and the policy are
