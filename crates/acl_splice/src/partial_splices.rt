@@ -3,8 +3,8 @@ ghost use Rattle.acl_words.specs.LineTexts.{HasNoFeed};
 ghost use Rattle.acl_splice.specs.Labels.{AreOfFiles};
 ghost use Rattle.acl_splice.specs.Splices.{nothing_read, with_line, with_file, with_include, is_long};
 
-use acl_words::Lines;
 use acl_text::{Bytes, Memory, Place};
+use acl_words::Lines;
 use std::alloc::Global;
 use std::marker::Model;
 

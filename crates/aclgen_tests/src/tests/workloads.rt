@@ -1,6 +1,6 @@
-use workload_job::workload;
 use std::str;
 use std::test::Fail;
+use workload_job::workload;
 
 const NETWORKS: &[u8] =
     b"N0 = 10.0.0.0/25 10.0.0.128/25 2001:db8:0::/48\nN1 = 10.0.1.0/25 10.0.1.128/25 2001:db8:1::/48\n";

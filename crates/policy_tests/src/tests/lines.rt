@@ -1,5 +1,5 @@
-use acl_words::{Lines, Stretch};
 use acl_text::Place;
+use acl_words::{Lines, Stretch};
 use std::test::Fail;
 
 static LINES: [(u32, u32, &[u8]); 4] = [(0, 1, b"a b"), (0, 2, b""), (1, 3, b"c"), (0, 3, b"d")];

@@ -1,8 +1,8 @@
 use acl_host::Tree;
-use acl_words::Lines;
 use acl_memory::{MemTree, Op};
 use acl_splice::{GatherFault, Sources, gather, label};
 use acl_text::{Fault, Memory};
+use acl_words::Lines;
 use std::alloc::Global;
 use std::str;
 use std::test::Fail;

@@ -1,8 +1,8 @@
 ghost use Rattle.acl_words.specs.LineTexts.{HasNoFeed};
 
 use crate::tests::splices::text;
-use acl_words::{Form, Lines, PolicyWords, Token};
 use acl_text::{Memory, Place};
+use acl_words::{Form, Lines, PolicyWords, Token};
 use std::alloc::Global;
 use std::test::Fail;
 
