@@ -5,6 +5,7 @@ pub mod SweepFacts
 pub mod WalkFacts
 pub mod TwoSets
 pub mod Powers
+pub mod AlongFacts
 pub mod BlockFacts
 pub mod OrderedLists
 pub mod HalvedSets
