@@ -1,6 +1,11 @@
+mod days;
+mod looks;
+mod machine;
+mod memory;
 mod names;
 mod packet_texts;
 mod packets;
+mod readers;
 mod rows;
 mod sets;
 mod texts;

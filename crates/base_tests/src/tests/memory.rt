@@ -9,7 +9,6 @@ use acl_host::{
 use acl_memory::{FixedClock, MemSink, MemTree, Op};
 use acl_text::{Code, Memory};
 use std::alloc::Global;
-use std::test::Fail;
 
 // A tree in memory with these files.
 fn tree_of(alloc: Global, files: &[(&str, &[u8])]) -> Result<MemTree, Memory> {
@@ -39,11 +38,13 @@ fn is_looked_at<T: Tree>(alloc: Global, tree: &mut T) -> bool
         && lacks(alloc, tree, "def")
 }
 
+fn files_are_looked_at(alloc: Global) -> Result<bool, Memory> {
+    Ok(is_looked_at(alloc, &mut tree_of(alloc, &FILES)?))
+}
+
 #[test]
-fn a_tree_in_memory_is_looked_at(rt: HostRuntime) -> Result<(), Fail> {
-    let mut tree = tree_of(rt.alloc(), &FILES)?;
-    assert!(rt; is_looked_at(rt.alloc(), &mut tree));
-    Ok(())
+fn a_tree_in_memory_is_looked_at(rt: HostRuntime) {
+    assert!(rt; files_are_looked_at(rt.alloc()) == Ok(true));
 }
 
 #[test]
@@ -106,11 +107,13 @@ fn is_read_whole<T: Tree>(alloc: Global, tree: &mut T) -> bool
         && is_no_folder(alloc, tree, "no")
 }
 
+fn files_are_read_whole(alloc: Global) -> Result<bool, Memory> {
+    Ok(is_read_whole(alloc, &mut tree_of(alloc, &FILES)?))
+}
+
 #[test]
-fn whole_files_are_read(rt: HostRuntime) -> Result<(), Fail> {
-    let mut tree = tree_of(rt.alloc(), &FILES)?;
-    assert!(rt; is_read_whole(rt.alloc(), &mut tree));
-    Ok(())
+fn whole_files_are_read(rt: HostRuntime) {
+    assert!(rt; files_are_read_whole(rt.alloc()) == Ok(true));
 }
 
 // Whether the second listing and the first reading fail alone.
@@ -123,13 +126,16 @@ fn fails_once<T: Tree>(alloc: Global, tree: &mut T) -> bool
         && lacks(alloc, tree, "a")
 }
 
-#[test]
-fn listed_calls_fail(rt: HostRuntime) -> Result<(), Fail> {
-    let mut tree = MemTree::new(rt.alloc());
+fn fails_as_listed(alloc: Global) -> Result<bool, Memory> {
+    let mut tree = MemTree::new(alloc);
     tree.fail(Op::List, 2)?;
     tree.fail(Op::Read, 1)?;
-    assert!(rt; fails_once(rt.alloc(), &mut tree));
-    Ok(())
+    Ok(fails_once(alloc, &mut tree))
+}
+
+#[test]
+fn listed_calls_fail(rt: HostRuntime) {
+    assert!(rt; fails_as_listed(rt.alloc()) == Ok(true));
 }
 
 // Whether one file is written, and the next one fails.
@@ -139,13 +145,16 @@ fn is_written_once<T: Tree>(tree: &mut T) -> bool
     writes(tree, "one", &[]) && write_file(tree, "two", &[]) == Err(WriteFault::Failed)
 }
 
-#[test]
-fn a_writing_fails(rt: HostRuntime) -> Result<(), Fail> {
-    let mut tree = MemTree::new(rt.alloc());
+fn fails_at_the_second(alloc: Global) -> Result<bool, Memory> {
+    let mut tree = MemTree::new(alloc);
     tree.fail(Op::Begin, 2)?;
-    assert!(rt; is_written_once(&mut tree));
-    assert!(rt; tree.file("one").is_some() && tree.file("two").is_none());
-    Ok(())
+    let once = is_written_once(&mut tree);
+    Ok(once && tree.file("one").is_some() && tree.file("two").is_none())
+}
+
+#[test]
+fn a_writing_fails(rt: HostRuntime) {
+    assert!(rt; fails_at_the_second(rt.alloc()) == Ok(true));
 }
 
 // Whether two texts are written, and one between them is not.
@@ -155,13 +164,16 @@ fn is_written_around<S: Sink>(sink: &mut S) -> bool {
         && sink.write(b"!").is_ok()
 }
 
-#[test]
-fn a_sink_in_memory_is_written(rt: HostRuntime) -> Result<(), Fail> {
-    let mut sink = MemSink::new(rt.alloc());
+fn keeps_what_is_written(alloc: Global) -> Result<bool, Memory> {
+    let mut sink = MemSink::new(alloc);
     sink.fail(2)?;
-    assert!(rt; is_written_around(&mut sink));
-    assert!(rt; sink.as_slice() == b"hi!".as_slice());
-    Ok(())
+    let around = is_written_around(&mut sink);
+    Ok(around && sink.as_slice() == b"hi!".as_slice())
+}
+
+#[test]
+fn a_sink_in_memory_is_written(rt: HostRuntime) {
+    assert!(rt; keeps_what_is_written(rt.alloc()) == Ok(true));
 }
 
 #[test]

@@ -1,4 +1,0 @@
-mod days;
-mod looks;
-mod machine;
-mod memory;
