@@ -1,4 +1,14 @@
+mod definitions;
+mod files;
+mod filters;
 mod lines;
+mod loads;
+mod naming;
 mod policies;
+mod reading;
+mod reports;
+mod shades;
+mod shared_sets;
 mod splices;
+mod terms;
 mod words;

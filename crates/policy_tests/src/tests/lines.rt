@@ -1,12 +1,11 @@
-use acl_text::Place;
+use acl_text::{Memory, Place};
 use acl_words::{Lines, Stretch};
-use std::test::Fail;
+use std::alloc::Global;
 
 static LINES: [(u32, u32, &[u8]); 4] = [(0, 1, b"a b"), (0, 2, b""), (1, 3, b"c"), (0, 3, b"d")];
 
-#[test]
-fn lines_of_two_files(rt: HostRuntime) -> Result<(), Fail> {
-    let mut lines = Lines::new(rt.alloc());
+fn pushed(alloc: Global) -> Result<Lines, Memory> {
+    let mut lines = Lines::new(alloc);
     for (file, line, text) in &LINES {
         let place = Place {
             file: *file,
@@ -14,7 +13,10 @@ fn lines_of_two_files(rt: HostRuntime) -> Result<(), Fail> {
         };
         lines.push(place, text)?;
     }
-    assert!(rt; lines.text() == b"a b\n\nc\nd\n".as_slice());
+    Ok(lines)
+}
+
+fn are_in_stretches(lines: &Lines) -> bool {
     let stretches = [
         Stretch {
             file: 0,
@@ -32,6 +34,14 @@ fn lines_of_two_files(rt: HostRuntime) -> Result<(), Fail> {
             count: 1,
         },
     ];
-    assert!(rt; lines.stretches() == stretches.as_slice());
-    Ok(())
+    lines.text() == b"a b\n\nc\nd\n".as_slice() && lines.stretches() == stretches.as_slice()
+}
+
+fn two_files_are_in_stretches(alloc: Global) -> Result<bool, Memory> {
+    Ok(are_in_stretches(&pushed(alloc)?))
+}
+
+#[test]
+fn lines_of_two_files(rt: HostRuntime) {
+    assert!(rt; two_files_are_in_stretches(rt.alloc()) == Ok(true));
 }

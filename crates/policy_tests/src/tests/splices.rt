@@ -1,18 +1,10 @@
+use crate::tests::files::{Files, text, tree_of};
 use acl_host::Tree;
-use acl_memory::{MemTree, Op};
+use acl_memory::Op;
 use acl_splice::{GatherFault, Sources, gather, label};
 use acl_text::{Fault, Memory};
 use acl_words::Lines;
 use std::alloc::Global;
-use std::str;
-use std::test::Fail;
-
-pub(crate) fn text(bytes: &[u8]) -> &str {
-    match str::from_utf8(bytes) {
-        Ok(text) => text,
-        Err(_) => "?",
-    }
-}
 
 // The labels, each with a space behind it.
 fn shown_labels(alloc: Global, sources: &Sources) -> Result<String, Memory> {
@@ -50,25 +42,21 @@ fn shown_fault(alloc: Global, fault: &Fault) -> Result<String, Memory> {
 }
 
 // The splice with its labels and places, or what is wrong.
-fn gathered<T: Tree>(alloc: Global, tree: &mut T) -> Result<String, Memory> {
-    match gather(alloc, tree, "pol/a.pol") {
-        Ok(sources) => shown_splice(alloc, &sources),
-        Err(GatherFault::Fault(fault)) => shown_fault(alloc, &fault),
+fn shown(alloc: Global, answer: &Result<Sources, GatherFault>) -> Result<String, Memory> {
+    match answer {
+        Ok(sources) => shown_splice(alloc, sources),
+        Err(GatherFault::Fault(fault)) => shown_fault(alloc, fault),
         Err(GatherFault::Outside) => Ok(String::from_str(alloc, "outside")?),
         Err(GatherFault::Memory) => Err(Memory),
     }
 }
 
-pub(crate) fn tree_of(alloc: Global, files: &[(&str, &[u8])]) -> Result<MemTree, Memory> {
-    let mut tree = MemTree::new(alloc);
-    for (path, bytes) in files {
-        tree.put_file(path, bytes)?;
-    }
-    Ok(tree)
+fn gathered<T: Tree>(alloc: Global, tree: &mut T) -> Result<String, Memory> {
+    shown(alloc, &gather(alloc, tree, "pol/a.pol"))
 }
 
 // The files of the folder, and what is gathered of them.
-type Row = (&'static [(&'static str, &'static [u8])], &'static str);
+type Row = (Files, &'static str);
 
 static SPLICES: [Row; 9] = [
     // the file stands in the place of its line
@@ -133,26 +121,21 @@ fn gathers(alloc: Global, row: &Row) -> Result<bool, Memory> {
 }
 
 #[test]
-fn lines_are_spliced(rt: HostRuntime) -> Result<(), Fail> {
+fn lines_are_spliced(rt: HostRuntime) {
     for row in &SPLICES {
-        assert!(rt; gathers(rt.alloc(), row)?, "{}", row.1);
+        assert!(rt; gathers(rt.alloc(), row) == Ok(true), "{}", row.1);
     }
-    Ok(())
 }
 
 static INCLUDING: [(&str, &[u8]); 2] = [("pol/a.pol", b"#include 'b.inc'\n"), ("pol/b.inc", b"x")];
 
-fn is_outside<T: Tree>(alloc: Global, tree: &mut T) -> bool {
-    match gather(alloc, tree, "pol/a.pol") {
-        Err(GatherFault::Outside) => true,
-        _ => false,
-    }
+fn fails_outside(alloc: Global) -> Result<bool, Memory> {
+    let mut tree = tree_of(alloc, &INCLUDING)?;
+    tree.fail(Op::Read, 2)?;
+    Ok(gathered(alloc, &mut tree)?.as_str() == "outside")
 }
 
 #[test]
-fn a_reading_that_fails_is_outside(rt: HostRuntime) -> Result<(), Fail> {
-    let mut tree = tree_of(rt.alloc(), &INCLUDING)?;
-    tree.fail(Op::Read, 2)?;
-    assert!(rt; is_outside(rt.alloc(), &mut tree));
-    Ok(())
+fn a_reading_that_fails_is_outside(rt: HostRuntime) {
+    assert!(rt; fails_outside(rt.alloc()) == Ok(true));
 }

@@ -1,10 +1,9 @@
 ghost use Rattle.acl_words.specs.LineTexts.{HasNoFeed};
 
-use crate::tests::splices::text;
+use crate::tests::files::text;
 use acl_text::{Memory, Place};
 use acl_words::{Form, Lines, PolicyWords, Token};
 use std::alloc::Global;
-use std::test::Fail;
 
 fn shown(alloc: Global, word: &Token<'_>) -> Result<String, Memory> {
     let form = match word.form() {
@@ -36,6 +35,13 @@ fn words_of(alloc: Global, first: &[u8], second: &[u8]) -> Result<String, Memory
     Ok(all)
 }
 
+fn are_words(alloc: Global, first: &[u8], second: &[u8], words: &str) -> Result<bool, Memory>
+    requires first { HasNoFeed first.now }
+    requires second { HasNoFeed second.now }
+{
+    Ok(words_of(alloc, first, second)?.as_str() == words)
+}
+
 // Two lines, and their words.
 static LINES: [(&[u8], &[u8], &str); 4] = [
     (
@@ -49,12 +55,11 @@ static LINES: [(&[u8], &[u8], &str); 4] = [
 ];
 
 #[test]
-fn words_have_forms_and_places(rt: HostRuntime) -> Result<(), Fail> {
+fn words_have_forms_and_places(rt: HostRuntime) {
     for (first, second, words) in &LINES {
         assert!(rt;
-            words_of(rt.alloc(), first, second)?.as_str() == *words,
+            are_words(rt.alloc(), first, second, words) == Ok(true),
             "{words}"
         );
     }
-    Ok(())
 }

@@ -1,10 +1,8 @@
-use crate::tests::files::{loaded, tree_of};
-use acl_host::Tree;
+use crate::tests::loads::loaded_of;
 use acl_load::Loaded;
 use acl_sets::Range;
 use acl_terms::Term;
 use std::alloc::Global;
-use std::test::Fail;
 
 // Terms of two blocks that name the same networks: on either end, with excluded ones, in another order, and of either end.
 static FILES: [(&str, &[u8]); 2] = [
@@ -147,16 +145,11 @@ fn has_sets(loaded: &Loaded) -> bool {
     are_first(first.as_slice()) && are_second(second.as_slice())
 }
 
-fn loads_sets<T: Tree>(alloc: Global, tree: &mut T) -> bool {
-    match loaded(alloc, tree) {
-        Ok(loaded) => has_sets(&loaded),
-        Err(_) => false,
-    }
+fn loads_sets(alloc: Global) -> Option<bool> {
+    Some(has_sets(&loaded_of(alloc, &FILES)?))
 }
 
 #[test]
-fn terms_of_the_same_names_have_the_same_sets(rt: HostRuntime) -> Result<(), Fail> {
-    let mut tree = tree_of(rt.alloc(), &FILES)?;
-    assert!(rt; loads_sets(rt.alloc(), &mut tree));
-    Ok(())
+fn terms_of_the_same_names_have_the_same_sets(rt: HostRuntime) {
+    assert!(rt; loads_sets(rt.alloc()) == Some(true));
 }

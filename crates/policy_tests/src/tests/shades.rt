@@ -1,8 +1,7 @@
 ghost use Rattle.std.specs.List.{All};
 ghost use Rattle.acl_policy.specs.Conditions.{IsBlock};
 
-use crate::tests::reading::{base, policy_of, terms_of, today};
-use acl_days::Day;
+use crate::tests::reading::{TODAY, base, policy_of, terms_of};
 use acl_naming::Checked;
 use acl_policy::Block;
 use acl_shade::shaded_places;
@@ -10,7 +9,6 @@ use acl_target::Target;
 use acl_terms::Term;
 use acl_text::{Memory, Refusal};
 use std::alloc::Global;
-use std::test::Fail;
 
 fn add_place(alloc: Global, shown: &mut String, place: Option<usize>) -> Result<(), Memory> {
     match place {
@@ -24,8 +22,8 @@ fn add_place(alloc: Global, shown: &mut String, place: Option<usize>) -> Result<
 }
 
 // The terms in order: each by the place of the one that shades it, or by a dash.
-fn places(alloc: Global, terms: &[Term], targets: &[Target], day: Day) -> Result<String, Memory> {
-    let places = shaded_places(alloc, terms, targets, day)?;
+fn places(alloc: Global, terms: &[Term], targets: &[Target]) -> Result<String, Memory> {
+    let places = shaded_places(alloc, terms, targets, TODAY)?;
     let mut shown = String::new(alloc);
     for place in places.as_slice() {
         add_place(alloc, &mut shown, *place)?;
@@ -33,23 +31,27 @@ fn places(alloc: Global, terms: &[Term], targets: &[Target], day: Day) -> Result
     Ok(shown)
 }
 
-fn places_in(alloc: Global, base: &Checked, blocks: &[Block]) -> Result<String, Refusal>
+fn places_in(alloc: Global, base: &Checked, block: &Block) -> Result<String, Refusal>
+    requires { IsBlock block.now }
+{
+    let terms = terms_of(alloc, base, block.terms.as_slice())?;
+    Ok(places(alloc, terms.as_slice(), block.targets.as_slice())?)
+}
+
+fn places_in_first(alloc: Global, blocks: &[Block]) -> Result<String, Refusal>
     requires { All IsBlock blocks.now }
 {
     match blocks {
         [] => Err(Refusal::Memory),
-        [block, ..] => {
-            let terms = terms_of(alloc, base, block.terms.as_slice())?;
-            Ok(places(alloc, terms.as_slice(), block.targets.as_slice(), today()?)?)
-        }
+        [block, ..] => places_in(alloc, &base(alloc)?, block),
     }
 }
 
 // The places of the terms, for two platforms, on 2026-01-15.
-fn shown(alloc: Global, base: &Checked, terms: &str) -> Result<String, Refusal> {
+fn shown(alloc: Global, terms: &str) -> Result<String, Refusal> {
     let text = format!(in alloc; "header {{ target:: cisco e target:: juniper e }}\n{terms}")?;
     let policy = policy_of(alloc, text.as_bytes())?;
-    places_in(alloc, base, policy.blocks.as_slice())
+    places_in_first(alloc, policy.blocks.as_slice())
 }
 
 // The terms with others behind them that are not live, so many that they are sifted.
@@ -242,29 +244,28 @@ static SHADES: [(&str, &str); 44] = [
     ),
 ];
 
-fn are_at(alloc: Global, base: &Checked, terms: &str, places: &str) -> Result<bool, Refusal> {
-    Ok(shown(alloc, base, terms)?.as_str() == places)
+// Whether the terms have these places. `None` where they are refused.
+fn are_at(alloc: Global, terms: &str, places: &str) -> Option<bool> {
+    Some(shown(alloc, terms).ok()?.as_str() == places)
 }
 
 // The same, where others are behind them.
-fn are_first_at(alloc: Global, base: &Checked, terms: &str, places: &str) -> Result<bool, Refusal> {
-    let many = among_many(alloc, terms)?;
-    Ok(
-        shown(alloc, base, many.as_str())?
-            .as_str()
-            .starts_with(places),
-    )
+fn are_first_at(alloc: Global, terms: &str, places: &str) -> Option<bool> {
+    let many = among_many(alloc, terms).ok()?;
+    let shown = shown(alloc, many.as_str()).ok()?;
+    Some(shown.as_str().starts_with(places))
 }
 
 #[test]
-fn terms_are_shaded(rt: HostRuntime) -> Result<(), Fail> {
-    let base = base(rt.alloc())?;
+fn terms_are_shaded(rt: HostRuntime) {
     for (terms, places) in &SHADES {
-        assert!(rt; are_at(rt.alloc(), &base, terms, places)?, "at {terms}");
         assert!(rt;
-            are_first_at(rt.alloc(), &base, terms, places)?,
+            are_at(rt.alloc(), terms, places) == Some(true),
+            "at {terms}"
+        );
+        assert!(rt;
+            are_first_at(rt.alloc(), terms, places) == Some(true),
             "among many at {terms}"
         );
     }
-    Ok(())
 }

@@ -2,15 +2,14 @@ ghost use Rattle.std.specs.Prelude.{◌≤◌, IfOk, length};
 ghost use Rattle.std.specs.List.{All};
 ghost use Rattle.acl_policy.specs.Conditions.{IsPolicy, IsRawTerm};
 
-use acl_days::{Day, read_day};
+use crate::tests::files::{text, tree_of};
+use acl_days::Day;
 use acl_host::Tree;
-use acl_memory::MemTree;
 use acl_naming::{Base, Checked, check_base, read_networks, read_services};
 use acl_policy::{Policy, RawTerm, gather, parse};
 use acl_terms::{Term, resolve};
 use acl_text::{Items, Memory, Refusal, Slip};
 use std::alloc::Global;
-use std::str;
 
 const NETWORKS: &[u8] = b"WEB = 192.0.2.10
 DNS = 192.0.2.53
@@ -41,11 +40,11 @@ pub(crate) fn base(alloc: Global) -> Result<Checked, Refusal> {
     check_base(read_services(base, 2, SERVICES)?)
 }
 
-// The policy at the path `a.pol`, whatever the tree.
-fn parsed<T: Tree>(alloc: Global, tree: &mut T) -> Result<Policy, Refusal>
+// The policy at the path `pol/a.pol`, whatever the tree.
+pub(crate) fn parsed<T: Tree>(alloc: Global, tree: &mut T) -> Result<Policy, Refusal>
     ensures { IfOk result IsPolicy }
 {
-    match gather(alloc, tree, "a.pol") {
+    match gather(alloc, tree, "pol/a.pol") {
         Ok(sources) => parse(alloc, &sources),
         Err(_) => Err(Refusal::Memory),
     }
@@ -54,8 +53,7 @@ fn parsed<T: Tree>(alloc: Global, tree: &mut T) -> Result<Policy, Refusal>
 pub(crate) fn policy_of(alloc: Global, text: &[u8]) -> Result<Policy, Refusal>
     ensures { IfOk result IsPolicy }
 {
-    let mut tree = MemTree::new(alloc);
-    tree.put_file("a.pol", text)?;
+    let mut tree = tree_of(alloc, &[("pol/a.pol", text)])?;
     parsed(alloc, &mut tree)
 }
 
@@ -74,17 +72,8 @@ pub(crate) fn terms_of(
     Ok(terms)
 }
 
-// The day 2026-01-15.
-pub(crate) fn today() -> Result<Day, Refusal> {
-    read_day(b"2026-01-15").ok_or(Refusal::Memory)
-}
-
-pub(crate) fn text(bytes: &[u8]) -> &str {
-    match str::from_utf8(bytes) {
-        Ok(text) => text,
-        Err(_) => "?",
-    }
-}
+// The day 2026-01-15, as GNU date counts it.
+pub(crate) const TODAY: Day = Day { number: 20468 };
 
 // The slip by its line, code and word.
 pub(crate) fn shown_slip(alloc: Global, slip: &Slip) -> Result<String, Memory> {

@@ -1,12 +1,44 @@
-use crate::tests::files::{Files, loaded, tells, tree_of};
+use crate::tests::files::{Files, tree_of};
 use acl_host::Tree;
-use acl_load::Loaded;
+use acl_load::{LoadFault, Loaded, load, put_fault};
 use acl_memory::{MemTree, Op};
 use acl_packet::Verdict;
 use acl_terms::Term;
-use acl_text::Memory;
+use acl_text::{Fault, Memory, Out, PutFault, Whole};
 use std::alloc::Global;
-use std::test::Fail;
+
+// The one call of the load of the policy `pol/a.pol` over the folder `def`, whatever the tree.
+pub(crate) fn loaded<T: Tree>(alloc: Global, tree: &mut T) -> Result<Loaded, LoadFault> {
+    load(alloc, tree, "def", "pol/a.pol")
+}
+
+fn text_line(alloc: Global, text: &[u8]) -> Result<Whole, PutFault> {
+    let mut line = Whole::new(alloc);
+    line.put(text)?;
+    Ok(line)
+}
+
+fn fault_line(alloc: Global, fault: &Fault) -> Result<Whole, PutFault> {
+    let mut line = Whole::new(alloc);
+    put_fault(&mut line, fault)?;
+    Ok(line)
+}
+
+// The line of the fault, or what else is answered.
+fn answer_line(alloc: Global, refusal: &Option<LoadFault>) -> Result<Whole, PutFault> {
+    match refusal {
+        None => text_line(alloc, b"loaded"),
+        Some(LoadFault::Fault(fault)) => fault_line(alloc, fault),
+        Some(LoadFault::List) => text_line(alloc, b"list"),
+        Some(LoadFault::Read) => text_line(alloc, b"read"),
+        Some(LoadFault::Memory) => text_line(alloc, b"memory"),
+    }
+}
+
+// Whether this is the line that is told of the load.
+fn tells<T: Tree>(alloc: Global, tree: &mut T, line: &[u8]) -> Result<bool, PutFault> {
+    Ok(answer_line(alloc, &loaded(alloc, tree).err())?.as_slice() == line)
+}
 
 const NETWORKS: (&str, &[u8]) = ("def/n.net", b"WEB = 192.0.2.10\n");
 
@@ -107,17 +139,18 @@ static FAULTS: [(Files, &[u8]); 15] = [
     ),
 ];
 
-fn tells_of(alloc: Global, files: &[(&str, &[u8])], line: &[u8]) -> Result<bool, Fail> {
-    let mut tree = tree_of(alloc, files)?;
-    Ok(tells(alloc, &mut tree, line)?)
+fn tells_of(alloc: Global, files: &[(&str, &[u8])], line: &[u8]) -> Option<bool> {
+    tells(alloc, &mut tree_of(alloc, files).ok()?, line).ok()
 }
 
 #[test]
-fn first_faults_of_each_step(rt: HostRuntime) -> Result<(), Fail> {
+fn first_faults_of_each_step(rt: HostRuntime) {
     for (place, (files, line)) in FAULTS.iter().enumerate() {
-        assert!(rt; tells_of(rt.alloc(), files, line)?, "row {place}");
+        assert!(rt;
+            tells_of(rt.alloc(), files, line) == Some(true),
+            "row {place}"
+        );
     }
-    Ok(())
 }
 
 static TWO_BLOCKS: [(&str, &[u8]); 3] = [
@@ -154,18 +187,19 @@ fn is_two_blocks(loaded: &Loaded) -> bool {
         && is_term(all, b"all", 0, 5, Verdict::Accept)
 }
 
-fn has_two_blocks<T: Tree>(alloc: Global, tree: &mut T) -> bool {
-    match loaded(alloc, tree) {
-        Ok(loaded) => is_two_blocks(&loaded),
-        Err(_) => false,
-    }
+// What is loaded of the files. `None` where they are refused.
+pub(crate) fn loaded_of(alloc: Global, files: &[(&str, &[u8])]) -> Option<Loaded> {
+    let mut tree = tree_of(alloc, files).ok()?;
+    loaded(alloc, &mut tree).ok()
+}
+
+fn has_two_blocks(alloc: Global) -> Option<bool> {
+    Some(is_two_blocks(&loaded_of(alloc, &TWO_BLOCKS)?))
 }
 
 #[test]
-fn terms_are_loaded_by_blocks(rt: HostRuntime) -> Result<(), Fail> {
-    let mut tree = tree_of(rt.alloc(), &TWO_BLOCKS)?;
-    assert!(rt; has_two_blocks(rt.alloc(), &mut tree));
-    Ok(())
+fn terms_are_loaded_by_blocks(rt: HostRuntime) {
+    assert!(rt; has_two_blocks(rt.alloc()) == Some(true));
 }
 
 // The first listing fails; then the naming file is read, the policy, and the included file, which fails.
@@ -176,11 +210,19 @@ fn failing_tree(alloc: Global) -> Result<MemTree, Memory> {
     Ok(tree)
 }
 
+fn tells_each_failure<T: Tree>(alloc: Global, tree: &mut T) -> Result<bool, PutFault> {
+    Ok(
+        tells(alloc, tree, b"list")?
+            && tells(alloc, tree, b"read")?
+            && tells(alloc, tree, b"loaded")?,
+    )
+}
+
+fn failures_are_told(alloc: Global) -> Option<bool> {
+    tells_each_failure(alloc, &mut failing_tree(alloc).ok()?).ok()
+}
+
 #[test]
-fn failures_of_the_tree_are_told(rt: HostRuntime) -> Result<(), Fail> {
-    let mut tree = failing_tree(rt.alloc())?;
-    assert!(rt; tells(rt.alloc(), &mut tree, b"list")?);
-    assert!(rt; tells(rt.alloc(), &mut tree, b"read")?);
-    assert!(rt; tells(rt.alloc(), &mut tree, b"loaded")?);
-    Ok(())
+fn failures_of_the_tree_are_told(rt: HostRuntime) {
+    assert!(rt; failures_are_told(rt.alloc()) == Some(true));
 }

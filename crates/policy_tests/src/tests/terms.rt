@@ -1,16 +1,14 @@
 ghost use Rattle.std.specs.List.{All};
-ghost use Rattle.acl_policy.specs.Conditions.{IsRawTerm};
+ghost use Rattle.acl_policy.specs.Conditions.{IsBlock, IsRawTerm};
 
-use crate::tests::reading::{base, policy_of, shown_slip, today};
-use acl_days::Day;
+use crate::tests::reading::{TODAY, base, policy_of, shown_slip};
 use acl_naming::Checked;
 use acl_packet::{Conn, Family, Packet};
-use acl_policy::RawTerm;
+use acl_policy::{Block, RawTerm};
 use acl_target::Kind;
 use acl_terms::{Mode, Term, is_empty_in, is_live, is_pair_empty, matches, pairs_of, resolve};
 use acl_text::{Memory, Refusal};
 use std::alloc::Global;
-use std::test::Fail;
 
 fn first_of(alloc: Global, base: &Checked, raws: &[RawTerm]) -> Result<Term, Refusal>
     requires { All IsRawTerm raws.now }
@@ -21,26 +19,32 @@ fn first_of(alloc: Global, base: &Checked, raws: &[RawTerm]) -> Result<Term, Ref
     }
 }
 
-// The term of these items, which begin in line 2, as `parse` and `resolve` give it.
-fn term_of(alloc: Global, base: &Checked, items: &str) -> Result<Term, Refusal> {
-    let text = format!(in alloc; "header {{ target:: cisco e }} term t {{\n{items} }}\n")?;
-    let policy = policy_of(alloc, text.as_bytes())?;
-    match policy.blocks.as_slice() {
+fn first_in(alloc: Global, base: &Checked, blocks: &[Block]) -> Result<Term, Refusal>
+    requires { All IsBlock blocks.now }
+{
+    match blocks {
         [] => Err(Refusal::Memory),
         [block, ..] => first_of(alloc, base, block.terms.as_slice()),
     }
 }
 
-fn refusal_of(alloc: Global, base: &Checked, items: &str) -> Option<Refusal> {
-    term_of(alloc, base, items).err()
+fn term_over(alloc: Global, base: &Checked, items: &str) -> Result<Term, Refusal> {
+    let text = format!(in alloc; "header {{ target:: cisco e }} term t {{\n{items} }}\n")?;
+    let policy = policy_of(alloc, text.as_bytes())?;
+    first_in(alloc, base, policy.blocks.as_slice())
 }
 
-// The first slip of the term of these items.
-fn slip_of(alloc: Global, base: &Checked, items: &str) -> Result<String, Refusal> {
-    match refusal_of(alloc, base, items) {
+// The term of these items, which begin in line 2, as `parse` and `resolve` give it.
+fn term_of(alloc: Global, items: &str) -> Result<Term, Refusal> {
+    term_over(alloc, &base(alloc)?, items)
+}
+
+// The first slip of a term, where there is one.
+fn shown(alloc: Global, refusal: &Option<Refusal>) -> Result<String, Memory> {
+    match refusal {
         None => Ok(String::from_str(alloc, "none")?),
-        Some(Refusal::Slip(slip)) => Ok(shown_slip(alloc, &slip)?),
-        Some(Refusal::Memory) => Err(Refusal::Memory),
+        Some(Refusal::Slip(slip)) => shown_slip(alloc, slip),
+        Some(Refusal::Memory) => Err(Memory),
     }
 }
 
@@ -172,17 +176,15 @@ static SLIPS: [(&str, &str); 32] = [
     ),
 ];
 
-fn slips(alloc: Global, base: &Checked, items: &str, slip: &str) -> Result<bool, Refusal> {
-    Ok(slip_of(alloc, base, items)?.as_str() == slip)
+fn slips(alloc: Global, items: &str, slip: &str) -> Result<bool, Memory> {
+    Ok(shown(alloc, &term_of(alloc, items).err())?.as_str() == slip)
 }
 
 #[test]
-fn the_first_slip_is_told(rt: HostRuntime) -> Result<(), Fail> {
-    let base = base(rt.alloc())?;
+fn the_first_slip_is_told(rt: HostRuntime) {
     for (items, slip) in &SLIPS {
-        assert!(rt; slips(rt.alloc(), &base, items, slip)?, "at {items}");
+        assert!(rt; slips(rt.alloc(), items, slip) == Ok(true), "at {items}");
     }
-    Ok(())
 }
 
 const TEN: u128 = 0x0a00_0001;
@@ -483,26 +485,18 @@ const EITHER: &str =
 
 const CODES: &str = "protocol:: icmp icmp-type:: unreachable icmp-code:: 4 3 action:: deny";
 
-// Whether the term of these items matches the packet.
-fn is_matched(
-    alloc: Global,
-    base: &Checked,
-    items: &str,
-    mode: Mode,
-    packet: &Packet,
-) -> Result<bool, Refusal> {
-    let term = term_of(alloc, base, items)?;
-    Ok(matches(&term, mode, packet))
+// Whether the term of these items matches the packet. `None` where there is no such term.
+fn is_matched(alloc: Global, items: &str, mode: Mode, packet: &Packet) -> Option<bool> {
+    let term = term_of(alloc, items).ok()?;
+    Some(matches(&term, mode, packet))
 }
 
 #[test]
-fn packets_are_matched(rt: HostRuntime) -> Result<(), Fail> {
-    let base = base(rt.alloc())?;
+fn packets_are_matched(rt: HostRuntime) {
     for (place, (items, mode, packet, expected)) in MATCHES.iter().enumerate() {
-        let found = is_matched(rt.alloc(), &base, items, *mode, packet)?;
-        assert!(rt; found == *expected, "row {place} at {items}");
+        let found = is_matched(rt.alloc(), items, *mode, packet);
+        assert!(rt; found == Some(*expected), "row {place} at {items}");
     }
-    Ok(())
 }
 
 // The items of a term with the first so many codes of a type.
@@ -518,18 +512,19 @@ fn with_codes(alloc: Global, count: u16) -> Result<String, Memory> {
     Ok(items)
 }
 
-// Whether a term with the first so many codes has all.
-fn has_all_codes(alloc: Global, base: &Checked, count: u16) -> Result<bool, Refusal> {
-    let items = with_codes(alloc, count)?;
-    Ok(term_of(alloc, base, items.as_str())?.icodes.is_all())
+fn code_term(alloc: Global, count: u16) -> Result<Term, Refusal> {
+    term_of(alloc, with_codes(alloc, count)?.as_str())
+}
+
+// Whether a term with the first so many codes has all. `None` where there is no such term.
+fn has_all_codes(alloc: Global, count: u16) -> Option<bool> {
+    Some(code_term(alloc, count).ok()?.icodes.is_all())
 }
 
 #[test]
-fn all_codes_are_all(rt: HostRuntime) -> Result<(), Fail> {
-    let base = base(rt.alloc())?;
-    assert!(rt; !has_all_codes(rt.alloc(), &base, 255)?);
-    assert!(rt; has_all_codes(rt.alloc(), &base, 256)?);
-    Ok(())
+fn all_codes_are_all(rt: HostRuntime) {
+    assert!(rt; has_all_codes(rt.alloc(), 255) == Some(false));
+    assert!(rt; has_all_codes(rt.alloc(), 256) == Some(true));
 }
 
 fn mark(is_so: bool) -> &'static str {
@@ -545,30 +540,24 @@ fn marked_pairs(alloc: Global, term: &Term) -> Result<String, Memory> {
     Ok(pairs)
 }
 
-// The marks of a term in a text: of its pairs; whether it is empty in IPv4 and in IPv6; and whether it is live that day for
+// The marks of a term in a text: of its pairs; whether it is empty in IPv4 and in IPv6; and whether it is live today for
 // Cisco and for Juniper.
-fn is_marked(alloc: Global, term: &Term, today: Day, text: &str) -> Result<bool, Memory> {
+fn is_marked(alloc: Global, term: &Term, text: &str) -> Result<bool, Memory> {
     let pairs = marked_pairs(alloc, term)?;
     let shown = format!(in alloc;
         "{pairs} {}{} {}{}",
         mark(is_empty_in(term, Family::V4)),
         mark(is_empty_in(term, Family::V6)),
-        mark(is_live(term, Kind::Cisco, today)),
-        mark(is_live(term, Kind::Juniper, today))
+        mark(is_live(term, Kind::Cisco, TODAY)),
+        mark(is_live(term, Kind::Juniper, TODAY))
     )?;
     Ok(shown.as_str() == text)
 }
 
-// Whether these are the marks of the term of these items.
-fn has_marks(
-    alloc: Global,
-    base: &Checked,
-    items: &str,
-    today: Day,
-    text: &str,
-) -> Result<bool, Refusal> {
-    let term = term_of(alloc, base, items)?;
-    Ok(is_marked(alloc, &term, today, text)?)
+// Whether these are the marks of the term of these items. `None` where there is no such term.
+fn has_marks(alloc: Global, items: &str, text: &str) -> Option<bool> {
+    let term = term_of(alloc, items).ok()?;
+    is_marked(alloc, &term, text).ok()
 }
 
 // Source and source port, source and destination port, destination and source port, both destinations.
@@ -638,14 +627,11 @@ static SIDES: [(&str, &str); 25] = [
 ];
 
 #[test]
-fn sides_are_empty_and_terms_live(rt: HostRuntime) -> Result<(), Fail> {
-    let base = base(rt.alloc())?;
-    let today = today()?;
+fn sides_are_empty_and_terms_live(rt: HostRuntime) {
     for (items, expected) in &SIDES {
         assert!(rt;
-            has_marks(rt.alloc(), &base, items, today, expected)?,
+            has_marks(rt.alloc(), items, expected) == Some(true),
             "at {items}"
         );
     }
-    Ok(())
 }

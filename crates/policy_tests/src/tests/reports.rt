@@ -1,14 +1,12 @@
 ghost use Rattle.std.specs.Prelude.{◌≡◌, true, IfOk};
 
-use crate::tests::files::loaded;
+use crate::tests::loads::loaded_of;
 use acl_days::{Day, read_day};
-use acl_load::{Loaded, ResolvedPolicy, settle};
-use acl_memory::MemTree;
+use acl_load::{ResolvedPolicy, settle};
 use acl_report::{put_count, report_terms, shaded_lists};
 use acl_target::Targets;
 use acl_text::{Memory, Whole};
 use std::alloc::Global;
-use std::test::Fail;
 
 const NETWORKS: &[u8] = b"WEB = 192.0.2.10\nBOTH = 192.0.2.10 2001:db8::10\n";
 
@@ -16,22 +14,13 @@ const NETWORKS: &[u8] = b"WEB = 192.0.2.10\nBOTH = 192.0.2.10 2001:db8::10\n";
 const INCLUDED: &[u8] =
     b"\nterm gone {\n  source-address:: WEB\n  source-exclude:: WEB\n  action:: deny\n}\n";
 
-fn load_policy(alloc: Global, policy: &[u8]) -> Result<Loaded, Memory> {
-    let mut tree = MemTree::new(alloc);
-    tree.put_file("def/n.net", NETWORKS)?;
-    tree.put_file("pol/a.pol", policy)?;
-    tree.put_file("pol/b.inc", INCLUDED)?;
-    match loaded(alloc, &mut tree) {
-        Ok(loaded) => Ok(loaded),
-        Err(_) => Err(Memory),
-    }
-}
-
-fn day(text: &[u8]) -> Result<Day, Memory> {
-    match read_day(text) {
-        Some(day) => Ok(day),
-        None => Err(Memory),
-    }
+fn settled(alloc: Global, policy: &[u8]) -> Result<ResolvedPolicy, Memory> {
+    let files = [
+        ("def/n.net", NETWORKS),
+        ("pol/a.pol", policy),
+        ("pol/b.inc", INCLUDED),
+    ];
+    settle(alloc, loaded_of(alloc, &files).ok_or(Memory)?)
 }
 
 fn put_counts(report: &mut Whole, targets: &[Targets], entries: u64) -> Result<(), Memory>
@@ -58,10 +47,9 @@ fn terms_report(
     report_terms(alloc, policy, &shaded, today, weeks)
 }
 
-// The report on the policy `pol/a.pol` that day, with five entries for its first target.
-fn report(alloc: Global, policy: &[u8], today: &[u8], weeks: u16) -> Result<Whole, Memory> {
-    let policy = settle(alloc, load_policy(alloc, policy)?)?;
-    let mut report = terms_report(alloc, &policy, day(today)?, weeks)?;
+// The report on the policy that day, with five entries for its first target.
+fn report(alloc: Global, policy: &ResolvedPolicy, today: Day, weeks: u16) -> Result<Whole, Memory> {
+    let mut report = terms_report(alloc, policy, today, weeks)?;
     put_counts(&mut report, policy.targets.as_slice(), 5)?;
     Ok(report)
 }
@@ -86,7 +74,7 @@ static DAYS: [(&str, &str, u16, &str); 12] = [
     ("9999-12-31", "9999-12-30", 520, EXPIRES),
 ];
 
-// Whether the report on the policy that day is this text.
+// Whether the report on the policy `pol/a.pol` that day is this text.
 fn is_report(
     alloc: Global,
     policy: &[u8],
@@ -94,7 +82,9 @@ fn is_report(
     weeks: u16,
     text: &[u8],
 ) -> Result<bool, Memory> {
-    Ok(report(alloc, policy, today, weeks)?.as_slice() == text)
+    let today = read_day(today).ok_or(Memory)?;
+    let policy = settled(alloc, policy)?;
+    Ok(report(alloc, &policy, today, weeks)?.as_slice() == text)
 }
 
 // The report with a line of these words, where there are any.
@@ -121,11 +111,10 @@ fn is_told(alloc: Global, row: &(&str, &str, u16, &str)) -> Result<bool, Memory>
 }
 
 #[test]
-fn days_of_expiry_at_their_edges(rt: HostRuntime) -> Result<(), Fail> {
+fn days_of_expiry_at_their_edges(rt: HostRuntime) {
     for row in &DAYS {
-        assert!(rt; is_told(rt.alloc(), row)?, "{} {}", row.0, row.1);
+        assert!(rt; is_told(rt.alloc(), row) == Ok(true), "{} {}", row.0, row.1);
     }
-    Ok(())
 }
 
 // Policies, and the report on them on 2026-01-15.
@@ -168,12 +157,11 @@ static TERMS: [(&[u8], &[u8]); 7] = [
 ];
 
 #[test]
-fn terms_are_told_of_on_their_targets(rt: HostRuntime) -> Result<(), Fail> {
+fn terms_are_told_of_on_their_targets(rt: HostRuntime) {
     for (place, (policy, lines)) in TERMS.iter().enumerate() {
         assert!(rt;
-            is_report(rt.alloc(), policy, b"2026-01-15", 2, lines)?,
+            is_report(rt.alloc(), policy, b"2026-01-15", 2, lines) == Ok(true),
             "row {place}"
         );
     }
-    Ok(())
 }

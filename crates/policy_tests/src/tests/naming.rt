@@ -4,7 +4,7 @@ use acl_naming::{
 use acl_packet::Family;
 use acl_sets::{Range, RangeSet};
 use acl_text::{Code, Place, Refusal};
-use std::alloc::Global;
+use std::alloc::{AllocError, Global};
 use std::test::Fail;
 
 const MOST_BYTES: usize = 4_194_304;
@@ -196,19 +196,12 @@ static NAMES: [Case; 8] = [
 ];
 
 // Whether the answer is this slip.
-fn is_slip<T: Drop>(
-    answer: Result<T, Refusal>,
-    file: u32,
-    code: Code,
-    line: u32,
-    word: &[u8],
-) -> bool {
+fn is_slip<T>(answer: &Result<T, Refusal>, file: u32, code: Code, line: u32, word: &[u8]) -> bool {
     match answer {
         Err(Refusal::Slip(slip)) => {
             slip.code == code && slip.place == Place { file, line } && slip.word.as_slice() == word
         }
-        Err(Refusal::Memory) => false,
-        Ok(_) => false,
+        _ => false,
     }
 }
 
@@ -228,24 +221,21 @@ fn services(base: Base, file: u32, text: &[u8]) -> Result<Base, Refusal> {
 
 fn slips_in_networks(alloc: Global, case: &Case) -> bool {
     let answer = networks(Base::new(alloc), 3, case.text);
-    is_slip(answer, 3, case.code, case.line, case.word)
+    is_slip(&answer, 3, case.code, case.line, case.word)
 }
 
 fn slips_in_services(alloc: Global, case: &Case) -> bool {
     let answer = services(Base::new(alloc), 4, case.text);
-    is_slip(answer, 4, case.code, case.line, case.word)
+    is_slip(&answer, 4, case.code, case.line, case.word)
 }
 
-// Whether the networks, which are read, slip by this name.
-fn slips_at(
-    alloc: Global,
-    text: &[u8],
-    code: Code,
-    line: u32,
-    word: &[u8],
-) -> Result<bool, Refusal> {
-    let base = networks(Base::new(alloc), 5, text)?;
-    Ok(is_slip(check_base(base), 5, code, line, word))
+fn checked(alloc: Global, text: &[u8]) -> Result<Checked, Refusal> {
+    check_base(networks(Base::new(alloc), 5, text)?)
+}
+
+// Whether the networks slip by this name.
+fn slips_at(alloc: Global, text: &[u8], code: Code, line: u32, word: &[u8]) -> bool {
+    is_slip(&checked(alloc, text), 5, code, line, word)
 }
 
 fn example(alloc: Global, first: &[u8], second: &[u8]) -> Result<Checked, Refusal> {
@@ -253,17 +243,18 @@ fn example(alloc: Global, first: &[u8], second: &[u8]) -> Result<Checked, Refusa
     check_base(services(base, 1, second)?)
 }
 
-fn has_ranges(answer: Result<RangeSet, Lookup>, ranges: &[Range]) -> bool {
+// Whether these are the ranges of a name. It has no answer where its file is refused.
+fn has_ranges(answer: &Option<Result<RangeSet, Lookup>>, ranges: &[Range]) -> bool {
     match answer {
-        Ok(set) => set.ranges() == ranges,
-        Err(_) => false,
+        Some(Ok(set)) => set.ranges() == ranges,
+        _ => false,
     }
 }
 
-fn is_refused(answer: Result<RangeSet, Lookup>, lookup: Lookup) -> bool {
+fn is_refused(answer: &Option<Result<RangeSet, Lookup>>, lookup: Lookup) -> bool {
     match answer {
-        Ok(_) => false,
-        Err(found) => found == lookup,
+        Some(Err(found)) => *found == lookup,
+        _ => false,
     }
 }
 
@@ -282,12 +273,11 @@ fn slips_of_services(rt: HostRuntime) {
 }
 
 #[test]
-fn an_undefined_name_comes_before_a_cycle(rt: HostRuntime) -> Result<(), Fail> {
+fn an_undefined_name_comes_before_a_cycle(rt: HostRuntime) {
     for (place, case) in NAMES.iter().enumerate() {
-        let slips = slips_at(rt.alloc(), case.text, case.code, case.line, case.word)?;
+        let slips = slips_at(rt.alloc(), case.text, case.code, case.line, case.word);
         assert!(rt; slips, "case {place}");
     }
-    Ok(())
 }
 
 // A text, and the slip that is told of it behind another file, which defines A.
@@ -306,18 +296,20 @@ static SECONDS: [Case; 2] = [
     },
 ];
 
-fn slips_behind(alloc: Global, case: &Case) -> Result<bool, Refusal> {
-    let base = networks(Base::new(alloc), 0, b"A = 1.2.3.4")?;
-    let answer = networks(base, 2, case.text);
-    Ok(is_slip(answer, 2, case.code, case.line, case.word))
+// The networks of two files.
+fn two_files(alloc: Global, first: &[u8], second: &[u8]) -> Result<Base, Refusal> {
+    networks(networks(Base::new(alloc), 0, first)?, 2, second)
 }
 
 #[test]
-fn files_are_read_one_after_the_other(rt: HostRuntime) -> Result<(), Fail> {
+fn files_are_read_one_after_the_other(rt: HostRuntime) {
     for (place, case) in SECONDS.iter().enumerate() {
-        assert!(rt; slips_behind(rt.alloc(), case)?, "case {place}");
+        let answer = two_files(rt.alloc(), b"A = 1.2.3.4", case.text);
+        assert!(rt;
+            is_slip(&answer, 2, case.code, case.line, case.word),
+            "case {place}"
+        );
     }
-    Ok(())
 }
 
 static FIRST: &[u8] =
@@ -343,16 +335,25 @@ static ADDRESSES: [(Family, &[u8], &[Range]); 4] = [
     (Family::V4, b"NONE", &[]),
 ];
 
+// The addresses of the name in the example. `None` where it is refused.
+fn addresses(alloc: Global, family: Family, name: &[u8]) -> Option<Result<RangeSet, Lookup>> {
+    let base = example(alloc, FIRST, SECOND).ok()?;
+    Some(networks_of(alloc, &base, family, name))
+}
+
+fn ports(alloc: Global, proto: u8, name: &[u8]) -> Option<Result<RangeSet, Lookup>> {
+    let base = example(alloc, FIRST, SECOND).ok()?;
+    Some(ports_of(alloc, &base, proto, name))
+}
+
 #[test]
-fn addresses_of_names(rt: HostRuntime) -> Result<(), Fail> {
-    let base = example(rt.alloc(), FIRST, SECOND)?;
+fn addresses_of_names(rt: HostRuntime) {
     for (place, (family, name, ranges)) in ADDRESSES.iter().enumerate() {
-        let answer = networks_of(rt.alloc(), &base, *family, name);
-        assert!(rt; has_ranges(answer, ranges), "name {place}");
+        let answer = addresses(rt.alloc(), *family, name);
+        assert!(rt; has_ranges(&answer, ranges), "name {place}");
     }
-    let answer = networks_of(rt.alloc(), &base, Family::V4, b"DNS");
-    assert!(rt; is_refused(answer, Lookup::Unknown));
-    Ok(())
+    let answer = addresses(rt.alloc(), Family::V4, b"DNS");
+    assert!(rt; is_refused(&answer, Lookup::Unknown));
 }
 
 const DNS: Range = Range { low: 53, high: 53 };
@@ -369,26 +370,22 @@ static NO_PORTS: [(u8, &[u8], Lookup); 2] = [
 ];
 
 #[test]
-fn ports_of_names(rt: HostRuntime) -> Result<(), Fail> {
-    let base = example(rt.alloc(), FIRST, SECOND)?;
+fn ports_of_names(rt: HostRuntime) {
     for (place, (proto, name, ranges)) in PORTS.iter().enumerate() {
-        let answer = ports_of(rt.alloc(), &base, *proto, name);
-        assert!(rt; has_ranges(answer, ranges), "name {place}");
+        let answer = ports(rt.alloc(), *proto, name);
+        assert!(rt; has_ranges(&answer, ranges), "name {place}");
     }
-    Ok(())
 }
 
 #[test]
-fn names_without_ports(rt: HostRuntime) -> Result<(), Fail> {
-    let base = example(rt.alloc(), FIRST, SECOND)?;
+fn names_without_ports(rt: HostRuntime) {
     for (place, (proto, name, lookup)) in NO_PORTS.iter().enumerate() {
-        let answer = ports_of(rt.alloc(), &base, *proto, name);
-        assert!(rt; is_refused(answer, *lookup), "name {place}");
+        let answer = ports(rt.alloc(), *proto, name);
+        assert!(rt; is_refused(&answer, *lookup), "name {place}");
     }
-    Ok(())
 }
 
-fn many(alloc: Global, count: usize, front: &[u8], each: &[u8]) -> Result<Vec<u8>, Fail> {
+fn many(alloc: Global, count: usize, front: &[u8], each: &[u8]) -> Result<Vec<u8>, AllocError> {
     let mut text = Vec::from_slice(alloc, front)?;
     for _ in 0..count {
         text.extend_from_slice(each)?;
@@ -397,7 +394,7 @@ fn many(alloc: Global, count: usize, front: &[u8], each: &[u8]) -> Result<Vec<u8
 }
 
 // Each name stands twice for the next one, and the last one for the word.
-fn falling(alloc: Global, word: &str) -> Result<Vec<u8>, Fail> {
+fn falling(alloc: Global, word: &str) -> Result<Vec<u8>, AllocError> {
     let mut text = Vec::new(alloc);
     for i in 0..8000u32 {
         let next = i + 1;
@@ -408,7 +405,7 @@ fn falling(alloc: Global, word: &str) -> Result<Vec<u8>, Fail> {
 }
 
 // The first name stands for the word, and each other one twice for the one before it.
-fn rising(alloc: Global, word: &str) -> Result<Vec<u8>, Fail> {
+fn rising(alloc: Global, word: &str) -> Result<Vec<u8>, AllocError> {
     let mut text = Vec::new(alloc);
     text.extend_from_slice(format!(in alloc; "N0 = {word}\n")?.as_bytes())?;
     for before in 0..8000u32 {
@@ -423,26 +420,26 @@ const LAST: Range = Range {
     high: 0xc000_0201,
 };
 
-// Whether the name stands for the one address in the networks.
-fn leads_to_last(alloc: Global, text: &[u8], name: &[u8]) -> Result<bool, Refusal> {
-    let base = example(alloc, text, b"")?;
-    Ok(has_ranges(networks_of(alloc, &base, Family::V4, name), &[LAST]))
+// What the name stands for in the networks. `None` where they are refused.
+fn chained(alloc: Global, text: &[u8], name: &[u8]) -> Option<Result<RangeSet, Lookup>> {
+    let base = example(alloc, text, b"").ok()?;
+    Some(networks_of(alloc, &base, Family::V4, name))
 }
 
 // The chain and the name at its far end, whichever way it goes.
 #[test]
 fn a_long_chain_is_followed_to_its_end(rt: HostRuntime) -> Result<(), Fail> {
     let up = rising(rt.alloc(), "192.0.2.1")?;
-    assert!(rt; leads_to_last(rt.alloc(), &up, b"N8000")?);
+    assert!(rt; has_ranges(&chained(rt.alloc(), &up, b"N8000"), &[LAST]));
     let down = falling(rt.alloc(), "192.0.2.1")?;
-    assert!(rt; leads_to_last(rt.alloc(), &down, b"N0")?);
+    assert!(rt; has_ranges(&chained(rt.alloc(), &down, b"N0"), &[LAST]));
     Ok(())
 }
 
 #[test]
 fn a_ring_behind_a_long_chain_is_found(rt: HostRuntime) -> Result<(), Fail> {
     let text = falling(rt.alloc(), "N7999")?;
-    assert!(rt; slips_at(rt.alloc(), &text, Code::Cycle, 8000, b"N7999")?);
+    assert!(rt; slips_at(rt.alloc(), &text, Code::Cycle, 8000, b"N7999"));
     Ok(())
 }
 
@@ -450,29 +447,20 @@ fn a_ring_behind_a_long_chain_is_found(rt: HostRuntime) -> Result<(), Fail> {
 #[test]
 fn a_ring_of_all_names_is_found(rt: HostRuntime) -> Result<(), Fail> {
     let mut text = rising(rt.alloc(), "N8000")?;
-    assert!(rt; slips_at(rt.alloc(), &text, Code::Cycle, 1, b"N0")?);
+    assert!(rt; slips_at(rt.alloc(), &text, Code::Cycle, 1, b"N0"));
     text.extend_from_slice(b"Z = Z0\n")?;
-    assert!(rt; slips_at(rt.alloc(), &text, Code::Undefined, 8002, b"Z0")?);
+    assert!(rt; slips_at(rt.alloc(), &text, Code::Undefined, 8002, b"Z0"));
     Ok(())
 }
 
-// As many items as there may be, and a text behind them that slips.
-fn full_slips(alloc: Global) -> Result<bool, Fail> {
-    let full = many(alloc, 16384, b"A =", b" 1.2.3.4")?;
-    let base = networks(Base::new(alloc), 0, &full)?;
-    let answer = networks(base, 1, b"B =\n = \n");
-    Ok(is_slip(answer, 1, Code::BadName, 2, b""))
-}
-
-fn over_slips(alloc: Global) -> Result<bool, Fail> {
-    let over = many(alloc, 16385, b"A =", b"\n B")?;
-    let answer = networks(Base::new(alloc), 0, &over);
-    Ok(is_slip(answer, 0, Code::TooMany, 16386, b"B"))
-}
-
+// As many items as there may be, and a text behind them that slips; then one item more.
 #[test]
 fn items_up_to_the_limit(rt: HostRuntime) -> Result<(), Fail> {
-    assert!(rt; full_slips(rt.alloc())?);
-    assert!(rt; over_slips(rt.alloc())?);
+    let full = many(rt.alloc(), 16384, b"A =", b" 1.2.3.4")?;
+    let answer = two_files(rt.alloc(), &full, b"B =\n = \n");
+    assert!(rt; is_slip(&answer, 2, Code::BadName, 2, b""));
+    let over = many(rt.alloc(), 16385, b"A =", b"\n B")?;
+    let answer = networks(Base::new(rt.alloc()), 0, &over);
+    assert!(rt; is_slip(&answer, 0, Code::TooMany, 16386, b"B"));
     Ok(())
 }

@@ -1,11 +1,10 @@
 use crate::tests::files::tree_of;
 use acl_host::Tree;
 use acl_load::load_definitions;
-use acl_naming::{Lookup, networks_of, ports_of};
+use acl_naming::{Checked, Lookup, networks_of, ports_of};
 use acl_packet::Family;
 use acl_sets::{Range, RangeSet};
 use std::alloc::Global;
-use std::test::Fail;
 
 fn is_one(answer: &Result<RangeSet, Lookup>, number: u128) -> bool {
     let one = [Range {
@@ -19,15 +18,16 @@ fn is_one(answer: &Result<RangeSet, Lookup>, number: u128) -> bool {
 }
 
 // Whether the networks WEB are 1.2.3.4, and the ports WEB are 80.
-fn is_web<T: Tree>(alloc: Global, tree: &mut T) -> bool {
-    match load_definitions(alloc, tree, "def") {
-        Ok(checked) => {
-            let networks = networks_of(alloc, &checked, Family::V4, b"WEB");
-            let ports = ports_of(alloc, &checked, 6, b"WEB");
-            is_one(&networks, 0x0102_0304) && is_one(&ports, 80)
-        }
-        Err(_) => false,
-    }
+fn is_web(alloc: Global, checked: &Checked) -> bool {
+    is_one(
+        &networks_of(alloc, checked, Family::V4, b"WEB"),
+        0x0102_0304,
+    ) && is_one(&ports_of(alloc, checked, 6, b"WEB"), 80)
+}
+
+fn loads_web<T: Tree>(alloc: Global, tree: &mut T) -> Option<bool> {
+    let checked = load_definitions(alloc, tree, "def").ok()?;
+    Some(is_web(alloc, &checked))
 }
 
 // Naming files, and files that are none.
@@ -41,9 +41,11 @@ static FILES: [(&str, &[u8]); 7] = [
     ("def/sub/x.net", b"= !"),
 ];
 
+fn files_have_web(alloc: Global) -> Option<bool> {
+    loads_web(alloc, &mut tree_of(alloc, &FILES).ok()?)
+}
+
 #[test]
-fn names_go_over_files(rt: HostRuntime) -> Result<(), Fail> {
-    let mut tree = tree_of(rt.alloc(), &FILES)?;
-    assert!(rt; is_web(rt.alloc(), &mut tree));
-    Ok(())
+fn names_go_over_files(rt: HostRuntime) {
+    assert!(rt; files_have_web(rt.alloc()) == Some(true));
 }

@@ -1,49 +1,52 @@
 ghost use Rattle.std.specs.Prelude.{IfOk};
 ghost use Rattle.std.specs.List.{All};
 ghost use Rattle.acl_platform.specs.SoundFilters.{IsSound};
+ghost use Rattle.acl_policy.specs.Conditions.{IsBlock};
 ghost use Rattle.acl_target.specs.TargetData.{IsTarget};
 
-use crate::tests::reading::{base, policy_of, shown_slip, terms_of, text, today};
-use acl_days::Day;
+use crate::tests::files::text;
+use crate::tests::reading::{TODAY, base, policy_of, shown_slip, terms_of};
 use acl_expand::expand;
 use acl_naming::Checked;
 use acl_packet::Prefix;
 use acl_platform::{Filter, Rule};
+use acl_policy::Block;
 use acl_sets::RangeSet;
 use acl_target::Target;
 use acl_terms::Term;
 use acl_text::{Memory, Refusal};
 use std::alloc::Global;
-use std::test::Fail;
 
-fn expand_on_first(
-    alloc: Global,
-    terms: &[Term],
-    targets: &[Target],
-    today: Day,
-) -> Result<Filter, Refusal>
+fn expand_on_first(alloc: Global, terms: &[Term], targets: &[Target]) -> Result<Filter, Refusal>
     requires { All IsTarget targets.now }
-    ensures { IfOk result IsSound }
 {
     match targets {
         [] => Err(Refusal::Memory),
-        [target, ..] => expand(alloc, terms, target, today),
+        [target, ..] => expand(alloc, terms, target, TODAY),
+    }
+}
+
+fn expand_block(alloc: Global, base: &Checked, block: &Block) -> Result<Filter, Refusal>
+    requires { IsBlock block.now }
+{
+    let terms = terms_of(alloc, base, block.terms.as_slice())?;
+    expand_on_first(alloc, terms.as_slice(), block.targets.as_slice())
+}
+
+fn expand_first(alloc: Global, blocks: &[Block]) -> Result<Filter, Refusal>
+    requires { All IsBlock blocks.now }
+{
+    match blocks {
+        [] => Err(Refusal::Memory),
+        [block, ..] => expand_block(alloc, &base(alloc)?, block),
     }
 }
 
 // The filter of the terms, of which the first is in line 4, on the target, on 2026-01-15.
-fn filter_of(alloc: Global, base: &Checked, target: &str, terms: &str) -> Result<Filter, Refusal>
-    ensures { IfOk result IsSound }
-{
+fn filter_of(alloc: Global, target: &str, terms: &str) -> Result<Filter, Refusal> {
     let text = format!(in alloc; "header {{\n target:: {target}\n}}\n{terms}\n")?;
     let policy = policy_of(alloc, text.as_bytes())?;
-    match policy.blocks.as_slice() {
-        [] => Err(Refusal::Memory),
-        [block, ..] => {
-            let terms = terms_of(alloc, base, block.terms.as_slice())?;
-            expand_on_first(alloc, terms.as_slice(), block.targets.as_slice(), today()?)
-        }
-    }
+    expand_first(alloc, policy.blocks.as_slice())
 }
 
 // Puts the ranges of a set behind a semicolon, with nothing for a set that is all.
@@ -98,23 +101,18 @@ fn shown_rules(alloc: Global, rules: &[Rule]) -> Result<String, Memory> {
     Ok(out)
 }
 
-// The rules of the terms on the target, or their slip.
-fn shown(alloc: Global, base: &Checked, target: &str, terms: &str) -> Result<String, Memory> {
-    match filter_of(alloc, base, target, terms) {
+// The rules of a filter, or the slip in its place.
+fn shown(alloc: Global, answer: &Result<Filter, Refusal>) -> Result<String, Memory> {
+    match answer {
         Ok(filter) => shown_rules(alloc, filter.rules.as_slice()),
-        Err(Refusal::Slip(slip)) => shown_slip(alloc, &slip),
+        Err(Refusal::Slip(slip)) => shown_slip(alloc, slip),
         Err(Refusal::Memory) => Err(Memory),
     }
 }
 
-fn becomes(
-    alloc: Global,
-    base: &Checked,
-    target: &str,
-    terms: &str,
-    rules: &str,
-) -> Result<bool, Memory> {
-    Ok(shown(alloc, base, target, terms)?.as_str() == rules)
+// Whether the terms on the target become these rules, or slip so.
+fn becomes(alloc: Global, target: &str, terms: &str, rules: &str) -> Result<bool, Memory> {
+    Ok(shown(alloc, &filter_of(alloc, target, terms))?.as_str() == rules)
 }
 
 const CISCO: &str = "cisco e extended";
@@ -268,13 +266,11 @@ static FILTERS: [(&str, &str, &str); 27] = [
 ];
 
 #[test]
-fn terms_become_rules(rt: HostRuntime) -> Result<(), Fail> {
-    let base = base(rt.alloc())?;
+fn terms_become_rules(rt: HostRuntime) {
     for (target, terms, rules) in &FILTERS {
         assert!(rt;
-            becomes(rt.alloc(), &base, target, terms, rules)?,
+            becomes(rt.alloc(), target, terms, rules) == Ok(true),
             "at {target} {terms}"
         );
     }
-    Ok(())
 }

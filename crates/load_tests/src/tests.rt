@@ -1,5 +1,0 @@
-mod files;
-mod loads;
-mod policies;
-mod reports;
-mod shared_sets;

@@ -1,4 +1,0 @@
-mod filters;
-mod reading;
-mod shades;
-mod terms;
