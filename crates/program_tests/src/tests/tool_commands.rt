@@ -1,7 +1,8 @@
-use crate::tests::runs::{Calls, Case, NONE, is_left};
+use crate::tests::runs::{Calls, NONE};
+use crate::tests::tool_runs::{Case, leaves};
+use acl_memory::Op;
 use acl_text::Memory;
 use std::alloc::Global;
-use std::test::Fail;
 
 const RESTORE: &str =
     " speedway --policy_file pol/a.pol --definitions_directory def --family inet --date 2026-01-15";
@@ -216,11 +217,10 @@ term a {
 ];
 
 #[test]
-fn each_command_answers(rt: HostRuntime) -> Result<(), Fail> {
+fn each_command_answers(rt: HostRuntime) {
     for (place, case) in CASES.iter().enumerate() {
-        assert!(rt; is_left(rt.alloc(), case, &NONE)?, "case {place}");
+        assert!(rt; leaves(rt.alloc(), case, &NONE) == Ok(true), "case {place}");
     }
-    Ok(())
 }
 
 // A run of each command.
@@ -241,25 +241,27 @@ fn is_cut_off(
         out: b"",
         err,
     };
-    is_left(alloc, &case, calls)
+    leaves(alloc, &case, calls)
 }
 
-const UNREAD: Calls = Calls { read: 1, ..NONE };
+const UNREAD: Calls = Calls {
+    tree: Some((Op::Read, 1)),
+    ..NONE
+};
 
 const UNTOLD: Calls = Calls { out: 1, ..NONE };
 
 #[test]
-fn a_failure_outside_is_told(rt: HostRuntime) -> Result<(), Fail> {
+fn a_failure_outside_is_told(rt: HostRuntime) {
     for (words, policy) in &RUNS {
         let alloc = rt.alloc();
         assert!(rt;
-            is_cut_off(alloc, *words, *policy, &UNREAD, b"acltool: read failed\n")?,
+            is_cut_off(alloc, *words, *policy, &UNREAD, b"acltool: read failed\n") == Ok(true),
             "{words}"
         );
         assert!(rt;
-            is_cut_off(alloc, *words, *policy, &UNTOLD, b"acltool: output failed\n")?,
+            is_cut_off(alloc, *words, *policy, &UNTOLD, b"acltool: output failed\n") == Ok(true),
             "{words}"
         );
     }
-    Ok(())
 }

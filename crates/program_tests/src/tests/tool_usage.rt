@@ -1,5 +1,5 @@
-use crate::tests::runs::{Case, NONE, is_left};
-use std::test::Fail;
+use crate::tests::runs::NONE;
+use crate::tests::tool_runs::{Case, leaves};
 
 // Words that are no command line of acltool.
 static WRONG: [&str; 26] = [
@@ -32,7 +32,7 @@ static WRONG: [&str; 26] = [
 ];
 
 #[test]
-fn other_words_are_no_command_line(rt: HostRuntime) -> Result<(), Fail> {
+fn other_words_are_no_command_line(rt: HostRuntime) {
     for words in &WRONG {
         let case = Case {
             words: *words,
@@ -41,7 +41,6 @@ fn other_words_are_no_command_line(rt: HostRuntime) -> Result<(), Fail> {
             out: b"",
             err: b"usage: acltool COMMAND OPTIONS\n",
         };
-        assert!(rt; is_left(rt.alloc(), &case, &NONE)?, "{words}");
+        assert!(rt; leaves(rt.alloc(), &case, &NONE) == Ok(true), "{words}");
     }
-    Ok(())
 }

@@ -1,8 +1,7 @@
-use crate::tests::runs::{Calls, DATED, NONE, UNDATED, USAGE, keeps_inputs, left_by};
+use crate::tests::runs::{Calls, DATED, Left, NONE, UNDATED, USAGE, keeps_inputs, left_by_aclgen};
 use acl_memory::Op;
 use acl_text::Memory;
 use std::alloc::Global;
-use std::test::Fail;
 
 // A run over a policy, the status that it ends with, and the bytes that it leaves: the file of Cisco where there is
 // one, and what was written on the two streams.
@@ -200,21 +199,22 @@ static CASES: [Case; 10] = [
     },
 ];
 
+fn is_left(left: &Left, case: &Case) -> bool {
+    left.status == case.status
+        && left.tree.file("out/a.acl") == case.file
+        && left.out.as_slice() == case.report
+        && left.err.as_slice() == case.line
+        && keeps_inputs(&left.tree, case.policy)
+}
+
 fn leaves(alloc: Global, case: &Case) -> Result<bool, Memory> {
-    let left = left_by(alloc, case.policy, case.words, &case.calls)?;
-    Ok(
-        left.status == case.status
-            && left.tree.file("out/a.acl") == case.file
-            && left.out.as_slice() == case.report
-            && left.err.as_slice() == case.line
-            && keeps_inputs(&left.tree, case.policy),
-    )
+    let left = left_by_aclgen(alloc, case.policy, case.words, &case.calls)?;
+    Ok(is_left(&left, case))
 }
 
 #[test]
-fn runs_leave_their_files_and_lines(rt: HostRuntime) -> Result<(), Fail> {
+fn runs_leave_their_files_and_lines(rt: HostRuntime) {
     for (place, case) in CASES.iter().enumerate() {
-        assert!(rt; leaves(rt.alloc(), case)?, "case {place}");
+        assert!(rt; leaves(rt.alloc(), case) == Ok(true), "case {place}");
     }
-    Ok(())
 }

@@ -1,6 +1,6 @@
-use crate::tests::runs::{Calls, Case, NONE, leaves};
+use crate::tests::check_runs::{Case, leaves};
+use crate::tests::runs::{Calls, NONE};
 use acl_memory::Op;
-use std::test::Fail;
 
 const OF_POLICY: Case = Case {
     words: "|policy|--policy_file|pol/a.pol|--definitions_directory|def|--packet|198.51.100.7 192.0.2.10 6 40000 80 2 0 0 new",
@@ -75,9 +75,8 @@ static CASES: [Case; 8] = [
 ];
 
 #[test]
-fn a_failed_call_is_told(rt: HostRuntime) -> Result<(), Fail> {
+fn a_failed_call_is_told(rt: HostRuntime) {
     for (place, case) in CASES.iter().enumerate() {
-        assert!(rt; leaves(rt.alloc(), case)?, "case {place}");
+        assert!(rt; leaves(rt.alloc(), case) == Ok(true), "case {place}");
     }
-    Ok(())
 }

@@ -2,16 +2,14 @@ ghost use Rattle.std.specs.Prelude.{◌≡◌, IfOk, None};
 ghost use Rattle.acl_memory.specs.MemoryTrees.{contents};
 
 use crate::tests::runs::{
-    Calls, DATED, Left, NETWORKS, NONE, SERVICES, UNDATED, USAGE, WITHOUT_POLICY, WRONG,
-    keeps_inputs, left_by, sink_with, status,
+    Calls, DATED, DEFINITIONS, Left, NONE, UNDATED, USAGE, WITHOUT_POLICY, WRONG, aclgen_status,
+    keeps_inputs, left_by_aclgen, sink_with, words_of,
 };
-use crate::tests::words::words_of;
 use acl_days::Day;
 use acl_memory::{MemTree, Op, SureClock, SureSink, SureTree};
 use acl_text::Memory;
 use aclgen_core::status_without_words;
 use std::alloc::Global;
-use std::test::Fail;
 
 // A policy whose rules have each part that a rule may have, but for the flags. Of Cisco and of Junos it has
 // two targets that are alike: the rules of the second are put from a text that is kept.
@@ -457,16 +455,15 @@ static CASES: [Case; 21] = [
 ];
 
 fn leaves(alloc: Global, case: &Case) -> Result<bool, Memory> {
-    let left = left_by(alloc, POLICY, case.words, &case.calls)?;
+    let left = left_by_aclgen(alloc, POLICY, case.words, &case.calls)?;
     Ok(is_left(&left, case))
 }
 
 #[test]
-fn each_call_outside_fails_once(rt: HostRuntime) -> Result<(), Fail> {
+fn each_call_outside_fails_once(rt: HostRuntime) {
     for (place, case) in CASES.iter().enumerate() {
-        assert!(rt; leaves(rt.alloc(), case)?, "case {place}");
+        assert!(rt; leaves(rt.alloc(), case) == Ok(true), "case {place}");
     }
-    Ok(())
 }
 
 // What is left where the writing of a file fails behind so many whole ones.
@@ -484,14 +481,19 @@ fn cut_off(op: Op, nth: u32, whole: usize) -> Case {
 }
 
 #[test]
-fn each_file_is_begun_and_finished_once(rt: HostRuntime) -> Result<(), Fail> {
+fn each_file_is_begun_and_finished_once(rt: HostRuntime) {
     for before in 0..4u32 {
         let begin = cut_off(Op::Begin, before + 1, before as usize);
-        assert!(rt; leaves(rt.alloc(), &begin)?, "begun behind {before}");
+        assert!(rt;
+            leaves(rt.alloc(), &begin) == Ok(true),
+            "begun behind {before}"
+        );
         let finish = cut_off(Op::Finish, before + 1, before as usize);
-        assert!(rt; leaves(rt.alloc(), &finish)?, "finished behind {before}");
+        assert!(rt;
+            leaves(rt.alloc(), &finish) == Ok(true),
+            "finished behind {before}"
+        );
     }
-    Ok(())
 }
 
 // Behind how many whole files a run was cut off.
@@ -548,10 +550,10 @@ fn what_came_of_it(left: &Left, case: &Case) -> Appended {
     }
 }
 
-fn run_to_append(alloc: Global, nth: u32) -> Result<Appended, Memory> {
+fn run_to_append(alloc: Global, nth: u32) -> Option<Appended> {
     let case = cut_off(Op::Append, nth, 0);
-    let left = left_by(alloc, POLICY, case.words, &case.calls)?;
-    Ok(what_came_of_it(&left, &case))
+    let left = left_by_aclgen(alloc, POLICY, case.words, &case.calls).ok()?;
+    Some(what_came_of_it(&left, &case))
 }
 
 // The place of a cut behind `last`, where a line begins there that did not begin at `last`.
@@ -575,15 +577,15 @@ fn goes_on(cut: Appended, before: usize) -> Option<usize> {
 // Appends are counted upwards until none of that number is made. Each line begins with one of its own: no append has
 // bytes of two lines.
 #[test]
-fn each_append_fails_once(rt: HostRuntime) -> Result<(), Fail> {
+fn each_append_fails_once(rt: HostRuntime) {
     let mut before = 0usize;
     let mut lines = 0usize;
     let mut last = (usize::MAX, 0usize);
     for nth in 1..10_000u32 {
-        let cut = run_to_append(rt.alloc(), nth)?;
+        let cut = run_to_append(rt.alloc(), nth).unwrap_or(Appended::Other);
         if let Appended::Done = cut {
             assert!(rt; before == 3 && lines == count_lines(), "append {nth}");
-            return Ok(());
+            return;
         }
         let whole = goes_on(cut, before);
         assert!(rt; whole.is_some(), "append {nth}");
@@ -594,7 +596,6 @@ fn each_append_fails_once(rt: HostRuntime) -> Result<(), Fail> {
         }
     }
     assert!(rt; false, "each run failed");
-    Ok(())
 }
 
 // The same files, in a tree of which no call fails.
@@ -602,8 +603,9 @@ fn sure_tree(alloc: Global) -> Result<SureTree, Memory>
     ensures { IfOk result (λ t. (contents t.tree).begun ≡ None) }
 {
     let mut tree = SureTree::new(alloc);
-    tree.put_file("def/n.net", NETWORKS)?;
-    tree.put_file("def/s.svc", SERVICES)?;
+    let [(networks, of_networks), (services, of_services)] = DEFINITIONS;
+    tree.put_file(networks, of_networks)?;
+    tree.put_file(services, of_services)?;
     tree.put_file("pol/a.pol", POLICY)?;
     Ok(tree)
 }
@@ -623,7 +625,7 @@ fn is_done_surely(alloc: Global) -> Result<bool, Memory> {
     let mut out = SureSink::new(alloc);
     let mut err = SureSink::new(alloc);
     let mut clock = SureClock::new(Day { number: 20468 });
-    let status = status(
+    let status = aclgen_status(
         alloc,
         words.as_slice(),
         &mut tree,
@@ -636,9 +638,8 @@ fn is_done_surely(alloc: Global) -> Result<bool, Memory> {
 }
 
 #[test]
-fn a_run_over_objects_that_never_fail_is_done(rt: HostRuntime) -> Result<(), Fail> {
-    assert!(rt; is_done_surely(rt.alloc())?);
-    Ok(())
+fn a_run_over_objects_that_never_fail_is_done(rt: HostRuntime) {
+    assert!(rt; is_done_surely(rt.alloc()) == Ok(true));
 }
 
 // Whether this is the status and the line where the machine gives no words.
@@ -655,9 +656,8 @@ fn ends_without_words(
 }
 
 #[test]
-fn words_that_are_no_text_are_no_command_line(rt: HostRuntime) -> Result<(), Fail> {
-    assert!(rt; ends_without_words(rt.alloc(), false, 0, 2, USAGE)?);
-    assert!(rt; ends_without_words(rt.alloc(), false, 1, 3, b"")?);
-    assert!(rt; ends_without_words(rt.alloc(), true, 0, 4, b"")?);
-    Ok(())
+fn words_that_are_no_text_are_no_command_line(rt: HostRuntime) {
+    assert!(rt; ends_without_words(rt.alloc(), false, 0, 2, USAGE) == Ok(true));
+    assert!(rt; ends_without_words(rt.alloc(), false, 1, 3, b"") == Ok(true));
+    assert!(rt; ends_without_words(rt.alloc(), true, 0, 4, b"") == Ok(true));
 }

@@ -1,5 +1,5 @@
-use crate::tests::runs::{Case, NONE, USAGE, leaves};
-use std::test::Fail;
+use crate::tests::check_runs::{Case, USAGE, leaves};
+use crate::tests::runs::NONE;
 
 const ANSWERED: Case = Case {
     words: "",
@@ -77,9 +77,8 @@ nftables input inet: deny by default
 ];
 
 #[test]
-fn packets_are_asked_of_policies_and_texts(rt: HostRuntime) -> Result<(), Fail> {
+fn packets_are_asked_of_policies_and_texts(rt: HostRuntime) {
     for (place, case) in CASES.iter().enumerate() {
-        assert!(rt; leaves(rt.alloc(), case)?, "case {place}");
+        assert!(rt; leaves(rt.alloc(), case) == Ok(true), "case {place}");
     }
-    Ok(())
 }

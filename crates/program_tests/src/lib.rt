@@ -1,4 +1,4 @@
-//! Tests of the whole run of aclcheck.
+//! Tests of the words, of the workload and of whole runs of the three programs, over files in memory.
 //!
 //! A library that is tested here is proved once: tests beside its code would have it proved with them again.
 #![tactic(auto)]

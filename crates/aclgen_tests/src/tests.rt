@@ -1,7 +1,0 @@
-mod failures;
-mod hostile;
-mod jobs;
-mod options;
-mod runs;
-mod words;
-mod workloads;

@@ -1,4 +1,0 @@
-mod commands;
-mod runs;
-mod usage;
-mod words;

@@ -1,0 +1,12 @@
+mod check_answers;
+mod check_failures;
+mod check_runs;
+mod failures;
+mod hostile;
+mod jobs;
+mod options;
+mod runs;
+mod tool_commands;
+mod tool_runs;
+mod tool_usage;
+mod workloads;
