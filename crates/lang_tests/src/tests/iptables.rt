@@ -4,7 +4,6 @@ use crate::tests::languages::{
 };
 use acl_packet::{Conn, Outcome, Packet, Verdict};
 use ipt_lang::Iptables;
-use std::test::Fail;
 
 const DOCUMENT: &str = "## iptables INPUT inet
 -P INPUT DROP
@@ -303,9 +302,9 @@ static WALKS: [Walk; 19] = [
 const UNREACHABLE: Packet = Packet { itype: 3, ..PING };
 
 #[test]
-fn texts_are_read_refused_and_walked(rt: HostRuntime) -> Result<(), Fail> {
-    expect_changes::<Iptables>(&rt, rt.alloc(), DOCUMENT, &READ, true)?;
-    expect_changes::<Iptables>(&rt, rt.alloc(), DOCUMENT, &REFUSED, false)?;
-    expect_walks::<Iptables>(&rt, rt.alloc(), &WALKS)?;
-    expect_scans::<Iptables>(&rt, rt.alloc(), DOCUMENT, &READ, &REFUSED, &WALKS)
+fn texts_are_read_refused_and_walked(rt: HostRuntime) {
+    expect_changes::<Iptables>(&rt, rt.alloc(), DOCUMENT, &READ, true);
+    expect_changes::<Iptables>(&rt, rt.alloc(), DOCUMENT, &REFUSED, false);
+    expect_walks::<Iptables>(&rt, rt.alloc(), &WALKS);
+    expect_scans::<Iptables>(&rt, rt.alloc(), DOCUMENT, &READ, &REFUSED, &WALKS);
 }

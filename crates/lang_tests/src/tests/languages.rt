@@ -3,7 +3,6 @@ use acl_rows::{Language, Scan, SectionVerdict, find_section, outcome, read_docum
 use acl_text::Memory;
 use std::alloc::Global;
 use std::process::Abort;
-use std::test::Fail;
 
 pub(crate) const ACCEPTED: Outcome = Outcome {
     verdict: Verdict::Accept,
@@ -104,18 +103,17 @@ pub(crate) fn expect_changes<L: Language>(
     document: &str,
     changes: &[Change],
     is_read: bool,
-) -> Result<(), Fail> {
-    assert!(rt; sections_of::<L>(alloc, document)? == Some(1));
-    assert!(rt; sections_of::<L>(alloc, "")? == Some(0));
+) {
+    assert!(rt; sections_of::<L>(alloc, document) == Ok(Some(1)));
+    assert!(rt; sections_of::<L>(alloc, "") == Ok(Some(0)));
     for change in changes {
         assert!(rt;
-            is_changed::<L>(alloc, document, change, is_read)?,
+            is_changed::<L>(alloc, document, change, is_read) == Ok(true),
             "{} in place of {}",
             change.1,
             change.0
         );
     }
-    Ok(())
 }
 
 // What the text's section does to the packet. `None` also for what is no text and no packet.
@@ -131,16 +129,11 @@ fn outcome_in<L: Language>(
     }
 }
 
-pub(crate) fn expect_walks<L: Language>(
-    rt: &impl Abort,
-    alloc: Global,
-    walks: &[Walk],
-) -> Result<(), Fail> {
+pub(crate) fn expect_walks<L: Language>(rt: &impl Abort, alloc: Global, walks: &[Walk]) {
     for (place, (text, which, packet, wanted)) in walks.iter().enumerate() {
-        let found = outcome_in::<L>(alloc, text, *which, packet)?;
-        assert!(rt; found == *wanted, "walk {place}");
+        let found = outcome_in::<L>(alloc, text, *which, packet);
+        assert!(rt; found == Ok(*wanted), "walk {place}");
     }
-    Ok(())
 }
 
 // The same, where no document is held. `None` also for what is no text, no section and no packet.
@@ -170,31 +163,34 @@ fn expect_scanned_changes<L: Scan>(
     document: &str,
     changes: &[Change],
     is_read: bool,
-) -> Result<(), Fail> {
+) {
     for change in changes {
         assert!(rt;
-            is_scanned::<L>(alloc, document, change)? == is_read,
+            is_scanned::<L>(alloc, document, change) == Ok(is_read),
             "{} in place of {}",
             change.1,
             change.0
         );
     }
-    Ok(())
 }
 
-fn expect_scanned_walks<L: Scan>(
-    rt: &impl Abort,
+fn decision_in<L: Scan>(
     alloc: Global,
-    walks: &[Walk],
-) -> Result<(), Fail> {
-    for (place, (text, which, packet, wanted)) in walks.iter().enumerate() {
-        let decided = match verdict_in::<L>(alloc, text, *which, packet)? {
-            Some(SectionVerdict::Decides(outcome)) => Some(outcome),
-            _ => None,
-        };
-        assert!(rt; decided == *wanted, "walk {place}");
+    text: &str,
+    which: usize,
+    packet: &Packet,
+) -> Result<Option<Outcome>, Memory> {
+    match verdict_in::<L>(alloc, text, which, packet)? {
+        Some(SectionVerdict::Decides(outcome)) => Ok(Some(outcome)),
+        _ => Ok(None),
     }
-    Ok(())
+}
+
+fn expect_scanned_walks<L: Scan>(rt: &impl Abort, alloc: Global, walks: &[Walk]) {
+    for (place, (text, which, packet, wanted)) in walks.iter().enumerate() {
+        let decided = decision_in::<L>(alloc, text, *which, packet);
+        assert!(rt; decided == Ok(*wanted), "walk {place}");
+    }
 }
 
 // Texts are documents, are none, and decide packets where no document is held as where one is.
@@ -205,8 +201,8 @@ pub(crate) fn expect_scans<L: Scan>(
     read: &[Change],
     refused: &[Change],
     walks: &[Walk],
-) -> Result<(), Fail> {
-    expect_scanned_changes::<L>(rt, alloc, document, read, true)?;
-    expect_scanned_changes::<L>(rt, alloc, document, refused, false)?;
-    expect_scanned_walks::<L>(rt, alloc, walks)
+) {
+    expect_scanned_changes::<L>(rt, alloc, document, read, true);
+    expect_scanned_changes::<L>(rt, alloc, document, refused, false);
+    expect_scanned_walks::<L>(rt, alloc, walks);
 }

@@ -4,11 +4,10 @@ use crate::tests::languages::{
 };
 use acl_packet::{Conn, Outcome, Packet};
 use acl_rows::{Language, read_document};
-use acl_text::Whole;
+use acl_text::{Memory, PutFault, Whole};
 use ipr_lang::{Restore, read_restore};
 use ipt_lang::{Doc, Iptables, Section};
 use std::alloc::Global;
-use std::test::Fail;
 
 const DOCUMENT: &str = "## iptables INPUT inet
 *filter
@@ -131,10 +130,10 @@ COMMIT
 ";
 
 #[test]
-fn texts_are_read_refused_and_walked(rt: HostRuntime) -> Result<(), Fail> {
-    expect_changes::<Restore>(&rt, rt.alloc(), DOCUMENT, &READ, true)?;
-    expect_changes::<Restore>(&rt, rt.alloc(), DOCUMENT, &REFUSED, false)?;
-    expect_walks::<Restore>(&rt, rt.alloc(), &WALKS)
+fn texts_are_read_refused_and_walked(rt: HostRuntime) {
+    expect_changes::<Restore>(&rt, rt.alloc(), DOCUMENT, &READ, true);
+    expect_changes::<Restore>(&rt, rt.alloc(), DOCUMENT, &REFUSED, false);
+    expect_walks::<Restore>(&rt, rt.alloc(), &WALKS);
 }
 
 // One filter in both languages.
@@ -161,7 +160,7 @@ fn is_text_in<L: Language<Section = Section>>(
     alloc: Global,
     doc: &Option<Doc>,
     text: &[u8],
-) -> Result<bool, Fail> {
+) -> Result<bool, PutFault> {
     let mut out = Whole::new(alloc);
     if let Some(doc) = doc {
         if let [section] = doc.as_slice() {
@@ -171,18 +170,32 @@ fn is_text_in<L: Language<Section = Section>>(
     Ok(out.as_slice() == text)
 }
 
-#[test]
-fn what_is_restored_is_put_as_arguments(rt: HostRuntime) -> Result<(), Fail> {
-    let restored = read_restore(rt.alloc(), RESTORED)?;
-    assert!(rt; is_text_in::<Iptables>(rt.alloc(), &restored, ARGUMENTS)?);
-    assert!(rt; read_restore(rt.alloc(), ARGUMENTS)?.is_none());
-    Ok(())
+fn restored_is_put(alloc: Global) -> Option<bool> {
+    let restored = read_restore(alloc, RESTORED).ok()?;
+    is_text_in::<Iptables>(alloc, &restored, ARGUMENTS).ok()
+}
+
+fn is_not_restored(alloc: Global) -> Result<bool, Memory> {
+    Ok(read_restore(alloc, ARGUMENTS)?.is_none())
 }
 
 #[test]
-fn arguments_are_put_as_what_is_restored(rt: HostRuntime) -> Result<(), Fail> {
-    let arguments = read_document::<Iptables>(rt.alloc(), ARGUMENTS)?;
-    assert!(rt; is_text_in::<Restore>(rt.alloc(), &arguments, RESTORED)?);
-    assert!(rt; read_document::<Iptables>(rt.alloc(), RESTORED)?.is_none());
-    Ok(())
+fn what_is_restored_is_put_as_arguments(rt: HostRuntime) {
+    assert!(rt; restored_is_put(rt.alloc()) == Some(true));
+    assert!(rt; is_not_restored(rt.alloc()) == Ok(true));
+}
+
+fn arguments_are_put(alloc: Global) -> Option<bool> {
+    let arguments = read_document::<Iptables>(alloc, ARGUMENTS).ok()?;
+    is_text_in::<Restore>(alloc, &arguments, RESTORED).ok()
+}
+
+fn are_no_arguments(alloc: Global) -> Result<bool, Memory> {
+    Ok(read_document::<Iptables>(alloc, RESTORED)?.is_none())
+}
+
+#[test]
+fn arguments_are_put_as_what_is_restored(rt: HostRuntime) {
+    assert!(rt; arguments_are_put(rt.alloc()) == Some(true));
+    assert!(rt; are_no_arguments(rt.alloc()) == Ok(true));
 }
