@@ -5,14 +5,13 @@ ghost use Rattle.acl_platform.specs.Combinations.{IsSized};
 use crate::tests::samples::{HEAD, Head, filter};
 use acl_packet::{Conn, Family, Outcome, Packet, Prefix, Verdict};
 use acl_platform::{
-    Combination, Rule, Rules, Test, count_combinations, filter_outcome, put_combinations,
+    Combination, Filter, Rule, Rules, Test, count_combinations, filter_outcome, put_combinations,
 };
 use acl_rows::{Number, OneWord, Row, RowForm, Rows};
 use acl_sets::{Prefixes, Range, RangeSet};
 use acl_target::Ending;
 use acl_text::{Bytes, Memory, Out, Place, PutFault, Whole};
 use std::alloc::Global;
-use std::test::Fail;
 
 fn host(address: u128) -> Prefix {
     Prefix {
@@ -88,14 +87,22 @@ impl RowForm<Combination> for InNumbers {
 
 const EACH: &[u8] = b"1 6 80\n1 6 443\n2 6 80\n2 6 443\n1 17 80\n1 17 443\n2 17 80\n2 17 443\n";
 
-#[test]
-fn writes_each_combination(rt: HostRuntime) -> Result<(), Fail> {
-    let alloc = rt.alloc();
-    let rule = web(alloc)?;
+fn are_combinations(alloc: Global, rule: &Rule) -> bool
+    requires { IsSized rule.now }
+{
     let mut out = Whole::new(alloc);
-    put_combinations(&rule, &InNumbers, &mut out)?;
-    assert!(rt; out.as_slice() == EACH && count_combinations(&rule) == 8);
-    Ok(())
+    put_combinations(rule, &InNumbers, &mut out).is_ok()
+        && out.as_slice() == EACH
+        && count_combinations(rule) == 8
+}
+
+fn web_is_combined(alloc: Global) -> Result<bool, Memory> {
+    Ok(are_combinations(alloc, &web(alloc)?))
+}
+
+#[test]
+fn writes_each_combination(rt: HostRuntime) {
+    assert!(rt; web_is_combined(rt.alloc()) == Ok(true));
 }
 
 // A packet that begins a connection to the rule's destination.
@@ -153,21 +160,25 @@ const SYN_OF_SIX: Packet = Packet {
     ..SYN
 };
 
-#[test]
-fn the_first_rule_or_the_ending_decides(rt: HostRuntime) -> Result<(), Fail> {
-    let alloc = rt.alloc();
+const WEB_HEAD: Head = Head {
+    ending: Ending::Neighbours,
+    ..HEAD
+};
+
+fn web_filter(alloc: Global) -> Result<Filter, Memory> {
     let mut rules = Rules::new(alloc);
     rules.push(web(alloc)?)?;
-    let head = Head {
-        ending: Ending::Neighbours,
-        ..HEAD
-    };
-    let filter = filter(alloc, &head, rules)?;
+    filter(alloc, &WEB_HEAD, rules)
+}
+
+fn web_outcome(alloc: Global, packet: &Packet) -> Result<Outcome, Memory> {
+    Ok(filter_outcome(&web_filter(alloc)?, packet))
+}
+
+#[test]
+fn the_first_rule_or_the_ending_decides(rt: HostRuntime) {
     for (place, (packet, outcome)) in OUTCOMES.iter().enumerate() {
-        assert!(rt;
-            filter_outcome(&filter, packet) == *outcome,
-            "packet {place}"
-        );
+        let found = web_outcome(rt.alloc(), packet);
+        assert!(rt; found == Ok(*outcome), "packet {place}");
     }
-    Ok(())
 }

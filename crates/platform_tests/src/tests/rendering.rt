@@ -1,11 +1,15 @@
+ghost use Rattle.std.specs.Prelude.{◌≡◌, None};
+ghost use Rattle.std.specs.List.{All};
+ghost use Rattle.acl_render.specs.PlatformFiles.{AreApart, IsTaken};
+
 use crate::tests::samples::{HEAD, Head, filter};
 use acl_host::Tree;
 use acl_memory::MemTree;
-use acl_platform::Rules;
+use acl_platform::{Filter, Rules};
 use acl_render::{count_within_limits, render};
 use acl_target::{Ending, Kind};
-use acl_text::Whole;
-use std::test::Fail;
+use acl_text::{Memory, Whole};
+use std::alloc::Global;
 
 // An IPv4 list of Cisco that denies everything.
 const EDGE_HEAD: Head = Head {
@@ -18,19 +22,49 @@ const EDGE_HEAD: Head = Head {
 const EDGE: &[u8] =
     b"! cisco edge extended\nno ip access-list extended edge\nip access-list extended edge\n deny ip any any\nexit\n";
 
+fn is_put(alloc: Global, kind: Kind, filters: &[Filter]) -> bool
+    requires taken { All (IsTaken kind) filters.now }
+    requires apart { AreApart filters.now }
+{
+    let mut text = Whole::new(alloc);
+    render(alloc, kind, filters, &mut text).is_ok() && text.as_slice() == EDGE
+}
+
+fn writes<T: Tree>(alloc: Global, kind: Kind, filters: &[Filter], tree: &mut T) -> bool
+    requires begun { T.begun tree.old ≡ None }
+    requires taken { All (IsTaken kind) filters.now }
+    requires apart { AreApart filters.now }
+{
+    tree.begin("out/a.acl").is_ok()
+        && render(alloc, kind, filters, tree).is_ok()
+        && tree.finish().is_ok()
+}
+
+fn is_in_a_file(alloc: Global, kind: Kind, filters: &[Filter]) -> bool
+    requires taken { All (IsTaken kind) filters.now }
+    requires apart { AreApart filters.now }
+{
+    let mut tree = MemTree::new(alloc);
+    writes(alloc, kind, filters, &mut tree) && tree.file("out/a.acl") == Some(EDGE)
+}
+
+fn is_rendered(alloc: Global, kind: Kind, filters: &[Filter]) -> bool
+    requires taken { All (IsTaken kind) filters.now }
+    requires apart { AreApart filters.now }
+{
+    is_put(alloc, kind, filters) && is_in_a_file(alloc, kind, filters)
+}
+
+fn edge_is_rendered(alloc: Global) -> Result<bool, Memory> {
+    let edge = filter(alloc, &EDGE_HEAD, Rules::new(alloc))?;
+    if count_within_limits(&edge) != Ok(1) {
+        return Ok(false);
+    }
+    Ok(is_rendered(alloc, Kind::Cisco, &[edge]))
+}
+
 // The bytes of a file are those that an output in memory gets.
 #[test]
-fn a_file_holds_what_is_rendered(rt: HostRuntime) -> Result<(), Fail> {
-    let alloc = rt.alloc();
-    let edge = filter(alloc, &EDGE_HEAD, Rules::new(alloc))?;
-    assert!(rt; count_within_limits(&edge) == Ok(1));
-    let mut text = Whole::new(alloc);
-    let mut tree = MemTree::new(alloc);
-    tree.begin("out/a.acl")?;
-    let filters = [edge];
-    render(alloc, Kind::Cisco, &filters, &mut text)?;
-    render(alloc, Kind::Cisco, &filters, &mut tree)?;
-    tree.finish()?;
-    assert!(rt; text.as_slice() == EDGE && tree.file("out/a.acl") == Some(EDGE));
-    Ok(())
+fn a_file_holds_what_is_rendered(rt: HostRuntime) {
+    assert!(rt; edge_is_rendered(rt.alloc()) == Ok(true));
 }
