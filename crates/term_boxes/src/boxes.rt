@@ -1,6 +1,8 @@
 ghost use Rattle.std.specs.Prelude.{◌≡◌, IfOk};
 ghost use Rattle.term_boxes.specs.Boxes.{everything};
+ghost use Rattle.term_boxes.specs.NumberSets.{up_to};
 
+use crate::number_sets::up_to;
 use acl_packet::Family;
 use acl_sets::RangeSet;
 use acl_text::Memory;
@@ -9,7 +11,6 @@ use std::alloc::Global;
 /// A set of packets of a family: what it holds along each coordinate, by itself.
 ///
 /// Flags and connections are told by their places, as in `packet_at`.
-#[derive(Drop)]
 pub struct PacketBox {
     pub sources: RangeSet,
     pub destinations: RangeSet,
@@ -22,24 +23,52 @@ pub struct PacketBox {
     pub connections: RangeSet,
 }
 
+// Where a box is let go, that is one step, whatever it holds.
+impl Drop for PacketBox {
+    fn drop(self) {
+        let PacketBox {
+            sources,
+            destinations,
+            protocols,
+            source_ports,
+            destination_ports,
+            types,
+            codes,
+            flags,
+            connections,
+        } = self;
+        drop(sources);
+        drop(destinations);
+        drop(protocols);
+        drop(source_ports);
+        drop(destination_ports);
+        drop(types);
+        drop(codes);
+        drop(flags);
+        drop(connections);
+    }
+}
+
 impl PacketBox {
     /// The box of all packets of the family.
     pub(crate) fn everything(alloc: Global, family: Family) -> Result<PacketBox, Memory>
         ensures { IfOk result (λ b. b ≡ everything family) }
     {
-        let addresses = RangeSet::all(alloc, family.top_address())?;
-        let ports = RangeSet::all(alloc, 65535)?;
-        let bytes = RangeSet::all(alloc, 255)?;
+        let protocols = up_to(alloc, 255)?;
+        let (sources, destinations) = all_of_both(alloc, family.top_address())?;
+        let (source_ports, destination_ports) = all_of_both(alloc, 65535)?;
+        let (types, codes) = all_of_both(alloc, 255)?;
+        let (flags, connections) = all_states(alloc)?;
         Ok(PacketBox {
-            sources: addresses.share()?,
-            destinations: addresses,
-            protocols: bytes.share()?,
-            source_ports: ports.share()?,
-            destination_ports: ports,
-            types: bytes.share()?,
-            codes: bytes,
-            flags: RangeSet::all(alloc, 63)?,
-            connections: RangeSet::all(alloc, 3)?,
+            sources,
+            destinations,
+            protocols,
+            source_ports,
+            destination_ports,
+            types,
+            codes,
+            flags,
+            connections,
         })
     }
 
@@ -47,6 +76,7 @@ impl PacketBox {
     pub(crate) fn share(&self) -> Result<PacketBox, Memory>
         ensures { IfOk result (λ b. b ≡ self.now) }
     {
+        let protocols = self.protocols.share()?;
         let (sources, destinations) = share_both(&self.sources, &self.destinations)?;
         let (source_ports, destination_ports) = share_both(
             &self.source_ports,
@@ -57,7 +87,7 @@ impl PacketBox {
         Ok(PacketBox {
             sources,
             destinations,
-            protocols: self.protocols.share()?,
+            protocols,
             source_ports,
             destination_ports,
             types,
@@ -124,8 +154,22 @@ impl PacketBox {
     }
 }
 
-// Both sets, each for one place more.
-fn share_both(one: &RangeSet, other: &RangeSet) -> Result<(RangeSet, RangeSet), Memory>
+// All numbers up to the top, for two coordinates.
+fn all_of_both(alloc: Global, top: u128) -> Result<(RangeSet, RangeSet), Memory>
+    ensures { IfOk result (λ both. both ≡ (up_to top, up_to top)) }
+{
+    Ok((up_to(alloc, top)?, up_to(alloc, top)?))
+}
+
+/// All flags and all connections.
+pub(crate) fn all_states(alloc: Global) -> Result<(RangeSet, RangeSet), Memory>
+    ensures { IfOk result (λ both. both ≡ (up_to 63, up_to 3)) }
+{
+    Ok((up_to(alloc, 63)?, up_to(alloc, 3)?))
+}
+
+/// Both sets, each for one place more.
+pub(crate) fn share_both(one: &RangeSet, other: &RangeSet) -> Result<(RangeSet, RangeSet), Memory>
     ensures { IfOk result (λ both. both ≡ (one.now, other.now)) }
 {
     Ok((one.share()?, other.share()?))

@@ -18,6 +18,7 @@ ghost use Rattle.term_boxes.specs.NumberSets.{
   tcp,
   tracked,
   untracked,
+  up_to,
   without_ports,
 };
 
@@ -39,6 +40,13 @@ fn set_of(alloc: Global, top: u128, ranges: &[Range]) -> Result<RangeSet, Memory
     ensures { IfOk result (λ s. s ≡ set_of top ranges.now) }
 {
     RangeSet::from_ranges(alloc, top, ranges)
+}
+
+/// All numbers up to the top.
+pub(crate) fn up_to(alloc: Global, top: u128) -> Result<RangeSet, Memory>
+    ensures { IfOk result (λ s. s ≡ up_to top) }
+{
+    RangeSet::all(alloc, top)
 }
 
 /// The numbers up to the set's top that it lacks.

@@ -1,9 +1,9 @@
 ghost use Rattle.std.specs.Prelude.{◌≡◌, ◌∷◌, [], IfOk};
 ghost use Rattle.acl_packet.specs.Packets.{foreign_of};
-ghost use Rattle.acl_terms.specs.Resolved.{destinations_on, in_both, sources_on};
+ghost use Rattle.acl_terms.specs.Resolved.{destinations_on, dports_on, in_both, sources_on, sports_on};
 ghost use Rattle.term_boxes.specs.TermBoxes.{own_box, pair_box, protocols_in};
 
-use crate::boxes::PacketBox;
+use crate::boxes::{PacketBox, all_states, share_both};
 use acl_packet::Family;
 use acl_sets::{Range, RangeSet};
 use acl_terms::{Side, SidePair, Term, destination_in, dports_on, either_in, source_in, sports_on};
@@ -68,6 +68,27 @@ fn destinations_on(
     }
 }
 
+// Its addresses on the side.
+fn addresses_on(
+    alloc: Global,
+    side: Side,
+    family: Family,
+    term: &Term,
+) -> Result<(RangeSet, RangeSet), Memory>
+    ensures { IfOk result (λ both.
+        both ≡ (sources_on side family term.now, destinations_on side family term.now)) }
+{
+    let sources = sources_on(alloc, side, family, term)?;
+    Ok((sources, destinations_on(alloc, side, family, term)?))
+}
+
+// Its ports there.
+fn ports_on(alloc: Global, side: Side, term: &Term) -> Result<(RangeSet, RangeSet), Memory>
+    ensures { IfOk result (λ both. both ≡ (sports_on side term.now, dports_on side term.now)) }
+{
+    Ok((sports_on(alloc, side, term)?, dports_on(alloc, side, term)?))
+}
+
 /// The sets of the term on a pair of its sides, whatever its option is.
 pub(crate) fn pair_box(
     alloc: Global,
@@ -77,16 +98,21 @@ pub(crate) fn pair_box(
 ) -> Result<PacketBox, Memory>
     ensures { IfOk result (λ b. b ≡ pair_box family term.now pair) }
 {
+    let protocols = protocols_in(alloc, family, term)?;
+    let (sources, destinations) = addresses_on(alloc, pair.addresses, family, term)?;
+    let (source_ports, destination_ports) = ports_on(alloc, pair.ports, term)?;
+    let (types, codes) = share_both(&term.itypes, &term.icodes)?;
+    let (flags, connections) = all_states(alloc)?;
     Ok(PacketBox {
-        sources: sources_on(alloc, pair.addresses, family, term)?,
-        destinations: destinations_on(alloc, pair.addresses, family, term)?,
-        protocols: protocols_in(alloc, family, term)?,
-        source_ports: sports_on(alloc, pair.ports, term)?,
-        destination_ports: dports_on(alloc, pair.ports, term)?,
-        types: term.itypes.share()?,
-        codes: term.icodes.share()?,
-        flags: RangeSet::all(alloc, 63)?,
-        connections: RangeSet::all(alloc, 3)?,
+        sources,
+        destinations,
+        protocols,
+        source_ports,
+        destination_ports,
+        types,
+        codes,
+        flags,
+        connections,
     })
 }
 
