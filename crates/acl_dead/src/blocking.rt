@@ -17,10 +17,18 @@ use std::alloc::Global;
 use term_boxes::{PacketBox, bars, boxes_of, failing_boxes, own_box};
 
 /// The packets of a family that a term may decide: those in its own sets and in none of the boxes.
-#[derive(Drop)]
 pub(crate) struct Space {
     pub(crate) own: PacketBox,
     boxes: Vec<Items<PacketBox>>,
+}
+
+// Where it is let go, that is one step, whatever it holds.
+impl Drop for Space {
+    fn drop(self) {
+        let Space { own, boxes } = self;
+        drop(own);
+        drop(boxes);
+    }
 }
 
 fn push_earlier(
