@@ -4,12 +4,14 @@ use Rattle.std.specs.List.{All}
 use Rattle.std.proofs.lemmas.Bool.{both_ways}
 use Rattle.std.proofs.lemmas.List.Elements.{All-nil}
 use Rattle.acl_sets.specs.declared.sets.Range.{Range}
-use Rattle.acl_sets.specs.Ranges.{IsNormal, IsRange, Numbers, holds}
+use Rattle.acl_sets.specs.Ranges.{IsRange, Numbers, holds}
 use Rattle.acl_words.specs.declared.word_lists.Word.{Word}
 use Rattle.acl_terms.specs.DistinctSteps.{new_words}
 use Rattle.acl_terms.specs.Matching.{AnyOf}
+use Rattle.acl_terms.specs.RangeSteps.{AreRangesOf, HoldsSame, IsLess}
 use Rattle.acl_terms.specs.Sets.{IsSetOf}
 use Rattle.acl_terms.proofs.DistinctLaws.{new-any}
+use Rattle.acl_terms.proofs.SetLaws.{less-set}
 
 -- What the ranges hold and what is left make up, up to the top, the numbers of which the fact holds.
 pub record IsGathered (P left : ℕ → Type 0) (top : ℕ) (rs : List Range) : Type 0 where
@@ -53,17 +55,32 @@ next-names N P old left w top rs more is had fits adds =
       );
     }
 
--- Behind the last one, the set of the ranges is that of the numbers.
-pub ended-names : (N : ℕ → Word → Type 0) (P : ℕ → Type 0) (left : List Word) (top : ℕ) (rs : List Range) (s : Numbers)
-    → left ≡ [] → IsGathered P (λ x. AnyOf (N x) left) top rs → s.top ≡ top → IsNormal 0 s.top s.ranges
-    → ((x : ℕ) → holds s.ranges x ≡ holds rs x) → IsSetOf P top s
-ended-names N P left top rs s none had t n same =
+-- Behind the last one, the ranges hold the numbers.
+pub ended-names : (N : ℕ → Word → Type 0) (P : ℕ → Type 0) (left : List Word) (top : ℕ) (rs : List Range)
+    → left ≡ [] → IsGathered P (λ x. AnyOf (N x) left) top rs → AreRangesOf P top rs
+ended-names N P left top rs none had =
     let all = subst (λ (l : List Word). IsGathered P (λ x. AnyOf (N x) l) top rs) none had in
     record {
-      top_is = t;
-      normal = n;
+      fits = all.fits;
       exact = λ x le. let e = all.exact x le in (
-        λ h. e.0 (inl (sym (same x) ∙ h)),
-        λ p. elim (e.1 p) [ inl h ↦ same x ∙ h | inr l ↦ absurd l ],
+        λ h. e.0 (inl h),
+        λ p. elim (e.1 p) [ inl h ↦ h | inr l ↦ absurd l ],
       );
     }
+
+-- The set of the ranges is that of the numbers.
+pub set-of-ranges : (P : ℕ → Type 0) (top : ℕ) (rs : List Range) (s : Numbers) → AreRangesOf P top rs
+    → HoldsSame top rs s → IsSetOf P top s
+set-of-ranges P top rs s are holds_same = record {
+  top_is = holds_same.top_is;
+  normal = holds_same.normal;
+  exact = λ x le. let e = are.exact x le in (
+    λ h. e.0 (sym (holds_same.same x) ∙ h),
+    λ p. holds_same.same x ∙ e.1 p,
+  );
+}
+
+-- The numbers of the one set that are not in the other.
+pub without-set : (P Q : ℕ → Type 0) (top : ℕ) (s m u : Numbers) → IsSetOf P top s → IsSetOf Q top m → IsLess s m u
+    → IsSetOf (λ x. P x × (Q x → ⊥)) top u
+without-set P Q top s m u hs hm less = less-set P Q top s m u hs hm less.top_is less.normal less.exact

@@ -5,6 +5,7 @@ pub mod Living
 pub mod Matching
 pub mod Options
 pub mod Outcomes
+pub mod RangeSteps
 pub mod Resolved
 pub mod SetSteps
 pub mod Sets

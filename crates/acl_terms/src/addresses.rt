@@ -1,12 +1,15 @@
-ghost use Rattle.std.specs.Prelude.{◌≡◌, List, IfOk, OnOk};
+ghost use Rattle.std.specs.Prelude.{◌≡◌, List, [], IfOk, OnOk};
+ghost use Rattle.std.specs.List.{All};
 ghost use Rattle.acl_packet.specs.declared.addresses.Family.TheVariants.{V4, V6};
 ghost use Rattle.acl_packet.specs.Addresses.{top_address};
+ghost use Rattle.acl_sets.specs.Ranges.{IsRange};
 ghost use Rattle.acl_text.specs.Refusals.{Judges, first_in};
 ghost use Rattle.acl_naming.specs.declared.reaching.Wanted.TheVariants as wanted;
 ghost use Rattle.acl_naming.specs.LookupSteps.{AddsReach};
 ghost use Rattle.acl_words.specs.declared.word_lists.Word.{Word};
 ghost use Rattle.acl_terms.specs.Matching.{Admits, AnyOf, IsAddress, IsNamedAddress, NamesAddress};
 ghost use Rattle.acl_terms.specs.Sets.{IsSetOf};
+ghost use Rattle.acl_terms.specs.RangeSteps.{AreRangesOf, HoldsSame, IsLess};
 ghost use Rattle.acl_terms.specs.Slips.{network_slip};
 
 use crate::checks::refusal_at;
@@ -41,6 +44,21 @@ impl Addresses {
         })
     }
 
+    // These addresses, less the excluded ones.
+    fn without(&self, alloc: Global, excluded: &Addresses) -> Result<Addresses, Memory>
+        requires v4 { self.now.v4.top ≡ excluded.now.v4.top }
+        requires v6 { self.now.v6.top ≡ excluded.now.v6.top }
+        ensures v4 { IfOk result (λ a. IsLess self.now.v4 excluded.now.v4 a.v4) }
+        ensures v6 { IfOk result (λ a. IsLess self.now.v6 excluded.now.v6 a.v6) }
+    {
+        let v4 = self.v4.subtract(alloc, &excluded.v4)?;
+        Ok(Addresses {
+            v4,
+            v6: self.v6.subtract(alloc, &excluded.v6)?,
+            gathered: self.gathered.saturating_add(excluded.gathered),
+        })
+    }
+
     /// Whether they are dear to gather, and to hold more than once.
     pub(crate) fn are_many(&self) -> bool {
         self.gathered > MANY
@@ -70,7 +88,45 @@ fn add_word(
     }
 }
 
-// The addresses that some of the words reach. A text that came before is not looked up again.
+// Puts the addresses that some of the words reach into the ranges of each family. A text that came before is not looked
+// up again.
+fn add_words(
+    alloc: Global,
+    base: &Checked,
+    words: &WordList,
+    v4: &mut Vec<Range>,
+    v6: &mut Vec<Range>,
+) -> Result<(), Refusal>
+    requires v4 { v4.old.items ≡ [] }
+    requires v6 { v6.old.items ≡ [] }
+    ensures judged { Judges result (first_in (network_slip base.now.networks) words.now) }
+    ensures v4 { OnOk result (AreRangesOf (λ x. AnyOf (NamesAddress base.now V4 x) words.now)
+        (top_address V4) v4.new.items) }
+    ensures v6 { OnOk result (AreRangesOf (λ x. AnyOf (NamesAddress base.now V6 x) words.now)
+        (top_address V6) v6.new.items) }
+{
+    let mut marks = Marks::new(alloc);
+    let mut left = NewWords::new(alloc, words);
+    while let Some(word) = left.next()? {
+        add_word(alloc, base, &word, &mut marks, v4, v6)?;
+    }
+    Ok(())
+}
+
+// The addresses in the ranges of each family.
+fn addresses_in(alloc: Global, v4: Vec<Range>, v6: Vec<Range>) -> Result<Addresses, Memory>
+    requires v4 { All (λ r. IsRange (top_address V4) r) v4.items }
+    requires v6 { All (λ r. IsRange (top_address V6) r) v6.items }
+    ensures v4 { IfOk result (λ a. HoldsSame (top_address V4) v4.items a.v4) }
+    ensures v6 { IfOk result (λ a. HoldsSame (top_address V6) v6.items a.v6) }
+{
+    let gathered = v4.len().saturating_add(v6.len());
+    let v4 = RangeSet::from_vec(alloc, Family::V4.top_address(), v4)?;
+    let v6 = RangeSet::from_vec(alloc, Family::V6.top_address(), v6)?;
+    Ok(Addresses { v4, v6, gathered })
+}
+
+// The addresses that some of the words reach.
 fn addresses_of_words(alloc: Global, base: &Checked, words: &WordList) -> Result<Addresses, Refusal>
     ensures judged { Judges result (first_in (network_slip base.now.networks) words.now) }
     ensures v4 { IfOk result (λ a. IsSetOf (λ x. AnyOf (NamesAddress base.now V4 x) words.now)
@@ -80,15 +136,8 @@ fn addresses_of_words(alloc: Global, base: &Checked, words: &WordList) -> Result
 {
     let mut v4 = Vec::new(alloc);
     let mut v6 = Vec::new(alloc);
-    let mut marks = Marks::new(alloc);
-    let mut left = NewWords::new(alloc, words);
-    while let Some(word) = left.next()? {
-        add_word(alloc, base, &word, &mut marks, &mut v4, &mut v6)?;
-    }
-    let gathered = v4.len().saturating_add(v6.len());
-    let v4 = RangeSet::from_vec(alloc, Family::V4.top_address(), v4)?;
-    let v6 = RangeSet::from_vec(alloc, Family::V6.top_address(), v6)?;
-    Ok(Addresses { v4, v6, gathered })
+    add_words(alloc, base, words, &mut v4, &mut v6)?;
+    Ok(addresses_in(alloc, v4, v6)?)
 }
 
 /// The same, or all where no word is written.
@@ -135,11 +184,7 @@ pub(crate) fn end_of(
         None => Ok(named),
         Some(_) => {
             let excluded = addresses_of_words(alloc, base, excludes)?;
-            Ok(Addresses {
-                v4: named.v4.subtract(alloc, &excluded.v4)?,
-                v6: named.v6.subtract(alloc, &excluded.v6)?,
-                gathered: named.gathered.saturating_add(excluded.gathered),
-            })
+            Ok(named.without(alloc, &excluded)?)
         }
     }
 }

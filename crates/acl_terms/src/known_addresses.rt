@@ -98,13 +98,23 @@ impl<'a> KnownAddresses<'a> {
             (top_address V6) a.v6) }
         ensures same { self.new ≡ self.old }
     {
-        let named = words.text();
-        let excluded: &'a [u8] = &[];
-        if let Some(known) = self.find(named, excluded)? {
-            return Ok(known);
+        match self.find(words.text(), &[])? {
+            Some(known) => Ok(known),
+            None => self.new_addresses(alloc, words),
         }
+    }
+
+    // The same, made anew. They are known from now on.
+    fn new_addresses(&mut self, alloc: Global, words: &'a WordList) -> Result<Addresses, Refusal>
+        ensures judged { Judges result (first_in (network_slip self.old.networks) words.now) }
+        ensures v4 { IfOk result (λ a. IsSetOf (IsNamedAddress self.old V4 words.now)
+            (top_address V4) a.v4) }
+        ensures v6 { IfOk result (λ a. IsSetOf (IsNamedAddress self.old V6 words.now)
+            (top_address V6) a.v6) }
+        ensures same { self.new ≡ self.old }
+    {
         let addresses = admitted_addresses(alloc, self.base(), words)?;
-        self.keep(named, excluded, &addresses)?;
+        self.keep(words.text(), &[], &addresses)?;
         Ok(addresses)
     }
 
@@ -127,9 +137,28 @@ impl<'a> KnownAddresses<'a> {
         if excludes.first().is_none() {
             return self.addresses_of(alloc, words);
         }
-        if let Some(known) = self.find(words.text(), excludes.text())? {
-            return Ok(known);
+        match self.find(words.text(), excludes.text())? {
+            Some(known) => Ok(known),
+            None => self.new_end(alloc, words, excludes),
         }
+    }
+
+    // The same, made anew. They are known from now on.
+    fn new_end(
+        &mut self,
+        alloc: Global,
+        words: &'a WordList,
+        excludes: &'a WordList,
+    ) -> Result<Addresses, Refusal>
+        ensures judged { Judges result (option_or
+            (first_in (network_slip self.old.networks) words.now)
+            (first_in (network_slip self.old.networks) excludes.now)) }
+        ensures v4 { IfOk result (λ a. IsSetOf (IsAddress self.old V4 words.now excludes.now)
+            (top_address V4) a.v4) }
+        ensures v6 { IfOk result (λ a. IsSetOf (IsAddress self.old V6 words.now excludes.now)
+            (top_address V6) a.v6) }
+        ensures same { self.new ≡ self.old }
+    {
         let named = self.addresses_of(alloc, words)?;
         let addresses = end_of(alloc, self.base(), named, excludes)?;
         self.keep(words.text(), excludes.text(), &addresses)?;

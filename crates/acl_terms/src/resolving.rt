@@ -1,12 +1,13 @@
-ghost use Rattle.std.specs.Prelude.{◌≡◌, None, IfOk};
-ghost use Rattle.acl_text.specs.Refusals.{Judges};
+ghost use Rattle.std.specs.Prelude.{◌≡◌, ◌∷◌, true, None, IfOk};
+ghost use Rattle.acl_text.specs.Notes.{is_note, note_of};
+ghost use Rattle.acl_text.specs.Refusals.{Judges, first_some};
 ghost use Rattle.acl_policy.specs.Conditions.{IsRawTerm};
 ghost use Rattle.acl_terms.specs.ComputableTerms.{sets_of};
-ghost use Rattle.acl_terms.specs.Matching.{is_written};
+ghost use Rattle.acl_terms.specs.Matching.{IsProtocol, icmp_family, is_written, protocols_of};
 ghost use Rattle.acl_terms.specs.Resolved.{AreFieldsOf, GivesValue, IsResolved, sets_in};
-ghost use Rattle.acl_terms.specs.Sets.{AreSetsOf};
-ghost use Rattle.acl_terms.specs.SetSteps.{sets_by};
-ghost use Rattle.acl_terms.specs.Slips.{slip_of};
+ghost use Rattle.acl_terms.specs.Sets.{AreSetsOf, IsSetOf};
+ghost use Rattle.acl_terms.specs.SetSteps.{IsCode, IsPortSet, IsType, sets_by};
+ghost use Rattle.acl_terms.specs.Slips.{port_protocol_slip, services_slip, slip_of, words_slips};
 
 use crate::checks::{check_port_protocol, check_words, icmp_family, option_of, verdict_of};
 use crate::ends::{Ends, ends_of};
@@ -18,7 +19,7 @@ use crate::terms::Term;
 use acl_naming::Checked;
 use acl_policy::{RawTerm, WordList};
 use acl_sets::RangeSet;
-use acl_text::{Bytes, Refusal, note};
+use acl_text::{Bytes, Memory, Refusal, note};
 use std::alloc::Global;
 
 // The sets of a term.
@@ -31,8 +32,68 @@ struct TermParts {
     icodes: RangeSet,
 }
 
-// The sets of the term, or its first slip.
+// The ports of the term, or the first slip that it has at words that are no names of addresses.
+fn checked_ports(
+    alloc: Global,
+    base: &Checked,
+    protos: &[u8],
+    raw: &RawTerm,
+) -> Result<TermPorts, Refusal>
+    ensures judged { Judges result (first_some (port_protocol_slip protos.now raw.now
+        ∷ services_slip base.now.services protos.now raw.now ∷ words_slips protos.now raw.now)) }
+    ensures ports { IfOk result (λ p.
+        IsPortSet base.now protos.now raw.now p.sports p.dports p.ports) }
+{
+    check_port_protocol(alloc, protos, raw)?;
+    let ports = ports_of_term(alloc, base, protos, raw)?;
+    check_words(alloc, protos, raw)?;
+    Ok(ports)
+}
+
+// Its protocols, its ICMP types and its codes.
+fn number_sets(
+    alloc: Global,
+    protos: &[u8],
+    raw: &RawTerm,
+) -> Result<(RangeSet, RangeSet, RangeSet), Memory>
+    requires { protos.now ≡ protocols_of raw.now.protocols }
+    ensures protos { IfOk result (λ s. IsSetOf (IsProtocol raw.now.protocols) 255 s.0) }
+    ensures types { IfOk result (λ s.
+        IsSetOf (IsType (icmp_family protos.now) raw.now.icmp_types) 255 s.1) }
+    ensures codes { IfOk result (λ s. IsSetOf (IsCode raw.now.icmp_codes) 255 s.2) }
+{
+    let admitted = admitted_protocols(alloc, &raw.protocols, protos)?;
+    let itypes = admitted_types(alloc, icmp_family(protos), &raw.icmp_types)?;
+    Ok((admitted, itypes, admitted_codes(alloc, &raw.icmp_codes)?))
+}
+
+// The sets of the term with its protocols, or its first slip.
 #[tactic(auto, unfolding(crate::specs::Slips::slip_of))]
+fn parts_with<'a>(
+    alloc: Global,
+    raw: &'a RawTerm,
+    protos: &[u8],
+    known: &mut KnownAddresses<'a>,
+) -> Result<TermParts, Refusal>
+    requires { protos.now ≡ protocols_of raw.now.protocols }
+    ensures judged { Judges result (slip_of known.old raw.now) }
+    ensures sets { IfOk result (λ p. AreSetsOf known.old raw.now (sets_by p)) }
+    ensures same { known.new ≡ known.old }
+{
+    let base = known.base();
+    let ends = ends_of(alloc, raw, known)?;
+    let ports = checked_ports(alloc, base, protos, raw)?;
+    let (protos, itypes, icodes) = number_sets(alloc, protos, raw)?;
+    Ok(TermParts {
+        ends,
+        protos,
+        ports,
+        itypes,
+        icodes,
+    })
+}
+
+// The sets of the term, or its first slip.
 fn parts_of<'a>(
     alloc: Global,
     raw: &'a RawTerm,
@@ -42,20 +103,8 @@ fn parts_of<'a>(
     ensures sets { IfOk result (λ p. AreSetsOf known.old raw.now (sets_by p)) }
     ensures same { known.new ≡ known.old }
 {
-    let base = known.base();
     let protos = protocols_of(alloc, &raw.protocols)?;
-    let ends = ends_of(alloc, raw, known)?;
-    check_port_protocol(alloc, &protos, raw)?;
-    let ports = ports_of_term(alloc, base, &protos, raw)?;
-    check_words(alloc, &protos, raw)?;
-    let family = icmp_family(&protos);
-    Ok(TermParts {
-        ends,
-        protos: admitted_protocols(alloc, &raw.protocols, &protos)?,
-        ports,
-        itypes: admitted_types(alloc, family, &raw.icmp_types)?,
-        icodes: admitted_codes(alloc, &raw.icmp_codes)?,
-    })
+    parts_with(alloc, raw, &protos, known)
 }
 
 fn is_written(words: &WordList) -> bool
@@ -65,6 +114,16 @@ fn is_written(words: &WordList) -> bool
         None => false,
         Some(_) => true,
     }
+}
+
+// Its name and its note.
+fn texts_of(alloc: Global, raw: &RawTerm) -> Result<(Bytes, Bytes), Memory>
+    ensures name { IfOk result (λ both. both.0 ≡ raw.now.name.text) }
+    ensures note { IfOk result (λ both. both.1 ≡ note_of raw.now.comments) }
+    ensures safe { IfOk result (λ both. is_note both.1 ≡ true) }
+{
+    let name = Bytes::from_slice(alloc, raw.name.text.as_slice())?;
+    Ok((name, note(alloc, raw.comments.as_slice())?))
 }
 
 /// The term with its words read as numbers, or its first slip.
@@ -100,6 +159,7 @@ pub fn resolve_with<'a>(
     ensures resolved { IfOk result (IsResolved known.old raw.now) }
     ensures same { known.new ≡ known.old }
 {
+    let (name, note) = texts_of(alloc, raw)?;
     let parts = parts_of(alloc, raw, known)?;
     let TermParts {
         ends: Ends { src, dst, either },
@@ -112,8 +172,6 @@ pub fn resolve_with<'a>(
         itypes,
         icodes,
     } = parts;
-    let name = Bytes::from_slice(alloc, raw.name.text.as_slice())?;
-    let note = note(alloc, raw.comments.as_slice())?;
     Ok(Term {
         name,
         place: raw.name.place,

@@ -7,7 +7,7 @@ use Rattle.acl_terms.specs.Matching.{AnyOf, NamesAddress}
 use Rattle.acl_terms.specs.Slips.{network_slip}
 use Rattle.acl_terms.proofs.DistinctLaws.{asks-network, given, new-first, slip-next}
 use Rattle.acl_terms.proofs.GatheredLaws.{begun-names, next-names}
-use Rattle.acl_terms.proofs.addresses.addresses_of_words.Goals as goal
+use Rattle.acl_terms.proofs.addresses.add_words.Goals as goal
 
 pub loop-left-init : goal.loop-left-init
 loop-left-init c =
@@ -15,9 +15,9 @@ loop-left-init c =
     let words = c.args.words.now in
     record {
       v4 = begun-names (λ x text. ReachesAddress networks text V4 x) words c.new-left.result (top_address V4)
-          c.new-v4.result.items c.new-left.ensures c.new-v4.ensures.items;
+          _ c.new-left.ensures c.requires.v4;
       v6 = begun-names (λ x text. ReachesAddress networks text V6 x) words c.new-left.result (top_address V6)
-          c.new-v6.result.items c.new-left.ensures c.new-v6.ensures.items;
+          _ c.new-left.ensures c.requires.v6;
       judged = ap (first_in (network_slip networks)) c.new-left.ensures
           ∙ new-first (network_slip networks) (asks-network networks) words;
     }

@@ -5,7 +5,7 @@ use Rattle.acl_text.specs.Refusals.{first_in}
 use Rattle.acl_terms.specs.Matching.{AnyOf, NamesAddress}
 use Rattle.acl_terms.specs.Slips.{network_slip}
 use Rattle.acl_terms.proofs.GatheredLaws.{IsGathered}
-use Rattle.acl_terms.proofs.addresses.addresses_of_words.Given as goal
+use Rattle.acl_terms.proofs.addresses.add_words.Given as goal
 
 abbrev pub invariant-loop-left : goal.invariant-loop-left
 invariant-loop-left l = record {
