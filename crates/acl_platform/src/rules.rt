@@ -24,7 +24,6 @@ pub enum Test {
 ///
 /// It holds a packet where each of its sets and its test does. `place` is that of the term that it
 /// comes from, whose comments the note has.
-#[derive(Drop)]
 pub struct Rule {
     pub name: Bytes,
     pub place: Place,
@@ -40,6 +39,37 @@ pub struct Rule {
     pub test: Test,
     pub verdict: Verdict,
     pub log: bool,
+}
+
+// Where a rule is let go, that is one step, whatever it holds.
+impl Drop for Rule {
+    fn drop(self) {
+        let Rule {
+            name,
+            place: _,
+            note,
+            family: _,
+            src,
+            dst,
+            protos,
+            sports,
+            dports,
+            itypes,
+            icodes,
+            test: _,
+            verdict: _,
+            log: _,
+        } = self;
+        drop(name);
+        drop(note);
+        drop(src);
+        drop(dst);
+        drop(protos);
+        drop(sports);
+        drop(dports);
+        drop(itypes);
+        drop(icodes);
+    }
 }
 
 /// Rules, in order.

@@ -24,7 +24,6 @@ ghost use Rattle.acl_terms.specs.Soundness.{IsSoundTerm, normal-prop, one-number
 /// likewise. These, `protos`, `sports`, `dports`, `itypes` and `icodes` are all numbers where none are named.
 /// `addr_named`, `dport_named` and `port_named` say that `address::`, `destination-port::` and `port::` are written. `only` has the
 /// platforms of `platform::`, where it is written, and `never` those of `platform-exclude::`.
-#[derive(Drop)]
 pub struct Term {
     pub name: Bytes,
     pub place: Place,
@@ -52,4 +51,50 @@ pub struct Term {
     pub never: Platforms,
     pub ghost sound: { IsSoundTerm name note src4 src6 dst4 dst6 addr4 addr6 addr_named
         (by_field protos sports dports itypes icodes) dport_named ports port_named option verdict } by { Prim.hlevel (props, normal-prop, one-number-prop) },
+}
+
+// Where a term is let go, that is one step, whatever it holds.
+impl Drop for Term {
+    fn drop(self) {
+        let Term {
+            name,
+            place: _,
+            note,
+            src4,
+            src6,
+            dst4,
+            dst6,
+            addr4,
+            addr6,
+            addr_named: _,
+            protos,
+            sports,
+            dports,
+            dport_named: _,
+            ports,
+            port_named: _,
+            itypes,
+            icodes,
+            option: _,
+            verdict: _,
+            log: _,
+            expires: _,
+            only: _,
+            never: _,
+        } = self;
+        drop(name);
+        drop(note);
+        drop(src4);
+        drop(src6);
+        drop(dst4);
+        drop(dst6);
+        drop(addr4);
+        drop(addr6);
+        drop(protos);
+        drop(sports);
+        drop(dports);
+        drop(ports);
+        drop(itypes);
+        drop(icodes);
+    }
 }
