@@ -1,13 +1,16 @@
 -- What clap's answers make of the words.
-use Rattle.std.specs.Prelude.{◌&&◌}
-use Rattle.std.proofs.Common.{IsTrue, ◌↔◌, ◌≡◌, ◌≢◌, inl, inr, ℕ, Bool, true, false, List, [], ◌∷◌, Option, None, Some, option_and_then, refl, ap, sym, ◌∙◌}
+use Rattle.std.specs.Prelude.{◌&&◌, IfOk}
+use Rattle.std.proofs.Common.{IsTrue, ◌↔◌, ◌≡◌, ◌≢◌, inl, inr, ℕ, Bool, true, false, List, [], ◌∷◌, Option, None, Some, Result, Ok, refl, ap, sym, ◌∙◌, subst}
 use Rattle.std.proofs.lemmas.Bool.{false≢true}
 use Rattle.clap.proofs.OnLiterals.{clap_on_literals}
-use Rattle.clap.specs.Words.{App, HasKind, IsAmong, Kinds, Row, fault_of, is_simple, is_simple_and_free, kind_of, matches_of}
+use Rattle.clap.specs.Words.{App, HasKind, IsAmong, Kinds, Row, app_of, fault_of, is_simple, is_simple_and_free, kind_of, matches_of}
+use Rattle.clap.specs.declared.builder.command.Command.{Command}
 use Rattle.clap.specs.declared.error.Error.{Error}
 use Rattle.clap.specs.declared.error.kind.ErrorKind.{ErrorKind}
 use Rattle.clap.specs.declared.error.kind.ErrorKind.TheVariants.{OutOfMemory}
+use Rattle.clap.specs.declared.parser.matches.ArgMatches.{ArgMatches}
 use Rattle.acl_options.specs.CheckCommands.{policy_command, text_command}
+use Rattle.acl_options.specs.CodeViews.{rows_found}
 use Rattle.acl_options.specs.CommandLines.{command}
 use Rattle.acl_options.specs.ComputableCommands.{rows_in}
 use Rattle.acl_options.specs.ToolCommands.{dead, speedway, standard}
@@ -61,8 +64,10 @@ when_refused app words error other (inr among) = refused app words (kind_of erro
 pub not_memory : (b : Bool) (k : ErrorKind) → (IsTrue b ↔ (k ≡ OutOfMemory)) → b ≡ false → k ≢ OutOfMemory
 not_memory b k is differs = λ e. false≢true (sym differs ∙ is.1 e)
 
--- what is read of the options that clap found
-pub read_found : {A : Type 0} (read : List Row → Option A) (app known : App) (words : List (List ℕ)) (found rows : Option (List Row))
-    → app ≡ known → found ≡ rows → found ≡ rows_in app words → option_and_then read rows ≡ option_and_then read (rows_in known words)
-read_found read app known words found rows is given in_app =
-    ap (option_and_then read) (sym given ∙ in_app ∙ ap (λ (a : App). rows_in a words) is)
+-- what clap found is that of the command which was made
+pub found_for : {E F : Type 0} (words : List (List ℕ)) (app : App) (made : Command) (given : Result Command E) (found : Result (Option ArgMatches) F)
+    → given ≡ Ok made → IfOk found (λ f. rows_found f ≡ rows_in (app_of made) words) → IfOk given (λ c. app_of c ≡ app)
+    → IfOk found (λ f. rows_found f ≡ rows_in app words)
+found_for {E} {F} words app made given found is rows known =
+    subst (λ (a : App). IfOk found (λ f. rows_found f ≡ rows_in a words))
+    (subst (λ (r : Result Command E). IfOk r (λ c. app_of c ≡ app)) is known) rows

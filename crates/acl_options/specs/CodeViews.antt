@@ -1,4 +1,8 @@
 -- What the definitions see of the code's values that hold references.
+use Rattle.std.specs.Prelude.{List, Option}
+use Rattle.std.specs.Option.{option_map}
+use Rattle.clap.specs.Words.{Row, found_of, rows_of}
+use Rattle.clap.specs.declared.parser.matches.ArgMatches.{ArgMatches}
 use Rattle.acl_options.specs.CheckCommands.{CheckRequest, AskPolicy, AskText, FileSection}
 use Rattle.acl_options.specs.CommandLines.{Options}
 use Rattle.acl_options.specs.Commands.{Inputs}
@@ -35,3 +39,7 @@ section_view s = record { path = s.path.now; kind = s.kind; number = s.number }
 abbrev pub check_view : CheckCommand → CheckRequest
 check_view (checks.Policy inputs packet) = AskPolicy (inputs_view inputs) packet
 check_view (checks.Text at packet) = AskText (section_view at) packet
+
+-- The options that clap found, where it took the words.
+abbrev pub rows_found : Option ArgMatches → Option (List Row)
+rows_found found = option_map (λ m. rows_of (found_of m)) found

@@ -8,7 +8,7 @@ ghost use Rattle.acl_options.specs.CheckCommands.{
   policy_command,
   text_command,
 };
-ghost use Rattle.acl_options.specs.CodeViews.{check_view, section_view};
+ghost use Rattle.acl_options.specs.CodeViews.{check_view, rows_found, section_view};
 ghost use Rattle.acl_options.specs.ComputableChecks.{
   check_request_of,
   file_section_in,
@@ -23,7 +23,7 @@ ghost use Rattle.acl_options.specs.ComputableChecks.{
 };
 ghost use Rattle.acl_options.specs.ComputableCommands.{rows_in};
 
-use crate::commands::{bare_command, find_matches, inputs_command, required_option, with_option};
+use crate::commands::{bare_command, find_matches, inputs_command, with_required};
 use crate::inputs::{Inputs, folder_named, inputs_in, value_of};
 use crate::workload_words::count_in;
 use acl_packet::Packet;
@@ -93,19 +93,17 @@ fn section_in(matches: &ArgMatches<'_>) -> Option<u32>
 fn policy_command<'a>(alloc: Global) -> Result<Command<'a>, AllocError>
     ensures { IfOk result (λ c. app_of c ≡ policy_command) }
 {
-    let command = inputs_command(alloc, "policy")?;
-    with_option(command, required_option(alloc, "packet"))
+    with_required(alloc, inputs_command(alloc, "policy"), "packet")
 }
 
 // The command that asks a section of a file.
 fn text_command<'a>(alloc: Global) -> Result<Command<'a>, AllocError>
     ensures { IfOk result (λ c. app_of c ≡ text_command) }
 {
-    let command = bare_command(alloc, "text");
-    let command = with_option(command, required_option(alloc, "text"))?;
-    let command = with_option(command, required_option(alloc, "platform"))?;
-    let command = with_option(command, required_option(alloc, "section"))?;
-    with_option(command, required_option(alloc, "packet"))
+    let command = with_required(alloc, Ok(bare_command(alloc, "text")), "text");
+    let command = with_required(alloc, command, "platform");
+    let command = with_required(alloc, command, "section");
+    with_required(alloc, command, "packet")
 }
 
 #[tactic(auto, unfolding(crate::specs::ComputableChecks::policy_question_in))]
@@ -133,24 +131,36 @@ fn text_question_in<'a>(matches: &ArgMatches<'a>) -> Option<CheckCommand<'a>>
     Some(CheckCommand::Text(file_section_in(matches)?, packet_named(matches)?))
 }
 
+// What the options that clap found ask a policy, where it took the words.
+fn policy_question_among<'a>(found: &Option<ArgMatches<'a>>) -> Option<CheckCommand<'a>>
+    ensures { option_map check_view result
+        ≡ option_and_then policy_question_in (rows_found found.now) }
+{
+    policy_question_in(found.as_ref()?)
+}
+
 fn policy_question(alloc: Global, words: &[String]) -> Result<Option<CheckCommand<'_>>, Memory>
     ensures { IfOk result (λ request. option_map check_view request
         ≡ option_and_then policy_question_in (rows_in policy_command (map string_bytes words.now))) }
 {
-    match find_matches(policy_command(alloc)?, words)? {
-        Some(matches) => Ok(policy_question_in(&matches)),
-        None => Ok(None),
-    }
+    let found = find_matches(policy_command(alloc), words)?;
+    Ok(policy_question_among(&found))
+}
+
+// What the options that clap found ask a section of a file, where it took the words.
+fn text_question_among<'a>(found: &Option<ArgMatches<'a>>) -> Option<CheckCommand<'a>>
+    ensures { option_map check_view result
+        ≡ option_and_then text_question_in (rows_found found.now) }
+{
+    text_question_in(found.as_ref()?)
 }
 
 fn text_question(alloc: Global, words: &[String]) -> Result<Option<CheckCommand<'_>>, Memory>
     ensures { IfOk result (λ request. option_map check_view request
         ≡ option_and_then text_question_in (rows_in text_command (map string_bytes words.now))) }
 {
-    match find_matches(text_command(alloc)?, words)? {
-        Some(matches) => Ok(text_question_in(&matches)),
-        None => Ok(None),
-    }
+    let found = find_matches(text_command(alloc), words)?;
+    Ok(text_question_among(&found))
 }
 
 // What the words behind a command's name ask for.

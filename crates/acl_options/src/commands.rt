@@ -1,15 +1,7 @@
 ghost use Rattle.std.specs.Prelude.{◌≡◌, ◌↔◌, IfOk, IsTrue, [], false, map, true};
-ghost use Rattle.std.specs.Option.{option_map};
 ghost use Rattle.std.specs.String.{string_bytes};
-ghost use Rattle.clap.specs.Words.{
-  app_of,
-  found_of,
-  is_simple_and_free,
-  kind_of,
-  rows_of,
-  rule_of,
-  with_rule,
-};
+ghost use Rattle.clap.specs.Words.{App, app_of, is_simple_and_free, kind_of, rule_of, with_rule};
+ghost use Rattle.acl_options.specs.CodeViews.{rows_found};
 ghost use Rattle.acl_options.specs.Commands.{
   command_with,
   defaulted_option,
@@ -65,21 +57,36 @@ pub fn bare_command<'a>(alloc: Global, name: &'a str) -> Command<'a>
         .disable_version_flag(true)
 }
 
-// The command with one more option behind those that it has.
-pub fn with_option<'a>(command: Command<'a>, option: Arg<'a>) -> Result<Command<'a>, AllocError>
+// The command with one more option behind those that it has, where it could be made.
+pub fn with_option<'a>(
+    command: Result<Command<'a>, AllocError>,
+    option: Arg<'a>,
+) -> Result<Command<'a>, AllocError>
     requires { option.global ≡ false }
-    ensures { IfOk result (λ c. app_of c ≡ with_rule (app_of command.entry) (rule_of option.entry)) }
+    ensures { (app : App) → IfOk command.entry (λ c. app_of c ≡ app)
+        → IfOk result (λ c. app_of c ≡ with_rule app (rule_of option.entry)) }
 {
-    command.arg(option)
+    command?.arg(option)
+}
+
+// The same of an option of this name that has to be there.
+pub fn with_required<'a>(
+    alloc: Global,
+    command: Result<Command<'a>, AllocError>,
+    name: &'a str,
+) -> Result<Command<'a>, AllocError>
+    ensures { (app : App) → IfOk command.entry (λ c. app_of c ≡ app)
+        → IfOk result (λ c. app_of c ≡ with_rule app (required_option name.now)) }
+{
+    with_option(command, required_option(alloc, name))
 }
 
 // The command that reads a policy, with no options of its own.
 pub fn inputs_command<'a>(alloc: Global, name: &'a str) -> Result<Command<'a>, AllocError>
     ensures { IfOk result (λ c. app_of c ≡ command_with name.now input_options) }
 {
-    let command = bare_command(alloc, name);
-    let command = with_option(command, required_option(alloc, "policy_file"))?;
-    let command = with_option(command, required_option(alloc, "definitions_directory"))?;
+    let command = with_required(alloc, Ok(bare_command(alloc, name)), "policy_file");
+    let command = with_required(alloc, command, "definitions_directory");
     with_option(command, value_option(alloc, "date"))
 }
 
@@ -90,18 +97,31 @@ fn is_for_memory(error: &Error) -> bool
     matches!(error.kind(), ErrorKind::OutOfMemory)
 }
 
-/// The options that clap finds among the words, or none where it refuses them for another cause than memory.
-pub fn find_matches<'a>(
+// The options that clap finds among the words, or none where it refuses them for another cause than memory.
+fn matches_of<'a>(
     command: Command<'a>,
     words: &'a [String],
 ) -> Result<Option<ArgMatches<'a>>, Memory>
     requires { is_simple_and_free (app_of command) ≡ true }
-    ensures { IfOk result (λ found. option_map (λ m. rows_of (found_of m)) found
-        ≡ rows_in (app_of command.entry) (map string_bytes words.now)) }
+    ensures { IfOk result (λ found.
+        rows_found found ≡ rows_in (app_of command.entry) (map string_bytes words.now)) }
 {
     match command.try_get_matches_from(words) {
         Ok(matches) => Ok(Some(matches)),
         Err(error) if is_for_memory(&error) => Err(Memory),
         Err(_) => Ok(None),
     }
+}
+
+/// The options that clap finds among the words, where the command could be made, or none where it refuses them for
+/// another cause than memory.
+pub fn find_matches<'a>(
+    command: Result<Command<'a>, AllocError>,
+    words: &'a [String],
+) -> Result<Option<ArgMatches<'a>>, Memory>
+    requires { IfOk command (λ c. is_simple_and_free (app_of c) ≡ true) }
+    ensures { (app : App) → IfOk command.entry (λ c. app_of c ≡ app)
+        → IfOk result (λ found. rows_found found ≡ rows_in app (map string_bytes words.now)) }
+{
+    matches_of(command?, words)
 }

@@ -1,4 +1,4 @@
-ghost use Rattle.std.specs.Prelude.{◌≡◌, IfNone, IfOk, IfSome, map};
+ghost use Rattle.std.specs.Prelude.{◌≡◌, IfNone, IfOk, IfSome, map, option_and_then};
 ghost use Rattle.std.specs.Option.{option_map};
 ghost use Rattle.std.specs.String.{string_bytes};
 ghost use Rattle.clap.specs.Words.{app_of, found_of, rows_of};
@@ -10,10 +10,10 @@ ghost use Rattle.acl_options.specs.ComputableOptions.{
   shade_check_in,
   weeks_in,
 };
-ghost use Rattle.acl_options.specs.CodeViews.{options_view};
+ghost use Rattle.acl_options.specs.CodeViews.{options_view, rows_found};
 
 use crate::commands::{
-    defaulted_option, find_matches, flag_option, inputs_command, required_option, with_option,
+    defaulted_option, find_matches, flag_option, inputs_command, with_option, with_required,
 };
 use crate::inputs::{date_in, definitions_in, folder_named, policy_in, value_of};
 use acl_days::Day;
@@ -42,9 +42,8 @@ pub struct Options<'a> {
 fn command<'a>(alloc: Global) -> Result<Command<'a>, AllocError>
     ensures { IfOk result (λ c. app_of c ≡ command) }
 {
-    let command = inputs_command(alloc, "aclgen")?;
-    let command = with_option(command, required_option(alloc, "output_directory"))?;
-    let command = with_option(command, defaulted_option(alloc, "exp_info", "2"))?;
+    let command = with_required(alloc, inputs_command(alloc, "aclgen"), "output_directory");
+    let command = with_option(command, defaulted_option(alloc, "exp_info", "2"));
     with_option(command, flag_option(alloc, "shade_check"))
 }
 
@@ -83,14 +82,19 @@ fn options_in<'a>(matches: &ArgMatches<'a>) -> Option<Options<'a>>
     })
 }
 
+// The options that clap found, where it took the words.
+fn options_among<'a>(found: &Option<ArgMatches<'a>>) -> Option<Options<'a>>
+    ensures { option_map options_view result ≡ option_and_then options_in (rows_found found.now) }
+{
+    options_in(found.as_ref()?)
+}
+
 fn options_for(alloc: Global, words: &[String]) -> Result<Option<Options<'_>>, Memory>
     ensures { IfOk result (λ options.
         option_map options_view options ≡ options_of (map string_bytes words.now)) }
 {
-    match find_matches(command(alloc)?, words)? {
-        Some(matches) => Ok(options_in(&matches)),
-        None => Ok(None),
-    }
+    let found = find_matches(command(alloc), words)?;
+    Ok(options_among(&found))
 }
 
 /// What the words behind the program's name ask for, or none where they are no command line:

@@ -2,7 +2,7 @@ ghost use Rattle.std.specs.Prelude.{◌≡◌, ◌++◌, ◌∷◌, [], codes, �
 ghost use Rattle.std.specs.Option.{option_map};
 ghost use Rattle.std.specs.String.{string_bytes};
 ghost use Rattle.clap.specs.Words.{app_of, found_of, rows_of};
-ghost use Rattle.acl_options.specs.CodeViews.{tool_view};
+ghost use Rattle.acl_options.specs.CodeViews.{rows_found, tool_view};
 ghost use Rattle.acl_options.specs.ComputableCommands.{count_in, rows_in};
 ghost use Rattle.acl_options.specs.ComputableTools.{
   date_for,
@@ -17,7 +17,7 @@ ghost use Rattle.acl_options.specs.ComputableTools.{
 };
 ghost use Rattle.acl_options.specs.ToolCommands.{AsksForTool, ToolRequest, dead, speedway, standard};
 
-use crate::commands::{find_matches, inputs_command, required_option, with_option};
+use crate::commands::{find_matches, inputs_command, with_required};
 use crate::inputs::{Inputs, inputs_in, value_of};
 use acl_days::Day;
 use acl_packet::{Family, read_u8};
@@ -68,8 +68,7 @@ fn family_in(matches: &ArgMatches<'_>) -> Option<Family>
 fn speedway_command<'a>(alloc: Global) -> Result<Command<'a>, AllocError>
     ensures { IfOk result (λ c. app_of c ≡ speedway) }
 {
-    let command = inputs_command(alloc, "speedway")?;
-    with_option(command, required_option(alloc, "family"))
+    with_required(alloc, inputs_command(alloc, "speedway"), "family")
 }
 
 #[tactic(auto, unfolding(crate::specs::ComputableTools::speedway_in))]
@@ -79,14 +78,18 @@ fn speedway_in<'a>(matches: &ArgMatches<'a>) -> Option<ToolCommand<'a>>
     Some(ToolCommand::Speedway(inputs_in(matches)?, family_in(matches)?))
 }
 
+fn speedway_among<'a>(found: &Option<ArgMatches<'a>>) -> Option<ToolCommand<'a>>
+    ensures { option_map tool_view result ≡ option_and_then speedway_in (rows_found found.now) }
+{
+    speedway_in(found.as_ref()?)
+}
+
 fn speedway_for(alloc: Global, words: &[String]) -> Result<Option<ToolCommand<'_>>, Memory>
     ensures { IfOk result (λ request. option_map tool_view request
         ≡ option_and_then speedway_in (rows_in speedway (map string_bytes words.now))) }
 {
-    match find_matches(speedway_command(alloc)?, words)? {
-        Some(matches) => Ok(speedway_in(&matches)),
-        None => Ok(None),
-    }
+    let found = find_matches(speedway_command(alloc), words)?;
+    Ok(speedway_among(&found))
 }
 
 fn dead_command<'a>(alloc: Global) -> Result<Command<'a>, AllocError>
@@ -102,14 +105,18 @@ fn dead_in<'a>(matches: &ArgMatches<'a>) -> Option<ToolCommand<'a>>
     Some(ToolCommand::Dead(inputs_in(matches)?))
 }
 
+fn dead_among<'a>(found: &Option<ArgMatches<'a>>) -> Option<ToolCommand<'a>>
+    ensures { option_map tool_view result ≡ option_and_then dead_in (rows_found found.now) }
+{
+    dead_in(found.as_ref()?)
+}
+
 fn dead_for(alloc: Global, words: &[String]) -> Result<Option<ToolCommand<'_>>, Memory>
     ensures { IfOk result (λ request. option_map tool_view request
         ≡ option_and_then dead_in (rows_in dead (map string_bytes words.now))) }
 {
-    match find_matches(dead_command(alloc)?, words)? {
-        Some(matches) => Ok(dead_in(&matches)),
-        None => Ok(None),
-    }
+    let found = find_matches(dead_command(alloc), words)?;
+    Ok(dead_among(&found))
 }
 
 fn first_number_named(text: &str) -> Option<u8>
@@ -128,8 +135,7 @@ fn first_in(matches: &ArgMatches<'_>) -> Option<u8>
 fn standard_command<'a>(alloc: Global) -> Result<Command<'a>, AllocError>
     ensures { IfOk result (λ c. app_of c ≡ standard) }
 {
-    let command = inputs_command(alloc, "standard")?;
-    with_option(command, required_option(alloc, "first_number"))
+    with_required(alloc, inputs_command(alloc, "standard"), "first_number")
 }
 
 #[tactic(auto, unfolding(crate::specs::ComputableTools::standard_in))]
@@ -139,14 +145,18 @@ fn standard_in<'a>(matches: &ArgMatches<'a>) -> Option<ToolCommand<'a>>
     Some(ToolCommand::Standard(inputs_in(matches)?, first_in(matches)?))
 }
 
+fn standard_among<'a>(found: &Option<ArgMatches<'a>>) -> Option<ToolCommand<'a>>
+    ensures { option_map tool_view result ≡ option_and_then standard_in (rows_found found.now) }
+{
+    standard_in(found.as_ref()?)
+}
+
 fn standard_for(alloc: Global, words: &[String]) -> Result<Option<ToolCommand<'_>>, Memory>
     ensures { IfOk result (λ request. option_map tool_view request
         ≡ option_and_then standard_in (rows_in standard (map string_bytes words.now))) }
 {
-    match find_matches(standard_command(alloc)?, words)? {
-        Some(matches) => Ok(standard_in(&matches)),
-        None => Ok(None),
-    }
+    let found = find_matches(standard_command(alloc), words)?;
+    Ok(standard_among(&found))
 }
 
 // What the words behind a command's name ask for.

@@ -1,0 +1,4 @@
+use Rattle.acl_options.proofs.check_commands.policy_command.Goals as goal
+
+pub returns : goal.returns
+returns c = c.with_required.ensures _ c.inputs_command.ensures
