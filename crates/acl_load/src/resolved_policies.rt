@@ -2,10 +2,10 @@ ghost use Rattle.std.specs.Prelude.{◌≡◌, IfOk};
 ghost use Rattle.acl_load.specs.ResolvedPolicies.{resolved_of, targets_in};
 
 use crate::policy_loading::{Loaded, TermLists};
-use acl_policy::Block;
+use acl_policy::{Block, copy_target};
 use acl_splice::Sources;
 use acl_target::{Target, Targets};
-use acl_text::{Bytes, Items, Memory};
+use acl_text::{Items, Memory};
 use std::alloc::Global;
 
 /// A list of targets for each block.
@@ -18,23 +18,6 @@ pub struct ResolvedPolicy {
     pub sources: Sources,
     pub targets: TargetLists,
     pub terms: TermLists,
-}
-
-fn copy_target(alloc: Global, target: &Target) -> Result<Target, Memory>
-    ensures { IfOk result (λ copy. copy ≡ target.now) }
-{
-    Ok(Target {
-        place: target.place,
-        kind: target.kind,
-        name: Bytes::from_slice(alloc, target.name.as_slice())?,
-        families: target.families,
-        hook: target.hook,
-        stateful: target.stateful,
-        ending: target.ending,
-        priority: target.priority,
-        verbose: target.verbose,
-        number: target.number,
-    })
 }
 
 fn copy_targets(alloc: Global, targets: &[Target]) -> Result<Targets, Memory>
