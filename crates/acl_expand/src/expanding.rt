@@ -68,6 +68,21 @@ pub(crate) fn rules_of(
     Ok(rules)
 }
 
+/// The same, which filters can share.
+pub(crate) fn shared_rules(
+    alloc: Global,
+    lists: &mut KnownLists,
+    terms: &[Term],
+    target: &Target,
+    today: Day,
+) -> Result<SharedRules, Refusal>
+    ensures judged { Judges result (first_slip target.now today terms.now) }
+    ensures rules { IfOk result (λ rules. rules ≡ rules_of target.now today terms.now) }
+{
+    let rules = rules_of(alloc, lists, terms, target, today)?;
+    Ok(SharedRules::new(alloc, rules)?)
+}
+
 /// The data of the target, with rules.
 pub(crate) fn filter_with(
     alloc: Global,
@@ -76,10 +91,11 @@ pub(crate) fn filter_with(
 ) -> Result<Filter, Memory>
     ensures { IfOk result (λ f. f ≡ filter_with target.now rules) }
 {
+    let name = Bytes::from_slice(alloc, target.name.as_slice())?;
     Ok(Filter {
         place: target.place,
         kind: target.kind,
-        name: Bytes::from_slice(alloc, target.name.as_slice())?,
+        name,
         families: target.families,
         hook: target.hook,
         ending: target.ending,
@@ -88,6 +104,20 @@ pub(crate) fn filter_with(
         number: target.number,
         rules,
     })
+}
+
+// The rules of the terms, or their first slip, where no list is known.
+fn first_rules(
+    alloc: Global,
+    terms: &[Term],
+    target: &Target,
+    today: Day,
+) -> Result<SharedRules, Refusal>
+    ensures judged { Judges result (first_slip target.now today terms.now) }
+    ensures rules { IfOk result (λ rules. rules ≡ rules_of target.now today terms.now) }
+{
+    let mut lists = KnownLists::new(alloc);
+    shared_rules(alloc, &mut lists, terms, target, today)
 }
 
 /// The filter of the terms on the target that day, or their first slip there.
@@ -105,8 +135,6 @@ pub fn expand(alloc: Global, terms: &[Term], target: &Target, today: Day) -> Res
     ensures sound { IfOk result IsSound }
     ensures decides { IfOk result (DecidesAsTerms target.now today terms.now) }
 {
-    let mut lists = KnownLists::new(alloc);
-    let rules = rules_of(alloc, &mut lists, terms, target, today)?;
-    let shared = SharedRules::new(alloc, rules)?;
-    Ok(filter_with(alloc, target, shared)?)
+    let rules = first_rules(alloc, terms, target, today)?;
+    Ok(filter_with(alloc, target, rules)?)
 }

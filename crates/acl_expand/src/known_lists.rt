@@ -76,22 +76,41 @@ impl KnownLists {
         }
     }
 
+    fn find_all(&self, family: Family) -> Option<&Prefixes>
+        ensures { IfSome result (λ ps. ps.now ≡ everywhere family ∷ []) }
+    {
+        for known in self.all.as_slice() {
+            if known.family == family {
+                return Some(&known.list);
+            }
+        }
+        None
+    }
+
+    // The list of all addresses is known from now on.
+    fn keep_all(&mut self, family: Family, list: &Prefixes) -> Result<(), Memory>
+        requires { list.now ≡ everywhere family ∷ [] }
+    {
+        let list = list.share()?;
+        self.all.push(AllList { family, list })
+    }
+
+    fn new_all(&mut self, alloc: Global, family: Family) -> Result<Prefixes, Memory>
+        ensures { IfOk result (λ ps. ps ≡ everywhere family ∷ []) }
+    {
+        let list = everywhere(alloc, family)?;
+        self.keep_all(family, &list)?;
+        Ok(list)
+    }
+
     // Most rules have all addresses on one side.
     fn all_of(&mut self, alloc: Global, family: Family) -> Result<Prefixes, Memory>
         ensures { IfOk result (λ ps. ps ≡ everywhere family ∷ []) }
     {
-        for known in self.all.as_slice() {
-            if known.family == family {
-                return known.list.share();
-            }
+        match self.find_all(family) {
+            Some(list) => list.share(),
+            None => self.new_all(alloc, family),
         }
-        let list = everywhere(alloc, family)?;
-        let shared = list.share()?;
-        self.all.push(AllList {
-            family,
-            list: shared,
-        })?;
-        Ok(list)
     }
 
     fn find(&self, digest: u128, family: Family, set: &RangeSet) -> Result<Option<Prefixes>, Memory>
@@ -123,6 +142,40 @@ impl KnownLists {
         }
     }
 
+    // The list is known of the set from now on.
+    fn keep(
+        &mut self,
+        digest: u128,
+        family: Family,
+        set: &RangeSet,
+        list: &Prefixes,
+    ) -> Result<(), Memory>
+        requires { list.now ≡ least_list family set.now }
+    {
+        let known = KnownList {
+            family,
+            set: set.share()?,
+            list: list.share()?,
+        };
+        self.lists.insert(digest, known)?;
+        Ok(())
+    }
+
+    fn new_list(
+        &mut self,
+        alloc: Global,
+        digest: u128,
+        family: Family,
+        set: &RangeSet,
+    ) -> Result<Prefixes, Memory>
+        requires { set.now.top + 1 ≡ 2 ^ width_of family }
+        ensures { IfOk result (λ ps. ps ≡ least_list family set.now) }
+    {
+        let list = least_prefixes(alloc, set, family)?;
+        self.keep(digest, family, set, &list)?;
+        Ok(list)
+    }
+
     // The same, for a set of several ranges, whose list is known from now on.
     fn shared_list(
         &mut self,
@@ -134,16 +187,9 @@ impl KnownLists {
         ensures { IfOk result (λ ps. ps ≡ least_list family set.now) }
     {
         let digest = digest_of(set.ranges());
-        if let Some(list) = self.find(digest, family, set)? {
-            return Ok(list);
+        match self.find(digest, family, set)? {
+            Some(list) => Ok(list),
+            None => self.new_list(alloc, digest, family, set),
         }
-        let list = least_prefixes(alloc, set, family)?;
-        let known = KnownList {
-            family,
-            set: set.share()?,
-            list: list.share()?,
-        };
-        self.lists.insert(digest, known)?;
-        Ok(list)
     }
 }

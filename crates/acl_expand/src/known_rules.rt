@@ -8,7 +8,7 @@ ghost use Rattle.acl_expand.specs.ExpansionSlips.{first_slip};
 ghost use Rattle.acl_expand.specs.KnownRules.{AreKnown, IsKnown, class_of};
 ghost use Rattle.acl_expand.specs.TermRules.{rules_of};
 
-use crate::expanding::{filter_with, rules_of};
+use crate::expanding::{filter_with, shared_rules};
 use crate::known_lists::KnownLists;
 use crate::target_classes::TargetClass;
 use acl_days::Day;
@@ -90,10 +90,9 @@ impl KnownRules {
         if let Some(rules) = rules_for(self.lists.as_slice(), terms, target, today) {
             return Ok(rules.share()?);
         }
-        let rules = rules_of(alloc, &mut self.least, terms, target, today)?;
-        let shared = SharedRules::new(alloc, rules)?;
-        self.keep(target, shared.share()?)?;
-        Ok(shared)
+        let rules = shared_rules(alloc, &mut self.least, terms, target, today)?;
+        self.keep(target, rules.share()?)?;
+        Ok(rules)
     }
 
     /// The filter of the terms on the target that day, or their first slip there, as `expand` gives it.

@@ -1,7 +1,7 @@
 ghost use Rattle.std.specs.Prelude.{◌≡◌, ◌++◌, [], ◌∷◌, IfOk, OnOk, map, flat_map};
 ghost use Rattle.acl_sets.specs.Ranges.{holds};
 ghost use Rattle.acl_terms.specs.Outcomes.{cisco_verdict, mode_of};
-ghost use Rattle.acl_terms.specs.Resolved.{destinations_on, is_term_live, sources_on};
+ghost use Rattle.acl_terms.specs.Resolved.{destinations_on, is_term_live, sources_on, sports_on};
 ghost use Rattle.acl_expand.specs.TermRules.{
   address_suffix,
   conditions_by,
@@ -26,7 +26,7 @@ use crate::known_lists::KnownLists;
 use acl_days::Day;
 use acl_packet::{Families, Family, Verdict};
 use acl_platform::{Rule, Rules, Test};
-use acl_sets::Prefixes;
+use acl_sets::{Prefixes, RangeSet};
 use acl_target::{Kind, Target};
 use acl_terms::{
     Mode, Opt, Side, SidePair, Term, destination_in, either_in, is_live, is_pair_empty, pairs_of,
@@ -138,6 +138,47 @@ struct PairTerm<'a> {
 }
 
 impl<'a> PairTerm<'a> {
+    // The name of a rule with the suffix, and its note.
+    fn texts(&self, alloc: Global, suffix: &Bytes) -> Result<(Bytes, Bytes), Memory>
+        ensures { IfOk result (λ both. both ≡ (
+          self.now.term.now.name
+              ++ (address_suffix self.now.pair.addresses ++ (port_suffix self.now.pair.ports ++ suffix.now)),
+          self.now.term.now.note,
+        )) }
+    {
+        let name = rule_name(alloc, self.term, self.pair, suffix)?;
+        Ok((name, Bytes::from_slice(alloc, self.term.note.as_slice())?))
+    }
+
+    // The least lists of its sources and of its destinations.
+    fn ends(&self, alloc: Global, lists: &mut KnownLists) -> Result<(Prefixes, Prefixes), Memory>
+        ensures { IfOk result (λ both. both
+            ≡ (
+              least_list self.now.family (sources_on self.now.pair.addresses self.now.family self.now.term.now),
+              least_list self.now.family (destinations_on self.now.pair.addresses self.now.family self.now.term.now),
+            )) }
+    {
+        let side = self.pair.addresses;
+        let src = sources(alloc, lists, self.family, self.term, side)?;
+        Ok((
+            src,
+            destinations(alloc, lists, self.family, self.term, side)?,
+        ))
+    }
+
+    // Its source ports, its types and its codes.
+    fn sets(&self, alloc: Global) -> Result<(RangeSet, RangeSet, RangeSet), Memory>
+        ensures { IfOk result (λ all. all ≡ (
+          sports_on self.now.pair.ports self.now.term.now,
+          self.now.term.now.itypes,
+          self.now.term.now.icodes,
+        )) }
+    {
+        let sports = sports_on(alloc, self.pair.ports, self.term)?;
+        let itypes = self.term.itypes.share()?;
+        Ok((sports, itypes, self.term.icodes.share()?))
+    }
+
     // The rule of the term with the conditions.
     fn rule(
         &self,
@@ -148,22 +189,24 @@ impl<'a> PairTerm<'a> {
         ensures { IfOk result (λ r. r
             ≡ rule_of self.now.kind self.now.family self.now.term.now self.now.pair conditions) }
     {
-        let term = self.term;
+        let (name, note) = self.texts(alloc, &conditions.suffix)?;
+        let (src, dst) = self.ends(alloc, lists)?;
+        let (sports, itypes, icodes) = self.sets(alloc)?;
         Ok(Rule {
-            name: rule_name(alloc, term, self.pair, &conditions.suffix)?,
-            place: term.place,
-            note: Bytes::from_slice(alloc, term.note.as_slice())?,
+            name,
+            place: self.term.place,
+            note,
             family: self.family,
-            src: sources(alloc, lists, self.family, term, self.pair.addresses)?,
-            dst: destinations(alloc, lists, self.family, term, self.pair.addresses)?,
+            src,
+            dst,
             protos: conditions.protos,
-            sports: sports_on(alloc, self.pair.ports, term)?,
+            sports,
             dports: conditions.dports,
-            itypes: term.itypes.share()?,
-            icodes: term.icodes.share()?,
+            itypes,
+            icodes,
             test: conditions.test,
-            verdict: verdict_on(self.kind, term.verdict),
-            log: term.log,
+            verdict: verdict_on(self.kind, self.term.verdict),
+            log: self.term.log,
         })
     }
 

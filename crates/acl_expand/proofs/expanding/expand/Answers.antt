@@ -13,7 +13,7 @@ returns c =
     let terms = c.args.terms.now in
     let none = c.in_ok-rules.ensures.judged in
     let is : c.in_ok-filter_with.field-0 ≡ filter_of target today terms =
-    c.in_ok-filter_with.ensures ∙ ap (λ rules. filter_with target rules) (c.in_ok-shared.ensures ∙ c.in_ok-rules.ensures.rules) in record {
+    c.in_ok-filter_with.ensures ∙ ap (λ rules. filter_with target rules) c.in_ok-rules.ensures.rules in record {
       slip = none;
       filter = is;
       sound = subst IsSound (sym is) (filter-sound target today terms c.requires none);
