@@ -14,7 +14,6 @@ pub enum JTest {
 
 /// A term of a filter: which packets it holds, and what it does with them. A list without elements
 /// is no condition, and is not written.
-#[derive(Drop)]
 pub struct JTerm {
     /// The comment before the term.
     pub note: Option<Bytes>,
@@ -30,6 +29,35 @@ pub struct JTerm {
     pub test: Option<JTest>,
     pub syslog: bool,
     pub verdict: Verdict,
+}
+
+// Where a term is let go, that is one step, whatever it holds.
+impl Drop for JTerm {
+    fn drop(self) {
+        let JTerm {
+            note,
+            name,
+            src,
+            dst,
+            protos,
+            sports,
+            dports,
+            itypes,
+            icodes,
+            test: _,
+            syslog: _,
+            verdict: _,
+        } = self;
+        drop(note);
+        drop(name);
+        drop(src);
+        drop(dst);
+        drop(protos);
+        drop(sports);
+        drop(dports);
+        drop(itypes);
+        drop(icodes);
+    }
 }
 
 /// A filter of a family, as it is written for one target.

@@ -12,7 +12,6 @@ pub enum Flags {
 
 /// A rule of a chain: which packets it holds, whether it logs them, and what it decides. A part that
 /// is `None`, `false` or a set without elements is not written, and holds all.
-#[derive(Drop)]
 pub struct Rule {
     /// The family of the packets, written only where the table is of both.
     pub family: Family,
@@ -30,6 +29,32 @@ pub struct Rule {
     pub state: bool,
     pub log: bool,
     pub verdict: Verdict,
+}
+
+// Where a rule is let go, that is one step, whatever it holds.
+impl Drop for Rule {
+    fn drop(self) {
+        let Rule {
+            family: _,
+            proto: _,
+            src,
+            dst,
+            sports,
+            dports,
+            itypes,
+            icodes,
+            flags: _,
+            state: _,
+            log: _,
+            verdict: _,
+        } = self;
+        drop(src);
+        drop(dst);
+        drop(sports);
+        drop(dports);
+        drop(itypes);
+        drop(icodes);
+    }
 }
 
 /// A line of a chain.
