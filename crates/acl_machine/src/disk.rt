@@ -91,8 +91,12 @@ pub(crate) fn bytes_at<R: Files>(
     }
 }
 
-/// The bytes that the file gives, or the first of them. A reading that is interrupted goes on.
-pub fn front_of<F: Read>(file: &mut F, alloc: Global, most: usize) -> Result<Bytes, TreeFault>
+// The bytes that the file gives, or the first of them. A reading that is interrupted goes on.
+pub(crate) fn front_of<F: Read>(
+    file: &mut F,
+    alloc: Global,
+    most: usize,
+) -> Result<Bytes, TreeFault>
     ensures { IfOk result (λ bytes. length bytes ≤ most) }
 {
     let mut bytes = Bytes::new(alloc);

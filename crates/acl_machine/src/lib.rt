@@ -7,10 +7,11 @@ mod gathered;
 mod replacing;
 mod std_sinks;
 mod system_clocks;
+#[cfg(test)]
+mod tests;
 mod whole_writes;
 mod write_counts;
 
-pub use disk::front_of;
 pub use disk_trees::DiskTree;
 pub use std_sinks::StdSink;
 pub use system_clocks::SystemClock;

@@ -5,7 +5,6 @@ mod memory;
 mod names;
 mod packet_texts;
 mod packets;
-mod readers;
 mod rows;
 mod sets;
 mod texts;

@@ -1,6 +1,5 @@
+use crate::disk::front_of;
 use acl_host::TreeFault;
-use acl_machine::front_of;
-use std::alloc::Global;
 use std::io;
 use std::io::{ErrorKind, Read};
 
@@ -36,17 +35,12 @@ fn abc(kind: ErrorKind) -> FailsOnce {
     }
 }
 
-// Whether all three bytes are given, though a reading among them is interrupted.
-fn goes_on(alloc: Global) -> bool {
-    match front_of(&mut abc(ErrorKind::Interrupted), alloc, 9) {
-        Ok(bytes) => bytes.as_slice() == b"abc".as_slice(),
-        Err(_) => false,
-    }
-}
-
 #[test]
 fn an_interrupted_read_goes_on(rt: HostRuntime) {
-    assert!(rt; goes_on(rt.alloc()));
+    match front_of(&mut abc(ErrorKind::Interrupted), rt.alloc(), 9) {
+        Ok(bytes) => assert_eq!(rt; bytes.as_slice(), b"abc".as_slice()),
+        Err(_) => panic!(rt; "a fault"),
+    }
     let failed = front_of(&mut abc(ErrorKind::Other), rt.alloc(), 9);
     assert!(rt; failed.err() == Some(TreeFault::Failed));
 }
