@@ -12,13 +12,26 @@ use Rattle.acl_sets.specs.declared.sets.Range.{Range}
 use Rattle.acl_sets.specs.Ranges.{inside, holds, IsNormal}
 use Rattle.acl_sets.specs.LeastLists.{IsMaximal, IsInOrder, IsLeastList}
 use Rattle.acl_sets.specs.ComputableLeastLists.{block}
-use Rattle.acl_sets.specs.CutSteps.{IsLongest, Cuts, CutsAll}
+use Rattle.acl_sets.specs.CutSteps.{IsLongest}
 use Rattle.acl_sets.proofs.RangeLaws.{in_range, out_low, out_high, ends_of, below_floor}
 use Rattle.acl_sets.proofs.Powers.{Aligned, nested}
 use Rattle.acl_sets.proofs.BlockFacts.{free_of, LiesBlock, has, At, block_size, block_maximal}
 use Rattle.acl_sets.proofs.OrderedLists.{member_tail}
 use Rattle.acl_sets.proofs.HalvedSets.{maximal_same}
 use Rattle.acl_sets.proofs.CutFacts.{free-fits}
+
+-- Blocks cut the numbers from first to last, one behind the other, each the longest there.
+abbrev pub Cuts : Family → ℕ → ℕ → List Prefix → Type 0
+Cuts f last first [] = first ≡ last + 1
+Cuts f last first (p ∷ ps) =
+    (free : ℕ) × (p ≡ block f free first) × IsLongest first last free
+    × Cuts f last (first + 2 ^ free) ps
+
+-- The blocks of each range of a list, in order.
+abbrev pub CutsAll : Family → List Range → List Prefix → Type 0
+CutsAll f [] ps = ps ≡ []
+CutsAll f (r ∷ rs) ps =
+    (cuts rest : List Prefix) × (ps ≡ cuts ++ rest) × Cuts f r.high r.low cuts × CutsAll f rs rest
 
 -- A range of a set with nothing of it beside
 

@@ -14,4 +14,5 @@ pub mod LeastListLaws
 pub mod ComputableLeastListLaws
 pub mod CutFacts
 pub mod LeastCuts
+pub mod CutWalks
 pub mod GroupLaws

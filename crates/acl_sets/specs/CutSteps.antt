@@ -1,9 +1,6 @@
--- What cutting ranges from their low ends gives, step by step: for private functions alone.
-use Rattle.std.specs.Prelude.{ℕ, ◌≡◌, ◌+◌, ◌*◌, ◌^◌, ◌≤◌, List, [], ◌∷◌, ◌++◌}
-use Rattle.acl_packet.specs.declared.addresses.Family.{Family}
-use Rattle.acl_packet.specs.declared.addresses.Prefix.{Prefix}
+-- The longest block at the low end of numbers, and ranges that are left to be cut: for private functions alone.
+use Rattle.std.specs.Prelude.{ℕ, ◌≡◌, ◌+◌, ◌*◌, ◌^◌, ◌≤◌, List, [], ◌∷◌}
 use Rattle.acl_sets.specs.declared.sets.Range.{Range}
-use Rattle.acl_sets.specs.ComputableLeastLists.{block}
 
 -- A block of 2 ^ free numbers can begin at first, at a multiple of its size, and ends at last at the
 -- latest.
@@ -15,19 +12,12 @@ pub record IsLongest (first last free : ℕ) : Type 0 where
   pub fits : BlockFits first last free
   pub longest : (other : ℕ) → BlockFits first last other → other ≤ free
 
--- Blocks cut the numbers from first to last, one behind the other, each the longest there.
-abbrev pub Cuts : Family → ℕ → ℕ → List Prefix → Type 0
-Cuts f last first [] = first ≡ last + 1
-Cuts f last first (p ∷ ps) =
-    (free : ℕ) × (p ≡ block f free first) × IsLongest first last free
-    × Cuts f last (first + 2 ^ free) ps
+-- Ranges whose first is left from a number on alone.
+abbrev pub ranges_from : ℕ → List Range → List Range
+ranges_from first [] = []
+ranges_from first (r ∷ rs) = record { low = first; high = r.high } ∷ rs
 
--- A list of prefixes goes on with the blocks of a range.
-abbrev pub GoesOn : Family → Range → List Prefix → List Prefix → Type 0
-GoesOn f r ps qs = (cuts : List Prefix) × (qs ≡ ps ++ cuts) × Cuts f r.high r.low cuts
-
--- The blocks of each range of a list, in order.
-abbrev pub CutsAll : Family → List Range → List Prefix → Type 0
-CutsAll f [] ps = ps ≡ []
-CutsAll f (r ∷ rs) ps =
-    (cuts rest : List Prefix) × (ps ≡ cuts ++ rest) × Cuts f r.high r.low cuts × CutsAll f rs rest
+-- The low end of the first of ranges.
+abbrev pub low_end : List Range → ℕ
+low_end [] = 0
+low_end (r ∷ rs) = r.low

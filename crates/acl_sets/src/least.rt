@@ -1,13 +1,13 @@
 ghost use Rattle.std.specs.Prelude.{◌≡◌, ℕ, ◌+◌, ◌-◌, ◌^◌, ◌<◌, ◌≤◌, [], ◌∷◌, ◌++◌, IfOk, OnOk, OnErr};
 ghost use Rattle.std.specs.List.{All};
-ghost use Rattle.acl_packet.specs.Addresses.{width_of, IsPrefixOf};
-ghost use Rattle.acl_sets.specs.Ranges.{holds};
+ghost use Rattle.acl_packet.specs.Addresses.{top_address, width_of, IsPrefixOf};
+ghost use Rattle.acl_sets.specs.Ranges.{holds, IsNormal};
 ghost use Rattle.acl_sets.specs.LeastLists.{IsLeastList, IsFewest, LeastListHolds, LeastListIsFewest, OneLeastList};
 ghost use Rattle.acl_packet.specs.AddressLists.{any_has};
 ghost use Rattle.acl_sets.specs.ComputableLeastLists.{halved_space};
 
-use crate::cuts::cut_ranges;
-use crate::sets::RangeSet;
+use crate::prefixes_left::PrefixesLeft;
+use crate::sets::{Range, RangeSet};
 use crate::shared_lists::SharedList;
 use acl_packet::{Family, Prefix};
 use acl_text::Memory;
@@ -31,6 +31,18 @@ pub fn least_prefixes(alloc: Global, set: &RangeSet, family: Family) -> Result<P
     let prefixes = cut_ranges(alloc, set.ranges(), family)?;
     let list = SharedList::new(alloc, prefixes)?;
     Ok(list)
+}
+
+// The blocks of each range, cut from its low end.
+fn cut_ranges(alloc: Global, ranges: &[Range], family: Family) -> Result<Vec<Prefix>, Memory>
+    requires { IsNormal 0 (top_address family) ranges.now }
+    ensures { IfOk result (λ v. v.items ≡ halved_space family ranges.now) }
+{
+    let mut prefixes = Vec::with_capacity(alloc, ranges.len())?;
+    for prefix in PrefixesLeft::of(family, ranges) {
+        prefixes.push(prefix)?;
+    }
+    Ok(prefixes)
 }
 
 /// A law: a least list of a set of addresses has the addresses of the set, and no other.

@@ -4,6 +4,7 @@
 mod cuts;
 mod groups;
 mod least;
+mod prefixes_left;
 mod range_lists;
 mod range_pieces;
 mod sets;
