@@ -8,9 +8,9 @@ use Rattle.std.proofs.lemmas.Result.{IfOk-weaker}
 use Rattle.clap.specs.Words.{matches_of}
 use Rattle.acl_packet.specs.declared.packets.Packet.{Packet}
 use Rattle.acl_packet.proofs.ChoiceLaws.{chosen, guarded}
-use Rattle.packet_text.specs.PacketTexts.{IsPacketText}
-use Rattle.packet_text.specs.PacketTextSteps.{packet_in}
-use Rattle.packet_text.proofs.PacketTextLaws.{is-packet, packet-is}
+use Rattle.acl_options.specs.PacketTexts.{IsPacketText}
+use Rattle.acl_options.specs.PacketTextSteps.{packet_in}
+use Rattle.acl_options.proofs.PacketTextLaws.{is-packet, packet-is}
 use Rattle.acl_target.specs.TargetTexts.{kind_text}
 use Rattle.acl_target.specs.declared.targets.Kind.{Kind}
 use Rattle.acl_target.specs.declared.targets.Kind.TheVariants.{Cisco, Juniper, Iptables, Nftables}

@@ -5,3 +5,4 @@ mod CommandLineLaws
 mod NamedDates
 mod ToolLaws
 mod WorkloadLaws
+pub mod PacketTextLaws

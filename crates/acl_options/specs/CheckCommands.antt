@@ -3,7 +3,7 @@
 use Rattle.std.specs.Prelude.{◌≡◌, ◌<◌, ℕ, List, [], ◌∷◌, ◌++◌, codes, length, Some, IsSomeAnd}
 use Rattle.clap.specs.Words.{App}
 use Rattle.acl_packet.specs.declared.packets.Packet.{Packet}
-use Rattle.packet_text.specs.PacketTexts.{IsPacketText}
+use Rattle.acl_options.specs.PacketTexts.{IsPacketText}
 use Rattle.acl_target.specs.TargetTexts.{kind_text}
 use Rattle.acl_target.specs.declared.targets.Kind.{Kind}
 use Rattle.acl_options.specs.Commands.{Inputs, IsCount, IsTakenBy, NamesInputs, command_with, input_options, required_option, value_in}

@@ -4,7 +4,7 @@ use Rattle.std.specs.Str.{bytes_eq}
 use Rattle.clap.specs.Words.{Row, first_of}
 use Rattle.acl_packet.specs.declared.packets.Packet.{Packet}
 use Rattle.acl_text.specs.OptionSteps.{◌>>=◌}
-use Rattle.packet_text.specs.PacketTextSteps.{packet_in}
+use Rattle.acl_options.specs.PacketTextSteps.{packet_in}
 use Rattle.acl_target.specs.TargetTexts.{kind_text}
 use Rattle.acl_target.specs.declared.targets.Kind.{Kind}
 use Rattle.acl_target.specs.declared.targets.Kind.TheVariants.{Cisco, Juniper, Iptables, Nftables}

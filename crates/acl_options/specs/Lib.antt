@@ -8,3 +8,5 @@ pub mod ComputableOptions
 pub mod ComputableTools
 pub mod ToolCommands
 pub mod WorkloadWords
+pub mod PacketTexts
+pub mod PacketTextSteps

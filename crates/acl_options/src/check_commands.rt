@@ -25,12 +25,12 @@ ghost use Rattle.acl_options.specs.ComputableCommands.{rows_in};
 
 use crate::commands::{bare_command, find_matches, inputs_command, with_required};
 use crate::inputs::{Inputs, folder_named, inputs_in, value_of};
+use crate::packet_reading::read_packet;
 use crate::workload_words::count_in;
 use acl_packet::Packet;
 use acl_target::Kind;
 use acl_text::Memory;
 use clap::{ArgMatches, Command};
-use packet_text::read_packet;
 use std::alloc::{AllocError, Global};
 
 /// A section of a file.
@@ -197,7 +197,7 @@ fn question_for(alloc: Global, words: &[String]) -> Result<Option<CheckCommand<'
 /// The words behind the first are read as clap reads those of a command with these options, and clap's messages are not
 /// told. `P`, `D` and `Q` are not empty, `P` does not end in `/`, the date is a day of the years 0001 to 9999, `K` is
 /// `cisco`, `juniper`, `iptables` or `nftables`, `N` is a number from 1 to 1024 in decimal digits, and `X` is a packet's
-/// text (`packet_text::read_packet`). Memory may be wanted for the parse.
+/// text (`read_packet`). Memory may be wanted for the parse.
 pub fn read_check_command(
     alloc: Global,
     words: &[String],

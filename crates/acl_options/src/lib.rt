@@ -1,4 +1,4 @@
-//! The words of the command lines of all programs, and what they ask for.
+//! The words of the command lines of all programs and what they ask for, and packets as text.
 #![tactic(auto)]
 
 mod check_commands;
@@ -6,6 +6,9 @@ mod commands;
 mod inputs;
 mod laws;
 mod options;
+mod packet_laws;
+mod packet_putting;
+mod packet_reading;
 mod tool_commands;
 mod workload_words;
 
@@ -16,5 +19,8 @@ pub use laws::{
     tool_requests_are_asked_for,
 };
 pub use options::{Options, read_options};
+pub use packet_laws::{packets_are_read_again, texts_have_one_packet};
+pub use packet_putting::put_packet;
+pub use packet_reading::read_packet;
 pub use tool_commands::{ToolCommand, read_tool_command};
 pub use workload_words::read_workload;

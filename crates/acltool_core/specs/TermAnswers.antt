@@ -12,7 +12,7 @@ use Rattle.acl_policy.specs.declared.blocks.Block.{Block}
 use Rattle.acl_terms.specs.declared.terms.Term.{Term}
 use Rattle.acl_load.specs.declared.policy_loading.Loaded.{Loaded}
 use Rattle.acl_load.specs.LoadedPolicies.{FirstFaultOr, LoadsPolicy}
-use Rattle.packet_text.specs.PacketTexts.{packet_text}
+use Rattle.acl_options.specs.PacketTexts.{packet_text}
 use Rattle.acl_report.specs.Reports.{term_text}
 use Rattle.acl_options.specs.Commands.{Inputs}
 use Rattle.acl_run.specs.Finishing.{IsTextOf}

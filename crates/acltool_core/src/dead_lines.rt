@@ -7,7 +7,7 @@ use acl_splice::Sources;
 use acl_target::{Target, put_target};
 use acl_terms::Term;
 use acl_text::{Memory, Out, PutFault, Whole};
-use packet_text::put_packet;
+use acl_options::put_packet;
 
 fn put_decided(text: &mut Whole, decided: &Decided) -> Result<(), PutFault>
     requires { text.old.is_open ≡ true }

@@ -3,7 +3,6 @@ mod looks;
 mod machine;
 mod memory;
 mod names;
-mod packet_texts;
 mod packets;
 mod rows;
 mod sets;

@@ -5,6 +5,7 @@ mod failures;
 mod hostile;
 mod jobs;
 mod options;
+mod packet_texts;
 mod runs;
 mod tool_commands;
 mod tool_runs;

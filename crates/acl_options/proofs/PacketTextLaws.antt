@@ -27,8 +27,8 @@ use Rattle.acl_text.proofs.Dotted.{ipv4-lacks, ipv4-printed}
 use Rattle.acl_text.proofs.OptionStepLaws.{bound, bound_on, same_bytes}
 use Rattle.acl_text.proofs.Printed.{IsForeign, ipv6-lacks, ipv6-printed}
 use Rattle.acl_rows.specs.Rows.{spaced}
-use Rattle.packet_text.specs.PacketTexts.{IsPacketText, conn_text, packet_text, words_behind}
-use Rattle.packet_text.specs.PacketTextSteps.{address_ahead, alone_in, conn_in, fits, number_ahead, packet_behind, packet_in}
+use Rattle.acl_options.specs.PacketTexts.{IsPacketText, conn_text, packet_text, words_behind}
+use Rattle.acl_options.specs.PacketTextSteps.{address_ahead, alone_in, conn_in, fits, number_ahead, packet_behind, packet_in}
 
 -- ---- the fields
 

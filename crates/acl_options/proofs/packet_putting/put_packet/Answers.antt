@@ -3,8 +3,8 @@ use Rattle.std.proofs.lemmas.Result.{err_from_is_err_and}
 use Rattle.acl_rows.specs.Rows.{spaced}
 use Rattle.acl_text.proofs.Putting.{goes_on, stops}
 use Rattle.acl_text.specs.AddressTexts.{address_text}
-use Rattle.packet_text.specs.PacketTexts.{packet_text, words_behind}
-use Rattle.packet_text.proofs.putting.put_packet.Goals as goal
+use Rattle.acl_options.specs.PacketTexts.{packet_text, words_behind}
+use Rattle.acl_options.proofs.packet_putting.put_packet.Goals as goal
 
 pub returns-in_err-put_address : goal.returns-in_err-put_address
 unfolding packet_text

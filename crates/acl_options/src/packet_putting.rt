@@ -2,7 +2,7 @@ ghost use Rattle.std.specs.Prelude.{◌≡◌, [], ◌∷◌, IsTrue, decimal};
 ghost use Rattle.acl_rows.specs.Rows.{spaced};
 ghost use Rattle.acl_text.specs.AddressTexts.{address_text};
 ghost use Rattle.acl_text.specs.Puts.{Puts};
-ghost use Rattle.packet_text.specs.PacketTexts.{conn_text, packet_text, words_behind};
+ghost use Rattle.acl_options.specs.PacketTexts.{conn_text, packet_text, words_behind};
 
 use acl_packet::{Conn, Packet};
 use acl_rows::{Address, Number, OneWord, Words};

@@ -1,8 +1,8 @@
 ghost use Rattle.std.specs.Prelude.{◌≡◌, ℕ, List, Some};
 ghost use Rattle.acl_packet.specs.Packets.{IsPacket};
 ghost use Rattle.acl_packet.specs.declared.packets.Packet.{Packet};
-ghost use Rattle.packet_text.specs.PacketTexts.{IsPacketText, packet_text};
-ghost use Rattle.packet_text.specs.PacketTextSteps.{packet_in};
+ghost use Rattle.acl_options.specs.PacketTexts.{IsPacketText, packet_text};
+ghost use Rattle.acl_options.specs.PacketTextSteps.{packet_in};
 
 /// What `put_packet` puts of a packet is read as that packet.
 pub fn packets_are_read_again()

@@ -1,5 +1,5 @@
-use Rattle.packet_text.proofs.PacketTextLaws.{packet_none, packet_some}
-use Rattle.packet_text.proofs.reading.read_packet.Goals as goal
+use Rattle.acl_options.proofs.PacketTextLaws.{packet_none, packet_some}
+use Rattle.acl_options.proofs.packet_reading.read_packet.Goals as goal
 
 pub returns-clause-some : goal.returns-clause-some
 returns-clause-some c = packet_some c.args.text.now c.packet_of.result c.packet_of.ensures

@@ -1,8 +1,8 @@
 use Rattle.std.proofs.Common.{◌∙◌, sym, Some, None}
 use Rattle.std.proofs.lemmas.Bool.{cond-true, cond-false}
-use Rattle.packet_text.specs.PacketTextSteps.{fits}
-use Rattle.packet_text.proofs.PacketTextLaws.{fits-as}
-use Rattle.packet_text.proofs.reading.if_fits.Goals as goal
+use Rattle.acl_options.specs.PacketTextSteps.{fits}
+use Rattle.acl_options.proofs.PacketTextLaws.{fits-as}
+use Rattle.acl_options.proofs.packet_reading.if_fits.Goals as goal
 
 pub returns-then-is_packet : goal.returns-then-is_packet
 returns-then-is_packet c =

@@ -1,7 +1,7 @@
 ghost use Rattle.std.specs.Prelude.{◌≡◌, IfNone, IfSome, option_map};
 ghost use Rattle.acl_packet.specs.declared.packets.Packet.{Packet as PacketData};
-ghost use Rattle.packet_text.specs.PacketTexts.{IsPacketText};
-ghost use Rattle.packet_text.specs.PacketTextSteps.{
+ghost use Rattle.acl_options.specs.PacketTexts.{IsPacketText};
+ghost use Rattle.acl_options.specs.PacketTextSteps.{
   address_ahead,
   alone_in,
   conn_in,
