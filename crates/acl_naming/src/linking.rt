@@ -11,7 +11,6 @@ use std::marker::Model;
 
 /// A table, and for each of its definitions where those of its names stand, each looked up once. A contract sees the
 /// table.
-#[derive(Drop)]
 pub struct LinkedTable {
     table: Table,
     links: Links,
@@ -29,6 +28,15 @@ impl Model for LinkedTable {
     ghost view = { λ t. t.table };
 
     ghost invariant = { λ t. t.links ≡ graph_of t.table };
+}
+
+// Where a table is let go, that is one step, whatever it holds.
+impl Drop for LinkedTable {
+    fn drop(self) {
+        let LinkedTable { table, links } = self;
+        drop(table);
+        drop(links);
+    }
 }
 
 fn links_of(alloc: Global, table: &Table) -> Result<Links, Memory>

@@ -117,29 +117,34 @@ fn first_steps(alloc: Global, table: &LinkedTable) -> Result<Vec<SearchStep>, Me
     Ok(steps)
 }
 
-fn search(alloc: Global, table: &LinkedTable) -> Result<Vec<usize>, Memory>
-    ensures { IfOk result (λ v. length v.items ≡ length table.now) }
+// Searches from each definition, and gives each its rank.
+fn rank_all(
+    alloc: Global,
+    table: &LinkedTable,
+    entered: &mut [bool],
+    ranks: &mut [usize],
+) -> Result<(), Memory>
+    requires fits { length entered.old ≡ length table.now }
+    requires ranked { length ranks.old ≡ length table.now }
 {
-    let mut ranks = vec![in alloc; 0; table.len()]?;
-    let mut entered = no_marks(alloc, table)?;
     let mut steps = first_steps(alloc, table)?;
     let mut path = Vec::new(alloc);
     let mut next = usize::MAX;
     while let Some(step) = steps.pop() {
         match step {
-            SearchStep::Enter(index) => {
-                enter(
-                    table,
-                    index,
-                    &mut entered,
-                    &mut steps,
-                    &mut path,
-                    &mut ranks,
-                )?
-            }
-            SearchStep::Leave(index) => leave(table, index, &mut path, &mut ranks, &mut next),
+            SearchStep::Enter(index) => enter(table, index, entered, &mut steps, &mut path, ranks)?,
+            SearchStep::Leave(index) => leave(table, index, &mut path, ranks, &mut next),
         }
     }
+    Ok(())
+}
+
+fn search(alloc: Global, table: &LinkedTable) -> Result<Vec<usize>, Memory>
+    ensures { IfOk result (λ v. length v.items ≡ length table.now) }
+{
+    let mut entered = no_marks(alloc, table)?;
+    let mut ranks = vec![in alloc; 0; table.len()]?;
+    rank_all(alloc, table, &mut entered, &mut ranks)?;
     Ok(ranks)
 }
 
