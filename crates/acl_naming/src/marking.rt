@@ -34,12 +34,6 @@ fn mark_links(links: &[usize], marks: &mut Marks, places: &mut Vec<usize>) -> Re
     Ok(())
 }
 
-pub fn no_marks(alloc: Global, table: &LinkedTable) -> Result<Vec<bool>, Memory>
-    ensures { IfOk result (λ v. v.items ≡ blank table.now) }
-{
-    Ok(vec![in alloc; false; table.len()]?)
-}
-
 // Each place is looked at once, in the order in which the places were found.
 fn follow_links(
     alloc: Global,

@@ -147,7 +147,6 @@ impl LineReader {
         }
     }
 
-    #[tactic(auto, unfolding(crate::specs::NamingFiles::with_definition))]
     fn define(self, table: &mut Table, name: &[u8], rest: &[u8]) -> Result<(), Refusal>
         ensures gives { Leaves slip_told table.new result
             (with_definition self.kind self.place table.old name.now rest.now) }

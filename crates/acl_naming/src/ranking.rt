@@ -4,7 +4,6 @@ ghost use Rattle.acl_naming.specs.declared.ranking.SearchStep.TheVariants.{Enter
 ghost use Rattle.acl_naming.specs.RankSteps.{IsStepOf, NeverFall, rank_at, steps_left};
 
 use crate::linking::LinkedTable;
-use crate::marking::no_marks;
 use acl_text::Memory;
 use std::alloc::Global;
 
@@ -142,7 +141,7 @@ fn rank_all(
 fn search(alloc: Global, table: &LinkedTable) -> Result<Vec<usize>, Memory>
     ensures { IfOk result (λ v. length v.items ≡ length table.now) }
 {
-    let mut entered = no_marks(alloc, table)?;
+    let mut entered = vec![in alloc; false; table.len()]?;
     let mut ranks = vec![in alloc; 0; table.len()]?;
     rank_all(alloc, table, &mut entered, &mut ranks)?;
     Ok(ranks)

@@ -85,29 +85,7 @@ fn push_reached(
     Ok(())
 }
 
-/// Puts the ranges of what the name reaches behind the others.
-pub fn add_ranges(
-    alloc: Global,
-    linked: &LinkedTable,
-    wanted: Wanted,
-    name: &[u8],
-    marks: &mut Marks,
-    out: &mut Vec<Range>,
-) -> Result<(), Lookup>
-    ensures reached { OnOk result (AddsReach linked.now name.now wanted out.old.items out.new.items) }
-    ensures unknown { (result ≡ Err Lookup.Unknown) ↔ (index_of linked.now name.now ≡ None) }
-    ensures no_port { result ≡ Err Lookup.NoPort → ⊥ }
-{
-    let table = linked.table();
-    let Some(index) = table.index_of(name) else {
-        return Err(Lookup::Unknown);
-    };
-    let places = places_behind(alloc, linked, index, marks)?;
-    push_reached(out, table, index, &places, wanted)?;
-    Ok(())
-}
-
-/// The same of the addresses of both families, in one walk.
+/// Puts the addresses of both families that the name reaches behind others, in one walk.
 pub fn add_addresses(
     alloc: Global,
     linked: &LinkedTable,
@@ -144,14 +122,12 @@ pub fn ranges_of(
     ensures unknown { (result ≡ Err Lookup.Unknown) ↔ (index_of linked.now name.now ≡ None) }
     ensures no_port { result ≡ Err Lookup.NoPort → ⊥ }
 {
+    let table = linked.table();
+    let Some(index) = table.index_of(name) else {
+        return Err(Lookup::Unknown);
+    };
+    let places = places_behind(alloc, linked, index, &mut Marks::new(alloc))?;
     let mut out = Vec::new(alloc);
-    add_ranges(
-        alloc,
-        linked,
-        wanted,
-        name,
-        &mut Marks::new(alloc),
-        &mut out,
-    )?;
+    push_reached(&mut out, table, index, &places, wanted)?;
     Ok(out)
 }

@@ -1,0 +1,77 @@
+use Rattle.std.proofs.Common.{◌≡◌, ℕ, Bool, true, false, not, nat_le, is_some, if◌then◌else◌, List, [], ◌∷◌, ◌++◌, length, Err, refl, ap, sym, subst, ◌∙◌}
+use Rattle.std.proofs.lemmas.Bool.{cond-false, cond-true}
+use Rattle.acl_text.specs.declared.faults.Code.TheVariants as codes
+use Rattle.acl_text.specs.declared.faults.Place.{Place}
+use Rattle.acl_text.specs.Answers.{Leaves, slip_told}
+use Rattle.acl_text.specs.Cursors.{words_of}
+use Rattle.acl_text.specs.Names.{is_name}
+use Rattle.acl_text.specs.Refusals.{slip}
+use Rattle.acl_naming.specs.declared.item_words.NamingKind.{NamingKind}
+use Rattle.acl_naming.specs.Definitions.{Definition, index_of}
+use Rattle.acl_naming.specs.NamingFiles.{TableOrSlip, items_added, most, with_definition}
+use Rattle.acl_naming.proofs.ReadLaws.{refuses_slip}
+use Rattle.acl_naming.proofs.naming_files.LineReader.define.Goals as goal
+
+module _ (kind : NamingKind) (place : Place) (ds : List Definition) (name rest : List ℕ) where
+  unnamed : is_name name ≡ false → with_definition kind place ds name rest ≡ Err (slip codes.BadName place name)
+  unfolding with_definition
+  unnamed h = cond-true (not (is_name name)) _ _ (ap not h)
+
+  full : is_name name ≡ true → nat_le most (length ds) ≡ true → with_definition kind place ds name rest
+      ≡ Err (slip (if is_some (index_of ds name) then codes.Twice else codes.TooMany) place name)
+  unfolding with_definition
+  full h k = cond-false (not (is_name name)) _ _ (ap not h) ∙ by (is_some (index_of ds name)) _ k
+    where
+      by : (b : Bool) (o : TableOrSlip) → nat_le most (length ds) ≡ true
+          → (if b then Err (slip codes.Twice place name)
+          else if nat_le most (length ds) then Err (slip codes.TooMany place name) else o)
+          ≡ Err (slip (if b then codes.Twice else codes.TooMany) place name)
+      by true o k = refl
+      by false o k = cond-true (nat_le most (length ds)) _ _ k
+
+  twice : is_name name ≡ true → is_some (index_of ds name) ≡ true → with_definition kind place ds name rest
+      ≡ Err (slip codes.Twice place name)
+  unfolding with_definition
+  twice h k = cond-false (not (is_name name)) _ _ (ap not h) ∙ cond-true (is_some (index_of ds name)) _ _ k
+
+  defined : is_name name ≡ true → is_some (index_of ds name) ≡ false → nat_le most (length ds) ≡ false
+      → with_definition kind place ds name rest
+      ≡ items_added kind place (ds ++ record { name = name; place = place; items = [] } ∷ []) (words_of rest)
+  unfolding with_definition
+  defined h k l = cond-false (not (is_name name)) _ _ (ap not h) ∙ cond-false (is_some (index_of ds name)) _ _ k
+      ∙ cond-false (nat_le most (length ds)) _ _ l
+
+is_not : (b c : Bool) → c ≡ not b → (added : Bool) → c ≡ added → b ≡ not added
+is_not true c e added f = ap not (sym e ∙ f)
+is_not false c e added f = ap not (sym e ∙ f)
+
+pub returns-then-not-is_name-clause-gives : goal.returns-then-not-is_name-clause-gives
+returns-then-not-is_name-clause-gives c =
+    let a = c.args in
+    refuses_slip (slip codes.BadName a.self.place a.name.now) c.refusal.result _ c.refusal.ensures
+    (unnamed a.self.kind a.self.place a.table.now a.name.now a.rest.now (sym c.is_name.ensures ∙ c.if-not-is_name.true))
+
+pub returns-then-is_full-clause-gives : goal.returns-then-is_full-clause-gives
+returns-then-is_full-clause-gives c =
+    let a = c.args in
+    refuses_slip _ c.no_room.result _ c.no_room.ensures
+    (full a.self.kind a.self.place a.table.now a.name.now a.rest.now (sym c.is_name.ensures ∙ c.if-not-is_name.false)
+    (sym c.is_full.ensures ∙ c.if-is_full.true))
+
+pub returns-then-not-branch-clause-gives : goal.returns-then-not-branch-clause-gives
+returns-then-not-branch-clause-gives c =
+    let a = c.args in
+    refuses_slip (slip codes.Twice a.self.place a.name.now) c.refusal-then-not-branch.result _ c.refusal-then-not-branch.ensures
+    (twice a.self.kind a.self.place a.table.now a.name.now a.rest.now (sym c.is_name.ensures ∙ c.if-not-is_name.false)
+    (is_not (is_some (index_of a.table.now a.name.now)) _ c.in_ok-add.ensures.told false c.if-not-branch.true))
+
+pub returns-clause-gives : goal.returns-clause-gives
+returns-clause-gives c =
+    let a = c.args in
+    subst (λ o. Leaves slip_told c.add_items.new.table c.add_items.result o)
+    (ap (λ ds. items_added a.self.kind a.self.place ds (words_of a.rest.now)) (c.in_ok-add.ensures.added c.if-not-branch.false)
+    ∙ sym (defined a.self.kind a.self.place a.table.now a.name.now a.rest.now
+    (sym c.is_name.ensures ∙ c.if-not-is_name.false)
+    (is_not (is_some (index_of a.table.now a.name.now)) _ c.in_ok-add.ensures.told true c.if-not-branch.false)
+    (sym c.is_full.ensures ∙ c.if-is_full.false)))
+    c.add_items.ensures.gives
