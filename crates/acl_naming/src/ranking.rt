@@ -165,10 +165,11 @@ pub fn ranks(alloc: Global, table: &LinkedTable) -> Result<Vec<usize>, Memory>
     ensures fits { IfOk result (λ v. length v.items ≡ length table.now) }
     ensures steady { IfOk result (λ v. NeverFall table.now v.items) }
 {
-    let ranks = search(alloc, table)?;
+    let mut ranks = search(alloc, table)?;
     if never_fall(table, &ranks) {
         return Ok(ranks);
     }
     // the search is right, so this is not come to; equal ranks are right whatever it is
-    Ok(vec![in alloc; 0; table.len()]?)
+    ranks.fill(0);
+    Ok(ranks)
 }
