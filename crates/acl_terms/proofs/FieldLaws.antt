@@ -34,10 +34,10 @@ told-same numbers = λ j field. by-field (λ f. told numbers f ≡ numbers f) re
 pub sets_are : (n : Naming) (raw : RawTerm) (p : TermParts)
     → IsAddressSet n V4 raw p.ends.src.v4 p.ends.dst.v4 p.ends.either.v4
     → IsAddressSet n V6 raw p.ends.src.v6 p.ends.dst.v6 p.ends.either.v6
-    → IsSetOf (IsProtocol raw.protocols) 255 p.protos
-    → IsPortSet n (protocols_of raw.protocols) raw p.ports.sports p.ports.dports p.ports.ports
-    → IsSetOf (IsType (icmp_family (protocols_of raw.protocols)) raw.icmp_types) 255 p.itypes
-    → IsSetOf (IsCode raw.icmp_codes) 255 p.icodes
+    → IsSetOf (IsProtocol raw.protocols) 255 p.numbers.protos
+    → IsPortSet n (protocols_of raw.protocols) raw p.numbers.ports.sports p.numbers.ports.dports p.numbers.ports.ports
+    → IsSetOf (IsType (icmp_family (protocols_of raw.protocols)) raw.icmp_types) 255 p.numbers.itypes
+    → IsSetOf (IsCode raw.icmp_codes) 255 p.numbers.icodes
     → AreSetsOf n raw (sets_by p)
 sets_are n raw p four six protos ports itypes icodes = record {
   ipv4 = four;

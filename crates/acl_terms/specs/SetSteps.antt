@@ -76,6 +76,6 @@ sets_by p = record {
   dst6 = p.ends.dst.v6;
   addr4 = p.ends.either.v4;
   addr6 = p.ends.either.v6;
-  numbers = by_field p.protos p.ports.sports p.ports.dports p.itypes p.icodes;
-  ports = p.ports.ports;
+  numbers = by_field p.numbers.protos p.numbers.ports.sports p.numbers.ports.dports p.numbers.itypes p.numbers.icodes;
+  ports = p.numbers.ports.ports;
 }

@@ -19,25 +19,6 @@ pub(crate) struct Ends {
     pub(crate) either: Addresses,
 }
 
-// The addresses of a term's ends, end by end, and those of either end.
-fn by_ends<'a>(
-    alloc: Global,
-    raw: &'a RawTerm,
-    known: &mut KnownAddresses<'a>,
-) -> Result<Ends, Refusal>
-    ensures judged { Judges result (ends_slip known.old.networks raw.now) }
-    ensures v4 { IfOk result (λ e.
-        IsAddressSet known.old V4 raw.now e.src.v4 e.dst.v4 e.either.v4) }
-    ensures v6 { IfOk result (λ e.
-        IsAddressSet known.old V6 raw.now e.src.v6 e.dst.v6 e.either.v6) }
-    ensures same { known.new ≡ known.old }
-{
-    let src = known.end_of(alloc, &raw.sources, &raw.source_excludes)?;
-    let dst = known.end_of(alloc, &raw.destinations, &raw.destination_excludes)?;
-    let either = known.addresses_of(alloc, &raw.addresses)?;
-    Ok(Ends { src, dst, either })
-}
-
 /// The addresses of a term's ends, or the first name that no network has.
 #[tactic(auto, using(crate::proofs::SlipLaws::networks_by_ends))]
 pub(crate) fn ends_of<'a>(
@@ -52,5 +33,8 @@ pub(crate) fn ends_of<'a>(
         IsAddressSet known.old V6 raw.now e.src.v6 e.dst.v6 e.either.v6) }
     ensures same { known.new ≡ known.old }
 {
-    by_ends(alloc, raw, known)
+    let src = known.end_of(alloc, &raw.sources, &raw.source_excludes)?;
+    let dst = known.end_of(alloc, &raw.destinations, &raw.destination_excludes)?;
+    let either = known.addresses_of(alloc, &raw.addresses)?;
+    Ok(Ends { src, dst, either })
 }

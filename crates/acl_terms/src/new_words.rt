@@ -9,7 +9,6 @@ use std::marker::Model;
 
 /// The words of a list that are not yet given. Where a text stands more than once, only its first word is
 /// given. A contract sees the list of the words to come.
-#[derive(Drop)]
 pub(crate) struct NewWords<'a> {
     seen: IndexSet<&'a [u8]>,
     ahead: Option<WordRef<'a>>,
@@ -27,6 +26,16 @@ impl<'a> Model for NewWords<'a> {
     ghost view = { λ s. new_words (views s.seen.keys) (option_to_list s.ahead ++ s.words) };
 
     ghost invariant = { λ s. s.ahead ≡ None → s.words ≡ [] };
+}
+
+// Where they are let go, that is one step, whatever they hold.
+impl<'a> Drop for NewWords<'a> {
+    fn drop(self) {
+        let NewWords { seen, ahead, words } = self;
+        drop(seen);
+        drop(ahead);
+        drop(words);
+    }
 }
 
 impl<'a> NewWords<'a> {

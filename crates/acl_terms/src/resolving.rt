@@ -22,14 +22,18 @@ use acl_sets::RangeSet;
 use acl_text::{Bytes, Memory, Refusal, note};
 use std::alloc::Global;
 
-// The sets of a term.
-#[derive(Drop)]
-struct TermParts {
-    ends: Ends,
+// The sets of a term that are none of addresses.
+struct NumberSets {
     protos: RangeSet,
     ports: TermPorts,
     itypes: RangeSet,
     icodes: RangeSet,
+}
+
+// The sets of a term.
+struct TermParts {
+    ends: Ends,
+    numbers: NumberSets,
 }
 
 // The ports of the term, or the first slip that it has at words that are no names of addresses.
@@ -67,6 +71,33 @@ fn number_sets(
     Ok((admitted, itypes, admitted_codes(alloc, &raw.icmp_codes)?))
 }
 
+// All of these.
+fn numbers_of(
+    alloc: Global,
+    base: &Checked,
+    protos: &[u8],
+    raw: &RawTerm,
+) -> Result<NumberSets, Refusal>
+    requires { protos.now ≡ protocols_of raw.now.protocols }
+    ensures judged { Judges result (first_some (port_protocol_slip protos.now raw.now
+        ∷ services_slip base.now.services protos.now raw.now ∷ words_slips protos.now raw.now)) }
+    ensures ports { IfOk result (λ s.
+        IsPortSet base.now protos.now raw.now s.ports.sports s.ports.dports s.ports.ports) }
+    ensures protos { IfOk result (λ s. IsSetOf (IsProtocol raw.now.protocols) 255 s.protos) }
+    ensures types { IfOk result (λ s.
+        IsSetOf (IsType (icmp_family protos.now) raw.now.icmp_types) 255 s.itypes) }
+    ensures codes { IfOk result (λ s. IsSetOf (IsCode raw.now.icmp_codes) 255 s.icodes) }
+{
+    let ports = checked_ports(alloc, base, protos, raw)?;
+    let (protos, itypes, icodes) = number_sets(alloc, protos, raw)?;
+    Ok(NumberSets {
+        protos,
+        ports,
+        itypes,
+        icodes,
+    })
+}
+
 // The sets of the term with its protocols, or its first slip.
 #[tactic(auto, unfolding(crate::specs::Slips::slip_of))]
 fn parts_with<'a>(
@@ -82,15 +113,8 @@ fn parts_with<'a>(
 {
     let base = known.base();
     let ends = ends_of(alloc, raw, known)?;
-    let ports = checked_ports(alloc, base, protos, raw)?;
-    let (protos, itypes, icodes) = number_sets(alloc, protos, raw)?;
-    Ok(TermParts {
-        ends,
-        protos,
-        ports,
-        itypes,
-        icodes,
-    })
+    let numbers = numbers_of(alloc, base, protos, raw)?;
+    Ok(TermParts { ends, numbers })
 }
 
 // The sets of the term, or its first slip.
@@ -163,14 +187,16 @@ pub fn resolve_with<'a>(
     let parts = parts_of(alloc, raw, known)?;
     let TermParts {
         ends: Ends { src, dst, either },
-        protos,
-        ports: TermPorts {
-            sports,
-            dports,
-            ports,
+        numbers: NumberSets {
+            protos,
+            ports: TermPorts {
+                sports,
+                dports,
+                ports,
+            },
+            itypes,
+            icodes,
         },
-        itypes,
-        icodes,
     } = parts;
     Ok(Term {
         name,

@@ -11,16 +11,11 @@ pub returns-clause-sets : goal.returns-clause-sets
 returns-clause-sets c =
     let n = c.args.known.now in
     let raw = c.args.raw.now in
-    let p : TermParts = record {
-      ends = c.in_ok-ends.ends;
-      protos = c.in_ok-protos.protos;
-      ports = c.in_ok-ports.ports;
-      itypes = c.in_ok-protos.itypes;
-      icodes = c.in_ok-protos.icodes;
-    } in
-    let reached = rw c.base-base.ensures at c.in_ok-ports.ensures.ports in
-    let ports = subst (λ (qs : List ℕ). IsPortSet n qs raw p.ports.sports p.ports.dports p.ports.ports) c.requires reached in
-    let types = subst (λ (f : Option Family). IsSetOf (IsType f raw.icmp_types) 255 p.itypes) (ap icmp_family c.requires)
-    c.in_ok-protos.ensures.types in
-    sets_are n raw p c.in_ok-ends.ensures.v4 c.in_ok-ends.ensures.v6 c.in_ok-protos.ensures.protos ports types
-    c.in_ok-protos.ensures.codes
+    let s = c.in_ok-numbers.numbers in
+    let p : TermParts = record { ends = c.in_ok-ends.ends; numbers = s } in
+    let reached = rw c.base-base.ensures at c.in_ok-numbers.ensures.ports in
+    let ports = subst (λ (qs : List ℕ). IsPortSet n qs raw s.ports.sports s.ports.dports s.ports.ports) c.requires reached in
+    let types = subst (λ (f : Option Family). IsSetOf (IsType f raw.icmp_types) 255 s.itypes) (ap icmp_family c.requires)
+    c.in_ok-numbers.ensures.types in
+    sets_are n raw p c.in_ok-ends.ensures.v4 c.in_ok-ends.ensures.v6 c.in_ok-numbers.ensures.protos ports types
+    c.in_ok-numbers.ensures.codes
