@@ -8,11 +8,10 @@ ghost use Rattle.acl_text.specs.Answers.{Gives, Leaves};
 ghost use Rattle.acl_host.specs.WholeFiles.{ReadsFiles, read_told};
 
 use crate::folders::folder_of;
-use crate::partial_splices::{MOST_OF_FILE, PartialSplice};
+use crate::partial_splices::PartialSplice;
 use crate::sources::Sources;
 use crate::splicing::SplicedFile;
-use acl_host::{ReadFault, Tree, TreeFault};
-use acl_text::{Code, Fault};
+use acl_host::{ReadFault, Tree};
 use std::alloc::Global;
 use std::str;
 
@@ -58,17 +57,11 @@ fn gather_into<T: Tree>(
     ensures reads { ReadsFiles T.Tree tree.old tree.new result }
     ensures labelled { OnOk result (IsLabelled sources.new) }
 {
-    match tree.read(alloc, path, MOST_OF_FILE + 1) {
-        Ok(bytes) => {
-            let policy = SplicedFile {
-                folder: folder(path),
-                levels: 8,
-                label: path.as_bytes(),
-            };
-            policy.add(alloc, tree, sources, bytes.as_slice())
-        }
-        Err(TreeFault::Absent) => Err(ReadFault::Fault(Fault::of_file(alloc, Code::NoFile, path)?)),
-        Err(TreeFault::Failed) => Err(ReadFault::Outside),
-        Err(TreeFault::Memory) => Err(ReadFault::Memory),
-    }
+    let policy = SplicedFile {
+        folder: folder(path),
+        levels: 8,
+        label: path.as_bytes(),
+    };
+    let bytes = policy.read(alloc, tree, 0, b"", path)?;
+    policy.add(alloc, tree, sources, bytes.as_slice())
 }

@@ -1,17 +1,19 @@
-ghost use Rattle.std.specs.Prelude.{◌≡◌, ◌≤◌, ◌<◌, ◌++◌, true, length, IfSome, IfOk, OnOk};
+ghost use Rattle.std.specs.Prelude.{◌≡◌, ◌≤◌, ◌<◌, ◌++◌, true, false, length, IfSome, IfOk, OnOk};
 ghost use Rattle.std.specs.String.{string_bytes};
 ghost use Rattle.acl_words.specs.LineTexts.{HasNoFeed};
 ghost use Rattle.acl_splice.specs.IncludeLines.{is_path, asked_in};
 ghost use Rattle.acl_splice.specs.Labels.{GoesOn};
+ghost use Rattle.acl_splice.specs.ReadingSteps.{front_at};
 ghost use Rattle.acl_splice.specs.Splicing.{behind_line, behind_file, behind_include};
-ghost use Rattle.acl_text.specs.Answers.{Leaves};
+ghost use Rattle.acl_text.specs.Answers.{Gives, Leaves};
 ghost use Rattle.acl_text.specs.Refusals.{fault};
-ghost use Rattle.acl_host.specs.WholeFiles.{ReadsFiles, read_told};
+ghost use Rattle.acl_text.specs.declared.faults.Code.TheVariants.{NoFile};
+ghost use Rattle.acl_host.specs.WholeFiles.{ReadsFiles, is_no_reading, read_told};
 
 use crate::include_lines::{Asked, asked_in};
 use crate::partial_splices::{MOST_OF_FILE, PartialSplice};
 use acl_host::{ReadFault, Tree, TreeFault};
-use acl_text::{Code, Cursor, Fault, Memory, Place};
+use acl_text::{Bytes, Code, Cursor, Fault, Memory, Place};
 use std::alloc::{AllocError, Global};
 use std::str;
 
@@ -51,11 +53,38 @@ pub(crate) struct SplicedFile<'a> {
 }
 
 impl<'a> SplicedFile<'a> {
-    /// The fault of the code at a line of the file.
-    fn fault(&self, alloc: Global, code: Code, line: u32, word: &[u8]) -> Result<Fault, Memory>
-        ensures { IfOk result (λ f. f ≡ fault code self.now.label.now line word.now) }
+    /// Why the file is not taken: the fault of the code at a line of it, or memory where there is none for its word.
+    fn refusal(&self, alloc: Global, code: Code, line: u32, word: &[u8]) -> ReadFault
+        ensures fault { IfSome (read_told result) (λ f.
+            f ≡ fault code self.now.label.now line word.now) }
+        ensures inside { is_no_reading result ≡ false }
     {
-        Fault::new(alloc, code, self.label, line, word)
+        match Fault::new(alloc, code, self.label, line, word) {
+            Ok(fault) => ReadFault::Fault(fault),
+            Err(Memory) => ReadFault::Memory,
+        }
+    }
+
+    /// The bytes of the file at the path, or one more of them than a file may have. The word at the line of this file
+    /// names it.
+    pub(crate) fn read<T: Tree>(
+        &self,
+        alloc: Global,
+        tree: &mut T,
+        line: u32,
+        word: &[u8],
+        path: &str,
+    ) -> Result<Bytes, ReadFault>
+        ensures gives { IfSome (T.files tree.old) (λ fs. Gives read_told result
+            (front_at (fault NoFile self.now.label.now line word.now) fs path.now)) }
+        ensures reads { ReadsFiles T.Tree tree.old tree.new result }
+    {
+        match tree.read(alloc, path, MOST_OF_FILE + 1) {
+            Ok(bytes) => Ok(bytes),
+            Err(TreeFault::Absent) => Err(self.refusal(alloc, Code::NoFile, line, word)),
+            Err(TreeFault::Failed) => Err(ReadFault::Outside),
+            Err(TreeFault::Memory) => Err(ReadFault::Memory),
+        }
     }
 
     /// The include line is met.
@@ -77,31 +106,20 @@ impl<'a> SplicedFile<'a> {
         ensures goes_on { OnOk result (GoesOn sources.old sources.new) }
     {
         if self.levels == 0 {
-            return Err(ReadFault::Fault(self.fault(alloc, Code::IncludeDepth, line, path)?));
+            return Err(self.refusal(alloc, Code::IncludeDepth, line, path));
         }
         if sources.includes() >= MOST_INCLUDES {
-            return Err(ReadFault::Fault(self.fault(alloc, Code::IncludeCount, line, path)?));
+            return Err(self.refusal(alloc, Code::IncludeCount, line, path));
         }
         sources.count_include();
         let inner = inner_path(alloc, self.folder, path)?;
-        match tree.read(alloc, inner.as_str(), MOST_OF_FILE + 1) {
-            Ok(bytes) => {
-                let included = SplicedFile {
-                    folder: self.folder,
-                    levels: self.levels - 1,
-                    label: inner.as_bytes(),
-                };
-                included.add(alloc, tree, sources, bytes.as_slice())
-            }
-            Err(TreeFault::Absent) => Err(ReadFault::Fault(self.fault(
-                alloc,
-                Code::NoFile,
-                line,
-                path,
-            )?)),
-            Err(TreeFault::Failed) => Err(ReadFault::Outside),
-            Err(TreeFault::Memory) => Err(ReadFault::Memory),
-        }
+        let bytes = self.read(alloc, tree, line, path, inner.as_str())?;
+        let included = SplicedFile {
+            folder: self.folder,
+            levels: self.levels - 1,
+            label: inner.as_bytes(),
+        };
+        included.add(alloc, tree, sources, bytes.as_slice())
     }
 
     /// A line of the file: it stands in the splice, or it is an include line.
@@ -127,12 +145,7 @@ impl<'a> SplicedFile<'a> {
                 sources.add_line(place, text)?;
                 Ok(())
             }
-            Asked::Wrong(path) => Err(ReadFault::Fault(self.fault(
-                alloc,
-                Code::IncludePath,
-                place.line,
-                path,
-            )?)),
+            Asked::Wrong(path) => Err(self.refusal(alloc, Code::IncludePath, place.line, path)),
             Asked::Wanted(path) => self.include(alloc, tree, sources, place.line, path),
         }
     }
@@ -156,7 +169,7 @@ impl<'a> SplicedFile<'a> {
         ensures labels { OnOk result (0 < length sources.new.labels) }
     {
         if sources.is_too_long(bytes.len()) {
-            return Err(ReadFault::Fault(self.fault(alloc, Code::TooLong, 0, b"")?));
+            return Err(self.refusal(alloc, Code::TooLong, 0, b""));
         }
         let file = sources.add_file(alloc, self.label, bytes.len())?;
         let mut cursor = Cursor::new(file, bytes);
