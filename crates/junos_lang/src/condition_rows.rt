@@ -1,7 +1,8 @@
 ghost use Rattle.std.specs.Prelude.{◌≡◌, ◌∷◌, [], codes};
 ghost use Rattle.acl_rows.specs.Rows.{row};
 ghost use Rattle.acl_rows.specs.RuleParts.{is_empty};
-ghost use Rattle.junos_lang.specs.ConditionSteps.{value_rows};
+ghost use Rattle.junos_lang.specs.ConditionSteps.{last_rows, value_rows};
+ghost use Rattle.junos_lang.specs.declared.conditions.Condition.TheVariants.{SourcePort, DestinationPort, IcmpType, IcmpCode};
 ghost use Rattle.junos_lang.specs.Texts.{address_rows, closing, condition_word, end_word, from_rows, list_row, list_rows, prefix_row, range_word, test_rows, test_words};
 
 use crate::conditions::Condition;
@@ -58,26 +59,8 @@ impl<'a, N: Values + Copy, P: Values + Copy> Rows for FromPart<'a, N, P> {
             condition: Condition::protocol_of(self.family),
             values: self.protos,
         };
-        let source_ports = ListRows {
-            condition: Condition::SourcePort,
-            values: self.sports,
-        };
-        let destination_ports = ListRows {
-            condition: Condition::DestinationPort,
-            values: self.dports,
-        };
-        let types = ListRows {
-            condition: Condition::IcmpType,
-            values: self.itypes,
-        };
-        let codes = ListRows {
-            condition: Condition::IcmpCode,
-            values: self.icodes,
-        };
-        let test = TestRows { test: self.test };
-        let headers = (types, (codes, test));
-        let ports = (source_ports, (destination_ports, headers));
-        let conditions = (sources, (destinations, (protocols, ports)));
+        let last = LastConditions { part: self };
+        let conditions = (sources, (destinations, (protocols, last)));
         ConditionBlock { conditions }.put_rows(out)
     }
 }
@@ -91,6 +74,72 @@ trait Conditions: Rows {
 impl<A: Conditions, B: Conditions> Conditions for (A, B) {
     fn is_none(&self) -> bool {
         self.0.is_none() && self.1.is_none()
+    }
+}
+
+// The conditions behind those on addresses and protocols.
+#[derive_where(Clone, Copy)]
+struct LastConditions<'b, 'a, N, P> {
+    part: &'b FromPart<'a, N, P>,
+}
+
+// Of source ports, destination ports, types, codes, and flags.
+type LastParts<N, P> = (
+    ListRows<P>,
+    (ListRows<P>, (ListRows<N>, (ListRows<N>, TestRows))),
+);
+
+impl<'b, 'a, N: Values + Copy, P: Values + Copy> LastConditions<'b, 'a, N, P> {
+    fn parts(&self) -> LastParts<N, P>
+        ensures { result ≡ (
+          record { condition = SourcePort; values = self.now.part.now.sports },
+          (
+            record { condition = DestinationPort; values = self.now.part.now.dports },
+            (
+              record { condition = IcmpType; values = self.now.part.now.itypes },
+              (
+                record { condition = IcmpCode; values = self.now.part.now.icodes },
+                record { test = self.now.part.now.test },
+              ),
+            ),
+          ),
+        ) }
+    {
+        let source_ports = ListRows {
+            condition: Condition::SourcePort,
+            values: self.part.sports,
+        };
+        let destination_ports = ListRows {
+            condition: Condition::DestinationPort,
+            values: self.part.dports,
+        };
+        let types = ListRows {
+            condition: Condition::IcmpType,
+            values: self.part.itypes,
+        };
+        let codes = ListRows {
+            condition: Condition::IcmpCode,
+            values: self.part.icodes,
+        };
+        let test = TestRows {
+            test: self.part.test,
+        };
+        (source_ports, (destination_ports, (types, (codes, test))))
+    }
+}
+
+impl<'b, 'a, N: Values + Copy, P: Values + Copy> Rows for LastConditions<'b, 'a, N, P> {
+    ghost rows = { λ c. last_rows (P.words c.part.now.sports) (P.words c.part.now.dports)
+        (N.words c.part.now.itypes) (N.words c.part.now.icodes) c.part.now.test };
+
+    fn put_rows<O: Out>(&self, out: &mut O) -> Result<(), PutFault> {
+        self.parts().put_rows(out)
+    }
+}
+
+impl<'b, 'a, N: Values + Copy, P: Values + Copy> Conditions for LastConditions<'b, 'a, N, P> {
+    fn is_none(&self) -> bool {
+        self.parts().is_none()
     }
 }
 
