@@ -1,11 +1,11 @@
 ghost use Rattle.std.specs.Prelude.{◌≡◌, ◌≤◌, ◌++◌, ℕ, IfOk, IfSome, List, OnOk, codes, if◌then◌else◌, length, not};
 ghost use Rattle.std.specs.List.{prefix_len};
 ghost use Rattle.std.specs.Option.{IsSomeAnd};
-ghost use Rattle.acl_rows.specs.RowSteps.{row_in};
+ghost use Rattle.acl_rows.specs.RowSteps.{row_in, rows_in};
 ghost use Rattle.acl_rows.specs.Rows.{is_space, row, text_of_rows};
 ghost use Rattle.junos_lang.specs.Documents.{IsTerm};
 ghost use Rattle.junos_lang.specs.ReadingSteps.{take_row};
-ghost use Rattle.junos_lang.specs.ScanSteps.{HasTerm, IsTermTaken, TakesTerm, ends_term, is_short, term_in};
+ghost use Rattle.junos_lang.specs.ScanSteps.{HasTerm, IsTermTaken, TakesTerm, ends_term, is_short, read_term, term_in};
 ghost use Rattle.junos_lang.specs.Texts.{note_rows};
 
 use crate::document_rows::{Note, TermRows};
@@ -76,20 +76,29 @@ fn name_in<'a>(text: &'a [u8], term: &JTerm) -> Option<&'a [u8]>
 }
 
 // Reads the rows up to one that ends the term.
-#[tactic(auto, using(acl_rows::proofs::RowLaws::first_row, acl_rows::proofs::RowLaws::last_row, acl_rows::proofs::RowLaws::rest_is_shorter), unfolding(crate::specs::ScanSteps::term_in))]
+#[tactic(auto, unfolding(crate::specs::ScanSteps::term_in))]
 fn read_term(alloc: Global, family: Family, text: &[u8]) -> Result<JTerm, Memory>
     ensures { IfOk result (λ term. term ≡ term_in family text.now) }
 {
     let mut draft = FiltersDraft::of_family(alloc, family);
+    take_rows(alloc, &mut draft, text)?;
+    Ok(draft.into_term())
+}
+
+// Takes the rows up to one that ends the term.
+#[tactic(auto, using(acl_rows::proofs::RowLaws::first_row, acl_rows::proofs::RowLaws::last_row, acl_rows::proofs::RowLaws::rest_is_shorter))]
+fn take_rows(alloc: Global, draft: &mut FiltersDraft, text: &[u8]) -> Result<(), Memory>
+    ensures { OnOk result (draft.new ≡ read_term draft.old (rows_in text.now)) }
+{
     let mut rest = text;
     while let Some((line, behind)) = split_at_byte(rest, b'\n') {
-        if !take_line(alloc, &mut draft, line)? {
-            return Ok(draft.into_term());
+        if !take_line(alloc, draft, line)? {
+            return Ok(());
         }
         rest = behind;
     }
-    take_line(alloc, &mut draft, rest)?;
-    Ok(draft.into_term())
+    take_line(alloc, draft, rest)?;
+    Ok(())
 }
 
 // Takes the row of the line, unless it ends the term. Whether it was taken.
