@@ -9,12 +9,25 @@ use std::alloc::Global;
 use std::marker::Model;
 
 /// A stream into memory, whose bytes can be read, and of which chosen writes fail.
-#[derive(Drop)]
 pub struct MemSink {
     bytes: Bytes,
     writes: Calls,
     faults: u64,
     refusals: u64,
+}
+
+// Where a sink is let go, that is one step, whatever it holds.
+impl Drop for MemSink {
+    fn drop(self) {
+        let MemSink {
+            bytes,
+            writes,
+            faults: _,
+            refusals: _,
+        } = self;
+        drop(bytes);
+        drop(writes);
+    }
 }
 
 impl Model for MemSink {

@@ -11,7 +11,6 @@ use std::alloc::Global;
 /// A tree in memory, whose files can be read, and of which chosen calls fail.
 ///
 /// It tells all its files. A call that is to fail changes no file.
-#[derive(Drop)]
 pub struct MemTree {
     alloc: Global,
     files: MemFiles,
@@ -27,6 +26,32 @@ pub struct MemTree {
     list_faults: u64,
     read_faults: u64,
     ghost begun_stands: { IfSome begun (λ i. IsSome (path_at i files.items.items)) } by { within-prop begun files.items.items },
+}
+
+// Where a tree is let go, that is one step, whatever it holds.
+impl Drop for MemTree {
+    fn drop(self) {
+        let MemTree {
+            alloc: _,
+            files,
+            begun: _,
+            lists,
+            reads,
+            begins,
+            appends,
+            finishes,
+            faults: _,
+            refusals: _,
+            list_faults: _,
+            read_faults: _,
+        } = self;
+        drop(files);
+        drop(lists);
+        drop(reads);
+        drop(begins);
+        drop(appends);
+        drop(finishes);
+    }
 }
 
 impl MemTree {
