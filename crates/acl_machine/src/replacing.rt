@@ -12,18 +12,34 @@ use std::{fs, io};
 const MOST_PARTIALS: u32 = 65_536;
 
 /// A file that is begun: its path, the file that is open, and where it is to lie.
-#[derive(Drop)]
 pub(crate) struct Opened<R: Files> {
     pub(crate) path: String,
     pub(crate) file: R::File,
     beside: Option<Beside>,
 }
 
+// Where a file is let go, that is one step.
+impl<R: Files> Drop for Opened<R> {
+    fn drop(self) {
+        let Opened { path, file, beside } = self;
+        drop(path);
+        drop(file);
+        drop(beside);
+    }
+}
+
 // The path of a file that is written beside another, and the path of that one, which it replaces.
-#[derive(Drop)]
 struct Beside {
     partial: String,
     target: String,
+}
+
+impl Drop for Beside {
+    fn drop(self) {
+        let Beside { partial, target } = self;
+        drop(partial);
+        drop(target);
+    }
 }
 
 // How a file is written.
