@@ -14,13 +14,22 @@ fn names_text<T: Tree>(alloc: Global, tree: &mut T, dir: &str) -> Result<String,
     }
 }
 
-pub(crate) fn spaced(alloc: Global, names: &[String]) -> Result<String, Memory> {
+// The names, each with a space behind it.
+fn spaced(alloc: Global, names: &[String]) -> Result<String, Memory> {
     let mut text = String::new(alloc);
     for name in names {
         text.push_str(name.as_str())?;
         text.push_str(" ")?;
     }
     Ok(text)
+}
+
+// Whether this is the text of the names.
+pub(crate) fn are_spaced_as(alloc: Global, names: &[String], text: &str) -> bool {
+    match spaced(alloc, names) {
+        Ok(found) => found.as_str() == text,
+        Err(_) => false,
+    }
 }
 
 fn fault_word(fault: TreeFault) -> &'static str {

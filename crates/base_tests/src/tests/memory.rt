@@ -1,6 +1,6 @@
 ghost use Rattle.std.specs.Prelude.{◌≡◌, None};
 
-use crate::tests::looks::{lacks, lists, reads, writes};
+use crate::tests::looks::{are_spaced_as, lacks, lists, reads, writes};
 use acl_days::Day;
 use acl_host::{
     Clock, ClockFault, ListFault, ReadFault, Sink, Tree, WriteFault, join_path, listing,
@@ -77,14 +77,11 @@ fn is_longer<T: Tree>(alloc: Global, tree: &mut T, path: &str, most: u32) -> boo
 }
 
 // Whether the folder has just these files.
-fn has_three<T: Tree>(alloc: Global, tree: &mut T, dir: &str, files: [&str; 3]) -> bool
+fn has_files<T: Tree>(alloc: Global, tree: &mut T, dir: &str, files: &str) -> bool
     ensures { T.begun tree.new ≡ T.begun tree.old }
 {
     match listing(alloc, tree, dir) {
-        Ok(names) => match names.as_slice() {
-            [one, two, three] => [one.as_str(), two.as_str(), three.as_str()] == files,
-            _ => false,
-        },
+        Ok(names) => are_spaced_as(alloc, names.as_slice(), files),
         Err(_) => false,
     }
 }
@@ -103,7 +100,7 @@ fn is_read_whole<T: Tree>(alloc: Global, tree: &mut T) -> bool
 {
     gives(alloc, tree, "def/n.net", 4, b"A = ")
         && is_longer(alloc, tree, "def/n.net", 3)
-        && has_three(alloc, tree, "def/", ["B.net", "a.svc", "n.net"])
+        && has_files(alloc, tree, "def/", "B.net a.svc n.net ")
         && is_no_folder(alloc, tree, "no")
 }
 

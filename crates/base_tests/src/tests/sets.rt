@@ -22,19 +22,25 @@ fn ports(alloc: Global, low: u128, high: u128) -> Result<RangeSet, Memory>
     RangeSet::from_ranges(alloc, 65535, &[Range { low, high }])
 }
 
-/// Fourteen single ports, given in falling order, then a range and one more: sixteen ranges, since none touches another.
-fn sixteen(alloc: Global) -> Result<RangeSet, Memory>
-    ensures { IfOk result (λ s. s.top ≡ 65535) }
-{
-    let mut ranges = Vec::new(alloc);
-    for i in 0..14u8 {
-        let x = 27 - 2 * u128::from(i);
-        ranges.push(Range { low: x, high: x })?;
-    }
-    ranges.push(Range { low: 30, high: 39 })?;
-    ranges.push(Range { low: 50, high: 50 })?;
-    RangeSet::from_vec(alloc, 65535, ranges)
-}
+/// Fourteen single ports in falling order, then a range and one more: sixteen ranges, since none touches another.
+static SIXTEEN: [Range; 16] = [
+    Range { low: 27, high: 27 },
+    Range { low: 25, high: 25 },
+    Range { low: 23, high: 23 },
+    Range { low: 21, high: 21 },
+    Range { low: 19, high: 19 },
+    Range { low: 17, high: 17 },
+    Range { low: 15, high: 15 },
+    Range { low: 13, high: 13 },
+    Range { low: 11, high: 11 },
+    Range { low: 9, high: 9 },
+    Range { low: 7, high: 7 },
+    Range { low: 5, high: 5 },
+    Range { low: 3, high: 3 },
+    Range { low: 1, high: 1 },
+    Range { low: 30, high: 39 },
+    Range { low: 50, high: 50 },
+];
 
 /// Whether the set of sixteen ranges has a group of fourteen and one of two.
 fn is_grouped(set: &RangeSet) -> bool {
@@ -43,7 +49,7 @@ fn is_grouped(set: &RangeSet) -> bool {
 }
 
 fn sixteen_are_grouped(alloc: Global) -> Result<bool, Memory> {
-    Ok(is_grouped(&sixteen(alloc)?))
+    Ok(is_grouped(&RangeSet::from_ranges(alloc, 65535, &SIXTEEN)?))
 }
 
 #[test]
@@ -162,7 +168,7 @@ fn has_list(
     let set = RangeSet::from_ranges(alloc, top_of(family), ranges)?;
     let list = least_prefixes(alloc, &set, family)?;
     let list = list.as_slice();
-    Ok(list.len() == count && list.first() == Some(&first) && list.last() == Some(&last))
+    Ok(list.len() == count && list.starts_with(&[first]) && list.ends_with(&[last]))
 }
 
 const ALL: Prefix = Prefix {
