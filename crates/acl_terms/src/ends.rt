@@ -2,7 +2,6 @@ ghost use Rattle.std.specs.Prelude.{◌≡◌, IfOk};
 ghost use Rattle.acl_packet.specs.declared.addresses.Family.TheVariants.{V4, V6};
 ghost use Rattle.acl_text.specs.Refusals.{Judges};
 ghost use Rattle.acl_terms.specs.Sets.{IsAddressSet};
-ghost use Rattle.acl_terms.specs.SetSteps.{ends_slip};
 ghost use Rattle.acl_terms.specs.Slips.{networks_slip};
 
 use crate::addresses::Addresses;
@@ -20,7 +19,6 @@ pub(crate) struct Ends {
 }
 
 /// The addresses of a term's ends, or the first name that no network has.
-#[tactic(auto, using(crate::proofs::SlipLaws::networks_by_ends))]
 pub(crate) fn ends_of<'a>(
     alloc: Global,
     raw: &'a RawTerm,

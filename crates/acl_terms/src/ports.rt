@@ -134,7 +134,6 @@ fn admitted_ports(
 
 /// The ports of a term with its protocols, or the first slip at names of ports. Some protocol is named where
 /// ports are.
-#[tactic(auto, using(crate::proofs::SlipLaws::services_by_ends))]
 pub(crate) fn ports_of_term(
     alloc: Global,
     base: &Checked,

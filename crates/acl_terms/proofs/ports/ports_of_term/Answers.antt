@@ -1,4 +1,5 @@
-use Rattle.std.proofs.Common.{◌++◌}
+use Rattle.std.proofs.Common.{◌++◌, rules}
+use Rattle.acl_terms.proofs.SlipLaws.{services_by_ends}
 use Rattle.acl_terms.proofs.WordLaws.{left-some, right-some}
 use Rattle.acl_terms.proofs.ports.ports_of_term.Goals as goal
 
@@ -13,3 +14,19 @@ admitted_ports-requires-2 c =
     let raw = c.args.raw.now in
     λ some. c.requires
     (left-some (raw.source_ports ++ raw.destination_ports) raw.ports (right-some raw.source_ports raw.destination_ports some))
+
+pub returns-in_err-sports-clause-judged : goal.returns-in_err-sports-clause-judged
+returns-in_err-sports-clause-judged c =
+    rw (services_by_ends c.args.base.now.services c.args.protos.now c.args.raw.now) (search rules)
+
+pub returns-in_err-dports-clause-judged : goal.returns-in_err-dports-clause-judged
+returns-in_err-dports-clause-judged c =
+    rw (services_by_ends c.args.base.now.services c.args.protos.now c.args.raw.now) (search rules)
+
+pub returns-in_err-ports-clause-judged : goal.returns-in_err-ports-clause-judged
+returns-in_err-ports-clause-judged c =
+    rw (services_by_ends c.args.base.now.services c.args.protos.now c.args.raw.now) (search rules)
+
+pub returns-clause-judged : goal.returns-clause-judged
+returns-clause-judged c =
+    rw (services_by_ends c.args.base.now.services c.args.protos.now c.args.raw.now) (search rules)
