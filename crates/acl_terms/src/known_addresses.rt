@@ -85,7 +85,7 @@ impl<'a> KnownAddresses<'a> {
         Ok(())
     }
 
-    /// The addresses of the words, or all where no word is written.
+    /// The addresses of the words, or all where no word is written. They are known from now on.
     pub(crate) fn addresses_of(
         &mut self,
         alloc: Global,
@@ -98,27 +98,15 @@ impl<'a> KnownAddresses<'a> {
             (top_address V6) a.v6) }
         ensures same { self.new ≡ self.old }
     {
-        match self.find(words.text(), &[])? {
-            Some(known) => Ok(known),
-            None => self.new_addresses(alloc, words),
+        if let Some(known) = self.find(words.text(), &[])? {
+            return Ok(known);
         }
-    }
-
-    // The same, made anew. They are known from now on.
-    fn new_addresses(&mut self, alloc: Global, words: &'a WordList) -> Result<Addresses, Refusal>
-        ensures judged { Judges result (first_in (network_slip self.old.networks) words.now) }
-        ensures v4 { IfOk result (λ a. IsSetOf (IsNamedAddress self.old V4 words.now)
-            (top_address V4) a.v4) }
-        ensures v6 { IfOk result (λ a. IsSetOf (IsNamedAddress self.old V6 words.now)
-            (top_address V6) a.v6) }
-        ensures same { self.new ≡ self.old }
-    {
         let addresses = admitted_addresses(alloc, self.base(), words)?;
         self.keep(words.text(), &[], &addresses)?;
         Ok(addresses)
     }
 
-    /// The addresses of an end: those of the words, less those of the excluded ones.
+    /// The addresses of an end: those of the words, less those of the excluded ones. They are known from now on.
     pub(crate) fn end_of(
         &mut self,
         alloc: Global,
@@ -137,28 +125,9 @@ impl<'a> KnownAddresses<'a> {
         if excludes.first().is_none() {
             return self.addresses_of(alloc, words);
         }
-        match self.find(words.text(), excludes.text())? {
-            Some(known) => Ok(known),
-            None => self.new_end(alloc, words, excludes),
+        if let Some(known) = self.find(words.text(), excludes.text())? {
+            return Ok(known);
         }
-    }
-
-    // The same, made anew. They are known from now on.
-    fn new_end(
-        &mut self,
-        alloc: Global,
-        words: &'a WordList,
-        excludes: &'a WordList,
-    ) -> Result<Addresses, Refusal>
-        ensures judged { Judges result (option_or
-            (first_in (network_slip self.old.networks) words.now)
-            (first_in (network_slip self.old.networks) excludes.now)) }
-        ensures v4 { IfOk result (λ a. IsSetOf (IsAddress self.old V4 words.now excludes.now)
-            (top_address V4) a.v4) }
-        ensures v6 { IfOk result (λ a. IsSetOf (IsAddress self.old V6 words.now excludes.now)
-            (top_address V6) a.v6) }
-        ensures same { self.new ≡ self.old }
-    {
         let named = self.addresses_of(alloc, words)?;
         let addresses = end_of(alloc, self.base(), named, excludes)?;
         self.keep(words.text(), excludes.text(), &addresses)?;
