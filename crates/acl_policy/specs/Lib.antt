@@ -6,6 +6,7 @@ pub mod Policies
 pub mod PolicyPlaces
 pub mod ReadingParts
 pub mod Slips
+pub mod TargetSteps
 pub mod Targets
 pub mod Terms
 pub mod Values

@@ -1,10 +1,10 @@
-ghost use Rattle.std.specs.Prelude.{◌≡◌, IfOk, codes};
+ghost use Rattle.std.specs.Prelude.{◌≡◌, ◌∷◌, Ok};
 ghost use Rattle.acl_text.specs.Answers.{Gives, slip_told};
+ghost use Rattle.acl_policy.specs.TargetSteps.{chain_words, device_words, formed_target, hook_words};
 ghost use Rattle.acl_policy.specs.Targets.{
   chain_word,
   hook_word,
   name_word,
-  target_of,
   last_family,
   device_ending,
   device_line,
@@ -21,7 +21,7 @@ use crate::values::is_plain;
 use crate::word_slips::{refusal_at, refusal_for};
 use acl_packet::{Families, Hook};
 use acl_target::{Ending, Kind, Target};
-use acl_text::{Bytes, Code, Memory, Place, Refusal, is_filter_name};
+use acl_text::{Bytes, Code, Place, Refusal, is_filter_name};
 use acl_words::Token;
 use std::alloc::Global;
 
@@ -30,6 +30,18 @@ use std::alloc::Global;
 pub(crate) struct NamedTarget {
     pub(crate) target: Target,
     pub(crate) place: Place,
+}
+
+/// What a target line asks for, beside the name of its target.
+#[derive(Clone, Copy)]
+struct TargetForm {
+    kind: Kind,
+    families: Families,
+    hook: Hook,
+    stateful: bool,
+    ending: Ending,
+    priority: i32,
+    verbose: bool,
 }
 
 fn chain_word(word: &Token<'_>) -> Option<Hook>
@@ -70,23 +82,25 @@ fn make_target(
     alloc: Global,
     keyword: &Token<'_>,
     name: &Token<'_>,
-    kind: Kind,
-    families: Families,
-    hook: Hook,
-) -> Result<Target, Memory>
-    ensures { IfOk result (λ t. t ≡ target_of keyword.now name.now kind families hook) }
+    form: &TargetForm,
+) -> Result<NamedTarget, Refusal>
+    ensures { Gives slip_told result (Ok (formed_target keyword.now name.now form.now)) }
 {
-    Ok(Target {
+    let target = Target {
         place: keyword.place(),
-        kind,
+        kind: form.kind,
         name: Bytes::from_slice(alloc, name.text())?,
-        families,
-        hook,
-        stateful: false,
-        ending: Ending::Deny,
-        priority: 0,
-        verbose: true,
+        families: form.families,
+        hook: form.hook,
+        stateful: form.stateful,
+        ending: form.ending,
+        priority: form.priority,
+        verbose: form.verbose,
         number: 0,
+    };
+    Ok(NamedTarget {
+        target,
+        place: name.place(),
     })
 }
 
@@ -114,6 +128,27 @@ fn device_ending(kind: Kind) -> Ending
     }
 }
 
+fn read_named_device(
+    alloc: Global,
+    kind: Kind,
+    keyword: &Token<'_>,
+    name: &Token<'_>,
+    words: &[Token<'_>],
+) -> Result<NamedTarget, Refusal>
+    ensures { Gives slip_told result (device_words kind keyword.now name.now words.now) }
+{
+    let form = TargetForm {
+        kind,
+        families: read_last_family(alloc, kind, words)?,
+        hook: Hook::Input,
+        stateful: false,
+        ending: device_ending(kind),
+        priority: 0,
+        verbose: true,
+    };
+    make_target(alloc, keyword, name, &form)
+}
+
 fn read_device(
     alloc: Global,
     kind: Kind,
@@ -125,15 +160,12 @@ fn read_device(
 {
     match words {
         [] => Err(refusal_at(alloc, Code::TargetLine, platform)),
-        [name, ..] if !name_word(name) => { Err(refusal_for(alloc, Code::TargetLine, name)) }
         [name, behind @ ..] => {
-            let families = read_last_family(alloc, kind, behind)?;
-            let mut target = make_target(alloc, keyword, name, kind, families, Hook::Input)?;
-            target.ending = device_ending(kind);
-            Ok(NamedTarget {
-                target,
-                place: name.place(),
-            })
+            if name_word(name) {
+                read_named_device(alloc, kind, keyword, name, behind)
+            } else {
+                Err(refusal_for(alloc, Code::TargetLine, name))
+            }
         }
     }
 }
@@ -148,6 +180,28 @@ fn default_ending(without: Ending, accept: Option<bool>) -> Ending
     }
 }
 
+fn read_chain(
+    alloc: Global,
+    keyword: &Token<'_>,
+    name: &Token<'_>,
+    hook: Hook,
+    words: &[Token<'_>],
+) -> Result<NamedTarget, Refusal>
+    ensures { Gives slip_told result (chain_words keyword.now name.now hook words.now) }
+{
+    let choices = read_choices(alloc, Kind::Iptables, words)?;
+    let form = TargetForm {
+        kind: Kind::Iptables,
+        families: choices.families.unwrap_or(Families::Inet),
+        hook,
+        stateful: !choices.marked,
+        ending: default_ending(Ending::Left, choices.accept),
+        priority: 0,
+        verbose: true,
+    };
+    make_target(alloc, keyword, name, &form)
+}
+
 fn read_iptables(
     alloc: Global,
     keyword: &Token<'_>,
@@ -156,22 +210,36 @@ fn read_iptables(
 ) -> Result<NamedTarget, Refusal>
     ensures { Gives slip_told result (iptables_line keyword.now platform.now words.now) }
 {
-    let (name, behind) = match words {
-        [] => return Err(refusal_at(alloc, Code::TargetLine, platform)),
-        [name, behind @ ..] => (name, behind),
+    match words {
+        [] => Err(refusal_at(alloc, Code::TargetLine, platform)),
+        [name, behind @ ..] => match chain_word(name) {
+            None => Err(refusal_for(alloc, Code::TargetLine, name)),
+            Some(hook) => read_chain(alloc, keyword, name, hook, behind),
+        },
+    }
+}
+
+fn read_hook(
+    alloc: Global,
+    keyword: &Token<'_>,
+    name: &Token<'_>,
+    families: Families,
+    hook: Hook,
+    words: &[Token<'_>],
+) -> Result<NamedTarget, Refusal>
+    ensures { Gives slip_told result (hook_words keyword.now name.now families hook words.now) }
+{
+    let choices = read_choices(alloc, Kind::Nftables, words)?;
+    let form = TargetForm {
+        kind: Kind::Nftables,
+        families,
+        hook,
+        stateful: true,
+        ending: default_ending(Ending::Deny, choices.accept),
+        priority: choices.priority.unwrap_or(0),
+        verbose: !choices.marked,
     };
-    let Some(hook) = chain_word(name) else {
-        return Err(refusal_for(alloc, Code::TargetLine, name));
-    };
-    let choices = read_choices(alloc, Kind::Iptables, behind)?;
-    let families = choices.families.unwrap_or(Families::Inet);
-    let mut target = make_target(alloc, keyword, name, Kind::Iptables, families, hook)?;
-    target.stateful = !choices.marked;
-    target.ending = default_ending(Ending::Left, choices.accept);
-    Ok(NamedTarget {
-        target,
-        place: name.place(),
-    })
+    make_target(alloc, keyword, name, &form)
 }
 
 fn read_hooked(
@@ -183,23 +251,13 @@ fn read_hooked(
 ) -> Result<NamedTarget, Refusal>
     ensures { Gives slip_told result (hooked_line keyword.now platform.now families words.now) }
 {
-    let (name, behind) = match words {
-        [] => return Err(refusal_at(alloc, Code::TargetLine, platform)),
-        [name, behind @ ..] => (name, behind),
-    };
-    let Some(hook) = hook_word(name) else {
-        return Err(refusal_for(alloc, Code::TargetLine, name));
-    };
-    let choices = read_choices(alloc, Kind::Nftables, behind)?;
-    let mut target = make_target(alloc, keyword, name, Kind::Nftables, families, hook)?;
-    target.stateful = true;
-    target.ending = default_ending(Ending::Deny, choices.accept);
-    target.priority = choices.priority.unwrap_or(0);
-    target.verbose = !choices.marked;
-    Ok(NamedTarget {
-        target,
-        place: name.place(),
-    })
+    match words {
+        [] => Err(refusal_at(alloc, Code::TargetLine, platform)),
+        [name, behind @ ..] => match hook_word(name) {
+            None => Err(refusal_for(alloc, Code::TargetLine, name)),
+            Some(hook) => read_hook(alloc, keyword, name, families, hook, behind),
+        },
+    }
 }
 
 fn read_nftables(
@@ -219,6 +277,29 @@ fn read_nftables(
     }
 }
 
+// The target of a platform's word and the words behind it.
+#[tactic(auto, unfolding(crate::specs::Targets::target_line))]
+fn read_platform(
+    alloc: Global,
+    keyword: &Token<'_>,
+    platform: &Token<'_>,
+    words: &[Token<'_>],
+) -> Result<NamedTarget, Refusal>
+    ensures { Gives slip_told result (target_line keyword.now (platform.now ∷ words.now)) }
+{
+    if is_word(platform, b"cisco") {
+        read_device(alloc, Kind::Cisco, keyword, platform, words)
+    } else if is_word(platform, b"juniper") {
+        read_device(alloc, Kind::Juniper, keyword, platform, words)
+    } else if is_word(platform, b"iptables") {
+        read_iptables(alloc, keyword, platform, words)
+    } else if is_word(platform, b"nftables") {
+        read_nftables(alloc, keyword, platform, words)
+    } else {
+        Err(refusal_for(alloc, Code::TargetLine, platform))
+    }
+}
+
 /// The target of the words behind `target::`, without its number.
 #[tactic(auto, unfolding(crate::specs::Targets::target_line))]
 pub(crate) fn read_target_line(alloc: Global, clause: &Clause<'_>) -> Result<NamedTarget, Refusal>
@@ -226,18 +307,6 @@ pub(crate) fn read_target_line(alloc: Global, clause: &Clause<'_>) -> Result<Nam
 {
     match clause.values {
         [] => Err(refusal_at(alloc, Code::Missing, clause.keyword)),
-        [platform, words @ ..] => {
-            if is_word(platform, b"cisco") {
-                read_device(alloc, Kind::Cisco, clause.keyword, platform, words)
-            } else if is_word(platform, b"juniper") {
-                read_device(alloc, Kind::Juniper, clause.keyword, platform, words)
-            } else if is_word(platform, b"iptables") {
-                read_iptables(alloc, clause.keyword, platform, words)
-            } else if is_word(platform, b"nftables") {
-                read_nftables(alloc, clause.keyword, platform, words)
-            } else {
-                Err(refusal_for(alloc, Code::TargetLine, platform))
-            }
-        }
+        [platform, words @ ..] => read_platform(alloc, clause.keyword, platform, words),
     }
 }

@@ -17,12 +17,21 @@ use std::alloc::Global;
 const MOST_HELD: usize = 64;
 
 /// What was read of a policy so far, and the last words of it, which are not judged yet.
-#[derive(Drop)]
 pub(crate) struct Judge<'a> {
     pub(crate) state: PolicyState,
     /// The keyword or brace behind which the words stand, where there is one.
     pub(crate) mark: Option<Token<'a>>,
     pub(crate) held: Vec<Token<'a>>,
+}
+
+// Where a judge is let go, that is one step, whatever it holds.
+impl Drop for Judge<'_> {
+    fn drop(self) {
+        let Judge { state, mark, held } = self;
+        drop(state);
+        drop(mark);
+        drop(held);
+    }
 }
 
 /// Whether the form is that of a keyword or a brace.
@@ -121,7 +130,6 @@ impl<'a> Judge<'a> {
         }
     }
 
-    #[tactic(auto, using(crate::proofs::JudgingLaws::value_comes))]
     fn take_value(&mut self, alloc: Global, word: Token<'a>) -> Result<(), Refusal>
         requires { is_mark word.form ≡ false }
         ensures { KeepsReading (λ ws. rest_of self.old (word.entry ∷ ws)) (λ ws. rest_of self.new ws) result }
