@@ -1,5 +1,6 @@
 -- What the words that come give behind those that a judge holds.
-use Rattle.std.proofs.Common.{◌≡◌, ◌∙◌, ◌≤◌, Bool, true, false, if◌then◌else◌, List, [], ◌∷◌, ◌++◌, length, Option, Some, Result, Ok, Err, refl, sym, ap, append_assoc, append-nil}
+use Rattle.std.proofs.Common.{◌≡◌, ◌∙◌, ◌≤◌, Bool, true, false, if◌then◌else◌, List, [], ◌∷◌, ◌++◌, length, Option, Some, Result, Ok, Err, refl, sym, subst, ap, append_assoc, append-nil}
+use Rattle.std.specs.Prelude.{IsErrAnd}
 use Rattle.acl_text.specs.Answers.{Stops, slip_told}
 use Rattle.acl_text.specs.declared.faults.Refusal.{Refusal}
 use Rattle.acl_text.specs.declared.faults.Refusal.TheVariants as refusals
@@ -7,7 +8,7 @@ use Rattle.acl_text.specs.declared.faults.Slip.{Slip}
 use Rattle.acl_text.specs.Steps.{◌>>=◌}
 use Rattle.acl_words.specs.Tokens.{Token}
 use Rattle.acl_policy.specs.declared.states.PolicyState.{PolicyState}
-use Rattle.acl_policy.specs.JudgingSteps.{behind_open, still_open, rest_behind}
+use Rattle.acl_policy.specs.JudgingSteps.{KeepsReading, behind_open, still_open, rest_behind}
 use Rattle.acl_policy.specs.Policies.{is_mark, values_of, behind_mark, behind_marks}
 use Rattle.acl_policy.proofs.ClausesInParts.{open_in_parts}
 
@@ -19,6 +20,12 @@ bind_assoc (Err e) f g = refl
 same_bind : {A : Type 0} (x : Result A Slip) → (x >>= λ a. Ok a) ≡ x
 same_bind (Ok a) = refl
 same_bind (Err e) = refl
+
+-- A step that ends with a refusal has the slip of what was to be read.
+pub ends_reading : {X : Type 0} (old new : List Token → Result PolicyState Slip) (e : Refusal) (r : Result X Refusal)
+    → IsErrAnd r (λ f. f ≡ e) → ((ws : List Token) → Stops slip_told e (old ws)) → KeepsReading old new r
+ends_reading old new e (Ok x) is stops = absurd is
+ends_reading old new e (Err f) is stops = λ ws. subst (λ g. Stops slip_told g (old ws)) (sym is) (stops ws)
 
 module _ (mark : Option Token) (s : PolicyState) (vs : List Token) where
   abbrev now : Result PolicyState Slip

@@ -121,7 +121,7 @@ fn check_item(
     check_one(alloc, row.takes, clause)
 }
 
-#[tactic(auto, unfolding(crate::specs::Terms::item_behind), using(crate::proofs::ValueLaws::checked_plain))]
+#[tactic(auto, unfolding(crate::specs::Terms::item_behind))]
 fn judge_item(
     alloc: Global,
     row: KeywordRow,

@@ -106,7 +106,6 @@ impl<'a> Judge<'a> {
     }
 
     /// Judges the words that are held, of which there are many, where another comes.
-    #[tactic(auto, using(crate::proofs::JudgingLaws::more_goes_on, crate::proofs::JudgingLaws::more_stops))]
     fn judge_many(&mut self, alloc: Global, word: &Token<'a>) -> Result<(), Refusal>
         requires many { 8 ≤ length self.old.held.items }
         requires value { is_mark word.now.form ≡ false }
@@ -139,7 +138,6 @@ impl<'a> Judge<'a> {
         Ok(())
     }
 
-    #[tactic(auto, using(crate::proofs::JudgingLaws::mark_goes_on, crate::proofs::JudgingLaws::mark_stops))]
     fn take_mark(&mut self, alloc: Global, word: Token<'a>) -> Result<(), Refusal>
         requires { is_mark word.form ≡ true }
         ensures { KeepsReading (λ ws. rest_of self.old (word.entry ∷ ws)) (λ ws. rest_of self.new ws) result }
