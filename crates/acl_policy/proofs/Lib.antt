@@ -8,5 +8,6 @@ pub mod Outcomes
 pub mod PolicyFit
 pub mod SlipPlaces
 pub mod TargetFit
+pub mod TargetWords
 pub mod TermFit
 pub mod ValueLaws
