@@ -109,7 +109,7 @@ impl<'a> Choices for NumberChoices<'a> {
 }
 
 // A number, written as the choice that it is.
-#[derive_where(Clone, Copy)]
+#[derive(Drop)]
 struct AsChoice<'a, F> {
     form: &'a F,
 }
@@ -204,7 +204,7 @@ impl<A: Choices, B: Choices> Choices for (A, B) {
 }
 
 // A first choice, written with each second one.
-#[derive_where(Clone, Copy)]
+#[derive(Drop)]
 struct WithSeconds<'a, B, F> {
     seconds: &'a B,
     form: &'a F,
@@ -225,7 +225,7 @@ impl<'a, A: Copy, B: Choices, F: RowForm<(A, B::Item)>> RowForm<A> for WithSecon
 }
 
 // A second choice, written with the first one.
-#[derive_where(Clone, Copy; A)]
+#[derive(Drop)]
 struct WithFirst<'a, A, F> {
     first: A,
     form: &'a F,

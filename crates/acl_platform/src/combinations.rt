@@ -17,7 +17,7 @@ use acl_sets::RangeSet;
 use acl_text::{Out, PutFault};
 
 /// A choice of each part of a rule; `None` is no condition.
-#[derive(Clone, Copy, PartialEq, Eq)]
+#[derive(Clone, Copy)]
 pub struct Combination {
     pub proto: Option<u8>,
     pub src: Prefix,
@@ -170,7 +170,7 @@ fn one_range(set: &RangeSet) -> Option<Option<(u16, u16)>>
 }
 
 // Parts, written as the combination that they are.
-#[derive_where(Clone, Copy)]
+#[derive(Drop)]
 struct InParts<'a, F> {
     form: &'a F,
 }
@@ -218,7 +218,7 @@ fn put_protocols<F: CombinationForm, O: Out>(
 }
 
 // A protocol, written with each pair of addresses.
-#[derive_where(Clone, Copy)]
+#[derive(Drop)]
 struct OfProtocol<'a, F> {
     rule: &'a Rule,
     tail: Tail,
@@ -246,7 +246,7 @@ impl<'a, F: CombinationForm> RowForm<Option<u8>> for OfProtocol<'a, F> {
 }
 
 // A source and a destination, written with the protocol and the tail.
-#[derive_where(Clone, Copy)]
+#[derive(Drop)]
 struct AddressHalves<'a, F> {
     proto: Option<u8>,
     tail: Tail,

@@ -60,7 +60,7 @@ impl<'a, F: RemarkForm> Rows for RemarkRows<'a, F> {
     }
 }
 
-#[derive_where(Clone, Copy)]
+#[derive(Drop)]
 struct OneRemark<'a, F> {
     text: &'a [u8],
     form: &'a F,
