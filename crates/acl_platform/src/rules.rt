@@ -6,7 +6,7 @@ use acl_sets::{Prefixes, RangeSet};
 use acl_text::{Bytes, Items, Place};
 
 /// What a rule asks of a packet besides its sets.
-#[derive(Clone, Copy, Debug, PartialEq, Eq)]
+#[derive(Clone, Copy, PartialEq, Eq)]
 pub enum Test {
     /// Nothing.
     Plain,
