@@ -4,7 +4,7 @@ use Rattle.std.specs.List.{AllByRecursion, IsDistinct}
 use Rattle.std.specs.Set.{is_member}
 use Rattle.std.specs.Str.{bytes_eq}
 use Rattle.std.proofs.lemmas.Bool.{or_from}
-use Rattle.std.proofs.lemmas.List.{drop_more, map-append, take-append-drop}
+use Rattle.std.proofs.lemmas.List.{drop_more, map-append, take-append-drop, take_more}
 use Rattle.acl_packet.specs.declared.packets.Packet.{Packet}
 use Rattle.acl_packet.specs.declared.filtering.Outcome.{Outcome}
 use Rattle.acl_rows.specs.Documents.{SpellsRows, outcome_at}
@@ -52,6 +52,12 @@ module _ {S : Type 0} (rows : S → List Row) (section : Filter → S) where
       ∙ joined (take i fs ++ here) (drop (i + 1) fs)
       ∙ ap written (append_assoc (take i fs) here (drop (i + 1) fs)
       ∙ ap (λ rest. take i fs ++ rest) (sym (drop_more fs i f h)) ∙ take-append-drop i fs)
+
+  pub written-more : (fs : List Filter) (i : ℕ) (f : Filter) → f ≡ get_or fs i f → i < length fs
+      → written (take i fs) ++ written (f ∷ []) ≡ written (take (i + 1) fs)
+  written-more fs i f is h =
+      ap (λ x. written (take i fs) ++ written (x ∷ [])) is ∙ joined (take i fs) (get_or fs i f ∷ [])
+      ∙ ap written (sym (take_more fs i f h))
 
 -- the joined texts of the sections spell the document of the sections
 pub all-spelled : {S : Type 0} (accepted : Filter → Type 0) (valid : S → Type 0) (names : S → List (List ℕ)) (rows : S → List Row) (section : Filter → S)

@@ -58,7 +58,6 @@ pub fn put_section_by<F: SectionForm, O: Out>(filter: &Filter, out: &mut O) -> R
 
 /// Puts the text of the sections that sound filters become, in order, in an output that has to be
 /// open. That of rules which several filters in a row have is made once.
-#[tactic(auto, using(crate::proofs::SoundRules::all_sized))]
 pub fn put_sections_by<F: SectionForm, O: Out>(
     alloc: Global,
     filters: &[Filter],
@@ -69,10 +68,26 @@ pub fn put_sections_by<F: SectionForm, O: Out>(
     ensures { Puts O.Out out.old out.new
         (text_of_rows (flat_map F.Language.rows (map F.section filters.now))) result }
 {
-    let mut texts = texts_of::<F>(&[]);
+    put_in_turn(alloc, filters, &mut texts_of::<F>(&[]), out)
+}
+
+// Puts the text of the section of each filter, over the texts turned to its rules.
+fn put_in_turn<'a, F: SectionForm, O: Out>(
+    alloc: Global,
+    filters: &'a [Filter],
+    texts: &mut FamilyTexts<'a, F>,
+    out: &mut O,
+) -> Result<(), PutFault>
+    requires open { IsTrue (O.is_open out.old) }
+    requires sound { All IsSound filters.now }
+    requires v4 { F.family_of texts.old.v4.form ≡ V4 }
+    requires v6 { F.family_of texts.old.v6.form ≡ V6 }
+    ensures { Puts O.Out out.old out.new
+        (text_of_rows (flat_map F.Language.rows (map F.section filters.now))) result }
+{
     for filter in filters {
         texts.turn_to(alloc, filter.families, filter.rules.as_slice());
-        F::put_over(&texts, filter, out)?;
+        F::put_over(texts, filter, out)?;
     }
     Ok(())
 }

@@ -3,7 +3,7 @@ use Rattle.acl_packet.specs.declared.addresses.Family.TheVariants.{V4, V6}
 use Rattle.acl_text.specs.Puts.{Puts}
 use Rattle.acl_text.proofs.Putting.{done}
 use Rattle.acl_rows.specs.Rows.{text_of_rows}
-use Rattle.acl_platform.proofs.section_forms.put_sections_by.Given as goal
+use Rattle.acl_platform.proofs.section_forms.put_in_turn.Given as goal
 
 -- the sections of the filters so far were put
 abbrev pub invariant-loop-filter : goal.invariant-loop-filter
