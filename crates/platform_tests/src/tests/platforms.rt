@@ -2,15 +2,15 @@ ghost use Rattle.std.specs.Prelude.{[], ◌∷◌, IfOk, decimal, unwrap_or};
 ghost use Rattle.acl_rows.specs.Rows.{row};
 ghost use Rattle.acl_platform.specs.Combinations.{IsSized};
 
-use crate::tests::samples::{HEAD, Head, filter};
+use crate::tests::samples::{HEAD, Head, filter, open_rule, prefixes};
 use acl_packet::{Conn, Family, Outcome, Packet, Prefix, Verdict};
 use acl_platform::{
     Combination, Filter, Rule, Rules, Test, count_combinations, filter_outcome, put_combinations,
 };
 use acl_rows::{Number, OneWord, Row, RowForm, Rows};
-use acl_sets::{Prefixes, Range, RangeSet};
+use acl_sets::{Range, RangeSet};
 use acl_target::Ending;
-use acl_text::{Bytes, Memory, Out, Place, PutFault, Whole};
+use acl_text::{Memory, Out, PutFault, Whole};
 use std::alloc::Global;
 
 fn host(address: u128) -> Prefix {
@@ -27,9 +27,11 @@ fn host(address: u128) -> Prefix {
 fn web(alloc: Global) -> Result<Rule, Memory>
     ensures { IfOk result IsSized }
 {
-    let src = Prefixes::new(alloc, Vec::from_slice(alloc, &[host(1), host(2)])?)?;
-    let dst = Prefixes::new(alloc, Vec::from_slice(alloc, &[host(3)])?)?;
+    let mut rule = open_rule(alloc, b"web")?;
+    rule.src = prefixes(alloc, &[host(1), host(2)])?;
+    rule.dst = prefixes(alloc, &[host(3)])?;
     let protos = [Range { low: 6, high: 6 }, Range { low: 17, high: 17 }];
+    rule.protos = RangeSet::from_ranges(alloc, 255, &protos)?;
     let dports = [
         Range { low: 80, high: 81 },
         Range {
@@ -37,22 +39,10 @@ fn web(alloc: Global) -> Result<Rule, Memory>
             high: 443,
         },
     ];
-    Ok(Rule {
-        name: Bytes::from_slice(alloc, b"web")?,
-        place: Place { file: 1, line: 2 },
-        note: Bytes::new(alloc),
-        family: Family::V4,
-        src,
-        dst,
-        protos: RangeSet::from_ranges(alloc, 255, &protos)?,
-        sports: RangeSet::all(alloc, 65535)?,
-        dports: RangeSet::from_ranges(alloc, 65535, &dports)?,
-        itypes: RangeSet::all(alloc, 255)?,
-        icodes: RangeSet::all(alloc, 255)?,
-        test: Test::SynNotAck,
-        verdict: Verdict::Accept,
-        log: true,
-    })
+    rule.dports = RangeSet::from_ranges(alloc, 65535, &dports)?;
+    rule.test = Test::SynNotAck;
+    rule.log = true;
+    Ok(rule)
 }
 
 // The source, the protocol, and the first port of the destination.

@@ -54,29 +54,63 @@ pub(crate) fn filter(alloc: Global, head: &Head, rules: Rules) -> Result<Filter,
     })
 }
 
+pub(crate) fn prefixes(alloc: Global, list: &[Prefix]) -> Result<Prefixes, Memory> {
+    Prefixes::new(alloc, Vec::from_slice(alloc, list)?)
+}
+
+// All ports of either side.
+fn all_ports(alloc: Global) -> Result<(RangeSet, RangeSet), Memory>
+    ensures { IfOk result (λ s. (s.0.top ≡ 65535) × (s.1.top ≡ 65535)) }
+{
+    Ok((RangeSet::all(alloc, 65535)?, RangeSet::all(alloc, 65535)?))
+}
+
+// All types and all codes.
+fn all_types(alloc: Global) -> Result<(RangeSet, RangeSet), Memory>
+    ensures { IfOk result (λ s. (s.0.top ≡ 255) × (s.1.top ≡ 255)) }
+{
+    Ok((RangeSet::all(alloc, 255)?, RangeSet::all(alloc, 255)?))
+}
+
+// A rule of this name that accepts each packet of IPv4.
+pub(crate) fn open_rule(alloc: Global, name: &[u8]) -> Result<Rule, Memory>
+    ensures protocols { IfOk result (λ r. r.protos.top ≡ 255) }
+    ensures ports { IfOk result (λ r. (r.sports.top ≡ 65535) × (r.dports.top ≡ 65535)) }
+    ensures types { IfOk result (λ r. (r.itypes.top ≡ 255) × (r.icodes.top ≡ 255)) }
+{
+    let everywhere = [Prefix::everywhere(Family::V4)];
+    let name = Bytes::from_slice(alloc, name)?;
+    let src = prefixes(alloc, &everywhere)?;
+    let dst = prefixes(alloc, &everywhere)?;
+    let protos = RangeSet::all(alloc, 255)?;
+    let (sports, dports) = all_ports(alloc)?;
+    let (itypes, icodes) = all_types(alloc)?;
+    Ok(Rule {
+        name,
+        place: Place { file: 1, line: 2 },
+        note: Bytes::new(alloc),
+        family: Family::V4,
+        src,
+        dst,
+        protos,
+        sports,
+        dports,
+        itypes,
+        icodes,
+        test: Test::Plain,
+        verdict: Verdict::Accept,
+        log: false,
+    })
+}
+
 // What says by two codes of one type of ICMP that a destination is unreachable.
 #[tactic(auto, using(acl_platform::proofs::SoundRules::sized_by))]
 pub(crate) fn unreachable(alloc: Global) -> Result<Rule, Memory>
     ensures { IfOk result IsSized }
 {
-    let everywhere = [Prefix::everywhere(Family::V4)];
-    let protos = [Range { low: 1, high: 1 }];
-    let itypes = [Range { low: 3, high: 3 }];
-    let icodes = [Range { low: 3, high: 4 }];
-    Ok(Rule {
-        name: Bytes::from_slice(alloc, b"unreachable")?,
-        place: Place { file: 1, line: 2 },
-        note: Bytes::new(alloc),
-        family: Family::V4,
-        src: Prefixes::new(alloc, Vec::from_slice(alloc, &everywhere)?)?,
-        dst: Prefixes::new(alloc, Vec::from_slice(alloc, &everywhere)?)?,
-        protos: RangeSet::from_ranges(alloc, 255, &protos)?,
-        sports: RangeSet::all(alloc, 65535)?,
-        dports: RangeSet::all(alloc, 65535)?,
-        itypes: RangeSet::from_ranges(alloc, 255, &itypes)?,
-        icodes: RangeSet::from_ranges(alloc, 255, &icodes)?,
-        test: Test::Plain,
-        verdict: Verdict::Accept,
-        log: false,
-    })
+    let mut rule = open_rule(alloc, b"unreachable")?;
+    rule.protos = RangeSet::from_ranges(alloc, 255, &[Range { low: 1, high: 1 }])?;
+    rule.itypes = RangeSet::from_ranges(alloc, 255, &[Range { low: 3, high: 3 }])?;
+    rule.icodes = RangeSet::from_ranges(alloc, 255, &[Range { low: 3, high: 4 }])?;
+    Ok(rule)
 }
