@@ -1,7 +1,7 @@
 use Rattle.std.proofs.Common.{◌+◌, drop, flat_map, map, ap, subst, sym, ◌∙◌}
 use Rattle.std.specs.List.{All}
 use Rattle.std.proofs.lemmas.List.{take_all}
-use Rattle.acl_text.proofs.Putting.{goes_on}
+use Rattle.acl_text.proofs.Putting.{done, goes_on}
 use Rattle.acl_rows.specs.Rows.{text_of_rows}
 use Rattle.acl_rows.proofs.PutLaws.{retold}
 use Rattle.acl_platform.specs.Combinations.{IsSized}
@@ -23,7 +23,7 @@ loop-filter-preserved g c =
     let family_of = g.F.SectionForm.family_of in (
       retold (written-more g.F.Language.Language.rows g.F.SectionForm.section c.args.filters.now c.loop-filter.filter-index
           c.filter-item.result c.filter-item.is c.loop-filter-test.true)
-          (goes_on g.met.O.Out.rest_goes_on so_far.0 c.in_ok-put_over.ensures),
+          (goes_on {r = done} g.met.O.Out.rest_goes_on so_far.0 c.in_ok-put_over.ensures),
       (ap family_of c.turn_to.ensures.v4 ∙ so_far.1.0, ap family_of c.turn_to.ensures.v6 ∙ so_far.1.1),
     )
 
