@@ -1,6 +1,6 @@
 -- Texts that are put item by item, up to one that is refused.
-use Rattle.std.proofs.Common.{◌≡◌, ℕ, ◌+◌, ◌-◌, ◌<◌, Bool, List, ◌++◌, length, take, drop, get_or, flat_map, Option, Result, Err, IsErrAnd, refl, ap, ◌∙◌, append_assoc, arith}
-use Rattle.std.proofs.lemmas.List.{length-drop, take_all, take-append-drop}
+use Rattle.std.proofs.Common.{◌≡◌, ℕ, ◌+◌, ◌-◌, ◌<◌, Bool, List, [], ◌∷◌, ◌++◌, length, take, drop, get_or, flat_map, Option, Result, Err, IsErrAnd, refl, ap, sym, ◌∙◌, append_assoc, append-nil, arith}
+use Rattle.std.proofs.lemmas.List.{length-drop, take_all, take_more, take-append-drop}
 use Rattle.std.proofs.lemmas.Result.{err_from_is_err_and}
 use Rattle.acl_text.specs.declared.output.PutFault.{PutFault}
 use Rattle.acl_text.specs.Output.{PutsBy}
@@ -17,6 +17,14 @@ item-split rows xs i x is within =
     let before = text_of_rows (flat_map rows (take i xs)) in
     let behind = text_of_rows (flat_map rows (drop (i + 1) xs)) in
     ap (λ y. (before ++ text_of_rows (rows y)) ++ behind) is ∙ each_split rows xs i x within
+
+-- the rows of the items up to and with one
+pub more_rows : {A : Type 0} (rows : A → List Row) (xs : List A) (i : ℕ) (x : A) → x ≡ get_or xs i x → i < length xs
+    → text_of_rows (flat_map rows (take (i + 1) xs)) ≡ text_of_rows (flat_map rows (take i xs)) ++ text_of_rows (rows x)
+more_rows rows xs i x is within =
+    let before = take i xs in
+    ap (λ ys. text_of_rows (flat_map rows ys)) (take_more xs i x within ∙ ap (λ y. before ++ y ∷ []) (sym is))
+    ∙ sym (joined_text rows before (x ∷ [])) ∙ ap (λ ys. text_of_rows (flat_map rows before) ++ text_of_rows ys) (append-nil (rows x))
 
 -- what was put before a text that is refused, and a front of that text, are a front of the whole
 pub refused : {S T : Type 0} {told : S → Option (List ℕ)} {faults refusals : S → ℕ} {is_open : S → Bool} {keeps : S → S → Type 0}
