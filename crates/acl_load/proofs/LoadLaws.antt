@@ -1,17 +1,20 @@
 -- The paths of a folder's naming files, in front and behind; and the names that a listing gives.
-use Rattle.std.proofs.Common.{◌≡◌, ℕ, ◌≤◌, nat_lt, le-ltb, subst, Bool, true, false, if◌then◌else◌, List, ◌++◌, length, map, take, drop, Option, None, Some, Result, Ok, Err, IfSome, refl, ap, sym, ◌∙◌}
+use Rattle.std.proofs.Common.{◌≡◌, ℕ, ◌+◌, ◌≤◌, arith, nat_lt, le-ltb, subst, Bool, true, false, if◌then◌else◌, List, ◌∷◌, ◌++◌, length, map, take, drop, Option, None, Some, Result, Ok, Err, IfSome, refl, ap, sym, ◌∙◌}
 use Rattle.std.proofs.lemmas.List.{take-map, drop-map}
 use Rattle.std.proofs.Math.Seq.{take-append_seam, drop-append_seam}
 use Rattle.acl_text.specs.declared.faults.Fault.{Fault}
 use Rattle.acl_host.specs.Files.{File, is_folder, names_under}
 use Rattle.acl_text.specs.declared.faults.Code.TheVariants.{TooManyFiles}
 use Rattle.acl_naming.specs.Definitions.{Naming}
+use Rattle.acl_naming.specs.declared.item_words.NamingKind.{NamingKind}
 use Rattle.acl_naming.specs.declared.item_words.NamingKind.TheVariants.{Networks, Services}
+use Rattle.acl_host.specs.Outside.{OnlyReads, TreeMembers}
 use Rattle.acl_host.specs.declared.look_faults.ReadFault.{ReadFault}
 use Rattle.acl_text.specs.Answers.{Gives}
+use Rattle.acl_text.specs.Steps.{◌>>=◌}
 use Rattle.acl_text.specs.Refusals.{file_fault}
 use Rattle.acl_host.specs.WholeFiles.{listing, read_told}
-use Rattle.acl_load.specs.Loading.{MOST_FILES, naming_paths, net_paths, svc_paths, no_definitions, all_of, all_files, both_kinds, definitions_of}
+use Rattle.acl_load.specs.Loading.{MOST_FILES, naming_paths, net_paths, svc_paths, no_definitions, all_of, all_files, both_kinds, definitions_of, with_file}
 
 pub front_is : {X : Type 0} (f : X → List ℕ) (all : List X) (n : ℕ) (xs ys : List (List ℕ))
     → map f all ≡ xs ++ ys → n ≡ length xs → map f (take n all) ≡ xs
@@ -95,3 +98,33 @@ defined_told (Some files) now folder names paths networks services base same lis
     ∙ ap (λ ns. both_kinds paths ns (svc_paths folder names) files) (sym front)
     ∙ ap (λ ss. both_kinds paths networks ss files) (sym back)
     ∙ at_once
+
+-- ---- one file after the other
+
+pub reads-on : {S : Type 0} (tree : TreeMembers S) (first next last : S) → OnlyReads tree first next → OnlyReads tree next last
+    → OnlyReads tree first last
+reads-on tree first next last h k =
+    let was = h.reads_grow in
+    let is = k.reads_grow in
+    record {
+      looks = record {
+        files_stay = k.looks.files_stay ∙ h.looks.files_stay;
+        begun_stays = k.looks.begun_stays ∙ h.looks.begun_stays;
+        faults_stay = k.looks.faults_stay ∙ h.looks.faults_stay;
+        refusals_stay = k.looks.refusals_stay ∙ h.looks.refusals_stay;
+      };
+      lists_stay = k.lists_stay ∙ h.lists_stay;
+      reads_grow = omega (arith, was, is);
+    }
+
+-- The next file is added.
+pub all-next : (told now : Option (List File)) (paths : List (List ℕ)) (kind : NamingKind) (n : ℕ) (path : List ℕ)
+    (left more : List (List ℕ)) (base next : Naming) (whole : List File → Result Naming Fault) → now ≡ told → left ≡ path ∷ more
+    → IfSome now (λ files. with_file paths kind n path files base ≡ Ok next)
+    → IfSome told (λ files. all_of paths kind n left files base ≡ whole files)
+    → IfSome told (λ files. all_of paths kind (n + 1) more files next ≡ whole files)
+all-next None now paths kind n path left more base next whole same is one had = tt
+all-next (Some files) now paths kind n path left more base next whole same is one had =
+    let added = subst (λ t. IfSome t (λ files. with_file paths kind n path files base ≡ Ok next)) same one in
+    sym (ap (λ r. r >>= λ b. all_of paths kind (n + 1) more files b) added)
+    ∙ ap (λ l. all_of paths kind n l files base) (sym is) ∙ had

@@ -2,6 +2,7 @@ use Rattle.std.proofs.Common.{map, ap, ◌∙◌, arith}
 use Rattle.std.proofs.lemmas.Grind.{common_steps}
 use Rattle.std.specs.String.{string_bytes}
 use Rattle.acl_load.specs.Loading.{naming_paths}
+use Rattle.acl_load.proofs.LoadSteps.{looks-both, looks-unread}
 use Rattle.acl_load.proofs.LoadLaws.{defined_told, paths_told}
 use Rattle.acl_load.proofs.loading.read_definitions.Goals as goal
 
@@ -20,3 +21,14 @@ pub returns-clause-paths : goal.returns-clause-paths
 returns-clause-paths g c =
     paths_told _ _ _ _ c.in_ok-names.ensures.gives (c.in_ok-paths.ensures.all
     ∙ ap (naming_paths c.args.folder.now) c.as_slice.ensures)
+
+pub returns-in_err-base-clause-looks : goal.returns-in_err-base-clause-looks
+returns-in_err-base-clause-looks g c =
+    looks-unread _ c.args.tree.now c.listing.new.tree c.read_all.new.tree c.in_ok-names.names c.in_err-base.field-0.0
+    c.from_residual-in_err-base.result c.in_ok-names.ensures.lists c.in_err-base.ensures.reads
+    c.from_residual-in_err-base.ensures.1
+
+pub returns-clause-looks : goal.returns-clause-looks
+returns-clause-looks g c =
+    looks-both _ c.args.tree.now c.listing.new.tree c.read_all.new.tree c.in_ok-names.names c.in_ok-base.base _
+    c.in_ok-names.ensures.lists c.in_ok-base.ensures.reads
