@@ -5,3 +5,10 @@ pub mod Programs
 pub mod Runs
 pub mod SureRuns
 pub mod WorkloadRuns
+pub mod LoadedWorkloads
+pub mod WorkloadFiles
+pub mod WorkloadNames
+pub mod WorkloadPlans
+pub mod WorkloadPolicies
+pub mod WorkloadTerms
+pub mod WorkloadTexts

@@ -7,7 +7,7 @@ use Rattle.acl_run.specs.Worlds.{Stream, StreamCountsGrow, World}
 use Rattle.acl_run.specs.declared.endings.Ended.{Ended}
 use Rattle.acl_run.specs.declared.endings.Ended.TheVariants as ended
 use Rattle.acl_run.specs.declared.endings.Which.TheVariants as which
-use Rattle.workload_job.specs.WorkloadPlans.{PlansWorkload}
+use Rattle.aclgen_core.specs.WorkloadPlans.{PlansWorkload}
 use Rattle.aclgen_core.specs.FaultLines.{program_name}
 
 -- The workload has a plan (`WorkloadsHaveNoFault`), and its report is on standard output, or a front of it where

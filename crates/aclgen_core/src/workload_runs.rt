@@ -2,12 +2,12 @@ ghost use Rattle.std.specs.Prelude.{◌≤◌};
 ghost use Rattle.acl_run.specs.Worlds.{stream};
 ghost use Rattle.aclgen_core.specs.WorkloadRuns.{RunsWorkload};
 
+use crate::compiling::compile_workload;
 use crate::fault_lines::outside_line;
 use acl_host::Sink;
 use acl_run::{Ended, Which, report_on};
 use acl_text::Memory;
 use std::alloc::Global;
-use workload_job::compile_workload;
 
 /// The run of the workload of so many terms, 1 to 1024: its texts are compiled in memory, and the report is written.
 pub fn run_workload<O: Sink, E: Sink>(alloc: Global, terms: u32, out: &mut O, err: &mut E) -> Ended

@@ -18,8 +18,8 @@ use Rattle.acl_filters.specs.AskedFilters.{FilterRequest}
 use Rattle.acl_filters.specs.ChosenFilters.{GivesFilter, IsFilterOf}
 use Rattle.acl_filters.specs.FilterRequests.{filter_for, limit_slip}
 use Rattle.acl_filters.proofs.FilterLaws.{both-none, judged-err, judged-ok}
-use Rattle.gen_standard.specs.Limits.{is_for_standard, is_inet, limit_of}
-use Rattle.gen_standard.specs.Sections.{entry_count}
+use Rattle.gen_acltool.specs.Limits.{is_for_standard, is_inet, limit_of}
+use Rattle.gen_acltool.specs.Sections.{entry_count}
 use Rattle.acltool_core.specs.ListMeanings.{number_from}
 use Rattle.acltool_core.specs.ListPlans.{is_listed, list_slip, listed_slip, number_slip}
 

@@ -35,11 +35,11 @@ use Rattle.acl_filters.proofs.MeantFilters.{decides-at, resolved-requests}
 use Rattle.std_lang.specs.Documents.{IsSection, list_names}
 use Rattle.std_lang.specs.Texts.{section_rows}
 use Rattle.std_lang.specs.Walks.{outcome_of, section_outcome}
-use Rattle.gen_standard.specs.Limits.{is_for_standard, is_inet, limit_of}
-use Rattle.gen_standard.specs.Sections.{section_of}
-use Rattle.gen_standard.proofs.DecisionLaws.{section_decides}
-use Rattle.gen_standard.proofs.ListNumbers.{lists_differ}
-use Rattle.gen_standard.proofs.SectionLaws.{section_is_spelled}
+use Rattle.gen_acltool.specs.Limits.{is_for_standard, is_inet, limit_of}
+use Rattle.gen_acltool.specs.Sections.{section_of}
+use Rattle.gen_acltool.proofs.DecisionLaws.{section_decides}
+use Rattle.gen_acltool.proofs.ListNumbers.{lists_differ}
+use Rattle.gen_acltool.proofs.SectionLaws.{section_is_spelled}
 use Rattle.acl_run.specs.Finishing.{text_in}
 use Rattle.acl_run.specs.PolicyAnswers.{MakesLoaded, answer_of, or_slip}
 use Rattle.acltool_core.specs.ListMeanings.{MeansLists, number_from}

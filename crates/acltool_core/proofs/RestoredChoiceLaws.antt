@@ -13,7 +13,7 @@ use Rattle.acl_filters.specs.AskedFilters.{FilterRequest}
 use Rattle.acl_filters.specs.CheckedFilters.{Checks}
 use Rattle.acl_filters.specs.ChosenFilters.{GivesFilter, IsFilterOf}
 use Rattle.acl_filters.specs.FilterRequests.{filter_for, request_slip}
-use Rattle.gen_speedway.specs.RestoredFilters.{leaves_packets}
+use Rattle.gen_acltool.specs.RestoredFilters.{leaves_packets}
 use Rattle.acltool_core.specs.RestorePlans.{policy_slip, restored_slip}
 
 policy-is : (r : FilterRequest) (b : Bool) → leaves_packets r.target.ending ≡ b

@@ -48,8 +48,8 @@ use Rattle.ipr_lang.specs.Texts.{Spells, section_rows, text_of}
 use Rattle.gen_iptables.specs.Limits.{limit_of}
 use Rattle.gen_iptables.specs.Sections.{section_of}
 use Rattle.gen_iptables.proofs.NameLaws.{all-differ}
-use Rattle.gen_speedway.specs.RestoredFilters.{is_for_speedway, leaves_packets}
-use Rattle.gen_speedway.proofs.RestoredSections.{restored_decides, section_is_spelled}
+use Rattle.gen_acltool.specs.RestoredFilters.{is_for_speedway, leaves_packets}
+use Rattle.gen_acltool.proofs.RestoredSections.{restored_decides, section_is_spelled}
 use Rattle.acl_run.specs.Finishing.{text_in}
 use Rattle.acl_run.specs.PolicyAnswers.{MakesLoaded, answer_of, or_slip}
 use Rattle.acltool_core.specs.RestoreMeanings.{MeansRestored}

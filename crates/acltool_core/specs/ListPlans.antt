@@ -18,8 +18,8 @@ use Rattle.acl_load.specs.declared.policy_loading.Loaded.{Loaded}
 use Rattle.acl_filters.specs.AskedFilters.{FilterRequest}
 use Rattle.acl_filters.specs.FilterRequests.{filter_for, limit_slip, requests_of}
 use Rattle.std_lang.specs.Texts.{text_of}
-use Rattle.gen_standard.specs.Limits.{is_inet, limit_of}
-use Rattle.gen_standard.specs.Sections.{section_of}
+use Rattle.gen_acltool.specs.Limits.{is_inet, limit_of}
+use Rattle.gen_acltool.specs.Sections.{section_of}
 use Rattle.acl_options.specs.Commands.{Inputs}
 use Rattle.acl_run.specs.Finishing.{IsTextOf}
 use Rattle.acl_run.specs.PolicyAnswers.{AnswersPolicy}

@@ -11,8 +11,8 @@ use Rattle.acl_load.specs.declared.policy_loading.Loaded.{Loaded}
 use Rattle.acl_filters.specs.FilterRequests.{requests_of}
 use Rattle.std_lang.specs.Documents.{list_names}
 use Rattle.std_lang.specs.Texts.{text_of}
-use Rattle.gen_standard.specs.Limits.{is_for_standard, limit_of}
-use Rattle.gen_standard.specs.Sections.{section_of}
+use Rattle.gen_acltool.specs.Limits.{is_for_standard, limit_of}
+use Rattle.gen_acltool.specs.Sections.{section_of}
 use Rattle.acl_run.specs.PolicyAnswers.{MakesLoaded, answer_of}
 use Rattle.acltool_core.specs.ListPlans.{IsReady, lists_slip, plan_of}
 

@@ -19,7 +19,7 @@ use Rattle.acl_filters.specs.AskedFilters.{FilterRequest}
 use Rattle.acl_filters.specs.FilterRequests.{filter_for, request_slip, requests_of}
 use Rattle.ipr_lang.specs.Texts.{text_of}
 use Rattle.gen_iptables.specs.Sections.{section_of}
-use Rattle.gen_speedway.specs.RestoredFilters.{leaves_packets}
+use Rattle.gen_acltool.specs.RestoredFilters.{leaves_packets}
 use Rattle.acl_options.specs.Commands.{Inputs}
 use Rattle.acl_run.specs.Finishing.{IsTextOf}
 use Rattle.acl_run.specs.PolicyAnswers.{AnswersPolicy}

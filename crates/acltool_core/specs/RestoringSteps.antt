@@ -12,7 +12,7 @@ use Rattle.acl_filters.specs.FilterRequests.{requests_of}
 use Rattle.acl_render.specs.PlatformFiles.{AreApart, IsTaken}
 use Rattle.ipr_lang.specs.Texts.{text_of}
 use Rattle.gen_iptables.specs.Sections.{section_of}
-use Rattle.gen_speedway.specs.RestoredFilters.{leaves_packets}
+use Rattle.gen_acltool.specs.RestoredFilters.{leaves_packets}
 use Rattle.acl_run.specs.PolicyAnswers.{MakesLoaded, answer_of}
 use Rattle.acltool_core.specs.RestorePlans.{IsReady, plan_of, restores_slip}
 

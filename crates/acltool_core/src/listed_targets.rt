@@ -14,7 +14,7 @@ use acl_platform::{Filter, count_within_limits};
 use acl_policy::{Kind, Target};
 use acl_terms::Term;
 use acl_text::{Code, Refusal};
-use gen_standard::Standard;
+use gen_acltool::Standard;
 use std::alloc::Global;
 
 const LAST_NUMBER: u32 = 99;

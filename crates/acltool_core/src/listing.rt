@@ -16,7 +16,7 @@ use acl_load::{LoadFault, Loaded, load, policy_fault};
 use acl_options::Inputs;
 use acl_platform::{Filter, write_all};
 use acl_text::{Memory, Refusal, Rejection, Whole};
-use gen_standard::Standard;
+use gen_acltool::Standard;
 use std::alloc::Global;
 
 // The text of the filters, where there are some.

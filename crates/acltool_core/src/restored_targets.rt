@@ -2,7 +2,7 @@ ghost use Rattle.std.specs.Prelude.{◌≡◌, List};
 ghost use Rattle.acl_policy.specs.declared.raw_terms.RawTerm.{RawTerm};
 ghost use Rattle.acl_terms.specs.declared.terms.Term.{Term};
 ghost use Rattle.acl_filters.specs.FilterRequests.{request_of};
-ghost use Rattle.gen_speedway.specs.RestoredFilters.{leaves_packets};
+ghost use Rattle.gen_acltool.specs.RestoredFilters.{leaves_packets};
 ghost use Rattle.acltool_core.specs.RestorePlans.{is_restored, restored_slip};
 
 use acl_days::Day;

@@ -20,7 +20,7 @@ use acl_options::Inputs;
 use acl_packet::Family;
 use acl_platform::{Filter, write_all};
 use acl_text::{Memory, Refusal, Rejection, Whole};
-use gen_speedway::Speedway;
+use gen_acltool::Speedway;
 use std::alloc::Global;
 
 // The text of the filters, where there are some.

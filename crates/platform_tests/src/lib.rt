@@ -1,4 +1,5 @@
-//! Tests of what the platforms share, of each platform's generator, and of rendering.
+//! Tests of the languages, whose texts are read or refused; of what the platforms share, of each platform's generator, and
+//! of rendering.
 //!
 //! A library that is tested here is proved once: tests beside its code would have it proved with them again.
 #![tactic(auto)]

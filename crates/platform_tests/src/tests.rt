@@ -1,6 +1,13 @@
+mod cisco;
 mod generators;
+mod iptables;
+mod junos;
+mod languages;
+mod nftables;
 mod platforms;
 mod rendering;
+mod restore;
 mod samples;
 mod speedway;
 mod standard;
+mod standard_texts;

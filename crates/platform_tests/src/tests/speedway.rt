@@ -4,7 +4,7 @@ use acl_packet::Families;
 use acl_platform::{Rules, count_within_limits};
 use acl_target::Ending;
 use acl_text::Memory;
-use gen_speedway::Speedway;
+use gen_acltool::Speedway;
 use std::alloc::Global;
 
 // A chain of IPv4 that drops, and one of IPv6 that accepts.

@@ -3,7 +3,7 @@ use crate::tests::samples::{HEAD, Head, filter};
 use acl_platform::{Rules, count_within_limits};
 use acl_target::{Ending, Kind};
 use acl_text::Memory;
-use gen_standard::Standard;
+use gen_acltool::Standard;
 use std::alloc::Global;
 
 // The first two of a policy.

@@ -6,7 +6,7 @@ use Rattle.acl_run.specs.Telling.{Reports, ReportsOn}
 use Rattle.acl_run.specs.Worlds.{Stream}
 use Rattle.acl_run.specs.declared.endings.Ended.{Ended}
 use Rattle.acl_run.specs.declared.endings.Which.TheVariants as which
-use Rattle.workload_job.specs.WorkloadPlans.{MakesWorkload}
+use Rattle.aclgen_core.specs.WorkloadPlans.{MakesWorkload}
 use Rattle.aclgen_core.specs.FaultLines.{program_name}
 use Rattle.aclgen_core.specs.WorkloadRuns.{RunsWorkload}
 use Rattle.aclgen_core.proofs.workload_runs.run_workload.Goals as goal

@@ -1,8 +1,8 @@
 use Rattle.std.proofs.Common.{arith}
 use Rattle.std.specs.List.{IsDistinct}
 use Rattle.std_lang.specs.Documents.{list_names}
-use Rattle.gen_standard.specs.Sections.{section_of}
-use Rattle.gen_standard.proofs.ListNumbers.{numbers-apart}
+use Rattle.gen_acltool.specs.Sections.{section_of}
+use Rattle.gen_acltool.proofs.ListNumbers.{numbers-apart}
 use Rattle.platform_tests.proofs.SampleSections.{both-differ}
 use Rattle.platform_tests.proofs.tests.standard.lists_are_written.Goals as goal
 

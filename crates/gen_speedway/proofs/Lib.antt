@@ -1,3 +1,0 @@
-pub mod FirstRows
-pub mod RestoredRows
-pub mod RestoredSections

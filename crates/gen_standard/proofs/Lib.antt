@@ -1,5 +1,0 @@
-pub mod DecisionLaws
-pub mod EntryCounts
-pub mod ListNumbers
-pub mod Rows
-pub mod SectionLaws

@@ -1,5 +1,0 @@
-pub mod CountSteps
-pub mod Limits
-pub mod ListNumbers
-pub mod RowSteps
-pub mod Sections

@@ -1,7 +1,0 @@
-//! Tests of the languages: texts as they are read, and texts that are refused.
-//!
-//! A library that is tested here is proved once: tests beside its code would have it proved with them again.
-#![tactic(auto)]
-
-#[cfg(test)]
-mod tests;

@@ -1,6 +1,0 @@
-use Rattle.std.proofs.Common.{◌≡◌}
-use Rattle.workload_job.specs.WorkloadTexts.{for_each, network_line}
-use Rattle.workload_job.proofs.workloads.networks.Given as goal
-
-abbrev pub invariant-loop-i : goal.invariant-loop-i
-invariant-loop-i l = l.text ≡ for_each network_line l.i
