@@ -1,6 +1,6 @@
 ghost use Rattle.std.specs.Prelude.{◌≡◌, ◌<◌, ◌++◌, true, [], ◌∷◌, length, slice_set, IfOk, OnOk};
 ghost use Rattle.std.specs.List.{All};
-ghost use Rattle.acl_naming.specs.GraphSteps.{AreBehind, blank};
+ghost use Rattle.acl_naming.specs.GraphSteps.{AreBehind};
 ghost use Rattle.acl_naming.specs.MarkSteps.{mark_all, unmarked};
 
 use crate::linking::LinkedTable;

@@ -1,6 +1,6 @@
+use acl_options::{put_packet, read_packet};
 use acl_packet::{Conn, Family, Packet};
 use acl_text::Whole;
-use acl_options::{put_packet, read_packet};
 use std::alloc::Global;
 
 const WEB: Packet = Packet {

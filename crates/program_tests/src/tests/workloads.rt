@@ -1,7 +1,7 @@
 use acl_text::Memory;
+use aclgen_core::{Workload, workload};
 use std::alloc::Global;
 use std::str;
-use aclgen_core::{Workload, workload};
 
 const NETWORKS: &[u8] =
     b"N0 = 10.0.0.0/25 10.0.0.128/25 2001:db8:0::/48\nN1 = 10.0.1.0/25 10.0.1.128/25 2001:db8:1::/48\n";
