@@ -9,7 +9,7 @@ use crate::tests::reading::{TODAY, base, policy_of, shown_slip, terms_of};
 use acl_expand::expand;
 use acl_naming::Checked;
 use acl_packet::Prefix;
-use acl_platform::{Filter, Rule};
+use acl_platform::{Filter, Rule, Test};
 use acl_policy::Block;
 use acl_sets::RangeSet;
 use acl_target::Target;
@@ -70,12 +70,25 @@ fn add_list(alloc: Global, out: &mut String, prefixes: &[Prefix]) -> Result<(), 
     Ok(())
 }
 
+fn test_word(test: Test) -> &'static str {
+    match test {
+        Test::Plain => "Plain",
+        Test::AckOrRst => "AckOrRst",
+        Test::SynNotAck => "SynNotAck",
+        Test::Rst => "Rst",
+        Test::State => "State",
+    }
+}
+
 // The rule's name, family, verdict, test and log.
 fn add_head(alloc: Global, out: &mut String, rule: &Rule) -> Result<(), Memory> {
     let name = text(rule.name.as_slice());
     let head = format!(in alloc;
-        "{name} {:?} {:?} {:?} {}",
-        rule.family, rule.verdict, rule.test, rule.log
+        "{name} {:?} {:?} {} {}",
+        rule.family,
+        rule.verdict,
+        test_word(rule.test),
+        rule.log
     )?;
     out.push_str(&head)?;
     Ok(())
