@@ -10,9 +10,9 @@ use Rattle.acl_sets.specs.declared.sets.Range.{Range}
 use Rattle.acl_sets.specs.Ranges.{IsNormal, Numbers, holds}
 use Rattle.acl_terms.specs.declared.options.Mode.TheVariants.{Stateless}
 use Rattle.acl_terms.specs.declared.terms.Term.{Term}
-use Rattle.acl_boxes.specs.declared.axes.Axis.{Axis}
-use Rattle.acl_boxes.specs.Boxes as boxes
-use Rattle.acl_boxes.specs.Runs.{begins, has_ended}
+use Rattle.acl_dead.specs.declared.axes.Axis.{Axis}
+use Rattle.acl_dead.specs.Boxes as boxes
+use Rattle.acl_dead.specs.Runs.{begins, has_ended}
 use Rattle.term_boxes.specs.declared.boxes.PacketBox.{PacketBox}
 use Rattle.term_boxes.specs.Boxes.{IsSet, hold}
 use Rattle.term_boxes.specs.Coordinates.{AreWithin}

@@ -12,9 +12,9 @@ use Rattle.acl_sets.specs.ComputableSets.{is_all}
 use Rattle.acl_sets.specs.Ranges.{Numbers, holds}
 use Rattle.acl_terms.specs.declared.terms.Term.{Term}
 use Rattle.acl_terms.specs.Resolved.{destination_in, either_in, has_number, source_in}
-use Rattle.acl_boxes.specs.declared.axes.Axis.{Axis}
-use Rattle.acl_boxes.specs.Boxes.{is_cut_by}
-use Rattle.acl_boxes.specs.Runs.{begins, cuts, has_before, is_boundary}
+use Rattle.acl_dead.specs.declared.axes.Axis.{Axis}
+use Rattle.acl_dead.specs.Boxes.{is_cut_by}
+use Rattle.acl_dead.specs.Runs.{begins, cuts, has_before, is_boundary}
 use Rattle.term_boxes.specs.declared.boxes.PacketBox.{PacketBox}
 use Rattle.term_boxes.specs.NumberSets.{up_to}
 use Rattle.term_boxes.specs.TermBoxes.{own_box}

@@ -2,7 +2,7 @@
 use Rattle.std.proofs.Common.{◌≡◌, ℕ, ◌<◌, ◌⊎◌, Bool, true, false, not, ◌||◌, nat_lt, arith, List, [], ◌∷◌, ◌++◌, length, flat_map, map, refl, sym, ap, ◌∙◌, subst, inl, inr, ◌+◌, get_or, take, drop, Option, None, Result, Ok, Err}
 use Rattle.std.specs.Result.{IfOk}
 use Rattle.std.proofs.lemmas.List.{drop_more}
-use Rattle.acl_days.specs.declared.days.Day.{Day}
+use Rattle.acl_host.specs.declared.days.Day.{Day}
 use Rattle.acl_target.specs.declared.targets.Target.{Target}
 use Rattle.acl_dead.specs.declared.decisions.Decided.{Decided}
 use Rattle.std.proofs.lemmas.Bool.{and_parts, and_from, or_from, ltb-true, lt-ltb, cases_Bool, false_from_ne_true, false≢true}
@@ -18,9 +18,9 @@ use Rattle.acl_terms.specs.declared.options.Mode.{Mode}
 use Rattle.acl_terms.specs.Outcomes.{mode_of}
 use Rattle.acl_terms.specs.Resolved.{IsEmptyIn, matches}
 use Rattle.acl_terms.proofs.PairLaws.{empty_matches_none}
-use Rattle.acl_boxes.specs.declared.axes.Axis.{Axis}
-use Rattle.acl_boxes.specs.Boxes as boxes
-use Rattle.acl_boxes.specs.Order.{IsBefore}
+use Rattle.acl_dead.specs.declared.axes.Axis.{Axis}
+use Rattle.acl_dead.specs.Boxes as boxes
+use Rattle.acl_dead.specs.Order.{IsBefore}
 use Rattle.term_boxes.specs.Bars.{bars}
 use Rattle.term_boxes.specs.Boxes.{has, hold, sides_of}
 use Rattle.term_boxes.specs.Coordinates.{AreWithin, FieldsFit, numbers_of, packet_at, tops_of}

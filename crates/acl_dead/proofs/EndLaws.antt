@@ -18,7 +18,7 @@ use Rattle.acl_terms.specs.declared.sides.SidePair.{SidePair}
 use Rattle.acl_terms.specs.declared.terms.Term.{Term}
 use Rattle.acl_terms.specs.Outcomes.{mode_of}
 use Rattle.acl_terms.specs.Resolved.{destination_cut, destination_in, either_in, has_number, in_both, pairs_of, set_in, source_cut, source_in}
-use Rattle.acl_boxes.specs.Runs.{cuts, has_before, has_ended}
+use Rattle.acl_dead.specs.Runs.{cuts, has_before, has_ended}
 use Rattle.term_boxes.specs.declared.boxes.PacketBox.{PacketBox}
 use Rattle.term_boxes.specs.Bars.{bars, bars_of_both}
 use Rattle.term_boxes.specs.Boxes.{IsSet, everything}

@@ -1,9 +1,17 @@
 pub mod ApartLaws
 pub mod AxisLaws
+pub mod CutFacts
 pub mod CutLaws
 pub mod DecisionLaws
 pub mod EndLaws
+pub mod LevelFacts
 pub mod ListSteps
 pub mod Lists
 pub mod OneAnswer
 pub mod PacketLaws
+pub mod PlaceFacts
+pub mod PointFacts
+pub mod RoundingLaws
+pub mod RowFacts
+pub mod SweepFacts
+pub mod WalkFacts

@@ -3,7 +3,7 @@ use Rattle.std.proofs.Common.{◌≡◌, ℕ, ◌+◌, ◌<◌, ◌⊎◌, zero,
 use Rattle.std.proofs.lemmas.Bool.{or_cases, or_left, or_right, eqb-true, eq-eqb, cases_order, false≢true}
 use Rattle.std.proofs.lemmas.List.Kept.{AllPairs-from_increasing}
 use Rattle.std.specs.List.Sorted.{IsStrictlyIncreasing}
-use Rattle.acl_boxes.specs.Order.{IsBefore}
+use Rattle.acl_dead.specs.Order.{IsBefore}
 use Rattle.acl_dead.specs.Deciding.{is_among}
 
 at_place : {X : Type 0} (g : X) (gs : List X) (z : X) (k : ℕ) → k < length (g ∷ gs) → get_or (g ∷ gs) k z ≡ z

@@ -10,10 +10,10 @@ use Rattle.acl_packet.specs.declared.packets.Conn.{Conn}
 use Rattle.acl_packet.specs.declared.packets.Conn.TheVariants.{New, Established, Related, Invalid}
 use Rattle.acl_packet.specs.declared.packets.Packet.{Packet}
 use Rattle.acl_packet.specs.Packets.{number_of}
-use Rattle.acl_boxes.specs.declared.axes.Axis.{Axis}
-use Rattle.acl_boxes.specs.Boxes as boxes
-use Rattle.acl_boxes.specs.Order.{IsBefore}
-use Rattle.acl_boxes.specs.Runs.{is_boundary}
+use Rattle.acl_dead.specs.declared.axes.Axis.{Axis}
+use Rattle.acl_dead.specs.Boxes as boxes
+use Rattle.acl_dead.specs.Order.{IsBefore}
+use Rattle.acl_dead.specs.Runs.{is_boundary}
 use Rattle.term_boxes.specs.Coordinates.{numbers_of, place_of_connection, place_of_flags}
 use Rattle.term_boxes.specs.NumberSets.{up_to}
 use Rattle.term_boxes.specs.TermBoxes.{own_box}

@@ -12,7 +12,7 @@ use Rattle.acl_packet.specs.declared.packets.Conn.TheVariants.{New, Established}
 use Rattle.acl_packet.specs.declared.packets.Packet.{Packet}
 use Rattle.acl_packet.specs.Addresses.{covers}
 use Rattle.acl_packet.specs.Packets.{IsPacket, fields, is_tracked, number_of}
-use Rattle.acl_days.specs.declared.days.Day.{Day}
+use Rattle.acl_host.specs.declared.days.Day.{Day}
 use Rattle.acl_sets.specs.Ranges.{Numbers, holds}
 use Rattle.acl_target.specs.declared.targets.Target.{Target}
 use Rattle.acl_terms.specs.declared.options.Opt.{Opt}
@@ -20,8 +20,8 @@ use Rattle.acl_terms.specs.declared.options.Opt.TheVariants.{Plain}
 use Rattle.acl_terms.specs.declared.terms.Term.{Term}
 use Rattle.acl_terms.specs.Outcomes.{mode_of}
 use Rattle.acl_terms.specs.Resolved.{destination_in, either_in, has_number, is_empty_in, is_term_live, matches, source_in}
-use Rattle.acl_boxes.specs.Order.{IsBefore}
-use Rattle.acl_boxes.specs.Runs.{cuts, is_boundary}
+use Rattle.acl_dead.specs.Order.{IsBefore}
+use Rattle.acl_dead.specs.Runs.{cuts, is_boundary}
 use Rattle.acl_dead.specs.declared.decisions.Decided.{Decided}
 use Rattle.acl_dead.specs.declared.decisions.Decided.TheVariants as answers
 

@@ -4,8 +4,8 @@ use Rattle.acl_packet.specs.declared.addresses.Family.{Family}
 use Rattle.acl_packet.specs.declared.packets.Packet.{Packet}
 use Rattle.acl_packet.specs.Addresses.{covers}
 use Rattle.acl_terms.specs.Resolved.{IsEmptyIn, is_empty_in}
-use Rattle.acl_boxes.specs.declared.axes.Axis.{Axis}
-use Rattle.acl_boxes.specs.Boxes.{AreBoundaries}
+use Rattle.acl_dead.specs.declared.axes.Axis.{Axis}
+use Rattle.acl_dead.specs.Boxes.{AreBoundaries}
 use Rattle.term_boxes.specs.declared.boxes.PacketBox.{PacketBox}
 use Rattle.term_boxes.specs.TermBoxes.{own_box}
 use Rattle.acl_dead.specs.declared.blocking.Space.{Space}

@@ -1,7 +1,16 @@
 pub mod ApartSteps
 pub mod BlockSteps
+pub mod Boxes
 pub mod CoordinateSteps
+pub mod CutSteps
 pub mod Deciding
 pub mod GridSteps
+pub mod Laws
+pub mod LevelSteps
+pub mod Order
+pub mod PlaceSteps
 pub mod QuestionSteps
+pub mod RowSteps
+pub mod Runs
+pub mod SearchSteps
 pub mod SideSteps

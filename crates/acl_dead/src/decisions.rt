@@ -7,7 +7,7 @@ ghost use Rattle.acl_dead.specs.QuestionSteps.{question};
 use crate::blocking::Space;
 use crate::grids::{first_in, grid_in, is_too_large, space_in};
 use crate::questions::Asked;
-use acl_days::Day;
+use acl_host::Day;
 use acl_packet::{Family, Packet};
 use acl_target::Target;
 use acl_terms::Term;

@@ -4,12 +4,13 @@ ghost use Rattle.acl_dead.specs.GridSteps.{AreAxesIn, AreAxesOf, FindsIn, HasPac
 ghost use Rattle.acl_dead.specs.Deciding.{IsTooLargeIn, is_live_on};
 ghost use Rattle.acl_dead.specs.QuestionSteps.{question};
 
+use crate::axes::Axis;
 use crate::blocking::Space;
 use crate::coordinates::{Coordinate, coordinates};
 use crate::cutting::{numbers_along, sets_along};
 use crate::questions::Asked;
 use crate::sides::side_of;
-use acl_boxes::{Axis, first_clear, is_larger_than};
+use crate::spaces::{first_clear, is_larger_than};
 use acl_packet::{Family, Packet};
 use acl_terms::is_empty_in;
 use acl_text::Memory;

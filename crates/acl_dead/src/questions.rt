@@ -4,7 +4,7 @@ ghost use Rattle.acl_dead.specs.Deciding.{asks_option, is_live_on, question_of, 
 ghost use Rattle.acl_dead.specs.QuestionSteps.{question};
 ghost use Rattle.acl_terms.specs.Outcomes.{mode_of};
 
-use acl_days::Day;
+use acl_host::Day;
 use acl_target::Target;
 use acl_terms::{Mode, Opt, Term, is_live};
 use acl_text::Memory;

@@ -3,7 +3,7 @@ use Rattle.std.proofs.Common.{ℕ, nat_le, List, [], ◌∷◌, ◌++◌, Option
 use Rattle.acl_text.specs.AnsweredCodes.{SlipIsAnswered}
 use Rattle.acl_text.specs.declared.faults.Slip.{Slip}
 use Rattle.acl_text.proofs.AnsweredLaws.{either, either_answered}
-use Rattle.acl_days.specs.declared.days.Day.{Day}
+use Rattle.acl_host.specs.declared.days.Day.{Day}
 use Rattle.acl_target.specs.declared.targets.Target.{Target}
 use Rattle.acl_terms.specs.declared.terms.Term.{Term}
 use Rattle.acl_expand.specs.ExpansionSlips.{first_slip, header_at, header_named, header_slip, is_for_ipv6, most_prefixes, prefix_slip, prefixes_of, slip_behind, term_slip}

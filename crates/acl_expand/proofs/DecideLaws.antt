@@ -9,7 +9,7 @@ use Rattle.acl_packet.specs.declared.packets.Packet.{Packet}
 use Rattle.acl_packet.specs.Addresses.{covers, same_family}
 use Rattle.acl_packet.specs.Outcomes.{unlogged}
 use Rattle.acl_packet.specs.Packets.{IsPacket, is_neighbour_discovery}
-use Rattle.acl_days.specs.declared.days.Day.{Day}
+use Rattle.acl_host.specs.declared.days.Day.{Day}
 use Rattle.acl_target.specs.declared.targets.Ending.{Ending}
 use Rattle.acl_target.specs.declared.targets.Ending.TheVariants as endings
 use Rattle.acl_target.specs.declared.targets.Kind.{Kind}

@@ -11,7 +11,7 @@ use Rattle.acl_packet.specs.declared.packet_fields.Field.TheVariants.{SourcePort
 use Rattle.acl_packet.specs.declared.packets.Packet.{Packet}
 use Rattle.acl_packet.specs.Addresses.{covers, same_family, top_address, width_of}
 use Rattle.acl_packet.specs.Packets.{IsPacket}
-use Rattle.acl_days.specs.declared.days.Day.{Day}
+use Rattle.acl_host.specs.declared.days.Day.{Day}
 use Rattle.acl_packet.specs.AddressLists.{any_has}
 use Rattle.acl_sets.specs.Ranges.{Only, holds}
 use Rattle.acl_sets.proofs.RangeLaws.{empty-holds}

@@ -11,7 +11,7 @@ use Rattle.acl_packet.specs.declared.packets.Conn.TheVariants as conns
 use Rattle.acl_packet.specs.declared.packet_fields.Field.TheVariants.{IcmpType, IcmpCode}
 use Rattle.acl_packet.specs.declared.packets.Packet.{Packet}
 use Rattle.acl_packet.specs.Addresses.{covers, same_family}
-use Rattle.acl_days.specs.declared.days.Day.{Day}
+use Rattle.acl_host.specs.declared.days.Day.{Day}
 use Rattle.acl_sets.specs.declared.sets.Range.{Range}
 use Rattle.acl_sets.specs.Ranges.{IsNormal, holds}
 use Rattle.acl_sets.proofs.RangeLaws.{first-holds}

@@ -7,7 +7,7 @@ use Rattle.acl_packet.specs.Addresses.{covers}
 use Rattle.acl_text.specs.declared.faults.Code.TheVariants.{ExtensionHeader, TooManyPrefixes}
 use Rattle.acl_text.specs.declared.faults.Slip.{Slip}
 use Rattle.acl_text.specs.Refusals.{slip}
-use Rattle.acl_days.specs.declared.days.Day.{Day}
+use Rattle.acl_host.specs.declared.days.Day.{Day}
 use Rattle.acl_sets.specs.ComputableSets.{is_all}
 use Rattle.acl_sets.specs.Ranges.{holds}
 use Rattle.acl_target.specs.declared.targets.Target.{Target}

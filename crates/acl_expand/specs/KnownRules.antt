@@ -1,7 +1,7 @@
 -- The rules of terms that are known from other targets.
 use Rattle.std.specs.Prelude.{◌≡◌, Bool, true, false, List, None}
 use Rattle.std.specs.List.{AllByRecursion}
-use Rattle.acl_days.specs.declared.days.Day.{Day}
+use Rattle.acl_host.specs.declared.days.Day.{Day}
 use Rattle.acl_target.specs.declared.targets.Target.{Target}
 use Rattle.acl_terms.specs.declared.options.Opt.{Opt}
 use Rattle.acl_terms.specs.declared.options.Opt.TheVariants.{Plain, Established, TcpEstablished, TcpInitial, Rst}

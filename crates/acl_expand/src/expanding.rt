@@ -10,7 +10,7 @@ ghost use Rattle.acl_expand.specs.TermRules.{rules_of, term_rules};
 use crate::known_lists::KnownLists;
 use crate::rule_making::push_term;
 use crate::slips::{check_header, check_prefixes, prefixes_behind};
-use acl_days::Day;
+use acl_host::Day;
 use acl_packet::Families;
 use acl_platform::{Filter, Rules, SharedRules};
 use acl_target::Target;

@@ -11,7 +11,7 @@ ghost use Rattle.acl_expand.specs.TermRules.{rules_of};
 use crate::expanding::{filter_with, shared_rules};
 use crate::known_lists::KnownLists;
 use crate::target_classes::TargetClass;
-use acl_days::Day;
+use acl_host::Day;
 use acl_platform::{Filter, SharedRules};
 use acl_target::Target;
 use acl_terms::Term;

@@ -23,7 +23,7 @@ ghost use Rattle.acl_expand.specs.TermRules.{
 
 use crate::conditions::{Conditions, tcp_half, udp_alone, udp_half, whole};
 use crate::known_lists::KnownLists;
-use acl_days::Day;
+use acl_host::Day;
 use acl_packet::{Families, Family, Verdict};
 use acl_platform::{Rule, Rules, Test};
 use acl_sets::{Prefixes, RangeSet};

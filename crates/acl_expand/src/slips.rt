@@ -14,7 +14,7 @@ ghost use Rattle.acl_expand.specs.ExpansionSlips.{
   rule_prefixes,
 };
 
-use acl_days::Day;
+use acl_host::Day;
 use acl_packet::Family;
 use acl_platform::Rule;
 use acl_sets::RangeSet;

@@ -3,7 +3,7 @@ ghost use Rattle.std.specs.List.{AllByRecursion};
 ghost use Rattle.acl_expand.specs.KnownRules.{AreAlike, IsAlike, asks_by_mode, class_of};
 
 use crate::rule_making::verdict_on;
-use acl_days::Day;
+use acl_host::Day;
 use acl_packet::Families;
 use acl_target::{Kind, Target};
 use acl_terms::{Opt, Term, is_live};

@@ -5,7 +5,7 @@ use Rattle.acl_text.specs.declared.faults.Code.{Code}
 use Rattle.acl_text.specs.declared.faults.Code.TheVariants as codes_of
 use Rattle.acl_text.specs.declared.faults.Slip.{Slip}
 use Rattle.acl_text.proofs.AnsweredLaws.{either_answered}
-use Rattle.acl_days.specs.declared.days.Day.{Day}
+use Rattle.acl_host.specs.declared.days.Day.{Day}
 use Rattle.acl_platform.specs.declared.filters.Filter.{Filter}
 use Rattle.acl_platform.specs.declared.filters.Limit.{Limit}
 use Rattle.acl_platform.specs.declared.filters.Limit.TheVariants as limits
@@ -13,7 +13,7 @@ use Rattle.acl_platform.specs.declared.rules.Rule.{Rule}
 use Rattle.acl_expand.specs.ExpansionSlips.{first_slip}
 use Rattle.acl_expand.proofs.AnsweredSlips.{expansion_answered}
 use Rattle.acl_platform.specs.Features.{feature_word}
-use Rattle.acl_render.specs.PlatformFiles.{limit_of}
+use Rattle.acl_filters.specs.PlatformFiles.{limit_of}
 use Rattle.acl_filters.specs.AskedFilters.{FilterRequest}
 use Rattle.acl_filters.specs.FilterRequests.{check_slip, filter_for, limit_slip, name_word, request_slip, rule_slip}
 

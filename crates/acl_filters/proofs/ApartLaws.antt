@@ -6,7 +6,7 @@ use Rattle.std.specs.List.{All, AllByRecursion, IsDistinct, list_any}
 use Rattle.std.proofs.lemmas.Bool.{and_parts, eqb-true, false_from_ne_true, false≢true}
 use Rattle.std.proofs.lemmas.List.{map-append}
 use Rattle.std.proofs.lemmas.List.Elements.{All-cons, All-nil}
-use Rattle.acl_days.specs.declared.days.Day.{Day}
+use Rattle.acl_host.specs.declared.days.Day.{Day}
 use Rattle.acl_naming.specs.Definitions.{Naming}
 use Rattle.acl_target.specs.declared.targets.Kind.{Kind}
 use Rattle.acl_target.specs.declared.targets.Kind.TheVariants.{Cisco, Juniper, Iptables, Nftables}
@@ -20,7 +20,7 @@ use Rattle.acl_terms.specs.declared.terms.Term.{Term}
 use Rattle.acl_platform.specs.declared.filters.Filter.{Filter}
 use Rattle.acl_platform.specs.SoundFilters.{target_of}
 use Rattle.acl_load.specs.LoadedPolicies.{AreResolvedIn}
-use Rattle.acl_render.specs.PlatformFiles.{AreApart, IsTaken}
+use Rattle.acl_filters.specs.PlatformFiles.{AreApart, IsTaken}
 use Rattle.acl_filters.specs.AskedFilters.{FilterRequest}
 use Rattle.acl_filters.specs.FilterRequests.{block_requests, filter_for, request_of, requests_in, requests_on}
 

@@ -9,7 +9,7 @@ use Rattle.acl_text.specs.declared.faults.Refusal.{Refusal}
 use Rattle.acl_text.specs.declared.faults.Refusal.TheVariants as refusals
 use Rattle.acl_text.specs.declared.faults.Slip.{Slip}
 use Rattle.acl_text.specs.Refusals.{first_in}
-use Rattle.acl_days.specs.declared.days.Day.{Day}
+use Rattle.acl_host.specs.declared.days.Day.{Day}
 use Rattle.acl_terms.proofs.SlipLaws.{first-in-append}
 use Rattle.acl_platform.specs.declared.filters.Filter.{Filter}
 use Rattle.acl_filters.specs.AskedFilters.{FilterRequest}

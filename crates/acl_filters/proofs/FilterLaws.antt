@@ -7,7 +7,7 @@ use Rattle.acl_text.specs.declared.faults.Refusal.{Refusal}
 use Rattle.acl_text.specs.declared.faults.Refusal.TheVariants as refusals
 use Rattle.acl_text.proofs.ListLaws.{all_append}
 use Rattle.acl_text.specs.Refusals.{IsRefusalBy}
-use Rattle.acl_days.specs.declared.days.Day.{Day}
+use Rattle.acl_host.specs.declared.days.Day.{Day}
 use Rattle.acl_policy.specs.declared.blocks.Block.{Block}
 use Rattle.acl_terms.specs.declared.terms.Term.{Term}
 use Rattle.acl_platform.specs.declared.filters.Filter.{Filter}
@@ -15,12 +15,12 @@ use Rattle.acl_platform.specs.declared.filters.Limit.{Limit}
 use Rattle.acl_platform.specs.Platforms.{judged}
 use Rattle.acl_platform.specs.SoundFilters.{IsSound}
 use Rattle.acl_expand.specs.ExpansionSlips.{first_slip}
-use Rattle.acl_render.specs.PlatformFiles.{count_of, limit_of, limit_on}
+use Rattle.acl_filters.specs.PlatformFiles.{count_of, limit_of, limit_on}
 use Rattle.acl_filters.specs.AskedFilters.{FilterRequest}
 use Rattle.acl_filters.specs.FilterRequests.{check_slip, block_requests, filter_for, limit_slip, request_of, request_slip, requests_in, requests_slip}
 use Rattle.acl_filters.specs.CheckedFilters.{Checks, ChecksFilter, IsTakenFor, IsShort}
 use Rattle.acl_policy.specs.Conditions.{IsBlock}
-use Rattle.acl_render.proofs.ShortListsLaws.{taken-short}
+use Rattle.acl_filters.proofs.ShortListsLaws.{taken-short}
 use Rattle.acl_target.specs.TargetData.{IsTarget}
 use Rattle.acl_expand.proofs.FilterLaws.{filter-sound}
 use Rattle.acl_filters.proofs.ApartLaws.{all-by}

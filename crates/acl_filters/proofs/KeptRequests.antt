@@ -1,7 +1,7 @@
 -- Some of the requests of a policy: what holds of all of them holds of those that are kept.
 use Rattle.std.proofs.Common.{◌≡◌, Bool, true, false, ◌&&◌, ◌==◌, if◌then◌else◌, List, [], ◌∷◌, filter, map, refl, ap, sym, subst}
 use Rattle.std.specs.List.{AllByRecursion, IsDistinct}
-use Rattle.acl_days.specs.declared.days.Day.{Day}
+use Rattle.acl_host.specs.declared.days.Day.{Day}
 use Rattle.acl_naming.specs.Definitions.{Naming}
 use Rattle.acl_target.specs.declared.targets.Kind.{Kind}
 use Rattle.acl_target.specs.declared.targets.Target.{Target}
@@ -12,7 +12,7 @@ use Rattle.acl_terms.specs.declared.terms.Term.{Term}
 use Rattle.acl_load.specs.LoadedPolicies.{AreResolvedIn}
 use Rattle.acl_platform.specs.declared.filters.Filter.{Filter}
 use Rattle.acl_platform.specs.SoundFilters.{target_of}
-use Rattle.acl_render.specs.PlatformFiles.{AreApart}
+use Rattle.acl_filters.specs.PlatformFiles.{AreApart}
 use Rattle.acl_filters.specs.AskedFilters.{FilterRequest}
 use Rattle.acl_filters.specs.FilterRequests.{filter_for, requests_in, requests_on}
 use Rattle.acl_filters.proofs.ApartLaws.{all-on, apart-on}

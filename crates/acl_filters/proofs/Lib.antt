@@ -2,6 +2,13 @@ pub mod AnsweredSlips
 pub mod ApartLaws
 pub mod BlockLists
 pub mod ChoosingLaws
+pub mod DocumentLaws
+pub mod FewerRulesLaws
 pub mod FilterLaws
 pub mod KeptRequests
+pub mod LeftLaws
 pub mod MeantFilters
+pub mod MeantTextsLaws
+pub mod ReadingForms
+pub mod ShortListsLaws
+pub mod TakenFilters

@@ -2,10 +2,10 @@
 use Rattle.std.specs.Prelude.{◌≡◌, ℕ, ◌≤◌, None, Some, Result, Ok, Err}
 use Rattle.acl_text.specs.declared.faults.Refusal.{Refusal}
 use Rattle.acl_text.specs.declared.faults.Refusal.TheVariants as refusals
-use Rattle.acl_days.specs.declared.days.Day.{Day}
+use Rattle.acl_host.specs.declared.days.Day.{Day}
 use Rattle.acl_platform.specs.declared.filters.Filter.{Filter}
-use Rattle.acl_render.specs.PlatformFiles.{IsTaken, count_of}
-use Rattle.acl_render.specs.ShortLists.{HasFewestPrefixes}
+use Rattle.acl_filters.specs.PlatformFiles.{IsTaken, count_of}
+use Rattle.acl_filters.specs.ShortLists.{HasFewestPrefixes}
 use Rattle.acl_filters.specs.AskedFilters.{FilterRequest}
 use Rattle.acl_filters.specs.FilterRequests.{filter_for, request_slip}
 

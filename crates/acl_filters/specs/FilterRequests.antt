@@ -5,7 +5,7 @@ use Rattle.acl_text.specs.declared.faults.Code.{Code}
 use Rattle.acl_text.specs.declared.faults.Code.TheVariants as codes_of
 use Rattle.acl_text.specs.declared.faults.Slip.{Slip}
 use Rattle.acl_text.specs.Refusals.{first_in, slip}
-use Rattle.acl_days.specs.declared.days.Day.{Day}
+use Rattle.acl_host.specs.declared.days.Day.{Day}
 use Rattle.acl_target.specs.declared.targets.Kind.{Kind}
 use Rattle.acl_target.specs.declared.targets.Target.{Target}
 use Rattle.acl_target.specs.Clashes.{same_kind}
@@ -20,7 +20,7 @@ use Rattle.acl_platform.specs.Features.{feature_word}
 use Rattle.acl_expand.specs.Expansions.{filter_of}
 use Rattle.acl_expand.specs.ExpansionSlips.{first_slip}
 use Rattle.acl_load.specs.declared.policy_loading.Loaded.{Loaded}
-use Rattle.acl_render.specs.PlatformFiles.{limit_of}
+use Rattle.acl_filters.specs.PlatformFiles.{limit_of}
 use Rattle.acl_filters.specs.AskedFilters.{FilterRequest}
 
 -- Each target of a block asks for a filter of the block's terms.

@@ -2,5 +2,10 @@ pub mod AskedFilters
 pub mod CheckedFilters
 pub mod ChoosingSteps
 pub mod ChosenFilters
+pub mod FewerRules
 pub mod FilterMeanings
 pub mod FilterRequests
+pub mod MeantTexts
+pub mod PlatformFiles
+pub mod PlatformLanguages
+pub mod ShortLists

@@ -4,12 +4,12 @@ ghost use Rattle.acl_expand.specs.KnownRules.{AreKnown};
 ghost use Rattle.acl_filters.specs.CheckedFilters.{Checks};
 ghost use Rattle.acl_filters.specs.FilterRequests.{request_of};
 
+use crate::platforms::count_within_limits;
 use crate::slips::limit_refusal;
-use acl_days::Day;
 use acl_expand::KnownRules;
+use acl_host::Day;
 use acl_platform::Filter;
 use acl_policy::Target;
-use acl_render::count_within_limits;
 use acl_terms::Term;
 use acl_text::Refusal;
 use std::alloc::Global;

@@ -1,7 +1,7 @@
 ghost use Rattle.std.specs.Prelude.{◌≡◌, ◌∷◌, [], Bool, List, Option, map, true, OnOk};
 ghost use Rattle.std.specs.List.{All};
 ghost use Rattle.acl_text.specs.declared.faults.Slip.{Slip};
-ghost use Rattle.acl_days.specs.declared.days.Day.{Day as OneDay};
+ghost use Rattle.acl_host.specs.declared.days.Day.{Day as OneDay};
 ghost use Rattle.acl_target.specs.TargetData.{IsTarget};
 ghost use Rattle.acl_policy.specs.Conditions.{IsBlock, IsPolicy};
 ghost use Rattle.acl_policy.specs.declared.raw_terms.RawTerm.{RawTerm};
@@ -12,8 +12,8 @@ ghost use Rattle.acl_filters.specs.ChoosingSteps.{Adds};
 ghost use Rattle.acl_filters.specs.ChosenFilters.{GivesChosen, GivesFilter};
 ghost use Rattle.acl_filters.specs.FilterRequests.{request_of, requests_in, requests_of};
 
-use acl_days::Day;
 use acl_expand::KnownRules;
+use acl_host::Day;
 use acl_load::{Loaded, Terms};
 use acl_platform::Filter;
 use acl_policy::{Block, Target};

@@ -1,1 +1,4 @@
 pub mod ByteOrder
+pub mod Calendar
+pub mod DayTextLaws
+pub mod NamedDayLaws

@@ -1,4 +1,7 @@
+pub mod DaySteps
+pub mod Days
 pub mod Files
+pub mod NamedDays
 pub mod Outside
 pub mod Resting
 pub mod WholeFiles

@@ -10,7 +10,7 @@ use Rattle.acl_host.specs.declared.sinks.WriteFault.{WriteFault}
 use Rattle.acl_host.specs.declared.sinks.WriteFault.TheVariants as write
 use Rattle.acl_host.specs.declared.clocks.ClockFault.{ClockFault}
 use Rattle.acl_host.specs.declared.clocks.ClockFault.TheVariants as clock
-use Rattle.acl_days.specs.declared.days.Day.{Day}
+use Rattle.acl_host.specs.declared.days.Day.{Day}
 
 -- The members of a tree: those that it has as an output, and its own. A bound on a tree gives them as
 -- this record (`T.Tree`).

@@ -1,6 +1,6 @@
 ghost use Rattle.std.specs.Prelude.{ℕ, ℤ, Option};
 
-use acl_days::Day;
+use crate::days::Day;
 use thiserror::Error;
 
 /// Why a clock told no day.

@@ -5,7 +5,7 @@ use Rattle.acl_text.specs.AnsweredCodes.{FailsAnswered, IsAnswered, SlipIsAnswer
 use Rattle.acl_text.specs.declared.faults.Fault.{Fault}
 use Rattle.acl_text.specs.declared.faults.Slip.{Slip}
 use Rattle.acl_text.proofs.AnsweredLaws.{either, either_answered, first_answered}
-use Rattle.acl_days.specs.declared.days.Day.{Day}
+use Rattle.acl_host.specs.declared.days.Day.{Day}
 use Rattle.acl_host.specs.Files.{File}
 use Rattle.acl_target.specs.declared.targets.Target.{Target}
 use Rattle.acl_terms.specs.declared.terms.Term.{Term}

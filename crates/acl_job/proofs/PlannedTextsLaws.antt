@@ -3,18 +3,18 @@ use Rattle.std.proofs.Common.{◌≡◌, ℕ, List, [], ◌∷◌, map, Option, 
 use Rattle.std.specs.List.{All, AllByRecursion}
 use Rattle.std.proofs.lemmas.List.{length-map}
 use Rattle.std.proofs.lemmas.List.Elements.{recursion_from_All}
-use Rattle.acl_days.specs.declared.days.Day.{Day}
+use Rattle.acl_host.specs.declared.days.Day.{Day}
 use Rattle.acl_host.specs.Files.{File}
 use Rattle.acl_naming.specs.Definitions.{Naming}
 use Rattle.acl_target.specs.declared.targets.Kind.{Kind}
 use Rattle.acl_policy.specs.Conditions.{IsBlock}
 use Rattle.acl_platform.specs.Platforms.{DecidesAs}
-use Rattle.acl_render.specs.PlatformLanguages.{IsDocumentFor, SectionOn, outcome_on}
+use Rattle.acl_filters.specs.PlatformLanguages.{IsDocumentFor, SectionOn, outcome_on}
 use Rattle.acl_load.specs.declared.policy_loading.Loaded.{Loaded}
 use Rattle.acl_load.specs.LoadedPolicies.{AreResolved, LoadedStands}
 use Rattle.acl_load.proofs.AnswersThere.{loaded-stands}
-use Rattle.acl_render.specs.PlatformFiles.{AreApart, IsTaken, sections_on, text_on}
-use Rattle.acl_render.proofs.MeantTextsLaws.{sections-meant}
+use Rattle.acl_filters.specs.PlatformFiles.{AreApart, IsTaken, sections_on, text_on}
+use Rattle.acl_filters.proofs.MeantTextsLaws.{sections-meant}
 use Rattle.acl_options.specs.CommandLines.{Options}
 use Rattle.acl_options.specs.ComputableOptions.{options_of}
 use Rattle.acl_filters.specs.AskedFilters.{FilterRequest}

@@ -12,7 +12,7 @@ use Rattle.acl_rows.proofs.ListLaws.{flat_twice}
 use Rattle.acl_text.specs.declared.faults.Rejection.{Rejection}
 use Rattle.acl_text.specs.declared.faults.Rejection.TheVariants as rejections
 use Rattle.acl_text.proofs.ListLaws.{all_append}
-use Rattle.acl_days.specs.declared.days.Day.{Day}
+use Rattle.acl_host.specs.declared.days.Day.{Day}
 use Rattle.acl_host.specs.Files.{File, join_path}
 use Rattle.acl_target.specs.declared.targets.Kind.{Kind}
 use Rattle.acl_target.specs.declared.targets.Kind.TheVariants.{Cisco, Juniper, Iptables, Nftables}
@@ -24,7 +24,7 @@ use Rattle.acl_load.specs.declared.policy_loading.Loaded.{Loaded}
 use Rattle.acl_load.specs.LoadFaults.{of_rejection}
 use Rattle.acl_load.specs.LoadedPolicies.{AreResolvedIn, LoadsPolicy}
 use Rattle.acl_load.specs.ResolvedPolicies.{resolved_of}
-use Rattle.acl_render.specs.PlatformFiles.{AreApart, IsTaken, text_on}
+use Rattle.acl_filters.specs.PlatformFiles.{AreApart, IsTaken, text_on}
 use Rattle.acl_options.specs.CommandLines.{Options}
 use Rattle.acl_report.specs.Reports.{terms_report}
 use Rattle.acl_job.specs.Works.{texts_in, IsWritable, file_view, MakesWork}

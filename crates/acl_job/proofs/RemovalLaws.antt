@@ -13,7 +13,7 @@ use Rattle.acl_packet.specs.Packets.{IsPacket}
 use Rattle.acl_text.specs.declared.faults.Code.TheVariants.{TooManyPrefixes}
 use Rattle.acl_text.specs.declared.faults.Slip.{Slip}
 use Rattle.acl_text.specs.Refusals.{first_in}
-use Rattle.acl_days.specs.declared.days.Day.{Day}
+use Rattle.acl_host.specs.declared.days.Day.{Day}
 use Rattle.acl_host.specs.Files.{File}
 use Rattle.acl_naming.specs.Definitions.{Naming}
 use Rattle.acl_target.specs.declared.targets.Target.{Target}
@@ -39,10 +39,10 @@ use Rattle.acl_shade.specs.Shading.{Shades}
 use Rattle.acl_shade.proofs.DeletionLaws.{decides-too, shaded-go, shading-stays}
 use Rattle.acl_load.specs.LoadedPolicies.{AreResolved, AreResolvedIn, blocks_slip, terms_slip}
 use Rattle.acl_load.proofs.AnswersThere.{loaded-stands}
-use Rattle.acl_render.specs.FewerRules.{IsLeftOf}
-use Rattle.acl_render.specs.PlatformFiles.{limit_of}
-use Rattle.acl_render.proofs.FewerRulesLaws.{fewer-rules-fit}
-use Rattle.acl_render.proofs.LeftLaws.{left-skip}
+use Rattle.acl_filters.specs.FewerRules.{IsLeftOf}
+use Rattle.acl_filters.specs.PlatformFiles.{limit_of}
+use Rattle.acl_filters.proofs.FewerRulesLaws.{fewer-rules-fit}
+use Rattle.acl_filters.proofs.LeftLaws.{left-skip}
 use Rattle.acl_filters.specs.FilterRequests.{block_requests, check_slip, limit_slip, loaded_slip, request_of, request_slip, requests_in, requests_slip}
 use Rattle.acl_job.specs.Job.{Plan, Plans, job_slip, or_slip, plan_of}
 use Rattle.acl_options.specs.CommandLines.{Options}

@@ -4,7 +4,7 @@ use Rattle.std.specs.Option.{option_or}
 use Rattle.acl_text.specs.declared.faults.Fault.{Fault}
 use Rattle.acl_text.specs.declared.faults.Slip.{Slip}
 use Rattle.acl_text.specs.Refusals.{slip_fault}
-use Rattle.acl_days.specs.declared.days.Day.{Day}
+use Rattle.acl_host.specs.declared.days.Day.{Day}
 use Rattle.acl_host.specs.Files.{File}
 use Rattle.acl_naming.specs.Definitions.{Naming}
 use Rattle.acl_target.specs.declared.targets.Kind.{Kind}
@@ -13,7 +13,7 @@ use Rattle.acl_load.specs.declared.policy_loading.Loaded.{Loaded}
 use Rattle.acl_load.specs.LoadedPolicies.{FirstFaultOr, LoadsPolicy}
 use Rattle.acl_load.specs.ResolvedPolicies.{resolved_of}
 use Rattle.acl_platform.specs.declared.filters.Filter.{Filter}
-use Rattle.acl_render.specs.PlatformFiles.{count_of, text_on}
+use Rattle.acl_filters.specs.PlatformFiles.{count_of, text_on}
 use Rattle.acl_report.specs.Reports.{count_line, terms_report}
 use Rattle.acl_options.specs.CommandLines.{Options}
 use Rattle.acl_options.specs.ComputableOptions.{options_of}

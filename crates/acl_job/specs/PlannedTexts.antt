@@ -1,11 +1,11 @@
 -- What the texts of a plan are: each is that of the sections which its file's filters become.
 use Rattle.std.specs.Prelude.{ℕ, List, Some, Ok}
 use Rattle.std.specs.List.{AllByRecursion}
-use Rattle.acl_days.specs.declared.days.Day.{Day}
+use Rattle.acl_host.specs.declared.days.Day.{Day}
 use Rattle.acl_host.specs.Files.{File}
-use Rattle.acl_render.specs.PlatformLanguages.{IsDocumentFor}
+use Rattle.acl_filters.specs.PlatformLanguages.{IsDocumentFor}
 use Rattle.acl_naming.specs.Definitions.{Naming}
-use Rattle.acl_render.specs.PlatformFiles.{sections_on, text_on}
+use Rattle.acl_filters.specs.PlatformFiles.{sections_on, text_on}
 use Rattle.acl_job.specs.AskedFiles.{PlanFile}
 use Rattle.acl_filters.specs.FilterMeanings.{DecidesAsPolicy}
 use Rattle.acl_job.specs.Job.{IsJob, Plan, filters_of}

@@ -2,12 +2,12 @@
 use Rattle.std.specs.Prelude.{◌≡◌, List, map, Option, Result, Ok, Err, IfSome}
 use Rattle.std.specs.List.{All, AllByRecursion}
 use Rattle.std.specs.String.{string_bytes}
-use Rattle.acl_days.specs.declared.days.Day.{Day}
+use Rattle.acl_host.specs.declared.days.Day.{Day}
 use Rattle.acl_host.specs.Files.{File}
 use Rattle.acl_load.specs.declared.load_faults.LoadFault.{LoadFault}
 use Rattle.acl_load.specs.LoadFaults.{load_told}
 use Rattle.acl_options.specs.CommandLines.{Options}
-use Rattle.acl_render.specs.PlatformFiles.{AreApart, IsTaken, text_on}
+use Rattle.acl_filters.specs.PlatformFiles.{AreApart, IsTaken, text_on}
 use Rattle.acl_filters.specs.CheckedFilters.{IsShort}
 use Rattle.acl_job.specs.FileLists.{PathsDiffer}
 use Rattle.acl_job.specs.Job.{Plan, Plans, filters_of, report_of, texts_of}

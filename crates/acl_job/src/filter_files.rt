@@ -2,14 +2,14 @@ ghost use Rattle.std.specs.Prelude.{◌≡◌, None, map};
 ghost use Rattle.std.specs.List.{All};
 ghost use Rattle.std.specs.String.{string_bytes};
 ghost use Rattle.acl_host.specs.Writing.{WritesFile};
-ghost use Rattle.acl_render.specs.PlatformFiles.{text_on};
+ghost use Rattle.acl_filters.specs.PlatformFiles.{text_on};
 ghost use Rattle.acl_job.specs.FileLists.{PathsDiffer, WritesFiles};
 ghost use Rattle.acl_job.specs.Works.{IsWritable, file_view};
 
+use acl_filters::render;
 use acl_host::{Tree, WriteFault};
 use acl_platform::Filter;
 use acl_policy::Kind;
-use acl_render::render;
 use acl_text::{Items, PutFault};
 use std::alloc::Global;
 

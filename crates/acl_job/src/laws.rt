@@ -1,7 +1,7 @@
 ghost use Rattle.std.specs.Prelude.{◌≡◌, ℕ, List, Option, Some, Result, Err};
 ghost use Rattle.acl_text.specs.AnsweredCodes.{IsAnswered};
 ghost use Rattle.acl_text.specs.declared.faults.Fault.{Fault};
-ghost use Rattle.acl_days.specs.declared.days.Day.{Day};
+ghost use Rattle.acl_host.specs.declared.days.Day.{Day};
 ghost use Rattle.acl_host.specs.Files.{File};
 ghost use Rattle.acl_job.specs.Job.{IsJob, Plan};
 ghost use Rattle.acl_job.specs.PlannedTexts.{PlannedTextsAreOfSections};

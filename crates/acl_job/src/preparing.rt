@@ -18,9 +18,9 @@ ghost use Rattle.acl_job.specs.PreparingSteps.{
 };
 
 use crate::filter_paths::path_of;
-use acl_days::Day;
 use acl_expand::KnownRules;
 use acl_filters::checked_filter;
+use acl_host::Day;
 use acl_load::{ResolvedPolicy, Terms};
 use acl_platform::Filter;
 use acl_report::put_count;

@@ -1,6 +1,6 @@
 ghost use Rattle.std.specs.Prelude.{List, zip};
 ghost use Rattle.acl_text.specs.Refusals.{Judges, first_in};
-ghost use Rattle.acl_days.specs.declared.days.Day.{Day};
+ghost use Rattle.acl_host.specs.declared.days.Day.{Day};
 ghost use Rattle.acl_target.specs.declared.targets.Target.{Target};
 ghost use Rattle.acl_shade.specs.ShadedPlaces.{AreShadedPlaces};
 ghost use Rattle.acl_report.specs.ShadedLists.{AreShadedIn, AreShadedLists};

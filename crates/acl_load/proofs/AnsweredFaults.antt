@@ -12,8 +12,8 @@ use Rattle.acl_host.specs.WholeFiles.{at_most, listing, whole_file}
 use Rattle.acl_naming.specs.Definitions.{Naming}
 use Rattle.acl_naming.specs.NamingFiles.{file_added}
 use Rattle.acl_naming.proofs.AnsweredSlips.{file_answered, names_answered}
-use Rattle.acl_splice.specs.Splicing.{splice_of}
-use Rattle.acl_splice.proofs.AnsweredFaults.{splice_answered}
+use Rattle.acl_words.specs.Splicing.{splice_of}
+use Rattle.acl_words.proofs.AnsweredFaults.{splice_answered}
 use Rattle.acl_words.specs.Words.{words_of}
 use Rattle.acl_policy.specs.Policies.{policy_of}
 use Rattle.acl_policy.proofs.PolicyFit.{policy_answered}

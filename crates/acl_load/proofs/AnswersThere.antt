@@ -14,8 +14,8 @@ use Rattle.acl_naming.specs.Definitions.{Definition, Naming}
 use Rattle.acl_naming.specs.NamingFiles.{file_added}
 use Rattle.acl_naming.specs.PortLaws.{IsInOrder, PortsAreOrdered, PortsAreSome}
 use Rattle.acl_naming.proofs.OrderedPorts.{order-kept, ordered-some}
-use Rattle.acl_splice.specs.Splices.{Splice}
-use Rattle.acl_splice.specs.Splicing.{splice_of}
+use Rattle.acl_words.specs.Splices.{Splice}
+use Rattle.acl_words.specs.Splicing.{splice_of}
 use Rattle.acl_words.specs.Tokens.{Token}
 use Rattle.acl_words.specs.Words.{words_of}
 use Rattle.acl_policy.specs.declared.blocks.Block.{Block}

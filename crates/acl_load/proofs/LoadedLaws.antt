@@ -12,7 +12,7 @@ use Rattle.acl_host.specs.WholeFiles.{read_told}
 use Rattle.acl_host.specs.declared.look_faults.ReadFault.{ReadFault}
 use Rattle.acl_host.specs.declared.look_faults.ReadFault.TheVariants as reads
 use Rattle.acl_naming.specs.Definitions.{Naming}
-use Rattle.acl_splice.specs.Splices.{Splice}
+use Rattle.acl_words.specs.Splices.{Splice}
 use Rattle.acl_policy.specs.declared.blocks.Policy.{Policy}
 use Rattle.acl_policy.specs.PolicyPlaces.{PolicyStands}
 use Rattle.acl_terms.proofs.DistinctLaws.{slip-next}

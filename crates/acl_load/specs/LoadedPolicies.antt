@@ -7,8 +7,8 @@ use Rattle.acl_text.specs.Steps.{◌>>=◌}
 use Rattle.acl_text.specs.Refusals.{first_in, slip_fault}
 use Rattle.acl_host.specs.Files.{File}
 use Rattle.acl_naming.specs.Definitions.{Naming}
-use Rattle.acl_splice.specs.Splices.{Splice}
-use Rattle.acl_splice.specs.Splicing.{splice_of}
+use Rattle.acl_words.specs.Splices.{Splice}
+use Rattle.acl_words.specs.Splicing.{splice_of}
 use Rattle.acl_words.specs.Words.{words_of}
 use Rattle.acl_policy.specs.declared.blocks.Block.{Block}
 use Rattle.acl_policy.specs.declared.blocks.Policy.{Policy}

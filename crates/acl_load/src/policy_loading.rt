@@ -1,6 +1,6 @@
 ghost use Rattle.std.specs.Prelude.{◌≡◌, IfOk, IfSome, Ok};
 ghost use Rattle.std.specs.List.{All};
-ghost use Rattle.acl_splice.specs.Labels.{IsLabelled};
+ghost use Rattle.acl_words.specs.Labels.{IsLabelled};
 ghost use Rattle.acl_words.specs.Words.{words_of};
 ghost use Rattle.acl_policy.specs.Conditions.{IsBlock, IsPolicy, IsRawTerm};
 ghost use Rattle.acl_policy.specs.Policies.{policy_of};
@@ -24,9 +24,9 @@ use crate::policy_texts::{PolicyText, policy_at, policy_fault};
 use acl_host::Tree;
 use acl_naming::Checked;
 use acl_policy::{Block, Policy, RawTerm};
-use acl_splice::Sources;
 use acl_terms::{KnownAddresses, Term, resolve_with};
 use acl_text::{Items, Refusal, Rejection};
+use acl_words::Sources;
 use std::alloc::Global;
 
 /// The resolved terms of a block.

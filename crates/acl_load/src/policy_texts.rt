@@ -1,5 +1,5 @@
 ghost use Rattle.std.specs.Prelude.{◌≡◌, [], IfOk, IfSome, Ok, slice_index_or};
-ghost use Rattle.acl_splice.specs.Labels.{IsLabelled};
+ghost use Rattle.acl_words.specs.Labels.{IsLabelled};
 ghost use Rattle.acl_words.specs.Words.{words_of};
 ghost use Rattle.acl_policy.specs.Conditions.{IsPolicy};
 ghost use Rattle.acl_policy.specs.Policies.{policy_of};
@@ -11,8 +11,8 @@ ghost use Rattle.acl_load.specs.LoadedPolicies.{policy_at, policy_in};
 
 use acl_host::{ReadFault, Tree};
 use acl_policy::{Policy, parse};
-use acl_splice::{Sources, gather, label};
 use acl_text::{Fault, Memory, Refusal, Rejection, Slip};
+use acl_words::{Sources, gather, label};
 use std::alloc::Global;
 
 /// A policy as it is read, and its lines with the files from which they come.

@@ -3,9 +3,9 @@ ghost use Rattle.acl_load.specs.ResolvedPolicies.{resolved_of, targets_in};
 
 use crate::policy_loading::{Loaded, TermLists};
 use acl_policy::{Block, copy_target};
-use acl_splice::Sources;
 use acl_target::{Target, Targets};
 use acl_text::{Items, Memory};
+use acl_words::Sources;
 use std::alloc::Global;
 
 /// A list of targets for each block.

@@ -1,7 +1,6 @@
 ghost use Rattle.std.specs.Prelude.{pos, ◌≤ℤ◌};
 
-use acl_days::Day;
-use acl_host::{Clock, ClockFault};
+use acl_host::{Clock, ClockFault, Day};
 use jiff::Timestamp;
 use jiff::tz::Offset;
 use std::time;

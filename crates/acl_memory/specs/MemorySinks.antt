@@ -4,7 +4,7 @@ use Rattle.acl_text.specs.Output.{one_more}
 use Rattle.acl_host.specs.Outside.{Writes, Tells}
 use Rattle.acl_memory.specs.Memory.{CallsMade, after_one}
 use Rattle.acl_host.specs.declared.clocks.ClockFault.{ClockFault}
-use Rattle.acl_days.specs.declared.days.Day.{Day}
+use Rattle.acl_host.specs.declared.days.Day.{Day}
 use Rattle.acl_host.specs.declared.sinks.WriteFault.{WriteFault}
 use Rattle.acl_host.specs.declared.sinks.WriteFault.TheVariants.{Failed, Memory}
 

@@ -2,7 +2,7 @@
 use Rattle.std.specs.Prelude.{ℕ, List, Some, is_some, Result}
 use Rattle.acl_text.specs.Output.{PutsBy}
 use Rattle.acl_text.specs.declared.output.PutFault.{PutFault}
-use Rattle.acl_days.specs.declared.days.Day.{Day}
+use Rattle.acl_host.specs.declared.days.Day.{Day}
 use Rattle.acl_host.specs.Files.{RestStays}
 use Rattle.acl_host.specs.Outside.{TreeMembers, Lists, Reads, Begins, Finishes, Writes, Tells}
 use Rattle.acl_host.specs.declared.clocks.ClockFault.{ClockFault}

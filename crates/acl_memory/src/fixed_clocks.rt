@@ -2,8 +2,7 @@ ghost use Rattle.std.specs.Prelude.{◌≡◌, true, Some, is_err};
 ghost use Rattle.acl_memory.specs.Memory.{one_more_if};
 ghost use Rattle.acl_memory.specs.MemorySinks.{Standing, TellsItsDay};
 
-use acl_days::Day;
-use acl_host::{Clock, ClockFault};
+use acl_host::{Clock, ClockFault, Day};
 use std::marker::Model;
 
 /// A clock that stands still at its day, and fails at each call or at none.

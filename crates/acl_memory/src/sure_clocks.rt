@@ -1,8 +1,7 @@
 ghost use Rattle.std.specs.Prelude.{◌≡◌, Some, IsOk};
 ghost use Rattle.acl_memory.specs.SureObjects.{TellsSurely};
 
-use acl_days::Day;
-use acl_host::{Clock, ClockFault};
+use acl_host::{Clock, ClockFault, Day};
 
 /// A clock that stands still at its day, and never fails.
 #[derive(Drop)]

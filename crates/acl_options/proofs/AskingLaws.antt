@@ -8,7 +8,7 @@ use Rattle.std.proofs.lemmas.Result.{IfOk-weaker}
 use Rattle.clap.specs.Words.{Row, matches_of}
 use Rattle.acl_packet.specs.Decimals.{number_in}
 use Rattle.acl_packet.proofs.DecimalLaws.{number-in, number-is}
-use Rattle.acl_days.specs.declared.days.Day.{Day}
+use Rattle.acl_host.specs.declared.days.Day.{Day}
 use Rattle.acl_options.specs.CodeViews.{options_view}
 use Rattle.acl_options.specs.declared.options.Options.{Options as CodeOptions}
 use Rattle.acl_options.specs.Commands.{IsTakenBy}

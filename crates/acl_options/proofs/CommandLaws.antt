@@ -9,8 +9,8 @@ use Rattle.clap.specs.Words.{App, Kinds, Row, fault_of, matches_of}
 use Rattle.acl_packet.specs.Decimals.{number_in}
 use Rattle.acl_packet.proofs.DecimalLaws.{number-in, number-is}
 use Rattle.acl_packet.proofs.ChoiceLaws.{guarded, refused}
-use Rattle.acl_days.specs.declared.days.Day.{Day}
-use Rattle.acl_days.specs.NamedDays.{day_named}
+use Rattle.acl_host.specs.declared.days.Day.{Day}
+use Rattle.acl_host.specs.NamedDays.{day_named}
 use Rattle.acl_options.specs.Commands.{Inputs, IsCount, IsDate, IsFile, IsFolder, IsTakenBy, NamesInputs, value_in}
 use Rattle.acl_options.specs.ComputableCommands.{count_in, date_in, date_named, definitions_in, file_named, folder_named, inputs_in, is_none, is_taken, not_zero, policy_in, rows_in}
 use Rattle.acl_options.proofs.NamedDates.{named-text, text-named}

@@ -3,12 +3,12 @@ use Rattle.std.proofs.Common.{◌≡◌, ℕ, ℤ, pos, negsuc, Bool, true, fals
 use Rattle.std.specs.Prelude.{◌≤ℤ◌, T}
 use Rattle.std.specs.Int.Signed.{le_z, le_z_yes}
 use Rattle.std.proofs.lemmas.Option.{none-some, option_and_then_some, same_Some}
-use Rattle.acl_days.specs.Days.{IsDayText}
-use Rattle.acl_days.specs.declared.days.Day.{Day}
-use Rattle.acl_days.specs.DaySteps.{day_in}
-use Rattle.acl_days.specs.NamedDays.{day_if, day_at, day_named}
-use Rattle.acl_days.proofs.DayTextLaws.{day-text-found, day-text-read}
-use Rattle.acl_days.proofs.NamedDayLaws.{is_named}
+use Rattle.acl_host.specs.Days.{IsDayText}
+use Rattle.acl_host.specs.declared.days.Day.{Day}
+use Rattle.acl_host.specs.DaySteps.{day_in}
+use Rattle.acl_host.specs.NamedDays.{day_if, day_at, day_named}
+use Rattle.acl_host.proofs.DayTextLaws.{day-text-found, day-text-read}
+use Rattle.acl_host.proofs.NamedDayLaws.{is_named}
 
 number-if : (n : ℤ) (b c : Bool) (from : T b → negsuc 719161 ≤ℤ n) (to : T c → n ≤ℤ pos 2932896) (d : Day) → day_if n b c from to ≡ Some d → n ≡ d.number
 number-if n true true from to d e = ap (λ (x : Day). x.number) (same_Some _ d e)

@@ -3,7 +3,7 @@ use Rattle.std.specs.Prelude.{◌≡◌, ◌↔◌, ◌≤◌, ℕ, Bool, IsTrue
 use Rattle.std.specs.Prelude.{Option, Some, IsSomeAnd}
 use Rattle.clap.specs.Words.{App, Rule}
 use Rattle.acl_packet.specs.Decimals.{IsNumber}
-use Rattle.acl_days.specs.declared.days.Day.{Day}
+use Rattle.acl_host.specs.declared.days.Day.{Day}
 use Rattle.acl_options.specs.Commands.{IsDate, IsFile, IsFolder, IsTakenBy, command_with, defaulted_option, flag_option, input_options, required_option, value_in}
 
 -- What the words ask for: the policy's path, the folder of the naming files, the folder for the filters, the day that

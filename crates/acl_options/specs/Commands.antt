@@ -9,8 +9,8 @@ use Rattle.std.specs.List.{ends_with}
 use Rattle.clap.specs.Words.{App, Rule, fault_of, first_of, matches_of, new_app, new_rule}
 use Rattle.clap.specs.declared.builder.ArgAction.TheVariants.{Set, SetTrue}
 use Rattle.acl_packet.specs.Decimals.{IsNumber}
-use Rattle.acl_days.specs.declared.days.Day.{Day}
-use Rattle.acl_days.specs.Days.{IsDayText}
+use Rattle.acl_host.specs.declared.days.Day.{Day}
+use Rattle.acl_host.specs.Days.{IsDayText}
 
 -- ---- options
 

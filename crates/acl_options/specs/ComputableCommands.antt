@@ -5,8 +5,8 @@ use Rattle.std.specs.List.{ends_with}
 use Rattle.clap.specs.Words.{App, Kinds, Row, fault_of, first_of, matches_of}
 use Rattle.acl_packet.specs.Decimals.{number_in}
 use Rattle.acl_text.specs.OptionSteps.{◌>>=◌}
-use Rattle.acl_days.specs.declared.days.Day.{Day}
-use Rattle.acl_days.specs.NamedDays.{day_named}
+use Rattle.acl_host.specs.declared.days.Day.{Day}
+use Rattle.acl_host.specs.NamedDays.{day_named}
 use Rattle.acl_options.specs.Commands.{Inputs}
 
 abbrev pub is_none : Kinds → Bool

@@ -5,7 +5,7 @@ use Rattle.clap.specs.Words.{Row, first_of}
 use Rattle.acl_packet.specs.declared.addresses.Family.{Family}
 use Rattle.acl_packet.specs.declared.addresses.Family.TheVariants.{V4, V6}
 use Rattle.acl_text.specs.OptionSteps.{◌>>=◌}
-use Rattle.acl_days.specs.declared.days.Day.{Day}
+use Rattle.acl_host.specs.declared.days.Day.{Day}
 use Rattle.acl_options.specs.ComputableCommands.{count_in, inputs_in, is_undated, rows_in}
 use Rattle.acl_options.specs.ToolCommands.{ToolRequest, Speedway, Dead, Standard, dead, speedway, standard}
 

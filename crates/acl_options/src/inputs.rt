@@ -1,7 +1,7 @@
 ghost use Rattle.std.specs.Prelude.{◌≡◌};
 ghost use Rattle.std.specs.Option.{option_map};
 ghost use Rattle.clap.specs.Words.{first_of, found_of, rows_of};
-ghost use Rattle.acl_days.specs.NamedDays.{day_named};
+ghost use Rattle.acl_host.specs.NamedDays.{day_named};
 ghost use Rattle.acl_options.specs.CodeViews.{inputs_view};
 ghost use Rattle.acl_options.specs.ComputableCommands.{
   date_in,
@@ -12,7 +12,7 @@ ghost use Rattle.acl_options.specs.ComputableCommands.{
   policy_in,
 };
 
-use acl_days::{Day, read_day};
+use acl_host::{Day, read_day};
 use clap::ArgMatches;
 
 /// What a command is to read.

@@ -16,7 +16,7 @@ use crate::commands::{
     defaulted_option, find_matches, flag_option, inputs_command, with_option, with_required,
 };
 use crate::inputs::{date_in, definitions_in, folder_named, policy_in, value_of};
-use acl_days::Day;
+use acl_host::Day;
 use acl_text::{Memory, read_u16};
 use clap::{ArgMatches, Command};
 use std::alloc::{AllocError, Global};

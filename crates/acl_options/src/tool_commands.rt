@@ -19,7 +19,7 @@ ghost use Rattle.acl_options.specs.ToolCommands.{AsksForTool, ToolRequest, dead,
 
 use crate::commands::{find_matches, inputs_command, with_required};
 use crate::inputs::{Inputs, inputs_in, value_of};
-use acl_days::Day;
+use acl_host::Day;
 use acl_packet::{Family, read_u8};
 use acl_text::Memory;
 use clap::{ArgMatches, Command};

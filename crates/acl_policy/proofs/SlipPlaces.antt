@@ -7,8 +7,8 @@ use Rattle.acl_text.specs.declared.faults.Place.{Place}
 use Rattle.acl_text.specs.declared.faults.Refusal.{Refusal}
 use Rattle.acl_text.specs.declared.faults.Refusal.TheVariants as refusals
 use Rattle.acl_text.specs.declared.file_lines.Line.{Line}
-use Rattle.acl_splice.specs.Labels.{HasLabel, IsLabelled}
-use Rattle.acl_splice.specs.Splices.{Splice}
+use Rattle.acl_words.specs.Labels.{HasLabel, IsLabelled}
+use Rattle.acl_words.specs.Splices.{Splice}
 use Rattle.acl_policy.specs.PolicyPlaces.{IsSlipPlace}
 
 place_has_label : (s : Splice) (place : Place) → IsLabelled s → IsSlipPlace s.lines place → HasLabel s.labels place

@@ -9,8 +9,8 @@ use Rattle.acl_policy.specs.declared.raw_terms.RawTerm.{RawTerm}
 use Rattle.acl_policy.specs.declared.keywords.Keyword.{Keyword}
 use Rattle.acl_policy.specs.declared.keywords.Keyword.TheVariants as keywords
 use Rattle.acl_policy.specs.declared.keywords.KeywordRow.{KeywordRow}
-use Rattle.acl_days.specs.declared.days.Day.{Day}
-use Rattle.acl_days.specs.NamedDays.{day_named}
+use Rattle.acl_host.specs.declared.days.Day.{Day}
+use Rattle.acl_host.specs.NamedDays.{day_named}
 use Rattle.acl_policy.specs.Keywords.{row_named}
 use Rattle.acl_policy.specs.Slips.{slip_of, start_place}
 use Rattle.acl_text.specs.Steps.{◌>>=◌}

@@ -14,7 +14,7 @@ use Rattle.acl_words.specs.Tokens.{Token}
 use Rattle.acl_words.specs.declared.word_lists.Word.{Word}
 use Rattle.acl_policy.specs.declared.values.Takes.{Takes}
 use Rattle.acl_policy.specs.declared.values.Takes.TheVariants as takes
-use Rattle.acl_days.specs.NamedDays.{day_named}
+use Rattle.acl_host.specs.NamedDays.{day_named}
 use Rattle.acl_policy.specs.Slips.{slip_of, slip_for}
 
 abbrev pub is_action : List ℕ → Bool

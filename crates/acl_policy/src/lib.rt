@@ -20,9 +20,8 @@ mod values;
 mod word_judges;
 mod word_slips;
 
-pub use acl_splice::{GatherFault, Sources, gather, label};
 pub use acl_target::{Ending, Kind, Target, Targets, put_target};
-pub use acl_words::{Word, WordList, WordRef, WordsLeft};
+pub use acl_words::{GatherFault, Sources, Word, WordList, WordRef, WordsLeft, gather, label};
 pub use blocks::{Block, Blocks, Policy};
 pub use copies::copy_target;
 pub use keywords::Keyword;

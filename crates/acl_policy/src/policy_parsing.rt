@@ -1,7 +1,7 @@
 ghost use Rattle.std.specs.Prelude.{◌≡◌, List, [], IfErr, IfOk, IfSome, OnOk};
 ghost use Rattle.acl_words.specs.Words.{words_of};
 ghost use Rattle.acl_text.specs.declared.file_lines.Line.{Line};
-ghost use Rattle.acl_splice.specs.Labels.{HasLabel};
+ghost use Rattle.acl_words.specs.Labels.{HasLabel};
 ghost use Rattle.acl_words.specs.Places.{HaveLinePlaces};
 ghost use Rattle.acl_policy.specs.Conditions.{IsPolicy};
 ghost use Rattle.acl_policy.specs.PolicyPlaces.{PolicyStands, IsSlipPlace};
@@ -17,9 +17,8 @@ use crate::named_terms::NamedTerms;
 use crate::states::{Part, PolicyState};
 use crate::term_drafts::no_draft;
 use crate::word_judges::Judge;
-use acl_splice::Sources;
 use acl_text::{Code, Items, Place, Refusal};
-use acl_words::PolicyWords;
+use acl_words::{PolicyWords, Sources};
 use std::alloc::Global;
 use std::mem;
 

@@ -1,4 +1,4 @@
-use acl_days::Day;
+use acl_host::Day;
 use acl_text::{Bytes, Items};
 use acl_words::{Word, WordList};
 

@@ -17,7 +17,7 @@ use crate::keywords::{Keyword, KeywordRow, row_named};
 use crate::term_drafts::{TermDraft, add_comments, no_word};
 use crate::values::{check_one, check_values, push_all, word_of};
 use crate::word_slips::refusal_at;
-use acl_days::{Day, read_day};
+use acl_host::{Day, read_day};
 use acl_text::{Code, Memory, Refusal};
 use acl_words::{Token, Word};
 use std::alloc::Global;

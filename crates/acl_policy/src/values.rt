@@ -21,7 +21,7 @@ ghost use Rattle.acl_policy.specs.Values.{
 
 use crate::clauses::Clause;
 use crate::word_slips::{refusal_at, refusal_for};
-use acl_days::read_day;
+use acl_host::read_day;
 use acl_packet::{Family, icmp_number, protocol_number, read_u8};
 use acl_text::{Bytes, Code, Memory, Refusal, is_name};
 use acl_words::{Form, Token, Word, WordList};

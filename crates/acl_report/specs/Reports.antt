@@ -5,8 +5,8 @@ use Rattle.std.specs.Int.Signed.{le_z, lt_z}
 use Rattle.acl_packet.specs.declared.addresses.Families.{Families}
 use Rattle.acl_packet.specs.declared.addresses.Families.TheVariants.{Inet, Inet6, Mixed}
 use Rattle.acl_packet.specs.declared.addresses.Family.TheVariants.{V4, V6}
-use Rattle.acl_days.specs.declared.days.Day.{Day}
-use Rattle.acl_days.specs.DaySteps.{date_text}
+use Rattle.acl_host.specs.declared.days.Day.{Day}
+use Rattle.acl_host.specs.DaySteps.{date_text}
 use Rattle.acl_target.specs.declared.targets.Target.{Target}
 use Rattle.acl_target.specs.TargetTexts.{target_text}
 use Rattle.acl_terms.specs.declared.terms.Term.{Term}

@@ -1,7 +1,7 @@
 ghost use Rattle.std.specs.Prelude.{◌≡◌};
 ghost use Rattle.acl_report.specs.Reports.{expires_within, has_expired, is_empty_in_each, is_empty_on};
 
-use acl_days::Day;
+use acl_host::Day;
 use acl_packet::{Families, Family};
 use acl_target::Target;
 use acl_terms::{Term, is_empty_in, is_live};

@@ -4,11 +4,11 @@ ghost use Rattle.acl_report.specs.ShadedLists.{AreShadedIn, AreShadedLists};
 
 use crate::shaded::ShadedLists;
 use crate::term_lines::BlockLines;
-use acl_days::Day;
+use acl_host::Day;
 use acl_load::{ResolvedPolicy, Terms};
-use acl_splice::Sources;
 use acl_target::Targets;
 use acl_text::{Items, Memory, PutFault, Whole};
+use acl_words::Sources;
 use std::alloc::Global;
 
 // Puts the lines on the terms of each block, of which the targets and the terms stand at its place.

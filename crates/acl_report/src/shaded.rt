@@ -1,7 +1,7 @@
 ghost use Rattle.std.specs.Prelude.{zip, IfOk, OnOk};
 ghost use Rattle.acl_report.specs.ShadedLists.{AddsShadedLists, AreShadedIn};
 
-use acl_days::Day;
+use acl_host::Day;
 use acl_load::{ResolvedPolicy, Terms};
 use acl_shade::shaded_places;
 use acl_target::Targets;

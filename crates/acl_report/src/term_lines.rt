@@ -1,6 +1,6 @@
 ghost use Rattle.std.specs.Prelude.{◌≡◌, ◌<◌, ◌++◌, [], true, codes, flat_map, length, slice_get, OnOk, Some};
 ghost use Rattle.std.specs.List.{enumerate_from};
-ghost use Rattle.acl_days.specs.DaySteps.{date_text};
+ghost use Rattle.acl_host.specs.DaySteps.{date_text};
 ghost use Rattle.acl_shade.specs.ComputableShading.{shading_term};
 ghost use Rattle.acl_shade.specs.ShadedPlaces.{AreShadedPlaces};
 ghost use Rattle.acl_report.specs.Reports.{
@@ -14,13 +14,13 @@ ghost use Rattle.acl_report.specs.Reports.{
 };
 
 use crate::conditions::{expires_within, has_expired, is_empty_on};
-use acl_days::{Day, put_day};
+use acl_host::{Day, put_day};
 use acl_load::label_at;
 use acl_shade::shading_term;
-use acl_splice::Sources;
 use acl_target::{Target, put_target};
 use acl_terms::Term;
 use acl_text::{Out, PutFault, Whole, put_number};
+use acl_words::Sources;
 
 /// Puts the place and the name of the term, with which a line on it begins. It fails only where memory is wanted.
 #[tactic(auto, unfolding(crate::specs::Reports::term_text))]

@@ -2,7 +2,7 @@
 use Rattle.std.proofs.Common.{◌≡◌, Bool, not, is_some, List, Option, None, Some, Result, Ok, Err, IfSome, refl}
 use Rattle.std.specs.Result.{IsErrOf}
 use Rattle.acl_text.specs.declared.faults.Fault.{Fault}
-use Rattle.acl_days.specs.declared.days.Day.{Day}
+use Rattle.acl_host.specs.declared.days.Day.{Day}
 use Rattle.acl_host.specs.declared.clocks.ClockFault.{ClockFault}
 use Rattle.acl_host.specs.Files.{File}
 use Rattle.acl_host.specs.Outside.{OnlyListsAndReads, TreeMembers}

@@ -2,7 +2,7 @@
 use Rattle.std.proofs.Common.{◌≡◌, ℕ, inl, inr, List, [], Option, None, Some, Result, Ok, Err, IsSome, refl, sym, subst, ◌∙◌, le_refl, arith}
 use Rattle.std.proofs.lemmas.Bool.{false≢true}
 use Rattle.acl_text.specs.declared.faults.Fault.{Fault}
-use Rattle.acl_days.specs.declared.days.Day.{Day}
+use Rattle.acl_host.specs.declared.days.Day.{Day}
 use Rattle.acl_host.specs.Files.{File}
 use Rattle.acl_run.specs.Asked.{Asked}
 use Rattle.acl_run.specs.Endings.{EndsAsAsked, EndsAsking, EndsDone, EndsLooking, EndsRejected, EndsTelling, EndsUsage, EndsWanting, IsEnding, IsRefusalLine, KeepsRow}

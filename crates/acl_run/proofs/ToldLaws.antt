@@ -1,7 +1,7 @@
 -- What is so on the day of a run, and where a day is told.
 use Rattle.std.proofs.Common.{◌≡◌, ℤ, Bool, true, false, not, List, Option, None, Some, IfSome, is_some, refl, sym, subst, ◌∙◌}
-use Rattle.acl_days.specs.declared.days.Day.{Day}
-use Rattle.acl_days.proofs.NamedDayLaws.{same-day}
+use Rattle.acl_host.specs.declared.days.Day.{Day}
+use Rattle.acl_host.proofs.NamedDayLaws.{same-day}
 use Rattle.acl_host.specs.Files.{File}
 use Rattle.acl_run.specs.Deciding.{IsDayFor}
 use Rattle.acl_run.specs.Told.{OnDay, WhereDay, or_day}

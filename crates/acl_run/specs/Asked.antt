@@ -1,7 +1,7 @@
 -- What the words of a run ask of its program.
 use Rattle.std.specs.Prelude.{ℕ, Bool, List, Option, Result}
 use Rattle.acl_text.specs.declared.faults.Fault.{Fault}
-use Rattle.acl_days.specs.declared.days.Day.{Day}
+use Rattle.acl_host.specs.declared.days.Day.{Day}
 use Rattle.acl_host.specs.Files.{File}
 
 -- The program's name, and the line that says how it is called; the options, where the words are a command line; whether

@@ -1,7 +1,7 @@
 -- What the endings of a run mean that writes no file: it looks, and tells one text on standard output, or nothing.
 use Rattle.std.specs.Prelude.{◌≡◌, ℕ, List, Option, None, Some, Result, Ok, Err}
 use Rattle.acl_text.specs.declared.faults.Fault.{Fault}
-use Rattle.acl_days.specs.declared.days.Day.{Day}
+use Rattle.acl_host.specs.declared.days.Day.{Day}
 use Rattle.acl_host.specs.Files.{File, BothTell}
 use Rattle.acl_host.specs.Outside.{AddsFront}
 use Rattle.acl_run.specs.Asked.{Asked}

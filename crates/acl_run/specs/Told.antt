@@ -1,7 +1,7 @@
 -- What is told of a run: the files and the day, and what a stream got.
 use Rattle.std.specs.Prelude.{◌≡◌, ℕ, ℤ, ◌++◌, Bool, true, false, List, Option, None, Some, option_map, IfSome}
 use Rattle.acl_text.specs.Output.{Rose}
-use Rattle.acl_days.specs.declared.days.Day.{Day}
+use Rattle.acl_host.specs.declared.days.Day.{Day}
 use Rattle.acl_host.specs.Files.{File, BothTell}
 use Rattle.acl_host.specs.Outside.{AddsFront}
 use Rattle.acl_run.specs.Worlds.{Disk, Stream, Watch, World}

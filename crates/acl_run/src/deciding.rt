@@ -4,8 +4,7 @@ ghost use Rattle.acl_run.specs.Deciding.{FindsDay, FollowsFrom};
 ghost use Rattle.acl_run.specs.Worlds.{watch};
 
 use crate::endings::Which;
-use acl_days::Day;
-use acl_host::{Clock, ClockFault};
+use acl_host::{Clock, ClockFault, Day};
 use acl_load::{LoadFault, put_fault};
 use acl_text::{Fault, Memory, Whole};
 use std::alloc::Global;

@@ -8,7 +8,7 @@ use Rattle.std.proofs.lemmas.Bool.{or_from, or_left, or_right}
 use Rattle.std.proofs.lemmas.List.{get_or_append_left, length-append}
 use Rattle.std.proofs.lemmas.List.Quantifiers.{position-Some}
 use Rattle.std.proofs.lemmas.Option.{slice_get-get_or}
-use Rattle.acl_days.specs.declared.days.Day.{Day}
+use Rattle.acl_host.specs.declared.days.Day.{Day}
 use Rattle.acl_target.specs.declared.targets.Target.{Target}
 use Rattle.acl_terms.specs.declared.terms.Term.{Term}
 use Rattle.acl_shade.specs.ComputableShading.{is_shaded, shades, shading_term, unshaded_behind}

@@ -9,7 +9,7 @@ use Rattle.acl_packet.specs.declared.packet_fields.Field.TheVariants.{SourcePort
 use Rattle.acl_packet.specs.declared.packets.Packet.{Packet}
 use Rattle.acl_packet.specs.Packets.{has_ack_or_rst, number_of}
 use Rattle.acl_packet.proofs.FieldLaws.{all-fields}
-use Rattle.acl_days.specs.declared.days.Day.{Day}
+use Rattle.acl_host.specs.declared.days.Day.{Day}
 use Rattle.acl_sets.specs.Ranges.{Numbers, holds}
 use Rattle.acl_target.specs.declared.targets.Target.{Target}
 use Rattle.acl_target.specs.FilterEndings.{ending_outcome}

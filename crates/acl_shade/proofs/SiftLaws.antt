@@ -8,7 +8,7 @@ use Rattle.std.proofs.lemmas.List.Sums.{position_or_len_is}
 use Rattle.std.proofs.lemmas.Nat.{row_fits, shr-shr}
 use Rattle.std.proofs.lemmas.Nat.Bits.{bit_at-zero, bit_at_ones}
 use Rattle.acl_packet.specs.declared.addresses.Family.{Family}
-use Rattle.acl_days.specs.declared.days.Day.{Day}
+use Rattle.acl_host.specs.declared.days.Day.{Day}
 use Rattle.acl_sets.specs.ComputableSets.{is_all}
 use Rattle.acl_sets.specs.Ranges.{Numbers, holds}
 use Rattle.acl_target.specs.declared.targets.Target.{Target}

@@ -1,5 +1,5 @@
 ghost use Rattle.std.specs.Prelude.{◌≡◌, ℕ, ◌+◌, ◌*◌, ◌%◌, ◌<◌, ◌≤◌, ◌==◌, ◌&&◌, List, length, slice_index_or, true, IfOk, option_map};
-ghost use Rattle.acl_days.specs.declared.days.Day.{Day};
+ghost use Rattle.acl_host.specs.declared.days.Day.{Day};
 ghost use Rattle.acl_target.specs.declared.targets.Target.{Target};
 ghost use Rattle.acl_terms.specs.declared.terms.Term.{Term};
 ghost use Rattle.acl_shade.specs.ComputableShading.{shaded_by, shades, shading_term};
@@ -8,7 +8,7 @@ ghost use Rattle.acl_shade.specs.Sifting.{RowHas};
 
 use crate::shading::{is_live_on_some, is_live_where, shades};
 use crate::sifting::candidates;
-use acl_days::Day;
+use acl_host::Day;
 use acl_target::Target;
 use acl_terms::Term;
 use acl_text::{Items, Memory};

@@ -24,7 +24,7 @@ ghost use Rattle.acl_shade.specs.ComputableShading.{
 };
 ghost use Rattle.acl_shade.specs.Shading.{IsShadedBy, ShadesAt};
 
-use acl_days::Day;
+use acl_host::Day;
 use acl_packet::{Family, Field};
 use acl_sets::{Range, RangeSet};
 use acl_target::Target;

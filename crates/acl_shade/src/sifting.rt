@@ -6,7 +6,7 @@ ghost use Rattle.acl_shade.specs.Sifting.{KeepsShading, KeepsWithin, LeavesShadi
 use crate::marks::Marks;
 use crate::parts::{Part, is_asked, part_of};
 use crate::points::points_of;
-use acl_days::Day;
+use acl_host::Day;
 use acl_packet::{Family, Field};
 use acl_target::Target;
 use acl_terms::Term;

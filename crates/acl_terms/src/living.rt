@@ -5,7 +5,7 @@ ghost use Rattle.acl_terms.specs.Living.{allows, has_platform, names_platform, p
 ghost use Rattle.acl_terms.specs.Resolved.{IsTermLive, is_term_live, is_unexpired};
 
 use crate::terms::{Platforms, Term};
-use acl_days::Day;
+use acl_host::Day;
 use acl_policy::WordList;
 use acl_target::{Kind, kind_text};
 

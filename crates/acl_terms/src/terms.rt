@@ -1,5 +1,5 @@
 use crate::options::Opt;
-use acl_days::Day;
+use acl_host::Day;
 use acl_packet::Verdict;
 use acl_sets::RangeSet;
 use acl_text::{Bytes, Place};

@@ -1,4 +1,10 @@
+pub mod AnsweredFaults
+pub mod FeedLaws
+pub mod FolderLaws
+pub mod Includes
+pub mod LabelLaws
 pub mod LineLaws
+pub mod Paths
 pub mod PlaceLaws
 pub mod ReadingLaws
 pub mod RunLaws

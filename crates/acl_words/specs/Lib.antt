@@ -1,9 +1,16 @@
 pub mod Bytes
+pub mod Folders
+pub mod IncludeLineSteps
+pub mod IncludeLines
+pub mod IncludeSteps
+pub mod Labels
 pub mod LineTexts
 pub mod PlaceSteps
 pub mod Places
 pub mod ReadingSteps
 pub mod ScanSteps
+pub mod Splices
+pub mod Splicing
 pub mod Stretches
 pub mod Tokens
 pub mod WordTextSteps

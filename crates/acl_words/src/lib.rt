@@ -1,22 +1,30 @@
-//! The text of a policy: the lines of its files, kept as one text with their places, and its words, read one at a time from
-//! them, each with its place and how it is meant.
+//! The text of a policy: its lines with the files that it includes spliced in, kept as one text with their places, and its
+//! words, read one at a time from them, each with its place and how it is meant.
 #![tactic(auto)]
 
+mod folders;
 mod forms;
+mod gathering;
+mod include_lines;
 mod line_places;
 mod line_texts;
+mod partial_splices;
 mod place_lists;
 mod places;
 mod policy_words;
 mod runs;
 mod scanning;
+mod sources;
+mod splicing;
 mod stretches;
 mod tokens;
 mod word_lists;
 
 pub use forms::Form;
+pub use gathering::{GatherFault, gather};
 pub use line_texts::Lines;
 pub use policy_words::PolicyWords;
+pub use sources::{Sources, label};
 pub use stretches::Stretch;
 pub use tokens::Token;
 pub use word_lists::{Word, WordList, WordRef, WordsLeft};

@@ -7,7 +7,7 @@ use Rattle.acl_packet.specs.declared.packets.Packet.{Packet}
 use Rattle.acl_text.specs.Output.{Rose}
 use Rattle.acl_text.specs.declared.faults.Fault.{Fault}
 use Rattle.acl_text.specs.declared.wholes.Whole.{Whole}
-use Rattle.acl_days.specs.declared.days.Day.{Day}
+use Rattle.acl_host.specs.declared.days.Day.{Day}
 use Rattle.acl_host.specs.Files.{File}
 use Rattle.acl_load.specs.LoadFaults.{fails_to_list, load_told}
 use Rattle.acl_load.specs.declared.load_faults.LoadFault.{LoadFault}

@@ -14,13 +14,13 @@ use Rattle.acl_text.specs.declared.faults.Code.TheVariants.{TooLong}
 use Rattle.acl_text.specs.declared.faults.Fault.{Fault}
 use Rattle.acl_text.specs.declared.faults.Rejection.{Rejection}
 use Rattle.acl_text.specs.declared.faults.Rejection.TheVariants as rejections
-use Rattle.acl_days.specs.declared.days.Day.{Day}
+use Rattle.acl_host.specs.declared.days.Day.{Day}
 use Rattle.acl_host.specs.Files.{File}
 use Rattle.acl_host.specs.WholeFiles.{whole_file}
 use Rattle.acl_filters.specs.AskedFilters.{FilterRequest}
 use Rattle.acl_filters.specs.FilterRequests.{block_requests, request_of, requests_in, requests_of}
 use Rattle.acl_filters.proofs.MeantFilters.{resolved-requests}
-use Rattle.acl_render.specs.PlatformLanguages.{SectionOn, SpellsOn, outcome_on}
+use Rattle.acl_filters.specs.PlatformLanguages.{SectionOn, SpellsOn, outcome_on}
 use Rattle.acl_load.specs.declared.load_faults.LoadFault.{LoadFault}
 use Rattle.acl_load.specs.declared.policy_loading.Loaded.{Loaded}
 use Rattle.acl_load.specs.LoadedPolicies.{AreResolved, AreResolvedIn, FirstFaultOr, LoadsPolicy}

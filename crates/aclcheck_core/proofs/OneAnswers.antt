@@ -5,11 +5,11 @@ use Rattle.acl_packet.specs.declared.filtering.Outcome.{Outcome}
 use Rattle.acl_packet.specs.declared.packets.Packet.{Packet}
 use Rattle.acl_text.specs.declared.faults.Code.TheVariants.{TooLong}
 use Rattle.acl_text.specs.declared.faults.Fault.{Fault}
-use Rattle.acl_days.specs.declared.days.Day.{Day}
+use Rattle.acl_host.specs.declared.days.Day.{Day}
 use Rattle.acl_host.specs.Files.{File}
 use Rattle.acl_host.specs.WholeFiles.{whole_file}
 use Rattle.acl_filters.specs.AskedFilters.{FilterRequest}
-use Rattle.acl_render.specs.PlatformLanguages.{OneDocument, outcome_on}
+use Rattle.acl_filters.specs.PlatformLanguages.{OneDocument, outcome_on}
 use Rattle.acl_load.specs.declared.policy_loading.Loaded.{Loaded}
 use Rattle.acl_load.specs.LoadedPolicies.{FirstFaultOr}
 use Rattle.acl_load.proofs.OneAnswer.{one-answer}

@@ -6,7 +6,7 @@ use Rattle.acl_packet.specs.Addresses.{covers}
 use Rattle.acl_packet.specs.Packets.{IsPacket}
 use Rattle.acl_packet.specs.declared.packets.Packet.{Packet}
 use Rattle.acl_text.specs.declared.faults.Fault.{Fault}
-use Rattle.acl_days.specs.declared.days.Day.{Day}
+use Rattle.acl_host.specs.declared.days.Day.{Day}
 use Rattle.acl_host.specs.Files.{File}
 use Rattle.acl_filters.specs.AskedFilters.{FilterRequest}
 use Rattle.acl_filters.specs.CheckedFilters.{IsTakenFor}
@@ -14,15 +14,15 @@ use Rattle.acl_filters.specs.FilterRequests.{filter_for, request_slip, requests_
 use Rattle.acl_filters.proofs.ApartLaws.{all-taken}
 use Rattle.acl_filters.proofs.FilterLaws.{both-none, requests-taken, targets-stand}
 use Rattle.acl_filters.proofs.MeantFilters.{decides-at, resolved-requests}
-use Rattle.acl_render.specs.PlatformLanguages.{outcome_on}
+use Rattle.acl_filters.specs.PlatformLanguages.{outcome_on}
 use Rattle.acl_load.specs.declared.policy_loading.Loaded.{Loaded}
 use Rattle.acl_load.specs.LoadedPolicies.{AreResolved, FirstFaultOr, LoadedStands, LoadsPolicy}
 use Rattle.acl_load.proofs.AnswersThere.{loaded-stands}
 use Rattle.acl_naming.specs.Definitions.{Naming}
 use Rattle.acl_options.specs.Commands.{Inputs}
 use Rattle.acl_policy.specs.Conditions.{IsBlock}
-use Rattle.acl_render.specs.PlatformFiles.{AreApart, sections_on}
-use Rattle.acl_render.proofs.MeantTextsLaws.{sections-meant}
+use Rattle.acl_filters.specs.PlatformFiles.{AreApart, sections_on}
+use Rattle.acl_filters.proofs.MeantTextsLaws.{sections-meant}
 use Rattle.acl_platform.specs.declared.filters.Filter.{Filter}
 use Rattle.acl_target.specs.TargetData.{IsTarget}
 use Rattle.acl_terms.specs.Outcomes.{expressed_on}

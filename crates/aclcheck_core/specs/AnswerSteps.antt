@@ -3,7 +3,7 @@ use Rattle.std.specs.Prelude.{◌≡◌, ℕ, ◌++◌, List, [], find, flat_map
 use Rattle.acl_packet.specs.Addresses.{covers}
 use Rattle.acl_packet.specs.declared.filtering.Outcome.{Outcome}
 use Rattle.acl_packet.specs.declared.packets.Packet.{Packet}
-use Rattle.acl_days.specs.declared.days.Day.{Day}
+use Rattle.acl_host.specs.declared.days.Day.{Day}
 use Rattle.acl_filters.specs.AskedFilters.{FilterRequest}
 use Rattle.acl_policy.specs.declared.blocks.Block.{Block}
 use Rattle.acl_target.specs.FilterEndings.{ending_outcome}

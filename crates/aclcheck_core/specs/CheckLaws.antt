@@ -3,7 +3,7 @@ use Rattle.std.specs.Prelude.{◌≡◌, List, Result, Ok}
 use Rattle.acl_packet.specs.Packets.{IsPacket}
 use Rattle.acl_packet.specs.declared.packets.Packet.{Packet}
 use Rattle.acl_text.specs.declared.faults.Fault.{Fault}
-use Rattle.acl_days.specs.declared.days.Day.{Day}
+use Rattle.acl_host.specs.declared.days.Day.{Day}
 use Rattle.acl_host.specs.Files.{File}
 use Rattle.acl_options.specs.CheckCommands.{FileSection}
 use Rattle.acl_options.specs.Commands.{Inputs}

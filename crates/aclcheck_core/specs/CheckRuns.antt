@@ -2,7 +2,7 @@
 -- written.
 use Rattle.std.specs.Prelude.{◌≡◌, ℕ, Bool, true, false, List, Option, None, Some, Result, Ok}
 use Rattle.acl_text.specs.declared.faults.Fault.{Fault}
-use Rattle.acl_days.specs.declared.days.Day.{Day}
+use Rattle.acl_host.specs.declared.days.Day.{Day}
 use Rattle.acl_host.specs.Files.{File}
 use Rattle.acl_options.specs.CheckCommands.{CheckRequest, AskPolicy, AskText}
 use Rattle.acl_options.specs.ComputableChecks.{check_request_of, clock_is_for}

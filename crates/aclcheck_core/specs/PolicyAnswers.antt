@@ -6,13 +6,13 @@ use Rattle.acl_packet.specs.declared.filtering.Outcome.{Outcome}
 use Rattle.acl_packet.specs.declared.filtering.Verdict.{Verdict}
 use Rattle.acl_packet.specs.declared.filtering.Verdict.TheVariants as verdicts
 use Rattle.acl_packet.specs.declared.packets.Packet.{Packet}
-use Rattle.acl_days.specs.declared.days.Day.{Day}
+use Rattle.acl_host.specs.declared.days.Day.{Day}
 use Rattle.acl_filters.specs.AskedFilters.{FilterRequest}
 use Rattle.acl_filters.specs.FilterRequests.{filter_for, request_slip, requests_of}
-use Rattle.acl_render.specs.PlatformLanguages.{outcome_on}
+use Rattle.acl_filters.specs.PlatformLanguages.{outcome_on}
 use Rattle.acl_load.specs.declared.policy_loading.Loaded.{Loaded}
 use Rattle.acl_naming.specs.Definitions.{Naming}
-use Rattle.acl_render.specs.PlatformFiles.{sections_on}
+use Rattle.acl_filters.specs.PlatformFiles.{sections_on}
 use Rattle.acl_target.specs.TargetTexts.{target_text}
 use Rattle.acl_terms.specs.Outcomes.{expressed_on}
 use Rattle.aclcheck_core.specs.Deciders.{Decided, IsDecided}

@@ -7,7 +7,7 @@ use Rattle.acl_text.specs.declared.faults.Fault.{Fault}
 use Rattle.acl_text.specs.Refusals.{fault, file_fault}
 use Rattle.acl_host.specs.Files.{File}
 use Rattle.acl_host.specs.WholeFiles.{whole_file}
-use Rattle.acl_render.specs.PlatformLanguages.{SectionOn, SpellsOn, outcome_on}
+use Rattle.acl_filters.specs.PlatformLanguages.{SectionOn, SpellsOn, outcome_on}
 use Rattle.acl_load.specs.LoadedPolicies.{FirstFaultOr}
 use Rattle.acl_options.specs.CheckCommands.{FileSection}
 use Rattle.aclcheck_core.specs.PolicyAnswers.{outcome_text}

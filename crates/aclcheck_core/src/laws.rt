@@ -1,7 +1,7 @@
 ghost use Rattle.aclcheck_core.specs.CheckLaws.{PolicyAnswersAreOne, SectionAnswersAreOne, SectionsAnswerAsThePolicy};
 ghost use Rattle.aclcheck_core.specs.Deciders.{OutcomesAreThePolicys};
 
-use acl_render::a_text_has_one_document;
+use acl_filters::a_text_has_one_document;
 
 /// A law: what is told to become of a packet is what the policy decides.
 pub fn outcomes_are_the_policys()

@@ -3,7 +3,7 @@ ghost use Rattle.aclcheck_core.specs.AnswerSteps.{decided_line, decided_of, name
 ghost use Rattle.aclcheck_core.specs.PolicyAnswers.{logged_text, outcome_text, verdict_text};
 
 use crate::verdicts::{deciding_term, ending_outcome, expressed_on, term_outcome};
-use acl_days::Day;
+use acl_host::Day;
 use acl_packet::{Outcome, Packet, Verdict};
 use acl_target::{Target, put_target};
 use acl_terms::Term;

@@ -6,8 +6,7 @@ ghost use Rattle.aclcheck_core.specs.AnswerSteps.{block_lines, target_lines};
 ghost use Rattle.aclcheck_core.specs.CheckAnswers.{AsksPolicyOf, MakesText};
 
 use crate::lines::put_line;
-use acl_days::Day;
-use acl_host::Tree;
+use acl_host::{Day, Tree};
 use acl_load::{LoadFault, Loaded, Terms, load};
 use acl_options::Inputs;
 use acl_packet::Packet;

@@ -2,7 +2,7 @@ ghost use Rattle.std.specs.Prelude.{◌≡◌, ◌++◌, ℕ, ◌-◌, ◌≤◌
 ghost use Rattle.acl_text.specs.Answers.{Answers, fault_told};
 ghost use Rattle.acl_text.specs.Refusals.{fault, file_fault};
 ghost use Rattle.acl_load.specs.LoadFaults.{LoadsFiles, fails_to_list};
-ghost use Rattle.acl_render.specs.PlatformLanguages.{SectionOn, SpellsOn, outcome_on};
+ghost use Rattle.acl_filters.specs.PlatformLanguages.{SectionOn, SpellsOn, outcome_on};
 ghost use Rattle.acl_options.specs.CodeViews.{section_view};
 ghost use Rattle.acl_packet.specs.Packets.{IsPacket};
 ghost use Rattle.acl_rows.specs.Scans.{Finds};

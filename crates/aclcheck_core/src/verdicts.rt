@@ -4,7 +4,7 @@ ghost use Rattle.acl_target.specs.FilterEndings.{ending_outcome, ending_verdict}
 ghost use Rattle.acl_terms.specs.Outcomes.{decides, expressed_on, mode_of, outcome_of};
 ghost use Rattle.aclcheck_core.specs.AnswerSteps.{deciding_term};
 
-use acl_days::Day;
+use acl_host::Day;
 use acl_packet::{Family, Outcome, Packet, Verdict};
 use acl_target::{Ending, Kind, Target};
 use acl_terms::{Mode, Term, is_live, matches};

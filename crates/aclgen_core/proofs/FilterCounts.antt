@@ -15,7 +15,7 @@ use Rattle.gen_iptables.specs.Groups.{groups_up_to}
 use Rattle.gen_iptables.specs.Sections as ipt_sections
 use Rattle.gen_junos.specs.Sections as junos_sections
 use Rattle.gen_nftables.specs.Sections as nft_sections
-use Rattle.acl_render.specs.PlatformFiles.{count_of}
+use Rattle.acl_filters.specs.PlatformFiles.{count_of}
 use Rattle.aclgen_core.proofs.FilterLimits.{filter_at}
 use Rattle.aclgen_core.proofs.RangeLaws.{SameBelow, computed}
 use Rattle.aclgen_core.proofs.TermRules.{cisco, inet_rules, iptables, juniper, mixed_rules, nftables}

@@ -13,9 +13,9 @@ use Rattle.acl_platform.specs.declared.filters.Filter.{Filter}
 use Rattle.acl_platform.specs.declared.rules.Rule.{Rule}
 use Rattle.acl_expand.specs.Expansions.{filter_with}
 use Rattle.gen_iptables.specs.Groups.{groups_up_to}
-use Rattle.acl_render.specs.FewerRules.{IsLeftOf}
-use Rattle.acl_render.specs.PlatformFiles.{limit_of}
-use Rattle.acl_render.proofs.FewerRulesLaws.{fewer-rules-fit}
+use Rattle.acl_filters.specs.FewerRules.{IsLeftOf}
+use Rattle.acl_filters.specs.PlatformFiles.{limit_of}
+use Rattle.acl_filters.proofs.FewerRulesLaws.{fewer-rules-fit}
 use Rattle.aclgen_core.proofs.TermRules.{cisco, inet_rules, iptables, juniper, mixed_rules, nftables}
 
 abbrev pub filter_at : Target → (ℕ → List Rule) → ℕ → Filter

@@ -2,13 +2,13 @@
 use Rattle.std.proofs.Common.{◌≡◌, ℕ, ◌+◌, ◌*◌, ◌<◌, ◌≤◌, zero, suc, List, [], ◌∷◌, map, None, Ok, refl, ap, sym, subst, ◌∙◌, arith}
 use Rattle.std.specs.List.{range_with_len}
 use Rattle.std.specs.Option.{option_or}
-use Rattle.acl_days.specs.declared.days.Day.{Day}
+use Rattle.acl_host.specs.declared.days.Day.{Day}
 use Rattle.acl_target.specs.declared.targets.Target.{Target}
 use Rattle.acl_platform.specs.declared.rules.Rule.{Rule}
 use Rattle.acl_expand.specs.Expansions.{filter_of, filter_with}
 use Rattle.acl_load.specs.declared.policy_loading.Loaded.{Loaded}
 use Rattle.acl_load.specs.LoadedPolicies.{AreResolved, FirstFaultOr, LoadsPolicy, Resolves, ResolvesWith, blocks_slip, terms_slip}
-use Rattle.acl_render.specs.PlatformFiles.{count_of, limit_of}
+use Rattle.acl_filters.specs.PlatformFiles.{count_of, limit_of}
 use Rattle.policy_grammar.specs.PolicyTexts.{text_meant}
 use Rattle.policy_grammar.specs.TermTexts.{term_meant}
 use Rattle.aclgen_core.specs.LoadedWorkloads.{FilterFits, WorkloadsAreLoaded}

@@ -10,7 +10,7 @@ use Rattle.acl_text.specs.Names.{is_name}
 use Rattle.acl_words.specs.declared.forms.Form.TheVariants as forms
 use Rattle.acl_words.specs.Tokens.{Token}
 use Rattle.acl_words.specs.Words.{word}
-use Rattle.acl_splice.specs.IncludeLines.{Asked, Nothing, Wanted, Wrong, asked_in}
+use Rattle.acl_words.specs.IncludeLines.{Asked, Nothing, Wanted, Wrong, asked_in}
 use Rattle.aclgen_core.specs.WorkloadTexts.{header_text, policy_text, term_text}
 use Rattle.policy_grammar.specs.TargetTexts.{plain}
 use Rattle.policy_grammar.specs.TermTexts.{term_words}

@@ -6,10 +6,10 @@ use Rattle.std.proofs.lemmas.Bool.Decides.{nat_tests}
 use Rattle.std.proofs.lemmas.List.Folds.{list_all-append}
 use Rattle.acl_text.specs.Cursors.{lines_of}
 use Rattle.acl_text.specs.Steps.{◌>>=◌}
-use Rattle.acl_splice.specs.IncludeLines.{Asked, Nothing, Wanted, Wrong, asked_in}
-use Rattle.acl_splice.specs.Splices.{Splice, is_long, nothing_read, with_file, with_line}
-use Rattle.acl_splice.specs.Splicing.{Include, behind_include, behind_line, behind_lines, splice_of}
-use Rattle.acl_splice.specs.Folders.{folder_of}
+use Rattle.acl_words.specs.IncludeLines.{Asked, Nothing, Wanted, Wrong, asked_in}
+use Rattle.acl_words.specs.Splices.{Splice, is_long, nothing_read, with_file, with_line}
+use Rattle.acl_words.specs.Splicing.{Include, behind_include, behind_line, behind_lines, splice_of}
+use Rattle.acl_words.specs.Folders.{folder_of}
 use Rattle.acl_words.specs.Words.{words_of}
 use Rattle.acl_policy.specs.Policies.{policy_of}
 use Rattle.acl_load.specs.LoadedPolicies.{policy_at, policy_in}

@@ -4,9 +4,9 @@ use Rattle.std.specs.List.{AllByRecursion}
 use Rattle.std.proofs.lemmas.Int.{ints}
 use Rattle.std.specs.Option.{option_or}
 use Rattle.acl_text.specs.declared.faults.Fault.{Fault}
-use Rattle.acl_days.specs.declared.days.Day.{Day}
+use Rattle.acl_host.specs.declared.days.Day.{Day}
 use Rattle.acl_host.specs.Files.{File}
-use Rattle.acl_days.proofs.NamedDayLaws.{same-day}
+use Rattle.acl_host.proofs.NamedDayLaws.{same-day}
 use Rattle.acl_policy.specs.declared.blocks.Policy.{Policy}
 use Rattle.acl_policy.specs.declared.raw_terms.RawTerm.{RawTerm}
 use Rattle.acl_target.specs.declared.targets.Target.{Target}
@@ -16,7 +16,7 @@ use Rattle.acl_load.specs.declared.load_faults.LoadFault.TheVariants as loads
 use Rattle.acl_load.specs.declared.policy_loading.Loaded.{Loaded}
 use Rattle.acl_expand.specs.Expansions.{filter_of}
 use Rattle.acl_options.specs.CommandLines.{Options}
-use Rattle.acl_render.specs.PlatformFiles.{count_of}
+use Rattle.acl_filters.specs.PlatformFiles.{count_of}
 use Rattle.policy_grammar.specs.PolicyTexts.{block_meant, text_meant}
 use Rattle.aclgen_core.specs.LoadedWorkloads.{FilterFits, IsLoadedWorkload, workload_counts, workload_targets}
 use Rattle.aclgen_core.specs.WorkloadFiles.{workload_files}

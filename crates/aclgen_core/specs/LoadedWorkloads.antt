@@ -1,14 +1,14 @@
 -- A workload has no fault: its files are loaded, and each of its filters can be written.
 use Rattle.std.specs.Prelude.{◌≡◌, ℕ, ◌*◌, ◌<◌, ◌≤◌, List, [], ◌∷◌, map, flat_map, None, Ok}
 use Rattle.std.specs.List.{AllByRecursion}
-use Rattle.acl_days.specs.declared.days.Day.{Day}
+use Rattle.acl_host.specs.declared.days.Day.{Day}
 use Rattle.acl_target.specs.declared.targets.Target.{Target}
 use Rattle.acl_terms.specs.declared.terms.Term.{Term}
 use Rattle.acl_expand.specs.Expansions.{filter_of}
 use Rattle.acl_expand.specs.ExpansionSlips.{first_slip}
 use Rattle.acl_load.specs.declared.policy_loading.Loaded.{Loaded}
 use Rattle.acl_load.specs.LoadedPolicies.{LoadsPolicy}
-use Rattle.acl_render.specs.PlatformFiles.{count_of, limit_of}
+use Rattle.acl_filters.specs.PlatformFiles.{count_of, limit_of}
 use Rattle.policy_grammar.specs.PolicyTexts.{header_item_targets, text_meant}
 use Rattle.aclgen_core.specs.WorkloadFiles.{workload_files, workload_folder, workload_path}
 use Rattle.aclgen_core.specs.WorkloadPolicies.{header_items, workload_text}

@@ -1,9 +1,9 @@
 -- The job of the workload: its texts are compiled as files in memory. It has a plan, and so no fault: a law.
 use Rattle.std.specs.Prelude.{◌≡◌, ℕ, ◌<◌, ◌≤◌, pos, false, List, [], ◌∷◌, map, codes, Result, Ok, None}
 use Rattle.acl_text.specs.declared.faults.Fault.{Fault}
-use Rattle.acl_days.specs.declared.days.Day.{Day}
+use Rattle.acl_host.specs.declared.days.Day.{Day}
 use Rattle.acl_options.specs.CommandLines.{Options}
-use Rattle.acl_render.specs.PlatformFiles.{count_of}
+use Rattle.acl_filters.specs.PlatformFiles.{count_of}
 use Rattle.acl_filters.specs.FilterRequests.{filter_for}
 use Rattle.acl_job.specs.Job.{Plan, Plans}
 use Rattle.acl_job.specs.Works.{IsReady}

@@ -5,7 +5,7 @@ ghost use Rattle.aclgen_core.specs.WorkloadPlans.{MakesWorkload};
 ghost use Rattle.aclgen_core.specs.WorkloadFiles.{workload_files};
 
 use crate::workloads::workload;
-use acl_days::Day;
+use acl_host::Day;
 use acl_job::{Work, make_work, write_files};
 use acl_load::LoadFault;
 use acl_memory::MemTree;

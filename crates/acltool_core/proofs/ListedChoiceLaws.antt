@@ -7,7 +7,7 @@ use Rattle.acl_text.specs.declared.faults.Code.TheVariants as codes_of
 use Rattle.acl_text.specs.declared.faults.Refusal.{Refusal}
 use Rattle.acl_text.specs.declared.faults.Refusal.TheVariants as refusals
 use Rattle.acl_text.specs.Refusals.{IsRefusalBy, Judges, slip}
-use Rattle.acl_days.specs.declared.days.Day.{Day}
+use Rattle.acl_host.specs.declared.days.Day.{Day}
 use Rattle.acl_target.specs.declared.targets.Kind.TheVariants.{Cisco}
 use Rattle.acl_target.specs.Clashes.{same_kind}
 use Rattle.acl_platform.specs.declared.filters.Filter.{Filter}

@@ -9,7 +9,7 @@ use Rattle.std.specs.Option.{option_or}
 use Rattle.acl_text.specs.declared.faults.Code.TheVariants as codes_of
 use Rattle.acl_text.specs.declared.wholes.Whole.{Whole}
 use Rattle.acl_text.specs.Refusals.{first_in, slip}
-use Rattle.acl_days.specs.declared.days.Day.{Day}
+use Rattle.acl_host.specs.declared.days.Day.{Day}
 use Rattle.acl_naming.specs.Definitions.{Naming}
 use Rattle.acl_target.specs.declared.targets.Kind.TheVariants.{Cisco}
 use Rattle.acl_target.specs.declared.targets.Target.{Target}
@@ -24,7 +24,7 @@ use Rattle.acl_expand.specs.ExpansionSlips.{first_slip}
 use Rattle.acl_expand.proofs.FilterLaws.{filter-sound}
 use Rattle.acl_load.specs.declared.policy_loading.Loaded.{Loaded}
 use Rattle.acl_load.specs.LoadedPolicies.{AreResolved, AreResolvedIn}
-use Rattle.acl_render.proofs.TakenFilters.{numbers-differ}
+use Rattle.acl_filters.proofs.TakenFilters.{numbers-differ}
 use Rattle.acl_filters.specs.AskedFilters.{FilterRequest}
 use Rattle.acl_filters.specs.ChosenFilters.{AreChosen}
 use Rattle.acl_filters.specs.FilterRequests.{filter_for, limit_slip, requests_of}

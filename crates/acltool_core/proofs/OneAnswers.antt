@@ -2,7 +2,7 @@
 use Rattle.std.proofs.Common.{◌≡◌, List, [], ◌∷◌, map, Result, Ok, Err, ap, ap₂, refl, sym, subst, ◌∙◌}
 use Rattle.std.specs.List.{AllByRecursion}
 use Rattle.acl_text.specs.declared.faults.Fault.{Fault}
-use Rattle.acl_days.specs.declared.days.Day.{Day}
+use Rattle.acl_host.specs.declared.days.Day.{Day}
 use Rattle.acl_load.proofs.OneAnswer.{one-answer}
 use Rattle.acl_load.specs.LoadedPolicies.{FirstFaultOr}
 use Rattle.acl_load.specs.declared.policy_loading.Loaded.{Loaded}

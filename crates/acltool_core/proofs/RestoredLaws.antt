@@ -16,7 +16,7 @@ use Rattle.acl_text.specs.declared.faults.Rejection.TheVariants as rejections
 use Rattle.acl_text.specs.declared.faults.Slip.{Slip}
 use Rattle.acl_text.specs.declared.wholes.Whole.{Whole}
 use Rattle.acl_text.specs.Refusals.{first_in, slip, slip_fault}
-use Rattle.acl_days.specs.declared.days.Day.{Day}
+use Rattle.acl_host.specs.declared.days.Day.{Day}
 use Rattle.acl_naming.specs.Definitions.{Naming}
 use Rattle.acl_target.specs.declared.targets.Kind.TheVariants.{Iptables}
 use Rattle.acl_target.specs.declared.targets.Target.{Target}
@@ -30,8 +30,8 @@ use Rattle.acl_platform.specs.SoundFilters.{target_of}
 use Rattle.acl_platform.proofs.Sections.{all-decide, all-spelled}
 use Rattle.acl_load.specs.declared.policy_loading.Loaded.{Loaded}
 use Rattle.acl_load.specs.LoadedPolicies.{AreResolved, AreResolvedIn}
-use Rattle.acl_render.specs.PlatformFiles.{AreApart, IsTaken}
-use Rattle.acl_render.proofs.TakenFilters.{of-iptables}
+use Rattle.acl_filters.specs.PlatformFiles.{AreApart, IsTaken}
+use Rattle.acl_filters.proofs.TakenFilters.{of-iptables}
 use Rattle.acl_filters.specs.AskedFilters.{FilterRequest}
 use Rattle.acl_filters.specs.CheckedFilters.{IsTakenFor}
 use Rattle.acl_filters.specs.ChosenFilters.{AreChosen}

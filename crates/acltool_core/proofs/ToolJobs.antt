@@ -3,7 +3,7 @@ use Rattle.std.specs.Prelude.{◌≤◌, IsSomeAnd, codes}
 use Rattle.std.proofs.Common.{◌≡◌, ℕ, List, Option, None, Some, Result, Ok, Err, IfSome, not, is_some, refl, ap, sym, subst, ◌∙◌}
 use Rattle.acl_text.specs.declared.faults.Fault.{Fault}
 use Rattle.acl_text.specs.declared.wholes.Whole.{Whole}
-use Rattle.acl_days.specs.declared.days.Day.{Day}
+use Rattle.acl_host.specs.declared.days.Day.{Day}
 use Rattle.acl_host.specs.Files.{File}
 use Rattle.acl_filters.specs.FilterRequests.{requests_of}
 use Rattle.acl_load.specs.declared.load_faults.LoadFault.{LoadFault}

@@ -1,7 +1,7 @@
 -- What holds of the answers on standard lists.
 use Rattle.std.specs.Prelude.{◌≡◌, ℕ, List, Result}
 use Rattle.acl_text.specs.declared.faults.Fault.{Fault}
-use Rattle.acl_days.specs.declared.days.Day.{Day}
+use Rattle.acl_host.specs.declared.days.Day.{Day}
 use Rattle.acl_host.specs.Files.{File}
 use Rattle.acl_options.specs.Commands.{Inputs}
 use Rattle.acltool_core.specs.ListPlans.{ListPlan, Lists}

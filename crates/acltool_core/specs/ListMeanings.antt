@@ -1,6 +1,6 @@
 -- What a text of standard lists means: said over the policy and the language alone. No generator is named here.
 use Rattle.std.specs.Prelude.{◌≡◌, ℕ, ◌+◌, ◌-◌, List, IfSome, map, slice_get}
-use Rattle.acl_days.specs.declared.days.Day.{Day}
+use Rattle.acl_host.specs.declared.days.Day.{Day}
 use Rattle.acl_naming.specs.Definitions.{Naming}
 use Rattle.acl_target.specs.declared.targets.Target.{Target}
 use Rattle.acl_filters.specs.AskedFilters.{FilterRequest}

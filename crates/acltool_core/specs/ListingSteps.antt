@@ -4,7 +4,7 @@ use Rattle.std.specs.List.{All, IsDistinct}
 use Rattle.std.specs.Str.{bytes_eq}
 use Rattle.acl_text.specs.declared.faults.Rejection.{Rejection}
 use Rattle.acl_text.specs.declared.wholes.Whole.{Whole}
-use Rattle.acl_days.specs.declared.days.Day.{Day}
+use Rattle.acl_host.specs.declared.days.Day.{Day}
 use Rattle.acl_platform.specs.Platforms.{IsAccepted}
 use Rattle.acl_platform.specs.declared.filters.Filter.{Filter}
 use Rattle.acl_load.specs.declared.policy_loading.Loaded.{Loaded}

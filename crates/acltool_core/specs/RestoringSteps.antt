@@ -4,12 +4,12 @@ use Rattle.std.specs.List.{All}
 use Rattle.acl_packet.specs.declared.addresses.Family.{Family}
 use Rattle.acl_text.specs.declared.faults.Rejection.{Rejection}
 use Rattle.acl_text.specs.declared.wholes.Whole.{Whole}
-use Rattle.acl_days.specs.declared.days.Day.{Day}
+use Rattle.acl_host.specs.declared.days.Day.{Day}
 use Rattle.acl_target.specs.declared.targets.Kind.TheVariants.{Iptables}
 use Rattle.acl_platform.specs.declared.filters.Filter.{Filter}
 use Rattle.acl_load.specs.declared.policy_loading.Loaded.{Loaded}
 use Rattle.acl_filters.specs.FilterRequests.{requests_of}
-use Rattle.acl_render.specs.PlatformFiles.{AreApart, IsTaken}
+use Rattle.acl_filters.specs.PlatformFiles.{AreApart, IsTaken}
 use Rattle.ipr_lang.specs.Texts.{text_of}
 use Rattle.gen_iptables.specs.Sections.{section_of}
 use Rattle.gen_acltool.specs.RestoredFilters.{leaves_packets}

@@ -1,7 +1,7 @@
 -- Lines that are put one behind the other, each on an answer.
 use Rattle.std.specs.Prelude.{◌≡◌, ℕ, ◌++◌, List, flat_map, map}
 use Rattle.std.specs.List.{AllByRecursion}
-use Rattle.acl_days.specs.declared.days.Day.{Day}
+use Rattle.acl_host.specs.declared.days.Day.{Day}
 use Rattle.acltool_core.specs.TermAnswers.{IsAnswered, TermAnswer, TermQuestion, answer_line}
 
 -- These answers are told.

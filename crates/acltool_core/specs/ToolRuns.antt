@@ -1,7 +1,7 @@
 -- What acltool does: the answer to its words, which is told on standard output.
 use Rattle.std.specs.Prelude.{◌≡◌, ℕ, List, Option, None, Some, Result, Ok, Err}
 use Rattle.acl_text.specs.declared.faults.Fault.{Fault}
-use Rattle.acl_days.specs.declared.days.Day.{Day}
+use Rattle.acl_host.specs.declared.days.Day.{Day}
 use Rattle.acl_host.specs.Files.{File}
 use Rattle.acl_options.specs.ToolCommands.{ToolRequest, Speedway, Dead, Standard}
 use Rattle.acl_options.specs.ComputableTools.{date_for, tool_asks_clock, tool_request_of}

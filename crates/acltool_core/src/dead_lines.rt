@@ -4,10 +4,10 @@ ghost use Rattle.acltool_core.specs.TermAnswers.{decided_line, decided_text};
 use acl_dead::Decided;
 use acl_options::put_packet;
 use acl_report::put_term;
-use acl_splice::Sources;
 use acl_target::{Target, put_target};
 use acl_terms::Term;
 use acl_text::{Memory, Out, PutFault, Whole};
+use acl_words::Sources;
 
 fn put_decided(text: &mut Whole, decided: &Decided) -> Result<(), PutFault>
     requires { text.old.is_open ≡ true }

@@ -14,16 +14,15 @@ ghost use Rattle.acltool_core.specs.TermAnswers.{
 };
 
 use crate::dead_lines::put_decided_line;
-use acl_days::Day;
 use acl_dead::decide;
-use acl_host::Tree;
+use acl_host::{Day, Tree};
 use acl_load::{LoadFault, Loaded, Terms, load};
 use acl_options::Inputs;
 use acl_policy::Block;
-use acl_splice::Sources;
 use acl_target::Target;
 use acl_terms::Term;
 use acl_text::{Memory, Whole};
+use acl_words::Sources;
 use std::alloc::Global;
 
 // A block, of whose terms the lines are put.

@@ -1,7 +1,7 @@
 ghost use Rattle.std.specs.Prelude.{◌≡◌, List, Result};
 ghost use Rattle.acl_packet.specs.declared.addresses.Family.{Family};
 ghost use Rattle.acl_text.specs.declared.faults.Fault.{Fault};
-ghost use Rattle.acl_days.specs.declared.days.Day.{Day};
+ghost use Rattle.acl_host.specs.declared.days.Day.{Day};
 ghost use Rattle.acl_host.specs.Files.{File};
 ghost use Rattle.acl_options.specs.Commands.{Inputs};
 ghost use Rattle.acltool_core.specs.DeadLaws.{DeadAnswersAreOne};

@@ -6,9 +6,9 @@ ghost use Rattle.acl_filters.specs.FilterRequests.{request_of};
 ghost use Rattle.acltool_core.specs.ListMeanings.{number_from};
 ghost use Rattle.acltool_core.specs.ListPlans.{is_listed, listed_slip};
 
-use acl_days::Day;
 use acl_expand::KnownRules;
 use acl_filters::{Choice, limit_refusal};
+use acl_host::Day;
 use acl_packet::Families;
 use acl_platform::{Filter, count_within_limits};
 use acl_policy::{Kind, Target};

@@ -9,9 +9,8 @@ ghost use Rattle.acltool_core.specs.ListPlans.{IsReady, Lists};
 ghost use Rattle.acltool_core.specs.ListingSteps.{AreListable, MakesOf, text_if};
 
 use crate::listed_targets::Listed;
-use acl_days::Day;
 use acl_filters::chosen_filters;
-use acl_host::Tree;
+use acl_host::{Day, Tree};
 use acl_load::{LoadFault, Loaded, load, policy_fault};
 use acl_options::Inputs;
 use acl_platform::{Filter, write_all};

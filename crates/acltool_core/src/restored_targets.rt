@@ -5,9 +5,9 @@ ghost use Rattle.acl_filters.specs.FilterRequests.{request_of};
 ghost use Rattle.gen_acltool.specs.RestoredFilters.{leaves_packets};
 ghost use Rattle.acltool_core.specs.RestorePlans.{is_restored, restored_slip};
 
-use acl_days::Day;
 use acl_expand::KnownRules;
 use acl_filters::{Choice, checked_filter};
+use acl_host::Day;
 use acl_packet::Family;
 use acl_platform::Filter;
 use acl_policy::{Ending, Kind, Target};

@@ -6,15 +6,14 @@ ghost use Rattle.acl_load.specs.LoadedPolicies.{AreResolvedIn};
 ghost use Rattle.acl_load.specs.LoadFaults.{LoadsFiles};
 ghost use Rattle.acl_options.specs.CodeViews.{inputs_view};
 ghost use Rattle.acl_run.specs.PolicyAnswers.{Makes};
-ghost use Rattle.acl_render.specs.PlatformFiles.{AreApart};
+ghost use Rattle.acl_filters.specs.PlatformFiles.{AreApart};
 ghost use Rattle.acltool_core.specs.RestorePlans.{IsReady, Restores};
 ghost use Rattle.acl_run.specs.Finishing.{text_in};
 ghost use Rattle.acltool_core.specs.RestoringSteps.{AreRestorable, MakesOf, text_if};
 
 use crate::restored_targets::Restored;
-use acl_days::Day;
 use acl_filters::chosen_filters;
-use acl_host::Tree;
+use acl_host::{Day, Tree};
 use acl_load::{LoadFault, Loaded, load, policy_fault};
 use acl_options::Inputs;
 use acl_packet::Family;

@@ -5,7 +5,6 @@ mod junos;
 mod languages;
 mod nftables;
 mod platforms;
-mod rendering;
 mod restore;
 mod samples;
 mod speedway;

@@ -6,12 +6,12 @@ use Rattle.jiff_core.specs.Calendar.{days_in_month, days_from_civil}
 use Rattle.jiff_core.proofs.CalendarLemmas.{days_from_civil-day_count, days_in_month_bounds}
 use Rattle.jiff_core.proofs.DateLemmas.{days_from_civil-day, days_from_civil-next_month, days_from_civil-next_year, days_from_civil-max}
 use Rattle.jiff_core.proofs.SignedLemmas.{signed_arith}
-use Rattle.acl_days.specs.declared.days.Day.{Day}
-use Rattle.acl_days.specs.DaySteps.{date_text}
-use Rattle.acl_days.specs.NamedDays.{day_named}
-use Rattle.acl_days.proofs.Calendar.{IsRealDate, year_1_count, text_is_days}
-use Rattle.acl_days.proofs.DayTextLaws.{day-text-read}
-use Rattle.acl_days.proofs.NamedDayLaws.{is_named}
+use Rattle.acl_host.specs.declared.days.Day.{Day}
+use Rattle.acl_host.specs.DaySteps.{date_text}
+use Rattle.acl_host.specs.NamedDays.{day_named}
+use Rattle.acl_host.proofs.Calendar.{IsRealDate, year_1_count, text_is_days}
+use Rattle.acl_host.proofs.DayTextLaws.{day-text-read}
+use Rattle.acl_host.proofs.NamedDayLaws.{is_named}
 
 -- A day that has a date.
 record Dated (z : ℤ) : Type 0 where

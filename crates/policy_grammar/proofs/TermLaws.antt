@@ -11,7 +11,7 @@ use Rattle.acl_words.specs.declared.forms.Form.{Form}
 use Rattle.acl_words.specs.declared.forms.Form.TheVariants as forms
 use Rattle.acl_words.specs.Tokens.{Token}
 use Rattle.acl_words.specs.Words.{word}
-use Rattle.acl_days.specs.NamedDays.{day_named}
+use Rattle.acl_host.specs.NamedDays.{day_named}
 use Rattle.acl_policy.specs.declared.keywords.Keyword.{Keyword}
 use Rattle.acl_policy.specs.declared.keywords.Keyword.TheVariants as keywords
 use Rattle.acl_policy.specs.declared.raw_terms.RawTerm.{RawTerm}

@@ -18,10 +18,10 @@ use Rattle.acl_text.specs.SignedNumbers.{IsSignedWord}
 use Rattle.acl_words.specs.declared.forms.Form.{Form}
 use Rattle.acl_words.specs.declared.forms.Form.TheVariants as forms
 use Rattle.acl_words.specs.Tokens.{Token}
-use Rattle.acl_days.specs.DaySteps.{day_in}
-use Rattle.acl_days.specs.Days.{two_digits, full_date, IsDayText}
-use Rattle.acl_days.specs.NamedDays.{day_at, day_named}
-use Rattle.acl_days.proofs.DayTextLaws.{day-text-found}
+use Rattle.acl_host.specs.DaySteps.{day_in}
+use Rattle.acl_host.specs.Days.{two_digits, full_date, IsDayText}
+use Rattle.acl_host.specs.NamedDays.{day_at, day_named}
+use Rattle.acl_host.proofs.DayTextLaws.{day-text-found}
 use Rattle.acl_policy.specs.declared.keywords.Keyword.{Keyword}
 use Rattle.acl_policy.specs.declared.keywords.Keyword.TheVariants as keywords
 use Rattle.acl_policy.specs.declared.values.Takes.{Takes}

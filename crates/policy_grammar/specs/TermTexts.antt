@@ -12,8 +12,8 @@ use Rattle.acl_text.specs.Names.{is_name}
 use Rattle.acl_words.specs.declared.forms.Form.TheVariants as forms
 use Rattle.acl_words.specs.Tokens.{Token}
 use Rattle.acl_words.specs.Words.{word}
-use Rattle.acl_days.specs.declared.days.Day.{Day}
-use Rattle.acl_days.specs.NamedDays.{day_named}
+use Rattle.acl_host.specs.declared.days.Day.{Day}
+use Rattle.acl_host.specs.NamedDays.{day_named}
 use Rattle.acl_policy.specs.declared.raw_terms.RawTerm.{RawTerm}
 use Rattle.acl_words.specs.declared.word_lists.Word.{Word}
 use Rattle.acl_policy.specs.declared.keywords.Keyword.{Keyword}

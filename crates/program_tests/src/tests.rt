@@ -6,6 +6,7 @@ mod hostile;
 mod jobs;
 mod options;
 mod packet_texts;
+mod rendering;
 mod runs;
 mod tool_commands;
 mod tool_runs;

@@ -1,4 +1,4 @@
-use acl_days::{Day, put_day, read_day};
+use acl_host::{Day, put_day, read_day};
 use acl_text::{PutFault, Whole};
 use std::alloc::Global;
 

@@ -1,9 +1,8 @@
 ghost use Rattle.std.specs.Prelude.{◌≡◌, None};
 
 use crate::tests::looks::{are_spaced_as, lacks, lists, reads, writes};
-use acl_days::Day;
 use acl_host::{
-    Clock, ClockFault, ListFault, ReadFault, Sink, Tree, WriteFault, join_path, listing,
+    Clock, ClockFault, Day, ListFault, ReadFault, Sink, Tree, WriteFault, join_path, listing,
     read_whole, write_file,
 };
 use acl_memory::{FixedClock, MemSink, MemTree, Op};

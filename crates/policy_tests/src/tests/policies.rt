@@ -1,6 +1,6 @@
 use crate::tests::files::{text, tree_of};
 use crate::tests::reading::parsed;
-use acl_days::Day;
+use acl_host::Day;
 use acl_policy::{Policy, RawTerm, Target, WordList, put_target};
 use acl_text::{Memory, Refusal, Slip, Whole};
 use std::alloc::Global;

@@ -3,8 +3,7 @@ ghost use Rattle.std.specs.List.{All};
 ghost use Rattle.acl_policy.specs.Conditions.{IsPolicy, IsRawTerm};
 
 use crate::tests::files::{text, tree_of};
-use acl_days::Day;
-use acl_host::Tree;
+use acl_host::{Day, Tree};
 use acl_naming::{Base, Checked, check_base, read_networks, read_services};
 use acl_policy::{Policy, RawTerm, gather, parse};
 use acl_terms::{Term, resolve};

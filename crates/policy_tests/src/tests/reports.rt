@@ -1,7 +1,7 @@
 ghost use Rattle.std.specs.Prelude.{◌≡◌, true, IfOk};
 
 use crate::tests::loads::loaded_of;
-use acl_days::{Day, read_day};
+use acl_host::{Day, read_day};
 use acl_load::{ResolvedPolicy, settle};
 use acl_report::{put_count, report_terms, shaded_lists};
 use acl_target::Targets;

@@ -1,9 +1,8 @@
 use crate::tests::files::{Files, text, tree_of};
 use acl_host::Tree;
 use acl_memory::Op;
-use acl_splice::{GatherFault, Sources, gather, label};
 use acl_text::{Fault, Memory};
-use acl_words::Lines;
+use acl_words::{GatherFault, Lines, Sources, gather, label};
 use std::alloc::Global;
 
 // The labels, each with a space behind it.

@@ -5,7 +5,7 @@ use crate::tests::runs::{
     Calls, DATED, DEFINITIONS, Left, NONE, UNDATED, USAGE, WITHOUT_POLICY, WRONG, aclgen_status,
     keeps_inputs, left_by_aclgen, sink_with, words_of,
 };
-use acl_days::Day;
+use acl_host::Day;
 use acl_memory::{MemTree, Op, SureClock, SureSink, SureTree};
 use acl_text::Memory;
 use aclgen_core::status_without_words;

@@ -33,8 +33,8 @@ fn outcome_of(
 ) -> Result<Option<Outcome>, Memory>
     requires { IsPacket packet.now }
 {
-    match acl_render::sections(alloc, kind, text)? {
-        Some(1) => acl_render::outcome(alloc, kind, text, 0, packet),
+    match acl_filters::sections(alloc, kind, text)? {
+        Some(1) => acl_filters::outcome(alloc, kind, text, 0, packet),
         _ => Ok(None),
     }
 }

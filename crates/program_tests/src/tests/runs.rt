@@ -1,8 +1,7 @@
 ghost use Rattle.std.specs.Prelude.{◌≡◌, IfOk, None};
 ghost use Rattle.acl_memory.specs.MemoryTrees.{contents};
 
-use acl_days::Day;
-use acl_host::{Clock, ClockFault, Sink, Tree};
+use acl_host::{Clock, ClockFault, Day, Sink, Tree};
 use acl_memory::{MemSink, MemTree, Op};
 use acl_text::Memory;
 use std::alloc::{AllocError, Global};

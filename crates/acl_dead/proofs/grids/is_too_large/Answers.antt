@@ -1,5 +1,5 @@
 use Rattle.std.proofs.Common.{nat_lt, ap, ◌∙◌, sym, subst}
-use Rattle.acl_boxes.specs.Boxes.{grid_size}
+use Rattle.acl_dead.specs.Boxes.{grid_size}
 use Rattle.acl_dead.specs.Deciding.{most_packets}
 use Rattle.acl_dead.specs.GridSteps.{IsGridIn}
 use Rattle.acl_dead.specs.QuestionSteps.{question}

@@ -1,7 +1,7 @@
 -- The terms so far are not shaded: the first slip is that of the terms that are left.
 use Rattle.std.proofs.Common.{◌≡◌, List, drop}
 use Rattle.std.specs.List.{enumerate_from}
-use Rattle.acl_days.specs.declared.days.Day.{Day}
+use Rattle.acl_host.specs.declared.days.Day.{Day}
 use Rattle.acl_target.specs.declared.targets.Target.{Target}
 use Rattle.acl_text.specs.Refusals.{first_in}
 use Rattle.acl_shade.specs.ShadedPlaces.{AreShadedPlaces}

@@ -1,5 +1,5 @@
 use Rattle.std.proofs.Common.{ap, ◌∙◌}
-use Rattle.acl_days.specs.NamedDays.{day_named}
+use Rattle.acl_host.specs.NamedDays.{day_named}
 use Rattle.acl_options.proofs.inputs.day_named.Goals as goal
 
 pub returns : goal.returns

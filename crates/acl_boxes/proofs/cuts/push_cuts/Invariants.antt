@@ -1,7 +1,0 @@
-use Rattle.std.proofs.Common.{◌≡◌, ◌++◌, drop}
-use Rattle.acl_boxes.specs.CutSteps.{held_cuts}
-use Rattle.acl_boxes.proofs.cuts.push_cuts.Given as goal
-
-abbrev pub invariant-loop-range : goal.invariant-loop-range
-invariant-loop-range l =
-    l.out.items ++ held_cuts l.rest (drop l.range-index l.ranges) ≡ l.fn.out.items ++ held_cuts l.own l.ranges

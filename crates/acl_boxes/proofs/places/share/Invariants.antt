@@ -1,4 +1,0 @@
-use Rattle.acl_boxes.proofs.places.share.Given as goal
-
-abbrev pub invariant-loop-i : goal.invariant-loop-i
-invariant-loop-i l = Unit {0}

@@ -1,5 +1,0 @@
-use Rattle.std.proofs.Common.{length}
-use Rattle.acl_boxes.proofs.spaces.+grid_size.Given as goal
-
-abbrev pub decreases-grid_size : goal.decreases-grid_size
-decreases-grid_size l = length l.axes.now

@@ -1,6 +1,0 @@
-ghost use Rattle.acl_boxes.specs.Laws.{PointsRoundDown};
-
-/// A law: a point that is asked for, rounded down to the values of each axis, comes into no new box.
-pub fn points_round_down()
-    ensures { PointsRoundDown }
-{}

@@ -1,3 +1,0 @@
-pub mod Days
-pub mod DaySteps
-pub mod NamedDays

@@ -1,5 +1,0 @@
-use Rattle.acl_render.proofs.ShortListsLaws.{taken-short}
-use Rattle.acl_render.proofs.laws.taken_filters_are_short.Goals as goal
-
-pub returns : goal.returns
-returns c = taken-short

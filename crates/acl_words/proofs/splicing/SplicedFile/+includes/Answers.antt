@@ -1,0 +1,24 @@
+use Rattle.std.proofs.Common.{◌≤◌, ◌<◌, arith}
+use Rattle.std.proofs.lemmas.Result.{err_from_is_err_and}
+use Rattle.acl_words.proofs.Includes.{count_told, include_ends, include_told}
+use Rattle.acl_words.proofs.splicing.SplicedFile.+includes.Goals as goal
+
+pub include-returns-then-includes-ge-MOST_INCLUDES-clause-gives :
+    goal.include-returns-then-includes-ge-MOST_INCLUDES-clause-gives
+include-returns-then-includes-ge-MOST_INCLUDES-clause-gives g t c =
+    let many : 1024 ≤ c.args.sources.now.includes = omega arith in
+    count_told (g.T.Tree.files c.args.tree.now) _ _ _ _ _ _ _ c.if-self-eq0.false many c.refusal-then-includes-ge-MOST_INCLUDES.ensures.fault
+
+pub include-returns-in_err-bytes-clause-gives : goal.include-returns-in_err-bytes-clause-gives
+include-returns-in_err-bytes-clause-gives g t c =
+    let few : c.args.sources.now.includes < 1024 = omega arith in
+    let p = err_from_is_err_and c.from_residual-in_err-bytes.result c.from_residual-in_err-bytes.ensures.1 in
+    rw (p.1, p.2) (include_ends (g.T.Tree.files c.args.tree.now) _ _ _ _ _ _ _ _ _ c.if-self-eq0.false few c.in_ok-inner.ensures c.as_str.ensures.value
+    c.in_err-bytes.ensures.gives)
+
+pub include-returns-clause-gives : goal.include-returns-clause-gives
+include-returns-clause-gives g t c =
+    let few : c.args.sources.now.includes < 1024 = omega arith in
+    include_told (g.T.Tree.files c.args.tree.now) (g.T.Tree.files c.read.new.tree) _ _ _ _ _ _ _ _ _ _ _ _ _ _ c.if-self-eq0.false few c.in_ok-bytes.ensures.reads.only.looks.files_stay
+    c.in_ok-inner.ensures c.as_str.ensures.value c.as_bytes.ensures.value c.as_slice.ensures c.count_include.ensures.counted
+    c.in_ok-bytes.ensures.gives c.add.ensures.gives

@@ -1,0 +1,6 @@
+use Rattle.std.proofs.lemmas.Str.{IsUtf8-from_ascii}
+use Rattle.acl_words.proofs.Paths.{path_is_ascii}
+use Rattle.acl_words.proofs.splicing.path_text.Goals as goal
+
+pub unreachable-requires : goal.unreachable-requires
+unreachable-requires c = c.in-Err.ensures.cases.0 (IsUtf8-from_ascii _ (path_is_ascii _ c.requires))
