@@ -7,7 +7,7 @@ use Rattle.acl_text.specs.declared.faults.Fault.{Fault}
 use Rattle.acl_text.specs.declared.faults.Code.TheVariants.{TooLong, NoFile, IncludeCount}
 use Rattle.acl_host.specs.Files.{File, file_at}
 use Rattle.acl_words.specs.Folders.{folder_of}
-use Rattle.acl_words.specs.IncludeSteps.{front_at}
+use Rattle.acl_words.specs.IncludeSteps.{front, front_at}
 use Rattle.acl_words.specs.Splices.{Splice, nothing_read, with_include, is_long}
 use Rattle.acl_words.specs.Splicing.{Include, behind_file, behind_include, splice_of}
 use Rattle.acl_text.specs.Answers.{Leaves, Stops}
@@ -24,12 +24,12 @@ file_too_long : (include : Include) (label bytes : List ℕ) (s : Splice) → 41
 file_too_long include label bytes s h = rw (too_long s.size (length bytes) h) refl
 
 -- one byte more than a file may have is enough of it
-pub front_is_enough : (include : Include) (label bytes : List ℕ) (s : Splice) → behind_file include label (take 4194305 bytes) s ≡ behind_file include label bytes s
-front_is_enough include label bytes s = elim (nat_lt 4194304 (length bytes)) as (λ v. nat_lt 4194304 (length bytes) ≡ v → behind_file include label (take 4194305 bytes) s ≡ behind_file include label bytes s) [
+pub front_is_enough : (include : Include) (label bytes : List ℕ) (s : Splice) → behind_file include label (front bytes) s ≡ behind_file include label bytes s
+front_is_enough include label bytes s = elim (nat_lt 4194304 (length bytes)) as (λ v. nat_lt 4194304 (length bytes) ≡ v → behind_file include label (front bytes) s ≡ behind_file include label bytes s) [
   | true ↦ λ e.
       let long : 4194304 < length bytes = grind (arith, nat_tests) in
-      let front : 4194304 < length (take 4194305 bytes) = omega (arith, length-take 4194305 bytes) in
-      file_too_long include label (take 4194305 bytes) s front ∙ sym (file_too_long include label bytes s long)
+      let too_long : 4194304 < length (front bytes) = omega (arith, length-take 4194305 bytes) in
+      file_too_long include label (front bytes) s too_long ∙ sym (file_too_long include label bytes s long)
   | false ↦ λ e.
       let short : length bytes ≤ 4194305 = grind (arith, nat_tests) in
       ap (λ (bs : List ℕ). behind_file include label bs s) (take_all 4194305 bytes short)
@@ -62,7 +62,7 @@ count_told (Some fs) levels n folder label path s e h many is =
 
 -- a file that is not there ends the whole
 missing : (o : Option (List ℕ)) (absent f : Fault) (next : List ℕ → Result Splice Fault)
-    → or_err absent (option_map (λ (b : List ℕ). take 4194305 b) o) ≡ Err f → (or_err absent o >>= next) ≡ Err f
+    → or_err absent (option_map front o) ≡ Err f → (or_err absent o >>= next) ≡ Err f
 missing None absent f next h = cc
 missing (Some all) absent f next h = absurd (cc)
 
@@ -86,14 +86,14 @@ include_ends (Some fs) levels n folder label path built read_path s e h few o p 
     (λ f none. include_missing fs levels n folder label path s f h few
     (subst (λ (q : List ℕ). front_at (fault NoFile label n path) fs q ≡ Err f) (p ∙ o) none))
 
-read_file : (o : Option (List ℕ)) (absent : Fault) (bytes : List ℕ) → or_err absent (option_map (λ (b : List ℕ). take 4194305 b) o) ≡ Ok bytes
-    → (all : List ℕ) × (o ≡ Some all) × (bytes ≡ take 4194305 all)
+read_file : (o : Option (List ℕ)) (absent : Fault) (bytes : List ℕ) → or_err absent (option_map front o) ≡ Ok bytes
+    → (all : List ℕ) × (o ≡ Some all) × (bytes ≡ front all)
 read_file None absent bytes h = absurd (cc)
 read_file (Some all) absent bytes h = (all, refl, cc)
 
 include_of : (fs : List File) (levels n : ℕ) (folder label path all : List ℕ) (s : Splice)
     → levels ≢ 0 → s.includes < 1024 → file_at fs (folder ++ path) ≡ Some all
-    → behind_file (behind_include (levels - 1) fs folder) (folder ++ path) (take 4194305 all) (with_include s) ≡ behind_include levels fs folder label n path s
+    → behind_file (behind_include (levels - 1) fs folder) (folder ++ path) (front all) (with_include s) ≡ behind_include levels fs folder label n path s
 unfolding behind_include
 include_of fs zero n folder label path all s h few read = absurd (h refl)
 include_of fs (suc levels) n folder label path all s h few read =
@@ -139,7 +139,7 @@ policy_ends (Some fs) path label e l stops =
     (λ f none. policy_missing fs path f (subst (λ (q : List ℕ). front_at (fault NoFile q 0 []) fs path ≡ Err f) l none))
 
 policy_of : (fs : List File) (path all : List ℕ) → file_at fs path ≡ Some all
-    → behind_file (behind_include 8 fs (folder_of path)) path (take 4194305 all) nothing_read ≡ splice_of fs path
+    → behind_file (behind_include 8 fs (folder_of path)) path (front all) nothing_read ≡ splice_of fs path
 unfolding splice_of
 policy_of fs path all read = rw (read, front_is_enough (behind_include 8 fs (folder_of path)) path all nothing_read) refl
 

@@ -4,6 +4,10 @@ use Rattle.acl_text.specs.declared.faults.Fault.{Fault}
 use Rattle.acl_text.specs.Steps.{or_err}
 use Rattle.acl_host.specs.Files.{File, file_at}
 
--- The bytes at the path, and one more than a file may have at most; or this fault, where there is no file.
+-- The bytes of a file, of a long one a byte more than a file may have.
+abbrev pub front : List ℕ → List ℕ
+front bytes = take 4194305 bytes
+
+-- The front of the file at the path; or this fault, where there is none.
 abbrev pub front_at : Fault → List File → List ℕ → Result (List ℕ) Fault
-front_at missing files path = or_err missing (option_map (λ (b : List ℕ). take 4194305 b) (file_at files path))
+front_at missing files path = or_err missing (option_map front (file_at files path))
