@@ -13,8 +13,7 @@ use Rattle.acl_target.specs.declared.targets.Kind.{Kind}
 use Rattle.acl_target.specs.declared.targets.Kind.TheVariants.{Nftables}
 use Rattle.acl_words.specs.Tokens.{Token}
 use Rattle.acl_policy.specs.Slips.{slip_for}
-use Rattle.acl_policy.specs.TargetSteps.{device_words}
-use Rattle.acl_policy.specs.Targets.{device_line, family_word, hooked_line, last_family, name_word, nftables_line, or_slip}
+use Rattle.acl_policy.specs.Targets.{device_line, device_words, family_word, hooked_line, last_family, name_word, nftables_line, or_slip}
 
 -- A list that begins with a word, and the rest of it as a slice pattern gives it.
 pub first_rest : {X : Type 0} (xs : List X) (x : X) → 1 ≤ length xs → x ≡ get_or xs 0 x → xs ≡ x ∷ take (length xs - 1) (drop 1 xs)

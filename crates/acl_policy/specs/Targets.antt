@@ -146,11 +146,15 @@ abbrev pub device_target : Token → Token → Kind → Families → Target
 device_target k n kind families =
     record (target_of k n kind families hooks.Input) { ending = device_ending kind }
 
+-- the words behind the name of a list, those behind a chain, and those behind a hook
+abbrev pub device_words : Kind → Token → Token → List Token → Result NamedTarget Slip
+device_words kind k n ws =
+    last_family kind ws >>= λ f. Ok (named_target n (device_target k n kind f))
+
 abbrev pub device_line : Kind → Token → Token → List Token → Result NamedTarget Slip
 device_line kind k p [] = Err (slip_of codes_of.TargetLine p)
 device_line kind k p (n ∷ ws) =
-    if name_word n
-    then (last_family kind ws >>= λ f. Ok (named_target n (device_target k n kind f)))
+    if name_word n then device_words kind k n ws
     else Err (slip_for codes_of.TargetLine n)
 
 -- `iptables CHAIN`, then `ACCEPT` or `DROP`, `nostate`, and `inet` or `inet6`.
@@ -165,11 +169,13 @@ iptables_target k n hook c = record (target_of k n Iptables (unwrap_or c.familie
   ending = default_ending endings.Left c.accept;
 }
 
+abbrev pub chain_words : Token → Token → Hook → List Token → Result NamedTarget Slip
+chain_words k n hook ws = choices_from Iptables no_choices ws
+    >>= λ c. Ok (named_target n (iptables_target k n hook c))
+
 abbrev pub iptables_line : Token → Token → List Token → Result NamedTarget Slip
 iptables_line k p [] = Err (slip_of codes_of.TargetLine p)
-iptables_line k p (n ∷ ws) =
-    or_slip n (chain_word n) >>= λ hook. (choices_from Iptables no_choices ws
-    >>= λ c. Ok (named_target n (iptables_target k n hook c)))
+iptables_line k p (n ∷ ws) = or_slip n (chain_word n) >>= λ hook. chain_words k n hook ws
 
 -- `nftables FAMILIES HOOK`, then `ACCEPT` or `DROP`, a priority, and `noverbose`.
 abbrev pub nftables_target : Token → Token → Families → Hook → TargetChoices → Target
@@ -180,11 +186,13 @@ nftables_target k n families hook c = record (target_of k n Nftables families ho
   verbose = not c.marked;
 }
 
+abbrev pub hook_words : Token → Token → Families → Hook → List Token → Result NamedTarget Slip
+hook_words k n families hook ws = choices_from Nftables no_choices ws
+    >>= λ c. Ok (named_target n (nftables_target k n families hook c))
+
 abbrev pub hooked_line : Token → Token → Families → List Token → Result NamedTarget Slip
 hooked_line k p families [] = Err (slip_of codes_of.TargetLine p)
-hooked_line k p families (n ∷ ws) =
-    or_slip n (hook_word n) >>= λ hook. (choices_from Nftables no_choices ws
-    >>= λ c. Ok (named_target n (nftables_target k n families hook c)))
+hooked_line k p families (n ∷ ws) = or_slip n (hook_word n) >>= λ hook. hook_words k n families hook ws
 
 abbrev pub nftables_line : Token → Token → List Token → Result NamedTarget Slip
 nftables_line k p [] = Err (slip_of codes_of.TargetLine p)

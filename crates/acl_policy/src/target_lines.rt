@@ -1,13 +1,16 @@
 ghost use Rattle.std.specs.Prelude.{◌≡◌, ◌∷◌, Ok};
 ghost use Rattle.acl_text.specs.Answers.{Gives, slip_told};
-ghost use Rattle.acl_policy.specs.TargetSteps.{chain_words, device_words, formed_target, hook_words};
+ghost use Rattle.acl_policy.specs.TargetSteps.{formed_target};
 ghost use Rattle.acl_policy.specs.Targets.{
   chain_word,
+  chain_words,
   hook_word,
+  hook_words,
   name_word,
   last_family,
   device_ending,
   device_line,
+  device_words,
   default_ending,
   iptables_line,
   hooked_line,
