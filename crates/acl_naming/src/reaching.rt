@@ -85,6 +85,56 @@ fn push_reached(
     Ok(())
 }
 
+// Puts the addresses of an item behind those of their family.
+fn push_block(v4: &mut Vec<Range>, v6: &mut Vec<Range>, item: &Item) -> Result<(), Memory>
+    ensures v4 { OnOk result (Collects (Wanted.Addresses Family.V4) (λ test. test item.now)
+        v4.old.items v4.new.items) }
+    ensures v6 { OnOk result (Collects (Wanted.Addresses Family.V6) (λ test. test item.now)
+        v6.old.items v6.new.items) }
+{
+    if let Item::Network(block) = item {
+        match block.family() {
+            Family::V4 => v4.push(block.range())?,
+            Family::V6 => v6.push(block.range())?,
+        }
+    }
+    Ok(())
+}
+
+fn push_blocks(v4: &mut Vec<Range>, v6: &mut Vec<Range>, items: &[Item]) -> Result<(), Memory>
+    ensures v4 { OnOk result (Collects (Wanted.Addresses Family.V4) (any_item items.now)
+        v4.old.items v4.new.items) }
+    ensures v6 { OnOk result (Collects (Wanted.Addresses Family.V6) (any_item items.now)
+        v6.old.items v6.new.items) }
+{
+    for item in items {
+        push_block(v4, v6, item)?;
+    }
+    Ok(())
+}
+
+// Puts the addresses of the definition, and of those at the places, behind those of their family.
+fn push_networks(
+    v4: &mut Vec<Range>,
+    v6: &mut Vec<Range>,
+    table: &Table,
+    index: usize,
+    places: &[usize],
+) -> Result<(), Memory>
+    requires first { index < length table.now }
+    requires within { All (λ j. j < length table.now) places.now }
+    ensures v4 { OnOk result (Collects (Wanted.Addresses Family.V4) (any_at table.now (index ∷ places.now))
+        v4.old.items v4.new.items) }
+    ensures v6 { OnOk result (Collects (Wanted.Addresses Family.V6) (any_at table.now (index ∷ places.now))
+        v6.old.items v6.new.items) }
+{
+    push_blocks(v4, v6, table.items_at(index))?;
+    for place in places {
+        push_blocks(v4, v6, table.items_at(*place))?;
+    }
+    Ok(())
+}
+
 /// Puts the addresses of both families that the name reaches behind others, in one walk.
 pub fn add_addresses(
     alloc: Global,
@@ -106,8 +156,7 @@ pub fn add_addresses(
         return Err(Lookup::Unknown);
     };
     let places = places_behind(alloc, linked, index, marks)?;
-    push_reached(v4, table, index, &places, Wanted::Addresses(Family::V4))?;
-    push_reached(v6, table, index, &places, Wanted::Addresses(Family::V6))?;
+    push_networks(v4, v6, table, index, &places)?;
     Ok(())
 }
 
