@@ -14,11 +14,22 @@ use acl_text::{Items, PutFault};
 use std::alloc::Global;
 
 /// A file that is to be written: its platform, its path, and its filters in order.
-#[derive(Drop)]
 pub struct FilterFile {
     pub kind: Kind,
     pub path: String,
     pub filters: Items<Filter>,
+}
+
+impl Drop for FilterFile {
+    fn drop(self) {
+        let FilterFile {
+            kind: _,
+            path,
+            filters,
+        } = self;
+        drop(path);
+        drop(filters);
+    }
 }
 
 // Writes the file. Its text goes into the tree as it is made: none is held but a part that filters in a row share.

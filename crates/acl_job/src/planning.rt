@@ -28,10 +28,17 @@ use acl_text::{Memory, Out, Refusal, Rejection, Whole};
 use std::alloc::Global;
 
 /// What a run is to write: its files, and the report on standard output.
-#[derive(Drop)]
 pub struct Work {
     pub files: Vec<FilterFile>,
     pub report: Whole,
+}
+
+impl Drop for Work {
+    fn drop(self) {
+        let Work { files, report } = self;
+        drop(files);
+        drop(report);
+    }
 }
 
 // Adds the platform's file, where it has filters, and the report on them.
@@ -45,11 +52,7 @@ fn add_file(kind: Kind, draft: FileDraft, work: &mut Work) -> Result<(), Memory>
     if draft.filters.as_slice().is_empty() {
         return Ok(());
     }
-    work.files.push(FilterFile {
-        kind,
-        path: draft.path,
-        filters: draft.filters,
-    })?;
+    work.files.push(draft.file(kind))?;
     Ok(())
 }
 

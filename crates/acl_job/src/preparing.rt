@@ -17,6 +17,7 @@ ghost use Rattle.acl_job.specs.PreparingSteps.{
   Prepares,
 };
 
+use crate::filter_files::FilterFile;
 use crate::filter_paths::path_of;
 use acl_expand::KnownRules;
 use acl_filters::checked_filter;
@@ -30,11 +31,42 @@ use acl_text::{Items, Memory, Refusal, Whole};
 use std::alloc::Global;
 
 /// The file of a platform: its path, its filters in order, and their lines of the report.
-#[derive(Drop)]
 pub struct FileDraft {
     pub path: String,
     pub filters: Items<Filter>,
     pub report: Whole,
+}
+
+impl FileDraft {
+    /// The platform's file, without the report on it.
+    pub(crate) fn file(self, kind: Kind) -> FilterFile
+        ensures { result ≡ record { kind = kind; path = self.path; filters = self.filters } }
+    {
+        let FileDraft {
+            path,
+            filters,
+            report,
+        } = self;
+        drop(report);
+        FilterFile {
+            kind,
+            path,
+            filters,
+        }
+    }
+}
+
+impl Drop for FileDraft {
+    fn drop(self) {
+        let FileDraft {
+            path,
+            filters,
+            report,
+        } = self;
+        drop(path);
+        drop(filters);
+        drop(report);
+    }
 }
 
 /// The files of all platforms. One of a platform that no target names has no filters.
