@@ -146,7 +146,7 @@ abbrev pub device_target : Token → Token → Kind → Families → Target
 device_target k n kind families =
     record (target_of k n kind families hooks.Input) { ending = device_ending kind }
 
--- the words behind the name of a list, those behind a chain, and those behind a hook
+-- The words behind the name of a device's list: a family, if any.
 abbrev pub device_words : Kind → Token → Token → List Token → Result NamedTarget Slip
 device_words kind k n ws =
     last_family kind ws >>= λ f. Ok (named_target n (device_target k n kind f))
@@ -169,6 +169,7 @@ iptables_target k n hook c = record (target_of k n Iptables (unwrap_or c.familie
   ending = default_ending endings.Left c.accept;
 }
 
+-- The words behind a chain.
 abbrev pub chain_words : Token → Token → Hook → List Token → Result NamedTarget Slip
 chain_words k n hook ws = choices_from Iptables no_choices ws
     >>= λ c. Ok (named_target n (iptables_target k n hook c))
@@ -186,6 +187,7 @@ nftables_target k n families hook c = record (target_of k n Nftables families ho
   verbose = not c.marked;
 }
 
+-- The words behind a hook.
 abbrev pub hook_words : Token → Token → Families → Hook → List Token → Result NamedTarget Slip
 hook_words k n families hook ws = choices_from Nftables no_choices ws
     >>= λ c. Ok (named_target n (nftables_target k n families hook c))

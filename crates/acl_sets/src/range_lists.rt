@@ -1,21 +1,59 @@
-ghost use Rattle.std.specs.Prelude.{◌≡◌, [], ◌∷◌, IfOk};
+ghost use Rattle.std.specs.Prelude.{◌≡◌, [], ◌∷◌, IfOk, IfSome};
+ghost use Rattle.acl_sets.specs.HeldRanges.{ranges_in};
 
 use crate::sets::Range;
 use crate::shared_lists::SharedList;
 use acl_text::Memory;
 use std::alloc::Global;
 use std::marker::Model;
+use std::rc::Rc;
 
-// Most sets have one range, which stands in its place, and one without ranges takes no memory. The list of more is shared.
+static OCTETS: [Range; 1] = [Range { low: 0, high: 255 }];
+
+static PORTS: [Range; 1] = [Range {
+    low: 0,
+    high: 65_535,
+}];
+
+static IPV4: [Range; 1] = [Range {
+    low: 0,
+    high: 0xffff_ffff,
+}];
+
+static IPV6: [Range; 1] = [Range {
+    low: 0,
+    high: u128::MAX,
+}];
+
+// Most sets have one range, and most of these are all numbers of a kind, which take no memory. What takes memory is shared.
 #[derive(Drop)]
 enum Held {
-    None([Range; 0]),
-    One([Range; 1]),
+    None,
+    Octets,
+    Ports,
+    Ipv4,
+    Ipv6,
+    One(Rc<[Range; 1]>),
     Others(SharedList<Range>),
 }
 
-/// The ranges of a set. A contract sees the list.
+// The range, where it is all numbers of a kind.
+fn all_of_a_kind(range: Range) -> Option<Held>
+    ensures { IfSome result (λ held. ranges_in held ≡ range ∷ []) }
+{
+    if range.low != 0 {
+        return None;
+    }
+    match range.high {
+        255 => Some(Held::Octets),
+        65_535 => Some(Held::Ports),
+        0xffff_ffff => Some(Held::Ipv4),
+        u128::MAX => Some(Held::Ipv6),
+        _ => None,
+    }
+}
 
+/// The ranges of a set. A contract sees the list.
 pub(crate) struct RangeList {
     held: Held,
 }
@@ -42,28 +80,33 @@ impl RangeList {
     pub(crate) fn of_none() -> RangeList
         ensures { result ≡ [] }
     {
-        RangeList {
-            held: Held::None([]),
-        }
+        RangeList { held: Held::None }
     }
 
-    pub(crate) fn of_one(range: Range) -> RangeList
-        ensures { result ≡ range ∷ [] }
+    pub(crate) fn of_one(alloc: Global, range: Range) -> Result<RangeList, Memory>
+        ensures { IfOk result (λ l. l ≡ range ∷ []) }
     {
-        RangeList {
-            held: Held::One([range]),
+        if let Some(held) = all_of_a_kind(range) {
+            return Ok(RangeList { held });
+        }
+        match Rc::new(alloc, [range]) {
+            Ok(one) => Ok(RangeList {
+                held: Held::One(one),
+            }),
+            Err(_) => Err(Memory),
         }
     }
 
     pub(crate) fn new(alloc: Global, ranges: Vec<Range>) -> Result<RangeList, Memory>
         ensures { IfOk result (λ l. l ≡ ranges.items) }
     {
-        if let [one] = ranges.as_slice() {
-            return Ok(RangeList::of_one(*one));
+        match ranges.as_slice() {
+            [] => Ok(RangeList::of_none()),
+            [one] => RangeList::of_one(alloc, *one),
+            [..] => Ok(RangeList {
+                held: Held::Others(SharedList::new(alloc, ranges)?),
+            }),
         }
-        Ok(RangeList {
-            held: Held::Others(SharedList::new(alloc, ranges)?),
-        })
     }
 
     /// The same ranges, which are not copied.
@@ -71,8 +114,12 @@ impl RangeList {
         ensures { IfOk result (λ l. l ≡ self.now) }
     {
         let held = match &self.held {
-            Held::None(none) => Held::None(*none),
-            Held::One(one) => Held::One(*one),
+            Held::None => Held::None,
+            Held::Octets => Held::Octets,
+            Held::Ports => Held::Ports,
+            Held::Ipv4 => Held::Ipv4,
+            Held::Ipv6 => Held::Ipv6,
+            Held::One(one) => Held::One(one.clone()?),
             Held::Others(list) => Held::Others(list.share()?),
         };
         Ok(RangeList { held })
@@ -82,8 +129,12 @@ impl RangeList {
         ensures { result.now ≡ self.now }
     {
         match &self.held {
-            Held::None(none) => none,
-            Held::One(one) => one,
+            Held::None => &[],
+            Held::Octets => &OCTETS,
+            Held::Ports => &PORTS,
+            Held::Ipv4 => &IPV4,
+            Held::Ipv6 => &IPV6,
+            Held::One(one) => one.as_ref(),
             Held::Others(list) => list.as_slice(),
         }
     }

@@ -61,7 +61,7 @@ impl RangeSet {
         let whole = Range { low: 0, high: top };
         Ok(RangeSet {
             limit: top,
-            list: RangeList::of_one(whole),
+            list: RangeList::of_one(alloc, whole)?,
         })
     }
 
@@ -87,7 +87,7 @@ impl RangeSet {
         if let [range] = ranges.as_slice() {
             return Ok(RangeSet {
                 limit: top,
-                list: RangeList::of_one(*range),
+                list: RangeList::of_one(alloc, *range)?,
             });
         }
         let rising = sweeps::sorted(ranges);
