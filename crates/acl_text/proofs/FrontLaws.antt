@@ -1,55 +1,65 @@
 -- Texts that begin with a number of a byte, or with an IPv4 address.
-use Rattle.std.proofs.Common.{◌≡◌, ℕ, ◌+◌, ◌-◌, ◌*◌, ◌<◌, ◌≤◌, true, take, drop, get_or, List, [], ◌∷◌, ◌++◌, length, refl, ap, sym, ◌∙◌, inl, inr, arith}
+use Rattle.std.proofs.Common.{◌≡◌, ℕ, ◌+◌, ◌*◌, ◌≤◌, true, List, [], ◌∷◌, ◌++◌, refl, ap, sym, ◌∙◌, inl, inr, arith}
 use Rattle.std.specs.Str.{all_ascii_digits}
 use Rattle.std.specs.Char.{is_ascii_digit}
-use Rattle.std.proofs.lemmas.Bool.{and_parts, and_from}
-use Rattle.std.proofs.lemmas.List.{append_assoc, append-nil, get_or-take, length-take-le, take-append-drop, take_more}
+use Rattle.std.proofs.lemmas.Bool.{and_from}
+use Rattle.std.proofs.lemmas.List.{append_assoc, append-nil}
 use Rattle.acl_packet.specs.declared.addresses.Family.TheVariants.{V4}
-use Rattle.acl_packet.specs.Decimals.{worth}
 use Rattle.acl_text.specs.AddressTexts.{IsPrefixText, block_of}
-use Rattle.acl_text.specs.Fronts.{IsByteFront, IsIpv4Front, IsLength}
+use Rattle.acl_text.specs.Fronts.{IsByteFront, IsDigitFront, IsIpv4Front, IsLength}
 use Rattle.acl_text.specs.Ipv4.{address_of}
 
--- ---- one digit more
+-- ---- numbers of one digit to three
 
-worth_more : (v c : ℕ) (bs : List ℕ) → worth v (bs ++ c ∷ []) ≡ worth v bs * 10 + (c - 48)
-worth_more v c [] = refl
-worth_more v c (b ∷ bs) = worth_more (v * 10 + (b - 48)) c bs
+pub one_digit : (text rest : List ℕ) (a : ℕ) → IsDigitFront text rest a → IsByteFront text rest a
+one_digit text rest a d = record {
+  front = d.byte ∷ [];
+  text_is = d.text_is;
+  byte_is = record {
+    number = record {
+      nonempty = omega arith;
+      digits = and_from (is_ascii_digit d.byte) true d.digit refl;
+      front = λ z. refl;
+      value = omega (arith, d.value);
+    };
+    small = omega (arith, d.small);
+  };
+}
 
-digits_more : (bs : List ℕ) (c : ℕ) → all_ascii_digits bs ≡ true → is_ascii_digit c ≡ true → all_ascii_digits (bs ++ c ∷ []) ≡ true
-digits_more [] c h k = and_from (is_ascii_digit c) (all_ascii_digits []) k refl
-digits_more (b ∷ bs) c h k =
-    let p = and_parts (is_ascii_digit b) (all_ascii_digits bs) h in
-    and_from (is_ascii_digit b) (all_ascii_digits (bs ++ c ∷ [])) p.0 (digits_more bs c p.1 k)
+pub two_digits : (text behind rest : List ℕ) (a b : ℕ) → IsDigitFront text behind a → IsDigitFront behind rest b → (a ≡ 0 → ⊥)
+    → IsByteFront text rest (a * 10 + b)
+two_digits text behind rest a b d e some = record {
+  front = d.byte ∷ e.byte ∷ [];
+  text_is = d.text_is ∙ ap (λ t. d.byte ∷ t) e.text_is;
+  byte_is = record {
+    number = record {
+      nonempty = omega arith;
+      digits = and_from (is_ascii_digit d.byte) (all_ascii_digits (e.byte ∷ [])) d.digit (and_from (is_ascii_digit e.byte) true e.digit refl);
+      front = λ z. absurd (some (omega (arith, z, d.value)));
+      value = omega (arith, d.value, e.value);
+    };
+    small = omega (arith, d.small, e.small);
+  };
+}
 
-pub digits_next : (text : List ℕ) (i : ℕ) → i < length text → all_ascii_digits (take i text) ≡ true → is_ascii_digit (get_or text i 0) ≡ true
-    → all_ascii_digits (take (i + 1) text) ≡ true
-digits_next text i l h k = ap all_ascii_digits (take_more text i 0 l) ∙ digits_more (take i text) (get_or text i 0) h k
-
-pub worth_next : (text : List ℕ) (i value : ℕ) → i < length text → worth 0 (take i text) ≡ value
-    → worth 0 (take (i + 1) text) ≡ value * 10 + (get_or text i 0 - 48)
-worth_next text i value l h =
-    ap (worth 0) (take_more text i 0 l) ∙ worth_more 0 (get_or text i 0) (take i text) ∙ ap (λ v. v * 10 + (get_or text i 0 - 48)) h
+pub three_digits : (text behind end rest : List ℕ) (a b c : ℕ) → IsDigitFront text behind a → IsDigitFront behind end b → IsDigitFront end rest c
+    → (a ≡ 0 → ⊥) → (a * 10 + b) * 10 + c ≤ 255 → IsByteFront text rest ((a * 10 + b) * 10 + c)
+three_digits text behind end rest a b c d e f some small = record {
+  front = d.byte ∷ e.byte ∷ f.byte ∷ [];
+  text_is = d.text_is ∙ ap (λ t. d.byte ∷ t) (e.text_is ∙ ap (λ t. e.byte ∷ t) f.text_is);
+  byte_is = record {
+    number = record {
+      nonempty = omega arith;
+      digits = and_from (is_ascii_digit d.byte) (all_ascii_digits (e.byte ∷ f.byte ∷ [])) d.digit
+          (and_from (is_ascii_digit e.byte) (all_ascii_digits (f.byte ∷ [])) e.digit (and_from (is_ascii_digit f.byte) true f.digit refl));
+      front = λ z. absurd (some (omega (arith, z, d.value)));
+      value = omega (arith, d.value, e.value, f.value);
+    };
+    small = small;
+  };
+}
 
 -- ---- fronts
-
-pub byte_front : (text rest : List ℕ) (n count : ℕ) → 0 < count → count ≤ length text → all_ascii_digits (take count text) ≡ true
-    → worth 0 (take count text) ≡ n → n ≤ 255 → (get_or text 0 0 ≡ 48 → count ≡ 1) → rest ≡ drop count text → IsByteFront text rest n
-byte_front text rest n count some within digits value small front behind =
-    let long : length (take count text) ≡ count = length-take-le count text within in
-    record {
-      front = take count text;
-      text_is = sym (take-append-drop count text) ∙ ap (λ t. take count text ++ t) (sym behind);
-      byte_is = record {
-        number = record {
-          nonempty = omega (arith, some, long);
-          digits = digits;
-          front = λ z. long ∙ front (sym (get_or-take count text 0 0 some) ∙ z);
-          value = value;
-        };
-        small = small;
-      };
-    }
 
 -- a number, and `.` and an address's rest behind it
 pub joined : (text front rest next : List ℕ) (c : ℕ) → text ≡ front ++ rest → rest ≡ c ∷ next → text ≡ front ++ c ∷ next

@@ -1,7 +1,15 @@
--- Texts that begin with a number of a byte, or with an IPv4 address, and what stands behind.
-use Rattle.std.specs.Prelude.{◌≡◌, ℕ, ◌≤◌, List, ◌∷◌, ◌++◌}
+-- Texts that begin with a digit, a number of a byte, or an IPv4 address, and what stands behind.
+use Rattle.std.specs.Prelude.{◌≡◌, ℕ, ◌+◌, ◌≤◌, true, List, ◌∷◌, ◌++◌}
+use Rattle.std.specs.Char.{is_ascii_digit}
 use Rattle.acl_packet.specs.Decimals.{IsNumber}
 use Rattle.acl_text.specs.Ipv4.{IsByte, IsIpv4}
+
+pub record IsDigitFront (text rest : List ℕ) (n : ℕ) : Type 0 where
+  pub byte : ℕ
+  pub text_is : text ≡ byte ∷ rest
+  pub digit : is_ascii_digit byte ≡ true
+  pub value : byte ≡ n + 48
+  pub small : n ≤ 9
 
 pub record IsByteFront (text rest : List ℕ) (n : ℕ) : Type 0 where
   pub front : List ℕ

@@ -1,44 +1,43 @@
-ghost use Rattle.std.specs.Prelude.{◌≡◌, ◌≤◌, ◌∷◌, true, length, take, IfSome};
-ghost use Rattle.std.specs.Str.{all_ascii_digits};
-ghost use Rattle.acl_packet.specs.Decimals.{worth};
+ghost use Rattle.std.specs.Prelude.{◌≡◌, ◌∷◌, IfSome};
 ghost use Rattle.acl_text.specs.AddressTexts.{IsPrefixText};
-ghost use Rattle.acl_text.specs.Fronts.{IsByteFront, IsIpv4Front, IsLength};
+ghost use Rattle.acl_text.specs.Fronts.{IsByteFront, IsDigitFront, IsIpv4Front, IsLength};
 
 use crate::prefixes::block_of;
 use acl_packet::{Family, Prefix};
 
-// How many digits the text begins with, and what they are worth, where that is at most 255.
+// The digit that the text begins with, and what stands behind it.
 #[inline(always)]
-fn digits_front(text: &[u8]) -> Option<(u32, usize)>
-    ensures within { IfSome result (λ r. r.1 ≤ length text.now) }
-    ensures digits { IfSome result (λ r. all_ascii_digits (take r.1 text.now) ≡ true) }
-    ensures value { IfSome result (λ r. worth 0 (take r.1 text.now) ≡ r.0) }
-    ensures small { IfSome result (λ r. r.0 ≤ 255) }
+fn digit_front(text: &[u8]) -> Option<(u32, &[u8])>
+    ensures { IfSome result (λ r. IsDigitFront text.now r.1.now r.0) }
 {
-    let mut value: u32 = 0;
-    for (i, byte) in text.iter().enumerate() {
-        if !byte.is_ascii_digit() {
-            return Some((value, i));
-        }
-        value = value * 10 + u32::from(*byte - b'0');
-        if value > 255 {
-            return None;
-        }
+    match text {
+        [byte, rest @ ..] if byte.is_ascii_digit() => Some((u32::from(*byte - b'0'), rest)),
+        _ => None,
     }
-    Some((value, text.len()))
 }
 
 // The number of a byte that the text begins with, and what stands behind it.
 #[inline(always)]
+#[tactic(auto, using(crate::proofs::FrontLaws::one_digit, crate::proofs::FrontLaws::two_digits, crate::proofs::FrontLaws::three_digits))]
 fn byte_front(text: &[u8]) -> Option<(u32, &[u8])>
-    ensures front { IfSome result (λ r. IsByteFront text.now r.1.now r.0) }
-    ensures small { IfSome result (λ r. r.0 ≤ 255) }
+    ensures { IfSome result (λ r. IsByteFront text.now r.1.now r.0) }
 {
-    let (value, count) = digits_front(text)?;
-    if count == 0 || (count > 1 && text[0] == b'0') {
-        return None;
+    let (first, rest) = digit_front(text)?;
+    if first == 0 {
+        return Some((first, rest));
     }
-    Some((value, &text[count..]))
+    let Some((second, behind)) = digit_front(rest) else {
+        return Some((first, rest));
+    };
+    let Some((third, end)) = digit_front(behind) else {
+        return Some((first * 10 + second, behind));
+    };
+    let value = (first * 10 + second) * 10 + third;
+    if value <= 255 {
+        Some((value, end))
+    } else {
+        None
+    }
 }
 
 fn behind_byte(text: &[u8], byte: u8) -> Option<&[u8]>

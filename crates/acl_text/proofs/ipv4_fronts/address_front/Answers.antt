@@ -5,5 +5,5 @@ pub returns : goal.returns
 returns c =
     address_front c.args.text.now c.in_ok-a.rest.now c.in_ok-behind_byte.field-0.now c.in_ok-b.rest.now c.in_ok-behind_byte-2.field-0.now
     c.in_ok-c.rest.now c.in_ok-behind_byte-3.field-0.now c.in_ok-d.rest.now c.in_ok-a.a c.in_ok-b.b c.in_ok-c.c c.in_ok-d.d
-    c.in_ok-a.ensures.front c.in_ok-behind_byte.ensures c.in_ok-b.ensures.front c.in_ok-behind_byte-2.ensures
-    c.in_ok-c.ensures.front c.in_ok-behind_byte-3.ensures c.in_ok-d.ensures.front
+    c.in_ok-a.ensures c.in_ok-behind_byte.ensures c.in_ok-b.ensures c.in_ok-behind_byte-2.ensures
+    c.in_ok-c.ensures c.in_ok-behind_byte-3.ensures c.in_ok-d.ensures
