@@ -88,6 +88,7 @@ fn push_word(
     ensures old_text { OnErr result (take (length all.old.items) all.new.items ≡ all.old.items) }
     ensures old_places { OnErr result (places.new ≡ places.old) }
 {
+    all.reserve(text.len().saturating_add(1))?;
     all.extend_from_slice(text)?;
     all.push(b'\n')?;
     places.push(place)
