@@ -7,7 +7,6 @@ ghost use Rattle.acl_expand.specs.ExpansionSlips.{first_slip, most_prefixes};
 ghost use Rattle.acl_expand.specs.SlipSteps.{counted_term, prefixes_with};
 ghost use Rattle.acl_expand.specs.TermRules.{rules_of, term_rules};
 
-use crate::known_lists::KnownLists;
 use crate::rule_making::push_term;
 use crate::slips::{check_header, check_prefixes, prefixes_behind};
 use acl_host::Day;
@@ -21,7 +20,6 @@ use std::alloc::Global;
 // Adds the rules of the term, and gives the number of prefixes with them.
 fn add_term(
     alloc: Global,
-    lists: &mut KnownLists,
     rules: &mut Rules,
     prefixes: u64,
     target: &Target,
@@ -34,7 +32,7 @@ fn add_term(
 {
     check_header(alloc, target, today, term)?;
     let before = rules.as_slice().len();
-    push_term(alloc, lists, rules, target, today, term)?;
+    push_term(alloc, rules, target, today, term)?;
     let total = prefixes_behind(prefixes, &rules.as_slice()[before..]);
     check_prefixes(alloc, term, total)?;
     Ok(total)
@@ -52,7 +50,6 @@ fn room_for(terms: usize, families: Families) -> usize {
 #[tactic(auto, using(crate::proofs::SlipLaws::first_slip_is_counted))]
 pub(crate) fn rules_of(
     alloc: Global,
-    lists: &mut KnownLists,
     terms: &[Term],
     target: &Target,
     today: Day,
@@ -63,7 +60,7 @@ pub(crate) fn rules_of(
     let mut rules = Items::with_capacity(alloc, room_for(terms.len(), target.families))?;
     let mut prefixes = 0;
     for term in terms {
-        prefixes = add_term(alloc, lists, &mut rules, prefixes, target, today, term)?;
+        prefixes = add_term(alloc, &mut rules, prefixes, target, today, term)?;
     }
     Ok(rules)
 }
@@ -71,7 +68,6 @@ pub(crate) fn rules_of(
 /// The same, which filters can share.
 pub(crate) fn shared_rules(
     alloc: Global,
-    lists: &mut KnownLists,
     terms: &[Term],
     target: &Target,
     today: Day,
@@ -79,7 +75,7 @@ pub(crate) fn shared_rules(
     ensures judged { Judges result (first_slip target.now today terms.now) }
     ensures rules { IfOk result (λ rules. rules ≡ rules_of target.now today terms.now) }
 {
-    let rules = rules_of(alloc, lists, terms, target, today)?;
+    let rules = rules_of(alloc, terms, target, today)?;
     Ok(SharedRules::new(alloc, rules)?)
 }
 
@@ -116,8 +112,7 @@ fn first_rules(
     ensures judged { Judges result (first_slip target.now today terms.now) }
     ensures rules { IfOk result (λ rules. rules ≡ rules_of target.now today terms.now) }
 {
-    let mut lists = KnownLists::new(alloc);
-    shared_rules(alloc, &mut lists, terms, target, today)
+    shared_rules(alloc, terms, target, today)
 }
 
 /// The filter of the terms on the target that day, or their first slip there.

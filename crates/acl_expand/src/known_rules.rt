@@ -9,7 +9,6 @@ ghost use Rattle.acl_expand.specs.KnownRules.{AreKnown, IsKnown, class_of};
 ghost use Rattle.acl_expand.specs.TermRules.{rules_of};
 
 use crate::expanding::{filter_with, shared_rules};
-use crate::known_lists::KnownLists;
 use crate::target_classes::TargetClass;
 use acl_host::Day;
 use acl_platform::{Filter, SharedRules};
@@ -31,7 +30,6 @@ struct TargetRules {
 #[derive(Drop)]
 pub struct KnownRules {
     lists: Items<TargetRules>,
-    least: KnownLists,
 }
 
 // The rules of the terms on the target that day, where they are known.
@@ -61,7 +59,6 @@ impl KnownRules {
     {
         KnownRules {
             lists: Items::new(alloc),
-            least: KnownLists::new(alloc),
         }
     }
 
@@ -90,7 +87,7 @@ impl KnownRules {
         if let Some(rules) = rules_for(self.lists.as_slice(), terms, target, today) {
             return Ok(rules.share()?);
         }
-        let rules = shared_rules(alloc, &mut self.least, terms, target, today)?;
+        let rules = shared_rules(alloc, terms, target, today)?;
         self.keep(target, rules.share()?)?;
         Ok(rules)
     }

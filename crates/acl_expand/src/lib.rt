@@ -3,7 +3,6 @@
 
 mod conditions;
 mod expanding;
-mod known_lists;
 mod known_rules;
 mod laws;
 mod rule_making;

@@ -22,11 +22,10 @@ ghost use Rattle.acl_expand.specs.TermRules.{
 };
 
 use crate::conditions::{Conditions, tcp_half, udp_alone, udp_half, whole};
-use crate::known_lists::KnownLists;
 use acl_host::Day;
 use acl_packet::{Families, Family, Verdict};
 use acl_platform::{Rule, Rules, Test};
-use acl_sets::{Prefixes, RangeSet};
+use acl_sets::{Prefixes, RangeSet, least_prefixes};
 use acl_target::{Kind, Target};
 use acl_terms::{
     Mode, Opt, Side, SidePair, Term, destination_in, either_in, is_live, is_pair_empty, pairs_of,
@@ -55,45 +54,28 @@ pub(crate) fn verdict_on(kind: Kind, verdict: Verdict) -> Verdict
 
 // The least list of the term's sources on the side, in the family.
 #[tactic(auto, using(acl_terms::proofs::SideLaws::source_tops, crate::proofs::SideForms::source_end))]
-fn sources(
-    alloc: Global,
-    lists: &mut KnownLists,
-    family: Family,
-    term: &Term,
-    side: Side,
-) -> Result<Prefixes, Memory>
+fn sources(alloc: Global, family: Family, term: &Term, side: Side) -> Result<Prefixes, Memory>
     ensures { IfOk result (λ ps. ps ≡ least_list family (sources_on side family term.now)) }
 {
     let set = source_in(family, term);
     match side {
-        Side::Source => lists.list_of(
-            alloc,
-            family,
-            &set.intersect(alloc, either_in(family, term))?,
-        ),
-        Side::Whole | Side::Destination => lists.list_of(alloc, family, set),
+        Side::Source => least_prefixes(&set.intersect(alloc, either_in(family, term))?, family),
+        Side::Whole | Side::Destination => least_prefixes(set, family),
     }
 }
 
 // The least list of its destinations on the side.
 #[tactic(auto, using(acl_terms::proofs::SideLaws::destination_tops, crate::proofs::SideForms::destination_end))]
-fn destinations(
-    alloc: Global,
-    lists: &mut KnownLists,
-    family: Family,
-    term: &Term,
-    side: Side,
-) -> Result<Prefixes, Memory>
+fn destinations(alloc: Global, family: Family, term: &Term, side: Side) -> Result<Prefixes, Memory>
     ensures { IfOk result (λ ps. ps ≡ least_list family (destinations_on side family term.now)) }
 {
     let set = destination_in(family, term);
     match side {
-        Side::Destination => lists.list_of(
-            alloc,
-            family,
+        Side::Destination => least_prefixes(
             &set.intersect(alloc, either_in(family, term))?,
+            family,
         ),
-        Side::Whole | Side::Source => lists.list_of(alloc, family, set),
+        Side::Whole | Side::Source => least_prefixes(set, family),
     }
 }
 
@@ -151,7 +133,7 @@ impl<'a> PairTerm<'a> {
     }
 
     // The least lists of its sources and of its destinations.
-    fn ends(&self, alloc: Global, lists: &mut KnownLists) -> Result<(Prefixes, Prefixes), Memory>
+    fn ends(&self, alloc: Global) -> Result<(Prefixes, Prefixes), Memory>
         ensures { IfOk result (λ both. both
             ≡ (
               least_list self.now.family (sources_on self.now.pair.addresses self.now.family self.now.term.now),
@@ -159,11 +141,8 @@ impl<'a> PairTerm<'a> {
             )) }
     {
         let side = self.pair.addresses;
-        let src = sources(alloc, lists, self.family, self.term, side)?;
-        Ok((
-            src,
-            destinations(alloc, lists, self.family, self.term, side)?,
-        ))
+        let src = sources(alloc, self.family, self.term, side)?;
+        Ok((src, destinations(alloc, self.family, self.term, side)?))
     }
 
     // Its source ports, its types and its codes.
@@ -180,17 +159,12 @@ impl<'a> PairTerm<'a> {
     }
 
     // The rule of the term with the conditions.
-    fn rule(
-        &self,
-        alloc: Global,
-        lists: &mut KnownLists,
-        conditions: Conditions,
-    ) -> Result<Rule, Memory>
+    fn rule(&self, alloc: Global, conditions: Conditions) -> Result<Rule, Memory>
         ensures { IfOk result (λ r. r
             ≡ rule_of self.now.kind self.now.family self.now.term.now self.now.pair conditions) }
     {
         let (name, note) = self.texts(alloc, &conditions.suffix)?;
-        let (src, dst) = self.ends(alloc, lists)?;
+        let (src, dst) = self.ends(alloc)?;
         let (sports, itypes, icodes) = self.sets(alloc)?;
         Ok(Rule {
             name,
@@ -211,24 +185,17 @@ impl<'a> PairTerm<'a> {
     }
 
     // Adds that rule at the end.
-    fn push(
-        &self,
-        alloc: Global,
-        lists: &mut KnownLists,
-        rules: &mut Rules,
-        conditions: Conditions,
-    ) -> Result<(), Memory>
+    fn push(&self, alloc: Global, rules: &mut Rules, conditions: Conditions) -> Result<(), Memory>
         ensures { OnOk result (rules.new ≡ rules.old ++ rule_of self.now.kind self.now.family
             self.now.term.now self.now.pair conditions ∷ []) }
     {
-        rules.push(self.rule(alloc, lists, conditions)?)
+        rules.push(self.rule(alloc, conditions)?)
     }
 
     // The same, where the conditions leave some destination port.
     fn push_with_ports(
         &self,
         alloc: Global,
-        lists: &mut KnownLists,
         rules: &mut Rules,
         conditions: Conditions,
     ) -> Result<(), Memory>
@@ -239,101 +206,72 @@ impl<'a> PairTerm<'a> {
         if conditions.dports.is_empty() {
             Ok(())
         } else {
-            self.push(alloc, lists, rules, conditions)
+            self.push(alloc, rules, conditions)
         }
     }
 
     // The same with the term's own protocols and ports, and a test.
-    fn push_whole(
-        &self,
-        alloc: Global,
-        lists: &mut KnownLists,
-        rules: &mut Rules,
-        test: Test,
-    ) -> Result<(), Memory>
+    fn push_whole(&self, alloc: Global, rules: &mut Rules, test: Test) -> Result<(), Memory>
         ensures { OnOk result (rules.new ≡ rules.old ++ rule_of self.now.kind self.now.family
             self.now.term.now self.now.pair
             (whole self.now.family self.now.term.now self.now.pair.ports test) ∷ []) }
     {
         let conditions = whole(alloc, self.family, self.term, self.pair.ports, test)?;
-        self.push(alloc, lists, rules, conditions)
+        self.push(alloc, rules, conditions)
     }
 
     // The two rules of `established` over TCP and UDP, where connections are not known.
-    fn push_halves(
-        &self,
-        alloc: Global,
-        lists: &mut KnownLists,
-        rules: &mut Rules,
-    ) -> Result<(), Memory>
+    fn push_halves(&self, alloc: Global, rules: &mut Rules) -> Result<(), Memory>
         ensures { OnOk result (rules.new ≡ rules.old
             ++ map (rule_of self.now.kind self.now.family self.now.term.now self.now.pair)
             (tcp_half self.now.term.now self.now.pair.ports
             ∷ with_ports (udp_half self.now.term.now self.now.pair.ports))) }
     {
         let tcp = tcp_half(alloc, self.term, self.pair.ports)?;
-        self.push(alloc, lists, rules, tcp)?;
+        self.push(alloc, rules, tcp)?;
         let udp = udp_half(alloc, self.term, self.pair.ports)?;
-        self.push_with_ports(alloc, lists, rules, udp)
+        self.push_with_ports(alloc, rules, udp)
     }
 
-    fn push_udp(
-        &self,
-        alloc: Global,
-        lists: &mut KnownLists,
-        rules: &mut Rules,
-    ) -> Result<(), Memory>
+    fn push_udp(&self, alloc: Global, rules: &mut Rules) -> Result<(), Memory>
         ensures { OnOk result (rules.new ≡ rules.old
             ++ map (rule_of self.now.kind self.now.family self.now.term.now self.now.pair)
             (with_ports (udp_alone self.now.family self.now.term.now self.now.pair.ports))) }
     {
         let udp = udp_alone(alloc, self.family, self.term, self.pair.ports)?;
-        self.push_with_ports(alloc, lists, rules, udp)
+        self.push_with_ports(alloc, rules, udp)
     }
 
     // The rules of `established` where connections are not known.
-    fn push_established(
-        &self,
-        alloc: Global,
-        lists: &mut KnownLists,
-        rules: &mut Rules,
-    ) -> Result<(), Memory>
+    fn push_established(&self, alloc: Global, rules: &mut Rules) -> Result<(), Memory>
         ensures { OnOk result (rules.new ≡ rules.old
             ++ map (rule_of self.now.kind self.now.family self.now.term.now self.now.pair)
             (conditions_by Opt.Established Mode.Stateless self.now.family self.now.term.now
             self.now.pair.ports)) }
     {
         match (self.term.protos.contains(6), self.term.protos.contains(17)) {
-            (true, true) => self.push_halves(alloc, lists, rules),
-            (true, false) => self.push_whole(alloc, lists, rules, Test::AckOrRst),
-            (false, _) => self.push_udp(alloc, lists, rules),
+            (true, true) => self.push_halves(alloc, rules),
+            (true, false) => self.push_whole(alloc, rules, Test::AckOrRst),
+            (false, _) => self.push_udp(alloc, rules),
         }
     }
 
     // The rules of the term on a pair of sides that is not empty in the family.
-    fn push_by_option(
-        &self,
-        alloc: Global,
-        lists: &mut KnownLists,
-        rules: &mut Rules,
-        mode: Mode,
-    ) -> Result<(), Memory>
+    fn push_by_option(&self, alloc: Global, rules: &mut Rules, mode: Mode) -> Result<(), Memory>
         ensures { OnOk result (rules.new ≡ rules.old
             ++ map (rule_of self.now.kind self.now.family self.now.term.now self.now.pair)
             (conditions_by self.now.term.now.option mode self.now.family self.now.term.now
             self.now.pair.ports)) }
     {
         let test = match (self.term.option, mode) {
-            (Opt::Established, Mode::Stateless) => return self.push_established(
-                alloc, lists, rules,
-            ),
+            (Opt::Established, Mode::Stateless) => return self.push_established(alloc, rules),
             (Opt::Plain, _) => Test::Plain,
             (Opt::Established | Opt::TcpEstablished, Mode::Stateful) => Test::State,
             (Opt::TcpEstablished, Mode::Stateless) => Test::AckOrRst,
             (Opt::TcpInitial, _) => Test::SynNotAck,
             (Opt::Rst, _) => Test::Rst,
         };
-        self.push_whole(alloc, lists, rules, test)
+        self.push_whole(alloc, rules, test)
     }
 }
 
@@ -351,7 +289,6 @@ fn mode_of(target: &Target) -> Mode
 #[tactic(auto, unfolding(crate::specs::TermRules::pair_rules))]
 fn push_pair(
     alloc: Global,
-    lists: &mut KnownLists,
     rules: &mut Rules,
     target: &Target,
     family: Family,
@@ -369,14 +306,13 @@ fn push_pair(
         term,
         pair,
     };
-    term.push_by_option(alloc, lists, rules, mode_of(target))
+    term.push_by_option(alloc, rules, mode_of(target))
 }
 
 // Adds the rules of the term in the family, on each pair of its sides.
 #[tactic(auto, unfolding(crate::specs::TermRules::family_rules))]
 fn push_family(
     alloc: Global,
-    lists: &mut KnownLists,
     rules: &mut Rules,
     target: &Target,
     family: Family,
@@ -386,7 +322,7 @@ fn push_family(
 {
     let pairs = pairs_of(term);
     for pair in pairs {
-        push_pair(alloc, lists, rules, target, family, term, *pair)?;
+        push_pair(alloc, rules, target, family, term, *pair)?;
     }
     Ok(())
 }
@@ -394,7 +330,6 @@ fn push_family(
 // Adds the rules of the term in each family of the target.
 fn push_families(
     alloc: Global,
-    lists: &mut KnownLists,
     rules: &mut Rules,
     target: &Target,
     term: &Term,
@@ -403,11 +338,11 @@ fn push_families(
         ++ flat_map (family_rules target.now term.now) (members target.now.families)) }
 {
     match target.families {
-        Families::Inet => push_family(alloc, lists, rules, target, Family::V4, term),
-        Families::Inet6 => push_family(alloc, lists, rules, target, Family::V6, term),
+        Families::Inet => push_family(alloc, rules, target, Family::V4, term),
+        Families::Inet6 => push_family(alloc, rules, target, Family::V6, term),
         Families::Mixed => {
-            push_family(alloc, lists, rules, target, Family::V4, term)?;
-            push_family(alloc, lists, rules, target, Family::V6, term)
+            push_family(alloc, rules, target, Family::V4, term)?;
+            push_family(alloc, rules, target, Family::V6, term)
         }
     }
 }
@@ -416,7 +351,6 @@ fn push_families(
 #[tactic(auto, unfolding(crate::specs::TermRules::term_rules))]
 pub(crate) fn push_term(
     alloc: Global,
-    lists: &mut KnownLists,
     rules: &mut Rules,
     target: &Target,
     today: Day,
@@ -427,5 +361,5 @@ pub(crate) fn push_term(
     if !is_live(term, target.kind, today) {
         return Ok(());
     }
-    push_families(alloc, lists, rules, target, term)
+    push_families(alloc, rules, target, term)
 }

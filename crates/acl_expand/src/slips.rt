@@ -110,8 +110,8 @@ pub(crate) fn prefixes_behind(before: u64, rules: &[Rule]) -> u64
     let mut count = before;
     for rule in rules {
         count = count
-            .saturating_add(rule.src.as_slice().len() as u64)
-            .saturating_add(rule.dst.as_slice().len() as u64);
+            .saturating_add(rule.src.count())
+            .saturating_add(rule.dst.count());
     }
     count
 }

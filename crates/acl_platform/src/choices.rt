@@ -13,8 +13,10 @@ ghost use Rattle.acl_platform.specs.Choices.{
 
 use crate::elements::ranges_of;
 use crate::numbers::{NumberForm, count_numbers, put_numbers};
-use acl_rows::{Each, RowForm, Rows};
-use acl_sets::{Range, RangeSet};
+use crate::prefix_lists::ListedPrefixes;
+use acl_packet::Prefix;
+use acl_rows::{Each, RowForm, Rows, put_listed};
+use acl_sets::{Prefixes, Range, RangeSet};
 use acl_text::{Out, PutFault};
 
 /// A list of choices that is gone through and never made: each choice is put as a form writes it.
@@ -57,6 +59,22 @@ impl<'a, T: Copy> Choices for &'a [T] {
 
     fn count(&self) -> u64 {
         self.len() as u64
+    }
+}
+
+/// The prefixes of a least list.
+impl<'a> Choices for &'a Prefixes {
+    type Item = Prefix;
+
+    ghost items = { λ s. s.now };
+
+    #[inline]
+    fn put_each<F: RowForm<Prefix>, O: Out>(&self, form: &F, out: &mut O) -> Result<(), PutFault> {
+        put_listed(&ListedPrefixes::all(self), form, out)
+    }
+
+    fn count(&self) -> u64 {
+        Prefixes::count(self)
     }
 }
 

@@ -10,10 +10,11 @@ ghost use Rattle.acl_platform.specs.Combinations.{IsSized, combination_of, combi
 
 use crate::choices::{Choices, NumberChoices, RangeChoices, ends_of};
 use crate::elements::ranges_of;
+use crate::prefix_lists::ListedPrefixes;
 use crate::rules::Rule;
 use acl_packet::Prefix;
 use acl_rows::{LineHalves, RowForm, put_pairs};
-use acl_sets::RangeSet;
+use acl_sets::{Prefixes, RangeSet};
 use acl_text::{Out, PutFault};
 
 /// A choice of each part of a rule; `None` is no condition.
@@ -116,9 +117,9 @@ type Parts = (Option<u8>, (Prefix, (Prefix, Tail)));
 type PartChoices<'a> = (
     NumberChoices<'a>,
     (
-        &'a [Prefix],
+        &'a Prefixes,
         (
-            &'a [Prefix],
+            &'a Prefixes,
             (
                 RangeChoices<'a>,
                 (RangeChoices<'a>, (NumberChoices<'a>, NumberChoices<'a>)),
@@ -138,7 +139,7 @@ fn choices_of(rule: &Rule) -> PartChoices<'_>
     let sports = RangeChoices { set: &rule.sports };
     let protos = NumberChoices { set: &rule.protos };
     let ports = (sports, (dports, (itypes, icodes)));
-    (protos, (rule.src.as_slice(), (rule.dst.as_slice(), ports)))
+    (protos, (&rule.src, (&rule.dst, ports)))
 }
 
 // The tail of all combinations of the rule, where they have the same.
@@ -236,13 +237,19 @@ impl<'a, F: CombinationForm> RowForm<Option<u8>> for OfProtocol<'a, F> {
             tail: self.tail,
             form: self.form,
         };
-        put_pairs(
-            self.rule.src.as_slice(),
-            self.rule.dst.as_slice(),
-            &halves,
-            out,
-        )
+        let firsts = ListedPrefixes::all(&self.rule.src);
+        let seconds = ListedPrefixes::all(&self.rule.dst);
+        put_pairs(&firsts, &seconds, pays_to_keep(self.rule), &halves, out)
     }
+}
+
+// From so many lines on it pays to keep backs, whose texts must be cleared first.
+const MANY: u64 = 256;
+
+// Whether the backs of so many lines are worth keeping. The lines are the same.
+fn pays_to_keep(rule: &Rule) -> bool {
+    let sources = rule.src.count();
+    sources >= 2 && sources.saturating_mul(rule.dst.count()) >= MANY
 }
 
 // A source and a destination, written with the protocol and the tail.

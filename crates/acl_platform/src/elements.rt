@@ -1,27 +1,9 @@
-ghost use Rattle.std.specs.Prelude.{◌≡◌, ◌==◌, ◌≤◌, ℕ};
-ghost use Rattle.std.specs.List.{All, list_any};
+ghost use Rattle.std.specs.Prelude.{◌≡◌, ◌≤◌, ℕ};
+ghost use Rattle.std.specs.List.{All};
 ghost use Rattle.acl_sets.specs.Ranges.{IsNormal, IsRange};
-ghost use Rattle.acl_platform.specs.Elements.{address_elements, range_elements};
+ghost use Rattle.acl_platform.specs.Elements.{range_elements};
 
-use acl_packet::Prefix;
 use acl_sets::{Range, RangeSet};
-
-/// The prefixes that are written of a list: none where one of them is all addresses.
-pub fn address_elements(prefixes: &[Prefix]) -> &[Prefix]
-    ensures { result.now ≡ address_elements prefixes.now }
-{
-    if has_all_addresses(prefixes) {
-        &[]
-    } else {
-        prefixes
-    }
-}
-
-fn has_all_addresses(prefixes: &[Prefix]) -> bool
-    ensures { result ≡ list_any (λ p. p.len == 0) prefixes.now }
-{
-    prefixes.iter().any(|prefix| prefix.len == 0)
-}
 
 /// The ranges that are written of a set: none where it has all numbers up to its top.
 pub fn range_elements(set: &RangeSet) -> &[Range]

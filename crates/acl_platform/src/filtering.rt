@@ -15,7 +15,7 @@ ghost use Rattle.acl_platform.specs.Rules.{
 
 use crate::filters::Filter;
 use crate::rules::{Rule, Test, set_of};
-use acl_packet::{Family, Outcome, Packet, Verdict, any_has, fields, has_flag};
+use acl_packet::{Family, Outcome, Packet, Verdict, fields, has_flag};
 use acl_target::Ending;
 
 /// What the filter does with the packet: the first rule that holds it decides, else the ending,
@@ -40,9 +40,7 @@ fn rule_holds(rule: &Rule, packet: &Packet) -> bool
 fn sets_hold(rule: &Rule, packet: &Packet) -> bool
     ensures { result ≡ sets_hold rule.now packet.now }
 {
-    any_has(rule.src.as_slice(), packet.src)
-        && any_has(rule.dst.as_slice(), packet.dst)
-        && numbers_hold(rule, packet)
+    rule.src.has(packet.src) && rule.dst.has(packet.dst) && numbers_hold(rule, packet)
 }
 
 fn numbers_hold(rule: &Rule, packet: &Packet) -> bool

@@ -13,6 +13,7 @@ mod laws;
 mod limits;
 mod numbers;
 mod platforms;
+mod prefix_lists;
 mod remarks;
 mod rule_counts;
 mod rule_rows;
@@ -28,7 +29,7 @@ pub use choices::{Choices, NumberChoices, RangeChoices};
 pub use combinations::{
     Combination, CombinationForm, count_combinations, put_combinations, put_combinations_by_halves,
 };
-pub use elements::{address_elements, range_elements};
+pub use elements::range_elements;
 pub use family_texts::FamilyTexts;
 pub use filtering::filter_outcome;
 pub use filters::{Feature, Filter, Limit};
@@ -36,6 +37,7 @@ pub use laws::{combinations_hold_what_the_sets_hold, sound_rules_have_combinatio
 pub use limits::{Earlier, RuleLimits, count_in_limit, first_limit, names_sctp_ports};
 pub use numbers::{NumberForm, count_numbers, put_numbers, put_numbers_from};
 pub use platforms::{Platform, count_within_limits};
+pub use prefix_lists::{ListedPrefixes, count_written};
 pub use remarks::{NoteRows, RemarkForm, RemarkRows};
 pub use rule_counts::{RuleCount, count_rules};
 pub use rule_rows::{RuleForm, put_rules};

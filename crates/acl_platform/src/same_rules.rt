@@ -54,7 +54,7 @@ fn has_same_addresses(rule: &Rule, other: &Rule) -> bool
     ensures src { IsTrue result → rule.now.src ≡ other.now.src }
     ensures dst { IsTrue result → rule.now.dst ≡ other.now.dst }
 {
-    rule.src.as_slice() == other.src.as_slice() && rule.dst.as_slice() == other.dst.as_slice()
+    rule.src.is_same(&other.src) && rule.dst.is_same(&other.dst)
 }
 
 fn has_same_sets(rule: &Rule, other: &Rule) -> bool

@@ -12,3 +12,4 @@ pub mod RowLaws
 pub mod ScanLaws
 pub mod TakenLaws
 pub mod WordLaws
+pub mod GatherLaws

@@ -51,3 +51,22 @@ words_split xs i d h =
     ap (λ t. (t ++ one_word (get_or xs i d)) ++ spaced (views rest)) (sym (each_word (take i xs)))
     ∙ ap (λ t. (flat_map one_word (take i xs) ++ one_word (get_or xs i d)) ++ t) (sym (each_word rest))
     ∙ split_items one_word xs i d h ∙ each_word xs
+
+-- ---- items that are left
+
+-- one item more was put behind a text
+pub one_put : (text item rest left whole : List ℕ) → text ++ left ≡ whole → left ≡ item ++ rest → (text ++ item) ++ rest ≡ whole
+one_put text item rest left whole all next = append_assoc text item rest ∙ ap (λ t. text ++ t) (sym next) ∙ all
+
+-- nothing is left
+pub all_put : (text left whole : List ℕ) → text ++ left ≡ whole → left ≡ [] → text ≡ whole
+all_put text left whole all none = sym (append-nil text) ∙ ap (λ t. text ++ t) (sym none) ∙ all
+
+-- the rows of the first item, and those of the others
+pub first_rows : {A : Type 0} (f : A → List Row) (xs ys : List A) (x : A) → xs ≡ x ∷ ys
+    → text_of_rows (flat_map f xs) ≡ text_of_rows (f x) ++ text_of_rows (flat_map f ys)
+first_rows f xs ys x e = ap (λ zs. text_of_rows (flat_map f zs)) e ∙ sym (rows_append (f x) (flat_map f ys))
+
+-- the text of the first item, and those of the others
+pub first_text : {A : Type 0} (f : A → List ℕ) (xs ys : List A) (x : A) → xs ≡ x ∷ ys → flat_map f xs ≡ f x ++ flat_map f ys
+first_text f xs ys x e = ap (λ zs. flat_map f zs) e

@@ -13,6 +13,7 @@ mod languages;
 mod laws;
 mod line_halves;
 mod line_texts;
+mod listed;
 mod named;
 mod pieces;
 mod port_ranges;
@@ -35,6 +36,7 @@ pub use laws::{
     joined_texts_spell_joined_documents, the_empty_text_has_no_section,
 };
 pub use line_halves::{LineHalves, put_pairs};
+pub use listed::{EachListed, Listed, has_none, put_listed};
 pub use named::{Named, have_distinct_names};
 pub use pieces::{Address, FreeText, Number, OneWord, Piece, Wildcard, Words, put_words};
 pub use port_ranges::{PortRange, RangeWords, are_port_ranges, is_port_range};

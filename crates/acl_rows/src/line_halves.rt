@@ -1,8 +1,9 @@
-ghost use Rattle.std.specs.Prelude.{ℕ, List, ◌++◌, IsTrue, IfSome, flat_map};
+ghost use Rattle.std.specs.Prelude.{◌≡◌, ℕ, List, ◌∷◌, ◌++◌, IsTrue, IfSome, drop, flat_map};
 ghost use Rattle.acl_text.specs.Puts.{Puts};
 ghost use Rattle.acl_rows.specs.LineHalfSteps.{AreHalves, IsHalf};
 
 use crate::line_texts::LineText;
+use crate::listed::Listed;
 use acl_text::{Out, PutFault};
 
 /// How pairs are written, each as one line: the half of the first, and behind it the half of the
@@ -26,25 +27,24 @@ pub trait LineHalves<A, B> {
 // So many backs are kept: their texts fit in a processor's nearer memory.
 const KEPT: usize = 512;
 
-// From so many lines on it pays to keep backs, whose texts must be cleared first.
-const MANY: usize = 256;
-
 /// Puts the line of each pair, the firsts outermost. The half of a first is put together once for
-/// all of its lines, and the halves of the seconds once for all firsts.
+/// all of its lines. Where backs are to be kept, which pays from some hundred lines on, the halves of
+/// the seconds are put together once for all firsts.
 ///
 /// No put has bytes of two lines.
-pub fn put_pairs<A, B, F: LineHalves<A, B>, O: Out>(
-    firsts: &[A],
-    seconds: &[B],
+pub fn put_pairs<A: Listed, B: Listed, F: LineHalves<A::Item, B::Item>, O: Out>(
+    firsts: &A,
+    seconds: &B,
+    keeps_backs: bool,
     form: &F,
     out: &mut O,
 ) -> Result<(), PutFault>
     requires { IsTrue (O.is_open out.old) }
     ensures { Puts O.Out out.old out.new
-        (flat_map (λ a. flat_map (λ b. F.front form.now a ++ F.back form.now b) seconds.now)
-        firsts.now) result }
+        (flat_map (λ a. flat_map (λ b. F.front form.now a ++ F.back form.now b)
+        (B.items seconds.now)) (A.items firsts.now)) result }
 {
-    if firsts.len() < 2 || firsts.len().saturating_mul(seconds.len()) < MANY {
+    if !keeps_backs {
         return put_each(firsts, seconds, &[], form, out);
     }
     let mut backs = [LineText::closed(); KEPT];
@@ -53,56 +53,85 @@ pub fn put_pairs<A, B, F: LineHalves<A, B>, O: Out>(
 }
 
 // Puts the backs of the first seconds together, as many as there is room for.
-fn keep_backs<A, B, F: LineHalves<A, B>>(seconds: &[B], form: &F, backs: &mut [LineText])
-    requires { AreHalves (F.back form.now) seconds.now backs.old }
-    ensures { AreHalves (F.back form.now) seconds.now backs.new }
+fn keep_backs<A: Copy, B: Listed, F: LineHalves<A, B::Item>>(
+    seconds: &B,
+    form: &F,
+    backs: &mut [LineText],
+)
+    requires { AreHalves (F.back form.now) (B.items seconds.now) backs.old }
+    ensures { AreHalves (F.back form.now) (B.items seconds.now) backs.new }
 {
-    for (i, second) in seconds.iter().enumerate() {
-        if i >= backs.len() {
-            return;
+    let mut rest = seconds.copy();
+    for i in 0..backs.len() {
+        match rest.next() {
+            Some(second) => backs[i] = back_text(&second, form),
+            None => return,
         }
-        backs[i] = back_text(second, form);
     }
 }
 
 // Puts the line of each pair, with the backs that are kept.
-fn put_each<A, B, F: LineHalves<A, B>, O: Out>(
-    firsts: &[A],
-    seconds: &[B],
+fn put_each<A: Listed, B: Listed, F: LineHalves<A::Item, B::Item>, O: Out>(
+    firsts: &A,
+    seconds: &B,
     backs: &[LineText],
     form: &F,
     out: &mut O,
 ) -> Result<(), PutFault>
     requires open { IsTrue (O.is_open out.old) }
-    requires kept { AreHalves (F.back form.now) seconds.now backs.now }
+    requires kept { AreHalves (F.back form.now) (B.items seconds.now) backs.now }
     ensures { Puts O.Out out.old out.new
-        (flat_map (λ a. flat_map (λ b. F.front form.now a ++ F.back form.now b) seconds.now)
-        firsts.now) result }
+        (flat_map (λ a. flat_map (λ b. F.front form.now a ++ F.back form.now b)
+        (B.items seconds.now)) (A.items firsts.now)) result }
 {
-    for first in firsts {
-        put_lines_of(first, seconds, backs, form, out)?;
+    let mut rest = firsts.copy();
+    while let Some(first) = rest.next() {
+        put_lines_of(&first, seconds, backs, form, out)?;
     }
     Ok(())
 }
 
 // Puts the lines of one first.
-fn put_lines_of<A, B, F: LineHalves<A, B>, O: Out>(
+fn put_lines_of<A: Copy, B: Listed, F: LineHalves<A, B::Item>, O: Out>(
     first: &A,
-    seconds: &[B],
+    seconds: &B,
     backs: &[LineText],
     form: &F,
     out: &mut O,
 ) -> Result<(), PutFault>
     requires open { IsTrue (O.is_open out.old) }
-    requires kept { AreHalves (F.back form.now) seconds.now backs.now }
+    requires kept { AreHalves (F.back form.now) (B.items seconds.now) backs.now }
     ensures { Puts O.Out out.old out.new
-        (flat_map (λ b. F.front form.now first.now ++ F.back form.now b) seconds.now) result }
+        (flat_map (λ b. F.front form.now first.now ++ F.back form.now b) (B.items seconds.now)) result }
 {
     let front = front_text(first, form);
-    for (i, second) in seconds.iter().enumerate() {
-        put_pair(first, &front, second, backs.get(i), form, out)?;
+    let mut rest = seconds.copy();
+    let mut kept = backs;
+    while let Some(second) = rest.next() {
+        put_pair(first, &front, &second, first_text(kept), form, out)?;
+        kept = behind_first(kept);
     }
     Ok(())
+}
+
+#[inline]
+fn first_text(texts: &[LineText]) -> Option<&LineText>
+    ensures { IfSome result (λ text. texts.now ≡ text.now ∷ drop 1 texts.now) }
+{
+    match texts {
+        [] => None,
+        [first, ..] => Some(first),
+    }
+}
+
+#[inline]
+fn behind_first(texts: &[LineText]) -> &[LineText]
+    ensures { result.now ≡ drop 1 texts.now }
+{
+    match texts {
+        [] => texts,
+        [_, rest @ ..] => rest,
+    }
 }
 
 // The text of the front of a first, where it has room.

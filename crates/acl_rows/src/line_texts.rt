@@ -54,6 +54,26 @@ impl LineText {
     {
         &self.bytes[..self.end]
     }
+
+    /// Where the text ends.
+    #[inline]
+    pub(crate) fn end(&self) -> usize
+        ensures exact { result ≡ self.now.end }
+        ensures size { length (take self.now.end self.now.bytes) ≡ result }
+    {
+        self.end
+    }
+
+    /// Lets go what stands behind an end that it had, and takes bytes again.
+    #[inline]
+    pub(crate) fn cut_back(&mut self, end: usize)
+        requires { end ≤ self.old.end }
+        ensures text { take self.new.end self.new.bytes ≡ take end self.old.bytes }
+        ensures open { self.new.is_open ≡ true }
+    {
+        self.end = end;
+        self.is_open = true;
+    }
 }
 
 impl Out for LineText {

@@ -15,4 +15,5 @@ pub mod ComputableLeastListLaws
 pub mod CutFacts
 pub mod LeastCuts
 pub mod CutWalks
+pub mod ListedLaws
 pub mod GroupLaws

@@ -1,26 +1,48 @@
-ghost use Rattle.std.specs.Prelude.{◌≡◌, ℕ, ◌+◌, ◌-◌, ◌^◌, ◌<◌, ◌≤◌, [], ◌∷◌, ◌++◌, IfOk, OnOk, OnErr};
-ghost use Rattle.std.specs.List.{All};
-ghost use Rattle.acl_packet.specs.Addresses.{top_address, width_of, IsPrefixOf};
-ghost use Rattle.acl_sets.specs.Ranges.{holds, IsNormal};
-ghost use Rattle.acl_sets.specs.LeastLists.{IsLeastList, IsFewest, LeastListHolds, LeastListIsFewest, OneLeastList};
+ghost use Rattle.std.specs.Prelude.{◌≡◌, ◌↔◌, ◌⊎◌, ℕ, ◌+◌, ◌^◌, ◌==◌, [], IsTrue, IfOk, length, min};
+ghost use Rattle.std.specs.List.{All, list_any};
+ghost use Rattle.acl_text.specs.Output.{COUNT_END};
+ghost use Rattle.acl_packet.specs.Addresses.{IsPrefixOf, top_address, width_of};
 ghost use Rattle.acl_packet.specs.AddressLists.{any_has};
+ghost use Rattle.acl_sets.specs.Ranges.{IsNormal, holds};
+ghost use Rattle.acl_sets.specs.LeastLists.{IsLeastList, IsFewest, LeastListHolds, LeastListIsFewest, OneLeastList};
 ghost use Rattle.acl_sets.specs.ComputableLeastLists.{halved_space};
+ghost use Rattle.acl_sets.specs.CutSteps.{is_whole};
 
 use crate::prefixes_left::PrefixesLeft;
-use crate::sets::{Range, RangeSet};
-use crate::shared_lists::SharedList;
-use acl_packet::{Family, Prefix};
+use crate::range_lists::RangeList;
+use crate::sets::{Range, RangeSet, are_same};
+use crate::sweeps::has_number;
+use acl_packet::Family;
 use acl_text::Memory;
-use std::alloc::Global;
+use std::marker::Model;
 
-/// A list of prefixes, which may stand in many rules. A contract sees the list.
-pub type Prefixes = SharedList<Prefix>;
-
-/// All maximal prefixes of a set of addresses, in order of address.
+/// The least list of a set of addresses: all its maximal prefixes, in order of address.
 ///
 /// A prefix is maximal where all its addresses are in the set, and it has length 0 or the prefix
-/// one bit shorter has an address outside.
-pub fn least_prefixes(alloc: Global, set: &RangeSet, family: Family) -> Result<Prefixes, Memory>
+/// one bit shorter has an address outside. No prefix is held: each is cut from the ranges of the set
+/// as the list is gone through. A contract sees the list.
+#[derive(Drop)]
+pub struct Prefixes {
+    family: Family,
+    count: u64,
+    ranges: RangeList,
+}
+
+impl Model for Prefixes {
+    ghost use Rattle.std.specs.Prelude.{List};
+    ghost use Rattle.acl_packet.specs.declared.addresses.Prefix.{Prefix};
+    ghost use Rattle.acl_sets.specs.ComputableLeastLists.{halved_space};
+    ghost use Rattle.acl_sets.specs.CutSteps.{IsCut};
+
+    ghost Value = { List Prefix };
+
+    ghost view = { λ l. halved_space l.family l.ranges };
+
+    ghost invariant = { λ l. IsCut l.family l.ranges l.count };
+}
+
+/// The least list of a set of addresses of the family.
+pub fn least_prefixes(set: &RangeSet, family: Family) -> Result<Prefixes, Memory>
     requires { set.now.top + 1 ≡ 2 ^ width_of family }
     ensures least { IfOk result (λ ps. IsLeastList family (holds set.now.ranges) ps) }
     ensures prefixes { IfOk result (λ ps. All (λ p. IsPrefixOf family p) ps) }
@@ -28,21 +50,106 @@ pub fn least_prefixes(alloc: Global, set: &RangeSet, family: Family) -> Result<P
     ensures fewest { IfOk result (λ ps. IsFewest family (holds set.now.ranges) ps) }
     ensures computed { IfOk result (λ ps. ps ≡ halved_space family set.now.ranges) }
 {
-    let prefixes = cut_ranges(alloc, set.ranges(), family)?;
-    let list = SharedList::new(alloc, prefixes)?;
+    let ranges = set.share_ranges()?;
+    let list = cut(family, ranges);
     Ok(list)
 }
 
-// The blocks of each range, cut from its low end.
-fn cut_ranges(alloc: Global, ranges: &[Range], family: Family) -> Result<Vec<Prefix>, Memory>
-    requires { IsNormal 0 (top_address family) ranges.now }
-    ensures { IfOk result (λ v. v.items ≡ halved_space family ranges.now) }
+// The list of the ranges.
+fn cut(family: Family, ranges: RangeList) -> Prefixes
+    requires { IsNormal 0 (top_address family) ranges }
+    ensures { result ≡ halved_space family ranges }
 {
-    let mut prefixes = Vec::with_capacity(alloc, ranges.len())?;
-    for prefix in PrefixesLeft::of(family, ranges) {
-        prefixes.push(prefix)?;
+    let count = count_of(family, ranges.as_slice());
+    Prefixes {
+        family,
+        count,
+        ranges,
     }
-    Ok(prefixes)
+}
+
+// How many prefixes there are; a number that does not fit stands at the greatest one that does.
+fn count_of(family: Family, ranges: &[Range]) -> u64
+    requires { IsNormal 0 (top_address family) ranges.now }
+    ensures { result ≡ min (length (halved_space family ranges.now)) COUNT_END }
+{
+    let mut count: u64 = 0;
+    for _prefix in PrefixesLeft::of(family, ranges) {
+        count = count.saturating_add(1);
+    }
+    count
+}
+
+// Whether the first of the ranges has all addresses of the family.
+fn is_whole(family: Family, ranges: &[Range]) -> bool
+    ensures { result ≡ is_whole family ranges.now }
+{
+    match ranges {
+        [] => false,
+        [first, ..] => first.low == 0 && first.high == family.top_address(),
+    }
+}
+
+// Whether lists of these families and ranges are the same: where there are no ranges, the family does not matter.
+fn are_alike(family: Family, ranges: &[Range], other: Family, others: &[Range]) -> bool
+    ensures { IsTrue result ↔ ((ranges.now ≡ others.now) × ((family ≡ other) ⊎ (ranges.now ≡ []))) }
+{
+    are_same(ranges, others) && (family == other || ranges.is_empty())
+}
+
+impl Prefixes {
+    /// The same list, for one place more. It is not copied, and no memory is taken.
+    pub fn share(&self) -> Result<Prefixes, Memory>
+        ensures { IfOk result (λ ps. ps ≡ self.now) }
+    {
+        Ok(Prefixes {
+            family: self.family,
+            count: self.count,
+            ranges: self.ranges.share()?,
+        })
+    }
+
+    /// The prefixes in order.
+    pub fn iter(&self) -> PrefixesLeft<'_>
+        ensures { result ≡ self.now }
+    {
+        PrefixesLeft::of(self.family, self.ranges.as_slice())
+    }
+
+    /// How many prefixes there are; a number that does not fit stands at the greatest one that does.
+    pub fn count(&self) -> u64
+        ensures { result ≡ min (length self.now) COUNT_END }
+    {
+        self.count
+    }
+
+    /// Whether the address is in one of the prefixes, found by halving.
+    #[tactic(auto, using(crate::proofs::ListedLaws::listed_holds))]
+    pub fn has(&self, address: u128) -> bool
+        ensures { result ≡ any_has self.now address }
+    {
+        has_number(self.ranges.as_slice(), address)
+    }
+
+    /// Whether one of the prefixes is all addresses.
+    #[tactic(auto, using(crate::proofs::ListedLaws::whole_listed))]
+    pub fn is_all(&self) -> bool
+        ensures { result ≡ list_any (λ p. p.len == 0) self.now }
+    {
+        is_whole(self.family, self.ranges.as_slice())
+    }
+
+    /// Whether both lists are the same.
+    pub fn is_same(&self, other: &Prefixes) -> bool
+        ensures { IsTrue result ↔ (self.now ≡ other.now) }
+    {
+        are_alike(
+            self.family,
+            self.ranges.as_slice(),
+            other.family,
+            other.ranges.as_slice(),
+        )
+    }
 }
 
 /// A law: a least list of a set of addresses has the addresses of the set, and no other.

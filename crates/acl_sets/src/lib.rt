@@ -13,5 +13,5 @@ mod sweeps;
 
 pub use groups::group_end;
 pub use least::{Prefixes, least_list_holds, least_list_is_fewest, least_prefixes, one_least_list};
+pub use prefixes_left::PrefixesLeft;
 pub use sets::{Range, RangeSet, one_normal_list};
-pub use shared_lists::SharedList;

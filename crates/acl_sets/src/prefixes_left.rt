@@ -1,4 +1,4 @@
-ghost use Rattle.std.specs.Prelude.{◌≡◌};
+ghost use Rattle.std.specs.Prelude.{◌≡◌, []};
 ghost use Rattle.acl_packet.specs.Addresses.{top_address};
 ghost use Rattle.acl_sets.specs.Ranges.{IsNormal};
 ghost use Rattle.acl_sets.specs.ComputableLeastLists.{halved_space};
@@ -34,6 +34,25 @@ impl<'a> Model for PrefixesLeft<'a> {
 }
 
 impl<'a> PrefixesLeft<'a> {
+    /// The same prefixes, to be gone through once more.
+    pub fn copy(&self) -> PrefixesLeft<'a>
+        ensures { result ≡ self.now }
+    {
+        PrefixesLeft {
+            family: self.family,
+            first: self.first,
+            rest: self.rest,
+        }
+    }
+
+    /// No prefixes.
+    #[tactic(auto, using(crate::proofs::CutWalks::none_left))]
+    pub fn none() -> PrefixesLeft<'a>
+        ensures { result ≡ [] }
+    {
+        PrefixesLeft::of(Family::V4, &[])
+    }
+
     // All prefixes of the ranges.
     #[tactic(auto, using(crate::proofs::CutWalks::from_low_end))]
     pub(crate) fn of(family: Family, rest: &'a [Range]) -> PrefixesLeft<'a>

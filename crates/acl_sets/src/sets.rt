@@ -37,6 +37,13 @@ impl Model for RangeSet {
     ghost invariant = { λ s. IsNormal 0 s.limit s.list };
 }
 
+// Whether both are the same ranges.
+pub(crate) fn are_same(ranges: &[Range], others: &[Range]) -> bool
+    ensures { IsTrue result ↔ (ranges.now ≡ others.now) }
+{
+    ranges == others
+}
+
 impl RangeSet {
     /// No number.
     pub fn empty(alloc: Global, top: u128) -> RangeSet
@@ -161,6 +168,14 @@ impl RangeSet {
         })
     }
 
+    // The ranges, for one place more.
+    pub(crate) fn share_ranges(&self) -> Result<RangeList, Memory>
+        ensures list { IfOk result (λ l. l ≡ self.now.ranges) }
+        ensures normal { IfOk result (λ l. IsNormal 0 self.now.top l) }
+    {
+        self.list.share()
+    }
+
     /// Whether the number is in the set.
     pub fn contains(&self, x: u128) -> bool
         ensures { result ≡ holds self.now.ranges x }
@@ -183,7 +198,7 @@ impl RangeSet {
     pub fn is_same(&self, other: &RangeSet) -> bool
         ensures { IsTrue result ↔ (self.now.ranges ≡ other.now.ranges) }
     {
-        self.ranges() == other.ranges()
+        are_same(self.list.as_slice(), other.list.as_slice())
     }
 
     /// Whether no number is in the set.

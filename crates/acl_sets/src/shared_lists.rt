@@ -7,7 +7,7 @@ use std::rc::Rc;
 
 /// A list that does not change, and that may stand in many places. A contract sees the list of the items.
 #[derive(Drop)]
-pub struct SharedList<T: Drop> {
+pub(crate) struct SharedList<T: Drop> {
     items: Rc<Vec<T>>,
 }
 
@@ -21,7 +21,7 @@ impl<T: Drop> Model for SharedList<T> {
 
 impl<T: Drop> SharedList<T> {
     /// The items, in one place so far.
-    pub fn new(alloc: Global, items: Vec<T>) -> Result<SharedList<T>, Memory>
+    pub(crate) fn new(alloc: Global, items: Vec<T>) -> Result<SharedList<T>, Memory>
         ensures { IfOk result (λ s. s ≡ items.items) }
     {
         match Rc::new(alloc, items) {
@@ -31,7 +31,7 @@ impl<T: Drop> SharedList<T> {
     }
 
     /// The same list, for one place more. It is not copied, and no memory is taken.
-    pub fn share(&self) -> Result<SharedList<T>, Memory>
+    pub(crate) fn share(&self) -> Result<SharedList<T>, Memory>
         ensures { IfOk result (λ s. s ≡ self.now) }
     {
         Ok(SharedList {
@@ -40,7 +40,7 @@ impl<T: Drop> SharedList<T> {
     }
 
     /// The items in order.
-    pub fn as_slice(&self) -> &[T]
+    pub(crate) fn as_slice(&self) -> &[T]
         ensures { result.now ≡ self.now }
     {
         self.items.as_ref().as_slice()

@@ -30,6 +30,6 @@ impl RuleCount for Sources {
     ghost entries = { λ s rule. rule_count rule };
 
     fn count_rule(&self, rule: &Rule) -> u64 {
-        rule.src.as_slice().len() as u64
+        rule.src.count()
     }
 }

@@ -3,10 +3,10 @@ ghost use Rattle.std.specs.List.{list_all};
 ghost use Rattle.acl_packet.specs.Packets.{fields};
 ghost use Rattle.acl_sets.specs.ComputableSets.{is_all};
 ghost use Rattle.acl_platform.specs.Rules.{set_of as set_in};
-ghost use Rattle.gen_acltool.specs.Limits.{has_all_addresses, is_plain, rule_limit, says_sources};
+ghost use Rattle.gen_acltool.specs.Limits.{is_plain, rule_limit, says_sources};
 
 use crate::standard::Standard;
-use acl_packet::{Prefix, fields};
+use acl_packet::fields;
 use acl_platform::{Earlier, Feature, Limit, Rule, RuleLimits, Test, set_of};
 
 const LONGEST_NAME: usize = 64;
@@ -30,13 +30,7 @@ impl RuleLimits for Standard {
 fn says_sources(rule: &Rule) -> bool
     ensures { result ≡ says_sources rule.now }
 {
-    has_all_addresses(rule.dst.as_slice()) && has_all_numbers(rule) && is_plain(rule.test)
-}
-
-fn has_all_addresses(prefixes: &[Prefix]) -> bool
-    ensures { result ≡ has_all_addresses prefixes.now }
-{
-    prefixes.iter().any(|prefix| prefix.len == 0)
+    rule.dst.is_all() && has_all_numbers(rule) && is_plain(rule.test)
 }
 
 // Whether the rule's set of each field is all.

@@ -11,8 +11,8 @@ ghost use Rattle.gen_acltool.specs.RowSteps.{items_rows};
 ghost use Rattle.gen_acltool.specs.Sections.{denial, entry_of, list_items, list_number, permits, rule_items, section_of};
 
 use acl_packet::{Family, Prefix, Verdict};
-use acl_platform::{Filter, RemarkForm, RemarkRows, Rule, RuleForm, put_rules};
-use acl_rows::{Each, RowForm, Rows, is_empty};
+use acl_platform::{Filter, ListedPrefixes, RemarkForm, RemarkRows, Rule, RuleForm, put_rules};
+use acl_rows::{EachListed, RowForm, Rows, is_empty};
 use acl_text::{Out, PutFault};
 use std_lang::{Entry, EntryRow, ListHead, RemarkRow};
 
@@ -82,8 +82,8 @@ impl RuleForm for OfList {
 
     fn put_rule<O: Out>(&self, rule: &Rule, out: &mut O) -> Result<(), PutFault> {
         let remarks = RemarkRows { rule, form: self };
-        let entries = Each {
-            items: rule.src.as_slice(),
+        let entries = EachListed {
+            items: ListedPrefixes::all(&rule.src),
             form: OfRule {
                 number: self.number,
                 rule,

@@ -23,7 +23,7 @@ use crate::groups::{GroupForm, put_groups};
 use acl_packet::{Family, Hook, Prefix};
 use acl_platform::{Choices, NumberChoices, Rule, Test};
 use acl_rows::{Piece, PortRange, RowForm, Rows, WordForm};
-use acl_sets::Range;
+use acl_sets::{Prefixes, Range};
 use acl_text::{Out, PutFault};
 use ipt_lang::{Act, Flags, PortLists, RuleRow};
 
@@ -32,7 +32,7 @@ type Front = (Option<u8>, (Prefix, Prefix));
 
 type Back = (Option<u8>, (Option<u8>, Option<Flags>));
 
-type FrontChoices<'a> = (NumberChoices<'a>, (&'a [Prefix], &'a [Prefix]));
+type FrontChoices<'a> = (NumberChoices<'a>, (&'a Prefixes, &'a Prefixes));
 
 type BackChoices<'a> = (
     NumberChoices<'a>,
@@ -46,7 +46,7 @@ pub(crate) fn fronts_of(rule: &Rule) -> FrontChoices<'_>
     ensures { ⟦<FrontChoices<'static> as Choices>⟧.items result ≡ fronts rule.now }
 {
     let protocols = NumberChoices { set: &rule.protos };
-    (protocols, (rule.src.as_slice(), rule.dst.as_slice()))
+    (protocols, (&rule.src, &rule.dst))
 }
 
 /// The types, codes and flags of a rule.

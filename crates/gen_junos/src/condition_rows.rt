@@ -8,7 +8,7 @@ ghost use Rattle.junos_lang.specs.Texts.{condition_rows, from_rows, range_word};
 ghost use Rattle.gen_junos.specs.Sections.{term_of, test_of};
 
 use acl_packet::Family;
-use acl_platform::{NumberForm, Rule, Test, address_elements, put_numbers, range_elements};
+use acl_platform::{ListedPrefixes, NumberForm, Rule, Test, put_numbers, range_elements};
 use acl_rows::{EachWord, Number, OneWord, Piece, Rows, WordForm, Words};
 use acl_sets::Range;
 use acl_text::{Out, PutFault};
@@ -30,8 +30,8 @@ impl<'a> Rows for RuleConditions<'a> {
         let rule = self.rule;
         let conditions = FromPart {
             family: self.family,
-            src: address_elements(rule.src.as_slice()),
-            dst: address_elements(rule.dst.as_slice()),
+            src: ListedPrefixes::written(&rule.src),
+            dst: ListedPrefixes::written(&rule.dst),
             protos: NumberWords {
                 ranges: range_elements(&rule.protos),
             },

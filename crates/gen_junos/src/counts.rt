@@ -9,7 +9,7 @@ ghost use Rattle.acl_platform.specs.Elements.{
 ghost use Rattle.gen_junos.specs.Sections.{term_count, term_of};
 
 use crate::junos::Junos;
-use acl_platform::{Rule, RuleCount, address_elements, count_numbers, range_elements};
+use acl_platform::{Rule, RuleCount, count_numbers, count_written, range_elements};
 
 impl RuleCount for Junos {
     ghost entries = { λ j rule. term_count (term_of rule) };
@@ -27,8 +27,8 @@ fn address_count(rule: &Rule) -> u64
     ensures { result ≡ min (length (address_elements rule.now.src)
         + length (address_elements rule.now.dst)) COUNT_END }
 {
-    let sources = address_elements(rule.src.as_slice()).len() as u64;
-    let destinations = address_elements(rule.dst.as_slice()).len() as u64;
+    let sources = count_written(&rule.src);
+    let destinations = count_written(&rule.dst);
     sources.saturating_add(destinations)
 }
 

@@ -6,7 +6,7 @@ ghost use Rattle.gen_nftables.specs.Sections.{chain_rule, rule_size};
 
 use crate::nftables::Nftables;
 use acl_platform::{
-    Choices, NumberChoices, Rule, RuleCount, address_elements, count_numbers, range_elements,
+    Choices, NumberChoices, Rule, RuleCount, count_numbers, count_written, range_elements,
 };
 
 impl RuleCount for Nftables {
@@ -25,8 +25,8 @@ fn rule_size(rule: &Rule) -> u64
     requires { IsSized rule.now }
     ensures { result ≡ min (rule_size (chain_rule rule.now None)) COUNT_END }
 {
-    let src = address_elements(rule.src.as_slice()).len() as u64;
-    let dst = address_elements(rule.dst.as_slice()).len() as u64;
+    let src = count_written(&rule.src);
+    let dst = count_written(&rule.dst);
     let sports = range_elements(&rule.sports).len() as u64;
     let dports = range_elements(&rule.dports).len() as u64;
     src.saturating_add(dst)

@@ -4,7 +4,7 @@ ghost use Rattle.nft_lang.specs.Texts.{address_word, port_word, ports_word, set_
 ghost use Rattle.acl_platform.specs.Elements.{address_elements, port_elements};
 
 use acl_packet::Family;
-use acl_platform::{address_elements, range_elements};
+use acl_platform::{ListedPrefixes, range_elements};
 use acl_rows::{Piece, PortRange, WordForm, Words};
 use acl_sets::{Prefixes, Range, RangeSet};
 use acl_text::{Out, PutFault};
@@ -27,7 +27,7 @@ impl<'a> Words for AddressSet<'a> {
         let set = ElementSet {
             front: address_word(self.family),
             key: self.key,
-            elements: address_elements(self.prefixes.as_slice()),
+            elements: ListedPrefixes::written(self.prefixes),
             form: PrefixWord,
         };
         set.put_spaced(out)

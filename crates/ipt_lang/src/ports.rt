@@ -14,7 +14,7 @@ pub struct PortLists<'a, T, F> {
     pub form: F,
 }
 
-impl<'a, T, F: WordForm<T>> Words for PortLists<'a, T, F> {
+impl<'a, T: Copy, F: WordForm<T>> Words for PortLists<'a, T, F> {
     ghost words = { λ l. ports_words (map (F.item_text l.form) l.sports.now)
         (map (F.item_text l.form) l.dports.now) };
 
@@ -57,7 +57,7 @@ struct PortList<'a, T, F> {
     form: &'a F,
 }
 
-impl<'a, T, F: WordForm<T>> Words for PortList<'a, T, F> {
+impl<'a, T: Copy, F: WordForm<T>> Words for PortList<'a, T, F> {
     ghost words = { λ l. port_list_words l.plain l.key.now l.keys.now
         (map (F.item_text l.form.now) l.ranges.now) };
 
@@ -110,7 +110,7 @@ struct Listing<'a, T, F> {
     form: &'a F,
 }
 
-impl<'a, T, F: WordForm<T>> Piece for Listing<'a, T, F> {
+impl<'a, T: Copy, F: WordForm<T>> Piece for Listing<'a, T, F> {
     ghost text = { λ l. join_with_byte 44 (map (F.item_text l.form.now) l.items.now) };
 
     fn put_into<O: Out>(&self, out: &mut O) -> Result<(), PutFault> {

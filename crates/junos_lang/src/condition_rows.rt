@@ -9,7 +9,10 @@ use crate::conditions::Condition;
 use crate::documents::JTest;
 use crate::filter_rows::{Closing, FixedLine, put_word};
 use acl_packet::{Family, Prefix};
-use acl_rows::{Each, EachWord, End, OneWord, Piece, Row, RowForm, Rows, WordForm, Words};
+use acl_rows::{
+    EachListed, EachWord, End, Listed, OneWord, Piece, Row, RowForm, Rows, WordForm, Words,
+    has_none,
+};
 use acl_text::{Out, PutFault};
 
 /// The values of a condition, each of which is a word.
@@ -30,10 +33,10 @@ impl<'a, T, F: WordForm<T>> Values for EachWord<'a, T, F> {
 ///
 /// A list without values is no condition.
 #[derive(Drop)]
-pub struct FromPart<'a, N, P> {
+pub struct FromPart<A, N, P> {
     pub family: Family,
-    pub src: &'a [Prefix],
-    pub dst: &'a [Prefix],
+    pub src: A,
+    pub dst: A,
     pub protos: N,
     pub sports: P,
     pub dports: P,
@@ -42,18 +45,18 @@ pub struct FromPart<'a, N, P> {
     pub test: Option<JTest>,
 }
 
-impl<'a, N: Values + Copy, P: Values + Copy> Rows for FromPart<'a, N, P> {
-    ghost rows = { λ f. from_rows (value_rows f.family f.src.now f.dst.now (N.words f.protos)
+impl<A: Listed<Item = Prefix>, N: Values + Copy, P: Values + Copy> Rows for FromPart<A, N, P> {
+    ghost rows = { λ f. from_rows (value_rows f.family (A.items f.src) (A.items f.dst) (N.words f.protos)
         (P.words f.sports) (P.words f.dports) (N.words f.itypes) (N.words f.icodes) f.test) };
 
     fn put_rows<O: Out>(&self, out: &mut O) -> Result<(), PutFault> {
         let sources = AddressRows {
             end: End::Source,
-            prefixes: self.src,
+            prefixes: &self.src,
         };
         let destinations = AddressRows {
             end: End::Destination,
-            prefixes: self.dst,
+            prefixes: &self.dst,
         };
         let protocols = ListRows {
             condition: Condition::protocol_of(self.family),
@@ -79,8 +82,8 @@ impl<A: Conditions, B: Conditions> Conditions for (A, B) {
 
 // The conditions behind those on addresses and protocols.
 #[derive_where(Clone, Copy)]
-struct LastConditions<'b, 'a, N, P> {
-    part: &'b FromPart<'a, N, P>,
+struct LastConditions<'a, A, N, P> {
+    part: &'a FromPart<A, N, P>,
 }
 
 // Of source ports, destination ports, types, codes, and flags.
@@ -89,7 +92,7 @@ type LastParts<N, P> = (
     (ListRows<P>, (ListRows<N>, (ListRows<N>, TestRows))),
 );
 
-impl<'b, 'a, N: Values + Copy, P: Values + Copy> LastConditions<'b, 'a, N, P> {
+impl<'a, A, N: Values + Copy, P: Values + Copy> LastConditions<'a, A, N, P> {
     fn parts(&self) -> LastParts<N, P>
         ensures { result ≡ (
           record { condition = SourcePort; values = self.now.part.now.sports },
@@ -128,7 +131,7 @@ impl<'b, 'a, N: Values + Copy, P: Values + Copy> LastConditions<'b, 'a, N, P> {
     }
 }
 
-impl<'b, 'a, N: Values + Copy, P: Values + Copy> Rows for LastConditions<'b, 'a, N, P> {
+impl<'a, A, N: Values + Copy, P: Values + Copy> Rows for LastConditions<'a, A, N, P> {
     ghost rows = { λ c. last_rows (P.words c.part.now.sports) (P.words c.part.now.dports)
         (N.words c.part.now.itypes) (N.words c.part.now.icodes) c.part.now.test };
 
@@ -137,7 +140,7 @@ impl<'b, 'a, N: Values + Copy, P: Values + Copy> Rows for LastConditions<'b, 'a,
     }
 }
 
-impl<'b, 'a, N: Values + Copy, P: Values + Copy> Conditions for LastConditions<'b, 'a, N, P> {
+impl<'a, A, N: Values + Copy, P: Values + Copy> Conditions for LastConditions<'a, A, N, P> {
     fn is_none(&self) -> bool {
         self.parts().is_none()
     }
@@ -191,18 +194,18 @@ impl Rows for FromEnd {
 }
 
 // The rows of the addresses of an end. None where there are no addresses.
-#[derive(Clone, Copy)]
-struct AddressRows<'a> {
+#[derive_where(Clone, Copy)]
+struct AddressRows<'a, A> {
     end: End,
-    prefixes: &'a [Prefix],
+    prefixes: &'a A,
 }
 
-impl<'a> Rows for AddressRows<'a> {
-    ghost rows = { λ a. address_rows a.end a.prefixes.now };
+impl<'a, A: Listed<Item = Prefix>> Rows for AddressRows<'a, A> {
+    ghost rows = { λ a. address_rows a.end (A.items a.prefixes.now) };
 
     #[tactic(auto, unfolding(crate::specs::Texts::address_rows))]
     fn put_rows<O: Out>(&self, out: &mut O) -> Result<(), PutFault> {
-        if self.prefixes.is_empty() {
+        if has_none(self.prefixes) {
             return Ok(());
         }
         let head = FixedLine {
@@ -210,18 +213,18 @@ impl<'a> Rows for AddressRows<'a> {
             first: end_word(self.end),
             rest: &[b"{"],
         };
-        let prefixes = Each {
-            items: self.prefixes,
+        let prefixes = EachListed {
+            items: self.prefixes.copy(),
             form: InBlock,
         };
         (head, (prefixes, Closing { indent: 20 })).put_rows(out)
     }
 }
 
-impl<'a> Conditions for AddressRows<'a> {
+impl<'a, A: Listed<Item = Prefix>> Conditions for AddressRows<'a, A> {
     #[tactic(auto, using(crate::proofs::ConditionLaws::no_addresses))]
     fn is_none(&self) -> bool {
-        self.prefixes.is_empty()
+        has_none(self.prefixes)
     }
 }
 

@@ -1,9 +1,9 @@
-ghost use Rattle.std.specs.Prelude.{decimal, map};
+ghost use Rattle.std.specs.Prelude.{◌∷◌, decimal, map};
 ghost use Rattle.acl_text.specs.AddressTexts.{prefix_text};
 ghost use Rattle.nft_lang.specs.Texts.{set_words, with_commas};
 
 use acl_packet::Prefix;
-use acl_rows::{ItemsBehind, Number, OneItem, Piece, WordForm, Words};
+use acl_rows::{ItemsBehind, Listed, Number, OneItem, Piece, WordForm, Words};
 use acl_text::{Out, PutFault, put_prefix};
 
 /// A prefix as an element of a set.
@@ -33,24 +33,26 @@ impl WordForm<u8> for IcmpNumber {
 
 /// A set, behind the words of what is matched, each element in the form. One without elements is not written.
 #[derive(Drop)]
-pub struct ElementSet<'a, T, F> {
+pub struct ElementSet<'a, L, F> {
     pub front: &'a [u8],
     pub key: &'a [u8],
-    pub elements: &'a [T],
+    pub elements: L,
     pub form: F,
 }
 
-impl<'a, T, F: WordForm<T>> Words for ElementSet<'a, T, F> {
+impl<'a, L: Listed, F: WordForm<L::Item>> Words for ElementSet<'a, L, F> {
     ghost words = { λ s.
-        set_words s.front.now s.key.now (map (F.item_text s.form) s.elements.now) };
+        set_words s.front.now s.key.now (map (F.item_text s.form) (L.items s.elements)) };
 
     #[tactic(auto, unfolding(crate::specs::Texts::set_words))]
     fn put_spaced<O: Out>(&self, out: &mut O) -> Result<(), PutFault> {
-        match self.elements {
-            [] => Ok(()),
-            [_, ..] => {
+        let mut rest = self.elements.copy();
+        match rest.next() {
+            None => Ok(()),
+            Some(first) => {
                 let listing = Listing {
-                    elements: self.elements,
+                    first,
+                    rest,
                     form: &self.form,
                 };
                 let key: &[&[u8]] = &[self.front, self.key, b"{"];
@@ -61,34 +63,30 @@ impl<'a, T, F: WordForm<T>> Words for ElementSet<'a, T, F> {
     }
 }
 
-// The elements, with a comma behind each but the last.
+// Elements, with a comma behind each but the last.
 #[derive(Drop)]
-struct Listing<'a, T, F> {
-    elements: &'a [T],
+struct Listing<'a, T, L, F> {
+    first: T,
+    rest: L,
     form: &'a F,
 }
 
-impl<'a, T, F: WordForm<T>> Words for Listing<'a, T, F> {
-    ghost words = { λ l. with_commas (map (F.item_text l.form.now) l.elements.now) };
+impl<'a, L: Listed, F: WordForm<L::Item>> Words for Listing<'a, L::Item, L, F> {
+    ghost words = { λ l. with_commas (map (F.item_text l.form.now) (l.first ∷ L.items l.rest)) };
 
     fn put_spaced<O: Out>(&self, out: &mut O) -> Result<(), PutFault> {
-        match self.elements {
-            [] => Ok(()),
-            [element, elements @ ..] => {
-                let form = self.form;
-                let space: &[u8] = b" ";
-                let comma: &[u8] = b", ";
-                let first = OneItem {
-                    item: element,
-                    form,
-                };
-                let rest = ItemsBehind {
-                    separator: comma,
-                    items: elements,
-                    form,
-                };
-                (space, (first, rest)).put_into(out)
-            }
-        }
+        let form = self.form;
+        let space: &[u8] = b" ";
+        let comma: &[u8] = b", ";
+        let first = OneItem {
+            item: &self.first,
+            form,
+        };
+        let rest = ItemsBehind {
+            separator: comma,
+            items: self.rest.copy(),
+            form,
+        };
+        (space, (first, rest)).put_into(out)
     }
 }

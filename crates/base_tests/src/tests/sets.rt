@@ -4,7 +4,7 @@ ghost use Rattle.acl_packet.specs.Addresses.{top_address};
 ghost use Rattle.acl_sets.specs.Ranges.{IsRange};
 
 use acl_packet::{Family, Prefix};
-use acl_sets::{Range, RangeSet, group_end, least_prefixes};
+use acl_sets::{PrefixesLeft, Range, RangeSet, group_end, least_prefixes};
 use acl_text::Memory;
 use std::alloc::Global;
 
@@ -154,11 +154,19 @@ fn top_of(family: Family) -> u128
     }
 }
 
+fn last_of(prefixes: PrefixesLeft<'_>) -> Option<Prefix> {
+    let mut last = None;
+    for prefix in prefixes {
+        last = Some(prefix);
+    }
+    last
+}
+
 /// Whether the least list of these addresses has so many prefixes, and begins and ends with these two.
 fn has_list(
     alloc: Global,
     ranges: &[Range],
-    count: usize,
+    count: u64,
     first: Prefix,
     last: Prefix,
 ) -> Result<bool, Memory>
@@ -166,9 +174,10 @@ fn has_list(
 {
     let family = first.family;
     let set = RangeSet::from_ranges(alloc, top_of(family), ranges)?;
-    let list = least_prefixes(alloc, &set, family)?;
-    let list = list.as_slice();
-    Ok(list.len() == count && list.starts_with(&[first]) && list.ends_with(&[last]))
+    let list = least_prefixes(&set, family)?;
+    let ends = list.iter().next() == Some(first) && last_of(list.iter()) == Some(last);
+    let whole = list.has(last.first) && list.is_all() == (first.len == 0);
+    Ok(list.count() == count && ends && whole && list.is_same(&list.share()?))
 }
 
 const ALL: Prefix = Prefix {
@@ -219,8 +228,8 @@ const ALL_OF_SIX: Prefix = Prefix {
 
 fn none_has_no_prefixes(alloc: Global) -> Result<bool, Memory> {
     let none = RangeSet::empty(alloc, 0xffff_ffff);
-    let list = least_prefixes(alloc, &none, Family::V4)?;
-    Ok(list.as_slice().is_empty())
+    let list = least_prefixes(&none, Family::V4)?;
+    Ok(list.count() == 0 && list.iter().next() == None && !list.has(0))
 }
 
 #[test]

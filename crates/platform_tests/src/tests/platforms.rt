@@ -2,8 +2,8 @@ ghost use Rattle.std.specs.Prelude.{[], ◌∷◌, IfOk, decimal, unwrap_or};
 ghost use Rattle.acl_rows.specs.Rows.{row};
 ghost use Rattle.acl_platform.specs.Combinations.{IsSized};
 
-use crate::tests::samples::{HEAD, Head, filter, open_rule, prefixes};
-use acl_packet::{Conn, Family, Outcome, Packet, Prefix, Verdict};
+use crate::tests::samples::{HEAD, Head, addresses, filter, open_rule};
+use acl_packet::{Conn, Family, Outcome, Packet, Verdict};
 use acl_platform::{
     Combination, Filter, Rule, Rules, Test, count_combinations, filter_outcome, put_combinations,
 };
@@ -13,14 +13,6 @@ use acl_target::Ending;
 use acl_text::{Memory, Out, PutFault, Whole};
 use std::alloc::Global;
 
-fn host(address: u128) -> Prefix {
-    Prefix {
-        family: Family::V4,
-        first: address,
-        len: 32,
-    }
-}
-
 // What of TCP and UDP goes from 0.0.0.1 or 0.0.0.2 to 0.0.0.3, ports 80 to 81 and 443, and begins a
 // connection.
 #[tactic(auto, using(acl_platform::proofs::SoundRules::sized_by))]
@@ -28,8 +20,8 @@ fn web(alloc: Global) -> Result<Rule, Memory>
     ensures { IfOk result IsSized }
 {
     let mut rule = open_rule(alloc, b"web")?;
-    rule.src = prefixes(alloc, &[host(1), host(2)])?;
-    rule.dst = prefixes(alloc, &[host(3)])?;
+    rule.src = addresses(alloc, 1, 2)?;
+    rule.dst = addresses(alloc, 3, 3)?;
     let protos = [Range { low: 6, high: 6 }, Range { low: 17, high: 17 }];
     rule.protos = RangeSet::from_ranges(alloc, 255, &protos)?;
     let dports = [

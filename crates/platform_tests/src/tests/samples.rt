@@ -1,10 +1,10 @@
-ghost use Rattle.std.specs.Prelude.{◌≡◌, IfOk};
+ghost use Rattle.std.specs.Prelude.{◌≡◌, ◌≤◌, IfOk};
 ghost use Rattle.acl_platform.specs.Combinations.{IsSized};
 ghost use Rattle.platform_tests.specs.SampleFilters.{filter_with};
 
-use acl_packet::{Families, Family, Hook, Prefix, Verdict};
+use acl_packet::{Families, Family, Hook, Verdict};
 use acl_platform::{Filter, Rule, Rules, SharedRules, Test};
-use acl_sets::{Prefixes, Range, RangeSet};
+use acl_sets::{Prefixes, Range, RangeSet, least_prefixes};
 use acl_target::{Ending, Kind};
 use acl_text::{Bytes, Memory, Place};
 use std::alloc::Global;
@@ -54,8 +54,13 @@ pub(crate) fn filter(alloc: Global, head: &Head, rules: Rules) -> Result<Filter,
     })
 }
 
-pub(crate) fn prefixes(alloc: Global, list: &[Prefix]) -> Result<Prefixes, Memory> {
-    Prefixes::new(alloc, Vec::from_slice(alloc, list)?)
+// The addresses of IPv4 from one to another.
+pub(crate) fn addresses(alloc: Global, low: u128, high: u128) -> Result<Prefixes, Memory>
+    requires order { low ≤ high }
+    requires top { high ≤ 4294967295 }
+{
+    let set = RangeSet::from_ranges(alloc, 0xffff_ffff, &[Range { low, high }])?;
+    least_prefixes(&set, Family::V4)
 }
 
 // All ports of either side.
@@ -78,10 +83,9 @@ pub(crate) fn open_rule(alloc: Global, name: &[u8]) -> Result<Rule, Memory>
     ensures ports { IfOk result (λ r. (r.sports.top ≡ 65535) × (r.dports.top ≡ 65535)) }
     ensures types { IfOk result (λ r. (r.itypes.top ≡ 255) × (r.icodes.top ≡ 255)) }
 {
-    let everywhere = [Prefix::everywhere(Family::V4)];
     let name = Bytes::from_slice(alloc, name)?;
-    let src = prefixes(alloc, &everywhere)?;
-    let dst = prefixes(alloc, &everywhere)?;
+    let src = addresses(alloc, 0, 0xffff_ffff)?;
+    let dst = addresses(alloc, 0, 0xffff_ffff)?;
     let protos = RangeSet::all(alloc, 255)?;
     let (sports, dports) = all_ports(alloc)?;
     let (itypes, icodes) = all_types(alloc)?;

@@ -8,10 +8,9 @@ use crate::tests::files::text;
 use crate::tests::reading::{TODAY, base, policy_of, shown_slip, terms_of};
 use acl_expand::expand;
 use acl_naming::Checked;
-use acl_packet::Prefix;
 use acl_platform::{Filter, Rule, Test};
 use acl_policy::Block;
-use acl_sets::RangeSet;
+use acl_sets::{Prefixes, RangeSet};
 use acl_target::Target;
 use acl_terms::Term;
 use acl_text::{Memory, Refusal};
@@ -61,9 +60,9 @@ fn add_set(alloc: Global, out: &mut String, set: &RangeSet) -> Result<(), Memory
     Ok(())
 }
 
-fn add_list(alloc: Global, out: &mut String, prefixes: &[Prefix]) -> Result<(), Memory> {
+fn add_list(alloc: Global, out: &mut String, prefixes: &Prefixes) -> Result<(), Memory> {
     out.push_str(";")?;
-    for prefix in prefixes {
+    for prefix in prefixes.iter() {
         let piece = format!(in alloc; " {}/{}", prefix.first, prefix.len)?;
         out.push_str(&piece)?;
     }
@@ -100,8 +99,8 @@ fn add_rule(alloc: Global, out: &mut String, rule: &Rule) -> Result<(), Memory> 
     add_set(alloc, out, &rule.protos)?;
     add_set(alloc, out, &rule.sports)?;
     add_set(alloc, out, &rule.dports)?;
-    add_list(alloc, out, rule.src.as_slice())?;
-    add_list(alloc, out, rule.dst.as_slice())?;
+    add_list(alloc, out, &rule.src)?;
+    add_list(alloc, out, &rule.dst)?;
     out.push_str("\n")?;
     Ok(())
 }

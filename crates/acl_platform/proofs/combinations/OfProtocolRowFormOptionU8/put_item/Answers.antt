@@ -17,5 +17,5 @@ returns g c =
     let back : Prefix → List ℕ = λ dst. g.F.CombinationForm.back form dst o.tail.1.0 o.tail.1.1.0 o.tail.1.1.1 in
     let rows = λ (parts : Prefix × (Prefix × Tail)). g.F.RowForm.item_rows form (combination_of (proto, parts)) in
     let whole = halves_of_pairs front back rows o.tail (λ src dst. g.met.F.CombinationForm.is_halves form (combination_of (proto, (src, (dst, o.tail))))) o.rule.now.src o.rule.now.dst in
-    retold (ap (λ src. flat_map (λ a. flat_map (λ b. front a ++ back b) c.as_slice-2.result.now) src) c.as_slice.ensures
-    ∙ ap (λ dst. flat_map (λ a. flat_map (λ b. front a ++ back b) dst) o.rule.now.src) c.as_slice-2.ensures ∙ whole) c.put_pairs.ensures
+    retold (ap (λ src. flat_map (λ a. flat_map (λ b. front a ++ back b) c.all-seconds.result) src) c.all-firsts.ensures
+    ∙ ap (λ dst. flat_map (λ a. flat_map (λ b. front a ++ back b) dst) o.rule.now.src) c.all-seconds.ensures ∙ whole) c.put_pairs.ensures

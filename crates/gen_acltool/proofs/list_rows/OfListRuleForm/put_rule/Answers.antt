@@ -15,4 +15,4 @@ returns g c =
     let r = c.args.rule.now in
     let rows : List Prefix → List Row = λ sources. flat_map (λ text. item_rows n (Remark text)) (remarks r)
     ++ flat_map (λ s. item_rows n (AnEntry (entry_of r s))) sources in
-    retold (ap (λ sources. text_of_rows (rows sources)) c.as_slice.ensures ∙ ap text_of_rows (rule-rows n r)) c.put_rows.ensures
+    retold (ap (λ sources. text_of_rows (rows sources)) c.all.ensures ∙ ap text_of_rows (rule-rows n r)) c.put_rows.ensures

@@ -10,10 +10,8 @@ returns g c =
     let self = c.args.self.now in
     retold (ap (λ rows. text_of_rows (from_rows rows)) (conditions-text self.family self.rule.now))
     (rw (
-      c.address_elements.ensures,
-      c.as_slice.ensures,
-      c.address_elements-2.ensures,
-      c.as_slice-2.ensures,
+      c.written.ensures,
+      c.written-2.ensures,
       c.range_elements.ensures.exact,
       c.range_elements-2.ensures.exact,
       c.range_elements-3.ensures.exact,

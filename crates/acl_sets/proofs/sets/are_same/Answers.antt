@@ -1,9 +1,9 @@
-use Rattle.std.proofs.Common.{◌≡◌, ◌==◌, ◌&&◌, ap, sym, ◌∙◌}
+use Rattle.std.proofs.Common.{◌≡◌, ◌==◌, ◌&&◌, ap, ◌∙◌}
 use Rattle.std.specs.Bool.{Decides}
 use Rattle.std.proofs.lemmas.Bool.Decides.{Decides-and, Decides-eqb, Decides-like}
 use Rattle.std.proofs.lemmas.Slice.Eq.{slice_eq-Decides}
 use Rattle.acl_sets.specs.declared.sets.Range.{Range}
-use Rattle.acl_sets.proofs.sets.RangeSet.is_same.Goals as goal
+use Rattle.acl_sets.proofs.sets.are_same.Goals as goal
 
 both-ends : (a b : Range) → Decides (a.low == b.low && a.high == b.high) (a ≡ b)
 both-ends a b =
@@ -14,7 +14,4 @@ both-ends a b =
 
 pub returns : goal.returns
 returns c =
-    let same = slice_eq-Decides both-ends c.ranges-2.result.now c.ranges-3.result.now c.eq.result c.eq.ensures in (
-      λ h. sym c.ranges-2.ensures.list ∙ same.0 h ∙ c.ranges-3.ensures.list,
-      λ e. same.1 (c.ranges-2.ensures.list ∙ e ∙ sym c.ranges-3.ensures.list),
-    )
+    slice_eq-Decides both-ends c.args.ranges.now c.args.others.now c.eq.result c.eq.ensures
