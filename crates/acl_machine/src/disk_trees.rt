@@ -91,6 +91,10 @@ impl<R: Files + AllocGlobal + Clone + Drop> Out for DiskTree<'_, R> {
         t.read_faults };
 
     fn put(&mut self, bytes: &[u8]) -> Result<(), PutFault> {
+        // Most bytes have room.
+        if self.gathered.take(bytes) {
+            return Ok(());
+        }
         let written = match &mut self.begun {
             Some(opened) => self.gathered.put(&mut opened.file, bytes),
             None => unreachable!(),

@@ -70,8 +70,9 @@ impl Gathered {
         self.end = 0;
     }
 
-    // Takes the bytes behind those that are gathered, or none where they have no room.
-    fn take(&mut self, bytes: &[u8]) -> bool
+    /// Takes the bytes behind those that are gathered, or none where they have no room.
+    #[inline]
+    pub(crate) fn take(&mut self, bytes: &[u8]) -> bool
         ensures { self.new ≡ (if result then self.old ++ bytes.now
             else self.old) }
     {
