@@ -1,4 +1,4 @@
-ghost use Rattle.std.specs.Prelude.{◌≡◌, ◌≤◌, [], true, false, Some, IsTrue, take, length, if◌then◌else◌};
+ghost use Rattle.std.specs.Prelude.{◌≡◌, ◌+◌, ◌≤◌, [], true, false, Some, IsTrue, take, length, if◌then◌else◌};
 
 use acl_text::{Out, PutFault};
 
@@ -105,21 +105,31 @@ impl Out for LineText {
     ghost rest_goes_on = { λ x y z p q. tt };
 }
 
-// Writes the bytes over as many. As few as a word or an address has are written without a call, in
-// two parts that may overlap.
+// Writes the bytes over as many. As few as a word, an address or an indent has are written without a call.
 #[inline(always)]
 fn copy_bytes(target: &mut [u8], bytes: &[u8])
     requires { length target.old ≡ length bytes.now }
     ensures { target.new ≡ bytes.now }
 {
-    let len = bytes.len();
-    if 8 <= len && len <= 16 {
-        target[..8].copy_from_slice(&bytes[..8]);
-        target[len - 8..].copy_from_slice(&bytes[len - 8..]);
-    } else if 4 <= len && len < 8 {
-        target[..4].copy_from_slice(&bytes[..4]);
-        target[len - 4..].copy_from_slice(&bytes[len - 4..]);
-    } else {
-        target.copy_from_slice(bytes);
+    match bytes.len() {
+        17..=32 => copy_ends(target, bytes, 16),
+        8..=16 => copy_ends(target, bytes, 8),
+        4..=7 => copy_ends(target, bytes, 4),
+        2..=3 => copy_ends(target, bytes, 2),
+        1 => copy_ends(target, bytes, 1),
+        _ => target.copy_from_slice(bytes),
     }
+}
+
+// Writes the first bytes, so many, and as many of the last, which may overlap.
+#[inline(always)]
+fn copy_ends(target: &mut [u8], bytes: &[u8], part: usize)
+    requires same { length target.old ≡ length bytes.now }
+    requires within { part ≤ length bytes.now }
+    requires covers { length bytes.now ≤ part + part }
+    ensures { target.new ≡ bytes.now }
+{
+    let back = bytes.len() - part;
+    target[..part].copy_from_slice(&bytes[..part]);
+    target[back..].copy_from_slice(&bytes[back..]);
 }
