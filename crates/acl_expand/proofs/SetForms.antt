@@ -7,17 +7,15 @@ use Rattle.std.proofs.lemmas.Bool.{or_parts}
 use Rattle.std.proofs.lemmas.Bool.{and_left, or_from, both_ways, false_from_ne_true, eqb-true, eq-eqb, le-leb}
 use Rattle.acl_packet.specs.declared.addresses.Family.{Family}
 use Rattle.acl_packet.specs.declared.addresses.Family.TheVariants.{V4, V6}
-use Rattle.acl_packet.specs.declared.addresses.Prefix.{Prefix}
 use Rattle.acl_packet.specs.declared.packet_fields.Field.TheVariants.{Protocol}
-use Rattle.acl_packet.specs.Addresses.{top_address, width_of, everywhere}
+use Rattle.acl_packet.specs.Addresses.{top_address, width_of}
 use Rattle.acl_sets.specs.declared.sets.Range.{Range}
-use Rattle.acl_sets.specs.ComputableLeastLists.{halved_space, last_of}
-use Rattle.acl_sets.specs.ComputableSets.{above, covers, cut, cut_all, is_all}
+use Rattle.acl_sets.specs.ComputableLeastLists.{halved_space}
+use Rattle.acl_sets.specs.ComputableSets.{above, cut, cut_all, is_all}
 use Rattle.acl_packet.specs.AddressLists.{any_has}
 use Rattle.acl_sets.specs.Ranges.{IsNormal, IsRange, Numbers, Only, holds, inside}
 use Rattle.acl_sets.proofs.ComputableLeastListLaws.{halved_space-least}
 use Rattle.acl_sets.proofs.ComputableSetLaws.{cut_all-holds}
-use Rattle.acl_sets.proofs.HalvesFacts.{step_whole}
 use Rattle.acl_sets.proofs.LeastListLaws.{least_list-holds, normal-addresses}
 use Rattle.acl_sets.proofs.RangeLaws.{in_range, ends_of}
 use Rattle.acl_terms.specs.declared.sides.Side.{Side}
@@ -84,23 +82,6 @@ nothing_cut n floor top (q ∷ qs) h out =
     ∙ ap (λ rs. rs ++ flat_map (cut (just n)) qs) (sym (uncut n q h.1 p.0))
 
 -- ---- least lists
-
--- all addresses are one prefix
-pub all_listed : (f : Family) (s : Numbers) → s.top + 1 ≡ 2 ^ width_of f → is_all s ≡ true
-    → least_list f s ≡ everywhere f ∷ []
-all_listed V4 s e h = step_whole V4 s.ranges 32 0 (ap (covers s.ranges 0) (last V4 s.top e) ∙ h)
-  where
-    last : (f : Family) (top : ℕ) → top + 1 ≡ 2 ^ width_of f → last_of (width_of f) 0 ≡ top
-    last f top e = omega (arith, e)
-all_listed V6 s e h = step_whole V6 s.ranges 128 0 (ap (covers s.ranges 0) (last V6 s.top e) ∙ h)
-  where
-    last : (f : Family) (top : ℕ) → top + 1 ≡ 2 ^ width_of f → last_of (width_of f) 0 ≡ top
-    last f top e = omega (arith, e)
-
--- sets of the same ranges have one list
-pub same_list : (f g : Family) (s t : Numbers) (ps : List Prefix) → ps ≡ least_list f s → f ≡ g → s.ranges ≡ t.ranges
-    → ps ≡ least_list g t
-same_list f g s t ps h e r = h ∙ ap (λ k. halved_space k s.ranges) e ∙ ap (λ rs. halved_space g rs) r
 
 end-of : (f : Family) (top : ℕ) → top ≡ top_address f → top + 1 ≡ 2 ^ width_of f
 end-of V4 top e = ap (λ n. n + 1) e

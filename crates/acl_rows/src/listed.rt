@@ -19,7 +19,7 @@ pub trait Listed: Drop {
     /// The next item. `None` exactly where none is left.
     fn next(&mut self) -> Option<Self::Item>
         ensures some { IfSome result (λ item. items self.old ≡ item ∷ items self.new) }
-        ensures none { IfNone result (items self.old ≡ []) };
+        ensures none { IfNone result ((items self.old ≡ []) × (items self.new ≡ [])) };
 }
 
 /// The items of a slice.

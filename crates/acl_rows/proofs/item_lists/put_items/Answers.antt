@@ -79,5 +79,5 @@ returns g c =
     let f = λ (e : g.row.L-Item.Denot). c.args.separator.now ++ g.F.WordForm.item_text c.args.form.now e in
     let held = c.loop-item.invariant in
     retold (all_put (held.text ++ take c.loop-item.line.end c.loop-item.line.bytes) (flat_map f (g.L.Listed.items c.loop-item.rest))
-    (flat_map f (g.L.Listed.items c.args.items.now)) held.whole (ap (flat_map f) c.in_default.ensures.none))
+    (flat_map f (g.L.Listed.items c.args.items.now)) held.whole (ap (flat_map f) c.in_default.ensures.none.0))
     (goes_on g.met.O.Out.rest_goes_on held.put c.put_gathered.ensures)

@@ -48,4 +48,4 @@ returns g c =
     let f = λ (a : g.row.A-Item.Denot). flat_map (λ b. g.F.LineHalves.front c.args.form.now a ++ g.F.LineHalves.back c.args.form.now b) (g.B.Listed.items c.args.seconds.now) in
     let held = c.loop-first.invariant in
     retold (all_put held.text (flat_map f (g.A.Listed.items c.loop-first.rest)) (flat_map f (g.A.Listed.items c.args.firsts.now)) held.whole
-    (ap (flat_map f) c.in_default.ensures.none)) held.put
+    (ap (flat_map f) c.in_default.ensures.none.0)) held.put

@@ -61,4 +61,4 @@ returns g c =
     let f = λ (b : g.row.B-Item.Denot). g.F.LineHalves.front c.args.form.now c.args.first.now ++ g.F.LineHalves.back c.args.form.now b in
     let held = c.loop-second.invariant in
     retold (all_put held.text (flat_map f (g.B.Listed.items c.loop-second.rest)) (flat_map f (g.B.Listed.items c.args.seconds.now)) held.whole
-    (ap (flat_map f) c.in_default.ensures.none)) held.put
+    (ap (flat_map f) c.in_default.ensures.none.0)) held.put

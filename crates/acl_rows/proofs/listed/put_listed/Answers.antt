@@ -47,6 +47,6 @@ pub returns : goal.returns
 returns g c =
     let f = g.F.RowForm.item_rows c.args.form.now in
     let held = c.loop-item.invariant in
-    let none = ap (λ xs. text_of_rows (flat_map f xs)) c.in_default.ensures.none in
+    let none = ap (λ xs. text_of_rows (flat_map f xs)) c.in_default.ensures.none.0 in
     retold (all_put held.text (text_of_rows (flat_map f (g.L.Listed.items c.loop-item.rest)))
     (text_of_rows (flat_map f (g.L.Listed.items c.args.items.now))) held.whole none) held.put
