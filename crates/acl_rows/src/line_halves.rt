@@ -1,9 +1,10 @@
-ghost use Rattle.std.specs.Prelude.{◌≡◌, ℕ, List, ◌∷◌, ◌++◌, IsTrue, IfSome, drop, flat_map};
+ghost use Rattle.std.specs.Prelude.{◌≡◌, ◌≤◌, ℕ, List, ◌++◌, IsTrue, OnOk, flat_map, length, take, true};
 ghost use Rattle.acl_text.specs.Puts.{Puts};
-ghost use Rattle.acl_rows.specs.LineHalfSteps.{AreHalves, IsHalf};
+ghost use Rattle.acl_rows.specs.LineHalfSteps.{AreHalves, IsHalf, text_of};
 
 use crate::line_texts::LineText;
 use crate::listed::Listed;
+use crate::pieces::Piece;
 use acl_text::{Out, PutFault};
 
 /// How pairs are written, each as one line: the half of the first, and behind it the half of the
@@ -45,93 +46,83 @@ pub fn put_pairs<A: Listed, B: Listed, F: LineHalves<A::Item, B::Item>, O: Out>(
         (B.items seconds.now)) (A.items firsts.now)) result }
 {
     if !keeps_backs {
-        return put_each(firsts, seconds, &[], form, out);
+        return put_each(firsts, seconds, &[], seconds, form, out);
     }
-    let mut backs = [LineText::closed(); KEPT];
-    keep_backs(seconds, form, &mut backs);
-    put_each(firsts, seconds, &backs, form, out)
+    let mut texts = [LineText::closed(); KEPT];
+    let (count, left) = keep_backs(seconds, form, &mut texts);
+    put_each(firsts, seconds, &texts[..count], &left, form, out)
 }
 
-// Puts the backs of the first seconds together, as many as there is room for.
+// Puts the backs of the first seconds together, as many as have room. Gives how many these are, and the seconds behind
+// them.
 fn keep_backs<A: Copy, B: Listed, F: LineHalves<A, B::Item>>(
     seconds: &B,
     form: &F,
-    backs: &mut [LineText],
-)
-    requires { AreHalves (F.back form.now) (B.items seconds.now) backs.old }
-    ensures { AreHalves (F.back form.now) (B.items seconds.now) backs.new }
+    texts: &mut [LineText],
+) -> (usize, B)
+    ensures fits { result.0 ≤ length texts.new }
+    ensures halves { AreHalves (F.back form.now) (B.items seconds.now) (take result.0 texts.new)
+        (B.items result.1) }
 {
-    let mut rest = seconds.copy();
-    for i in 0..backs.len() {
-        match rest.next() {
-            Some(second) => backs[i] = back_text(&second, form),
-            None => return,
+    let mut left = seconds.copy();
+    for i in 0..texts.len() {
+        let mut behind = left.copy();
+        let Some(second) = behind.next() else {
+            return (i, left);
+        };
+        let text = back_text(&second, form);
+        if !text.is_open() {
+            return (i, left);
         }
+        texts[i] = text;
+        left = behind;
     }
+    (texts.len(), left)
 }
 
-// Puts the line of each pair, with the backs that are kept.
+// Puts the line of each pair. The backs of the first seconds are kept, and the others are left.
 fn put_each<A: Listed, B: Listed, F: LineHalves<A::Item, B::Item>, O: Out>(
     firsts: &A,
     seconds: &B,
-    backs: &[LineText],
+    kept: &[LineText],
+    left: &B,
     form: &F,
     out: &mut O,
 ) -> Result<(), PutFault>
     requires open { IsTrue (O.is_open out.old) }
-    requires kept { AreHalves (F.back form.now) (B.items seconds.now) backs.now }
+    requires halves { AreHalves (F.back form.now) (B.items seconds.now) kept.now (B.items left.now) }
     ensures { Puts O.Out out.old out.new
         (flat_map (λ a. flat_map (λ b. F.front form.now a ++ F.back form.now b)
         (B.items seconds.now)) (A.items firsts.now)) result }
 {
     let mut rest = firsts.copy();
     while let Some(first) = rest.next() {
-        put_lines_of(&first, seconds, backs, form, out)?;
+        put_lines_of(&first, seconds, kept, left, form, out)?;
     }
     Ok(())
 }
 
 // Puts the lines of one first.
+#[inline]
 fn put_lines_of<A: Copy, B: Listed, F: LineHalves<A, B::Item>, O: Out>(
     first: &A,
     seconds: &B,
-    backs: &[LineText],
+    kept: &[LineText],
+    left: &B,
     form: &F,
     out: &mut O,
 ) -> Result<(), PutFault>
     requires open { IsTrue (O.is_open out.old) }
-    requires kept { AreHalves (F.back form.now) (B.items seconds.now) backs.now }
+    requires halves { AreHalves (F.back form.now) (B.items seconds.now) kept.now (B.items left.now) }
     ensures { Puts O.Out out.old out.new
         (flat_map (λ b. F.front form.now first.now ++ F.back form.now b) (B.items seconds.now)) result }
 {
-    let front = front_text(first, form);
-    let mut rest = seconds.copy();
-    let mut kept = backs;
-    while let Some(second) = rest.next() {
-        put_pair(first, &front, &second, first_text(kept), form, out)?;
-        kept = behind_first(kept);
+    let mut line = front_text(first, form);
+    if !line.is_open() {
+        return put_behind(first, &mut line, seconds, form, out);
     }
-    Ok(())
-}
-
-#[inline]
-fn first_text(texts: &[LineText]) -> Option<&LineText>
-    ensures { IfSome result (λ text. texts.now ≡ text.now ∷ drop 1 texts.now) }
-{
-    match texts {
-        [] => None,
-        [first, ..] => Some(first),
-    }
-}
-
-#[inline]
-fn behind_first(texts: &[LineText]) -> &[LineText]
-    ensures { result.now ≡ drop 1 texts.now }
-{
-    match texts {
-        [] => texts,
-        [_, rest @ ..] => rest,
-    }
+    put_kept(&mut line, kept, out)?;
+    put_behind(first, &mut line, left, form, out)
 }
 
 // The text of the front of a first, where it has room.
@@ -158,62 +149,113 @@ fn back_text<A, B, F: LineHalves<A, B>>(second: &B, form: &F) -> LineText
     }
 }
 
-// Puts the line of a pair, by one put where it has room.
-#[inline]
-fn put_pair<A, B, F: LineHalves<A, B>, O: Out>(
+// Puts a line for each kept back, behind the front that stands in it.
+fn put_kept<O: Out>(line: &mut LineText, kept: &[LineText], out: &mut O) -> Result<(), PutFault>
+    requires open { IsTrue (O.is_open out.old) }
+    requires front { line.old.is_open ≡ true }
+    ensures put { Puts O.Out out.old out.new
+        (flat_map (λ back. text_of line.old ++ text_of back) kept.now) result }
+    ensures same { OnOk result (text_of line.new ≡ text_of line.old) }
+    ensures front { OnOk result (line.new.is_open ≡ true) }
+{
+    for back in kept {
+        put_line(line, &back.as_slice(), out)?;
+    }
+    Ok(())
+}
+
+// Puts a line for each second, behind the front of the first, which stands in it where it has room.
+fn put_behind<A: Copy, B: Listed, F: LineHalves<A, B::Item>, O: Out>(
     first: &A,
-    front: &LineText,
-    second: &B,
-    back: Option<&LineText>,
+    line: &mut LineText,
+    seconds: &B,
     form: &F,
     out: &mut O,
 ) -> Result<(), PutFault>
     requires open { IsTrue (O.is_open out.old) }
-    requires front { IsHalf (F.front form.now first.now) front.now }
-    requires back { IfSome back (λ t. IsHalf (F.back form.now second.now) t.now) }
+    requires front { IsHalf (F.front form.now first.now) line.old }
     ensures { Puts O.Out out.old out.new
-        (F.front form.now first.now ++ F.back form.now second.now) result }
+        (flat_map (λ b. F.front form.now first.now ++ F.back form.now b) (B.items seconds.now)) result }
 {
-    if !front.is_open() {
-        return put_apart(first, second, form, out);
+    let mut rest = seconds.copy();
+    while let Some(second) = rest.next() {
+        let pair = Pair {
+            first,
+            second: &second,
+            form,
+        };
+        pair.put_line(line, out)?;
     }
-    let mut line = *front;
-    match put_second(second, back, form, &mut line) {
-        Ok(()) => out.put(line.as_slice()),
-        Err(_) => put_apart(first, second, form, out),
+    Ok(())
+}
+
+// A pair, and the form in which its line is written.
+#[derive(Drop)]
+struct Pair<'a, A, B, F> {
+    first: &'a A,
+    second: &'a B,
+    form: &'a F,
+}
+
+impl<'a, A, B, F: LineHalves<A, B>> Pair<'a, A, B, F> {
+    // Puts its line, whose front stands there already where it has room.
+    #[inline]
+    fn put_line<O: Out>(&self, line: &mut LineText, out: &mut O) -> Result<(), PutFault>
+        requires open { IsTrue (O.is_open out.old) }
+        requires front { IsHalf (F.front self.now.form.now self.now.first.now) line.old }
+        ensures put { Puts O.Out out.old out.new (F.front self.now.form.now self.now.first.now
+            ++ F.back self.now.form.now self.now.second.now) result }
+        ensures front { OnOk result (IsHalf (F.front self.now.form.now self.now.first.now) line.new) }
+    {
+        if line.is_open() {
+            put_line(line, self, out)
+        } else {
+            self.put_apart(out)
+        }
+    }
+
+    // The halves of a line that has no room are put one by one.
+    #[cold]
+    fn put_apart<O: Out>(&self, out: &mut O) -> Result<(), PutFault>
+        requires { IsTrue (O.is_open out.old) }
+        ensures { Puts O.Out out.old out.new (F.front self.now.form.now self.now.first.now
+            ++ F.back self.now.form.now self.now.second.now) result }
+    {
+        self.form.put_front(self.first, out)?;
+        self.form.put_back(self.second, out)
     }
 }
 
-// Puts the back of a second, as it was kept.
+// What its line ends with.
+impl<'a, A, B, F: LineHalves<A, B>> Piece for Pair<'a, A, B, F> {
+    ghost text = { λ p. F.back p.form.now p.second.now };
+
+    #[inline]
+    fn put_into<O: Out>(&self, out: &mut O) -> Result<(), PutFault> {
+        self.form.put_back(self.second, out)
+    }
+}
+
+// Puts the line that has the back behind the front that stands in it, by one put where it has room. The front stays.
 #[inline]
-fn put_second<A, B, F: LineHalves<A, B>, O: Out>(
-    second: &B,
-    back: Option<&LineText>,
-    form: &F,
-    out: &mut O,
-) -> Result<(), PutFault>
+fn put_line<P: Piece, O: Out>(line: &mut LineText, back: &P, out: &mut O) -> Result<(), PutFault>
     requires open { IsTrue (O.is_open out.old) }
-    requires back { IfSome back (λ t. IsHalf (F.back form.now second.now) t.now) }
-    ensures { Puts O.Out out.old out.new (F.back form.now second.now) result }
+    requires front { line.old.is_open ≡ true }
+    ensures put { Puts O.Out out.old out.new (text_of line.old ++ P.text back.now) result }
+    ensures same { OnOk result (text_of line.new ≡ text_of line.old) }
+    ensures front { OnOk result (line.new.is_open ≡ true) }
 {
-    match back {
-        Some(text) if text.is_open() => out.put(text.as_slice()),
-        _ => form.put_back(second, out),
+    let end = line.end();
+    match back.put_into(line) {
+        Ok(()) => {
+            out.put(line.as_slice())?;
+            line.cut_back(end);
+            Ok(())
+        }
+        Err(_) => {
+            line.cut_back(end);
+            out.put(line.as_slice())?;
+            back.put_into(out)
+        }
     }
-}
-
-// The halves of a line that has no room are put one by one.
-#[cold]
-fn put_apart<A, B, F: LineHalves<A, B>, O: Out>(
-    first: &A,
-    second: &B,
-    form: &F,
-    out: &mut O,
-) -> Result<(), PutFault>
-    requires { IsTrue (O.is_open out.old) }
-    ensures { Puts O.Out out.old out.new
-        (F.front form.now first.now ++ F.back form.now second.now) result }
-{
-    form.put_front(first, out)?;
-    form.put_back(second, out)
 }

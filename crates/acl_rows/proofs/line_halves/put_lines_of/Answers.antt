@@ -1,64 +1,28 @@
-use Rattle.std.proofs.Common.{List, [], ◌++◌, flat_map, length, refl, ap, sym, subst, arith}
+use Rattle.std.proofs.Common.{◌++◌, flat_map, refl, ap, sym, ◌∙◌}
 use Rattle.std.proofs.lemmas.Result.{err_from_is_err_and}
-use Rattle.acl_text.proofs.Putting.{goes_on, puts-nothing, stops}
-use Rattle.acl_rows.specs.declared.line_texts.LineText.{LineText}
-use Rattle.acl_rows.specs.LineHalfSteps.{AreHalves}
-use Rattle.acl_rows.proofs.HalfLaws.{first_half, rest_halves}
-use Rattle.acl_rows.proofs.PutLaws.{all_put, first_text, one_put, retold}
+use Rattle.acl_text.proofs.Putting.{goes_on, stops}
+use Rattle.acl_rows.specs.LineHalfSteps.{text_of}
+use Rattle.acl_rows.proofs.HalfLaws.{lines_in_two}
+use Rattle.acl_rows.proofs.PutLaws.{retold}
 use Rattle.acl_rows.proofs.line_halves.put_lines_of.Goals as goal
 
-pub loop-second-init : goal.loop-second-init
-loop-second-init g c =
-    let f = λ (b : g.row.B-Item.Denot). g.F.LineHalves.front c.args.form.now c.args.first.now ++ g.F.LineHalves.back c.args.form.now b in
-    let P : List g.row.B-Item.Denot → Type 0 = λ xs. AreHalves (g.F.LineHalves.back c.args.form.now) xs c.args.backs.now in
-    record {
-      text = [];
-      put = puts-nothing c.args.out.now g.met.O.Out.rest_same c.requires.open;
-      whole = ap (flat_map f) c.copy-rest.ensures;
-      halves = subst P (sym c.copy-rest.ensures) c.requires.kept;
-    }
-
-pub put_pair-requires-clause-open : goal.put_pair-requires-clause-open
-put_pair-requires-clause-open g c = c.loop-second.invariant.put.opened
-
-pub put_pair-requires-clause-back : goal.put_pair-requires-clause-back
-put_pair-requires-clause-back g c =
-    first_half (g.F.LineHalves.back c.args.form.now) (g.B.Listed.items c.loop-second.rest) (g.B.Listed.items c.next.new.self) c.in-Some.second
-    c.loop-second.kept.now c.first_text.result c.loop-second.invariant.halves c.in-Some.ensures.some c.first_text.ensures
-
-pub returns-in_err-put_pair : goal.returns-in_err-put_pair
-returns-in_err-put_pair g c =
-    let f = λ (b : g.row.B-Item.Denot). g.F.LineHalves.front c.args.form.now c.args.first.now ++ g.F.LineHalves.back c.args.form.now b in
-    let old = g.B.Listed.items c.loop-second.rest in
-    let new = g.B.Listed.items c.next.new.self in
-    let held = c.loop-second.invariant in
+pub returns-in_err-put_kept : goal.returns-in_err-put_kept
+returns-in_err-put_kept g c =
+    let front = g.F.LineHalves.front c.args.form.now c.args.first.now in
+    let back = g.F.LineHalves.back c.args.form.now in
+    let lines = flat_map (λ b. front ++ back b) (g.B.Listed.items c.args.left.now) in
+    let held = c.front_text-line.ensures (sym c.is_open.ensures ∙ c.if-not-is_open.false) in
+    let whole = ap (λ t. flat_map (λ k. t ++ text_of k) c.args.kept.now ++ lines) held
+    ∙ lines_in_two front back (g.B.Listed.items c.args.seconds.now) (g.B.Listed.items c.args.left.now) c.args.kept.now c.requires.halves in
     let p = err_from_is_err_and c.from_residual.result c.from_residual.ensures.1 in
-    let whole = one_put held.text (f c.in-Some.second) (flat_map f new) (flat_map f old) (flat_map f (g.B.Listed.items c.args.seconds.now)) held.whole
-    (first_text f old new c.in-Some.second c.in-Some.ensures.some) in
-    rw (p.1, p.2) (retold whole (stops (flat_map f new) (goes_on g.met.O.Out.rest_goes_on held.put c.in_err-put_pair.ensures) refl))
-
-pub loop-second-smaller : goal.loop-second-smaller
-loop-second-smaller g c = omega (arith, ap (λ (xs : List g.row.B-Item.Denot). length xs) c.in-Some.ensures.some)
-
-pub loop-second-preserved : goal.loop-second-preserved
-loop-second-preserved g c =
-    let f = λ (b : g.row.B-Item.Denot). g.F.LineHalves.front c.args.form.now c.args.first.now ++ g.F.LineHalves.back c.args.form.now b in
-    let old = g.B.Listed.items c.loop-second.rest in
-    let new = g.B.Listed.items c.next.new.self in
-    let held = c.loop-second.invariant in
-    let P : List LineText → Type 0 = λ ts. AreHalves (g.F.LineHalves.back c.args.form.now) new ts in
-    record {
-      text = held.text ++ f c.in-Some.second;
-      put = goes_on g.met.O.Out.rest_goes_on held.put c.in_ok-put_pair.ensures;
-      whole = one_put held.text (f c.in-Some.second) (flat_map f new) (flat_map f old) (flat_map f (g.B.Listed.items c.args.seconds.now)) held.whole
-          (first_text f old new c.in-Some.second c.in-Some.ensures.some);
-      halves = subst P (sym c.behind_first-kept.ensures) (rest_halves (g.F.LineHalves.back c.args.form.now) old new c.in-Some.second
-          c.loop-second.kept.now held.halves c.in-Some.ensures.some);
-    }
+    rw (p.1, p.2) (retold whole (stops lines c.in_err-put_kept.ensures.put refl))
 
 pub returns : goal.returns
 returns g c =
-    let f = λ (b : g.row.B-Item.Denot). g.F.LineHalves.front c.args.form.now c.args.first.now ++ g.F.LineHalves.back c.args.form.now b in
-    let held = c.loop-second.invariant in
-    retold (all_put held.text (flat_map f (g.B.Listed.items c.loop-second.rest)) (flat_map f (g.B.Listed.items c.args.seconds.now)) held.whole
-    (ap (flat_map f) c.in_default.ensures.none.0)) held.put
+    let front = g.F.LineHalves.front c.args.form.now c.args.first.now in
+    let back = g.F.LineHalves.back c.args.form.now in
+    let lines = flat_map (λ b. front ++ back b) (g.B.Listed.items c.args.left.now) in
+    let held = c.front_text-line.ensures (sym c.is_open.ensures ∙ c.if-not-is_open.false) in
+    let whole = ap (λ t. flat_map (λ k. t ++ text_of k) c.args.kept.now ++ lines) held
+    ∙ lines_in_two front back (g.B.Listed.items c.args.seconds.now) (g.B.Listed.items c.args.left.now) c.args.kept.now c.requires.halves in
+    retold whole (goes_on g.met.O.Out.rest_goes_on c.in_ok-put_kept.ensures.put c.put_behind-2.ensures)
