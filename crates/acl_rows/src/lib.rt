@@ -14,6 +14,7 @@ mod laws;
 mod line_halves;
 mod line_texts;
 mod listed;
+mod listed_rows;
 mod named;
 mod pieces;
 mod port_ranges;
@@ -37,6 +38,7 @@ pub use laws::{
 };
 pub use line_halves::{LineHalves, put_pairs};
 pub use listed::{EachListed, Listed, has_none, put_listed};
+pub use listed_rows::ListedRows;
 pub use named::{Named, have_distinct_names};
 pub use pieces::{Address, FreeText, Number, OneWord, Piece, Wildcard, Words, put_words};
 pub use port_ranges::{PortRange, RangeWords, are_port_ranges, is_port_range};

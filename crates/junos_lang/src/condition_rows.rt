@@ -1,17 +1,17 @@
-ghost use Rattle.std.specs.Prelude.{◌≡◌, ◌∷◌, [], codes};
+ghost use Rattle.std.specs.Prelude.{◌≡◌, ◌∷◌, ◌++◌, [], codes};
+ghost use Rattle.acl_text.specs.AddressTexts.{prefix_text};
 ghost use Rattle.acl_rows.specs.Rows.{row};
 ghost use Rattle.acl_rows.specs.RuleParts.{is_empty};
 ghost use Rattle.junos_lang.specs.ConditionSteps.{last_rows, value_rows};
 ghost use Rattle.junos_lang.specs.declared.conditions.Condition.TheVariants.{SourcePort, DestinationPort, IcmpType, IcmpCode};
-ghost use Rattle.junos_lang.specs.Texts.{address_rows, closing, condition_word, end_word, from_rows, list_row, list_rows, prefix_row, range_word, test_rows, test_words};
+ghost use Rattle.junos_lang.specs.Texts.{address_rows, closing, condition_word, end_word, from_rows, list_row, list_rows, range_word, test_rows, test_words};
 
 use crate::conditions::Condition;
 use crate::documents::JTest;
 use crate::filter_rows::{Closing, FixedLine, put_word};
 use acl_packet::{Family, Prefix};
 use acl_rows::{
-    EachListed, EachWord, End, Listed, OneWord, Piece, Row, RowForm, Rows, WordForm, Words,
-    has_none,
+    EachWord, End, Listed, ListedRows, OneWord, Piece, Row, Rows, WordForm, Words, has_none,
 };
 use acl_text::{Out, PutFault};
 
@@ -213,7 +213,8 @@ impl<'a, A: Listed<Item = Prefix>> Rows for AddressRows<'a, A> {
             first: end_word(self.end),
             rest: &[b"{"],
         };
-        let prefixes = EachListed {
+        let prefixes = ListedRows {
+            indent: 24,
             items: self.prefixes.copy(),
             form: InBlock,
         };
@@ -237,21 +238,16 @@ fn end_word(end: End) -> &'static [u8]
     }
 }
 
-// The prefixes of a block, a row each.
+// A prefix of a block, as the word of its row.
 #[derive(Drop)]
 struct InBlock;
 
-impl RowForm<Prefix> for InBlock {
-    ghost item_rows = { λ f p. prefix_row p ∷ [] };
+impl WordForm<Prefix> for InBlock {
+    ghost item_text = { λ f p. prefix_text p ++ codes ";" };
 
-    fn put_item<O: Out>(&self, prefix: &Prefix, out: &mut O) -> Result<(), PutFault> {
-        let none: &[&[u8]] = &[];
-        let row = Row {
-            indent: 24,
-            first: (*prefix, b";".as_slice()),
-            rest: none,
-        };
-        row.put_rows(out)
+    #[inline]
+    fn put_item_into<O: Out>(&self, prefix: &Prefix, out: &mut O) -> Result<(), PutFault> {
+        (*prefix, b";".as_slice()).put_into(out)
     }
 }
 

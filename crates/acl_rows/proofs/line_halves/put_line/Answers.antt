@@ -1,4 +1,4 @@
-use Rattle.std.proofs.Common.{◌≡◌, ◌++◌, append-nil, take, refl, ap, ◌∙◌}
+use Rattle.std.proofs.Common.{◌++◌, append-nil, take, refl, ap, ◌∙◌}
 use Rattle.std.proofs.lemmas.Option.{same_Some}
 use Rattle.std.proofs.lemmas.Result.{err_from_is_err_and, on_ok_weaker}
 use Rattle.acl_text.proofs.Putting.{goes_on, stops}
