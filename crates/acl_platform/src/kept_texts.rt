@@ -7,6 +7,16 @@ use std::alloc::{AllocError, Global};
 // So many bytes of text are kept at most.
 const MOST_BYTES: usize = 1_048_576;
 
+// Room for all that is kept, so that no text is copied where it grows. A page of it is taken where it is first written.
+fn room_for_text(alloc: Global) -> Vec<u8>
+    ensures { result.items ≡ [] }
+{
+    match Vec::with_capacity(alloc, MOST_BYTES) {
+        Ok(room) => room,
+        Err(_) => Vec::new(alloc),
+    }
+}
+
 /// A text that is kept, to be put again line by line. It refuses what it has no room or no memory for,
 /// and from then on nothing more may be put.
 #[derive(Drop)]
@@ -39,7 +49,7 @@ impl KeptText {
         ensures open { result.is_open ≡ true }
     {
         KeptText {
-            bytes: Vec::new(alloc),
+            bytes: room_for_text(alloc),
             is_open: true,
             lines: LineLengths {
                 ended: Vec::new(alloc),
