@@ -10,6 +10,7 @@ pub mod FrontLaws
 pub mod Gaps
 pub mod GroupSteps
 pub mod Groups
+mod HexTable
 pub mod ListLaws
 pub mod NoteLaws
 mod OctetTable

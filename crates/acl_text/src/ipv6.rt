@@ -1,7 +1,8 @@
 ghost use Rattle.std.specs.Prelude.{◌≡◌, ℕ, ◌+◌, ◌-◌, ◌*◌, ◌^◌, ◌<◌, ◌≤◌, length, option_map, IfSome};
-ghost use Rattle.acl_text.specs.Ipv6.{hex_value, hex_worth, group_in, last_in, groups_in, side_in, gap_at, whole_in, short_in, ipv6_in};
+ghost use Rattle.acl_text.specs.Ipv6.{hex_worth, group_in, last_in, groups_in, side_in, gap_at, whole_in, short_in, ipv6_in};
 
 use crate::cuts::split_at_byte;
+use crate::hex_digits::hex_value;
 use crate::ipv4::read_ipv4;
 
 /// The address of the text, as a number.
@@ -86,7 +87,12 @@ fn read_groups(left: u8, dotted: bool, value: u128, text: &[u8]) -> Option<(u8, 
     match split_at_byte(text, b':') {
         Some((front, rest)) => {
             let group = read_group(front)?;
-            read_groups(left - 1, dotted, behind(left, value, group), rest)
+            read_groups(
+                left - 1,
+                dotted,
+                behind(left, value, u128::from(group)),
+                rest,
+            )
         }
         None => read_last(left - 1, dotted, value, text),
     }
@@ -110,7 +116,7 @@ fn read_last(left: u8, dotted: bool, value: u128, text: &[u8]) -> Option<(u8, u1
     ensures fits { IfSome result (λ r. (r.0 ≤ 8) × (r.1 < 65536 ^ (8 - r.0))) }
 {
     if let Some(group) = read_group(text) {
-        return Some((left, behind(left + 1, value, group)));
+        return Some((left, behind(left + 1, value, u128::from(group))));
     }
     if !dotted || left == 0 {
         return None;
@@ -121,7 +127,7 @@ fn read_last(left: u8, dotted: bool, value: u128, text: &[u8]) -> Option<(u8, u1
 }
 
 #[tactic(auto, unfolding(crate::specs::Ipv6::group_in))]
-fn read_group(text: &[u8]) -> Option<u128>
+fn read_group(text: &[u8]) -> Option<u32>
     ensures exact { result ≡ group_in text.now }
     ensures small { IfSome result (λ g. g < 65536) }
 {
@@ -131,26 +137,14 @@ fn read_group(text: &[u8]) -> Option<u128>
     read_hex(text)
 }
 
-fn read_hex(text: &[u8]) -> Option<u128>
+fn read_hex(text: &[u8]) -> Option<u32>
     requires { length text.now ≤ 4 }
     ensures exact { result ≡ hex_worth 0 text.now }
     ensures small { IfSome result (λ g. g < 65536) }
 {
-    let mut value: u128 = 0;
+    let mut value: u32 = 0;
     for c in text {
         value = value * 16 + hex_value(*c)?;
     }
     Some(value)
-}
-
-fn hex_value(c: u8) -> Option<u128>
-    ensures exact { result ≡ hex_value c }
-    ensures small { IfSome result (λ d. d < 16) }
-{
-    match c {
-        b'0'..=b'9' => Some(u128::from(c - 48)),
-        b'a'..=b'f' => Some(u128::from(c - 87)),
-        b'A'..=b'F' => Some(u128::from(c - 55)),
-        _ => None,
-    }
 }

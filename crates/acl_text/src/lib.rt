@@ -6,6 +6,7 @@ mod cuts;
 mod decimals;
 mod faults;
 mod file_lines;
+mod hex_digits;
 mod ipv4;
 mod ipv4_fronts;
 mod ipv4_text;
