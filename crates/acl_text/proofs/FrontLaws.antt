@@ -5,8 +5,10 @@ use Rattle.std.specs.Char.{is_ascii_digit}
 use Rattle.std.proofs.lemmas.Bool.{and_from}
 use Rattle.std.proofs.lemmas.List.{append_assoc, append-nil}
 use Rattle.acl_packet.specs.declared.addresses.Family.TheVariants.{V4}
+use Rattle.acl_packet.specs.declared.addresses.Family.{Family}
+use Rattle.acl_packet.specs.Addresses.{width_of}
 use Rattle.acl_text.specs.AddressTexts.{IsPrefixText, block_of}
-use Rattle.acl_text.specs.Fronts.{IsByteFront, IsDigitFront, IsIpv4Front, IsLength}
+use Rattle.acl_text.specs.Fronts.{IsAddressFront, IsByteFront, IsDigitFront, IsLength}
 use Rattle.acl_text.specs.Ipv4.{address_of}
 
 -- ---- numbers of one digit to three
@@ -70,9 +72,9 @@ four_parts w x y z rest =
     sym (append_assoc w (46 ∷ (x ++ 46 ∷ (y ++ 46 ∷ z))) rest
     ∙ ap (λ t. w ++ 46 ∷ t) (append_assoc x (46 ∷ (y ++ 46 ∷ z)) rest ∙ ap (λ t. x ++ 46 ∷ t) (append_assoc y (46 ∷ z) rest)))
 
-pub address_front : (text r s t u v x rest : List ℕ) (a b c d : ℕ) → IsByteFront text r a → r ≡ 46 ∷ s → IsByteFront s t b → t ≡ 46 ∷ u
-    → IsByteFront u v c → v ≡ 46 ∷ x → IsByteFront x rest d → IsIpv4Front text rest (address_of a b c d)
-address_front text r s t u v x rest a b c d one e two f three g four = record {
+pub ipv4_front : (text r s t u v x rest : List ℕ) (a b c d : ℕ) → IsByteFront text r a → r ≡ 46 ∷ s → IsByteFront s t b → t ≡ 46 ∷ u
+    → IsByteFront u v c → v ≡ 46 ∷ x → IsByteFront x rest d → IsAddressFront V4 text rest (address_of a b c d)
+ipv4_front text r s t u v x rest a b c d one e two f three g four = record {
   front = one.front ++ 46 ∷ (two.front ++ 46 ∷ (three.front ++ 46 ∷ four.front));
   text_is = joined text one.front r s 46 one.text_is e
       ∙ ap (λ k. one.front ++ 46 ∷ k) (joined s two.front t u 46 two.text_is f
@@ -96,30 +98,30 @@ address_front text r s t u v x rest a b c d one e two f three g four = record {
   };
 }
 
-pub length_text : (text rest end : List ℕ) (n : ℕ) → text ≡ 47 ∷ rest → IsByteFront rest end n → end ≡ [] → n ≤ 32 → IsLength text n
-length_text text rest end n e f none small = record {
-  word = f.front;
-  text_is = e ∙ ap (λ t. 47 ∷ t) (f.text_is ∙ ap (λ t. f.front ++ t) none ∙ append-nil f.front);
-  number_is = f.byte_is.number;
+pub length_text : (f : Family) (text rest end : List ℕ) (n : ℕ) → text ≡ 47 ∷ rest → IsByteFront rest end n → end ≡ [] → n ≤ width_of f → IsLength f text n
+length_text f text rest end n e h none small = record {
+  word = h.front;
+  text_is = e ∙ ap (λ t. 47 ∷ t) (h.text_is ∙ ap (λ t. h.front ++ t) none ∙ append-nil h.front);
+  number_is = h.byte_is.number;
   small = small;
 }
 
 -- ---- prefixes
 
-pub whole_text : (word rest : List ℕ) (n : ℕ) → IsIpv4Front word rest n → rest ≡ [] → IsPrefixText word (block_of V4 n 32)
-whole_text word rest n f none = record {
-  address = f.front;
+pub whole_text : (f : Family) (word rest : List ℕ) (n : ℕ) → IsAddressFront f word rest n → rest ≡ [] → IsPrefixText word (block_of f n (width_of f))
+whole_text f word rest n h none = record {
+  address = h.front;
   value = n;
-  address_is = f.address_is;
-  length_is = inl (f.text_is ∙ ap (λ t. f.front ++ t) none ∙ append-nil f.front, refl);
+  address_is = h.address_is;
+  length_is = inl (h.text_is ∙ ap (λ t. h.front ++ t) none ∙ append-nil h.front, refl);
   cleared = refl;
 }
 
-pub block_text : (word rest : List ℕ) (n len : ℕ) → IsIpv4Front word rest n → IsLength rest len → IsPrefixText word (block_of V4 n len)
-block_text word rest n len f l = record {
-  address = f.front;
+pub block_text : (f : Family) (word rest : List ℕ) (n len : ℕ) → IsAddressFront f word rest n → IsLength f rest len → IsPrefixText word (block_of f n len)
+block_text f word rest n len h l = record {
+  address = h.front;
   value = n;
-  address_is = f.address_is;
-  length_is = inr (l.word, joined word f.front rest l.word 47 f.text_is l.text_is, l.number_is, l.small);
+  address_is = h.address_is;
+  length_is = inr (l.word, joined word h.front rest l.word 47 h.text_is l.text_is, l.number_is, l.small);
   cleared = refl;
 }

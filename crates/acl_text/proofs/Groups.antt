@@ -12,7 +12,7 @@ use Rattle.acl_text.specs.Cuts.{cut_at, has_byte}
 use Rattle.acl_text.specs.Ipv4.{IsIpv4, ipv4_in}
 use Rattle.acl_text.specs.Ipv6.{hex_value, hex_worth, IsGroup, IsGroups, IsSide, grouped, group_in, last_in, groups_in, side_in}
 use Rattle.acl_packet.proofs.ChoiceLaws.{chosen, guarded}
-use Rattle.acl_text.proofs.OptionStepLaws.{bound, mapped}
+use Rattle.acl_text.proofs.OptionStepLaws.{bound, bound_on, mapped}
 use Rattle.acl_text.proofs.CutLaws.{cut-found, cut-again, cut-none}
 use Rattle.acl_text.proofs.Dotted.{ipv4-is, ipv4-in, ipv4-lacks, ipv4-nonempty}
 use Rattle.acl_text.proofs.GroupSteps.{step_more, step_last}
@@ -25,6 +25,10 @@ none-unless (Some x) h = absurd (h x refl)
 
 hex-small : (b d : ℕ) → hex_value b ≡ Some d → d < 16
 hex-small b d e = grind (arith, nat_tests)
+
+-- one digit more
+pub hex-step : (v d n b : ℕ) (bs : List ℕ) → hex_value b ≡ Some d → hex_worth (v * 16 + d) bs ≡ Some n → hex_worth v (b ∷ bs) ≡ Some n
+hex-step v d n b bs h k = bound_on (hex_value b) d _ n h k
 
 hex-below : (v i n : ℕ) (bs : List ℕ) → v < 16 ^ i → hex_worth v bs ≡ Some n → n < 16 ^ (i + length bs)
 hex-below v i n [] h e =

@@ -8,6 +8,7 @@ pub mod DigitLaws
 pub mod Dotted
 pub mod FrontLaws
 pub mod Gaps
+pub mod GroupFronts
 pub mod GroupSteps
 pub mod Groups
 mod HexTable

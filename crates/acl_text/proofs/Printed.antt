@@ -9,10 +9,9 @@ use Rattle.std.proofs.lemmas.List.{length-append, length-take-le, length-drop, t
 use Rattle.std.proofs.lemmas.Nat.{pow-add}
 use Rattle.acl_text.specs.Cuts.{has_byte}
 use Rattle.acl_text.specs.Ipv6.{hex_value, hex_worth, IsGroup, IsGroups, IsSide, grouped, IsIpv6, hex_digit, group_text, groups_text, groups_of, zeros, longest_run, shortened, ipv6_text}
-use Rattle.acl_text.proofs.OptionStepLaws.{bound_on}
 use Rattle.acl_text.proofs.CutLaws.{has-append}
 use Rattle.acl_text.proofs.Dotted.{ipv4-small, ipv4-lacks}
-use Rattle.acl_text.proofs.Groups.{group-small, group-lacks, has-there, groups-nonempty}
+use Rattle.acl_text.proofs.Groups.{hex-step, group-small, group-lacks, has-there, groups-nonempty}
 
 -- ---- how large an address is
 
@@ -127,7 +126,7 @@ hex-digit d h = elim (cases_lt d 10) [
     high d l h = grind (arith, nat_tests)
 
 hex-next : (v d n : ℕ) (bs : List ℕ) → d < 16 → hex_worth (v * 16 + d) bs ≡ Some n → hex_worth v (hex_digit d ∷ bs) ≡ Some n
-hex-next v d n bs h k = bound_on _ d _ n (hex-digit d h) k
+hex-next v d n bs h k = hex-step v d n (hex_digit d) bs (hex-digit d h) k
 
 is-one : (a n : ℕ) → a < 16 → n ≡ a → IsGroup (hex_digit a ∷ []) n
 is-one a n h e = record {

@@ -1,8 +1,12 @@
--- Texts that begin with a digit, a number of a byte, or an IPv4 address, and what stands behind.
-use Rattle.std.specs.Prelude.{◌≡◌, ℕ, ◌+◌, ◌≤◌, true, List, ◌∷◌, ◌++◌}
+-- Texts that begin with a digit, a number of a byte, groups of hexadecimal digits, or an address, and what stands behind.
+use Rattle.std.specs.Prelude.{◌≡◌, ℕ, ◌+◌, ◌≤◌, Bool, true, List, ◌∷◌, ◌++◌, length, Some}
 use Rattle.std.specs.Char.{is_ascii_digit}
+use Rattle.acl_packet.specs.declared.addresses.Family.{Family}
+use Rattle.acl_packet.specs.Addresses.{width_of}
 use Rattle.acl_packet.specs.Decimals.{IsNumber}
-use Rattle.acl_text.specs.Ipv4.{IsByte, IsIpv4}
+use Rattle.acl_text.specs.AddressTexts.{IsAddressText}
+use Rattle.acl_text.specs.Ipv4.{IsByte}
+use Rattle.acl_text.specs.Ipv6.{hex_value, IsGroup, IsGroups, IsSide, grouped}
 
 pub record IsDigitFront (text rest : List ℕ) (n : ℕ) : Type 0 where
   pub byte : ℕ
@@ -16,14 +20,49 @@ pub record IsByteFront (text rest : List ℕ) (n : ℕ) : Type 0 where
   pub text_is : text ≡ front ++ rest
   pub byte_is : IsByte front n
 
-pub record IsIpv4Front (text rest : List ℕ) (n : ℕ) : Type 0 where
+pub record IsHexFront (text rest : List ℕ) (n : ℕ) : Type 0 where
+  pub byte : ℕ
+  pub text_is : text ≡ byte ∷ rest
+  pub digit : hex_value byte ≡ Some n
+
+pub record IsGroupFront (text rest : List ℕ) (n : ℕ) : Type 0 where
   pub front : List ℕ
   pub text_is : text ≡ front ++ rest
-  pub address_is : IsIpv4 front n
+  pub group_is : IsGroup front n
 
--- `/` (47) and the length of an IPv4 prefix.
-pub record IsLength (text : List ℕ) (n : ℕ) : Type 0 where
+-- `:` (58) and a group.
+pub record IsNextGroup (text rest : List ℕ) (n : ℕ) : Type 0 where
+  pub next : List ℕ
+  pub text_is : text ≡ 58 ∷ next
+  pub group_is : IsGroupFront next rest n
+
+-- Groups with `:` before each, which go on behind a group: how many more might have come before them and behind
+-- them, and the number with that of the groups before them.
+pub record GroupsGoOn (text rest : List ℕ) (left value left_behind value_behind : ℕ) : Type 0 where
+  pub front : List ℕ
+  pub groups : List ℕ
+  pub text_is : text ≡ front ++ rest
+  pub go_on : (dotted : Bool) (bs : List ℕ) (g : ℕ) → IsGroup bs g → IsGroups dotted (bs ++ front) (g ∷ groups)
+  pub counted : length groups + left_behind ≡ left
+  pub number : value_behind ≡ grouped value groups
+
+-- One side of `::`, or all groups of an address: how many more there might have been, and their number.
+pub record IsSideFront (text rest : List ℕ) (left value : ℕ) : Type 0 where
+  pub front : List ℕ
+  pub groups : List ℕ
+  pub text_is : text ≡ front ++ rest
+  pub side_is : (dotted : Bool) → IsSide dotted front groups
+  pub counted : length groups + left ≡ 8
+  pub number : value ≡ grouped 0 groups
+
+pub record IsAddressFront (family : Family) (text rest : List ℕ) (n : ℕ) : Type 0 where
+  pub front : List ℕ
+  pub text_is : text ≡ front ++ rest
+  pub address_is : IsAddressText family front n
+
+-- `/` (47) and the length of a prefix.
+pub record IsLength (family : Family) (text : List ℕ) (n : ℕ) : Type 0 where
   pub word : List ℕ
   pub text_is : text ≡ 47 ∷ word
   pub number_is : IsNumber word n
-  pub small : n ≤ 32
+  pub small : n ≤ width_of family

@@ -1,9 +1,6 @@
 ghost use Rattle.std.specs.Prelude.{◌≡◌, ◌∷◌, IfSome};
-ghost use Rattle.acl_text.specs.AddressTexts.{IsPrefixText};
-ghost use Rattle.acl_text.specs.Fronts.{IsByteFront, IsDigitFront, IsIpv4Front, IsLength};
-
-use crate::prefixes::block_of;
-use acl_packet::{Family, Prefix};
+ghost use Rattle.acl_packet.specs.declared.addresses.Family.TheVariants.{V4};
+ghost use Rattle.acl_text.specs.Fronts.{IsAddressFront, IsByteFront, IsDigitFront};
 
 // The digit that the text begins with, and what stands behind it.
 #[inline(always)]
@@ -16,10 +13,10 @@ fn digit_front(text: &[u8]) -> Option<(u32, &[u8])>
     }
 }
 
-// The number of a byte that the text begins with, and what stands behind it.
+/// The number of a byte that the text begins with, and what stands behind it.
 #[inline(always)]
 #[tactic(auto, using(crate::proofs::FrontLaws::one_digit, crate::proofs::FrontLaws::two_digits, crate::proofs::FrontLaws::three_digits))]
-fn byte_front(text: &[u8]) -> Option<(u32, &[u8])>
+pub(crate) fn byte_front(text: &[u8]) -> Option<(u32, &[u8])>
     ensures { IfSome result (λ r. IsByteFront text.now r.1.now r.0) }
 {
     let (first, rest) = digit_front(text)?;
@@ -40,7 +37,8 @@ fn byte_front(text: &[u8]) -> Option<(u32, &[u8])>
     }
 }
 
-fn behind_byte(text: &[u8], byte: u8) -> Option<&[u8]>
+/// What stands behind the byte, where the text begins with it.
+pub(crate) fn behind_byte(text: &[u8], byte: u8) -> Option<&[u8]>
     ensures { IfSome result (λ rest. text.now ≡ byte ∷ rest.now) }
 {
     match text {
@@ -49,35 +47,13 @@ fn behind_byte(text: &[u8], byte: u8) -> Option<&[u8]>
     }
 }
 
-// The address that the text begins with, and what stands behind it.
-fn address_front(text: &[u8]) -> Option<(u32, &[u8])>
-    ensures { IfSome result (λ r. IsIpv4Front text.now r.1.now r.0) }
+/// The IPv4 address that the text begins with, and what stands behind it.
+pub(crate) fn ipv4_front(text: &[u8]) -> Option<(u32, &[u8])>
+    ensures { IfSome result (λ r. IsAddressFront V4 text.now r.1.now r.0) }
 {
     let (a, rest) = byte_front(text)?;
     let (b, rest) = byte_front(behind_byte(rest, b'.')?)?;
     let (c, rest) = byte_front(behind_byte(rest, b'.')?)?;
     let (d, rest) = byte_front(behind_byte(rest, b'.')?)?;
     Some((((a * 256 + b) * 256 + c) * 256 + d, rest))
-}
-
-fn read_length(text: &[u8]) -> Option<u8>
-    ensures { IfSome result (λ n. IsLength text.now n) }
-{
-    let (len, rest) = byte_front(behind_byte(text, b'/')?)?;
-    if len > 32 || !rest.is_empty() {
-        return None;
-    }
-    Some(len as u8)
-}
-
-/// The IPv4 prefix that the word spells, in one pass over its bytes. `None` says nothing.
-pub(crate) fn read_at_once(word: &[u8]) -> Option<Prefix>
-    ensures { IfSome result (λ p. IsPrefixText word.now p) }
-{
-    let (address, rest) = address_front(word)?;
-    if rest.is_empty() {
-        return Some(block_of(Family::V4, u128::from(address), 32));
-    }
-    let len = read_length(rest)?;
-    Some(block_of(Family::V4, u128::from(address), len))
 }

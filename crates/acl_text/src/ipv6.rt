@@ -49,7 +49,7 @@ fn read_short(before: &[u8], behind: &[u8]) -> Option<u128>
 }
 
 /// The number of the groups before `::`, of which `front_left` are missing, and of those behind it.
-fn join_sides(front_left: u8, front: u128, back_left: u8, back: u128) -> u128
+pub(crate) fn join_sides(front_left: u8, front: u128, back_left: u8, back: u128) -> u128
     requires front_fits { (front_left ≤ 8) × (front < 65536 ^ (8 - front_left)) }
     requires back_fits { (back_left ≤ 8) × (back < 65536 ^ (8 - back_left)) }
     requires fewer { 9 ≤ front_left + back_left }
@@ -99,7 +99,7 @@ fn read_groups(left: u8, dotted: bool, value: u128, text: &[u8]) -> Option<(u8, 
 }
 
 /// The number of the groups with one more behind them.
-fn behind(left: u8, value: u128, group: u128) -> u128
+pub(crate) fn behind(left: u8, value: u128, group: u128) -> u128
     requires some { (0 < left) × (left ≤ 8) }
     requires fits { value < 65536 ^ (8 - left) }
     requires small { group < 65536 }

@@ -7,11 +7,11 @@ ghost use Rattle.acl_text.specs.Ipv4.{ipv4_text};
 
 use crate::cuts::{contains_byte, split_at_byte};
 use crate::ipv4::{push_ipv4, read_ipv4};
-use crate::ipv4_fronts::read_at_once;
 use crate::ipv4_text::DottedText;
 use crate::ipv6::read_ipv6;
 use crate::ipv6_text::push_ipv6;
 use crate::output::{Out, PutFault};
+use crate::prefix_fronts::read_at_once;
 use crate::short::ShortText;
 use acl_packet::{Family, Prefix, read_number};
 
