@@ -75,9 +75,9 @@ go_no_further text left value = record {
   number = refl;
 }
 
-pub go_further : (text rest end : List ℕ) (left value g left_behind value_behind : ℕ) → 0 < left → IsNextGroup text rest g
-    → GroupsGoOn rest end (left - 1) (value * 65536 + g) left_behind value_behind → GroupsGoOn text end left value left_behind value_behind
-go_further text rest end left value g left_behind value_behind some h r =
+pub go_further : (text rest end : List ℕ) (left value g more left_behind value_behind : ℕ) → 0 < left → IsNextGroup text rest g → more ≡ value * 65536 + g
+    → GroupsGoOn rest end (left - 1) more left_behind value_behind → GroupsGoOn text end left value left_behind value_behind
+go_further text rest end left value g more left_behind value_behind some h e r =
     let group = h.group_is in
     record {
       front = 58 ∷ (group.front ++ r.front);
@@ -85,7 +85,7 @@ go_further text rest end left value g left_behind value_behind some h r =
       text_is = h.text_is ∙ ap (λ t. 58 ∷ t) (group.text_is ∙ ap (λ t. group.front ++ t) r.text_is ∙ sym (append_assoc group.front r.front end));
       go_on = λ dotted bs first w. inl (bs, group.front ++ r.front, refl, w, r.go_on dotted group.front g group.group_is);
       counted = omega (arith, r.counted);
-      number = r.number;
+      number = r.number ∙ ap (λ v. grouped v r.groups) e;
     }
 
 pub no_side : (text : List ℕ) → IsSideFront text text 8 0

@@ -56,29 +56,25 @@ struct Side<'a> {
 }
 
 // The groups with `:` before each that the text begins with, behind the number of those before them.
-#[tactic(auto, using(crate::proofs::GroupFronts::go_no_further, crate::proofs::GroupFronts::go_further))]
+#[inline]
+#[tactic(auto, using(crate::proofs::GroupFronts::go_no_further))]
 fn groups_behind(left: u8, value: u128, text: &[u8]) -> Side<'_>
     requires fits { (left ≤ 8) × (value < 65536 ^ (8 - left)) }
     ensures go_on { GroupsGoOn text.now result.rest.now left value result.left result.value }
     ensures fits { (result.left ≤ 8) × (result.value < 65536 ^ (8 - result.left)) }
 {
-    if left == 0 {
-        return Side {
-            left,
-            value,
-            rest: text,
+    let mut left = left;
+    let mut value = value;
+    let mut rest = text;
+    while left > 0 {
+        let Some((group, behind_group)) = next_group(rest) else {
+            break;
         };
+        value = behind(left, value, u128::from(group));
+        rest = behind_group;
+        left -= 1;
     }
-    match next_group(text) {
-        Some((group, rest)) => {
-            groups_behind(left - 1, behind(left, value, u128::from(group)), rest)
-        }
-        None => Side {
-            left,
-            value,
-            rest: text,
-        },
-    }
+    Side { left, value, rest }
 }
 
 #[tactic(auto, using(crate::proofs::GroupFronts::no_side, crate::proofs::GroupFronts::side_front))]
