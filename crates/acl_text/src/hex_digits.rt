@@ -1,4 +1,5 @@
 ghost use Rattle.std.specs.Prelude.{◌≡◌, ◌<◌, IfSome};
+ghost use Rattle.acl_text.specs.Fronts.{IsHexFront};
 ghost use Rattle.acl_text.specs.Ipv6.{hex_value};
 
 // The value of each byte that is a hexadecimal digit, and 255 of each other.
@@ -28,6 +29,21 @@ pub(crate) fn hex_value(c: u8) -> Option<u32>
     let value = VALUES[usize::from(c)];
     if value < 16 {
         Some(u32::from(value))
+    } else {
+        None
+    }
+}
+
+/// The hexadecimal digit that the text begins with, and what stands behind it.
+#[inline(always)]
+pub(crate) fn hex_front(text: &[u8]) -> Option<(u32, &[u8])>
+    ensures front { IfSome result (λ r. IsHexFront text.now r.1.now r.0) }
+    ensures small { IfSome result (λ r. r.0 < 16) }
+{
+    let (byte, rest) = text.split_first()?;
+    let value = VALUES[usize::from(*byte)];
+    if value < 16 {
+        Some((u32::from(value), rest))
     } else {
         None
     }

@@ -1,22 +1,10 @@
 ghost use Rattle.std.specs.Prelude.{◌≡◌, ◌-◌, ◌^◌, ◌<◌, ◌≤◌, IfSome};
 ghost use Rattle.acl_packet.specs.declared.addresses.Family.TheVariants.{V6};
-ghost use Rattle.acl_text.specs.Fronts.{GroupsGoOn, IsAddressFront, IsGroupFront, IsHexFront, IsNextGroup, IsSideFront};
+ghost use Rattle.acl_text.specs.Fronts.{GroupsGoOn, IsAddressFront, IsGroupFront, IsNextGroup, IsSideFront};
 
-use crate::hex_digits::hex_value;
+use crate::hex_digits::hex_front;
 use crate::ipv4_fronts::behind_byte;
 use crate::ipv6::{behind, join_sides};
-
-// The hexadecimal digit that the text begins with, and what stands behind it.
-#[inline(always)]
-fn hex_front(text: &[u8]) -> Option<(u32, &[u8])>
-    ensures front { IfSome result (λ r. IsHexFront text.now r.1.now r.0) }
-    ensures small { IfSome result (λ r. r.0 < 16) }
-{
-    match text {
-        [byte, rest @ ..] => Some((hex_value(*byte)?, rest)),
-        [] => None,
-    }
-}
 
 // The group that the text begins with, and what stands behind it.
 #[inline(always)]
