@@ -11,6 +11,7 @@ pub mod Gaps
 pub mod GroupFronts
 pub mod GroupSteps
 pub mod Groups
+pub mod HexPairs
 mod HexTable
 pub mod ListLaws
 pub mod NoteLaws

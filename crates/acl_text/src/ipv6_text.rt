@@ -1,6 +1,7 @@
 ghost use Rattle.std.specs.Prelude.{◌≡◌, ℕ, ◌+◌, ◌*◌, ◌^◌, ◌<◌, ◌≤◌, ◌++◌, length};
 ghost use Rattle.acl_text.specs.Ipv6.{hex_digit, group_text, groups_text, groups_of, zeros, longest_run, shortened, ipv6_text};
 
+use crate::hex_digits::hex_pair;
 use crate::short::ShortText;
 
 /// Adds the text of the address.
@@ -62,28 +63,21 @@ fn zero_runs(groups: &[u16]) -> ZeroRuns
     ensures front_within { result.front ≤ length groups.now }
     ensures run_within { result.before + result.run ≤ length groups.now }
 {
-    let [group, rest @ ..] = groups else {
-        return ZeroRuns {
-            front: 0,
-            before: 0,
-            run: 0,
-        };
-    };
-    let behind = zero_runs(rest);
-    let front = if *group == 0 { behind.front + 1 } else { 0 };
-    if behind.run <= front {
-        ZeroRuns {
-            front,
-            before: 0,
-            run: front,
-        }
-    } else {
-        ZeroRuns {
-            front,
-            before: behind.before + 1,
-            run: behind.run,
+    let mut at = groups.len();
+    let mut front = 0;
+    let mut before = 0;
+    let mut run = 0;
+    while at > 0 {
+        at -= 1;
+        front = if groups[at] == 0 { front + 1 } else { 0 };
+        if run <= front {
+            before = 0;
+            run = front;
+        } else {
+            before += 1;
         }
     }
+    ZeroRuns { front, before, run }
 }
 
 /// Adds the texts of the groups, with `:` between.
@@ -103,32 +97,38 @@ fn push_groups(text: &mut ShortText, groups: &[u16])
     }
 }
 
-#[tactic(auto, unfolding(crate::specs::Ipv6::group_text))]
+// The bytes of the group, of which a first one that is 0 is left out.
 fn push_group(text: &mut ShortText, group: u16)
     requires { length text.old + 4 ≤ 64 }
     ensures items { text.new ≡ text.old ++ group_text group }
     ensures len { length text.new ≤ length text.old + 4 }
 {
-    if group < 16 {
-        text.push(hex_digit(group));
-    } else if group < 256 {
-        text.push(hex_digit(group / 16));
-        text.push(hex_digit(group % 16));
-    } else if group < 4096 {
-        text.push(hex_digit(group / 256));
-        text.push(hex_digit(group / 16 % 16));
-        text.push(hex_digit(group % 16));
+    if group < 256 {
+        push_byte(text, group as u8);
     } else {
-        text.push(hex_digit(group / 4096));
-        text.push(hex_digit(group / 256 % 16));
-        text.push(hex_digit(group / 16 % 16));
-        text.push(hex_digit(group % 16));
+        push_byte(text, (group / 256) as u8);
+        text.push_all(hex_pair((group % 256) as u8));
     }
 }
 
-fn hex_digit(d: u16) -> u8
+// One digit or two.
+#[inline]
+#[tactic(auto, using(crate::proofs::HexPairs::one_digit, crate::proofs::HexPairs::two_digits))]
+fn push_byte(text: &mut ShortText, n: u8)
+    requires { length text.old + 2 ≤ 64 }
+    ensures items { text.new ≡ text.old ++ group_text n }
+    ensures len { length text.new ≤ length text.old + 2 }
+{
+    if n < 16 {
+        text.push(hex_digit(n));
+    } else {
+        text.push_all(hex_pair(n));
+    }
+}
+
+fn hex_digit(d: u8) -> u8
     requires { d < 16 }
     ensures { result ≡ hex_digit d }
 {
-    if d < 10 { 48 + d as u8 } else { 87 + d as u8 }
+    if d < 10 { 48 + d } else { 87 + d }
 }
