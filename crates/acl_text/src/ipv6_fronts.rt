@@ -44,7 +44,7 @@ struct Side<'a> {
 }
 
 // The groups with `:` before each that the text begins with, behind the number of those before them.
-#[inline]
+#[inline(always)]
 #[tactic(auto, using(crate::proofs::GroupFronts::go_no_further))]
 fn groups_behind(left: u8, value: u128, text: &[u8]) -> Side<'_>
     requires fits { (left ≤ 8) × (value < 65536 ^ (8 - left)) }
@@ -65,6 +65,7 @@ fn groups_behind(left: u8, value: u128, text: &[u8]) -> Side<'_>
     Side { left, value, rest }
 }
 
+#[inline(always)]
 #[tactic(auto, using(crate::proofs::GroupFronts::no_side, crate::proofs::GroupFronts::side_front))]
 fn side_front(text: &[u8]) -> Side<'_>
     ensures side { IsSideFront text.now result.rest.now result.left result.value }
