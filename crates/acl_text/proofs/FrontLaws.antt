@@ -1,14 +1,11 @@
 -- Texts that begin with a number of a byte, or with an IPv4 address.
-use Rattle.std.proofs.Common.{◌≡◌, ℕ, ◌+◌, ◌*◌, ◌≤◌, true, List, [], ◌∷◌, ◌++◌, refl, ap, sym, ◌∙◌, inl, inr, arith}
+use Rattle.std.proofs.Common.{◌≡◌, ℕ, ◌+◌, ◌*◌, ◌≤◌, true, List, [], ◌∷◌, ◌++◌, refl, ap, sym, ◌∙◌, arith}
 use Rattle.std.specs.Str.{all_ascii_digits}
 use Rattle.std.specs.Char.{is_ascii_digit}
 use Rattle.std.proofs.lemmas.Bool.{and_from}
-use Rattle.std.proofs.lemmas.List.{append_assoc, append-nil}
+use Rattle.std.proofs.lemmas.List.{append_assoc}
 use Rattle.acl_packet.specs.declared.addresses.Family.TheVariants.{V4}
-use Rattle.acl_packet.specs.declared.addresses.Family.{Family}
-use Rattle.acl_packet.specs.Addresses.{width_of}
-use Rattle.acl_text.specs.AddressTexts.{IsPrefixText, block_of}
-use Rattle.acl_text.specs.Fronts.{IsAddressFront, IsByteFront, IsDigitFront, IsLength}
+use Rattle.acl_text.specs.Fronts.{IsAddressFront, IsByteFront, IsDigitFront}
 use Rattle.acl_text.specs.Ipv4.{address_of}
 
 -- ---- numbers of one digit to three
@@ -96,32 +93,4 @@ ipv4_front text r s t u v x rest a b c d one e two f three g four = record {
     fourth_is = four.byte_is;
     value = refl;
   };
-}
-
-pub length_text : (f : Family) (text rest end : List ℕ) (n : ℕ) → text ≡ 47 ∷ rest → IsByteFront rest end n → end ≡ [] → n ≤ width_of f → IsLength f text n
-length_text f text rest end n e h none small = record {
-  word = h.front;
-  text_is = e ∙ ap (λ t. 47 ∷ t) (h.text_is ∙ ap (λ t. h.front ++ t) none ∙ append-nil h.front);
-  number_is = h.byte_is.number;
-  small = small;
-}
-
--- ---- prefixes
-
-pub whole_text : (f : Family) (word rest : List ℕ) (n : ℕ) → IsAddressFront f word rest n → rest ≡ [] → IsPrefixText word (block_of f n (width_of f))
-whole_text f word rest n h none = record {
-  address = h.front;
-  value = n;
-  address_is = h.address_is;
-  length_is = inl (h.text_is ∙ ap (λ t. h.front ++ t) none ∙ append-nil h.front, refl);
-  cleared = refl;
-}
-
-pub block_text : (f : Family) (word rest : List ℕ) (n len : ℕ) → IsAddressFront f word rest n → IsLength f rest len → IsPrefixText word (block_of f n len)
-block_text f word rest n len h l = record {
-  address = h.front;
-  value = n;
-  address_is = h.address_is;
-  length_is = inr (l.word, joined word h.front rest l.word 47 h.text_is l.text_is, l.number_is, l.small);
-  cleared = refl;
 }

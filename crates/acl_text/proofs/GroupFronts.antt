@@ -3,7 +3,7 @@ use Rattle.std.proofs.Common.{◌≡◌, ℕ, ◌+◌, ◌-◌, ◌*◌, ◌^◌
 use Rattle.std.proofs.lemmas.List.{append_assoc, append-nil}
 use Rattle.acl_packet.specs.declared.addresses.Family.TheVariants.{V6}
 use Rattle.acl_text.specs.Fronts.{GroupsGoOn, IsAddressFront, IsGroupFront, IsHexFront, IsNextGroup, IsSideFront}
-use Rattle.acl_text.specs.Ipv6.{IsGroup, IsGroups, IsSide, grouped}
+use Rattle.acl_text.specs.Ipv6.{IsGroup, grouped}
 use Rattle.acl_text.proofs.Groups.{hex-step}
 
 -- ---- groups of one digit to four
@@ -111,19 +111,6 @@ side_front text rest end g left value h r =
     }
 
 -- ---- addresses
-
-all-groups : (bs gs : List ℕ) → length gs ≡ 8 → IsSide true bs gs → IsGroups true bs gs
-all-groups bs gs e (inl h) = absurd (omega (arith, e, ap length h.1))
-all-groups bs gs e (inr h) = h
-
-pub whole_front : (text rest : List ℕ) (left n : ℕ) → IsSideFront text rest left n → left ≡ 0 → IsAddressFront V6 text rest n
-whole_front text rest left n h none =
-    let eight : length h.groups ≡ 8 = omega (arith, h.counted, none) in
-    record {
-      front = h.front;
-      text_is = h.text_is;
-      address_is = inl (record { groups = h.groups; text = all-groups h.front h.groups eight (h.side_is true); eight = eight; value = h.number });
-    }
 
 pub short_front : (text rest next behind end : List ℕ) (front_left front back_left back n : ℕ) → IsSideFront text rest front_left front
     → rest ≡ 58 ∷ next → next ≡ 58 ∷ behind → IsSideFront behind end back_left back → 9 ≤ front_left + back_left

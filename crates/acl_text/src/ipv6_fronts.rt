@@ -83,7 +83,6 @@ fn side_front(text: &[u8]) -> Side<'_>
 
 /// The IPv6 address that the text begins with, and what stands behind it, where no part of it is written as an IPv4
 /// address. `None` says nothing.
-#[tactic(auto, using(crate::proofs::GroupFronts::whole_front))]
 pub(crate) fn ipv6_front(text: &[u8]) -> Option<(u128, &[u8])>
     ensures { IfSome result (λ r. IsAddressFront V6 text.now r.1.now r.0) }
 {

@@ -8,7 +8,6 @@ use crate::prefixes::block_of;
 use acl_packet::{Family, Prefix};
 
 #[inline(always)]
-#[tactic(auto, using(crate::proofs::FrontLaws::length_text))]
 fn read_length(family: Family, text: &[u8]) -> Option<u8>
     ensures { IfSome result (λ n. IsLength family text.now n) }
 {
@@ -21,7 +20,6 @@ fn read_length(family: Family, text: &[u8]) -> Option<u8>
 
 // The prefix of a word's address and of the rest of the word behind it.
 #[inline(always)]
-#[tactic(auto, using(crate::proofs::FrontLaws::whole_text, crate::proofs::FrontLaws::block_text))]
 fn prefix_behind(family: Family, address: u128, rest: &[u8]) -> Option<Prefix>
     ensures { IfSome result (λ p. (word : List ℕ) → IsAddressFront family word rest.now address → IsPrefixText word p) }
 {
