@@ -33,3 +33,12 @@ pub(crate) fn distinct(alloc: Global, numbers: &[u8]) -> Result<Vec<u8>, Memory>
     }
     Ok(out)
 }
+
+/// Whether a number may stand twice. More than two are not compared.
+pub(crate) fn may_repeat(numbers: &[u8]) -> bool {
+    match numbers {
+        [] | [_] => false,
+        [first, second] => first == second,
+        [..] => true,
+    }
+}

@@ -9,7 +9,7 @@ ghost use Rattle.acl_terms.specs.SetSteps.{IsPortSet, protocol_slip};
 ghost use Rattle.acl_terms.specs.Slips.{port_words, service_slip, services_slip};
 
 use crate::checks::refusal_at;
-use crate::distinct::distinct;
+use crate::distinct::{distinct, may_repeat};
 use crate::new_words::NewWords;
 use acl_naming::{Checked, Lookup, ports_of};
 use acl_policy::{RawTerm, WordList, WordRef};
@@ -126,6 +126,9 @@ fn admitted_ports(
     match words.first() {
         None => Ok(RangeSet::all(alloc, TOP)?),
         Some(_) => {
+            if !may_repeat(protos) {
+                return ports_of_words(alloc, base, protos, words);
+            }
             let protos = distinct(alloc, protos)?;
             ports_of_words(alloc, base, &protos, words)
         }

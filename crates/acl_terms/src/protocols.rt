@@ -6,7 +6,7 @@ ghost use Rattle.acl_terms.specs.Sets.{IsSetOf};
 ghost use Rattle.acl_terms.specs.SetSteps.{IsCode, IsType, codes_of, single};
 
 use crate::checks::type_in;
-use crate::distinct::distinct;
+use crate::distinct::{distinct, may_repeat};
 use acl_packet::{Family, protocol_number, read_u8};
 use acl_policy::WordList;
 use acl_sets::{Range, RangeSet};
@@ -65,7 +65,7 @@ fn singles(alloc: Global, numbers: &[u8]) -> Result<Vec<Range>, Memory>
     ensures same { IfOk result (λ v. v.items ≡ map single numbers.now) }
     ensures fit { IfOk result (λ v. All (λ r. IsRange TOP r) v.items) }
 {
-    let mut out = Vec::new(alloc);
+    let mut out = Vec::with_capacity(alloc, numbers.len())?;
     for number in numbers {
         let number = u128::from(*number);
         out.push(Range {
@@ -76,13 +76,23 @@ fn singles(alloc: Global, numbers: &[u8]) -> Result<Vec<Range>, Memory>
     Ok(out)
 }
 
+// The set of numbers of which each stands once.
+fn set_of(alloc: Global, numbers: &[u8]) -> Result<RangeSet, Memory>
+    ensures { IfOk result (λ s. IsSetOf (λ x. AnyOf (λ n. n ≡ x) numbers.now) TOP s) }
+{
+    let ranges = singles(alloc, numbers)?;
+    RangeSet::from_vec(alloc, TOP, ranges)
+}
+
 // The set of the numbers.
 fn numbers_in(alloc: Global, numbers: &[u8]) -> Result<RangeSet, Memory>
     ensures { IfOk result (λ s. IsSetOf (λ x. AnyOf (λ n. n ≡ x) numbers.now) TOP s) }
 {
+    if !may_repeat(numbers) {
+        return set_of(alloc, numbers);
+    }
     let numbers = distinct(alloc, numbers)?;
-    let ranges = singles(alloc, &numbers)?;
-    RangeSet::from_vec(alloc, TOP, ranges)
+    set_of(alloc, &numbers)
 }
 
 /// The protocols of a term: all where no word is written.
