@@ -2,7 +2,7 @@ ghost use Rattle.std.specs.Prelude.{◌≡◌, ℕ, ◌<◌, ◌≤◌, true, If
 ghost use Rattle.std.specs.List.Sorted.{IsNonDecreasing};
 
 use crate::parts::{Part, part_of};
-use acl_sets::RangeSet;
+use acl_sets::{Range, RangeSet};
 use acl_terms::Term;
 use acl_text::Memory;
 use std::alloc::Global;
@@ -54,27 +54,37 @@ impl Points {
         Ok(())
     }
 
-    // Adds the number, unless it is known. It gives the place where the next one is looked for.
-    fn note(&mut self, number: u128, near: usize) -> Result<usize, Memory> {
-        let at = start_of(&self.known, near, number);
+    // The place behind the number, if it is known and stands at this place.
+    fn place_behind(&self, number: u128, at: usize) -> Option<usize> {
         match self.known.get(at) {
-            Some(point) if *point == number => Ok(at + 1),
-            _ => {
-                self.fresh.push(number)?;
-                Ok(at)
-            }
+            Some(point) if *point == number => Some(at + 1),
+            _ => None,
         }
     }
 
-    // Adds the ends of the set's ranges, as long as there is room: where each begins, and the number behind it.
-    fn add(&mut self, set: &RangeSet, room: usize) -> Result<(), Memory> {
+    // Adds the number, unless it is known. It gives the place where the next one is looked for, and there it mostly stands.
+    fn note(&mut self, number: u128, near: usize) -> Result<usize, Memory> {
+        if let Some(behind) = self.place_behind(number, near) {
+            return Ok(behind);
+        }
+        let at = start_of(&self.known, near, number);
+        if let Some(behind) = self.place_behind(number, at) {
+            return Ok(behind);
+        }
+        self.fresh.push(number)?;
+        Ok(at)
+    }
+
+    // Adds the ends of the set's ranges, as long as there is room: where each begins, and the number behind it, if that is
+    // asked.
+    fn add(&mut self, set: &RangeSet, asks_behind: bool, room: usize) -> Result<(), Memory> {
         let mut near = 0;
         for range in set.ranges() {
             if self.known.len().saturating_add(self.fresh.len()) >= room {
                 break;
             }
             near = self.note(range.low, near)?;
-            if range.high < set.top() {
+            if asks_behind && range.high < set.top() {
                 near = self.note(range.high + 1, near)?;
             }
         }
@@ -98,6 +108,17 @@ fn room_for(part: Part, terms: &[Term]) -> usize {
     longest.saturating_mul(2).min(all / 8)
 }
 
+fn are_single(ranges: &[Range]) -> bool {
+    ranges.iter().all(|range| range.low == range.high)
+}
+
+// Whether the terms' parts have single numbers alone: no number behind a range is then inside another one.
+fn have_single_numbers(part: Part, terms: &[Term]) -> bool {
+    terms
+        .iter()
+        .all(|term| are_single(part_of(part, term).ranges()))
+}
+
 /// Numbers that tell the terms' parts apart, in rising order: ends of their ranges. Where a set does not lie within
 /// another, it has a number that is a low end of its own, or that stands behind a range of the other.
 pub(crate) fn points_of(alloc: Global, part: Part, terms: &[Term]) -> Result<Vec<u128>, Memory>
@@ -107,10 +128,11 @@ pub(crate) fn points_of(alloc: Global, part: Part, terms: &[Term]) -> Result<Vec
         known: Vec::new(alloc),
         fresh: Vec::new(alloc),
     };
+    let asks_behind = !have_single_numbers(part, terms);
     let mut room = room_for(part, terms);
     for term in terms {
         room = MOST.min(room.saturating_add(2));
-        points.add(part_of(part, term), room)?;
+        points.add(part_of(part, term), asks_behind, room)?;
     }
     points.settle()?;
     Ok(points.known)
