@@ -55,11 +55,12 @@ impl<'a> KnownAddresses<'a> {
         self.base
     }
 
-    // The addresses that are known of words of these texts.
+    // The addresses that are known of words of these texts. Nothing is kept of no words.
     fn find(&self, named: &'a [u8], excluded: &'a [u8]) -> Result<Option<Addresses>, Memory>
         ensures { IfOk result (λ o. IfSome o (AreKnownFor self.now named.now excluded.now)) }
     {
-        if self.lists.is_empty() {
+        let is_bare = named.is_empty() && excluded.is_empty();
+        if is_bare || self.lists.is_empty() {
             return Ok(None);
         }
         match self.lists.get(&(named, excluded)) {

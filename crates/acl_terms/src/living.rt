@@ -11,6 +11,13 @@ use acl_target::{Kind, kind_text};
 
 // ---- platforms by their words
 
+const NO_PLATFORMS: Platforms = Platforms {
+    cisco: false,
+    juniper: false,
+    iptables: false,
+    nftables: false,
+};
+
 fn names_platform(kind: Kind, words: &WordList) -> bool
     ensures { result ≡ names_platform kind words.now }
 {
@@ -23,8 +30,7 @@ fn names_platform(kind: Kind, words: &WordList) -> bool
     false
 }
 
-/// The platforms that the words name.
-pub(crate) fn platforms_of(words: &WordList) -> Platforms
+fn named_platforms(words: &WordList) -> Platforms
     ensures { result ≡ platforms_of words.now }
 {
     Platforms {
@@ -35,14 +41,21 @@ pub(crate) fn platforms_of(words: &WordList) -> Platforms
     }
 }
 
-/// The same, or none where no word is written.
+/// The platforms that the words name, or none where no word is written.
 pub(crate) fn some_platforms(words: &WordList) -> Option<Platforms>
     ensures { result ≡ some_platforms words.now }
 {
     match words.first() {
         None => None,
-        Some(_) => Some(platforms_of(words)),
+        Some(_) => Some(named_platforms(words)),
     }
+}
+
+/// The platforms that the words name. Most terms have no such words.
+pub(crate) fn platforms_of(words: &WordList) -> Platforms
+    ensures { result ≡ platforms_of words.now }
+{
+    some_platforms(words).unwrap_or(NO_PLATFORMS)
 }
 
 // ---- life
