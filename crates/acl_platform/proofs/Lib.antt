@@ -16,4 +16,5 @@ pub mod RuleNames
 pub mod RuleNumbers
 pub mod Sections
 pub mod SoundRules
+pub mod TailLaws
 pub mod TextFronts

@@ -1,10 +1,11 @@
--- Pairs of members of two lists: what they are asked, how many there are, and what is written of them.
+-- Pairs of members of two lists: what they are asked, how many there are, what they are made of, and what is written of them.
 use Rattle.std.proofs.Common.{◌≡◌, ◌≢◌, ℕ, zero, suc, ◌*◌, ◌<◌, min, Bool, true, false, ◌&&◌, ◌||◌, List, [], ◌∷◌, ◌++◌, length, map, flat_map, inl, inr, refl, ap, sym, ◌∙◌, arith}
 use Rattle.std.specs.List.{AllByRecursion, list_any}
 use Rattle.std.proofs.lemmas.Bool.{cases_lt}
-use Rattle.std.proofs.lemmas.List.{length-append, length-map}
+use Rattle.std.proofs.lemmas.List.{length-append, length-map, map-append}
 use Rattle.std.proofs.lemmas.List.Folds.{flat_map-map, list_any-append}
 use Rattle.std.proofs.lemmas.Grind.{flat_map-append}
+use Rattle.std.proofs.lemmas.Simd.{map-map}
 use Rattle.std.proofs.Math.Nat.{mul-zero, mul_comm}
 use Rattle.acl_rows.proofs.ListLaws.{all_flat}
 use Rattle.acl_platform.specs.Choices.{pairs}
@@ -18,6 +19,21 @@ over-pairs {A = A} {B = B} f (x ∷ xs) ys =
     let here : List (A × B) = map (λ y. (x, y)) ys in
     ap (λ t. t ++ flat_map (λ z. flat_map (λ y. f (z, y)) ys) xs) (sym (flat_map-map f (λ y. (x, y)) ys))
     ∙ ap (λ t. flat_map f here ++ t) (over-pairs f xs ys) ∙ sym (flat_map-append f here (pairs xs ys))
+
+-- ---- pairs of which a part is the same, or made of another
+
+pub pairs-one : {A B : Type 0} (xs : List A) (y : B) → pairs xs (y ∷ []) ≡ map (λ x. (x, y)) xs
+pairs-one [] y = refl
+pairs-one (x ∷ xs) y = ap (λ t. (x, y) ∷ t) (pairs-one xs y)
+
+pub pairs-map : {A B C : Type 0} (f : B → C) (xs : List A) (ys : List B)
+    → pairs xs (map f ys) ≡ map (λ (c : A × B). (c.0, f c.1)) (pairs xs ys)
+pairs-map f [] ys = refl
+pairs-map {A = A} {B = B} {C = C} f (x ∷ xs) ys =
+    let made : A × B → A × C = λ c. (c.0, f c.1) in
+    let here : List (A × B) = map (λ y. (x, y)) ys in
+    ap (λ t. t ++ pairs xs (map f ys)) (map-map (λ z. (x, z)) f ys ∙ sym (map-map made (λ y. (x, y)) ys))
+    ∙ ap (λ t. map made here ++ t) (pairs-map f xs ys) ∙ sym (map-append made here (pairs xs ys))
 
 -- ---- how many
 

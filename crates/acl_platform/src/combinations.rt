@@ -5,15 +5,15 @@ ghost use Rattle.acl_rows.specs.Rows.{text_of_rows};
 ghost use Rattle.acl_packet.specs.declared.addresses.Prefix.{Prefix};
 ghost use Rattle.acl_platform.specs.declared.combinations.Combination.{Combination};
 ghost use Rattle.acl_platform.specs.Choices.{pairs, range_choices};
-ghost use Rattle.acl_platform.specs.ChoiceSteps.{tails_of};
+ghost use Rattle.acl_platform.specs.ChoiceSteps.{tails_of, with_tail};
 ghost use Rattle.acl_platform.specs.Combinations.{IsSized, combination_of, combinations, parts_of};
 
+use crate::address_pairs::{AddressForm, put_address_pairs};
 use crate::choices::{Choices, NumberChoices, RangeChoices, ends_of};
 use crate::elements::ranges_of;
-use crate::prefix_lists::ListedPrefixes;
 use crate::rules::Rule;
 use acl_packet::Prefix;
-use acl_rows::{LineHalves, RowForm, put_pairs};
+use acl_rows::RowForm;
 use acl_sets::{Prefixes, RangeSet};
 use acl_text::{Out, PutFault};
 
@@ -91,7 +91,7 @@ pub fn put_combinations_by_halves<F: CombinationForm, O: Out>(
         (text_of_rows (flat_map (F.item_rows form.now) (combinations rule.now))) result }
 {
     match one_tail(rule) {
-        Some(tail) => put_protocols(rule, tail, form, out),
+        Some(tail) => put_with_tail(rule, tail, form, out),
         None => put_combinations(rule, form, out),
     }
 }
@@ -201,8 +201,8 @@ fn combination_of(parts: Parts) -> Combination
     }
 }
 
-#[tactic(auto, using(crate::proofs::SoundRules::protocols_small))]
-fn put_protocols<F: CombinationForm, O: Out>(
+// Puts the line of each combination of the rule, all of which have the tail.
+fn put_with_tail<F: CombinationForm, O: Out>(
     rule: &Rule,
     tail: Tail,
     form: &F,
@@ -214,66 +214,40 @@ fn put_protocols<F: CombinationForm, O: Out>(
     ensures { Puts O.Out out.old out.new
         (text_of_rows (flat_map (F.item_rows form.now) (combinations rule.now))) result }
 {
-    let each = OfProtocol { rule, tail, form };
-    NumberChoices { set: &rule.protos }.put_each(&each, out)
+    put_address_pairs(rule, &WithTail { tail, form }, out)
 }
 
-// A protocol, written with each pair of addresses.
+// A protocol and addresses, written with the tail.
 #[derive(Drop)]
-struct OfProtocol<'a, F> {
-    rule: &'a Rule,
+struct WithTail<'a, F> {
     tail: Tail,
     form: &'a F,
 }
 
-impl<'a, F: CombinationForm> RowForm<Option<u8>> for OfProtocol<'a, F> {
-    ghost item_rows = { λ o proto.
-        flat_map (λ parts. F.item_rows o.form.now (combination_of (proto, parts)))
-        (pairs o.rule.now.src (pairs o.rule.now.dst (o.tail ∷ []))) };
+impl<'a, F: CombinationForm> AddressForm for WithTail<'a, F> {
+    ghost rows = { λ w c. F.item_rows w.form.now (combination_of (with_tail w.tail c)) };
 
-    fn put_item<O: Out>(&self, item: &Option<u8>, out: &mut O) -> Result<(), PutFault> {
-        let halves = AddressHalves {
-            proto: *item,
-            tail: self.tail,
-            form: self.form,
-        };
-        let firsts = ListedPrefixes::all(&self.rule.src);
-        let seconds = ListedPrefixes::all(&self.rule.dst);
-        put_pairs(&firsts, &seconds, pays_to_keep(self.rule), &halves, out)
-    }
-}
+    ghost front = { λ w proto src. F.front w.form.now proto src w.tail.0 };
 
-// From so many lines on it pays to keep backs, whose texts must be cleared first.
-const MANY: u64 = 256;
-
-// Whether the backs of so many lines are worth keeping. The lines are the same.
-fn pays_to_keep(rule: &Rule) -> bool {
-    let sources = rule.src.count();
-    sources >= 2 && sources.saturating_mul(rule.dst.count()) >= MANY
-}
-
-// A source and a destination, written with the protocol and the tail.
-#[derive(Drop)]
-struct AddressHalves<'a, F> {
-    proto: Option<u8>,
-    tail: Tail,
-    form: &'a F,
-}
-
-impl<'a, F: CombinationForm> LineHalves<Prefix, Prefix> for AddressHalves<'a, F> {
-    ghost front = { λ h src. F.front h.form.now h.proto src h.tail.0 };
-
-    ghost back = { λ h dst. F.back h.form.now dst h.tail.1.0 h.tail.1.1.0 h.tail.1.1.1 };
+    ghost back = { λ w dst. F.back w.form.now dst w.tail.1.0 w.tail.1.1.0 w.tail.1.1.1 };
 
     #[inline]
-    fn put_front<O: Out>(&self, first: &Prefix, out: &mut O) -> Result<(), PutFault> {
+    fn put_front<O: Out>(
+        &self,
+        proto: Option<u8>,
+        src: &Prefix,
+        out: &mut O,
+    ) -> Result<(), PutFault> {
         let (sport, _) = self.tail;
-        self.form.put_front(self.proto, first, sport, out)
+        self.form.put_front(proto, src, sport, out)
     }
 
     #[inline]
-    fn put_back<O: Out>(&self, second: &Prefix, out: &mut O) -> Result<(), PutFault> {
+    fn put_back<O: Out>(&self, dst: &Prefix, out: &mut O) -> Result<(), PutFault> {
         let (_, (dport, (itype, icode))) = self.tail;
-        self.form.put_back(second, dport, itype, icode, out)
+        self.form.put_back(dst, dport, itype, icode, out)
     }
+
+    ghost is_halves = { λ w proto src dst.
+        F.is_halves w.form.now (combination_of (with_tail w.tail (proto, (src, dst)))) };
 }

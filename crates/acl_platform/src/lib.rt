@@ -2,6 +2,7 @@
 //! generators of texts share.
 #![tactic(auto)]
 
+mod address_pairs;
 mod choices;
 mod combinations;
 mod elements;
@@ -25,6 +26,7 @@ mod seen_names;
 mod shared_rules;
 mod writing;
 
+pub use address_pairs::{AddressForm, put_address_pairs};
 pub use choices::{Choices, NumberChoices, RangeChoices};
 pub use combinations::{
     Combination, CombinationForm, count_combinations, put_combinations, put_combinations_by_halves,

@@ -1,0 +1,113 @@
+ghost use Rattle.std.specs.Prelude.{◌≡◌, ℕ, List, ◌++◌, Option, IsTrue, flat_map};
+ghost use Rattle.acl_text.specs.Puts.{Puts};
+ghost use Rattle.acl_rows.specs.Rows.{Row, text_of_rows};
+ghost use Rattle.acl_packet.specs.declared.addresses.Prefix.{Prefix};
+ghost use Rattle.acl_platform.specs.Choices.{number_choices, pairs};
+ghost use Rattle.acl_platform.specs.Combinations.{IsSized};
+
+use crate::choices::{Choices, NumberChoices};
+use crate::prefix_lists::ListedPrefixes;
+use crate::rules::Rule;
+use acl_packet::Prefix;
+use acl_rows::{LineHalves, RowForm, put_pairs};
+use acl_text::{Out, PutFault};
+
+/// How a protocol, a source and a destination are written as one line of two halves: what is the same
+/// for all destinations, and behind it what is the same for all protocols and sources.
+pub trait AddressForm {
+    ghost rows: { Self → Option ℕ × (Prefix × Prefix) → List Row };
+
+    ghost front: { Self → Option ℕ → Prefix → List ℕ };
+
+    ghost back: { Self → Prefix → List ℕ };
+
+    /// Puts what the line begins with, up to the source.
+    fn put_front<O: Out>(
+        &self,
+        proto: Option<u8>,
+        src: &Prefix,
+        out: &mut O,
+    ) -> Result<(), PutFault>
+        requires { IsTrue (O.is_open out.old) }
+        ensures { Puts O.Out out.old out.new (front self.now proto src.now) result };
+
+    /// Puts what the line ends with, from the destination on, the line feed included.
+    fn put_back<O: Out>(&self, dst: &Prefix, out: &mut O) -> Result<(), PutFault>
+        requires { IsTrue (O.is_open out.old) }
+        ensures { Puts O.Out out.old out.new (back self.now dst.now) result };
+
+    ghost is_halves: { (s : Self) (proto : Option ℕ) (src dst : Prefix)
+        → text_of_rows (rows s (proto, (src, dst))) ≡ front s proto src ++ back s dst };
+}
+
+/// Puts the line of each protocol of the rule with each of its sources and each of its destinations,
+/// the protocol outermost. Each half of a line is put together once for many lines.
+#[tactic(auto, using(crate::proofs::SoundRules::protocols_small))]
+pub fn put_address_pairs<F: AddressForm, O: Out>(
+    rule: &Rule,
+    form: &F,
+    out: &mut O,
+) -> Result<(), PutFault>
+    requires open { IsTrue (O.is_open out.old) }
+    requires sized { IsSized rule.now }
+    ensures { Puts O.Out out.old out.new
+        (text_of_rows (flat_map (F.rows form.now)
+        (pairs (number_choices rule.now.protos) (pairs rule.now.src rule.now.dst)))) result }
+{
+    let each = OfProtocol { rule, form };
+    NumberChoices { set: &rule.protos }.put_each(&each, out)
+}
+
+// A protocol, written with each pair of addresses.
+#[derive(Drop)]
+struct OfProtocol<'a, F> {
+    rule: &'a Rule,
+    form: &'a F,
+}
+
+impl<'a, F: AddressForm> RowForm<Option<u8>> for OfProtocol<'a, F> {
+    ghost item_rows = { λ o proto. flat_map (λ addresses. F.rows o.form.now (proto, addresses))
+        (pairs o.rule.now.src o.rule.now.dst) };
+
+    fn put_item<O: Out>(&self, item: &Option<u8>, out: &mut O) -> Result<(), PutFault> {
+        let halves = AddressHalves {
+            proto: *item,
+            form: self.form,
+        };
+        let firsts = ListedPrefixes::all(&self.rule.src);
+        let seconds = ListedPrefixes::all(&self.rule.dst);
+        put_pairs(&firsts, &seconds, pays_to_keep(self.rule), &halves, out)
+    }
+}
+
+// From so many lines on it pays to keep backs, whose texts must be cleared first.
+const MANY: u64 = 256;
+
+// Whether the backs of so many lines are worth keeping. The lines are the same.
+fn pays_to_keep(rule: &Rule) -> bool {
+    let sources = rule.src.count();
+    sources >= 2 && sources.saturating_mul(rule.dst.count()) >= MANY
+}
+
+// A source and a destination, written with the protocol.
+#[derive(Drop)]
+struct AddressHalves<'a, F> {
+    proto: Option<u8>,
+    form: &'a F,
+}
+
+impl<'a, F: AddressForm> LineHalves<Prefix, Prefix> for AddressHalves<'a, F> {
+    ghost front = { λ h src. F.front h.form.now h.proto src };
+
+    ghost back = { λ h dst. F.back h.form.now dst };
+
+    #[inline]
+    fn put_front<O: Out>(&self, first: &Prefix, out: &mut O) -> Result<(), PutFault> {
+        self.form.put_front(self.proto, first, out)
+    }
+
+    #[inline]
+    fn put_back<O: Out>(&self, second: &Prefix, out: &mut O) -> Result<(), PutFault> {
+        self.form.put_back(second, out)
+    }
+}
