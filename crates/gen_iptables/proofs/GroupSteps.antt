@@ -1,6 +1,7 @@
 -- The groups of a list, one after the other.
-use Rattle.std.proofs.Common.{◌≡◌, ℕ, ◌+◌, ◌-◌, ◌<◌, ◌≤◌, min, Bool, false, cond, List, [], ◌∷◌, ◌++◌, length, take, drop, flat_map, ap, sym, subst, ◌∙◌, append_assoc, append-nil, arith}
-use Rattle.std.proofs.lemmas.List.{drop-drop, drop_all, length-drop}
+use Rattle.std.proofs.Common.{◌≡◌, ℕ, ◌+◌, ◌-◌, ◌<◌, ◌≤◌, min, Bool, false, ◌==◌, cond, List, [], ◌∷◌, ◌++◌, length, take, drop, flat_map, ap, sym, subst, ◌∙◌, append_assoc, append-nil, arith}
+use Rattle.std.proofs.lemmas.Bool.{true≢false}
+use Rattle.std.proofs.lemmas.List.{drop-drop, drop_all, length-drop, take_all}
 use Rattle.std.proofs.lemmas.Grind.{flat_map-append}
 use Rattle.acl_text.specs.Output.{COUNT_END}
 use Rattle.acl_rows.specs.Rows.{Row, text_of_rows}
@@ -27,6 +28,15 @@ groups-from rs from end h e =
 pub no-groups : (rs : List Range) (from : ℕ) → length rs ≤ from → groups (drop from rs) ≡ []
 unfolding groups_up_to
 no-groups rs from h = ap groups (drop_all from rs h)
+
+-- a list that its first group goes to the end of
+pub one-group : (rs : List Range) → (length rs == 0) ≡ false → length rs ≤ group_length 15 rs → groups rs ≡ rs ∷ []
+one-group [] some end = absurd (true≢false some)
+one-group (r ∷ rs) some end =
+    let all = r ∷ rs in
+    let size = group_length 15 all in
+    groups-step r rs ∙ ap (λ group. group ∷ groups (behind_group all)) (take_all size all end)
+    ∙ ap (λ later. all ∷ later) (no-groups all size end)
 
 -- a set that is not all gives its groups
 pub listed : (s : Numbers) {b : Bool} → b ≡ is_all s → b ≡ false → groups s.ranges ≡ group_choices s

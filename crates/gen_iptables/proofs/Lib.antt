@@ -8,3 +8,4 @@ pub mod NameLaws
 pub mod Rows
 pub mod RuleLaws
 pub mod SectionLaws
+pub mod TailLaws

@@ -1,8 +1,7 @@
 -- The rows of a section as they are put.
-use Rattle.std.proofs.Common.{◌≡◌, ℕ, Bool, List, [], ◌∷◌, ◌++◌, map, flat_map, Option, append-nil, refl, ap, sym, ◌∙◌}
+use Rattle.std.proofs.Common.{◌≡◌, ℕ, List, [], ◌∷◌, ◌++◌, map, flat_map, append-nil, refl, ap, sym, ◌∙◌}
 use Rattle.std.proofs.lemmas.List.Folds.{flat_map-map}
 use Rattle.acl_packet.specs.declared.addresses.Family.{Family}
-use Rattle.acl_packet.specs.declared.addresses.Prefix.{Prefix}
 use Rattle.acl_packet.specs.declared.filtering.Hook.{Hook}
 use Rattle.acl_rows.specs.Rows.{Row, text_of_rows}
 use Rattle.acl_rows.proofs.ListLaws.{flat_twice}
@@ -14,39 +13,42 @@ use Rattle.acl_platform.proofs.ElementLaws.{each-range}
 use Rattle.acl_platform.proofs.PairLaws.{over-pairs}
 use Rattle.acl_sets.specs.declared.sets.Range.{Range}
 use Rattle.ipt_lang.specs.declared.chain_rows.SectionHead.{SectionHead}
-use Rattle.ipt_lang.specs.declared.documents.Act.{Act}
-use Rattle.ipt_lang.specs.Texts.{back_words, chain_row, chain_rows, front_words, head_rows, jump_row, ports_words, range_word, remark_rows, rule_row, rule_rows, rule_words, section_rows, text_of}
+use Rattle.ipt_lang.specs.Texts.{chain_row, chain_rows, head_rows, jump_row, ports_words, range_word, remark_rows, rule_row, rule_rows, section_rows, text_of}
+use Rattle.ipt_lang.specs.declared.documents.Rule.{Rule as ChainRule}
+use Rattle.ipt_lang.specs.RuleHalves.{destination_words, source_words}
+use Rattle.ipt_lang.proofs.HalfLaws.{own_ports, words_of_halves}
 use Rattle.gen_iptables.specs.Groups.{group_choices}
 use Rattle.gen_iptables.specs.ChainRowSteps.{combination_rows, head_of, rows_behind_front, rows_behind_sources}
 use Rattle.acl_packet.specs.Addresses.{first_family}
-use Rattle.gen_iptables.specs.Sections.{address_of, asks_state, Back, backs, chain_of, chain_rule, chain_rules, combinations, ends_of, Front, fronts, ChainParts, rules_for, section_of}
+use Rattle.gen_iptables.specs.Sections.{Back, backs, chain_of, chain_rules, combinations, ends_of, Front, fronts, ChainParts, rules_for, section_of}
+use Rattle.gen_iptables.specs.TailSteps.{port_words}
 
 -- ---- a rule of a chain
 
-pub rule-text : (hook : Hook) (family : Family) (r : Rule) (c : ChainParts) (act : Act) {name : List ℕ} {src dst : Option Prefix} {state : Bool}
-    → name ≡ r.name → src ≡ address_of c.0.1.0 → dst ≡ address_of c.0.1.1 → state ≡ asks_state r.test
-    → text_of_rows (rule_row hook name (front_words family c.0.0 src dst
-    ++ (ports_words (map (λ p. range_word (ends_of p)) c.1.0) (map (λ p. range_word (ends_of p)) c.1.1.0)
-    ++ back_words family c.1.1.1.0 c.1.1.1.1.0 c.1.1.1.1.1 state act)) ∷ [])
-    ≡ text_of_rows (rule_rows hook family r.name (chain_rule r c act))
-unfolding rule_rows rule_words
-rule-text hook family r c act {name = name} {src = src} {dst = dst} {state = state} e h k l =
-    let own : Range → List ℕ = λ p. range_word (ends_of p) in
-    let text : List ℕ → Option Prefix → Option Prefix → List (List ℕ) → List (List ℕ) → Bool → List ℕ = λ n s d i o t.
-    text_of_rows (rule_row hook n (front_words family c.0.0 s d ++ (ports_words i o ++ back_words family c.1.1.1.0 c.1.1.1.1.0 c.1.1.1.1.1 t act)) ∷ []) in
-    let from = address_of c.0.1.0 in
-    let into = address_of c.0.1.1 in
-    let sports = map own c.1.0 in
-    let dports = map own c.1.1.0 in
-    let test = asks_state r.test in
-    ap (λ n. text n src dst sports dports state) e ∙ ap (λ s. text r.name s dst sports dports state) h
-    ∙ ap (λ d. text r.name from d sports dports state) k ∙ ap (text r.name from into sports dports) l
-    ∙ ap (λ i. text r.name from into i dports test) (each-range range_word c.1.0)
-    ∙ ap (λ o. text r.name from into (map range_word (map ends_of c.1.0)) o test) (each-range range_word c.1.1.0)
+-- a range as it is put
+abbrev pub range_in : Range → List ℕ
+range_in r = range_word (ends_of r)
+
+pub group-ports : (sports dports : List Range)
+    → ports_words (map range_in sports) (map range_in dports) ≡ ports_words (port_words sports) (port_words dports)
+group-ports sports dports =
+    ap (λ words. ports_words words (map range_in dports)) (each-range range_word sports)
+    ∙ ap (ports_words (port_words sports)) (each-range range_word dports)
+
+pub rule-text : (hook : Hook) (family : Family) (name : List ℕ) (rule : ChainRule) {ports : List (List ℕ)} → ports ≡ own_ports rule
+    → text_of_rows (rule_row hook name (source_words family rule.proto rule.src
+    ++ destination_words family rule.dst ports rule.itype rule.icode rule.flags rule.state rule.act) ∷ [])
+    ≡ text_of_rows (rule_rows hook family name rule)
+unfolding rule_rows
+rule-text hook family name rule e =
+    let source = source_words family rule.proto rule.src in
+    let text : List (List ℕ) → List ℕ = λ words. text_of_rows (rule_row hook name words ∷ []) in
+    ap (λ ports. text (source ++ destination_words family rule.dst ports rule.itype rule.icode rule.flags rule.state rule.act)) e
+    ∙ ap text (words_of_halves family rule)
 
 -- ---- the rules of a chain, part by part
 
-flat-same : {A B : Type 0} (f g : A → List B) → ((x : A) → f x ≡ g x) → (xs : List A) → flat_map f xs ≡ flat_map g xs
+pub flat-same : {A B : Type 0} (f g : A → List B) → ((x : A) → f x ≡ g x) → (xs : List A) → flat_map f xs ≡ flat_map g xs
 flat-same f g e [] = refl
 flat-same f g e (x ∷ xs) = ap (λ t. t ++ flat_map f xs) (e x) ∙ ap (λ t. g x ++ t) (flat-same f g e xs)
 

@@ -5,3 +5,4 @@ pub mod Groups
 pub mod Limits
 pub mod SectionNames
 pub mod Sections
+pub mod TailSteps

@@ -1,4 +1,4 @@
-ghost use Rattle.std.specs.Prelude.{◌≡◌, List, IsTrue, flat_map, length, min};
+ghost use Rattle.std.specs.Prelude.{◌≡◌, List, [], ◌∷◌, IfSome, IsTrue, flat_map, length, min};
 ghost use Rattle.acl_text.specs.Output.{COUNT_END};
 ghost use Rattle.acl_text.specs.Puts.{Puts};
 ghost use Rattle.acl_rows.specs.Rows.{Row, text_of_rows};
@@ -43,6 +43,28 @@ pub(crate) fn put_groups<F: GroupForm, O: Out>(
         from = end;
     }
     Ok(())
+}
+
+/// The one group of ports of the set, where it has one.
+pub(crate) fn one_group(set: &RangeSet) -> Option<&[Range]>
+    ensures { IfSome result (λ group. group_choices set.now ≡ group.now ∷ []) }
+{
+    if set.is_all() {
+        Some(&[])
+    } else {
+        whole_group(set)
+    }
+}
+
+// The ranges of the set, where they are one group.
+fn whole_group(set: &RangeSet) -> Option<&[Range]>
+    ensures { IfSome result (λ group. groups set.now.ranges ≡ group.now ∷ []) }
+{
+    let ranges = set.ranges();
+    if ranges.is_empty() || group_end(set, 0, MOST_WEIGHT) < ranges.len() {
+        return None;
+    }
+    Some(ranges)
 }
 
 /// The number of groups of ports of the set.

@@ -1,7 +1,12 @@
-ghost use Rattle.std.specs.Prelude.{◌≡◌, flat_map};
+ghost use Rattle.std.specs.Prelude.{◌≡◌, ◌∷◌, [], IfSome, IsTrue, flat_map};
+ghost use Rattle.acl_text.specs.Puts.{Puts};
+ghost use Rattle.acl_rows.specs.Rows.{text_of_rows};
 ghost use Rattle.acl_platform.specs.Combinations.{IsSized};
 ghost use Rattle.ipt_lang.specs.declared.documents.Act.TheVariants.{Log};
+ghost use Rattle.ipt_lang.specs.RuleHalves.{rule_front};
 ghost use Rattle.ipt_lang.specs.Texts.{range_word, rule_rows};
+ghost use Rattle.ipt_lang.proofs.HalfLaws.{line_of_halves};
+ghost use Rattle.gen_iptables.specs.TailSteps.{IsOnlyTail, tail_of, tailed_back, tailed_rule};
 ghost use Rattle.gen_iptables.specs.ChainRowSteps.{
   combination_rows,
   rows_behind_front,
@@ -19,13 +24,13 @@ ghost use Rattle.gen_iptables.specs.Sections.{
   fronts,
 };
 
-use crate::groups::{GroupForm, put_groups};
+use crate::groups::{GroupForm, one_group, put_groups};
 use acl_packet::{Family, Hook, Prefix};
-use acl_platform::{Choices, NumberChoices, Rule, Test};
+use acl_platform::{AddressForm, Choices, NumberChoices, Rule, Test, put_address_pairs};
 use acl_rows::{Piece, PortRange, RowForm, Rows, WordForm};
 use acl_sets::{Prefixes, Range};
 use acl_text::{Out, PutFault};
-use ipt_lang::{Act, Flags, PortLists, RuleRow};
+use ipt_lang::{Act, Flags, PortLists, RuleBack, RuleFront, RuleRow};
 
 // What stands before the ports of a rule, and what behind.
 type Front = (Option<u8>, (Prefix, Prefix));
@@ -85,8 +90,164 @@ impl<'a> Rows for ChainRules<'a> {
         (chain_rules c.rule.now) };
 
     fn put_rows<O: Out>(&self, out: &mut O) -> Result<(), PutFault> {
+        match one_tail(self.rule) {
+            Some(tail) => self.put_with_tail(tail, out),
+            None => self.put_combinations(out),
+        }
+    }
+}
+
+impl<'a> ChainRules<'a> {
+    // Puts the line of each rule, where they differ in protocol and addresses alone.
+    fn put_with_tail<O: Out>(&self, tail: Tail<'_>, out: &mut O) -> Result<(), PutFault>
+        requires open { IsTrue (O.is_open out.old) }
+        requires alone { IsOnlyTail tail self.now.rule.now }
+        ensures { Puts O.Out out.old out.new
+            (text_of_rows (flat_map
+            (rule_rows self.now.hook self.now.family self.now.rule.now.name)
+            (chain_rules self.now.rule.now))) result }
+    {
+        put_address_pairs(self.rule, &WithTail { chain: self, tail }, out)
+    }
+
+    // Puts the lines of the rules of each combination.
+    fn put_combinations<O: Out>(&self, out: &mut O) -> Result<(), PutFault>
+        requires { IsTrue (O.is_open out.old) }
+        ensures { Puts O.Out out.old out.new
+            (text_of_rows (flat_map
+            (rule_rows self.now.hook self.now.family self.now.rule.now.name)
+            (chain_rules self.now.rule.now))) result }
+    {
         fronts_of(self.rule).put_each(self, out)
     }
+
+    fn front_of(&self, proto: Option<u8>, src: Prefix) -> RuleFront<'_>
+        ensures parts { result ≡ record {
+          hook = self.now.hook;
+          name = result.name;
+          family = self.now.family;
+          proto = proto;
+          src = address_of src;
+        } }
+        ensures name { result.name.now ≡ self.now.rule.now.name }
+    {
+        RuleFront {
+            hook: self.hook,
+            name: self.rule.name.as_slice(),
+            family: self.family,
+            proto,
+            src: address_of(src),
+        }
+    }
+
+    fn back_of<'t>(
+        &self,
+        dst: Prefix,
+        tail: &Tail<'t>,
+        act: Act,
+    ) -> RuleBack<PortLists<'t, Range, InRanges>>
+        ensures { result ≡ record {
+          family = self.now.family;
+          dst = address_of dst;
+          ports = record {
+            sports = tail.now.sports;
+            dports = tail.now.dports;
+            form = result.ports.form;
+          };
+          itype = tail.now.back.0;
+          icode = tail.now.back.1.0;
+          flags = tail.now.back.1.1;
+          state = asks_state self.now.rule.now.test;
+          act = act;
+        } }
+    {
+        let (itype, (icode, flags)) = tail.back;
+        let ports = PortLists {
+            sports: tail.sports,
+            dports: tail.dports,
+            form: InRanges,
+        };
+        RuleBack {
+            family: self.family,
+            dst: address_of(dst),
+            ports,
+            itype,
+            icode,
+            flags,
+            state: asks_state(self.rule.test),
+            act,
+        }
+    }
+}
+
+// The ports, type, code and flags of a rule of the chain.
+#[derive(Clone, Copy)]
+struct Tail<'a> {
+    sports: &'a [Range],
+    dports: &'a [Range],
+    back: Back,
+}
+
+// The tail of all rules of the chain, where they have the same and none of them logs.
+fn one_tail(rule: &Rule) -> Option<Tail<'_>>
+    requires { IsSized rule.now }
+    ensures { IfSome result (λ tail. IsOnlyTail tail rule.now) }
+{
+    if rule.log || !rule.itypes.is_all() || !rule.icodes.is_all() {
+        return None;
+    }
+    let sports = one_group(&rule.sports)?;
+    let dports = one_group(&rule.dports)?;
+    let flags = one_choice(rule.test)?;
+    Some(Tail {
+        sports,
+        dports,
+        back: (None, (None, flags)),
+    })
+}
+
+fn one_choice(test: Test) -> Option<Option<Flags>>
+    ensures { IfSome result (λ flags. flag_choices test ≡ flags ∷ []) }
+{
+    match flag_choices(test) {
+        [flags] => Some(*flags),
+        _ => None,
+    }
+}
+
+// A protocol and addresses, as the rule of the chain that has them with the tail.
+#[derive(Drop)]
+struct WithTail<'a, 't> {
+    chain: &'a ChainRules<'a>,
+    tail: Tail<'t>,
+}
+
+impl<'a, 't> AddressForm for WithTail<'a, 't> {
+    ghost rows = { λ w front. rule_rows w.chain.now.hook w.chain.now.family
+        w.chain.now.rule.now.name (tailed_rule w.chain.now.rule.now w.tail front) };
+
+    ghost front = { λ w proto src. rule_front w.chain.now.hook w.chain.now.rule.now.name
+        w.chain.now.family proto (address_of src) };
+
+    ghost back = { λ w dst. tailed_back w.chain.now.family w.chain.now.rule.now w.tail dst };
+
+    fn put_front<O: Out>(
+        &self,
+        proto: Option<u8>,
+        src: &Prefix,
+        out: &mut O,
+    ) -> Result<(), PutFault> {
+        self.chain.front_of(proto, *src).put_into(out)
+    }
+
+    fn put_back<O: Out>(&self, dst: &Prefix, out: &mut O) -> Result<(), PutFault> {
+        let act = Act::Decide(self.chain.rule.verdict);
+        self.chain.back_of(*dst, &self.tail, act).put_into(out)
+    }
+
+    ghost is_halves = { λ w proto src dst. line_of_halves w.chain.now.hook w.chain.now.family
+        w.chain.now.rule.now.name
+        (tailed_rule w.chain.now.rule.now w.tail (proto, (src, dst))) };
 }
 
 // A protocol and addresses, with each group of source ports.
@@ -162,9 +323,15 @@ impl<'a> RowForm<Back> for BehindPorts<'a> {
         f.chain.now.rule.now (f.front, (f.sports.now, (f.dports.now, back))) };
 
     fn put_item<O: Out>(&self, back: &Back, out: &mut O) -> Result<(), PutFault> {
-        let last = OneRule {
-            conditions: self,
+        let tail = Tail {
+            sports: self.sports,
+            dports: self.dports,
             back: *back,
+        };
+        let last = OneRule {
+            chain: self.chain,
+            front: self.front,
+            tail,
             act: Act::Decide(self.chain.rule.verdict),
         };
         if self.chain.rule.log {
@@ -178,8 +345,9 @@ impl<'a> RowForm<Back> for BehindPorts<'a> {
 // One rule of the chain.
 #[derive(Drop)]
 struct OneRule<'a> {
-    conditions: &'a BehindPorts<'a>,
-    back: Back,
+    chain: &'a ChainRules<'a>,
+    front: Front,
+    tail: Tail<'a>,
     act: Act,
 }
 
@@ -187,48 +355,30 @@ impl<'a> OneRule<'a> {
     // The rule that logs what this one holds.
     fn logging(&self) -> OneRule<'a>
         ensures { result ≡ record {
-          conditions = self.now.conditions;
-          back = self.now.back;
+          chain = self.now.chain;
+          front = self.now.front;
+          tail = self.now.tail;
           act = Log;
         } }
     {
         OneRule {
-            conditions: self.conditions,
-            back: self.back,
+            chain: self.chain,
+            front: self.front,
+            tail: self.tail,
             act: Act::Log,
         }
     }
 }
 
 impl<'a> Rows for OneRule<'a> {
-    ghost rows = { λ o.
-        let f = o.conditions.now in
-        let c = f.chain.now in
-        rule_rows c.hook c.family c.rule.now.name
-        (chain_rule c.rule.now (f.front, (f.sports.now, (f.dports.now, o.back))) o.act) };
+    ghost rows = { λ o. rule_rows o.chain.now.hook o.chain.now.family o.chain.now.rule.now.name
+        (chain_rule o.chain.now.rule.now (o.front, tail_of o.tail) o.act) };
 
     fn put_rows<O: Out>(&self, out: &mut O) -> Result<(), PutFault> {
-        let chain = self.conditions.chain;
-        let (proto, (src, dst)) = self.conditions.front;
-        let (itype, (icode, flags)) = self.back;
-        let ports = PortLists {
-            sports: self.conditions.sports,
-            dports: self.conditions.dports,
-            form: InRanges,
-        };
+        let (proto, (src, dst)) = self.front;
         let row = RuleRow {
-            hook: chain.hook,
-            name: chain.rule.name.as_slice(),
-            family: chain.family,
-            proto,
-            src: address_of(src),
-            dst: address_of(dst),
-            ports,
-            itype,
-            icode,
-            flags,
-            state: asks_state(chain.rule.test),
-            act: self.act,
+            front: self.chain.front_of(proto, src),
+            back: self.chain.back_of(dst, &self.tail, self.act),
         };
         row.put_rows(out)
     }

@@ -1,12 +1,12 @@
-ghost use Rattle.std.specs.Prelude.{◌≡◌, ◌∷◌, ◌++◌, []};
+ghost use Rattle.std.specs.Prelude.{◌≡◌, ◌∷◌, []};
 ghost use Rattle.ipt_lang.specs.Documents.{family_word, hook_word};
-ghost use Rattle.ipt_lang.specs.Texts.{back_words, chain_name, chain_row, chain_rows, front_words, head_rows, hook_letter, jump_row, default_rows, default_word, remark_rows, rule_row, rule_rows, rule_words, section_rows, target_row};
+ghost use Rattle.ipt_lang.specs.Texts.{chain_name, chain_row, chain_rows, head_rows, hook_letter, jump_row, default_rows, default_word, remark_rows, rule_rows, section_rows, target_row};
 
-use crate::documents::{Act, Chain, Flags, Rule, Section};
+use crate::documents::{Chain, Rule, Section};
 use crate::ports::PortLists;
-use crate::rule_words::{Back, Front};
-use acl_packet::{Family, Hook, Prefix};
-use acl_rows::{Each, FreeText, OneWord, Piece, RangeWords, Row, RowForm, Rows, Words};
+use crate::rule_halves::{RuleBack, RuleFront, RuleRow};
+use acl_packet::{Family, Hook};
+use acl_rows::{Each, FreeText, OneWord, Piece, RangeWords, Row, RowForm, Rows};
 use acl_text::{Bytes, Out, PutFault};
 
 /// The rows that begin a section: its target, and the policy where one is said.
@@ -205,57 +205,6 @@ impl<'a> Rows for JumpRow<'a> {
     }
 }
 
-/// The row of a rule of a chain. A part that is `None` or `false` is not written.
-#[derive(Drop)]
-pub struct RuleRow<'a, P> {
-    pub hook: Hook,
-    /// The chain's name without the hook's letter and the `_` behind it.
-    pub name: &'a [u8],
-    pub family: Family,
-    pub proto: Option<u8>,
-    pub src: Option<Prefix>,
-    pub dst: Option<Prefix>,
-    /// The words of the ports.
-    pub ports: P,
-    pub itype: Option<u8>,
-    pub icode: Option<u8>,
-    pub flags: Option<Flags>,
-    pub state: bool,
-    pub act: Act,
-}
-
-impl<'a, P: Words + Copy> Rows for RuleRow<'a, P> {
-    ghost rows = { λ r. rule_row r.hook r.name.now (front_words r.family r.proto r.src r.dst
-        ++ (P.words r.ports ++ back_words r.family r.itype r.icode r.flags r.state r.act)) ∷ [] };
-
-    fn put_rows<O: Out>(&self, out: &mut O) -> Result<(), PutFault> {
-        let name = ChainName {
-            hook: self.hook,
-            name: self.name,
-        };
-        let front = Front {
-            family: self.family,
-            proto: self.proto,
-            src: self.src,
-            dst: self.dst,
-        };
-        let back = Back {
-            family: self.family,
-            itype: self.itype,
-            icode: self.icode,
-            flags: self.flags,
-            state: self.state,
-            act: self.act,
-        };
-        let row = Row {
-            indent: 0,
-            first: b"-A".as_slice(),
-            rest: (OneWord { piece: name }, (front, (self.ports, back))),
-        };
-        row.put_rows(out)
-    }
-}
-
 impl Rows for Section {
     ghost rows = { section_rows };
 
@@ -335,19 +284,22 @@ pub struct OfChain<'a> {
 impl<'a> RowForm<Rule> for OfChain<'a> {
     ghost item_rows = { λ f r. rule_rows f.hook f.family f.name.now r };
 
-    #[tactic(auto, unfolding(crate::specs::Texts::rule_rows, crate::specs::Texts::rule_words))]
+    #[tactic(auto, unfolding(crate::specs::Texts::rule_rows))]
     fn put_item<O: Out>(&self, rule: &Rule, out: &mut O) -> Result<(), PutFault> {
         let ports = PortLists {
             sports: rule.sports.as_slice(),
             dports: rule.dports.as_slice(),
             form: RangeWords { separator: b':' },
         };
-        let row = RuleRow {
+        let front = RuleFront {
             hook: self.hook,
             name: self.name,
             family: self.family,
             proto: rule.proto,
             src: rule.src,
+        };
+        let back = RuleBack {
+            family: self.family,
             dst: rule.dst,
             ports,
             itype: rule.itype,
@@ -356,6 +308,6 @@ impl<'a> RowForm<Rule> for OfChain<'a> {
             state: rule.state,
             act: rule.act,
         };
-        row.put_rows(out)
+        RuleRow { front, back }.put_rows(out)
     }
 }

@@ -10,6 +10,7 @@ mod iptables;
 mod ports;
 mod row_scans;
 mod rule_drafts;
+mod rule_halves;
 mod rule_words;
 mod scanning;
 mod validity;
@@ -17,10 +18,11 @@ mod walking;
 
 pub use acl_rows::{outcome, read_document, sections};
 pub use chain_rows::{
-    ChainHead, ChainName, JumpRow, OfChain, RemarkRow, Remarks, RuleRow, SectionHead, TargetRow,
+    ChainHead, ChainName, JumpRow, OfChain, RemarkRow, Remarks, SectionHead, TargetRow,
     default_word, hook_word,
 };
 pub use chains_drafts::ChainsDraft;
 pub use documents::{Act, Chain, Doc, Flags, Rule, Section};
 pub use iptables::Iptables;
 pub use ports::PortLists;
+pub use rule_halves::{RuleBack, RuleFront, RuleRow};

@@ -1,45 +1,16 @@
 ghost use Rattle.std.specs.Prelude.{◌≡◌};
-ghost use Rattle.ipt_lang.specs.Texts.{act_words, address_words, back_words, flags_words, front_words, icmp_word, is_reset, mask_word, proto_word, proto_words, reset_words, set_word, state_words, target_word, type_key, type_word, type_words};
+ghost use Rattle.ipt_lang.specs.Texts.{act_words, address_words, back_words, flags_words, icmp_word, is_reset, mask_word, proto_word, proto_words, reset_words, set_word, state_words, target_word, type_key, type_word, type_words};
 
 use crate::documents::{Act, Flags};
 use acl_packet::{Family, Prefix, Verdict};
 use acl_rows::{Number, OneWord, Piece, Words, put_words};
 use acl_text::{Out, PutFault};
 
-/// What stands before the ports of a rule: its protocol and addresses.
+/// The protocol of a rule, where it is named.
 #[derive(Drop)]
-pub(crate) struct Front {
+pub(crate) struct Protocol {
     pub(crate) family: Family,
-    pub(crate) proto: Option<u8>,
-    pub(crate) src: Option<Prefix>,
-    pub(crate) dst: Option<Prefix>,
-}
-
-impl Words for Front {
-    ghost words = { λ f. front_words f.family f.proto f.src f.dst };
-
-    #[tactic(auto, unfolding(crate::specs::Texts::front_words))]
-    fn put_spaced<O: Out>(&self, out: &mut O) -> Result<(), PutFault> {
-        let protocol = Protocol {
-            family: self.family,
-            number: self.proto,
-        };
-        let source = AddressWords {
-            key: b"-s",
-            address: self.src,
-        };
-        let destination = AddressWords {
-            key: b"-d",
-            address: self.dst,
-        };
-        (protocol, (source, destination)).put_spaced(out)
-    }
-}
-
-#[derive(Drop)]
-struct Protocol {
-    family: Family,
-    number: Option<u8>,
+    pub(crate) number: Option<u8>,
 }
 
 impl Words for Protocol {
@@ -100,10 +71,11 @@ fn icmp_word(family: Family) -> &'static [u8]
     }
 }
 
+/// The addresses of a rule on one side, where it asks for some, behind their key.
 #[derive(Drop)]
-struct AddressWords<'a> {
-    key: &'a [u8],
-    address: Option<Prefix>,
+pub(crate) struct AddressWords<'a> {
+    pub(crate) key: &'a [u8],
+    pub(crate) address: Option<Prefix>,
 }
 
 impl<'a> Words for AddressWords<'a> {
@@ -122,7 +94,7 @@ impl<'a> Words for AddressWords<'a> {
 
 /// What stands behind the ports of a rule: its tests and its act.
 #[derive(Drop)]
-pub(crate) struct Back {
+pub(crate) struct TestWords {
     pub(crate) family: Family,
     pub(crate) itype: Option<u8>,
     pub(crate) icode: Option<u8>,
@@ -131,7 +103,7 @@ pub(crate) struct Back {
     pub(crate) act: Act,
 }
 
-impl Words for Back {
+impl Words for TestWords {
     ghost words = { λ b. back_words b.family b.itype b.icode b.flags b.state b.act };
 
     #[tactic(auto, unfolding(crate::specs::Texts::back_words))]

@@ -1,11 +1,27 @@
+use Rattle.std.proofs.Common.{List, ℕ, [], ◌∷◌, ◌++◌, map, ap, ◌∙◌}
+use Rattle.acl_rows.specs.Rows.{text_of_rows}
 use Rattle.acl_rows.proofs.PutLaws.{retold}
-use Rattle.gen_iptables.proofs.Rows.{rule-text}
+use Rattle.acl_sets.specs.declared.sets.Range.{Range}
+use Rattle.ipt_lang.specs.declared.ports.PortLists.{PortLists}
+use Rattle.ipt_lang.specs.declared.rule_halves.RuleBack.{RuleBack}
+use Rattle.ipt_lang.specs.declared.rule_halves.RuleFront.{RuleFront}
+use Rattle.ipt_lang.specs.RuleHalves.{destination_words, source_words}
+use Rattle.ipt_lang.specs.Texts.{ports_words, rule_row}
+use Rattle.gen_iptables.specs.declared.rule_rows.InRanges.{InRanges}
+use Rattle.gen_iptables.specs.Sections.{chain_rule}
+use Rattle.gen_iptables.specs.TailSteps.{tail_of}
+use Rattle.gen_iptables.proofs.Rows.{group-ports, range_in, rule-text}
 use Rattle.gen_iptables.proofs.rule_rows.OneRuleRows.put_rows.Goals as goal
 
 pub returns : goal.returns
 returns g c =
     let o = c.args.self.now in
-    let p = o.conditions.now in
-    let chain = p.chain.now in
-    retold (rule-text chain.hook chain.family chain.rule.now (p.front, (p.sports.now, (p.dports.now, o.back))) o.act
-    c.as_slice.ensures c.address_of.ensures c.address_of-2.ensures c.asks_state.ensures) c.put_rows.ensures
+    let chain = o.chain.now in
+    let rule = chain_rule chain.rule.now (o.front, tail_of o.tail) o.act in
+    let back : RuleBack (PortLists Range InRanges) → List (List ℕ) = λ b. destination_words b.family b.dst
+    (ports_words (map range_in b.ports.sports.now) (map range_in b.ports.dports.now)) b.itype b.icode b.flags b.state b.act in
+    let own = back c.back_of.result in
+    retold (ap (λ (f : RuleFront). text_of_rows (rule_row f.hook f.name.now (source_words f.family f.proto f.src ++ own) ∷ [])) c.front_of.ensures.parts
+    ∙ ap (λ name. text_of_rows (rule_row chain.hook name (source_words chain.family rule.proto rule.src ++ own) ∷ [])) c.front_of.ensures.name
+    ∙ ap (λ b. text_of_rows (rule_row chain.hook chain.rule.now.name (source_words chain.family rule.proto rule.src ++ back b) ∷ [])) c.back_of.ensures
+    ∙ rule-text chain.hook chain.family chain.rule.now.name rule (group-ports o.tail.sports.now o.tail.dports.now)) c.put_rows.ensures

@@ -1,6 +1,14 @@
-use Rattle.ipt_lang.specs.Texts.{rule_rows, rule_words}
+use Rattle.std.proofs.Common.{[], ◌∷◌, ap}
+use Rattle.acl_rows.specs.Rows.{text_of_rows}
+use Rattle.acl_rows.proofs.PutLaws.{retold}
+use Rattle.ipt_lang.specs.Texts.{rule_row, rule_rows}
+use Rattle.ipt_lang.proofs.HalfLaws.{words_of_halves}
 use Rattle.ipt_lang.proofs.chain_rows.OfChainRowFormRule.put_item.Goals as goal
 
 pub returns : goal.returns
-unfolding rule_rows rule_words
-returns g c = rw (← c.as_slice.ensures, ← c.as_slice-2.ensures) c.put_rows.ensures
+unfolding rule_rows
+returns g c =
+    let f = c.args.self.now in
+    let r = c.args.rule.now in
+    retold (ap (λ words. text_of_rows (rule_row f.hook f.name.now words ∷ [])) (words_of_halves f.family r))
+    (rw (← c.as_slice.ensures, ← c.as_slice-2.ensures) c.put_rows.ensures)

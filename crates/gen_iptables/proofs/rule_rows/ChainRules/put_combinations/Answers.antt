@@ -4,7 +4,7 @@ use Rattle.acl_rows.proofs.PutLaws.{retold}
 use Rattle.gen_iptables.specs.ChainRowSteps.{rows_behind_front}
 use Rattle.gen_iptables.specs.Sections.{Front}
 use Rattle.gen_iptables.proofs.Rows.{all-parts}
-use Rattle.gen_iptables.proofs.rule_rows.ChainRulesRows.put_rows.Goals as goal
+use Rattle.gen_iptables.proofs.rule_rows.ChainRules.put_combinations.Goals as goal
 
 pub returns : goal.returns
 returns g c =
