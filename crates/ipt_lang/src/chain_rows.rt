@@ -140,11 +140,13 @@ pub struct ChainName<'a> {
 impl<'a> Piece for ChainName<'a> {
     ghost text = { λ c. chain_name c.hook c.name.now };
 
+    #[inline]
     fn put_into<O: Out>(&self, out: &mut O) -> Result<(), PutFault> {
         (hook_front(self.hook), self.name).put_into(out)
     }
 }
 
+#[inline]
 fn hook_front(hook: Hook) -> &'static [u8]
     ensures { result.now ≡ hook_letter hook ∷ 95 ∷ [] }
 {

@@ -19,6 +19,7 @@ impl<'a, T: Copy, F: WordForm<T>> Words for PortLists<'a, T, F> {
         (map (F.item_text l.form) l.dports.now) };
 
     #[tactic(auto, using(crate::proofs::PortWords::single_map), unfolding(crate::specs::Texts::ports_words))]
+    #[inline]
     fn put_spaced<O: Out>(&self, out: &mut O) -> Result<(), PutFault> {
         let plain = is_single(self.sports) && is_single(self.dports);
         let sources = PortList {
@@ -39,6 +40,7 @@ impl<'a, T: Copy, F: WordForm<T>> Words for PortLists<'a, T, F> {
     }
 }
 
+#[inline]
 fn is_single<T>(items: &[T]) -> bool
     ensures { result ≡ is_single items.now }
 {
@@ -62,6 +64,7 @@ impl<'a, T: Copy, F: WordForm<T>> Words for PortList<'a, T, F> {
         (map (F.item_text l.form.now) l.ranges.now) };
 
     #[tactic(auto, unfolding(crate::specs::Texts::port_list_words))]
+    #[inline]
     fn put_spaced<O: Out>(&self, out: &mut O) -> Result<(), PutFault> {
         match self.ranges {
             [] => Ok(()),
@@ -94,6 +97,7 @@ impl<'a> Words for KeyWords<'a> {
     ghost words = { λ k. key_words k.plain k.key.now k.keys.now };
 
     #[tactic(auto, unfolding(crate::specs::Texts::key_words))]
+    #[inline]
     fn put_spaced<O: Out>(&self, out: &mut O) -> Result<(), PutFault> {
         if self.plain {
             OneWord { piece: self.key }.put_spaced(out)
@@ -113,6 +117,7 @@ struct Listing<'a, T, F> {
 impl<'a, T: Copy, F: WordForm<T>> Piece for Listing<'a, T, F> {
     ghost text = { λ l. join_with_byte 44 (map (F.item_text l.form.now) l.items.now) };
 
+    #[inline]
     fn put_into<O: Out>(&self, out: &mut O) -> Result<(), PutFault> {
         let form = self.form;
         match self.items {

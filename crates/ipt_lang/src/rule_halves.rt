@@ -4,7 +4,7 @@ ghost use Rattle.ipt_lang.specs.Texts.{chain_name, rule_row};
 
 use crate::chain_rows::ChainName;
 use crate::documents::{Act, Flags};
-use crate::rule_words::{AddressWords, Protocol, TestWords};
+use crate::rule_words::{DestinationWords, Protocol, SourceWords, TestWords};
 use acl_packet::{Family, Hook, Prefix};
 use acl_rows::{OneWord, Piece, Row, RowBack, RowFront, Rows, Words};
 use acl_text::{Out, PutFault};
@@ -84,10 +84,7 @@ impl<'a> Words for FrontWords<'a> {
             family: front.family,
             number: front.proto,
         };
-        let source = AddressWords {
-            key: b"-s",
-            address: front.src,
-        };
+        let source = SourceWords { address: front.src };
         (chain, (protocol, source)).put_spaced(out)
     }
 }
@@ -133,10 +130,7 @@ impl<P: Words + Copy> Words for BackWords<P> {
     #[inline]
     fn put_spaced<O: Out>(&self, out: &mut O) -> Result<(), PutFault> {
         let back = &self.back;
-        let destination = AddressWords {
-            key: b"-d",
-            address: back.dst,
-        };
+        let destination = DestinationWords { address: back.dst };
         let tests = TestWords {
             family: back.family,
             itype: back.itype,

@@ -1,4 +1,5 @@
-ghost use Rattle.std.specs.Prelude.{◌≡◌};
+ghost use Rattle.std.specs.Prelude.{◌≡◌, ◌∷◌, [], ◌++◌, IsTrue, codes};
+ghost use Rattle.acl_text.specs.Puts.{Puts};
 ghost use Rattle.ipt_lang.specs.Texts.{act_words, address_words, back_words, flags_words, icmp_word, is_reset, mask_word, proto_word, proto_words, reset_words, set_word, state_words, target_word, type_key, type_word, type_words};
 
 use crate::documents::{Act, Flags};
@@ -17,19 +18,15 @@ impl Words for Protocol {
     ghost words = { λ p. proto_words p.family p.number };
 
     #[tactic(auto, unfolding(crate::specs::Texts::proto_words))]
+    #[inline]
     fn put_spaced<O: Out>(&self, out: &mut O) -> Result<(), PutFault> {
         match self.number {
             Some(number) => {
-                let key = OneWord {
-                    piece: b"-p".as_slice(),
+                let name = ProtocolName {
+                    family: self.family,
+                    number,
                 };
-                let name = OneWord {
-                    piece: ProtocolName {
-                        family: self.family,
-                        number,
-                    },
-                };
-                (key, name).put_spaced(out)
+                put_keyed(b" -p ", name, out)
             }
             None => Ok(()),
         }
@@ -46,6 +43,7 @@ impl Piece for ProtocolName {
     ghost text = { λ p. proto_word p.family p.number };
 
     #[tactic(auto, unfolding(crate::specs::Texts::proto_word))]
+    #[inline]
     fn put_into<O: Out>(&self, out: &mut O) -> Result<(), PutFault> {
         if self.number == 6 {
             out.put(b"tcp")
@@ -62,6 +60,7 @@ impl Piece for ProtocolName {
     }
 }
 
+#[inline]
 fn icmp_word(family: Family) -> &'static [u8]
     ensures { result.now ≡ icmp_word family }
 {
@@ -71,25 +70,51 @@ fn icmp_word(family: Family) -> &'static [u8]
     }
 }
 
-/// The addresses of a rule on one side, where it asks for some, behind their key.
+/// The addresses that a rule asks for, where it asks for some of the source.
 #[derive(Drop)]
-pub(crate) struct AddressWords<'a> {
-    pub(crate) key: &'a [u8],
+pub(crate) struct SourceWords {
     pub(crate) address: Option<Prefix>,
 }
 
-impl<'a> Words for AddressWords<'a> {
-    ghost words = { λ a. address_words a.key.now a.address };
+impl Words for SourceWords {
+    ghost words = { λ s. address_words (codes "-s") s.address };
 
     #[tactic(auto, unfolding(crate::specs::Texts::address_words))]
+    #[inline]
     fn put_spaced<O: Out>(&self, out: &mut O) -> Result<(), PutFault> {
         match self.address {
-            Some(prefix) => (OneWord { piece: self.key }, OneWord { piece: prefix }).put_spaced(
-                out,
-            ),
+            Some(prefix) => put_keyed(b" -s ", prefix, out),
             None => Ok(()),
         }
     }
+}
+
+/// The addresses that a rule asks for, where it asks for some of the destination.
+#[derive(Drop)]
+pub(crate) struct DestinationWords {
+    pub(crate) address: Option<Prefix>,
+}
+
+impl Words for DestinationWords {
+    ghost words = { λ d. address_words (codes "-d") d.address };
+
+    #[tactic(auto, unfolding(crate::specs::Texts::address_words))]
+    #[inline]
+    fn put_spaced<O: Out>(&self, out: &mut O) -> Result<(), PutFault> {
+        match self.address {
+            Some(prefix) => put_keyed(b" -d ", prefix, out),
+            None => Ok(()),
+        }
+    }
+}
+
+// Puts a word and the one that it names, by two puts; the key is the first between two spaces.
+#[inline]
+fn put_keyed<P: Piece + Drop, O: Out>(key: &[u8], piece: P, out: &mut O) -> Result<(), PutFault>
+    requires { IsTrue (O.is_open out.old) }
+    ensures { Puts O.Out out.old out.new (key.now ++ (P.text piece ++ [])) result }
+{
+    (key, piece).put_into(out)
 }
 
 /// What stands behind the ports of a rule: its tests and its act.
@@ -107,6 +132,7 @@ impl Words for TestWords {
     ghost words = { λ b. back_words b.family b.itype b.icode b.flags b.state b.act };
 
     #[tactic(auto, unfolding(crate::specs::Texts::back_words))]
+    #[inline]
     fn put_spaced<O: Out>(&self, out: &mut O) -> Result<(), PutFault> {
         let itype = TypeWords {
             family: self.family,
@@ -131,6 +157,7 @@ impl Words for TypeWords {
     ghost words = { λ t. type_words t.family t.itype t.icode };
 
     #[tactic(auto, unfolding(crate::specs::Texts::type_words))]
+    #[inline]
     fn put_spaced<O: Out>(&self, out: &mut O) -> Result<(), PutFault> {
         match self.itype {
             Some(number) => {
@@ -161,6 +188,7 @@ impl Piece for TypeWord {
     ghost text = { λ t. type_word t.number t.code };
 
     #[tactic(auto, unfolding(crate::specs::Texts::type_word))]
+    #[inline]
     fn put_into<O: Out>(&self, out: &mut O) -> Result<(), PutFault> {
         let number = Number {
             number: u128::from(self.number),
@@ -178,6 +206,7 @@ impl Piece for TypeWord {
     }
 }
 
+#[inline]
 fn type_key(family: Family) -> &'static [u8]
     ensures { result.now ≡ type_key family }
 {
@@ -196,6 +225,7 @@ impl Words for FlagsWords {
     ghost words = { λ f. flags_words f.flags };
 
     #[tactic(auto, unfolding(crate::specs::Texts::flags_words))]
+    #[inline]
     fn put_spaced<O: Out>(&self, out: &mut O) -> Result<(), PutFault> {
         match self.flags {
             Some(flags) => {
@@ -207,6 +237,7 @@ impl Words for FlagsWords {
     }
 }
 
+#[inline]
 fn mask_word(flags: Flags) -> &'static [u8]
     ensures { result.now ≡ mask_word flags }
 {
@@ -217,6 +248,7 @@ fn mask_word(flags: Flags) -> &'static [u8]
     }
 }
 
+#[inline]
 fn set_word(flags: Flags) -> &'static [u8]
     ensures { result.now ≡ set_word flags }
 {
@@ -236,6 +268,7 @@ impl Words for StateWords {
     ghost words = { λ s. state_words s.state };
 
     #[tactic(auto, unfolding(crate::specs::Texts::state_words))]
+    #[inline]
     fn put_spaced<O: Out>(&self, out: &mut O) -> Result<(), PutFault> {
         if self.state {
             put_words(&[b"-m", b"state", b"--state", b"ESTABLISHED,RELATED"], out)
@@ -254,13 +287,29 @@ impl Words for ActWords {
     ghost words = { λ a. act_words a.act };
 
     #[tactic(auto, unfolding(crate::specs::Texts::act_words))]
+    #[inline]
     fn put_spaced<O: Out>(&self, out: &mut O) -> Result<(), PutFault> {
-        let words: &[&[u8]] = &[b"-j", target_word(self.act)];
+        let target = TargetWords { act: self.act };
         let reset = is_reset(self.act);
-        (words, ResetWords { reset }).put_spaced(out)
+        (target, ResetWords { reset }).put_spaced(out)
     }
 }
 
+#[derive(Drop)]
+struct TargetWords {
+    act: Act,
+}
+
+impl Words for TargetWords {
+    ghost words = { λ t. codes "-j" ∷ target_word t.act ∷ [] };
+
+    #[inline]
+    fn put_spaced<O: Out>(&self, out: &mut O) -> Result<(), PutFault> {
+        put_keyed(b" -j ", target_word(self.act), out)
+    }
+}
+
+#[inline]
 fn target_word(act: Act) -> &'static [u8]
     ensures { result.now ≡ target_word act }
 {
@@ -272,6 +321,7 @@ fn target_word(act: Act) -> &'static [u8]
     }
 }
 
+#[inline]
 fn is_reset(act: Act) -> bool
     ensures { result ≡ is_reset act }
 {
@@ -290,6 +340,7 @@ impl Words for ResetWords {
     ghost words = { λ r. reset_words r.reset };
 
     #[tactic(auto, unfolding(crate::specs::Texts::reset_words))]
+    #[inline]
     fn put_spaced<O: Out>(&self, out: &mut O) -> Result<(), PutFault> {
         if self.reset {
             put_words(&[b"--reject-with", b"tcp-reset"], out)
