@@ -227,12 +227,20 @@ struct WithTail<'a, F> {
 impl<'a, F: CombinationForm> AddressForm for WithTail<'a, F> {
     ghost rows = { λ w c. F.item_rows w.form.now (combination_of (with_tail w.tail c)) };
 
-    ghost front = { λ w proto src. F.front w.form.now proto src w.tail.0 };
+    // The action and the protocol are words of the same half as the source.
+    ghost front = { λ w proto. [] };
+
+    ghost source = { λ w proto src. F.front w.form.now proto src w.tail.0 };
 
     ghost back = { λ w dst. F.back w.form.now dst w.tail.1.0 w.tail.1.1.0 w.tail.1.1.1 };
 
     #[inline]
-    fn put_front<O: Out>(
+    fn put_front<O: Out>(&self, _proto: Option<u8>, _out: &mut O) -> Result<(), PutFault> {
+        Ok(())
+    }
+
+    #[inline]
+    fn put_source<O: Out>(
         &self,
         proto: Option<u8>,
         src: &Prefix,
@@ -248,6 +256,6 @@ impl<'a, F: CombinationForm> AddressForm for WithTail<'a, F> {
         self.form.put_back(dst, dport, itype, icode, out)
     }
 
-    ghost is_halves = { λ w proto src dst.
+    ghost is_parts = { λ w proto src dst.
         F.is_halves w.form.now (combination_of (with_tail w.tail (proto, (src, dst)))) };
 }

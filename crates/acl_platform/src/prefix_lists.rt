@@ -1,4 +1,4 @@
-ghost use Rattle.std.specs.Prelude.{◌≡◌, min, length};
+ghost use Rattle.std.specs.Prelude.{◌≡◌, [], ◌∷◌, IfSome, min, length};
 ghost use Rattle.acl_text.specs.Output.{COUNT_END};
 ghost use Rattle.acl_platform.specs.Elements.{address_elements};
 
@@ -61,6 +61,18 @@ impl<'a> Listed for ListedPrefixes<'a> {
     #[inline]
     fn next(&mut self) -> Option<Prefix> {
         self.left.next()
+    }
+}
+
+/// The prefix of a list that has one.
+pub(crate) fn one_prefix(prefixes: &Prefixes) -> Option<Prefix>
+    ensures { IfSome result (λ prefix. prefixes.now ≡ prefix ∷ []) }
+{
+    let mut left = ListedPrefixes::all(prefixes);
+    let prefix = left.next()?;
+    match left.next() {
+        Some(_) => None,
+        None => Some(prefix),
     }
 }
 

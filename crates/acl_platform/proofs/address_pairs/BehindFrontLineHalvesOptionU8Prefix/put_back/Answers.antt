@@ -1,0 +1,13 @@
+use Rattle.std.proofs.Common.{refl}
+use Rattle.std.proofs.lemmas.Result.{err_from_is_err_and}
+use Rattle.acl_text.proofs.Putting.{goes_on, stops}
+use Rattle.acl_platform.proofs.address_pairs.BehindFrontLineHalvesOptionU8Prefix.put_back.Goals as goal
+
+pub returns-in_err-put_source : goal.returns-in_err-put_source
+returns-in_err-put_source g c =
+    let p = err_from_is_err_and c.from_residual.result c.from_residual.ensures.1 in
+    let b = c.args.self.now in
+    rw (p.1, p.2) (stops (g.F.AddressForm.back b.form.now b.dst) c.in_err-put_source.ensures refl)
+
+pub returns : goal.returns
+returns g c = goes_on g.met.O.Out.rest_goes_on c.in_ok-put_source.ensures c.put_back.ensures
