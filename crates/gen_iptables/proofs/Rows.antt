@@ -13,10 +13,10 @@ use Rattle.acl_platform.proofs.ElementLaws.{each-range}
 use Rattle.acl_platform.proofs.PairLaws.{over-pairs}
 use Rattle.acl_sets.specs.declared.sets.Range.{Range}
 use Rattle.ipt_lang.specs.declared.chain_rows.SectionHead.{SectionHead}
-use Rattle.ipt_lang.specs.Texts.{chain_row, chain_rows, head_rows, jump_row, ports_words, range_word, remark_rows, rule_row, rule_rows, section_rows, text_of}
+use Rattle.ipt_lang.specs.Texts.{chain_row, chain_rows, head_rows, jump_row, ports_words, proto_words, range_word, remark_rows, rule_row, rule_rows, section_rows, text_of}
 use Rattle.ipt_lang.specs.declared.documents.Rule.{Rule as ChainRule}
-use Rattle.ipt_lang.specs.RuleHalves.{destination_words, source_words}
-use Rattle.ipt_lang.proofs.HalfLaws.{own_ports, words_of_halves}
+use Rattle.ipt_lang.specs.RuleLines.{destination_words, source_words}
+use Rattle.ipt_lang.proofs.LineLaws.{own_ports, words_of_parts}
 use Rattle.gen_iptables.specs.Groups.{group_choices}
 use Rattle.gen_iptables.specs.ChainRowSteps.{combination_rows, head_of, rows_behind_front, rows_behind_sources}
 use Rattle.acl_packet.specs.Addresses.{first_family}
@@ -36,15 +36,16 @@ group-ports sports dports =
     ∙ ap (ports_words (port_words sports)) (each-range range_word dports)
 
 pub rule-text : (hook : Hook) (family : Family) (name : List ℕ) (rule : ChainRule) {ports : List (List ℕ)} → ports ≡ own_ports rule
-    → text_of_rows (rule_row hook name (source_words family rule.proto rule.src
-    ++ destination_words family rule.dst ports rule.itype rule.icode rule.flags rule.state rule.act) ∷ [])
+    → text_of_rows (rule_row hook name (proto_words family rule.proto ++ (source_words rule.src
+    ++ destination_words family rule.dst ports rule.itype rule.icode rule.flags rule.state rule.act)) ∷ [])
     ≡ text_of_rows (rule_rows hook family name rule)
 unfolding rule_rows
 rule-text hook family name rule e =
-    let source = source_words family rule.proto rule.src in
+    let proto = proto_words family rule.proto in
+    let source = source_words rule.src in
     let text : List (List ℕ) → List ℕ = λ words. text_of_rows (rule_row hook name words ∷ []) in
-    ap (λ ports. text (source ++ destination_words family rule.dst ports rule.itype rule.icode rule.flags rule.state rule.act)) e
-    ∙ ap text (words_of_halves family rule)
+    ap (λ ports. text (proto ++ (source ++ destination_words family rule.dst ports rule.itype rule.icode rule.flags rule.state rule.act))) e
+    ∙ ap text (words_of_parts family rule)
 
 -- ---- the rules of a chain, part by part
 

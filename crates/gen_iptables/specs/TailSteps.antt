@@ -7,7 +7,7 @@ use Rattle.acl_platform.specs.declared.rules.Rule.{Rule}
 use Rattle.acl_platform.specs.Choices.{pairs}
 use Rattle.ipt_lang.specs.declared.documents.Act.TheVariants.{Decide}
 use Rattle.ipt_lang.specs.declared.documents.Rule.{Rule as ChainRule}
-use Rattle.ipt_lang.specs.RuleHalves.{rule_back}
+use Rattle.ipt_lang.specs.RuleLines.{rule_back}
 use Rattle.ipt_lang.specs.Texts.{ports_words, range_word}
 use Rattle.gen_iptables.specs.declared.rule_rows.Tail.{Tail}
 use Rattle.gen_iptables.specs.Groups.{group_choices}

@@ -3,9 +3,9 @@ ghost use Rattle.acl_text.specs.Puts.{Puts};
 ghost use Rattle.acl_rows.specs.Rows.{text_of_rows};
 ghost use Rattle.acl_platform.specs.Combinations.{IsSized};
 ghost use Rattle.ipt_lang.specs.declared.documents.Act.TheVariants.{Log};
-ghost use Rattle.ipt_lang.specs.RuleHalves.{rule_front};
+ghost use Rattle.ipt_lang.specs.RuleLines.{rule_front, rule_source};
 ghost use Rattle.ipt_lang.specs.Texts.{range_word, rule_rows};
-ghost use Rattle.ipt_lang.proofs.HalfLaws.{line_of_halves};
+ghost use Rattle.ipt_lang.proofs.LineLaws.{line_of_parts};
 ghost use Rattle.gen_iptables.specs.TailSteps.{IsOnlyTail, tail_of, tailed_back, tailed_rule};
 ghost use Rattle.gen_iptables.specs.ChainRowSteps.{
   combination_rows,
@@ -27,10 +27,10 @@ ghost use Rattle.gen_iptables.specs.Sections.{
 use crate::groups::{GroupForm, one_group, put_groups};
 use acl_packet::{Family, Hook, Prefix};
 use acl_platform::{AddressForm, Choices, NumberChoices, Rule, Test, put_address_pairs};
-use acl_rows::{Piece, PortRange, RowForm, Rows, WordForm};
+use acl_rows::{Piece, PortRange, RowForm, Rows, WordForm, Words};
 use acl_sets::{Prefixes, Range};
 use acl_text::{Out, PutFault};
-use ipt_lang::{Act, Flags, PortLists, RuleBack, RuleFront, RuleRow};
+use ipt_lang::{Act, Flags, PortLists, RuleBack, RuleFront, RuleRow, RuleSource};
 
 // What stands before the ports of a rule, and what behind.
 type Front = (Option<u8>, (Prefix, Prefix));
@@ -121,13 +121,12 @@ impl<'a> ChainRules<'a> {
         fronts_of(self.rule).put_each(self, out)
     }
 
-    fn front_of(&self, proto: Option<u8>, src: Prefix) -> RuleFront<'_>
+    fn front_of(&self, proto: Option<u8>) -> RuleFront<'_>
         ensures parts { result ≡ record {
           hook = self.now.hook;
           name = result.name;
           family = self.now.family;
           proto = proto;
-          src = address_of src;
         } }
         ensures name { result.name.now ≡ self.now.rule.now.name }
     {
@@ -136,10 +135,10 @@ impl<'a> ChainRules<'a> {
             name: self.rule.name.as_slice(),
             family: self.family,
             proto,
-            src: address_of(src),
         }
     }
 
+    #[inline]
     fn back_of<'t>(
         &self,
         dst: Prefix,
@@ -226,26 +225,34 @@ impl<'a, 't> AddressForm for WithTail<'a, 't> {
     ghost rows = { λ w front. rule_rows w.chain.now.hook w.chain.now.family
         w.chain.now.rule.now.name (tailed_rule w.chain.now.rule.now w.tail front) };
 
-    ghost front = { λ w proto src. rule_front w.chain.now.hook w.chain.now.rule.now.name
-        w.chain.now.family proto (address_of src) };
+    ghost front = { λ w proto.
+        rule_front w.chain.now.hook w.chain.now.rule.now.name w.chain.now.family proto };
+
+    ghost source = { λ w proto src. rule_source (address_of src) };
 
     ghost back = { λ w dst. tailed_back w.chain.now.family w.chain.now.rule.now w.tail dst };
 
-    fn put_front<O: Out>(
+    fn put_front<O: Out>(&self, proto: Option<u8>, out: &mut O) -> Result<(), PutFault> {
+        self.chain.front_of(proto).put_into(out)
+    }
+
+    #[inline]
+    fn put_source<O: Out>(
         &self,
-        proto: Option<u8>,
+        _proto: Option<u8>,
         src: &Prefix,
         out: &mut O,
     ) -> Result<(), PutFault> {
-        self.chain.front_of(proto, *src).put_into(out)
+        source_of(*src).put_spaced(out)
     }
 
+    #[inline]
     fn put_back<O: Out>(&self, dst: &Prefix, out: &mut O) -> Result<(), PutFault> {
         let act = Act::Decide(self.chain.rule.verdict);
         self.chain.back_of(*dst, &self.tail, act).put_into(out)
     }
 
-    ghost is_halves = { λ w proto src dst. line_of_halves w.chain.now.hook w.chain.now.family
+    ghost is_parts = { λ w proto src dst. line_of_parts w.chain.now.hook w.chain.now.family
         w.chain.now.rule.now.name
         (tailed_rule w.chain.now.rule.now w.tail (proto, (src, dst))) };
 }
@@ -377,13 +384,24 @@ impl<'a> Rows for OneRule<'a> {
     fn put_rows<O: Out>(&self, out: &mut O) -> Result<(), PutFault> {
         let (proto, (src, dst)) = self.front;
         let row = RuleRow {
-            front: self.chain.front_of(proto, src),
+            front: self.chain.front_of(proto),
+            source: source_of(src),
             back: self.chain.back_of(dst, &self.tail, self.act),
         };
         row.put_rows(out)
     }
 }
 
+#[inline]
+fn source_of(src: Prefix) -> RuleSource
+    ensures { result ≡ record { address = address_of src } }
+{
+    RuleSource {
+        address: address_of(src),
+    }
+}
+
+#[inline]
 fn address_of(prefix: Prefix) -> Option<Prefix>
     ensures { result ≡ address_of prefix }
 {

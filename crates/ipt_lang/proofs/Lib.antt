@@ -1,7 +1,7 @@
 pub mod ChainScanLaws
 pub mod DocumentLaws
 pub mod FirstRowLaws
-pub mod HalfLaws
+pub mod LineLaws
 pub mod PortWords
 pub mod RowScanLaws
 pub mod RuleReadingLaws

@@ -1,8 +1,9 @@
 -- Lists of ports as words: what is put of them, and the words that are theirs.
-use Rattle.std.proofs.Common.{◌≡◌, ℕ, ◌-◌, ◌<◌, ◌≤◌, List, [], ◌∷◌, ◌++◌, length, take, drop, get_or, map, flat_map, refl, ap, ◌∙◌, append-nil, arith}
+use Rattle.std.proofs.Common.{◌≡◌, ℕ, ◌-◌, ◌<◌, ◌≤◌, true, ◌==◌, List, [], ◌∷◌, ◌++◌, length, take, drop, get_or, map, flat_map, refl, ap, ◌∙◌, append-nil, arith}
 use Rattle.std.specs.List.{join_with_byte}
+use Rattle.std.proofs.lemmas.Bool.{eqb-true}
 use Rattle.std.proofs.Math.Seq.{take-length}
-use Rattle.ipt_lang.specs.Texts.{is_single}
+use Rattle.ipt_lang.specs.Texts.{is_single, port_list_words, ports_words}
 
 pub single_map : {A B : Type 0} (f : A → B) (xs : List A) → is_single (map f xs) ≡ is_single xs
 single_map f [] = refl
@@ -28,3 +29,13 @@ joined_all f (x ∷ xs) first h e =
 pub no_items : {A : Type 0} (f : A → List ℕ) (xs : List A) → length xs < 1 → [] ≡ join_with_byte 44 (map f xs)
 no_items f [] h = refl
 no_items f (x ∷ xs) h = absurd (omega arith)
+
+-- no ports are no words
+pub no_ports : {A : Type 0} (f : A → List ℕ) (sports dports : List A) → (length sports == 0) ≡ true → (length dports == 0) ≡ true
+    → [] ≡ ports_words (map f sports) (map f dports)
+unfolding ports_words port_list_words
+no_ports f [] [] h k = refl
+no_ports f [] (y ∷ ys) h k =
+    let none = eqb-true (length (y ∷ ys)) 0 k in absurd (omega (arith, none))
+no_ports f (x ∷ xs) dports h k =
+    let none = eqb-true (length (x ∷ xs)) 0 h in absurd (omega (arith, none))

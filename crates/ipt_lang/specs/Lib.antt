@@ -1,6 +1,6 @@
 pub mod Documents
 pub mod ReadingSteps
-pub mod RuleHalves
+pub mod RuleLines
 pub mod ScanSteps
 pub mod Texts
 pub mod ValiditySteps

@@ -4,7 +4,7 @@ ghost use Rattle.ipt_lang.specs.Texts.{chain_name, chain_row, chain_rows, head_r
 
 use crate::documents::{Chain, Rule, Section};
 use crate::ports::PortLists;
-use crate::rule_halves::{RuleBack, RuleFront, RuleRow};
+use crate::rule_rows::{RuleBack, RuleFront, RuleRow, RuleSource};
 use acl_packet::{Family, Hook};
 use acl_rows::{Each, FreeText, OneWord, Piece, RangeWords, Row, RowForm, Rows};
 use acl_text::{Bytes, Out, PutFault};
@@ -298,8 +298,8 @@ impl<'a> RowForm<Rule> for OfChain<'a> {
             name: self.name,
             family: self.family,
             proto: rule.proto,
-            src: rule.src,
         };
+        let source = RuleSource { address: rule.src };
         let back = RuleBack {
             family: self.family,
             dst: rule.dst,
@@ -310,6 +310,11 @@ impl<'a> RowForm<Rule> for OfChain<'a> {
             state: rule.state,
             act: rule.act,
         };
-        RuleRow { front, back }.put_rows(out)
+        let row = RuleRow {
+            front,
+            source,
+            back,
+        };
+        row.put_rows(out)
     }
 }

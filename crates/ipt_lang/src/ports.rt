@@ -21,6 +21,9 @@ impl<'a, T: Copy, F: WordForm<T>> Words for PortLists<'a, T, F> {
     #[tactic(auto, using(crate::proofs::PortWords::single_map), unfolding(crate::specs::Texts::ports_words))]
     #[inline]
     fn put_spaced<O: Out>(&self, out: &mut O) -> Result<(), PutFault> {
+        if self.sports.is_empty() && self.dports.is_empty() {
+            return Ok(());
+        }
         let plain = is_single(self.sports) && is_single(self.dports);
         let sources = PortList {
             plain,

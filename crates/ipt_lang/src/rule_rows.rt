@@ -1,10 +1,10 @@
 ghost use Rattle.std.specs.Prelude.{◌∷◌, ◌++◌, []};
-ghost use Rattle.ipt_lang.specs.RuleHalves.{destination_words, rule_back, rule_front, source_words};
-ghost use Rattle.ipt_lang.specs.Texts.{chain_name, rule_row};
+ghost use Rattle.ipt_lang.specs.RuleLines.{destination_words, rule_back, rule_front, source_words};
+ghost use Rattle.ipt_lang.specs.Texts.{address_words, chain_name, proto_words, rule_row};
 
 use crate::chain_rows::ChainName;
 use crate::documents::{Act, Flags};
-use crate::rule_words::{DestinationWords, Protocol, SourceWords, TestWords};
+use crate::rule_words::{DestinationWords, Protocol, TestWords, put_keyed};
 use acl_packet::{Family, Hook, Prefix};
 use acl_rows::{OneWord, Piece, Row, RowBack, RowFront, Rows, Words};
 use acl_text::{Out, PutFault};
@@ -13,29 +13,29 @@ use acl_text::{Out, PutFault};
 #[derive(Drop)]
 pub struct RuleRow<'a, P> {
     pub front: RuleFront<'a>,
+    pub source: RuleSource,
     pub back: RuleBack<P>,
 }
 
 impl<'a, P: Words + Copy> Rows for RuleRow<'a, P> {
     ghost rows = { λ r. rule_row r.front.hook r.front.name.now
-        (source_words r.front.family r.front.proto r.front.src
+        (proto_words r.front.family r.front.proto ++ (source_words r.source.address
         ++ destination_words r.back.family r.back.dst (P.words r.back.ports) r.back.itype
-        r.back.icode r.back.flags r.back.state r.back.act) ∷ [] };
+        r.back.icode r.back.flags r.back.state r.back.act)) ∷ [] };
 
-    #[inline]
     fn put_rows<O: Out>(&self, out: &mut O) -> Result<(), PutFault> {
-        let front = FrontWords { front: self.front };
-        let back = BackWords { back: self.back };
+        let front = FrontWords { front: &self.front };
+        let back = BackWords { back: &self.back };
         let row = Row {
             indent: 0,
             first: b"-A".as_slice(),
-            rest: (front, back),
+            rest: (front, (self.source, back)),
         };
         row.put_rows(out)
     }
 }
 
-/// What the line of a rule begins with: its chain, its protocol and its source.
+/// What the line of a rule begins with: its chain and its protocol.
 #[derive(Clone, Copy)]
 pub struct RuleFront<'a> {
     pub hook: Hook,
@@ -43,18 +43,16 @@ pub struct RuleFront<'a> {
     pub name: &'a [u8],
     pub family: Family,
     pub proto: Option<u8>,
-    pub src: Option<Prefix>,
 }
 
 impl<'a> Piece for RuleFront<'a> {
-    ghost text = { λ f. rule_front f.hook f.name.now f.family f.proto f.src };
+    ghost text = { λ f. rule_front f.hook f.name.now f.family f.proto };
 
-    #[inline]
     fn put_into<O: Out>(&self, out: &mut O) -> Result<(), PutFault> {
         let front = RowFront {
             indent: 0,
             first: b"-A".as_slice(),
-            rest: FrontWords { front: *self },
+            rest: FrontWords { front: self },
         };
         front.put_into(out)
     }
@@ -62,30 +60,45 @@ impl<'a> Piece for RuleFront<'a> {
 
 // The words of a front, behind the first one.
 #[derive(Clone, Copy)]
-struct FrontWords<'a> {
-    front: RuleFront<'a>,
+struct FrontWords<'a, 'n> {
+    front: &'a RuleFront<'n>,
 }
 
-impl<'a> Words for FrontWords<'a> {
-    ghost words = { λ w. chain_name w.front.hook w.front.name.now
-        ∷ source_words w.front.family w.front.proto w.front.src };
+impl<'a, 'n> Words for FrontWords<'a, 'n> {
+    ghost words = { λ w. chain_name w.front.now.hook w.front.now.name.now
+        ∷ proto_words w.front.now.family w.front.now.proto };
 
-    #[tactic(auto, unfolding(crate::specs::RuleHalves::source_words))]
-    #[inline]
     fn put_spaced<O: Out>(&self, out: &mut O) -> Result<(), PutFault> {
-        let front = &self.front;
         let chain = OneWord {
             piece: ChainName {
-                hook: front.hook,
-                name: front.name,
+                hook: self.front.hook,
+                name: self.front.name,
             },
         };
         let protocol = Protocol {
-            family: front.family,
-            number: front.proto,
+            family: self.front.family,
+            number: self.front.proto,
         };
-        let source = SourceWords { address: front.src };
-        (chain, (protocol, source)).put_spaced(out)
+        (chain, protocol).put_spaced(out)
+    }
+}
+
+/// What stands behind the front: the source, where the rule asks for some addresses.
+#[derive(Clone, Copy)]
+pub struct RuleSource {
+    pub address: Option<Prefix>,
+}
+
+impl Words for RuleSource {
+    ghost words = { λ s. source_words s.address };
+
+    #[tactic(auto, unfolding(crate::specs::Texts::address_words))]
+    #[inline]
+    fn put_spaced<O: Out>(&self, out: &mut O) -> Result<(), PutFault> {
+        match self.address {
+            Some(prefix) => put_keyed(b" -s ", prefix, out),
+            None => Ok(()),
+        }
     }
 }
 
@@ -110,7 +123,7 @@ impl<P: Words + Copy> Piece for RuleBack<P> {
     #[inline]
     fn put_into<O: Out>(&self, out: &mut O) -> Result<(), PutFault> {
         let back = RowBack {
-            rest: BackWords { back: *self },
+            rest: BackWords { back: self },
         };
         back.put_into(out)
     }
@@ -118,18 +131,19 @@ impl<P: Words + Copy> Piece for RuleBack<P> {
 
 // The words of a back.
 #[derive(Clone, Copy)]
-struct BackWords<P> {
-    back: RuleBack<P>,
+struct BackWords<'a, P> {
+    back: &'a RuleBack<P>,
 }
 
-impl<P: Words + Copy> Words for BackWords<P> {
-    ghost words = { λ w. destination_words w.back.family w.back.dst (P.words w.back.ports)
-        w.back.itype w.back.icode w.back.flags w.back.state w.back.act };
+impl<'a, P: Words + Copy> Words for BackWords<'a, P> {
+    ghost words = { λ w. destination_words w.back.now.family w.back.now.dst
+        (P.words w.back.now.ports) w.back.now.itype w.back.now.icode w.back.now.flags
+        w.back.now.state w.back.now.act };
 
-    #[tactic(auto, unfolding(crate::specs::RuleHalves::destination_words))]
+    #[tactic(auto, unfolding(crate::specs::RuleLines::destination_words))]
     #[inline]
     fn put_spaced<O: Out>(&self, out: &mut O) -> Result<(), PutFault> {
-        let back = &self.back;
+        let back = self.back;
         let destination = DestinationWords { address: back.dst };
         let tests = TestWords {
             family: back.family,

@@ -70,26 +70,7 @@ fn icmp_word(family: Family) -> &'static [u8]
     }
 }
 
-/// The addresses that a rule asks for, where it asks for some of the source.
-#[derive(Drop)]
-pub(crate) struct SourceWords {
-    pub(crate) address: Option<Prefix>,
-}
-
-impl Words for SourceWords {
-    ghost words = { λ s. address_words (codes "-s") s.address };
-
-    #[tactic(auto, unfolding(crate::specs::Texts::address_words))]
-    #[inline]
-    fn put_spaced<O: Out>(&self, out: &mut O) -> Result<(), PutFault> {
-        match self.address {
-            Some(prefix) => put_keyed(b" -s ", prefix, out),
-            None => Ok(()),
-        }
-    }
-}
-
-/// The addresses that a rule asks for, where it asks for some of the destination.
+/// The destination of a rule, where it asks for some addresses.
 #[derive(Drop)]
 pub(crate) struct DestinationWords {
     pub(crate) address: Option<Prefix>,
@@ -108,9 +89,13 @@ impl Words for DestinationWords {
     }
 }
 
-// Puts a word and the one that it names, by two puts; the key is the first between two spaces.
+/// Puts a word and the one that it names, by two puts; the key is the first between two spaces.
 #[inline]
-fn put_keyed<P: Piece + Drop, O: Out>(key: &[u8], piece: P, out: &mut O) -> Result<(), PutFault>
+pub(crate) fn put_keyed<P: Piece + Drop, O: Out>(
+    key: &[u8],
+    piece: P,
+    out: &mut O,
+) -> Result<(), PutFault>
     requires { IsTrue (O.is_open out.old) }
     ensures { Puts O.Out out.old out.new (key.now ++ (P.text piece ++ [])) result }
 {
@@ -305,19 +290,12 @@ impl Words for TargetWords {
 
     #[inline]
     fn put_spaced<O: Out>(&self, out: &mut O) -> Result<(), PutFault> {
-        put_keyed(b" -j ", target_word(self.act), out)
-    }
-}
-
-#[inline]
-fn target_word(act: Act) -> &'static [u8]
-    ensures { result.now ≡ target_word act }
-{
-    match act {
-        Act::Log => b"LOG",
-        Act::Decide(Verdict::Accept) => b"ACCEPT",
-        Act::Decide(Verdict::Deny | Verdict::Left) => b"DROP",
-        Act::Decide(Verdict::Reject | Verdict::Reset) => b"REJECT",
+        match self.act {
+            Act::Log => out.put(b" -j LOG"),
+            Act::Decide(Verdict::Accept) => out.put(b" -j ACCEPT"),
+            Act::Decide(Verdict::Deny | Verdict::Left) => out.put(b" -j DROP"),
+            Act::Decide(Verdict::Reject | Verdict::Reset) => out.put(b" -j REJECT"),
+        }
     }
 }
 

@@ -3,8 +3,8 @@ use Rattle.acl_rows.proofs.PutLaws.{retold}
 use Rattle.acl_sets.specs.declared.sets.Range.{Range}
 use Rattle.ipt_lang.specs.declared.documents.Act.TheVariants.{Decide}
 use Rattle.ipt_lang.specs.declared.ports.PortLists.{PortLists}
-use Rattle.ipt_lang.specs.declared.rule_halves.RuleBack.{RuleBack}
-use Rattle.ipt_lang.specs.RuleHalves.{rule_back}
+use Rattle.ipt_lang.specs.declared.rule_rows.RuleBack.{RuleBack}
+use Rattle.ipt_lang.specs.RuleLines.{rule_back}
 use Rattle.ipt_lang.specs.Texts.{ports_words}
 use Rattle.gen_iptables.specs.declared.rule_rows.InRanges.{InRanges}
 use Rattle.gen_iptables.specs.Sections.{address_of, asks_state}
