@@ -79,15 +79,15 @@ impl<'a, F: AddressForm> RowForm<Option<u8>> for OfProtocol<'a, F> {
 
     fn put_item<O: Out>(&self, item: &Option<u8>, out: &mut O) -> Result<(), PutFault> {
         match one_prefix(&self.rule.dst) {
-            Some(dst) => self.put_sources(*item, dst, out),
-            None => self.put_pairs(*item, out),
+            Some(dst) => self.put_each_source(*item, dst, out),
+            None => self.put_each_pair(*item, out),
         }
     }
 }
 
 impl<'a, F: AddressForm> OfProtocol<'a, F> {
-    // Puts the line of each source, where there is one destination: all of these begin with one front.
-    fn put_sources<O: Out>(
+    // Puts the line of each source with the one destination, behind one front.
+    fn put_each_source<O: Out>(
         &self,
         proto: Option<u8>,
         dst: Prefix,
@@ -110,7 +110,7 @@ impl<'a, F: AddressForm> OfProtocol<'a, F> {
     }
 
     // Puts the line of each source with each destination.
-    fn put_pairs<O: Out>(&self, proto: Option<u8>, out: &mut O) -> Result<(), PutFault>
+    fn put_each_pair<O: Out>(&self, proto: Option<u8>, out: &mut O) -> Result<(), PutFault>
         requires { IsTrue (O.is_open out.old) }
         ensures { Puts O.Out out.old out.new
             (text_of_rows (flat_map (λ addresses. F.rows self.now.form.now (proto, addresses))

@@ -89,8 +89,9 @@ impl Words for DestinationWords {
     }
 }
 
-/// Puts a word and the one that it names, by two puts; the key is the first between two spaces.
-#[inline]
+/// Puts a word and the one that it names, by two puts; the key is the first between two spaces. It is written without a
+/// call, since its length is known at each place.
+#[inline(always)]
 pub(crate) fn put_keyed<P: Piece + Drop, O: Out>(
     key: &[u8],
     piece: P,

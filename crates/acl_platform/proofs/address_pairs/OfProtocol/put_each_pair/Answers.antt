@@ -2,7 +2,7 @@ use Rattle.std.proofs.Common.{ℕ, List, ◌++◌, flat_map, ap, ◌∙◌}
 use Rattle.acl_packet.specs.declared.addresses.Prefix.{Prefix}
 use Rattle.acl_rows.proofs.PutLaws.{retold}
 use Rattle.acl_platform.proofs.HalfLaws.{halves_of_pairs}
-use Rattle.acl_platform.proofs.address_pairs.OfProtocol.put_pairs.Goals as goal
+use Rattle.acl_platform.proofs.address_pairs.OfProtocol.put_each_pair.Goals as goal
 
 pub returns : goal.returns
 returns g c =

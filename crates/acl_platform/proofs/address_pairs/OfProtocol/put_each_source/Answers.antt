@@ -4,7 +4,7 @@ use Rattle.acl_rows.specs.Rows.{text_of_rows}
 use Rattle.acl_rows.proofs.PutLaws.{retold}
 use Rattle.acl_platform.specs.Choices.{pairs}
 use Rattle.acl_platform.proofs.HalfLaws.{lines_behind_front}
-use Rattle.acl_platform.proofs.address_pairs.OfProtocol.put_sources.Goals as goal
+use Rattle.acl_platform.proofs.address_pairs.OfProtocol.put_each_source.Goals as goal
 
 pub returns : goal.returns
 returns g c =
