@@ -121,6 +121,7 @@ impl<'a> ChainRules<'a> {
         fronts_of(self.rule).put_each(self, out)
     }
 
+    // What a rule with the protocol begins with.
     fn front_of(&self, proto: Option<u8>) -> RuleFront<'_>
         ensures parts { result ≡ record {
           hook = self.now.hook;
@@ -138,6 +139,7 @@ impl<'a> ChainRules<'a> {
         }
     }
 
+    // What a rule with the destination, the tail and the act ends with.
     #[inline]
     fn back_of<'t>(
         &self,
@@ -205,6 +207,7 @@ fn one_tail(rule: &Rule) -> Option<Tail<'_>>
     })
 }
 
+// The choice of flags, where the test has one.
 fn one_choice(test: Test) -> Option<Option<Flags>>
     ensures { IfSome result (λ flags. flag_choices test ≡ flags ∷ []) }
 {
