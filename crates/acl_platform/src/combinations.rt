@@ -4,7 +4,7 @@ ghost use Rattle.acl_text.specs.Puts.{Puts};
 ghost use Rattle.acl_rows.specs.Rows.{text_of_rows};
 ghost use Rattle.acl_packet.specs.declared.addresses.Prefix.{Prefix};
 ghost use Rattle.acl_platform.specs.declared.combinations.Combination.{Combination};
-ghost use Rattle.acl_platform.specs.Choices.{pairs, range_choices};
+ghost use Rattle.acl_platform.specs.Choices.{range_choices};
 ghost use Rattle.acl_platform.specs.ChoiceSteps.{tails_of, with_tail};
 ghost use Rattle.acl_platform.specs.Combinations.{IsSized, combination_of, combinations, parts_of};
 

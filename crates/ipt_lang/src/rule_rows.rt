@@ -1,6 +1,6 @@
 ghost use Rattle.std.specs.Prelude.{◌∷◌, ◌++◌, []};
 ghost use Rattle.ipt_lang.specs.RuleLines.{destination_words, rule_back, rule_front, source_words};
-ghost use Rattle.ipt_lang.specs.Texts.{address_words, chain_name, proto_words, rule_row};
+ghost use Rattle.ipt_lang.specs.Texts.{chain_name, proto_words, rule_row};
 
 use crate::chain_rows::ChainName;
 use crate::documents::{Act, Flags};

@@ -89,8 +89,8 @@ impl Words for DestinationWords {
     }
 }
 
-/// Puts a word and the one that it names, by two puts; the key is the first between two spaces. It is written without a
-/// call, since its length is known at each place.
+/// Puts a word and the one that it names, by two puts; the key is the first between two spaces.
+// Inlined, so that the key has a known length where it is put.
 #[inline(always)]
 pub(crate) fn put_keyed<P: Piece + Drop, O: Out>(
     key: &[u8],
@@ -100,7 +100,8 @@ pub(crate) fn put_keyed<P: Piece + Drop, O: Out>(
     requires { IsTrue (O.is_open out.old) }
     ensures { Puts O.Out out.old out.new (key.now ++ (P.text piece ++ [])) result }
 {
-    (key, piece).put_into(out)
+    out.put(key)?;
+    piece.put_into(out)
 }
 
 /// What stands behind the ports of a rule: its tests and its act.
