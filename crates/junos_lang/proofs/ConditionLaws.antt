@@ -47,3 +47,8 @@ pub conditions_are : (f : Family) (t : JTerm)
     ≡ condition_rows f t
 unfolding condition_rows
 conditions_are f t = refl
+
+-- rows that end with some are some
+pub ends_with_some : (rows more : List Row) → is_empty more ≡ false → is_empty (rows ++ more) ≡ false
+ends_with_some [] more some = some
+ends_with_some (r ∷ rows) more some = refl

@@ -1,5 +1,6 @@
 pub mod ConditionSteps
 pub mod Documents
+pub mod FixedRows
 pub mod ReadingSteps
 pub mod ScanSteps
 pub mod Texts

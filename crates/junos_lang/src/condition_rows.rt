@@ -8,7 +8,7 @@ ghost use Rattle.junos_lang.specs.Texts.{address_rows, closing, condition_word, 
 
 use crate::conditions::Condition;
 use crate::documents::JTest;
-use crate::filter_rows::{Closing, FixedLine, put_word};
+use crate::fixed_rows::FixedRow;
 use acl_packet::{Family, Prefix};
 use acl_rows::{
     EachWord, End, Listed, ListedRows, OneWord, Piece, Row, Rows, WordForm, Words, has_none,
@@ -68,7 +68,7 @@ impl<A: Listed<Item = Prefix>, N: Values + Copy, P: Values + Copy> Rows for From
     }
 }
 
-// Rows of which there may be none.
+// Rows of which there may be none. Those behind are looked at first: they are told sooner than addresses.
 trait Conditions: Rows {
     fn is_none(&self) -> bool
         ensures { result ≡ is_empty (Self.rows self.now) };
@@ -76,7 +76,7 @@ trait Conditions: Rows {
 
 impl<A: Conditions, B: Conditions> Conditions for (A, B) {
     fn is_none(&self) -> bool {
-        self.0.is_none() && self.1.is_none()
+        self.1.is_none() && self.0.is_none()
     }
 }
 
@@ -159,37 +159,8 @@ impl<C: Conditions + Copy> Rows for ConditionBlock<C> {
         if self.conditions.is_none() {
             Ok(())
         } else {
-            (FromHead, (self.conditions, FromEnd)).put_rows(out)
+            (FixedRow::FromHead, (self.conditions, FixedRow::PartEnd)).put_rows(out)
         }
-    }
-}
-
-// The row that begins the conditions of a term.
-#[derive(Drop)]
-struct FromHead;
-
-impl Rows for FromHead {
-    ghost rows = { λ h. row 16 (codes "from" ∷ codes "{" ∷ []) ∷ [] };
-
-    fn put_rows<O: Out>(&self, out: &mut O) -> Result<(), PutFault> {
-        let line = FixedLine {
-            indent: 16,
-            first: b"from",
-            rest: &[b"{"],
-        };
-        line.put_rows(out)
-    }
-}
-
-// The row that ends the conditions of a term.
-#[derive(Drop)]
-struct FromEnd;
-
-impl Rows for FromEnd {
-    ghost rows = { λ e. closing 16 ∷ [] };
-
-    fn put_rows<O: Out>(&self, out: &mut O) -> Result<(), PutFault> {
-        Closing { indent: 16 }.put_rows(out)
     }
 }
 
@@ -208,17 +179,13 @@ impl<'a, A: Listed<Item = Prefix>> Rows for AddressRows<'a, A> {
         if has_none(self.prefixes) {
             return Ok(());
         }
-        let head = FixedLine {
-            indent: 20,
-            first: end_word(self.end),
-            rest: &[b"{"],
-        };
+        let head = FixedRow::head_of(self.end);
         let prefixes = ListedRows {
             indent: 24,
             items: self.prefixes.copy(),
             form: InBlock,
         };
-        (head, (prefixes, Closing { indent: 20 })).put_rows(out)
+        (head, (prefixes, FixedRow::AddressEnd)).put_rows(out)
     }
 }
 
@@ -226,15 +193,6 @@ impl<'a, A: Listed<Item = Prefix>> Conditions for AddressRows<'a, A> {
     #[tactic(auto, using(crate::proofs::ConditionLaws::no_addresses))]
     fn is_none(&self) -> bool {
         has_none(self.prefixes)
-    }
-}
-
-fn end_word(end: End) -> &'static [u8]
-    ensures { result.now ≡ end_word end }
-{
-    match end {
-        End::Source => b"source-address",
-        End::Destination => b"destination-address",
     }
 }
 
@@ -353,7 +311,7 @@ impl Rows for TestRows {
     #[tactic(auto, unfolding(crate::specs::Texts::test_rows))]
     fn put_rows<O: Out>(&self, out: &mut O) -> Result<(), PutFault> {
         match self.test {
-            Some(test) => TestRow { test }.put_rows(out),
+            Some(test) => FixedRow::of_test(test).put_rows(out),
             None => Ok(()),
         }
     }
@@ -363,29 +321,5 @@ impl Conditions for TestRows {
     #[tactic(auto, unfolding(crate::specs::Texts::test_rows))]
     fn is_none(&self) -> bool {
         self.test.is_none()
-    }
-}
-
-#[derive(Drop)]
-struct TestRow {
-    test: JTest,
-}
-
-impl Rows for TestRow {
-    ghost rows = { λ t. row 20 (test_words t.test) ∷ [] };
-
-    fn put_rows<O: Out>(&self, out: &mut O) -> Result<(), PutFault> {
-        match self.test {
-            JTest::Established => put_word(b"tcp-established;", out),
-            JTest::Initial => put_word(b"tcp-initial;", out),
-            JTest::Rst => {
-                let line = FixedLine {
-                    indent: 20,
-                    first: b"tcp-flags",
-                    rest: &[b"\"rst\";"],
-                };
-                line.put_rows(out)
-            }
-        }
     }
 }

@@ -3,18 +3,19 @@ ghost use Rattle.acl_text.specs.Cuts.{views};
 ghost use Rattle.acl_text.specs.Puts.{Puts};
 ghost use Rattle.acl_rows.specs.Rows.{row, text_of_rows};
 ghost use Rattle.junos_lang.specs.Documents.{family_word};
-ghost use Rattle.junos_lang.specs.Texts.{closing, end_rows, head_rows, note_row, syslog_rows, term_row, then_rows, verdict_words};
+ghost use Rattle.junos_lang.specs.Texts.{closing, end_rows, head_rows, note_row, syslog_rows, term_row, then_rows};
 
+use crate::fixed_rows::FixedRow;
 use acl_packet::{Family, Verdict};
 use acl_rows::{FreeText, OneWord, Row, Rows};
 use acl_text::{Out, PutFault};
 
-/// A line of words that are as they are.
+// A line of words that are as they are.
 #[derive(Drop)]
-pub(crate) struct FixedLine<'a> {
-    pub(crate) indent: usize,
-    pub(crate) first: &'a [u8],
-    pub(crate) rest: &'a [&'a [u8]],
+struct FixedLine<'a> {
+    indent: usize,
+    first: &'a [u8],
+    rest: &'a [&'a [u8]],
 }
 
 impl<'a> Rows for FixedLine<'a> {
@@ -30,10 +31,10 @@ impl<'a> Rows for FixedLine<'a> {
     }
 }
 
-/// The row that ends a block.
+// The row that ends a block of a section.
 #[derive(Drop)]
-pub(crate) struct Closing {
-    pub(crate) indent: usize,
+struct Closing {
+    indent: usize,
 }
 
 impl Rows for Closing {
@@ -141,12 +142,16 @@ impl<'a> Rows for TermHead<'a> {
     ghost rows = { λ h. term_row h.name.now ∷ [] };
 
     fn put_rows<O: Out>(&self, out: &mut O) -> Result<(), PutFault> {
-        let line = FixedLine {
-            indent: 12,
-            first: b"term",
-            rest: &[self.name, b"{"],
+        let name = OneWord { piece: self.name };
+        let brace = OneWord {
+            piece: b"{".as_slice(),
         };
-        line.put_rows(out)
+        let row = Row {
+            indent: 12,
+            first: b"term".as_slice(),
+            rest: (name, brace),
+        };
+        row.put_rows(out)
     }
 }
 
@@ -158,21 +163,8 @@ impl Rows for TermEnd {
     ghost rows = { λ e. closing 12 ∷ [] };
 
     fn put_rows<O: Out>(&self, out: &mut O) -> Result<(), PutFault> {
-        Closing { indent: 12 }.put_rows(out)
+        FixedRow::TermEnd.put_rows(out)
     }
-}
-
-/// Puts the row of one word of a part of a term.
-pub(crate) fn put_word<O: Out>(word: &[u8], out: &mut O) -> Result<(), PutFault>
-    requires { IsTrue (O.is_open out.old) }
-    ensures { Puts O.Out out.old out.new (text_of_rows (row 20 (word.now ∷ []) ∷ [])) result }
-{
-    let line = FixedLine {
-        indent: 20,
-        first: word,
-        rest: &[],
-    };
-    line.put_rows(out)
 }
 
 /// The rows of what a term does.
@@ -187,18 +179,11 @@ impl Rows for ThenRows {
 
     #[tactic(auto, unfolding(crate::specs::Texts::then_rows))]
     fn put_rows<O: Out>(&self, out: &mut O) -> Result<(), PutFault> {
-        let head = FixedLine {
-            indent: 16,
-            first: b"then",
-            rest: &[b"{"],
-        };
         let syslog = SyslogRow {
             syslog: self.syslog,
         };
-        let verdict = VerdictRow {
-            verdict: self.verdict,
-        };
-        (head, (syslog, (verdict, Closing { indent: 16 }))).put_rows(out)
+        let verdict = FixedRow::of_verdict(self.verdict);
+        (FixedRow::ThenHead, (syslog, (verdict, FixedRow::PartEnd))).put_rows(out)
     }
 }
 
@@ -212,34 +197,9 @@ impl Rows for SyslogRow {
 
     fn put_rows<O: Out>(&self, out: &mut O) -> Result<(), PutFault> {
         if self.syslog {
-            put_word(b"syslog;", out)
+            FixedRow::Syslog.put_rows(out)
         } else {
             Ok(())
-        }
-    }
-}
-
-#[derive(Drop)]
-struct VerdictRow {
-    verdict: Verdict,
-}
-
-impl Rows for VerdictRow {
-    ghost rows = { λ v. row 20 (verdict_words v.verdict) ∷ [] };
-
-    fn put_rows<O: Out>(&self, out: &mut O) -> Result<(), PutFault> {
-        match self.verdict {
-            Verdict::Accept => put_word(b"accept;", out),
-            Verdict::Deny | Verdict::Left => put_word(b"discard;", out),
-            Verdict::Reject => put_word(b"reject;", out),
-            Verdict::Reset => {
-                let line = FixedLine {
-                    indent: 20,
-                    first: b"reject",
-                    rest: &[b"tcp-reset;"],
-                };
-                line.put_rows(out)
-            }
         }
     }
 }

@@ -9,6 +9,7 @@ mod documents;
 mod filter_rows;
 mod filter_taking;
 mod filters_drafts;
+mod fixed_rows;
 mod junos;
 mod scanning;
 mod term_taking;
