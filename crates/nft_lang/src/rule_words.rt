@@ -1,9 +1,9 @@
-ghost use Rattle.std.specs.Prelude.{◌≡◌};
-ghost use Rattle.nft_lang.specs.Texts.{address_word, ending_words, family_word, family_words, flags_words, icmp_word, port_word, proto_words, state_words, verdict_words};
+ghost use Rattle.std.specs.Prelude.{◌≡◌, ◌∷◌, [], codes};
+ghost use Rattle.nft_lang.specs.Texts.{address_word, ending_words, family_words, flags_words, icmp_word, port_word, proto_words, state_words, verdict_words};
 
 use crate::documents::Flags;
 use acl_packet::{Families, Family, Verdict};
-use acl_rows::{LogWord, Number, OneWord, Words, put_words};
+use acl_rows::{LogWord, Number, OneWord, Words};
 use acl_text::{Out, PutFault};
 
 /// The words that ask for a family, in a table of both.
@@ -17,26 +17,15 @@ impl Words for PacketFamily {
     ghost words = { λ p. family_words p.families p.family };
 
     #[tactic(auto, unfolding(crate::specs::Texts::family_words))]
+    #[inline]
     fn put_spaced<O: Out>(&self, out: &mut O) -> Result<(), PutFault> {
         match self.families {
-            Families::Mixed => {
-                let key: &[&[u8]] = &[b"meta", b"nfproto"];
-                let family = OneWord {
-                    piece: family_word(self.family),
-                };
-                (key, family).put_spaced(out)
-            }
+            Families::Mixed => match self.family {
+                Family::V4 => out.put(b" meta nfproto ipv4"),
+                Family::V6 => out.put(b" meta nfproto ipv6"),
+            },
             Families::Inet | Families::Inet6 => Ok(()),
         }
-    }
-}
-
-fn family_word(family: Family) -> &'static [u8]
-    ensures { result.now ≡ family_word family }
-{
-    match family {
-        Family::V4 => b"ipv4",
-        Family::V6 => b"ipv6",
     }
 }
 
@@ -50,18 +39,31 @@ impl Words for Protocol {
     ghost words = { λ p. proto_words p.number };
 
     #[tactic(auto, unfolding(crate::specs::Texts::proto_words))]
+    #[inline]
     fn put_spaced<O: Out>(&self, out: &mut O) -> Result<(), PutFault> {
         match self.number {
             None => Ok(()),
             Some(number) => {
-                let key: &[&[u8]] = &[b"meta", b"l4proto"];
                 let number = u128::from(number);
                 let number = OneWord {
                     piece: Number { number },
                 };
-                (key, number).put_spaced(out)
+                (ProtocolKey, number).put_spaced(out)
             }
         }
+    }
+}
+
+// The words in front of the number of a protocol.
+#[derive(Drop)]
+struct ProtocolKey;
+
+impl Words for ProtocolKey {
+    ghost words = { λ k. codes "meta" ∷ codes "l4proto" ∷ [] };
+
+    #[inline]
+    fn put_spaced<O: Out>(&self, out: &mut O) -> Result<(), PutFault> {
+        out.put(b" meta l4proto")
     }
 }
 
@@ -110,13 +112,8 @@ impl Words for FlagTest {
     fn put_spaced<O: Out>(&self, out: &mut O) -> Result<(), PutFault> {
         match self.flags {
             None => Ok(()),
-            Some(Flags::Rst) => { put_words(&[b"tcp", b"flags", b"&", b"rst", b"==", b"rst"], out) }
-            Some(Flags::SynNotAck) => put_words(
-                &[
-                    b"tcp", b"flags", b"&", b"(syn", b"|", b"ack)", b"==", b"syn",
-                ],
-                out,
-            ),
+            Some(Flags::Rst) => out.put(b" tcp flags & rst == rst"),
+            Some(Flags::SynNotAck) => out.put(b" tcp flags & (syn | ack) == syn"),
         }
     }
 }
@@ -133,6 +130,7 @@ impl Words for RuleEnding {
     ghost words = { λ e. ending_words e.state e.log e.verdict };
 
     #[tactic(auto, unfolding(crate::specs::Texts::ending_words))]
+    #[inline]
     fn put_spaced<O: Out>(&self, out: &mut O) -> Result<(), PutFault> {
         let state = StateWords { state: self.state };
         let log = LogWord { log: self.log };
@@ -154,10 +152,7 @@ impl Words for StateWords {
     #[tactic(auto, unfolding(crate::specs::Texts::state_words))]
     fn put_spaced<O: Out>(&self, out: &mut O) -> Result<(), PutFault> {
         if self.state {
-            put_words(
-                &[b"ct", b"state", b"{", b"established,", b"related", b"}"],
-                out,
-            )
+            out.put(b" ct state { established, related }")
         } else {
             Ok(())
         }
@@ -173,12 +168,13 @@ impl Words for VerdictWords {
     ghost words = { λ d. verdict_words d.verdict };
 
     #[tactic(auto, unfolding(crate::specs::Texts::verdict_words))]
+    #[inline]
     fn put_spaced<O: Out>(&self, out: &mut O) -> Result<(), PutFault> {
         match self.verdict {
-            Verdict::Accept => put_words(&[b"accept"], out),
-            Verdict::Deny | Verdict::Left => put_words(&[b"drop"], out),
-            Verdict::Reject => put_words(&[b"reject"], out),
-            Verdict::Reset => put_words(&[b"reject", b"with", b"tcp", b"reset"], out),
+            Verdict::Accept => out.put(b" accept"),
+            Verdict::Deny | Verdict::Left => out.put(b" drop"),
+            Verdict::Reject => out.put(b" reject"),
+            Verdict::Reset => out.put(b" reject with tcp reset"),
         }
     }
 }

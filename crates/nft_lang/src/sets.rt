@@ -1,9 +1,9 @@
-ghost use Rattle.std.specs.Prelude.{◌∷◌, decimal, map};
+ghost use Rattle.std.specs.Prelude.{◌∷◌, [], codes, decimal, map};
 ghost use Rattle.acl_text.specs.AddressTexts.{prefix_text};
 ghost use Rattle.nft_lang.specs.Texts.{set_words, with_commas};
 
 use acl_packet::Prefix;
-use acl_rows::{ItemsBehind, Listed, Number, OneItem, Piece, WordForm, Words};
+use acl_rows::{ItemsBehind, Listed, Number, OneItem, OneWord, Piece, WordForm, Words};
 use acl_text::{Out, PutFault, put_prefix};
 
 /// A prefix as an element of a set.
@@ -55,11 +55,34 @@ impl<'a, L: Listed, F: WordForm<L::Item>> Words for ElementSet<'a, L, F> {
                     rest,
                     form: &self.form,
                 };
-                let key: &[&[u8]] = &[self.front, self.key, b"{"];
-                let end: &[&[u8]] = &[b"}"];
-                (key, (listing, end)).put_spaced(out)
+                let opening = SetOpening {
+                    front: self.front,
+                    key: self.key,
+                };
+                let end = OneWord {
+                    piece: b"}".as_slice(),
+                };
+                (opening, (listing, end)).put_spaced(out)
             }
         }
+    }
+}
+
+// The words of what is matched, and the brace that opens its set.
+#[derive(Drop)]
+struct SetOpening<'a> {
+    front: &'a [u8],
+    key: &'a [u8],
+}
+
+impl<'a> Words for SetOpening<'a> {
+    ghost words = { λ s. s.front.now ∷ s.key.now ∷ codes "{" ∷ [] };
+
+    #[inline]
+    fn put_spaced<O: Out>(&self, out: &mut O) -> Result<(), PutFault> {
+        let space: &[u8] = b" ";
+        let brace: &[u8] = b" {";
+        (space, (self.front, (space, (self.key, brace)))).put_into(out)
     }
 }
 
