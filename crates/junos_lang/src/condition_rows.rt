@@ -4,7 +4,7 @@ ghost use Rattle.acl_rows.specs.Rows.{row};
 ghost use Rattle.acl_rows.specs.RuleParts.{is_empty};
 ghost use Rattle.junos_lang.specs.ConditionSteps.{last_rows, value_rows};
 ghost use Rattle.junos_lang.specs.declared.conditions.Condition.TheVariants.{SourcePort, DestinationPort, IcmpType, IcmpCode};
-ghost use Rattle.junos_lang.specs.Texts.{address_rows, closing, condition_word, end_word, from_rows, list_row, list_rows, range_word, test_rows, test_words};
+ghost use Rattle.junos_lang.specs.Texts.{address_rows, condition_word, from_rows, list_row, list_rows, range_word, test_rows};
 
 use crate::conditions::Condition;
 use crate::documents::JTest;
