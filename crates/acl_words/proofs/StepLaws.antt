@@ -1,5 +1,7 @@
 -- One more step.
-use Rattle.std.proofs.Common.{◌≡◌, zero, suc, List, [], ◌∷◌, ◌++◌, length, refl, ap, sym, ◌∙◌, arith}
+use Rattle.std.proofs.Common.{◌≡◌, ◌≤◌, ◌+◌, ℕ, zero, suc, List, [], ◌∷◌, ◌++◌, length, take, refl, ap, sym, ◌∙◌, arith}
+use Rattle.std.proofs.Math.ListN.{replicate}
+use Rattle.std.proofs.lemmas.List.{take-replicate, replicate-append-replicate}
 use Rattle.acl_text.specs.declared.faults.Place.{Place}
 use Rattle.acl_words.specs.declared.place_lists.PlaceStep.{PlaceStep}
 use Rattle.acl_words.specs.declared.place_lists.PlaceStep.TheVariants.{Same, Next, Own}
@@ -60,3 +62,14 @@ stepped_with start last q own own' steps steps' s h is o t =
     let r = step_more start own steps s q h.own_are
     (ap (λ l. place_by s l (added s q)) (sym h.last_is) ∙ is) in
     rw (o, t) (record { last_is = sym r.last_is; own_are = r.own_are }, r.places_are)
+
+-- Steps that stay where they are.
+same_places : (n : ℕ) (p : Place) → places_by p [] (replicate n Same) ≡ replicate n p
+same_places zero p = refl
+same_places (suc n) p = ap (λ ps. p ∷ ps) (same_places n p)
+
+pub repeated_by : (n : ℕ) (p : Place) → n ≤ 32 → places_by p [] (take n (replicate 32 Same)) ≡ replicate n p
+repeated_by n p h = ap (places_by p []) (take-replicate n 32 Same h) ∙ same_places n p
+
+pub once_more : (n : ℕ) (p : Place) → replicate n p ++ p ∷ [] ≡ replicate (n + 1) p
+once_more n p = replicate-append-replicate n 1 p

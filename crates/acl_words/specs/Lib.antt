@@ -3,6 +3,7 @@ pub mod Folders
 pub mod IncludeLineSteps
 pub mod IncludeLines
 pub mod IncludeSteps
+pub mod KeptWords
 pub mod Labels
 pub mod LineTexts
 pub mod PlaceSteps

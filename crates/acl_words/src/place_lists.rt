@@ -1,4 +1,5 @@
-ghost use Rattle.std.specs.Prelude.{◌≡◌, [], ◌∷◌, ◌++◌, OnOk, OnErr, IfSome, IfNone, length, take};
+ghost use Rattle.std.specs.Prelude.{◌≡◌, ◌≤◌, [], ◌∷◌, ◌++◌, OnOk, OnErr, IfOk, IfSome, IfNone, length, take};
+ghost use Rattle.std.proofs.Math.ListN.{replicate};
 ghost use Rattle.acl_words.specs.PlaceSteps.{added, left_by, next_line, place_by};
 
 use acl_text::{Memory, Place};
@@ -15,6 +16,11 @@ pub(crate) enum PlaceStep {
     /// Any other line, which is kept.
     Own,
 }
+
+/// As often a place may be repeated in a list without memory.
+pub(crate) const MOST_REPEATED: u8 = 32;
+
+const REPEATED: [PlaceStep; MOST_REPEATED as usize] = [PlaceStep::Same; MOST_REPEATED as usize];
 
 /// A list of places, most of which follow from the ones before them, the first from a place where the list
 /// starts. A contract sees the list.
@@ -100,6 +106,18 @@ impl PlaceList {
         }
     }
 
+    /// The place, so many times.
+    #[tactic(auto, using(crate::proofs::StepLaws::once_more))]
+    pub(crate) fn repeated(alloc: Global, place: Place, count: u8) -> Result<PlaceList, Memory>
+        ensures { IfOk result (λ l. l ≡ replicate count place) }
+    {
+        let mut places = PlaceList::starting_at(alloc, place);
+        for _ in 0..count {
+            places.push(place)?;
+        }
+        Ok(places)
+    }
+
     /// Adds the place at the end. Where memory is wanted the list is as it was.
     pub(crate) fn push(&mut self, place: Place) -> Result<(), Memory>
         ensures ok { OnOk result (self.new ≡ self.old ++ place ∷ []) }
@@ -169,6 +187,18 @@ impl<'a> PlacesLeft<'a> {
         PlacesLeft {
             here: Place { file: 0, line: 0 },
             steps: &[],
+            own: &[],
+        }
+    }
+
+    /// The place, so many times.
+    pub(crate) fn repeated(place: Place, count: u8) -> PlacesLeft<'a>
+        requires { count ≤ 32 }
+        ensures { result ≡ replicate count place }
+    {
+        PlacesLeft {
+            here: place,
+            steps: &REPEATED[..usize::from(count)],
             own: &[],
         }
     }

@@ -1,8 +1,11 @@
-ghost use Rattle.std.specs.Prelude.{◌≡◌, [], ◌∷◌, ◌++◌, IfSome, IfNone, OnOk, OnErr, drop, length, map, take};
+ghost use Rattle.std.specs.Prelude.{◌≡◌, [], ◌∷◌, ◌++◌, IfOk, IfSome, IfNone, OnOk, OnErr, drop, map};
 ghost use Rattle.acl_text.specs.Cursors.{lines_of};
+ghost use Rattle.acl_words.specs.KeptWords.{words_in};
 ghost use Rattle.acl_words.specs.LineTexts.{HasNoFeed};
 
-use crate::place_lists::{PlaceList, PlacesLeft};
+use crate::line_words::LineWords;
+use crate::place_lists::PlacesLeft;
+use crate::word_texts::WordText;
 use acl_text::{Bytes, Memory, Place, split_at_byte};
 use std::alloc::Global;
 use std::marker::Model;
@@ -56,86 +59,61 @@ impl<'a> WordRef<'a> {
     }
 }
 
-// Words without line feeds, kept as one text with a line feed behind each word, and the steps that tell
-// their places: some three bytes a word beside its own. A contract sees the list of the words.
+/// Where the words of a list are kept.
 #[derive(Drop)]
-struct WordText {
-    text: Vec<u8>,
-    places: PlaceList,
+pub(crate) enum KeptWords {
+    Line(LineWords),
+    Text(WordText),
 }
 
-impl Model for WordText {
-    ghost use Rattle.std.specs.Prelude.{List};
-    ghost use Rattle.acl_words.specs.declared.word_lists.Word.{Word};
-    ghost use Rattle.acl_words.specs.WordTextSteps.{AreKept, words_at};
-
-    ghost Value = { List Word };
-
-    ghost view = { λ s. words_at s.places s.text.items };
-
-    ghost invariant = { λ s. AreKept (words_at s.places s.text.items) s.places s.text.items };
-}
-
-// Adds the word to the text and the places. Where memory is wanted some of it may stand at the end of the text.
-fn push_word(
-    all: &mut Vec<u8>,
-    places: &mut PlaceList,
-    place: Place,
-    text: &[u8],
-) -> Result<(), Memory>
-    ensures text { OnOk result (all.new.items ≡ all.old.items ++ text.now ++ 10 ∷ []) }
-    ensures places { OnOk result (places.new ≡ places.old ++ place ∷ []) }
-    ensures old_text { OnErr result (take (length all.old.items) all.new.items ≡ all.old.items) }
-    ensures old_places { OnErr result (places.new ≡ places.old) }
-{
-    all.reserve(text.len().saturating_add(1))?;
-    all.extend_from_slice(text)?;
-    all.push(b'\n')?;
-    places.push(place)
-}
-
-impl WordText {
-    // No words so far, the first of which is to stand at the place.
-    fn starting_at(alloc: Global, place: Place) -> WordText
-        ensures { result ≡ [] }
-    {
-        WordText {
-            text: Vec::new(alloc),
-            places: PlaceList::starting_at(alloc, place),
-        }
-    }
-
-    // Adds a word at the end. Where memory is wanted the words are as they were.
-    fn push(&mut self, place: Place, text: &[u8]) -> Result<(), Memory>
-        requires { HasNoFeed text.now }
-        ensures ok { OnOk result (self.new
-            ≡ self.old ++ record { place = place; text = text.now } ∷ []) }
-        ensures err { OnErr result (self.new ≡ self.old) }
-    {
-        let length = self.text.len();
-        match push_word(&mut self.text, &mut self.places, place, text) {
-            Ok(()) => Ok(()),
-            Err(memory) => {
-                self.text.truncate(length);
-                Err(memory)
-            }
-        }
-    }
-
+impl KeptWords {
     fn iter(&self) -> WordsLeft<'_>
-        ensures { result ≡ self.now }
+        ensures { result ≡ words_in self.now }
     {
-        WordsLeft {
-            rest: self.text.as_slice(),
-            places: self.places.iter(),
+        match self {
+            KeptWords::Line(words) => words.iter(),
+            KeptWords::Text(words) => words.iter(),
         }
     }
 
     fn text(&self) -> &[u8]
-        ensures { lines_of result.now ≡ map (λ w. w.text) self.now }
+        ensures { lines_of result.now ≡ map (λ w. w.text) (words_in self.now) }
     {
-        self.text.as_slice()
+        match self {
+            KeptWords::Line(words) => words.text(),
+            KeptWords::Text(words) => words.text(),
+        }
     }
+
+    // Adds a word at the end. Where memory is wanted the words are as they were.
+    fn push(&mut self, alloc: Global, place: Place, text: &[u8]) -> Result<(), Memory>
+        requires { HasNoFeed text.now }
+        ensures ok { OnOk result (words_in self.new
+            ≡ words_in self.old ++ record { place = place; text = text.now } ∷ []) }
+        ensures err { OnErr result (words_in self.new ≡ words_in self.old) }
+    {
+        match self {
+            KeptWords::Line(words) => {
+                if !words.push(place, text) {
+                    let mut all = words.to_text(alloc)?;
+                    all.push(place, text)?;
+                    *self = KeptWords::Text(all);
+                }
+                Ok(())
+            }
+            KeptWords::Text(words) => words.push(place, text),
+        }
+    }
+}
+
+// The one word of a list.
+fn first_word(alloc: Global, place: Place, text: &[u8]) -> Result<Box<KeptWords>, Memory>
+    requires { HasNoFeed text.now }
+    ensures { IfOk result (λ k. words_in k.value ≡ record { place = place; text = text.now } ∷ []) }
+{
+    let mut words = KeptWords::Line(LineWords::starting_at(place));
+    words.push(alloc, place, text)?;
+    Ok(Box::new(alloc, words)?)
 }
 
 /// A list of words without line feeds. One without words, as most lists of a term are, takes no memory. A
@@ -143,7 +121,7 @@ impl WordText {
 #[derive(Drop)]
 pub struct WordList {
     alloc: Global,
-    kept: Option<Box<WordText>>,
+    kept: Option<Box<KeptWords>>,
 }
 
 impl Model for WordList {
@@ -153,7 +131,9 @@ impl Model for WordList {
 
     ghost Value = { List Word };
 
-    ghost view = { λ s. option_map_or (λ k. k.value) s.kept [] };
+    ghost use Rattle.acl_words.specs.KeptWords.{words_in};
+
+    ghost view = { λ s. option_map_or (λ k. words_in k.value) s.kept [] };
 }
 
 impl WordList {
@@ -172,11 +152,9 @@ impl WordList {
         ensures err { OnErr result (self.new ≡ self.old) }
     {
         if let Some(kept) = &mut self.kept {
-            return kept.push(place, text);
+            return kept.push(self.alloc, place, text);
         }
-        let mut first = WordText::starting_at(self.alloc, place);
-        first.push(place, text)?;
-        self.kept = Some(Box::new(self.alloc, first)?);
+        self.kept = Some(first_word(self.alloc, place, text)?);
         Ok(())
     }
 
@@ -218,8 +196,8 @@ impl WordList {
 /// The words of a list that are not yet given. A contract sees their list.
 #[derive(Drop)]
 pub struct WordsLeft<'a> {
-    rest: &'a [u8],
-    places: PlacesLeft<'a>,
+    pub(crate) rest: &'a [u8],
+    pub(crate) places: PlacesLeft<'a>,
 }
 
 impl<'a> Model for WordsLeft<'a> {

@@ -1,5 +1,5 @@
 use Rattle.acl_words.proofs.WordTextLaws.{words_with}
-use Rattle.acl_words.proofs.word_lists.WordText.push.Goals as goal
+use Rattle.acl_words.proofs.word_texts.WordText.push.Goals as goal
 
 pub invariant_of-self : goal.invariant_of-self
 invariant_of-self c = (words_with _ (record { place = c.args.place; text = c.args.text.now })

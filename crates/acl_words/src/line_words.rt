@@ -1,0 +1,87 @@
+ghost use Rattle.std.specs.Prelude.{◌≡◌, true, false, [], ◌∷◌, ◌++◌, IfOk, map};
+ghost use Rattle.acl_text.specs.Cursors.{lines_of};
+ghost use Rattle.acl_words.specs.LineTexts.{HasNoFeed};
+
+use crate::place_lists::{MOST_REPEATED, PlaceList, PlacesLeft};
+use crate::short_texts::ShortText;
+use crate::word_lists::WordsLeft;
+use crate::word_texts::WordText;
+use acl_text::{Memory, Place};
+use std::alloc::Global;
+use std::marker::Model;
+
+/// A few words without line feeds, all of one line: most lists of a term have no others. They stand in their
+/// place, as one short text with a line feed behind each word. A contract sees the list of the words.
+#[derive(Drop)]
+pub(crate) struct LineWords {
+    place: Place,
+    count: u8,
+    text: ShortText,
+}
+
+impl Model for LineWords {
+    ghost use Rattle.std.specs.Prelude.{List, ◌≤◌};
+    ghost use Rattle.std.proofs.Math.ListN.{replicate};
+    ghost use Rattle.acl_words.specs.declared.word_lists.Word.{Word};
+    ghost use Rattle.acl_words.specs.WordTextSteps.{AreKept, words_at};
+
+    ghost Value = { List Word };
+
+    ghost view = { λ s. words_at (replicate s.count s.place) s.text };
+
+    ghost invariant = { λ s. (s.count ≤ 32) × AreKept (words_at (replicate s.count s.place) s.text)
+        (replicate s.count s.place) s.text };
+}
+
+impl LineWords {
+    /// No words so far. All are to stand at the place.
+    pub(crate) fn starting_at(place: Place) -> LineWords
+        ensures { result ≡ [] }
+    {
+        LineWords {
+            place,
+            count: 0,
+            text: ShortText::new(),
+        }
+    }
+
+    /// Adds the word at the end, where it stands at the place of the others and there is room for it.
+    pub(crate) fn push(&mut self, place: Place, text: &[u8]) -> bool
+        requires { HasNoFeed text.now }
+        ensures added { result ≡ true → self.new
+            ≡ self.old ++ record { place = place; text = text.now } ∷ [] }
+        ensures same { result ≡ false → self.new ≡ self.old }
+    {
+        if place != self.place || self.count >= MOST_REPEATED || text.len() >= self.text.room() {
+            return false;
+        }
+        self.text.push_line(text);
+        self.count += 1;
+        true
+    }
+
+    /// The same words, with memory for more of them.
+    pub(crate) fn to_text(&self, alloc: Global) -> Result<WordText, Memory>
+        ensures { IfOk result (λ t. t ≡ self.now) }
+    {
+        let places = PlaceList::repeated(alloc, self.place, self.count)?;
+        let text = Vec::from_slice(alloc, self.text.as_slice())?;
+        Ok(WordText { text, places })
+    }
+
+    pub(crate) fn iter(&self) -> WordsLeft<'_>
+        ensures { result ≡ self.now }
+    {
+        WordsLeft {
+            rest: self.text.as_slice(),
+            places: PlacesLeft::repeated(self.place, self.count),
+        }
+    }
+
+    /// The words as one text, each with a line feed behind it.
+    pub(crate) fn text(&self) -> &[u8]
+        ensures { lines_of result.now ≡ map (λ w. w.text) self.now }
+    {
+        self.text.as_slice()
+    }
+}
