@@ -62,14 +62,14 @@ fn judge_open(
     }
 }
 
-/// What further words stand behind: the same keyword, and no brace.
-fn still_open<'a>(mark: Option<Token<'a>>) -> Option<Token<'a>>
-    ensures { result ≡ still_open mark.entry }
+/// What further words stand behind is left of the mark: the same keyword, and no brace.
+fn close_brace(mark: &mut Option<Token<'_>>)
+    ensures { mark.new ≡ still_open mark.old }
 {
-    let mark = mark?;
-    match mark.form() {
-        Form::Keyword => Some(mark),
-        _ => None,
+    if let Some(open) = mark {
+        if !matches!(open.form(), Form::Keyword) {
+            *mark = None;
+        }
     }
 }
 
@@ -100,7 +100,7 @@ impl<'a> Judge<'a> {
             self.mark.as_ref(),
             self.held.as_slice(),
         )?;
-        self.mark = still_open(self.mark.take());
+        close_brace(&mut self.mark);
         self.held.clear();
         Ok(())
     }
