@@ -2,6 +2,7 @@ pub mod AnsweredFaults
 pub mod FeedLaws
 pub mod FolderLaws
 pub mod Includes
+pub mod InnerLaws
 pub mod LabelLaws
 pub mod LineLaws
 pub mod Paths

@@ -1,6 +1,7 @@
-ghost use Rattle.std.specs.Prelude.{◌≡◌, [], ◌∷◌, option_map};
+ghost use Rattle.std.specs.Prelude.{◌≡◌, ◌≤◌, [], ◌∷◌, true, length, take, option_map};
+ghost use Rattle.std.specs.List.{list_all};
 ghost use Rattle.acl_words.specs.Bytes.{is_mark, in_run, is_printed, first_bad, ends_in_colon};
-ghost use Rattle.acl_words.specs.ReadingSteps.{first_part};
+ghost use Rattle.acl_words.specs.ReadingSteps.{first_part, is_inner};
 ghost use Rattle.acl_words.specs.Words.{part_word};
 
 use crate::forms::Form;
@@ -39,28 +40,69 @@ fn first_bad(text: &[u8]) -> Option<&[u8]>
     None
 }
 
+/// Whether the byte is an inner one: from `$` to `z`, and no colon. Such a byte stands in a word, which may have it,
+/// and ends no keyword.
+fn is_inner(byte: u8) -> bool
+    ensures { result ≡ is_inner byte }
+{
+    b'$' <= byte && byte <= b'z' && byte != b':'
+}
+
+/// How many inner bytes the text begins with.
+pub(crate) fn inner_count(text: &[u8]) -> usize
+    ensures within { result ≤ length text.now }
+    ensures inner { list_all is_inner (take result text.now) ≡ true }
+{
+    for (i, byte) in text.iter().enumerate() {
+        if !is_inner(*byte) {
+            return i;
+        }
+    }
+    text.len()
+}
+
+/// The first byte that no word may have. The text begins with so many inner bytes, which are not looked at again.
+fn first_bad_behind(inner: usize, text: &[u8]) -> Option<&[u8]>
+    requires within { inner ≤ length text.now }
+    requires inner { list_all is_inner (take inner text.now) ≡ true }
+    ensures { option_map (λ bad. bad.now) result
+        ≡ option_map (λ b. b ∷ []) (first_bad text.now) }
+{
+    first_bad(&text[inner..])
+}
+
 fn ends_in_colon(text: &[u8]) -> bool
     ensures { result ≡ ends_in_colon text.now }
 {
     text.ends_with(b":")
 }
 
-/// The word of a part of a run.
+/// The word of a part of a run, which begins with so many inner bytes.
 #[tactic(auto, using(crate::proofs::RunLaws::printed_is_run))]
-pub(crate) fn part_word<'a>(place: Place, form: Form, text: &'a [u8]) -> Token<'a>
+pub(crate) fn part_word<'a>(place: Place, form: Form, text: &'a [u8], inner: usize) -> Token<'a>
+    requires within { inner ≤ length text.now }
+    requires inner { list_all is_inner (take inner text.now) ≡ true }
     ensures { result ≡ part_word place form text.now }
 {
-    match first_bad(text) {
+    match first_bad_behind(inner, text) {
         Some(bad) => Token::new(place, Form::Bad, bad),
         None => Token::new(place, form, text),
     }
 }
 
 /// The first part of the run that the text begins with, its form, and the text behind it.
-pub(crate) fn first_part(text: &[u8]) -> (Form, &[u8], &[u8])
-    ensures { (result.0, result.1.now, result.2.now) ≡ first_part [] text.now }
+///
+/// The text begins with so many inner bytes, which are not looked at again.
+#[tactic(auto, using(crate::proofs::InnerLaws::behind_inner))]
+pub(crate) fn first_part(text: &[u8], inner: usize) -> (Form, &[u8], &[u8])
+    requires within { inner ≤ length text.now }
+    requires inner { list_all is_inner (take inner text.now) ≡ true }
+    ensures parts { (result.0, result.1.now, result.2.now) ≡ first_part [] text.now }
+    ensures within { inner ≤ length result.1.now }
+    ensures inner { take inner result.1.now ≡ take inner text.now }
 {
-    for (i, byte) in text.iter().enumerate() {
+    for i in inner..text.len() {
+        let byte = &text[i];
         if !in_run(*byte) {
             return (Form::Plain, &text[..i], &text[i..]);
         }

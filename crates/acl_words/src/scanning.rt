@@ -8,7 +8,7 @@ ghost use Rattle.acl_words.specs.Words.{Between, word};
 
 use crate::forms::Form;
 use crate::places::Places;
-use crate::runs::{first_part, part_word};
+use crate::runs::{first_part, inner_count, part_word};
 use crate::stretches::Stretch;
 use crate::tokens::Token;
 use acl_text::{is_white, split_at_byte};
@@ -101,9 +101,10 @@ impl<'a> Scan<'a> {
         requires run { in_run byte ≡ true }
         ensures { words_left self.old ≡ result ∷ words_left self.new }
     {
-        let (form, text, next) = first_part(self.rest);
+        let inner = inner_count(self.rest);
+        let (form, text, next) = first_part(self.rest, inner);
         self.rest = next;
-        part_word(self.places.here(), form, text)
+        part_word(self.places.here(), form, text, inner)
     }
 
     /// The word that begins with the byte.
