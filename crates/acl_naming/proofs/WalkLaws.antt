@@ -1,19 +1,20 @@
 -- Walks and places: the places that are gathered are those that walks reach.
-use Rattle.std.proofs.Common.{◌≡◌, ℕ, zero, suc, ◌+◌, ◌<◌, ◌≤◌, ◌↔◌, Bool, true, false, ◌==◌, replicate, drop, get_or, ◌⊎◌, List, [], ◌∷◌, ◌++◌, length, None, Some, inl, inr, refl, ap, sym, subst, ◌∙◌, arith}
+use Rattle.std.proofs.Common.{◌≡◌, ℕ, zero, suc, ◌+◌, ◌-◌, ◌<◌, ◌≤◌, ◌↔◌, Bool, true, false, ◌==◌, replicate, drop, get_or, ◌⊎◌, List, [], ◌∷◌, ◌++◌, length, None, Some, inl, inr, refl, ap, sym, subst, ◌∙◌, arith}
 use Rattle.std.specs.List.{list_any}
-use Rattle.std.proofs.lemmas.Bool.{eq-eqb, eqb-true, or_left, or_right, or_cases}
+use Rattle.std.proofs.lemmas.Bool.{cases_lt, eq-eqb, eqb-true, or_left, or_right, or_cases}
 use Rattle.std.proofs.lemmas.Option.{none-some, same_Some}
 use Rattle.std.proofs.lemmas.List.{length-replicate, drop_more, drop_all, drop-append-le}
 use Rattle.std.proofs.lemmas.List.Elements.{All-nil}
 use Rattle.acl_naming.specs.declared.naming_items.Item.{Item}
+use Rattle.acl_naming.specs.Checking.{HasNoCycle}
 use Rattle.acl_naming.specs.Definitions.{Definition, index_of, items_at, items_in, items_of}
 use Rattle.acl_naming.specs.MarkSteps.{marked, mark_all, unmarked, among, leads, AreClosed}
-use Rattle.acl_naming.specs.RankSteps.{NeverFall, rank_at}
+use Rattle.acl_naming.specs.RankSteps.{LeadBack}
 use Rattle.acl_naming.specs.Reach.{is_reference, refers, Walks, Reaches, ReachesItself}
 use Rattle.acl_naming.specs.Tables.{name_at}
 use Rattle.acl_naming.specs.GraphSteps.{targets, graph_of, blank, Follows, AreBehind}
 use Rattle.acl_naming.proofs.MarkLaws.{count, count_fits, mark_kept, marked_within, marks_keep, marks_kept, marks_all, marks_length, among_left, among_right, among_cases, unmarked_among, marked_before, AreListed, listed_more, listed_fits, all_by, IsSound, sound_mark}
-use Rattle.acl_naming.proofs.GraphLaws.{option_cases, index_name, same_index, items_found, leads_at, leads_found, leads_all, target_found, targets_within}
+use Rattle.acl_naming.proofs.GraphLaws.{option_cases, first_index, index_name, same_index, items_found, leads_at, leads_found, leads_all, target_found, targets_within}
 
 pub blank_length : (base : List Definition) → length (blank base) ≡ length base
 blank_length base = length-replicate (length base) false
@@ -70,31 +71,42 @@ closed_walk base places closed a z i j (b ∷ c ∷ names) e h w f = elim (optio
 ]
 
 -- where each name is at least as high as what names it, the end of a walk is at least as high as its beginning
-pub never_falls : (base : List Definition) (ranks : List ℕ) → NeverFall base ranks → (a z : List ℕ) (i j : ℕ) (names : List (List ℕ))
-    → index_of base a ≡ Some i → Walks base a names z → index_of base z ≡ Some j → rank_at ranks i ≤ rank_at ranks j
-never_falls base ranks steady a z i j [] e w f =
+never_falls : (base : List Definition) (height : ℕ → ℕ) → ((i j : ℕ) → leads (graph_of base) i j ≡ true → height i ≤ height j) → (a z : List ℕ) (i j : ℕ) (names : List (List ℕ))
+    → index_of base a ≡ Some i → Walks base a names z → index_of base z ≡ Some j → height i ≤ height j
+never_falls base height steady a z i j [] e w f =
     let same : i ≡ j = same_Some i j (sym e ∙ ap (index_of base) w ∙ f) in
-    omega (arith, ap (rank_at ranks) same)
-never_falls base ranks steady a z i j (b ∷ names) e w f = elim (option_cases (index_of base b)) [
+    omega (arith, ap height same)
+never_falls base height steady a z i j (b ∷ names) e w f = elim (option_cases (index_of base b)) [
   | inl none ↦ absurd (undefined_walk base z b names j none f w.1)
   | inr k ↦ omega (
     arith,
     steady i k.0 (leads_all base a b i k.0 e w.0 k.1),
-    never_falls base ranks steady b z k.0 j names k.1 w.1 f,
+    never_falls base height steady b z k.0 j names k.1 w.1 f,
   )
 ]
 
 -- so a definition that is lower than all that it names reaches not itself
-pub higher_apart : (base : List Definition) (ranks : List ℕ) → NeverFall base ranks → (a : List ℕ) (i : ℕ) → index_of base a ≡ Some i
-    → ((j : ℕ) → leads (graph_of base) i j ≡ true → rank_at ranks i < rank_at ranks j) → ReachesItself base a → ⊥
-higher_apart base ranks steady a i e higher r = elim (option_cases (index_of base r.0)) [
+pub higher_apart : (base : List Definition) (height : ℕ → ℕ) → ((i j : ℕ) → leads (graph_of base) i j ≡ true → height i ≤ height j) → (a : List ℕ) (i : ℕ) → index_of base a ≡ Some i
+    → ((j : ℕ) → leads (graph_of base) i j ≡ true → height i < height j) → ReachesItself base a → ⊥
+higher_apart base height steady a i e higher r = elim (option_cases (index_of base r.0)) [
   | inl none ↦ undefined_walk base a r.0 r.1 i none e r.3.1
   | inr k ↦ omega (
     arith,
     higher k.0 (leads_all base a r.0 i k.0 e r.3.0 k.1),
-    never_falls base ranks steady r.0 a k.0 i r.1 k.1 r.3.1 e,
+    never_falls base height steady r.0 a k.0 i r.1 k.1 r.3.1 e,
   )
 ]
+
+-- where each definition names only those before it, none reaches itself
+pub back_apart : (base : List Definition) → LeadBack base → HasNoCycle base
+back_apart base back k within r =
+    let f = first_index base k within in
+    let n = length base in
+    let first : f.0 < n = omega (arith, f.2) in
+    higher_apart base (λ i. n - i) (λ i j l. elim (cases_lt i n) [
+      | inl lt ↦ omega (arith, back i lt j l)
+      | inr ge ↦ omega (arith, ge)
+    ]) (name_at base k) f.0 f.1 (λ j l. omega (arith, back f.0 first j l)) r
 
 -- ---- the walk of src/marking.rt
 

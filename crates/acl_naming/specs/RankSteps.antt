@@ -14,6 +14,10 @@ abbrev pub NeverFall : List Definition → List ℕ → Type 0
 NeverFall base ranks =
     (i j : ℕ) → leads (graph_of base) i j ≡ true → rank_at ranks i ≤ rank_at ranks j
 
+-- Each definition names only those that stand before it.
+abbrev pub LeadBack : List Definition → Type 0
+LeadBack base = (i : ℕ) → i < length base → (j : ℕ) → leads (graph_of base) i j ≡ true → j < i
+
 -- The step is at one of so many definitions.
 abbrev pub IsStepOf : ℕ → SearchStep → Type 0
 IsStepOf n (Enter i) = i < n

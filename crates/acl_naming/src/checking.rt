@@ -18,7 +18,7 @@ use crate::linking::LinkedTable;
 use crate::marking::places_behind;
 use crate::marks::Marks;
 use crate::naming_items::{Item, Reference};
-use crate::ranking::{lowest, ranks};
+use crate::ranking::{lead_back, lowest, ranks};
 use crate::tables::Table;
 use acl_text::{Code, Memory, Refusal};
 use std::alloc::Global;
@@ -112,6 +112,9 @@ pub fn first_cycle(alloc: Global, table: &LinkedTable) -> Result<Option<usize>, 
     ensures { IfOk result
         (λ o. MatchOption o (HasNoCycle table.now) (λ i. IsFirstCycle table.now i)) }
 {
+    if lead_back(table) {
+        return Ok(None);
+    }
     let ranks = ranks(alloc, table)?;
     for i in 0..table.len() {
         if reaches_itself(alloc, table, &ranks, i)? {

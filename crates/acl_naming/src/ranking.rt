@@ -1,7 +1,7 @@
 ghost use Rattle.std.specs.Prelude.{◌≡◌, ◌+◌, ◌<◌, ◌≤◌, ◌++◌, true, length, map, IfOk, OnOk};
 ghost use Rattle.std.specs.List.{All};
 ghost use Rattle.acl_naming.specs.declared.ranking.SearchStep.TheVariants.{Enter};
-ghost use Rattle.acl_naming.specs.RankSteps.{IsStepOf, NeverFall, rank_at, steps_left};
+ghost use Rattle.acl_naming.specs.RankSteps.{IsStepOf, LeadBack, NeverFall, rank_at, steps_left};
 
 use crate::linking::LinkedTable;
 use acl_text::Memory;
@@ -153,6 +153,29 @@ fn never_fall(table: &LinkedTable, ranks: &[usize]) -> bool
 {
     for i in 0..table.len() {
         if lowest(table.links_at(i), ranks) < ranks[i] {
+            return false;
+        }
+    }
+    true
+}
+
+fn are_before(places: &[usize], end: usize) -> bool
+    ensures { result ≡ true → All (λ j. j < end) places.now }
+{
+    for place in places {
+        if *place >= end {
+            return false;
+        }
+    }
+    true
+}
+
+/// Whether each definition names only those that stand before it, as most files have it. Then there is no ring.
+pub fn lead_back(table: &LinkedTable) -> bool
+    ensures { result ≡ true → LeadBack table.now }
+{
+    for i in 0..table.len() {
+        if !are_before(table.links_at(i), i) {
             return false;
         }
     }

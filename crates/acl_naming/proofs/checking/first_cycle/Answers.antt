@@ -1,6 +1,10 @@
 use Rattle.std.proofs.Common.{◌<◌, length, arith, below_more}
 use Rattle.acl_naming.proofs.CheckLaws.{no_cycle_here}
+use Rattle.acl_naming.proofs.WalkLaws.{back_apart}
 use Rattle.acl_naming.proofs.checking.first_cycle.Goals as goal
+
+pub returns-then-lead_back : goal.returns-then-lead_back
+returns-then-lead_back c = back_apart c.args.table.now (c.lead_back.ensures c.if-lead_back.true)
 
 pub loop-i-preserved : goal.loop-i-preserved
 loop-i-preserved c =

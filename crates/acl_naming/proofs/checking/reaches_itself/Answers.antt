@@ -13,7 +13,7 @@ returns-then-lowest-ranks-clause-missed c = λ e there r.
     let ranks = c.args.ranks.now in
     let i = c.args.index in
     let links = c.links_at.result.now in
-    higher_apart base ranks c.requires.steady (name_at base i) i there (λ j l.
+    higher_apart base (rank_at ranks) c.requires.steady (name_at base i) i there (λ j l.
     let named : among j links ≡ true = ap (among j) c.links_at.ensures.exact ∙ sym (leads_at base base i j) ∙ l in
     let own : rank_at ranks i < c.lowest.result = c.if-lowest-ranks.true in
     omega (arith, own, by_all (λ k. c.lowest.result ≤ rank_at ranks k) links j c.lowest.ensures named)) r
