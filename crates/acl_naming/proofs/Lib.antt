@@ -2,11 +2,11 @@ pub mod AnsweredSlips
 pub mod CheckLaws
 pub mod ComputedReachLaws
 pub mod GraphLaws
+pub mod LineLaws
 pub mod MarkLaws
 pub mod MarkedWords
 pub mod OrderedPorts
-pub mod InkTable
-pub mod LoneLaws
+pub mod ByteTables
 pub mod ReachLaws
 pub mod ReadLaws
 pub mod RowLaws

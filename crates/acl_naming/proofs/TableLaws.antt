@@ -1,9 +1,8 @@
 -- The table of definitions as a list: look-ups, one more definition, and one more item.
-use Rattle.std.proofs.Common.{◌≡◌, ℕ, zero, suc, ◌+◌, ◌<◌, Bool, false, cond, nat_lt, List, [], ◌∷◌, ◌++◌, length, map, slice_get, position, is_some, Option, None, Some, Vec, refl, ap, subst, sym, ◌∙◌, arith, not}
+use Rattle.std.proofs.Common.{◌≡◌, ℕ, zero, suc, ◌+◌, ◌<◌, Bool, false, cond, nat_lt, List, [], ◌∷◌, ◌++◌, length, map, slice_get, position, is_some, Option, None, Some, refl, ap, subst, sym, ◌∙◌, arith, not}
 use Rattle.std.specs.List.{prefix_len, position_or_len, slice_range}
 use Rattle.std.specs.Str.{bytes_eq}
 use Rattle.std.specs.Map.{keys_of}
-use Rattle.std.specs.declared.alloc.Global.{Global}
 use Rattle.std.proofs.lemmas.Option.{none-some, same_Some}
 use Rattle.std.proofs.lemmas.List.{length-map, map-append, length-append}
 use Rattle.acl_naming.specs.declared.naming_items.Item.{Item}
@@ -32,15 +31,15 @@ length_laid (e ∷ es) items = ap suc (length_laid es items)
 pub long_laid : (es : List Kept) (items : List Item) (ds : List Definition) → definitions_of es items ≡ ds → length es ≡ length ds
 long_laid es items ds is = sym (length_laid es items) ∙ ap (λ (t : List Definition). length t) is
 
-names_laid : (es : List Kept) (items : List Item) → map (λ (d : Definition). d.name) (definitions_of es items) ≡ map (λ (e : Kept). e.0.items) es
+names_laid : (es : List Kept) (items : List Item) → map (λ (d : Definition). d.name) (definitions_of es items) ≡ map (λ (e : Kept). e.0) es
 names_laid [] items = refl
-names_laid (e ∷ es) items = ap (λ (t : List (List ℕ)). e.0.items ∷ t) (names_laid es items)
+names_laid (e ∷ es) items = ap (λ (t : List (List ℕ)). e.0 ∷ t) (names_laid es items)
 
 -- a name is looked up among the keys
-pub index_keys : (name : List ℕ) (es : List Kept) (items : List Item) → position (λ k. bytes_eq name k.items) (keys_of es) ≡ index_of (definitions_of es items) name
+pub index_keys : (name : List ℕ) (es : List Kept) (items : List Item) → position (λ k. bytes_eq name k) (keys_of es) ≡ index_of (definitions_of es items) name
 index_keys name es items =
-    position_map (λ (k : Vec ℕ Global). bytes_eq name k.items) (λ (e : Kept). e.0) es
-    ∙ sym (position_map (bytes_eq name) (λ (e : Kept). e.0.items) es)
+    position_map (bytes_eq name) (λ (e : Kept). e.0) es
+    ∙ sym (position_map (bytes_eq name) (λ (e : Kept). e.0) es)
     ∙ ap (position (bytes_eq name)) (sym (names_laid es items))
     ∙ position_map (bytes_eq name) (λ (d : Definition). d.name) (definitions_of es items)
 
@@ -60,9 +59,9 @@ items_laid [] items i h = absurd (omega arith)
 items_laid (e ∷ es) items zero h = refl
 items_laid (e ∷ es) items (suc i) h = items_laid es items i (omega arith)
 
-pub name_kept : (es : List Kept) (items : List Item) (i : ℕ) (e : Kept) → Some e ≡ slice_get es i → e.0.items ≡ name_at (definitions_of es items) i
+pub name_kept : (es : List Kept) (items : List Item) (i : ℕ) (e : Kept) → Some e ≡ slice_get es i → e.0 ≡ name_at (definitions_of es items) i
 name_kept [] items i e h = absurd (none-some e (sym h))
-name_kept (k ∷ es) items zero e h = ap (λ (x : Kept). x.0.items) (same_Some e k h)
+name_kept (k ∷ es) items zero e h = ap (λ (x : Kept). x.0) (same_Some e k h)
 name_kept (k ∷ es) items (suc i) e h = name_kept es items i e h
 
 pub place_kept : (es : List Kept) (items : List Item) (i : ℕ) (e : Kept) → Some e ≡ slice_get es i → e.1.place ≡ place_at (definitions_of es items) i
@@ -84,12 +83,12 @@ begins_more : (es : List Kept) (e : Kept) (end : ℕ) → e.1.from ≡ end → b
 begins_more es e end h = map-append (λ (k : Kept). k.1.from) es (e ∷ []) ∙ ap (λ (n : ℕ). begins_of es ++ n ∷ []) h
 
 abbrev definition_at : Kept → List Item → ℕ → Definition
-definition_at e items end = record { name = e.0.items; place = e.1.place; items = slice_range items e.1.from end }
+definition_at e items end = record { name = e.0; place = e.1.place; items = slice_range items e.1.from end }
 
 pub one_laid : (es : List Kept) (e : Kept) (items : List Item) → e.1.from ≡ length items
-    → definitions_of (es ++ e ∷ []) items ≡ definitions_of es items ++ record { name = e.0.items; place = e.1.place; items = [] } ∷ []
+    → definitions_of (es ++ e ∷ []) items ≡ definitions_of es items ++ record { name = e.0; place = e.1.place; items = [] } ∷ []
 one_laid [] e items h =
-    ap (λ (t : List Item). record { name = e.0.items; place = e.1.place; items = t } ∷ [])
+    ap (λ (t : List Item). record { name = e.0; place = e.1.place; items = t } ∷ [])
     (ap (λ (n : ℕ). slice_range items n (length items)) h ∙ slice_none items)
 one_laid (k ∷ es) e items h =
     let end = length items in
@@ -104,7 +103,7 @@ laid_more es new e items grown at h =
     let begins : begins_of new ≡ begins_of es ++ end ∷ [] = ap begins_of grown ∙ begins_more es e end at in (
       subst (λ (bs : List ℕ). Ascend bs end) (sym begins) (ascend_more (begins_of es) end end h.0 (omega arith)),
       ap (λ (k : List Kept). items_count (definitions_of k items)) grown ∙ ap items_count (one_laid es e items at)
-          ∙ omega (arith, h.1, items_more (definitions_of es items) (record { name = e.0.items; place = e.1.place; items = [] })),
+          ∙ omega (arith, h.1, items_more (definitions_of es items) (record { name = e.0; place = e.1.place; items = [] })),
     )
 
 -- ---- one more item
@@ -113,9 +112,9 @@ pub item_laid : (es : List Kept) (items : List Item) (item : Item) → Ascend (b
     → definitions_of es (items ++ item ∷ []) ≡ with_item (definitions_of es items) item
 item_laid [] items item h = refl
 item_laid (e ∷ []) items item h =
-    ap (λ (t : List Item). record { name = e.0.items; place = e.1.place; items = t } ∷ []) (slice_more items (item ∷ []) e.1.from h.0)
+    ap (λ (t : List Item). record { name = e.0; place = e.1.place; items = t } ∷ []) (slice_more items (item ∷ []) e.1.from h.0)
 item_laid (e ∷ k ∷ es) items item h =
-    ap (λ (t : List Item). record { name = e.0.items; place = e.1.place; items = t } ∷ definitions_of (k ∷ es) (items ++ item ∷ []))
+    ap (λ (t : List Item). record { name = e.0; place = e.1.place; items = t } ∷ definitions_of (k ∷ es) (items ++ item ∷ []))
     (slice_kept items (item ∷ []) e.1.from k.1.from h.0 (begin_within (begins_of (k ∷ es)) 0 (length items) h.1))
     ∙ ap (λ (ds : List Definition). definition_at e items k.1.from ∷ ds) (item_laid (k ∷ es) items item h.1)
 

@@ -1,8 +1,10 @@
 -- Lines without a comment or a bad byte: those that begin no definition, also those of one word, and those that do.
-use Rattle.std.specs.Prelude.{◌≡◌, ℕ, Bool, true, not, ◌&&◌, ◌==◌, List, [], ◌∷◌, ◌++◌, Some}
+use Rattle.std.specs.Prelude.{◌≡◌, ℕ, Bool, true, false, not, ◌&&◌, ◌==◌, List, [], ◌∷◌, ◌++◌, Some}
 use Rattle.std.specs.List.{list_all}
 use Rattle.acl_text.specs.Cursors.{is_white, words_of}
-use Rattle.acl_text.specs.Cuts.{cut_at}
+use Rattle.acl_text.specs.Cuts.{cut_at, has_byte}
+use Rattle.acl_naming.specs.declared.line_parts.LineForm.{LineForm}
+use Rattle.acl_naming.specs.declared.line_parts.LineForm.TheVariants.{Lone, Named, Plain, Other}
 use Rattle.acl_naming.specs.NamingFiles.{is_bad, trimmed}
 
 abbrev pub is_plain : ℕ → Bool
@@ -17,11 +19,6 @@ pub record IsLoneWord (line word : List ℕ) : Type 0 where
   pub plain : list_all is_plain line ≡ true
   pub words : words_of line ≡ word ∷ []
 
--- The bytes begin with such a line and its line feed (10).
-pub record IsLoneLine (bytes line word rest : List ℕ) : Type 0 where
-  pub joined : bytes ≡ line ++ 10 ∷ rest
-  pub lone : IsLoneWord line word
-
 -- All but the first `=` (61) is plain.
 pub record IsPlainDefinition (line name rest : List ℕ) : Type 0 where
   pub cut : Some (name, rest) ≡ cut_at 61 line
@@ -33,3 +30,16 @@ pub record IsNamed (line name items : List ℕ) : Type 0 where
   pub front : List ℕ
   pub plain : IsPlainDefinition line front items
   pub own : trimmed front ≡ name
+
+-- What is told of a line.
+abbrev pub IsOfForm : List ℕ → LineForm → Type 0
+IsOfForm line (Lone word) = IsLoneWord line word.now
+IsOfForm line (Named name items) = IsNamed line name.now items.now
+IsOfForm line Plain = list_all is_plain line ≡ true
+IsOfForm line Other = Unit {0}
+
+-- The bytes begin with a line of the form and its line feed (10).
+pub record IsSeenLine (bytes line : List ℕ) (form : LineForm) (rest : List ℕ) : Type 0 where
+  pub joined : bytes ≡ line ++ 10 ∷ rest
+  pub ended : has_byte 10 line ≡ false
+  pub told : IsOfForm line form

@@ -1,19 +1,13 @@
 -- How a contract sees the table of definitions: the items of all stand in one list.
-use Rattle.std.specs.Prelude.{◌≡◌, ℕ, Bool, List, [], ◌∷◌, length, map, Vec}
+use Rattle.std.specs.Prelude.{◌≡◌, ℕ, List, [], ◌∷◌, length, map}
 use Rattle.std.specs.List.{slice_range}
-use Rattle.std.specs.Str.{bytes_eq}
-use Rattle.std.specs.declared.alloc.Global.{Global}
 use Rattle.acl_naming.specs.declared.naming_items.Item.{Item}
 use Rattle.acl_naming.specs.declared.tables.TableEntry.{TableEntry}
 use Rattle.acl_naming.specs.Definitions.{Definition, items_count}
 use Rattle.acl_naming.specs.Rows.{Ascend, begin_at}
 
 abbrev pub Kept : Type 0
-Kept = Vec ℕ Global × TableEntry
-
--- Keys with the same bytes.
-abbrev pub same_name : Vec ℕ Global → Vec ℕ Global → Bool
-same_name a b = bytes_eq a.items b.items
+Kept = List ℕ × TableEntry
 
 -- Where the items of each definition begin.
 abbrev pub begins_of : List Kept → List ℕ
@@ -22,7 +16,7 @@ begins_of es = map (λ e. e.1.from) es
 abbrev pub definitions_of : List Kept → List Item → List Definition
 definitions_of [] items = []
 definitions_of (e ∷ es) items = record {
-  name = e.0.items;
+  name = e.0;
   place = e.1.place;
   items = slice_range items e.1.from (begin_at (begins_of es) 0 (length items));
 } ∷ definitions_of es items

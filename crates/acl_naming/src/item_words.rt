@@ -42,10 +42,9 @@ pub fn read_block(word: &[u8]) -> Option<PrefixItem>
 fn read_name(alloc: Global, place: Place, word: &[u8]) -> Result<Option<Item>, Memory>
     ensures { IfOk result (λ o. o ≡ name_in place word.now) }
 {
-    if !is_name(word) {
+    let Some(name) = NameText::read(alloc, word)? else {
         return Ok(None);
-    }
-    let name = NameText::from_slice(alloc, word)?;
+    };
     Ok(Some(Item::Name(Reference { place, name })))
 }
 

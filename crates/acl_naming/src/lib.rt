@@ -11,6 +11,7 @@ mod links;
 mod lookups;
 mod marking;
 mod marks;
+mod name_keys;
 mod name_texts;
 mod naming_files;
 mod naming_items;

@@ -1,10 +1,23 @@
 ghost use Rattle.std.specs.Prelude.{◌≡◌, ◌≤◌, ◌<◌, ◌∷◌, [], true, length, take, option_map, IfNone, IfSome};
 ghost use Rattle.std.specs.List.{list_all};
-ghost use Rattle.acl_naming.specs.LineSteps.{IsLoneLine, IsLoneWord, IsNamed, is_ink, is_plain};
+ghost use Rattle.acl_naming.specs.LineSteps.{IsOfForm, IsSeenLine, is_ink, is_plain};
 ghost use Rattle.acl_text.specs.Cursors.{first_line, is_white, lines_of};
 ghost use Rattle.acl_naming.specs.NamingFiles.{bad_byte, is_bad, trimmed, without_comment, without_end};
 
 use acl_text::{is_white, skip_white, split_at_byte};
+
+/// What a line holds, where a first look tells it. A plain line has no comment, no `=` and no bad byte.
+#[derive(Clone, Copy)]
+pub enum LineForm<'a> {
+    /// One word alone, as most lines have; the line is plain.
+    Lone(&'a [u8]),
+    /// The name of a definition, and the text of its items, which is plain.
+    Named(&'a [u8], &'a [u8]),
+    /// Any number of words; the line is plain.
+    Plain,
+    /// What takes a second look.
+    Other,
+}
 
 /// The line before its comment.
 pub fn without_comment(line: &[u8]) -> &[u8]
@@ -32,36 +45,11 @@ fn is_ink(byte: u8) -> bool
     INK[usize::from(byte)] == b'y'
 }
 
-#[tactic(auto, using(crate::proofs::LoneLaws::ink_or_white))]
+#[tactic(auto, using(crate::proofs::LineLaws::ink_or_white))]
 fn is_plain(byte: u8) -> bool
     ensures { result ≡ is_plain byte }
 {
     is_ink(byte) || is_white(byte)
-}
-
-/// Whether the line is plain, as most lines of items are: it has no comment, no `=` and no bad byte.
-pub fn is_plain_line(line: &[u8]) -> bool
-    ensures { result ≡ list_all is_plain line.now }
-{
-    line.iter().all(|byte| is_plain(*byte))
-}
-
-/// The name and the text of the items, where the line begins a definition with the name at its front, and there is no
-/// comment, no other `=` and no bad byte. `None` says nothing.
-pub fn plain_definition(line: &[u8]) -> Option<(&[u8], &[u8])>
-    ensures { IfSome result (λ p. IsNamed line.now p.0.now p.1.now) }
-{
-    let (name, behind) = line.split_at(ink_front(line));
-    if name.is_empty() {
-        return None;
-    }
-    let (_, behind) = behind.split_at(white_front(behind));
-    let items = behind_byte(behind, b'=')?;
-    if is_plain_line(items) {
-        Some((name, items))
-    } else {
-        None
-    }
 }
 
 /// The first byte that neither is white space nor prints.
@@ -131,19 +119,60 @@ fn behind_byte(text: &[u8], byte: u8) -> Option<&[u8]>
     }
 }
 
-// The first line, its word, and the bytes behind it, where it is a plain line of one word. `None` says nothing.
-fn lone_line(bytes: &[u8]) -> Option<(&[u8], &[u8], &[u8])>
-    ensures { IfSome result (λ p. IsLoneLine bytes.now p.0.now p.1.now p.2.now) }
+// How many bytes it begins with that are plain.
+fn plain_front(text: &[u8]) -> usize
+    ensures fits { result ≤ length text.now }
+    ensures plain { list_all is_plain (take result text.now) ≡ true }
+{
+    for (i, byte) in text.iter().enumerate() {
+        if !is_plain(*byte) {
+            return i;
+        }
+    }
+    text.len()
+}
+
+// The first line, its form, and the bytes behind it, where it is one word alone or begins a definition. `None` says
+// nothing.
+fn headed_line(bytes: &[u8]) -> Option<(&[u8], LineForm<'_>, &[u8])>
+    ensures { IfSome result (λ p. IsSeenLine bytes.now p.0.now p.1 p.2.now) }
 {
     let (front, text) = bytes.split_at(white_front(bytes));
     let (word, behind) = text.split_at(ink_front(text));
     if word.is_empty() {
         return None;
     }
-    let (end, behind) = behind.split_at(white_front(behind));
+    let (blank, behind) = behind.split_at(white_front(behind));
+    let size = front.len() + word.len() + blank.len();
+    if let Some(rest) = behind_byte(behind, b'\n') {
+        return Some((&bytes[..size], LineForm::Lone(word), rest));
+    }
+    let text = behind_byte(behind, b'=')?;
+    let (items, behind) = text.split_at(plain_front(text));
     let rest = behind_byte(behind, b'\n')?;
-    let size = front.len() + word.len() + end.len();
-    Some((&bytes[..size], word, rest))
+    Some((
+        &bytes[..size + 1 + items.len()],
+        LineForm::Named(word, items),
+        rest,
+    ))
+}
+
+// The same, where the line is plain.
+fn plain_line(bytes: &[u8]) -> Option<(&[u8], LineForm<'_>, &[u8])>
+    ensures { IfSome result (λ p. IsSeenLine bytes.now p.0.now p.1 p.2.now) }
+{
+    let (line, behind) = bytes.split_at(plain_front(bytes));
+    let rest = behind_byte(behind, b'\n')?;
+    Some((line, LineForm::Plain, rest))
+}
+
+fn seen_line(bytes: &[u8]) -> Option<(&[u8], LineForm<'_>, &[u8])>
+    ensures { IfSome result (λ p. IsSeenLine bytes.now p.0.now p.1 p.2.now) }
+{
+    match headed_line(bytes) {
+        Some(seen) => Some(seen),
+        None => plain_line(bytes),
+    }
 }
 
 fn any_line(bytes: &[u8]) -> Option<(&[u8], &[u8])>
@@ -157,16 +186,16 @@ fn any_line(bytes: &[u8]) -> Option<(&[u8], &[u8])>
     }
 }
 
-/// The first line, its word where it is plain and has one alone, as most lines have, and the bytes behind it.
-pub fn next_line(bytes: &[u8]) -> Option<(&[u8], Option<&[u8]>, &[u8])>
+/// The first line, its form, and the bytes behind it.
+pub fn next_line(bytes: &[u8]) -> Option<(&[u8], LineForm<'_>, &[u8])>
     ensures some { IfSome result (λ p. lines_of bytes.now ≡ p.0.now ∷ lines_of p.2.now) }
     ensures shorter { IfSome result (λ p. length p.2.now < length bytes.now) }
-    ensures lone { IfSome result (λ p. IfSome p.1 (λ w. IsLoneWord p.0.now w.now)) }
+    ensures form { IfSome result (λ p. IsOfForm p.0.now p.1) }
     ensures none { IfNone result (lines_of bytes.now ≡ []) }
 {
-    if let Some((line, word, rest)) = lone_line(bytes) {
-        return Some((line, Some(word), rest));
+    if let Some((line, form, rest)) = seen_line(bytes) {
+        return Some((line, form, rest));
     }
     let (line, rest) = any_line(bytes)?;
-    Some((line, None, rest))
+    Some((line, LineForm::Other, rest))
 }

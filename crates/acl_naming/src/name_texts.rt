@@ -1,6 +1,7 @@
-ghost use Rattle.std.specs.Prelude.{◌≡◌, ◌≤◌, length, IfOk};
+ghost use Rattle.std.specs.Prelude.{◌≡◌, true, false, IfNone, IfOk, IfSome};
+ghost use Rattle.acl_text.specs.Names.{is_name, is_name_byte};
 
-use acl_text::{Bytes, Memory};
+use acl_text::{Bytes, Memory, is_name};
 use std::alloc::Global;
 use std::marker::Model;
 
@@ -21,17 +22,35 @@ impl Model for ShortName {
     ghost invariant = { λ t. t.end ≤ 30 };
 }
 
+// For each byte whether it may stand in a name.
+static NAME_BYTES: [u8; 256] =
+    *b"nnnnnnnnnnnnnnnnnnnnnnnnnnnnnnnnnnnnnnnnnnnnnynnyyyyyyyyyynnnnnnnyyyyyyyyyyyyyyyyyyyyyyyyyynnnnynyyyyyyyyyyyyyyyyyyyyyyyyyynnnnnnnnnnnnnnnnnnnnnnnnnnnnnnnnnnnnnnnnnnnnnnnnnnnnnnnnnnnnnnnnnnnnnnnnnnnnnnnnnnnnnnnnnnnnnnnnnnnnnnnnnnnnnnnnnnnnnnnnnnnnnnnnnnnnn";
+
+fn is_name_byte(byte: u8) -> bool
+    ensures { result ≡ is_name_byte byte }
+{
+    NAME_BYTES[usize::from(byte)] == b'y'
+}
+
 impl ShortName {
-    fn new(name: &[u8]) -> ShortName
-        requires { length name.now ≤ 30 }
-        ensures { result ≡ name.now }
+    // Reads the word, where it is a name of at most 30 bytes. `None` says nothing.
+    fn read(word: &[u8]) -> Option<ShortName>
+        ensures { IfSome result (λ n. (n ≡ word.now) × (is_name word.now ≡ true)) }
     {
-        let mut bytes = [0; 30];
-        bytes[..name.len()].copy_from_slice(name);
-        ShortName {
-            end: name.len() as u8,
-            bytes,
+        if word.is_empty() || word.len() > 30 {
+            return None;
         }
+        let mut bytes = [0; 30];
+        for (i, byte) in word.iter().enumerate() {
+            if !is_name_byte(*byte) {
+                return None;
+            }
+            bytes[i] = *byte;
+        }
+        Some(ShortName {
+            end: word.len() as u8,
+            bytes,
+        })
     }
 
     fn as_slice(&self) -> &[u8]
@@ -67,16 +86,23 @@ impl Model for NameText {
 }
 
 impl NameText {
-    /// A copy of the bytes.
-    pub fn from_slice(alloc: Global, name: &[u8]) -> Result<NameText, Memory>
-        ensures { IfOk result (λ n. n ≡ name.now) }
+    /// The name that the word is, if it is one.
+    pub fn read(alloc: Global, word: &[u8]) -> Result<Option<NameText>, Memory>
+        ensures some { IfOk result (λ o. IfSome o (λ n. (n ≡ word.now) × (is_name word.now ≡ true))) }
+        ensures none { IfOk result (λ o. IfNone o (is_name word.now ≡ false)) }
     {
-        let kept = if name.len() <= 30 {
-            KeptName::Short(ShortName::new(name))
-        } else {
-            KeptName::Long(Bytes::from_slice(alloc, name)?)
-        };
-        Ok(NameText { kept })
+        if let Some(name) = ShortName::read(word) {
+            return Ok(Some(NameText {
+                kept: KeptName::Short(name),
+            }));
+        }
+        if !is_name(word) {
+            return Ok(None);
+        }
+        let name = Bytes::from_slice(alloc, word)?;
+        Ok(Some(NameText {
+            kept: KeptName::Long(name),
+        }))
     }
 
     pub fn as_slice(&self) -> &[u8]

@@ -7,7 +7,7 @@ ghost use Rattle.acl_text.specs.declared.faults.Code.TheVariants as codes;
 ghost use Rattle.acl_text.specs.AddressTexts.{prefix_in};
 ghost use Rattle.acl_naming.specs.declared.naming_items.Item.TheVariants.{Name, Network};
 ghost use Rattle.acl_naming.specs.Definitions.{index_of};
-ghost use Rattle.acl_naming.specs.LineSteps.{IsLoneWord};
+ghost use Rattle.acl_naming.specs.LineSteps.{IsOfForm};
 ghost use Rattle.acl_naming.specs.NamingFiles.{
   with_items,
   with_definition,
@@ -23,13 +23,11 @@ ghost use Rattle.acl_naming.specs.NamingFiles.{
 };
 
 use crate::item_words::{NamingKind, read_block, read_item};
-use crate::line_parts::{
-    bad_byte, is_plain_line, next_line, plain_definition, trimmed, without_comment,
-};
+use crate::line_parts::{LineForm, bad_byte, next_line, trimmed, without_comment};
 use crate::name_texts::NameText;
 use crate::naming_items::{Item, Reference};
 use crate::tables::Table;
-use acl_text::{Code, Place, Refusal, is_name, next_word, split_at_byte};
+use acl_text::{Code, Place, Refusal, next_word, split_at_byte};
 use std::alloc::Global;
 
 const MOST: usize = 16384;
@@ -50,6 +48,8 @@ struct LineReader {
 }
 
 impl LineReader {
+    #[cold]
+    #[inline(never)]
     fn refusal(self, code: Code, word: &[u8]) -> Refusal
         ensures { IsRefusalBy (slip code self.place word.now) result }
     {
@@ -57,6 +57,7 @@ impl LineReader {
     }
 
     // Adds an item that was read, if any.
+    #[inline(always)]
     fn put_item(self, table: &mut Table, word: &[u8], item: Item) -> Result<(), Refusal>
         requires { 0 < length table.old }
         ensures gives { Leaves slip_told table.new result
@@ -83,13 +84,13 @@ impl LineReader {
         }
     }
 
-    fn add_name(self, table: &mut Table, word: &[u8]) -> Result<(), Refusal>
-        requires { 0 < length table.old }
+    fn add_name(self, table: &mut Table, word: &[u8], name: NameText) -> Result<(), Refusal>
+        requires some { 0 < length table.old }
+        requires own { name ≡ word.now }
         ensures gives { Leaves slip_told table.new result (item_put self.place table.old word.now
             (Some (Name (record { place = self.place; name = word.now })))) }
         ensures filled { OnOk result (0 < length table.new) }
     {
-        let name = NameText::from_slice(self.alloc, word)?;
         let place = self.place;
         self.put_item(table, word, Item::Name(Reference { place, name }))
     }
@@ -115,8 +116,10 @@ impl LineReader {
         ensures filled { OnOk result (0 < length table.new) }
     {
         match self.kind {
-            NamingKind::Networks if is_name(word) => self.add_name(table, word),
-            NamingKind::Networks => self.add_prefix(table, word),
+            NamingKind::Networks => match NameText::read(self.alloc, word)? {
+                Some(name) => self.add_name(table, word, name),
+                None => self.add_prefix(table, word),
+            },
             NamingKind::Services => self.add_any(table, word),
         }
     }
@@ -152,13 +155,13 @@ impl LineReader {
             (with_definition self.kind self.place table.old name.now rest.now) }
         ensures filled { OnOk result (0 < length table.new) }
     {
-        if !is_name(name) {
+        let Some(text) = NameText::read(self.alloc, name)? else {
             return Err(self.refusal(Code::BadName, name));
-        }
+        };
         if is_full(table) {
             return Err(self.no_room(table, name));
         }
-        if !table.add(name, self.place)? {
+        if !table.add(text, self.place)? {
             return Err(self.refusal(Code::Twice, name));
         }
         self.add_items(table, rest)
@@ -214,48 +217,36 @@ impl LineReader {
         }
     }
 
-    // The same of a line that may have a comment.
-    #[tactic(auto, using(crate::proofs::ReadLaws::plain_added, crate::proofs::ReadLaws::plain_opens, crate::proofs::ReadLaws::named_added, crate::proofs::ReadLaws::named_opens))]
-    fn add_whole(self, table: &mut Table, is_open: bool, line: &[u8]) -> Result<bool, Refusal>
-        requires { is_open ≡ true → 0 < length table.old }
-        ensures gives { Leaves slip_told table.new result
-            (line_added self.kind self.place is_open table.old (without_comment line.now)) }
-        ensures opened { IfOk result (λ o. o ≡ opens is_open (without_comment line.now)) }
-        ensures filled { IfOk result (λ o. o ≡ true → 0 < length table.new) }
-    {
-        if let Some((name, items)) = plain_definition(line) {
-            self.define(table, name, items)?;
-            return Ok(true);
-        }
-        if is_plain_line(line) {
-            self.go_on(table, is_open, line)?;
-            return Ok(is_open);
-        }
-        self.add_line(table, is_open, without_comment(line))
-    }
-
-    // The same, where it may be known to be plain and to have one word alone, as most lines have.
-    #[tactic(auto, using(crate::proofs::LoneLaws::lone_added, crate::proofs::LoneLaws::lone_opens))]
+    // The same of a line that may have a comment, and is of the form.
+    #[tactic(auto, using(crate::proofs::LineLaws::lone_added, crate::proofs::LineLaws::lone_opens, crate::proofs::ReadLaws::plain_added, crate::proofs::ReadLaws::plain_opens, crate::proofs::ReadLaws::named_added, crate::proofs::ReadLaws::named_opens))]
     fn add_next(
         self,
         table: &mut Table,
         is_open: bool,
         line: &[u8],
-        word: Option<&[u8]>,
+        form: LineForm<'_>,
     ) -> Result<bool, Refusal>
         requires opened { is_open ≡ true → 0 < length table.old }
-        requires lone { IfSome word (λ w. IsLoneWord line.now w.now) }
+        requires form { IsOfForm line.now form }
         ensures gives { Leaves slip_told table.new result
             (line_added self.kind self.place is_open table.old (without_comment line.now)) }
         ensures opened { IfOk result (λ o. o ≡ opens is_open (without_comment line.now)) }
         ensures filled { IfOk result (λ o. o ≡ true → 0 < length table.new) }
     {
-        match word {
-            Some(word) if is_open => {
+        match form {
+            LineForm::Lone(word) if is_open => {
                 self.add_item(table, word)?;
                 Ok(true)
             }
-            _ => self.add_whole(table, is_open, line),
+            LineForm::Named(name, items) => {
+                self.define(table, name, items)?;
+                Ok(true)
+            }
+            LineForm::Plain => {
+                self.go_on(table, is_open, line)?;
+                Ok(is_open)
+            }
+            _ => self.add_line(table, is_open, without_comment(line)),
         }
     }
 }
@@ -274,11 +265,11 @@ pub fn add_file(
     let mut rest = bytes;
     let mut number = 0;
     let mut is_open = false;
-    while let Some((line, word, behind)) = next_line(rest) {
+    while let Some((line, form, behind)) = next_line(rest) {
         number += 1;
         let place = Place { file, line: number };
         let reader = LineReader { alloc, kind, place };
-        is_open = reader.add_next(table, is_open, line, word)?;
+        is_open = reader.add_next(table, is_open, line, form)?;
         rest = behind;
     }
     Ok(())

@@ -1,10 +1,13 @@
 ghost use Rattle.std.specs.Prelude.{◌≡◌, ℕ, ◌+◌, ◌<◌, List, [], ◌∷◌, ◌++◌, None, Some, true, not, false, is_some, length, IfOk, OnErr, OnOk, IfSome};
+ghost use Rattle.std.specs.Str.{bytes_eq};
 ghost use Rattle.indexmap.specs.IndexMap.{get, index_map_len, insert_entry};
 ghost use Rattle.acl_naming.specs.Definitions.{index_of, items_at, items_count};
 ghost use Rattle.acl_naming.specs.Rows.{begin_at};
 ghost use Rattle.acl_naming.specs.Tables.{name_at, place_at, with_item};
-ghost use Rattle.acl_naming.specs.TableViewSteps.{begins_of, same_name};
+ghost use Rattle.acl_naming.specs.TableViewSteps.{begins_of};
 
+use crate::name_keys::SoughtName;
+use crate::name_texts::NameText;
 use crate::naming_items::Item;
 use crate::rows::part;
 use acl_text::{Items, Memory, Place};
@@ -24,8 +27,7 @@ pub struct TableEntry {
 ///
 /// The items of all stand one behind the other, since only the last definition gets more.
 pub struct Table {
-    alloc: Global,
-    kept: IndexMap<Vec<u8>, TableEntry>,
+    kept: IndexMap<NameText, TableEntry>,
     items: Items<Item>,
 }
 
@@ -45,18 +47,14 @@ impl Model for Table {
 // Where a table is let go, that is one step, whatever it holds.
 impl Drop for Table {
     fn drop(self) {
-        let Table {
-            alloc: _alloc,
-            kept,
-            items,
-        } = self;
+        let Table { kept, items } = self;
         drop(kept);
         drop(items);
     }
 }
 
 // Where the items of the definition at the index begin; the end, where there is none.
-fn begin_at(kept: &IndexMap<Vec<u8>, TableEntry>, index: usize, end: usize) -> usize
+fn begin_at(kept: &IndexMap<NameText, TableEntry>, index: usize, end: usize) -> usize
     ensures { result ≡ begin_at (begins_of kept.now.entries) index end }
 {
     match kept.get_index(index) {
@@ -66,7 +64,7 @@ fn begin_at(kept: &IndexMap<Vec<u8>, TableEntry>, index: usize, end: usize) -> u
 }
 
 // Where they end.
-fn end_at(kept: &IndexMap<Vec<u8>, TableEntry>, index: usize, end: usize) -> usize
+fn end_at(kept: &IndexMap<NameText, TableEntry>, index: usize, end: usize) -> usize
     requires { index < index_map_len kept.now }
     ensures { result ≡ begin_at (begins_of kept.now.entries) (index + 1) end }
 {
@@ -79,13 +77,13 @@ fn end_at(kept: &IndexMap<Vec<u8>, TableEntry>, index: usize, end: usize) -> usi
 
 // Puts the entry behind the others where none has the name, and tells whether it did.
 fn enter(
-    kept: &mut IndexMap<Vec<u8>, TableEntry>,
-    name: Vec<u8>,
+    kept: &mut IndexMap<NameText, TableEntry>,
+    name: NameText,
     entry: TableEntry,
 ) -> Result<bool, Memory>
-    ensures told { IfOk result (λ added. added ≡ not (is_some (get same_name kept.old name))) }
+    ensures told { IfOk result (λ added. added ≡ not (is_some (get bytes_eq kept.old name))) }
     ensures added { IfOk result (λ added. added ≡ true
-        → kept.new.entries ≡ insert_entry same_name kept.old.entries name entry) }
+        → kept.new.entries ≡ insert_entry bytes_eq kept.old.entries name entry) }
     ensures same { IfOk result (λ added. added ≡ false → kept.new.entries ≡ kept.old.entries) }
     ensures err { OnErr result (kept.new.entries ≡ kept.old.entries) }
 {
@@ -101,7 +99,6 @@ impl Table {
         ensures { result ≡ [] }
     {
         Table {
-            alloc,
             kept: IndexMap::new(alloc),
             items: Items::new(alloc),
         }
@@ -123,7 +120,7 @@ impl Table {
         ensures exact { result ≡ index_of self.now name.now }
         ensures within { IfSome result (λ i. i < length self.now) }
     {
-        self.kept.get_index_of(name)
+        self.kept.get_index_of(SoughtName { name })
     }
 
     pub fn items_at(&self, index: usize) -> &[Item]
@@ -156,13 +153,12 @@ impl Table {
     }
 
     /// Adds a definition without items at the end, or tells that one has the name.
-    pub fn add(&mut self, name: &[u8], place: Place) -> Result<bool, Memory>
-        ensures told { IfOk result (λ added. added ≡ not (is_some (index_of self.old name.now))) }
+    pub fn add(&mut self, name: NameText, place: Place) -> Result<bool, Memory>
+        ensures told { IfOk result (λ added. added ≡ not (is_some (index_of self.old name))) }
         ensures added { IfOk result (λ added. added ≡ true → self.new
-            ≡ self.old ++ record { name = name.now; place = place; items = [] } ∷ []) }
+            ≡ self.old ++ record { name = name; place = place; items = [] } ∷ []) }
     {
         let from = self.items.as_slice().len();
-        let name = Vec::from_slice(self.alloc, name)?;
         let is_new = enter(&mut self.kept, name, TableEntry { place, from })?;
         Ok(is_new)
     }

@@ -1,6 +1,6 @@
 use Rattle.std.proofs.Common.{ℕ, ◌<◌, ◌==◌, get_or, ap, ◌∙◌, arith}
 use Rattle.acl_naming.specs.declared.line_parts.TheConstants.{INK}
-use Rattle.acl_naming.proofs.InkTable.{ink_at}
+use Rattle.acl_naming.proofs.ByteTables.{ink_at}
 use Rattle.acl_naming.proofs.line_parts.is_ink.Goals as goal
 
 pub returns : goal.returns

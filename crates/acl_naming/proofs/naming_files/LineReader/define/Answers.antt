@@ -1,4 +1,4 @@
-use Rattle.std.proofs.Common.{◌≡◌, ℕ, Bool, true, false, not, nat_le, is_some, if◌then◌else◌, List, [], ◌∷◌, ◌++◌, length, Err, refl, ap, sym, subst, ◌∙◌}
+use Rattle.std.proofs.Common.{◌≡◌, ℕ, Bool, true, false, not, nat_le, IfNone, IfSome, is_some, if◌then◌else◌, List, [], ◌∷◌, ◌++◌, length, Err, refl, ap, sym, subst, ◌∙◌}
 use Rattle.std.proofs.lemmas.Bool.{cond-false, cond-true}
 use Rattle.acl_text.specs.declared.faults.Code.TheVariants as codes
 use Rattle.acl_text.specs.declared.faults.Place.{Place}
@@ -45,33 +45,41 @@ is_not : (b c : Bool) → c ≡ not b → (added : Bool) → c ≡ added → b �
 is_not true c e added f = ap not (sym e ∙ f)
 is_not false c e added f = ap not (sym e ∙ f)
 
-pub returns-then-not-is_name-clause-gives : goal.returns-then-not-is_name-clause-gives
-returns-then-not-is_name-clause-gives c =
+-- whether a definition has the name that was read
+told_of : (ds : List Definition) (text name : List ℕ) (added new : Bool) → text ≡ name → added ≡ not (is_some (index_of ds text)) → added ≡ new
+    → is_some (index_of ds name) ≡ not new
+told_of ds text name added new same told e =
+    is_not (is_some (index_of ds name)) added (told ∙ ap (λ n. not (is_some (index_of ds n))) same) new e
+
+pub returns-in_default-clause-gives : goal.returns-in_default-clause-gives
+returns-in_default-clause-gives c =
     let a = c.args in
     refuses_slip (slip codes.BadName a.self.place a.name.now) c.refusal.result _ c.refusal.ensures
-    (unnamed a.self.kind a.self.place a.table.now a.name.now a.rest.now (sym c.is_name.ensures ∙ c.if-not-is_name.true))
+    (unnamed a.self.kind a.self.place a.table.now a.name.now a.rest.now (subst (λ o. IfNone o (is_name a.name.now ≡ false)) c.in_default.is c.in_ok-text.ensures.none))
 
 pub returns-then-is_full-clause-gives : goal.returns-then-is_full-clause-gives
 returns-then-is_full-clause-gives c =
     let a = c.args in
+    let read = subst (λ o. IfSome o (λ n. (n ≡ a.name.now) × (is_name a.name.now ≡ true))) c.in-Some.is c.in_ok-text.ensures.some in
     refuses_slip _ c.no_room.result _ c.no_room.ensures
-    (full a.self.kind a.self.place a.table.now a.name.now a.rest.now (sym c.is_name.ensures ∙ c.if-not-is_name.false)
-    (sym c.is_full.ensures ∙ c.if-is_full.true))
+    (full a.self.kind a.self.place a.table.now a.name.now a.rest.now read.1 (sym c.is_full.ensures ∙ c.if-is_full.true))
 
 pub returns-then-not-branch-clause-gives : goal.returns-then-not-branch-clause-gives
 returns-then-not-branch-clause-gives c =
     let a = c.args in
+    let read = subst (λ o. IfSome o (λ n. (n ≡ a.name.now) × (is_name a.name.now ≡ true))) c.in-Some.is c.in_ok-text.ensures.some in
     refuses_slip (slip codes.Twice a.self.place a.name.now) c.refusal-then-not-branch.result _ c.refusal-then-not-branch.ensures
-    (twice a.self.kind a.self.place a.table.now a.name.now a.rest.now (sym c.is_name.ensures ∙ c.if-not-is_name.false)
-    (is_not (is_some (index_of a.table.now a.name.now)) _ c.in_ok-add.ensures.told false c.if-not-branch.true))
+    (twice a.self.kind a.self.place a.table.now a.name.now a.rest.now read.1
+    (told_of a.table.now c.in-Some.text a.name.now _ false read.0 c.in_ok-add.ensures.told c.if-not-branch.true))
 
 pub returns-clause-gives : goal.returns-clause-gives
 returns-clause-gives c =
     let a = c.args in
+    let read = subst (λ o. IfSome o (λ n. (n ≡ a.name.now) × (is_name a.name.now ≡ true))) c.in-Some.is c.in_ok-text.ensures.some in
     subst (λ o. Leaves slip_told c.add_items.new.table c.add_items.result o)
-    (ap (λ ds. items_added a.self.kind a.self.place ds (words_of a.rest.now)) (c.in_ok-add.ensures.added c.if-not-branch.false)
-    ∙ sym (defined a.self.kind a.self.place a.table.now a.name.now a.rest.now
-    (sym c.is_name.ensures ∙ c.if-not-is_name.false)
-    (is_not (is_some (index_of a.table.now a.name.now)) _ c.in_ok-add.ensures.told true c.if-not-branch.false)
+    (ap (λ ds. items_added a.self.kind a.self.place ds (words_of a.rest.now)) (c.in_ok-add.ensures.added c.if-not-branch.false
+    ∙ ap (λ (n : List ℕ). a.table.now ++ record { name = n; place = a.self.place; items = [] } ∷ []) read.0)
+    ∙ sym (defined a.self.kind a.self.place a.table.now a.name.now a.rest.now read.1
+    (told_of a.table.now c.in-Some.text a.name.now _ true read.0 c.in_ok-add.ensures.told c.if-not-branch.false)
     (sym c.is_full.ensures ∙ c.if-is_full.false)))
     c.add_items.ensures.gives

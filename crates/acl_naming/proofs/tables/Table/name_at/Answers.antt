@@ -6,7 +6,7 @@ use Rattle.acl_naming.proofs.tables.Table.name_at.Goals as goal
 
 pub returns : goal.returns
 returns c =
-    c.as_slice.ensures.value
+    c.as_slice.ensures
     ∙ name_kept c.self.inside.kept.entries c.self.inside.items c.args.index (c.in-Some.name.now, c.in-Some.field-0-1.now) c.in-Some.ensures.entry
     ∙ ap (λ (ds : List Definition). name_at ds c.args.index) c.self.view_is
 

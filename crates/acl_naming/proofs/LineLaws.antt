@@ -1,17 +1,20 @@
--- Lines of one word.
+-- Lines of the forms that a first look tells.
 use Rattle.std.proofs.Common.{◌≡◌, ℕ, ◌+◌, ◌<◌, Bool, true, false, not, ◌&&◌, ◌||◌, ◌==◌, List, [], ◌∷◌, ◌++◌, length, take, drop, Ok, Err, inl, inr, refl, ap, sym, subst, ◌∙◌, arith}
+use Rattle.std.specs.Borrow.{Bor}
 use Rattle.std.proofs.lemmas.Bool.{and_parts, and_from, or_cases, cond-true, cond-false, eqb-true}
 use Rattle.std.proofs.lemmas.List.{take_at, take-append-drop, length-append, append_assoc}
 use Rattle.std.specs.List.{list_all}
 use Rattle.acl_text.specs.declared.faults.Place.{Place}
-use Rattle.acl_text.specs.Cuts.{cut_at}
+use Rattle.acl_text.specs.Cuts.{has_byte}
 use Rattle.acl_text.specs.Cursors.{begins_black, first_line, is_white, lines_of, onto_first, or_all, words_of}
 use Rattle.acl_text.specs.Steps.{◌>>=◌}
 use Rattle.acl_text.proofs.CursorLaws.{lines_step}
-use Rattle.acl_text.proofs.CutLaws.{cut-again, has-not}
+use Rattle.acl_text.proofs.CutLaws.{cut-again, has-append, has-not}
 use Rattle.acl_naming.specs.declared.item_words.NamingKind.{NamingKind}
 use Rattle.acl_naming.specs.Definitions.{Definition}
-use Rattle.acl_naming.specs.LineSteps.{IsLoneLine, IsLoneWord, IsNamed, is_ink, is_plain}
+use Rattle.acl_naming.specs.declared.line_parts.LineForm.{LineForm}
+use Rattle.acl_naming.specs.declared.line_parts.LineForm.TheVariants.{Lone, Named, Plain}
+use Rattle.acl_naming.specs.LineSteps.{IsLoneWord, IsNamed, IsOfForm, IsSeenLine, is_ink, is_plain}
 use Rattle.acl_naming.specs.NamingFiles.{TableOrSlip, in_front_of, item_added, line_added, opens, trimmed, with_items, without_comment, without_end}
 use Rattle.acl_naming.proofs.ReadLaws.{plain_added, plain_opens}
 
@@ -98,9 +101,6 @@ lone_of front word end f l w e = record {
 
 -- ---- lines
 
-all_joined : (front word end rest : List ℕ) → front ++ (word ++ (end ++ rest)) ≡ (front ++ (word ++ end)) ++ rest
-all_joined front word end rest = ap (λ t. front ++ t) (sym (append_assoc word end rest)) ∙ sym (append_assoc front (word ++ end) rest)
-
 pub some_long : (word : List ℕ) → (length word == 0) ≡ false → 0 < length word
 some_long [] h = absurd (cc)
 some_long (b ∷ word) h = omega arith
@@ -108,28 +108,46 @@ some_long (b ∷ word) h = omega arith
 pub split_whole : (bs xs ys : List ℕ) (n : ℕ) → xs ≡ take n bs → ys ≡ drop n bs → bs ≡ xs ++ ys
 split_whole bs xs ys n x y = sym (take-append-drop n bs) ∙ ap (λ t. t ++ drop n bs) (sym x) ∙ ap (λ t. xs ++ t) (sym y)
 
+-- a line that the bytes begin with
+own_line : (bytes own rest line : List ℕ) (size : ℕ) → bytes ≡ own ++ 10 ∷ rest → length own ≡ size → line ≡ take size bytes → own ≡ line
+own_line bytes own rest line size whole long is = sym (is ∙ ap (take size) whole ∙ take_at own (10 ∷ rest) size long)
+
+seen : (bytes own rest line : List ℕ) (form : LineForm) → bytes ≡ own ++ 10 ∷ rest → own ≡ line → has_byte 10 own ≡ false → IsOfForm own form → IsSeenLine bytes line form rest
+seen bytes own rest line form whole same ended told = record {
+  joined = whole ∙ ap (λ x. x ++ 10 ∷ rest) same;
+  ended = ap (has_byte 10) (sym same) ∙ ended;
+  told = subst (λ x. IsOfForm x form) same told;
+}
+
 -- the first line is white space, a word, and white space
-pub lone_line_is : (bytes front text word behind end tail rest line : List ℕ) (size : ℕ)
-    → bytes ≡ front ++ text → text ≡ word ++ behind → behind ≡ end ++ tail → tail ≡ 10 ∷ rest
-    → list_all is_white front ≡ true → 0 < length word → list_all is_ink word ≡ true → list_all is_white end ≡ true
-    → size ≡ length front + length word + length end → line ≡ take size bytes → IsLoneLine bytes line word rest
-lone_line_is bytes front text word behind end tail rest line size b t h g f l w e s is =
-    let own = front ++ (word ++ end) in
+pub lone_line : (bytes front text : List ℕ) (word : Bor (List ℕ)) (behind end tail rest line : List ℕ) (size : ℕ)
+    → bytes ≡ front ++ text → text ≡ word.now ++ behind → behind ≡ end ++ tail → tail ≡ 10 ∷ rest
+    → list_all is_white front ≡ true → 0 < length word.now → list_all is_ink word.now ≡ true → list_all is_white end ≡ true
+    → size ≡ length front + length word.now + length end → line ≡ take size bytes → IsSeenLine bytes line (Lone word) rest
+lone_line bytes front text word behind end tail rest line size b t h g f l w e s is =
+    let own = front ++ (word.now ++ end) in
     let whole : bytes ≡ own ++ 10 ∷ rest =
-    b ∙ ap (λ x. front ++ x) (t ∙ ap (λ x. word ++ x) (h ∙ ap (λ x. end ++ x) g)) ∙ all_joined front word end (10 ∷ rest) in
-    let long : length own ≡ size = omega (arith, s, length-append front (word ++ end), length-append word end) in
-    let same : own ≡ line = sym (is ∙ ap (take size) whole ∙ take_at own (10 ∷ rest) size long) in
-    record {
-      joined = whole ∙ ap (λ x. x ++ 10 ∷ rest) same;
-      lone = subst (λ x. IsLoneWord x word) same (lone_of front word end f l w e);
-    }
+    b ∙ ap (λ x. front ++ x) (t ∙ ap (λ x. word.now ++ x) (h ∙ ap (λ x. end ++ x) g))
+    ∙ ap (λ x. front ++ x) (sym (append_assoc word.now end (10 ∷ rest))) ∙ sym (append_assoc front (word.now ++ end) (10 ∷ rest)) in
+    let told = lone_of front word.now end f l w e in
+    seen bytes own rest line (Lone word) whole
+    (own_line bytes own rest line size whole (omega (arith, s, length-append front (word.now ++ end), length-append word.now end)) is)
+    (has-not is_plain 10 own told.plain refl) told
 
-pub lone_lines : (bytes line word rest : List ℕ) → IsLoneLine bytes line word rest → lines_of bytes ≡ line ∷ lines_of rest
-lone_lines bytes line word rest d =
-    lines_step bytes line rest (ap first_line d.joined ∙ ap (or_all (line ++ 10 ∷ rest)) (cut-again 10 line rest (has-not is_plain 10 line d.lone.plain refl)))
+pub seen_lines : (bytes line : List ℕ) (form : LineForm) (rest : List ℕ) → IsSeenLine bytes line form rest → lines_of bytes ≡ line ∷ lines_of rest
+seen_lines bytes line form rest d =
+    lines_step bytes line rest (ap first_line d.joined ∙ ap (or_all (line ++ 10 ∷ rest)) (cut-again 10 line rest d.ended))
 
-pub lone_shorter : (bytes line word rest : List ℕ) → IsLoneLine bytes line word rest → length rest < length bytes
-lone_shorter bytes line word rest d = omega (arith, ap (λ (t : List ℕ). length t) d.joined, length-append line (10 ∷ rest))
+pub seen_shorter : (bytes line : List ℕ) (form : LineForm) (rest : List ℕ) → IsSeenLine bytes line form rest → length rest < length bytes
+seen_shorter bytes line form rest d = omega (arith, ap (λ (t : List ℕ). length t) d.joined, length-append line (10 ∷ rest))
+
+-- the first line is plain
+pub plain_line : (bytes line tail rest : List ℕ) → bytes ≡ line ++ tail → tail ≡ 10 ∷ rest → list_all is_plain line ≡ true → IsSeenLine bytes line Plain rest
+plain_line bytes line tail rest b t p = record {
+  joined = b ∙ ap (λ x. line ++ x) t;
+  ended = has-not is_plain 10 line p refl;
+  told = p;
+}
 
 -- ---- names
 
@@ -152,24 +170,47 @@ name_trimmed (b ∷ name) blank l h k =
     let ink = and_parts (is_plain b) (not (is_white b)) (and_parts (is_ink b) (list_all is_ink name) h).0 in
     ap without_end (cond-false (is_white b) _ _ (not_true (is_white b) ink.1)) ∙ name_end b name blank h k
 
--- a name, white space, `=` and plain items
-pub named_is : (line name behind blank tail items : List ℕ)
-    → line ≡ name ++ behind → behind ≡ blank ++ tail → tail ≡ 61 ∷ items
-    → 0 < length name → list_all is_ink name ≡ true → list_all is_white blank ≡ true → list_all is_plain items ≡ true → IsNamed line name items
-named_is line name behind blank tail items a b t l n w i =
-    let front = name ++ blank in
-    let plain = joined_all is_plain name blank (ink_all name n) (white_all blank w) in
-    let whole : line ≡ front ++ 61 ∷ items =
-    a ∙ ap (λ x. name ++ x) (b ∙ ap (λ x. blank ++ x) t) ∙ sym (append_assoc name blank (61 ∷ items)) in
+white_trimmed : (front bs : List ℕ) → list_all is_white front ≡ true → trimmed (front ++ bs) ≡ trimmed bs
+white_trimmed [] bs h = refl
+white_trimmed (b ∷ front) bs h =
+    let p = and_parts (is_white b) (list_all is_white front) h in
+    ap without_end (cond-true (is_white b) _ _ p.0) ∙ white_trimmed front bs p.1
+
+-- white space, a name, white space, `=` and plain items
+named_of : (front name blank items : List ℕ) → list_all is_white front ≡ true → 0 < length name → list_all is_ink name ≡ true
+    → list_all is_white blank ≡ true → list_all is_plain items ≡ true → IsNamed ((front ++ (name ++ blank)) ++ 61 ∷ items) name items
+named_of front name blank items f l n w i =
+    let ahead = front ++ (name ++ blank) in
+    let plain = joined_all is_plain front (name ++ blank) (white_all front f) (joined_all is_plain name blank (ink_all name n) (white_all blank w)) in
     record {
-      front = front;
+      front = ahead;
       plain = record {
-        cut = sym (ap (cut_at 61) whole ∙ cut-again 61 front items (has-not is_plain 61 front plain refl));
+        cut = sym (cut-again 61 ahead items (has-not is_plain 61 ahead plain refl));
         name_plain = plain;
         rest_plain = i;
       };
-      own = name_trimmed name blank l n w;
+      own = white_trimmed front (name ++ blank) f ∙ name_trimmed name blank l n w;
     }
+
+pub named_line : (bytes front text : List ℕ) (word : Bor (List ℕ)) (behind blank tail text2 : List ℕ) (items : Bor (List ℕ)) (end rest line : List ℕ) (size : ℕ)
+    → bytes ≡ front ++ text → text ≡ word.now ++ behind → behind ≡ blank ++ tail → tail ≡ 61 ∷ text2 → text2 ≡ items.now ++ end → end ≡ 10 ∷ rest
+    → list_all is_white front ≡ true → 0 < length word.now → list_all is_ink word.now ≡ true → list_all is_white blank ≡ true → list_all is_plain items.now ≡ true
+    → size ≡ length front + length word.now + length blank + 1 + length items.now → line ≡ take size bytes → IsSeenLine bytes line (Named word items) rest
+named_line bytes front text word behind blank tail text2 items end rest line size b t h g k m f l w e i s is =
+    let ahead = front ++ (word.now ++ blank) in
+    let own = ahead ++ 61 ∷ items.now in
+    let whole : bytes ≡ own ++ 10 ∷ rest =
+    b ∙ ap (λ x. front ++ x) (t ∙ ap (λ x. word.now ++ x) (h ∙ ap (λ x. blank ++ x) (g ∙ ap (λ x. 61 ∷ x) (k ∙ ap (λ x. items.now ++ x) m))))
+    ∙ ap (λ x. front ++ x) (sym (append_assoc word.now blank (61 ∷ (items.now ++ 10 ∷ rest)))) ∙ sym (append_assoc front (word.now ++ blank) (61 ∷ (items.now ++ 10 ∷ rest)))
+    ∙ sym (append_assoc ahead (61 ∷ items.now) (10 ∷ rest)) in
+    let told = named_of front word.now blank items.now f l w e i in
+    let ended : has_byte 10 own ≡ false = has-append 10 ahead (61 ∷ items.now)
+    (has-not is_plain 10 ahead (joined_all is_plain front (word.now ++ blank) (white_all front f) (joined_all is_plain word.now blank (ink_all word.now w) (white_all blank e))) refl)
+    (has-not is_plain 10 items.now i refl) in
+    seen bytes own rest line (Named word items) whole
+    (own_line bytes own rest line size whole
+    (omega (arith, s, length-append ahead (61 ∷ items.now), length-append front (word.now ++ blank), length-append word.now blank)) is)
+    ended told
 
 -- ---- what a line of one word adds
 
