@@ -1,9 +1,13 @@
 -- The table of definitions as a list: look-ups, one more definition, and one more item.
 use Rattle.std.proofs.Common.{◌≡◌, ℕ, zero, suc, ◌+◌, ◌<◌, Bool, false, cond, nat_lt, List, [], ◌∷◌, ◌++◌, length, map, slice_get, position, is_some, Option, None, Some, refl, ap, subst, sym, ◌∙◌, arith, not}
-use Rattle.std.specs.List.{prefix_len, position_or_len, slice_range}
+use Rattle.std.specs.List.{AllByRecursion, IsDistinct, prefix_len, position_or_len, slice_range}
+use Rattle.std.specs.Cmp.Lexicographic.{nat_list_eq_equiv}
 use Rattle.std.specs.Str.{bytes_eq}
 use Rattle.std.specs.Map.{keys_of}
+use Rattle.std.proofs.lemmas.Bool.{cond-false, cond-true, lt-ltb}
+use Rattle.std.proofs.lemmas.Map.Keys.{IsDistinct-head, IsDistinct-tail}
 use Rattle.std.proofs.lemmas.Option.{none-some, same_Some}
+use Rattle.std.proofs.lemmas.Slice.Eq.{bytes_eq-Decides}
 use Rattle.std.proofs.lemmas.List.{length-map, map-append, length-append}
 use Rattle.acl_naming.specs.declared.naming_items.Item.{Item}
 use Rattle.acl_naming.specs.Definitions.{Definition, index_of, items_at, items_count}
@@ -42,6 +46,25 @@ index_keys name es items =
     ∙ sym (position_map (bytes_eq name) (λ (e : Kept). e.0) es)
     ∙ ap (position (bytes_eq name)) (sym (names_laid es items))
     ∙ position_map (bytes_eq name) (λ (d : Definition). d.name) (definitions_of es items)
+
+apart : (k : List ℕ) (es : List Kept) (i : ℕ) (e : Kept) → AllByRecursion (λ y. bytes_eq k y ≡ false) (keys_of es) → Some e ≡ slice_get es i → bytes_eq e.0 k ≡ false
+apart k [] i e a h = absurd (none-some e (sym h))
+apart k (x ∷ es) zero e a h = nat_list_eq_equiv.symm e.0 k ∙ ap (λ (y : Kept). bytes_eq k y.0) (same_Some e x h) ∙ a.0
+apart k (x ∷ es) (suc i) e a h = apart k es i e a.1 h
+
+first_key : (es : List Kept) (i : ℕ) (e : Kept) → IsDistinct bytes_eq (keys_of es) → Some e ≡ slice_get es i → position_or_len (bytes_eq e.0) (keys_of es) ≡ i
+first_key [] i e d h = absurd (none-some e (sym h))
+first_key (x ∷ es) zero e d h =
+    cond-false (not (bytes_eq e.0 x.0)) _ _ (ap not ((bytes_eq-Decides e.0 x.0).1 (ap (λ (y : Kept). y.0) (same_Some e x h))))
+first_key (x ∷ es) (suc i) e d h =
+    cond-true (not (bytes_eq e.0 x.0)) (1 + position_or_len (bytes_eq e.0) (keys_of es)) 0 (ap not (apart x.0 es i e (IsDistinct-head bytes_eq x.0 (keys_of es) d) h))
+    ∙ omega (arith, first_key es i e (IsDistinct-tail bytes_eq x.0 (keys_of es) d) h)
+
+-- where keys differ, one is the first that is like it
+pub key_first : (es : List Kept) (i : ℕ) (e : Kept) → IsDistinct bytes_eq (keys_of es) → i < length es → Some e ≡ slice_get es i → Some i ≡ position (bytes_eq e.0) (keys_of es)
+key_first es i e d l h =
+    let is = first_key es i e d h in
+    sym (ap (λ n. within n (length (keys_of es))) is ∙ cond-true (nat_lt i (length (keys_of es))) _ _ (lt-ltb i (length (keys_of es)) (omega (arith, l, length-map es (λ (e : Kept). e.0)))))
 
 pub begin_kept : (es : List Kept) (i end : ℕ) (e : Kept) → Some e ≡ slice_get es i → e.1.from ≡ begin_at (begins_of es) i end
 begin_kept [] i end e h = absurd (none-some e (sym h))

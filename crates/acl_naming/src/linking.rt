@@ -39,12 +39,13 @@ impl Drop for LinkedTable {
     }
 }
 
+// Each name is looked for at the definition just before first, where many have theirs.
 fn links_of(alloc: Global, table: &Table) -> Result<Links, Memory>
     ensures { IfOk result (λ l. l ≡ graph_of table.now) }
 {
     let mut links = Links::with_capacity(alloc, table.len())?;
     for i in 0..table.len() {
-        links = links.with_row(table, table.items_at(i))?;
+        links = links.with_row(table, i.saturating_sub(1), table.items_at(i))?;
     }
     Ok(links)
 }

@@ -31,11 +31,16 @@ impl Model for Links {
     ghost invariant = { λ l. Ascend l.begins (length l.places) };
 }
 
-fn push_link(table: &Table, item: &Item, places: &mut Items<usize>) -> Result<(), Memory>
+fn push_link(
+    table: &Table,
+    near: usize,
+    item: &Item,
+    places: &mut Items<usize>,
+) -> Result<(), Memory>
     ensures { OnOk result (places.new ≡ places.old ++ targets table.now (item.now ∷ [])) }
 {
     match item {
-        Item::Name(reference) => match table.index_of(reference.name.as_slice()) {
+        Item::Name(reference) => match table.index_near(near, reference.name.as_slice()) {
             Some(index) => places.push(index),
             None => Ok(()),
         },
@@ -44,11 +49,16 @@ fn push_link(table: &Table, item: &Item, places: &mut Items<usize>) -> Result<()
     }
 }
 
-fn push_links(table: &Table, items: &[Item], places: &mut Items<usize>) -> Result<(), Memory>
+fn push_links(
+    table: &Table,
+    near: usize,
+    items: &[Item],
+    places: &mut Items<usize>,
+) -> Result<(), Memory>
     ensures { OnOk result (places.new ≡ places.old ++ targets table.now items.now) }
 {
     for item in items {
-        push_link(table, item, places)?;
+        push_link(table, near, item, places)?;
     }
     Ok(())
 }
@@ -84,8 +94,8 @@ impl Links {
         })
     }
 
-    /// The same, and one definition more, which has the items.
-    pub fn with_row(self, table: &Table, items: &[Item]) -> Result<Links, Memory>
+    /// The same, and one definition more, which has the items. Their names are looked for at `near` first.
+    pub fn with_row(self, table: &Table, near: usize, items: &[Item]) -> Result<Links, Memory>
         ensures { IfOk result (λ l. l ≡ self ++ targets table.now items.now ∷ []) }
     {
         let Links {
@@ -93,7 +103,7 @@ impl Links {
             mut places,
         } = self;
         begins.push(places.as_slice().len())?;
-        push_links(table, items, &mut places)?;
+        push_links(table, near, items, &mut places)?;
         Ok(Links { begins, places })
     }
 

@@ -1,6 +1,6 @@
-ghost use Rattle.std.specs.Prelude.{◌≡◌, ℕ, ◌+◌, ◌<◌, List, [], ◌∷◌, ◌++◌, None, Some, true, not, false, is_some, length, IfOk, OnErr, OnOk, IfSome};
+ghost use Rattle.std.specs.Prelude.{◌≡◌, ℕ, ◌+◌, ◌<◌, List, [], ◌∷◌, ◌++◌, None, Some, true, not, false, is_some, length, position, IfOk, OnErr, OnOk, IfSome};
 ghost use Rattle.std.specs.Str.{bytes_eq};
-ghost use Rattle.indexmap.specs.IndexMap.{get, index_map_len, insert_entry};
+ghost use Rattle.indexmap.specs.IndexMap.{get, index_map_len, insert_entry, keys};
 ghost use Rattle.acl_naming.specs.Definitions.{index_of, items_at, items_count};
 ghost use Rattle.acl_naming.specs.Rows.{begin_at};
 ghost use Rattle.acl_naming.specs.Tables.{name_at, place_at, with_item};
@@ -75,6 +75,19 @@ fn end_at(kept: &IndexMap<NameText, TableEntry>, index: usize, end: usize) -> us
     }
 }
 
+// Whether the definition at the index has the name. No two have the same, as `len` says.
+fn has_name(kept: &IndexMap<NameText, TableEntry>, index: usize, name: &[u8]) -> bool
+    ensures { result ≡ true → Some index ≡ position (bytes_eq name.now) (keys kept.now) }
+{
+    if index >= kept.len() {
+        return false;
+    }
+    match kept.get_index(index) {
+        Some((key, _)) => name == key.as_slice(),
+        None => false,
+    }
+}
+
 // Puts the entry behind the others where none has the name, and tells whether it did.
 fn enter(
     kept: &mut IndexMap<NameText, TableEntry>,
@@ -121,6 +134,16 @@ impl Table {
         ensures within { IfSome result (λ i. i < length self.now) }
     {
         self.kept.get_index_of(SoughtName { name })
+    }
+
+    /// The same, where the definition at `near`, if there is one, is the first to be looked at.
+    pub fn index_near(&self, near: usize, name: &[u8]) -> Option<usize>
+        ensures { result ≡ index_of self.now name.now }
+    {
+        if has_name(&self.kept, near, name) {
+            return Some(near);
+        }
+        self.index_of(name)
     }
 
     pub fn items_at(&self, index: usize) -> &[Item]
