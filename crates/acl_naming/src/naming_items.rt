@@ -1,5 +1,5 @@
-ghost use Rattle.std.specs.Prelude.{◌≡◌, ℕ, ◌≤◌};
-ghost use Rattle.acl_packet.specs.Addresses.{IsPrefix, has_address, top_address};
+ghost use Rattle.std.specs.Prelude.{◌≡◌, ℕ, ◌+◌, ◌≤◌};
+ghost use Rattle.acl_packet.specs.Addresses.{IsPrefix, has_address, size_of, top_address};
 ghost use Rattle.acl_sets.specs.Ranges.{IsRange, inside};
 ghost use Rattle.acl_naming.specs.Ports.{has_port, top_port};
 
@@ -33,6 +33,18 @@ impl Model for PrefixItem {
     ghost invariant = { λ b. IsPrefix b.prefix };
 }
 
+// The highest address of the prefix. Most are those of one host.
+fn last_of(prefix: &Prefix) -> u128
+    requires { IsPrefix prefix.now }
+    ensures { result + 1 ≡ prefix.now.first + size_of prefix.now }
+{
+    if prefix.len == prefix.family.width() {
+        prefix.first
+    } else {
+        prefix.last()
+    }
+}
+
 impl PrefixItem {
     pub(crate) fn new(prefix: Prefix) -> PrefixItem
         requires { IsPrefix prefix }
@@ -54,7 +66,7 @@ impl PrefixItem {
     {
         Range {
             low: self.prefix.first,
-            high: self.prefix.last(),
+            high: last_of(&self.prefix),
         }
     }
 }

@@ -11,4 +11,4 @@ returns-clause-within c =
     let fits : p.first + size_of p ≤ 2 ^ width_of p.family = end_fits p c.self.invariant in
     let same = ap (λ (q : Prefix). 2 ^ width_of q.family) c.self.view_is in
     let some : 0 < 2 ^ (width_of p.family - p.len) = pow_pos (width_of p.family - p.len) in
-    (omega (arith, c.last.ensures, some), omega (arith, c.last.ensures, fits, same))
+    (omega (arith, c.last_of.ensures, some), omega (arith, c.last_of.ensures, fits, same))
