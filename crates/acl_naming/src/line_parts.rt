@@ -96,7 +96,8 @@ fn white_front(text: &[u8]) -> usize
     text.len()
 }
 
-// How many bytes it begins with that are ink.
+// How many bytes it begins with that are ink. Within its caller the compiler counts six things a byte.
+#[inline(never)]
 fn ink_front(text: &[u8]) -> usize
     ensures fits { result ≤ length text.now }
     ensures ink { list_all is_ink (take result text.now) ≡ true }

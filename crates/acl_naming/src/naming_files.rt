@@ -39,6 +39,18 @@ fn is_full(table: &Table) -> bool
     table.len() >= MOST
 }
 
+// So many bytes of an address have one of its marks: three digits and `.`, or four and `:`.
+const FRONT: usize = 5;
+
+// Whether the word has a mark of an address, which no name has, among its first bytes.
+#[tactic(auto, using(crate::proofs::MarkedWords::early_mark))]
+fn has_early_mark(word: &[u8]) -> bool
+    ensures { result ≡ true → (has_byte 46 word.now || has_byte 58 word.now) ≡ true }
+{
+    let front = &word[..word.len().min(FRONT)];
+    front.iter().any(|byte| *byte == b'.' || *byte == b':')
+}
+
 // Reads a line of a file of the kind, which stands at the place.
 #[derive(Clone, Copy)]
 struct LineReader {
@@ -108,7 +120,11 @@ impl LineReader {
         }
     }
 
-    #[tactic(auto, using(crate::proofs::MarkedWords::name_added, crate::proofs::MarkedWords::prefix_added))]
+    #[tactic(auto, using(
+        crate::proofs::MarkedWords::marked_added,
+        crate::proofs::MarkedWords::name_added,
+        crate::proofs::MarkedWords::prefix_added,
+    ))]
     fn add_item(self, table: &mut Table, word: &[u8]) -> Result<(), Refusal>
         requires { 0 < length table.old }
         ensures gives { Leaves slip_told table.new result
@@ -116,6 +132,7 @@ impl LineReader {
         ensures filled { OnOk result (0 < length table.new) }
     {
         match self.kind {
+            NamingKind::Networks if has_early_mark(word) => self.add_prefix(table, word),
             NamingKind::Networks => match NameText::read(self.alloc, word)? {
                 Some(name) => self.add_name(table, word, name),
                 None => self.add_prefix(table, word),

@@ -75,7 +75,7 @@ fn end_at(kept: &IndexMap<NameText, TableEntry>, index: usize, end: usize) -> us
     }
 }
 
-// Whether the definition at the index has the name. No two have the same, as `len` says.
+// Whether the definition at the index has the name. Then it is the one: keys of a map are all different.
 fn has_name(kept: &IndexMap<NameText, TableEntry>, index: usize, name: &[u8]) -> bool
     ensures { result ≡ true → Some index ≡ position (bytes_eq name.now) (keys kept.now) }
 {
