@@ -1,22 +1,15 @@
 -- Where no earlier rule's name has the slot of a rule's name, none has the name.
 use Rattle.std.proofs.Common.{◌≡◌, ℕ, ◌+◌, ◌<◌, Bool, true, false, ◌||◌, List, [], ◌∷◌, ◌++◌, ap, sym, ◌∙◌, refl, subst, All, length, get_or, take, drop, arith, Option, None, Some}
 use Rattle.std.specs.Option.{is_some, option_or}
-use Rattle.std.specs.Str.{bytes_eq}
 use Rattle.std.proofs.lemmas.Bool.{false≢true}
 use Rattle.std.proofs.lemmas.List.{drop_more, take_more}
 use Rattle.std.proofs.lemmas.List.Elements.{All-append, All-cons, All-head, All-tail}
-use Rattle.std.proofs.lemmas.Slice.Eq.{bytes_eq-Decides}
 use Rattle.acl_platform.specs.declared.rules.Rule.{Rule}
 use Rattle.acl_platform.specs.declared.filters.Limit.{Limit}
 use Rattle.acl_platform.specs.Limits.{first_limit, is_name_taken}
-use Rattle.acl_platform.specs.NameSlotSteps.{IsSeen, has_slot}
-
-other_name : (slots : List Bool) (name new : List ℕ) → has_slot slots name ≡ true → has_slot slots new ≡ false → bytes_eq name new ≡ false
-other_name slots name new seen free = by_test (bytes_eq name new) refl
-  where
-    by_test : (t : Bool) → bytes_eq name new ≡ t → bytes_eq name new ≡ false
-    by_test true same = absurd (false≢true (sym free ∙ ap (has_slot slots) (sym ((bytes_eq-Decides name new).0 same)) ∙ seen))
-    by_test false differ = differ
+use Rattle.acl_text.specs.NameSlots.{has_slot}
+use Rattle.acl_text.proofs.NameSlotLaws.{other_name}
+use Rattle.acl_platform.specs.NameSlotSteps.{IsSeen}
 
 pub new_by_slot : (slots : List Bool) (earlier : List Rule) (r : Rule) → All (IsSeen slots) earlier → has_slot slots r.name ≡ false
     → is_name_taken earlier r ≡ false

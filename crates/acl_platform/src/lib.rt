@@ -22,7 +22,6 @@ mod rule_texts;
 mod rules;
 mod same_rules;
 mod section_forms;
-mod seen_names;
 mod shared_rules;
 mod writing;
 

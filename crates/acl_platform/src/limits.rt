@@ -16,7 +16,7 @@ ghost use Rattle.acl_platform.specs.Platforms.{judged};
 
 use crate::filters::Limit;
 use crate::rules::Rule;
-use crate::seen_names::SeenNames;
+use acl_text::SeenNames;
 use std::marker::Model;
 
 const SCTP: u128 = 132;
@@ -46,7 +46,7 @@ impl<'a> Model for Earlier<'a> {
 
     ghost view = { λ e. e.rules.now };
 
-    ghost invariant = { λ e. All (IsSeen e.names.now.slots) e.rules.now };
+    ghost invariant = { λ e. All (IsSeen e.names.now) e.rules.now };
 }
 
 impl<'a> Earlier<'a> {
@@ -81,7 +81,7 @@ impl<'a> Earlier<'a> {
 }
 
 fn is_name_taken(earlier: &[Rule], names: &SeenNames, rule: &Rule) -> bool
-    requires { All (IsSeen names.now.slots) earlier.now }
+    requires { All (IsSeen names.now) earlier.now }
     ensures { result ≡ is_name_taken earlier.now rule.now }
 {
     let name = rule.name.as_slice();

@@ -2,19 +2,12 @@
 use Rattle.std.proofs.Common.{◌≡◌, ℕ, Bool, true, false, ◌||◌, List, [], ◌∷◌, ◌++◌, get_or, Result, Ok, Err, OnOk, OnErr, ap, sym, subst, ◌∙◌, refl, All, arith}
 use Rattle.std.specs.List.{list_any}
 use Rattle.std.specs.Str.{bytes_eq}
-use Rattle.std.proofs.lemmas.Bool.{false≢true}
 use Rattle.std.proofs.lemmas.List.Elements.{All-append, All-cons, All-head, All-tail}
-use Rattle.std.proofs.lemmas.Slice.Eq.{bytes_eq-Decides}
 use Rattle.acl_text.specs.declared.texts.Memory.{Memory}
 use Rattle.acl_policy.specs.declared.raw_terms.RawTerm.{RawTerm}
-use Rattle.acl_policy.specs.NameSlotSteps.{IsSeen, has_slot}
-
-other_name : (slots : List Bool) (name new : List ℕ) → has_slot slots name ≡ true → has_slot slots new ≡ false → bytes_eq name new ≡ false
-other_name slots name new seen free = by_test (bytes_eq name new) refl
-  where
-    by_test : (t : Bool) → bytes_eq name new ≡ t → bytes_eq name new ≡ false
-    by_test true same = absurd (false≢true (sym free ∙ ap (has_slot slots) (sym ((bytes_eq-Decides name new).0 same)) ∙ seen))
-    by_test false differ = differ
+use Rattle.acl_text.specs.NameSlots.{has_slot}
+use Rattle.acl_text.proofs.NameSlotLaws.{other_name}
+use Rattle.acl_policy.specs.NameSlotSteps.{IsSeen}
 
 pub new_by_slot : (slots : List Bool) (terms : List RawTerm) (name : List ℕ) → All (IsSeen slots) terms → has_slot slots name ≡ false
     → list_any (λ t. bytes_eq t.name.text name) terms ≡ false

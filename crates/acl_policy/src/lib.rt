@@ -11,7 +11,6 @@ mod keywords;
 mod named_terms;
 mod policy_parsing;
 mod raw_terms;
-mod seen_names;
 mod states;
 mod target_lines;
 mod term_drafts;

@@ -3,8 +3,7 @@ ghost use Rattle.std.specs.List.{list_any};
 ghost use Rattle.std.specs.Str.{bytes_eq};
 
 use crate::raw_terms::{RawTerm, RawTerms};
-use crate::seen_names::SeenNames;
-use acl_text::{Items, Memory};
+use acl_text::{Items, Memory, SeenNames};
 use std::alloc::Global;
 use std::marker::Model;
 use std::mem;
@@ -26,7 +25,7 @@ impl Model for NamedTerms {
 
     ghost view = { λ t. t.terms };
 
-    ghost invariant = { λ t. All (IsSeen t.seen.slots) t.terms };
+    ghost invariant = { λ t. All (IsSeen t.seen) t.terms };
 }
 
 impl NamedTerms {

@@ -14,6 +14,7 @@ pub mod Groups
 pub mod HexPairs
 mod HexTable
 pub mod ListLaws
+pub mod NameSlotLaws
 pub mod NoteLaws
 mod OctetTable
 pub mod OptionStepLaws

@@ -6,6 +6,7 @@ pub mod Cuts
 pub mod Fronts
 pub mod Ipv4
 pub mod Ipv6
+pub mod NameSlots
 pub mod Names
 pub mod NoteSteps
 pub mod Notes

@@ -24,6 +24,7 @@ mod port_ranges;
 mod prefix_fronts;
 mod prefixes;
 mod refusals;
+mod seen_names;
 mod short;
 mod signed_numbers;
 mod texts;
@@ -49,6 +50,7 @@ pub use port_ranges::read_ports;
 pub use prefixes::{
     put_address, put_prefix, put_wildcard, read_address, read_prefix, read_spelled_prefix,
 };
+pub use seen_names::SeenNames;
 pub use signed_numbers::read_signed;
 pub use texts::{Bytes, Memory};
 pub use wholes::Whole;

@@ -1,4 +1,4 @@
-use acl_text::{Memory, is_filter_name, is_name, is_safe_text, note};
+use acl_text::{Memory, SeenNames, is_filter_name, is_name, is_safe_text, note};
 use std::alloc::Global;
 
 // A text, and whether it is a name, a name of a filter, and safe.
@@ -58,4 +58,13 @@ fn makes_comments_safe(rt: HostRuntime) {
             "at {comments}"
         );
     }
+}
+
+#[test]
+fn remembers_names_that_were_seen(rt: HostRuntime) {
+    let mut seen = SeenNames::new();
+    assert!(rt; !seen.may_have("edge-in".as_bytes()));
+    seen.add("edge-in".as_bytes());
+    assert!(rt; seen.may_have("edge-in".as_bytes()));
+    assert!(rt; !seen.may_have("edge-out".as_bytes()));
 }

@@ -7,4 +7,4 @@ abbrev pub invariant-loop-place : goal.invariant-loop-place
 invariant-loop-place g l =
     let limit = g.L.RuleLimits.limit in
     (first_limit limit (take l.place l.rules) (drop l.place l.rules) ≡ first_limit limit [] l.rules)
-    × All (IsSeen l.names.slots) (take l.place l.rules)
+    × All (IsSeen l.names) (take l.place l.rules)
