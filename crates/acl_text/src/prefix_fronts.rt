@@ -1,10 +1,12 @@
-ghost use Rattle.std.specs.Prelude.{ℕ, List, IfSome};
-ghost use Rattle.acl_text.specs.AddressTexts.{IsPrefixText};
+ghost use Rattle.std.specs.Prelude.{◌≡◌, ◌≤◌, ℕ, List, IfSome};
+ghost use Rattle.acl_packet.specs.declared.addresses.Family.TheVariants.{V4};
+ghost use Rattle.acl_packet.specs.Addresses.{width_of};
+ghost use Rattle.acl_text.specs.AddressTexts.{IsPrefixText, block_of};
 ghost use Rattle.acl_text.specs.Fronts.{IsAddressFront, IsLength};
 
 use crate::ipv4_fronts::{behind_byte, byte_front, ipv4_front};
 use crate::ipv6_fronts::ipv6_front;
-use crate::prefixes::block_of;
+use crate::prefixes::{IPV4_TOP, block_of};
 use acl_packet::{Family, Prefix};
 
 #[inline(always)]
@@ -18,16 +20,42 @@ fn read_length(family: Family, text: &[u8]) -> Option<u8>
     Some(len as u8)
 }
 
+// The block of an IPv4 address. Its bits are cleared in one register, where a `u128` takes two.
+#[inline(always)]
+fn ipv4_block(address: u32, len: u8) -> Prefix
+    requires { len ≤ 32 }
+    ensures { result ≡ block_of V4 address len }
+{
+    let free = 32 - len;
+    let first = (u64::from(address) >> free) << free;
+    Prefix {
+        family: Family::V4,
+        first: u128::from(first),
+        len,
+    }
+}
+
+#[inline(always)]
+fn quick_block(family: Family, address: u128, len: u8) -> Prefix
+    requires { len ≤ width_of family }
+    ensures { result ≡ block_of family address len }
+{
+    match family {
+        Family::V4 if address <= IPV4_TOP => ipv4_block(address as u32, len),
+        _ => block_of(family, address, len),
+    }
+}
+
 // The prefix of a word's address and of the rest of the word behind it.
 #[inline(always)]
 fn prefix_behind(family: Family, address: u128, rest: &[u8]) -> Option<Prefix>
     ensures { IfSome result (λ p. (word : List ℕ) → IsAddressFront family word rest.now address → IsPrefixText word p) }
 {
     if rest.is_empty() {
-        return Some(block_of(family, address, family.width()));
+        return Some(quick_block(family, address, family.width()));
     }
     let len = read_length(family, rest)?;
-    Some(block_of(family, address, len))
+    Some(quick_block(family, address, len))
 }
 
 fn ipv4_prefix(word: &[u8]) -> Option<Prefix>

@@ -182,7 +182,7 @@ fn push_prefix(text: &mut ShortText, prefix: &Prefix)
 }
 
 // An address above it is none of IPv4.
-const IPV4_TOP: u128 = 0xffff_ffff;
+pub(crate) const IPV4_TOP: u128 = 0xffff_ffff;
 
 /// Puts the text of the address: of an IPv4 address four decimal numbers with `.` between, of an IPv6 address
 /// the form of RFC 5952 sections 4.1 to 4.3, never with an IPv4 address in it.
