@@ -17,3 +17,4 @@ pub mod LeastCuts
 pub mod CutWalks
 pub mod ListedLaws
 pub mod GroupLaws
+pub mod ShortLists

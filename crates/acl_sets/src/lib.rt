@@ -9,6 +9,7 @@ mod range_lists;
 mod range_pieces;
 mod sets;
 mod shared_lists;
+mod short_ranges;
 mod sweeps;
 
 pub use groups::group_end;

@@ -4,6 +4,7 @@ ghost use Rattle.acl_sets.specs.Ranges.{holds, IsRange, IsNormal, OneNormalList}
 ghost use Rattle.acl_sets.specs.ComputableSets.{put_all, cut_all, shared_all, is_all, all_covered};
 
 use crate::range_lists::RangeList;
+use crate::short_ranges::{SHORT_TOP, short_normal};
 use crate::sweeps;
 use acl_text::Memory;
 use std::alloc::Global;
@@ -42,6 +43,21 @@ pub(crate) fn are_same(ranges: &[Range], others: &[Range]) -> bool
     ensures { IsTrue result ↔ (ranges.now ≡ others.now) }
 {
     ranges == others
+}
+
+// So few ranges are sorted by insertion, where a smaller size does not pay for its own list.
+const FEW: usize = 20;
+
+// The ranges in normal form.
+fn normal(alloc: Global, top: u128, ranges: Vec<Range>) -> Result<Vec<Range>, Memory>
+    requires { All (λ r. IsRange top r) ranges.items }
+    ensures { IfOk result (λ v. v.items ≡ put_all ranges.items []) }
+{
+    if top <= SHORT_TOP && ranges.len() > FEW {
+        return short_normal(alloc, ranges);
+    }
+    let rising = sweeps::sorted(ranges);
+    sweeps::merged(alloc, &rising)
 }
 
 impl RangeSet {
@@ -97,8 +113,7 @@ impl RangeSet {
                 list: RangeList::of_one(alloc, *range)?,
             });
         }
-        let rising = sweeps::sorted(ranges);
-        let merged = sweeps::merged(alloc, &rising)?;
+        let merged = normal(alloc, top, ranges)?;
         Ok(RangeSet {
             limit: top,
             list: RangeList::new(alloc, merged)?,

@@ -1,26 +1,12 @@
 use Rattle.std.proofs.Common.{◌∙◌}
-use Rattle.acl_sets.proofs.SweepFacts.{merged-computed, ranges-normal, ranges-holds}
+use Rattle.acl_sets.proofs.SweepFacts.{ranges-normal, ranges-holds}
 use Rattle.acl_sets.proofs.sets.RangeSet.from_vec.Goals as goal
 
 pub invariant_of-result-2 : goal.invariant_of-result-2
-invariant_of-result-2 c =
-    ranges-normal c.args.top c.args.ranges.items _ c.requires
-    (merged-computed c.args.top c.args.ranges.items _ _ _ c.requires c.sorted-rising.ensures.same
-    c.sorted-rising.ensures.rising c.deref.ensures.value (c.in_ok-new.ensures ∙ c.in_ok-merged.ensures))
+invariant_of-result-2 c = ranges-normal c.args.top c.args.ranges.items _ c.requires (c.in_ok-new.ensures ∙ c.in_ok-merged.ensures)
 
 pub returns-clause-normal : goal.returns-clause-normal
-returns-clause-normal c =
-    ranges-normal c.args.top c.args.ranges.items _ c.requires
-    (merged-computed c.args.top c.args.ranges.items _ _ _ c.requires c.sorted-rising.ensures.same
-    c.sorted-rising.ensures.rising c.deref.ensures.value (c.in_ok-new.ensures ∙ c.in_ok-merged.ensures))
+returns-clause-normal c = ranges-normal c.args.top c.args.ranges.items _ c.requires (c.in_ok-new.ensures ∙ c.in_ok-merged.ensures)
 
 pub returns-clause-exact : goal.returns-clause-exact
-returns-clause-exact c =
-    ranges-holds c.args.top c.args.ranges.items _ c.requires
-    (merged-computed c.args.top c.args.ranges.items _ _ _ c.requires c.sorted-rising.ensures.same
-    c.sorted-rising.ensures.rising c.deref.ensures.value (c.in_ok-new.ensures ∙ c.in_ok-merged.ensures))
-
-pub returns-clause-computed : goal.returns-clause-computed
-returns-clause-computed c =
-    merged-computed c.args.top c.args.ranges.items _ _ _ c.requires c.sorted-rising.ensures.same
-    c.sorted-rising.ensures.rising c.deref.ensures.value (c.in_ok-new.ensures ∙ c.in_ok-merged.ensures)
+returns-clause-exact c = ranges-holds c.args.top c.args.ranges.items _ c.requires (c.in_ok-new.ensures ∙ c.in_ok-merged.ensures)
