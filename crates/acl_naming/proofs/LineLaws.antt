@@ -1,11 +1,14 @@
 -- Lines of the forms that a first look tells.
-use Rattle.std.proofs.Common.{◌≡◌, ℕ, ◌+◌, ◌<◌, Bool, true, false, not, ◌&&◌, ◌||◌, ◌==◌, List, [], ◌∷◌, ◌++◌, length, take, drop, Ok, Err, inl, inr, refl, ap, sym, subst, ◌∙◌, arith}
+use Rattle.std.proofs.Common.{◌≡◌, ℕ, ◌+◌, ◌-◌, ◌<◌, ◌≤◌, Bool, true, false, not, ◌&&◌, ◌||◌, ◌==◌, nat_le, List, [], ◌∷◌, ◌++◌, length, take, drop, Ok, Err, inl, inr, refl, ap, sym, subst, ◌∙◌, arith}
 use Rattle.std.specs.Borrow.{Bor}
-use Rattle.std.proofs.lemmas.Bool.{and_parts, and_from, or_cases, cond-true, cond-false, eqb-true}
+use Rattle.std.proofs.lemmas.Bool.{and_parts, and_from, or_cases, cond-true, cond-false, eqb-true, leb-true, le-leb, ne_eqb}
 use Rattle.std.proofs.lemmas.List.{take_at, take-append-drop, length-append, append_assoc}
 use Rattle.std.specs.List.{list_all}
 use Rattle.acl_text.specs.declared.faults.Place.{Place}
+use Rattle.acl_packet.specs.declared.addresses.Prefix.{Prefix}
+use Rattle.acl_text.specs.AddressTexts.{IsPrefixText}
 use Rattle.acl_text.specs.Cuts.{has_byte}
+use Rattle.acl_text.specs.Fronts.{IsPrefixFront, is_ipv4_byte}
 use Rattle.acl_text.specs.Cursors.{begins_black, first_line, is_white, lines_of, onto_first, or_all, words_of}
 use Rattle.acl_text.specs.Steps.{◌>>=◌}
 use Rattle.acl_text.proofs.CursorLaws.{lines_step}
@@ -13,7 +16,7 @@ use Rattle.acl_text.proofs.CutLaws.{cut-again, has-append, has-not}
 use Rattle.acl_naming.specs.declared.item_words.NamingKind.{NamingKind}
 use Rattle.acl_naming.specs.Definitions.{Definition}
 use Rattle.acl_naming.specs.declared.line_parts.LineForm.{LineForm}
-use Rattle.acl_naming.specs.declared.line_parts.LineForm.TheVariants.{Lone, Named, Plain}
+use Rattle.acl_naming.specs.declared.line_parts.LineForm.TheVariants.{Lone, LonePrefix, Named, Plain}
 use Rattle.acl_naming.specs.LineSteps.{IsLoneWord, IsNamed, IsOfForm, IsSeenLine, is_ink, is_plain}
 use Rattle.acl_naming.specs.NamingFiles.{TableOrSlip, in_front_of, item_added, line_added, opens, trimmed, with_items, without_comment, without_end}
 use Rattle.acl_naming.proofs.ReadLaws.{plain_added, plain_opens}
@@ -133,6 +136,45 @@ lone_line bytes front text word behind end tail rest line size b t h g f l w e s
     seen bytes own rest line (Lone word) whole
     (own_line bytes own rest line size whole (omega (arith, s, length-append front (word.now ++ end), length-append word.now end)) is)
     (has-not is_plain 10 own told.plain refl) told
+
+-- a byte of an IPv4 prefix's word is ink
+prefix_byte : (b : ℕ) → is_ipv4_byte b ≡ true → is_ink b ≡ true
+prefix_byte b h =
+    let p = and_parts (nat_le 46 b) (nat_le b 57) h in
+    let low : 46 ≤ b = leb-true 46 b p.0 in
+    let high : b ≤ 57 = leb-true b 57 p.1 in
+    rw (
+      ne_eqb b 9 (λ e. omega (arith, low, e)),
+      ne_eqb b 13 (λ e. omega (arith, low, e)),
+      ne_eqb b 32 (λ e. omega (arith, low, e)),
+      ne_eqb b 35 (λ e. omega (arith, low, e)),
+      ne_eqb b 61 (λ e. omega (arith, high, e)),
+      le-leb 33 b (omega (arith, low)),
+      le-leb b 126 (omega (arith, high)),
+    ) refl
+
+prefix_bytes : (bs : List ℕ) → list_all is_ipv4_byte bs ≡ true → list_all is_ink bs ≡ true
+prefix_bytes [] h = refl
+prefix_bytes (b ∷ bs) h =
+    let p = and_parts (is_ipv4_byte b) (list_all is_ipv4_byte bs) h in
+    and_from (is_ink b) (list_all is_ink bs) (prefix_byte b p.0) (prefix_bytes bs p.1)
+
+-- the first line is white space, the word of a prefix, and white space
+pub prefix_line : (bytes front text : List ℕ) (word : Bor (List ℕ)) (rest1 behind end tail rest line : List ℕ) (p : Prefix) (size : ℕ)
+    → bytes ≡ front ++ text → IsPrefixFront text rest1 p → word.now ≡ take (length text - length rest1) text → behind ≡ drop (length text - length rest1) text
+    → behind ≡ end ++ tail → tail ≡ 10 ∷ rest → list_all is_white front ≡ true → list_all is_white end ≡ true
+    → size ≡ length front + length word.now + length end → line ≡ take size bytes → IsSeenLine bytes line (LonePrefix word p) rest
+prefix_line bytes front text word rest1 behind end tail rest line p size b d t k h g f e s is =
+    let long : length d.word ≡ length text - length rest1 = omega (arith, ap (λ (x : List ℕ). length x) d.text_is, length-append d.word rest1) in
+    let own : word.now ≡ d.word = t ∙ ap (take (length text - length rest1)) d.text_is ∙ take_at d.word rest1 (length text - length rest1) long in
+    let lone = lone_line bytes front text word behind end tail rest line size b (split_whole text word.now behind (length text - length rest1) t k) h g f
+    (subst (λ (x : List ℕ). 0 < length x) (sym own) (d.nonempty))
+    (ap (λ (x : List ℕ). list_all is_ink x) own ∙ prefix_bytes d.word d.bytes) e s is in
+    record {
+      joined = lone.joined;
+      ended = lone.ended;
+      told = (lone.told, subst (λ x. IsPrefixText x p) (sym own) d.prefix_is);
+    }
 
 pub seen_lines : (bytes line : List ℕ) (form : LineForm) (rest : List ℕ) → IsSeenLine bytes line form rest → lines_of bytes ≡ line ∷ lines_of rest
 seen_lines bytes line form rest d =

@@ -4,12 +4,15 @@ use Rattle.std.specs.List.{list_all, list_any}
 use Rattle.std.specs.Option.{option_map_or}
 use Rattle.std.proofs.lemmas.Bool.{false≢true, and_parts, or_parts, or_from, cond-true, cond-false, cases_Bool}
 use Rattle.std.proofs.lemmas.List.Folds.{list_any-append}
+use Rattle.std.proofs.lemmas.Option.{none-some}
 use Rattle.acl_packet.specs.declared.addresses.Prefix.{Prefix}
+use Rattle.acl_packet.specs.Addresses.{IsPrefix}
 use Rattle.acl_text.specs.declared.faults.Place.{Place}
-use Rattle.acl_text.specs.AddressTexts.{block_in, family_in, full_in, prefix_in}
+use Rattle.acl_text.specs.AddressTexts.{IsPrefixText, block_in, family_in, full_in, prefix_in}
 use Rattle.acl_text.specs.Cuts.{cut_at, has_byte}
 use Rattle.acl_text.specs.Ipv4.{ipv4_in}
 use Rattle.acl_text.specs.Names.{is_name, is_name_byte}
+use Rattle.acl_text.proofs.AddressLaws.{prefix-in, prefix-some}
 use Rattle.acl_text.proofs.CutLaws.{cut-found, cut-none, has-not}
 use Rattle.acl_naming.specs.declared.naming_items.Item.TheVariants.{Name, Network}
 use Rattle.acl_naming.specs.declared.item_words.NamingKind.TheVariants.{Networks}
@@ -100,3 +103,20 @@ pub name_added : (place : Place) (ds : List Definition) (word : List ℕ) → is
     → item_added Networks place ds word ≡ item_put place ds word (Some (Name (record { place = place; name = word })))
 unfolding item_added item_in
 name_added place ds word h = ap (item_put place ds word) (named place word h ∙ cond-true (is_name word) _ _ h)
+
+-- the word of a prefix is a network's item
+read_network : (place : Place) (word : List ℕ) (p : Prefix) → prefix_in word ≡ Some p → network_in place word ≡ Some (Network p)
+unfolding network_in
+read_network place word p e = elim (cases_Bool (has_byte 46 word || has_byte 58 word)) [
+  | inl t ↦ cond-true (has_byte 46 word || has_byte 58 word) _ _ t ∙ ap (option_map Network) e
+  | inr f ↦ let q = or_parts (has_byte 46 word) (has_byte 58 word) f in
+      absurd (none-some p (sym (no_prefix word q.0 q.1) ∙ e))
+]
+
+pub read_added : (place : Place) (ds : List Definition) (word : List ℕ) (p : Prefix) → IsPrefixText word p
+    → item_added Networks place ds word ≡ item_put place ds word (Some (Network p))
+unfolding item_added item_in
+read_added place ds word p h = ap (item_put place ds word) (read_network place word p (prefix-in word p h))
+
+pub read_is : (word : List ℕ) (p : Prefix) → IsPrefixText word p → IsPrefix p
+read_is word p h = (prefix-some word (Some p) (sym (prefix-in word p h))).1

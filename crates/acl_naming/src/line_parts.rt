@@ -4,13 +4,16 @@ ghost use Rattle.acl_naming.specs.LineSteps.{IsOfForm, IsSeenLine, is_ink, is_pl
 ghost use Rattle.acl_text.specs.Cursors.{first_line, is_white, lines_of};
 ghost use Rattle.acl_naming.specs.NamingFiles.{bad_byte, is_bad, trimmed, without_comment, without_end};
 
-use acl_text::{is_white, skip_white, split_at_byte};
+use acl_packet::Prefix;
+use acl_text::{ipv4_prefix_front, is_white, skip_white, split_at_byte};
 
 /// What a line holds, where a first look tells it. A plain line has no comment, no `=` and no bad byte.
 #[derive(Clone, Copy)]
 pub enum LineForm<'a> {
     /// One word alone, as most lines have; the line is plain.
     Lone(&'a [u8]),
+    /// The same, where the word is that of a prefix, which is told as well.
+    LonePrefix(&'a [u8], Prefix),
     /// The name of a definition, and the text of its items, which is plain.
     Named(&'a [u8], &'a [u8]),
     /// Any number of words; the line is plain.
@@ -133,8 +136,22 @@ fn plain_front(text: &[u8]) -> usize
     text.len()
 }
 
-// The first line, its form, and the bytes behind it, where it is one word alone or begins a definition. `None` says
-// nothing.
+// The first line, its form, and the bytes behind it, where it is one IPv4 prefix alone. `None` says nothing.
+//
+// Most lines of long lists are such, and each of their bytes is looked at once.
+fn prefix_line(bytes: &[u8]) -> Option<(&[u8], LineForm<'_>, &[u8])>
+    ensures { IfSome result (λ p. IsSeenLine bytes.now p.0.now p.1 p.2.now) }
+{
+    let (front, text) = bytes.split_at(white_front(bytes));
+    let (prefix, behind) = ipv4_prefix_front(text)?;
+    let (word, behind) = text.split_at(text.len() - behind.len());
+    let (blank, behind) = behind.split_at(white_front(behind));
+    let rest = behind_byte(behind, b'\n')?;
+    let size = front.len() + word.len() + blank.len();
+    Some((&bytes[..size], LineForm::LonePrefix(word, prefix), rest))
+}
+
+// The same, where it is one word alone or begins a definition.
 fn headed_line(bytes: &[u8]) -> Option<(&[u8], LineForm<'_>, &[u8])>
     ensures { IfSome result (λ p. IsSeenLine bytes.now p.0.now p.1 p.2.now) }
 {
@@ -170,6 +187,9 @@ fn plain_line(bytes: &[u8]) -> Option<(&[u8], LineForm<'_>, &[u8])>
 fn seen_line(bytes: &[u8]) -> Option<(&[u8], LineForm<'_>, &[u8])>
     ensures { IfSome result (λ p. IsSeenLine bytes.now p.0.now p.1 p.2.now) }
 {
+    if let Some(seen) = prefix_line(bytes) {
+        return Some(seen);
+    }
     match headed_line(bytes) {
         Some(seen) => Some(seen),
         None => plain_line(bytes),

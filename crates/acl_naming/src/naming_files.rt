@@ -4,7 +4,7 @@ ghost use Rattle.acl_text.specs.Cursors.{words_of};
 ghost use Rattle.acl_text.specs.Cuts.{has_byte};
 ghost use Rattle.acl_text.specs.Refusals.{IsRefusalBy, slip};
 ghost use Rattle.acl_text.specs.declared.faults.Code.TheVariants as codes;
-ghost use Rattle.acl_text.specs.AddressTexts.{prefix_in};
+ghost use Rattle.acl_text.specs.AddressTexts.{IsPrefixText, prefix_in};
 ghost use Rattle.acl_naming.specs.declared.naming_items.Item.TheVariants.{Name, Network};
 ghost use Rattle.acl_naming.specs.Definitions.{index_of};
 ghost use Rattle.acl_naming.specs.LineSteps.{IsOfForm};
@@ -25,8 +25,9 @@ ghost use Rattle.acl_naming.specs.NamingFiles.{
 use crate::item_words::{NamingKind, read_block, read_item};
 use crate::line_parts::{LineForm, bad_byte, next_line, trimmed, without_comment};
 use crate::name_texts::NameText;
-use crate::naming_items::{Item, Reference};
+use crate::naming_items::{Item, PrefixItem, Reference};
 use crate::tables::Table;
+use acl_packet::Prefix;
 use acl_text::{Code, Place, Refusal, next_word, split_at_byte};
 use std::alloc::Global;
 
@@ -120,11 +121,7 @@ impl LineReader {
         }
     }
 
-    #[tactic(auto, using(
-        crate::proofs::MarkedWords::marked_added,
-        crate::proofs::MarkedWords::name_added,
-        crate::proofs::MarkedWords::prefix_added,
-    ))]
+    #[tactic(auto, using(crate::proofs::MarkedWords::marked_added, crate::proofs::MarkedWords::name_added, crate::proofs::MarkedWords::prefix_added,))]
     fn add_item(self, table: &mut Table, word: &[u8]) -> Result<(), Refusal>
         requires { 0 < length table.old }
         ensures gives { Leaves slip_told table.new result
@@ -137,6 +134,24 @@ impl LineReader {
                 Some(name) => self.add_name(table, word, name),
                 None => self.add_prefix(table, word),
             },
+            NamingKind::Services => self.add_any(table, word),
+        }
+    }
+
+    // Adds the item that the word of a prefix is.
+    #[tactic(auto, using(crate::proofs::MarkedWords::read_added, crate::proofs::MarkedWords::read_is))]
+    fn add_read(self, table: &mut Table, word: &[u8], prefix: Prefix) -> Result<(), Refusal>
+        requires some { 0 < length table.old }
+        requires own { IsPrefixText word.now prefix }
+        ensures gives { Leaves slip_told table.new result
+            (item_added self.kind self.place table.old word.now) }
+        ensures filled { OnOk result (0 < length table.new) }
+    {
+        match self.kind {
+            NamingKind::Networks => {
+                let block = PrefixItem::new(prefix);
+                self.put_item(table, word, Item::Network(block))
+            }
             NamingKind::Services => self.add_any(table, word),
         }
     }
@@ -253,6 +268,10 @@ impl LineReader {
         match form {
             LineForm::Lone(word) if is_open => {
                 self.add_item(table, word)?;
+                Ok(true)
+            }
+            LineForm::LonePrefix(word, prefix) if is_open => {
+                self.add_read(table, word, prefix)?;
                 Ok(true)
             }
             LineForm::Named(name, items) => {

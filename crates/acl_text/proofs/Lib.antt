@@ -23,3 +23,4 @@ pub mod Printed
 pub mod Putting
 pub mod Runs
 pub mod SignedLaws
+pub mod PrefixFronts

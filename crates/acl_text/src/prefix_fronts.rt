@@ -2,7 +2,7 @@ ghost use Rattle.std.specs.Prelude.{◌≡◌, ◌≤◌, ℕ, List, IfSome};
 ghost use Rattle.acl_packet.specs.declared.addresses.Family.TheVariants.{V4};
 ghost use Rattle.acl_packet.specs.Addresses.{width_of};
 ghost use Rattle.acl_text.specs.AddressTexts.{IsPrefixText, block_of};
-ghost use Rattle.acl_text.specs.Fronts.{IsAddressFront, IsLength};
+ghost use Rattle.acl_text.specs.Fronts.{IsAddressFront, IsLength, IsPrefixFront};
 
 use crate::ipv4_fronts::{behind_byte, byte_front, ipv4_front};
 use crate::ipv6_fronts::ipv6_front;
@@ -56,6 +56,22 @@ fn prefix_behind(family: Family, address: u128, rest: &[u8]) -> Option<Prefix>
     }
     let len = read_length(family, rest)?;
     Some(quick_block(family, address, len))
+}
+
+/// The IPv4 prefix whose word the text begins with, and what stands behind the word. `None` says nothing.
+#[tactic(auto, using(crate::proofs::PrefixFronts::host_front, crate::proofs::PrefixFronts::block_front))]
+pub fn ipv4_prefix_front(text: &[u8]) -> Option<(Prefix, &[u8])>
+    ensures { IfSome result (λ r. IsPrefixFront text.now r.1.now r.0) }
+{
+    let (address, rest) = ipv4_front(text)?;
+    let Some(behind) = behind_byte(rest, b'/') else {
+        return Some((ipv4_block(address, 32), rest));
+    };
+    let (len, rest) = byte_front(behind)?;
+    if len > 32 {
+        return None;
+    }
+    Some((ipv4_block(address, len as u8), rest))
 }
 
 fn ipv4_prefix(word: &[u8]) -> Option<Prefix>
