@@ -3,7 +3,7 @@ ghost use Rattle.acl_policy.specs.Terms.{no_word, draft_of, no_draft, with_comme
 
 use crate::raw_terms::RawTerm;
 use acl_text::{Bytes, Memory, Place};
-use acl_words::{Token, Word, WordList};
+use acl_words::{Token, Word, WordBytes, WordList};
 use std::alloc::Global;
 
 /// A term whose braces are open, and what stood in it already.
@@ -22,7 +22,7 @@ pub(crate) fn no_word(alloc: Global) -> Word
 {
     Word {
         place: Place { file: 0, line: 0 },
-        text: Bytes::new(alloc),
+        text: WordBytes::new(alloc),
     }
 }
 

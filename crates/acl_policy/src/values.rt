@@ -23,8 +23,8 @@ use crate::clauses::Clause;
 use crate::word_slips::{refusal_at, refusal_for};
 use acl_host::read_day;
 use acl_packet::{Family, icmp_number, protocol_number, read_u8};
-use acl_text::{Bytes, Code, Memory, Refusal, is_name};
-use acl_words::{Form, Token, Word, WordList};
+use acl_text::{Code, Memory, Refusal, is_name};
+use acl_words::{Form, Token, Word, WordBytes, WordList};
 use std::alloc::Global;
 
 /// What the values of a keyword are: but for the first two, words of some kind.
@@ -139,7 +139,7 @@ pub(crate) fn word_of(alloc: Global, word: &Token<'_>) -> Result<Word, Memory>
 {
     Ok(Word {
         place: word.place(),
-        text: Bytes::from_slice(alloc, word.text())?,
+        text: WordBytes::from_slice(alloc, word.text())?,
     })
 }
 

@@ -20,6 +20,7 @@ mod sources;
 mod splicing;
 mod stretches;
 mod tokens;
+mod word_bytes;
 mod word_lists;
 mod word_texts;
 
@@ -30,4 +31,5 @@ pub use policy_words::PolicyWords;
 pub use sources::{Sources, label};
 pub use stretches::Stretch;
 pub use tokens::Token;
+pub use word_bytes::WordBytes;
 pub use word_lists::{Word, WordList, WordRef, WordsLeft};

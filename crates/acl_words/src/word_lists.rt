@@ -5,8 +5,9 @@ ghost use Rattle.acl_words.specs.LineTexts.{HasNoFeed};
 
 use crate::line_words::LineWords;
 use crate::place_lists::PlacesLeft;
+use crate::word_bytes::WordBytes;
 use crate::word_texts::WordText;
-use acl_text::{Bytes, Memory, Place, split_at_byte};
+use acl_text::{Memory, Place, split_at_byte};
 use std::alloc::Global;
 use std::marker::Model;
 
@@ -14,7 +15,7 @@ use std::marker::Model;
 #[derive(Drop)]
 pub struct Word {
     pub place: Place,
-    pub text: Bytes,
+    pub text: WordBytes,
 }
 
 /// The same, with bytes that another holds.

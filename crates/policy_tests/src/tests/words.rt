@@ -2,7 +2,7 @@ ghost use Rattle.acl_words.specs.LineTexts.{HasNoFeed};
 
 use crate::tests::files::text;
 use acl_text::{Memory, Place};
-use acl_words::{Form, Lines, PolicyWords, Token};
+use acl_words::{Form, Lines, PolicyWords, Token, WordBytes};
 use std::alloc::Global;
 
 fn shown(alloc: Global, word: &Token<'_>) -> Result<String, Memory> {
@@ -62,4 +62,24 @@ fn words_have_forms_and_places(rt: HostRuntime) {
             "{words}"
         );
     }
+}
+
+fn is_kept(alloc: Global, text: &[u8]) -> Result<bool, Memory> {
+    Ok(WordBytes::from_slice(alloc, text)?.as_slice() == text)
+}
+
+// The last two words have 24 and 25 bytes.
+static KEPT: [&[u8]; 4] = [
+    b"",
+    b"w",
+    b"of-24-bytes-and-not-more",
+    b"of-25-bytes-and-no-more..",
+];
+
+#[test]
+fn bytes_of_words_are_kept(rt: HostRuntime) {
+    for text in &KEPT {
+        assert!(rt; is_kept(rt.alloc(), text) == Ok(true));
+    }
+    assert!(rt; WordBytes::new(rt.alloc()).as_slice().is_empty());
 }
