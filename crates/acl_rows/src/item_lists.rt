@@ -3,7 +3,7 @@ ghost use Rattle.acl_text.specs.Puts.{Puts};
 
 use crate::each_word::WordForm;
 use crate::line_texts::LineText;
-use crate::listed::Listed;
+use crate::listed::{Listed, has_none};
 use crate::pieces::Piece;
 use acl_text::{Out, PutFault};
 
@@ -35,9 +35,14 @@ impl<'a, L: Listed, F: WordForm<L::Item>> Piece for ItemsBehind<'a, L, F> {
     ghost text = { λ b.
         flat_map (λ x. b.separator.now ++ F.item_text b.form.now x) (L.items b.items) };
 
+    // Most lists have one item, and none behind it: for these no text is cleared.
     #[inline]
     fn put_into<O: Out>(&self, out: &mut O) -> Result<(), PutFault> {
-        put_items(self.separator, &self.items, self.form, out)
+        if has_none(&self.items) {
+            Ok(())
+        } else {
+            put_items(self.separator, &self.items, self.form, out)
+        }
     }
 }
 

@@ -1,4 +1,4 @@
-ghost use Rattle.std.specs.Prelude.{◌≡◌, ◌≤◌, ℕ, List, ◌++◌, IsTrue, OnOk, flat_map, length, take, true};
+ghost use Rattle.std.specs.Prelude.{◌≡◌, ◌≤◌, ℕ, List, [], ◌++◌, IsTrue, OnOk, flat_map, length, take, true};
 ghost use Rattle.acl_text.specs.Puts.{Puts};
 ghost use Rattle.acl_rows.specs.LineHalfSteps.{AreHalves, IsHalf, text_of};
 
@@ -45,9 +45,26 @@ pub fn put_pairs<A: Listed, B: Listed, F: LineHalves<A::Item, B::Item>, O: Out>(
         (flat_map (λ a. flat_map (λ b. F.front form.now a ++ F.back form.now b)
         (B.items seconds.now)) (A.items firsts.now)) result }
 {
-    if !keeps_backs {
-        return put_each(firsts, seconds, &[], seconds, form, out);
+    if keeps_backs {
+        put_with_backs(firsts, seconds, form, out)
+    } else {
+        put_each(firsts, seconds, &[], seconds, form, out)
     }
+}
+
+// Puts the line of each pair, with backs that are kept. A call for itself, since room for so many texts has its price.
+#[inline(never)]
+fn put_with_backs<A: Listed, B: Listed, F: LineHalves<A::Item, B::Item>, O: Out>(
+    firsts: &A,
+    seconds: &B,
+    form: &F,
+    out: &mut O,
+) -> Result<(), PutFault>
+    requires { IsTrue (O.is_open out.old) }
+    ensures { Puts O.Out out.old out.new
+        (flat_map (λ a. flat_map (λ b. F.front form.now a ++ F.back form.now b)
+        (B.items seconds.now)) (A.items firsts.now)) result }
+{
     let mut texts = [LineText::closed(); KEPT];
     let (count, left) = keep_backs(seconds, form, &mut texts);
     put_each(firsts, seconds, &texts[..count], &left, form, out)
@@ -117,7 +134,8 @@ fn put_lines_of<A: Copy, B: Listed, F: LineHalves<A, B::Item>, O: Out>(
     ensures { Puts O.Out out.old out.new
         (flat_map (λ b. F.front form.now first.now ++ F.back form.now b) (B.items seconds.now)) result }
 {
-    let mut line = front_text(first, form);
+    let mut line = LineText::new();
+    begin_line(first, form, &mut line);
     if !line.is_open() {
         return put_behind(first, &mut line, seconds, form, out);
     }
@@ -125,15 +143,15 @@ fn put_lines_of<A: Copy, B: Listed, F: LineHalves<A, B::Item>, O: Out>(
     put_behind(first, &mut line, left, form, out)
 }
 
-// The text of the front of a first, where it has room.
+// Begins a line, which is empty, with the front of a first, where it has room.
 #[inline]
-fn front_text<A, B, F: LineHalves<A, B>>(first: &A, form: &F) -> LineText
-    ensures { IsHalf (F.front form.now first.now) result }
+fn begin_line<A, B, F: LineHalves<A, B>>(first: &A, form: &F, line: &mut LineText)
+    requires open { line.old.is_open ≡ true }
+    requires empty { text_of line.old ≡ [] }
+    ensures { IsHalf (F.front form.now first.now) line.new }
 {
-    let mut text = LineText::new();
-    match form.put_front(first, &mut text) {
-        Ok(()) => text,
-        Err(_) => LineText::closed(),
+    if form.put_front(first, line).is_err() {
+        line.close();
     }
 }
 

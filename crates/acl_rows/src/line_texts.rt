@@ -64,6 +64,14 @@ impl LineText {
         self.end
     }
 
+    /// Takes nothing more.
+    #[inline]
+    pub(crate) fn close(&mut self)
+        ensures { self.new.is_open ≡ false }
+    {
+        self.is_open = false;
+    }
+
     /// Lets go what stands behind an end that it had, and takes bytes again.
     #[inline]
     pub(crate) fn cut_back(&mut self, end: usize)

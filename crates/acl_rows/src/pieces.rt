@@ -21,7 +21,7 @@ pub trait Piece {
 impl Piece for &[u8] {
     ghost text = { λ s. s.now };
 
-    #[inline]
+    #[inline(always)]
     fn put_into<O: Out>(&self, out: &mut O) -> Result<(), PutFault> {
         out.put(self)
     }
@@ -31,7 +31,7 @@ impl Piece for &[u8] {
 impl<A: Piece, B: Piece> Piece for (A, B) {
     ghost text = { λ p. A.text p.0 ++ B.text p.1 };
 
-    #[inline]
+    #[inline(always)]
     fn put_into<O: Out>(&self, out: &mut O) -> Result<(), PutFault> {
         self.0.put_into(out)?;
         self.1.put_into(out)
@@ -113,7 +113,7 @@ pub struct OneWord<P> {
 impl<P: Piece> Words for OneWord<P> {
     ghost words = { λ w. P.text w.piece ∷ [] };
 
-    #[inline]
+    #[inline(always)]
     fn put_spaced<O: Out>(&self, out: &mut O) -> Result<(), PutFault> {
         out.put(b" ")?;
         self.piece.put_into(out)
@@ -145,7 +145,7 @@ pub fn put_words<O: Out>(words: &[&[u8]], out: &mut O) -> Result<(), PutFault>
 impl<A: Words, B: Words> Words for (A, B) {
     ghost words = { λ p. A.words p.0 ++ B.words p.1 };
 
-    #[inline]
+    #[inline(always)]
     fn put_spaced<O: Out>(&self, out: &mut O) -> Result<(), PutFault> {
         self.0.put_spaced(out)?;
         self.1.put_spaced(out)
@@ -156,7 +156,7 @@ impl<A: Words, B: Words> Words for (A, B) {
 impl<W: Words> Words for Option<W> {
     ghost words = { λ o. or_nothing W.words o };
 
-    #[inline]
+    #[inline(always)]
     fn put_spaced<O: Out>(&self, out: &mut O) -> Result<(), PutFault> {
         match self {
             Some(part) => part.put_spaced(out),

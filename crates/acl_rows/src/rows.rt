@@ -53,7 +53,7 @@ fn put_parts<P: Piece, W: Words, O: Out>(line: &Row<P, W>, out: &mut O) -> Resul
 const SPACES: [u8; 32] = [b' '; 32];
 
 // Puts so many spaces, by one put where they are as few as rows of a device have.
-#[inline]
+#[inline(always)]
 pub(crate) fn put_spaces<O: Out>(count: usize, out: &mut O) -> Result<(), PutFault>
     requires { IsTrue (O.is_open out.old) }
     ensures { Puts O.Out out.old out.new (replicate count 32) result }

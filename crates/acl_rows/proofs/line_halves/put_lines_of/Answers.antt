@@ -11,7 +11,7 @@ returns-in_err-put_kept g c =
     let front = g.F.LineHalves.front c.args.form.now c.args.first.now in
     let back = g.F.LineHalves.back c.args.form.now in
     let lines = flat_map (λ b. front ++ back b) (g.B.Listed.items c.args.left.now) in
-    let held = c.front_text-line.ensures (sym c.is_open.ensures ∙ c.if-not-is_open.false) in
+    let held = c.begin_line.ensures (sym c.is_open.ensures ∙ c.if-not-is_open.false) in
     let whole = ap (λ t. flat_map (λ k. t ++ text_of k) c.args.kept.now ++ lines) held
     ∙ lines_in_two front back (g.B.Listed.items c.args.seconds.now) (g.B.Listed.items c.args.left.now) c.args.kept.now c.requires.halves in
     let p = err_from_is_err_and c.from_residual.result c.from_residual.ensures.1 in
@@ -22,7 +22,7 @@ returns g c =
     let front = g.F.LineHalves.front c.args.form.now c.args.first.now in
     let back = g.F.LineHalves.back c.args.form.now in
     let lines = flat_map (λ b. front ++ back b) (g.B.Listed.items c.args.left.now) in
-    let held = c.front_text-line.ensures (sym c.is_open.ensures ∙ c.if-not-is_open.false) in
+    let held = c.begin_line.ensures (sym c.is_open.ensures ∙ c.if-not-is_open.false) in
     let whole = ap (λ t. flat_map (λ k. t ++ text_of k) c.args.kept.now ++ lines) held
     ∙ lines_in_two front back (g.B.Listed.items c.args.seconds.now) (g.B.Listed.items c.args.left.now) c.args.kept.now c.requires.halves in
     retold whole (goes_on g.met.O.Out.rest_goes_on c.in_ok-put_kept.ensures.put c.put_behind-2.ensures)
