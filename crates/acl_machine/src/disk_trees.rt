@@ -30,7 +30,9 @@ pub struct DiskTree<'a, R: Files> {
 }
 
 impl<'a, R: Files> DiskTree<'a, R> {
-    ghost use Rattle.std.specs.Prelude.{◌≡◌, ◌+◌, None};
+    ghost use Rattle.std.specs.Prelude.{◌≡◌, ◌≤◌, ◌+◌, false, None, IsSome, IsErrOf, OnOk, OnErr, option_map};
+    ghost use Rattle.std.specs.String.{string_bytes};
+    ghost use Rattle.acl_text.specs.Output.{Rose, has_failed};
 
     /// The files that the runtime reaches. Nothing is begun, and no call has failed yet.
     pub fn new(rt: &'a R) -> DiskTree<'a, R>
@@ -45,6 +47,41 @@ impl<'a, R: Files> DiskTree<'a, R> {
             counts: WriteCounts::new(),
             list_faults: 0,
             read_faults: 0,
+        }
+    }
+
+    // Puts bytes that are many, or have no room beside those that are gathered. It stands apart so that a line that has
+    // room needs no more than to be copied.
+    #[inline(never)]
+    fn put_on(&mut self, bytes: &[u8]) -> Result<(), PutFault>
+        requires { IsSome self.old.begun }
+        ensures begun { OnOk result (option_map (λ f. string_bytes f.path) self.new.begun
+            ≡ option_map (λ f. string_bytes f.path) self.old.begun) }
+        ensures given_up { OnErr result (self.new.begun ≡ None) }
+        ensures looks { (self.new.list_faults ≡ self.old.list_faults)
+            × (self.new.read_faults ≡ self.old.read_faults) }
+        ensures faults_grow { self.old.counts.faults ≤ self.new.counts.faults }
+        ensures refusals_grow { self.old.counts.refusals ≤ self.new.counts.refusals }
+        ensures failed { IsErrOf result PutFault.Failed
+            → Rose self.old.counts.faults self.new.counts.faults }
+        ensures faults_stay { has_failed result ≡ false
+            → self.new.counts.faults ≡ self.old.counts.faults }
+        ensures memory { IsErrOf result PutFault.Memory
+            → Rose self.old.counts.refusals self.new.counts.refusals }
+    {
+        let written = match &mut self.begun {
+            Some(opened) => self.gathered.put(&mut opened.file, bytes),
+            None => unreachable!(),
+        };
+        match written {
+            Ok(()) => Ok(()),
+            Err(error) => {
+                self.give_up();
+                match self.counts.count(&error) {
+                    WriteFault::Failed => Err(PutFault::Failed),
+                    WriteFault::Memory => Err(PutFault::Memory),
+                }
+            }
         }
     }
 
@@ -90,25 +127,13 @@ impl<R: Files + AllocGlobal + Clone + Drop> Out for DiskTree<'_, R> {
         (option_map (λ f. string_bytes f.path) t.begun) s.list_faults t.list_faults s.read_faults
         t.read_faults };
 
+    #[inline]
     fn put(&mut self, bytes: &[u8]) -> Result<(), PutFault> {
-        // Most bytes have room.
-        if self.gathered.take(bytes) {
+        // most bytes are a line, and have room
+        if self.gathered.take_short(bytes) {
             return Ok(());
         }
-        let written = match &mut self.begun {
-            Some(opened) => self.gathered.put(&mut opened.file, bytes),
-            None => unreachable!(),
-        };
-        match written {
-            Ok(()) => Ok(()),
-            Err(error) => {
-                self.give_up();
-                match self.counts.count(&error) {
-                    WriteFault::Failed => Err(PutFault::Failed),
-                    WriteFault::Memory => Err(PutFault::Memory),
-                }
-            }
-        }
+        self.put_on(bytes)
     }
 
     ghost rest_same = { λ t. rest_same _ _ _ _ };

@@ -1,6 +1,7 @@
 ghost use Rattle.std.specs.Prelude.{◌≡◌, ◌++◌, [], OnOk, if◌then◌else◌};
 ghost use Rattle.std.specs.Io.KnownBytes.{Appends, append_known};
 
+use crate::copying::{MOST_SHORT, copy_short};
 use crate::whole_writes::write_whole;
 use std::io;
 use std::io::Write;
@@ -70,9 +71,24 @@ impl Gathered {
         self.end = 0;
     }
 
-    /// Takes the bytes behind those that are gathered, or none where they have no room.
-    #[inline]
-    pub(crate) fn take(&mut self, bytes: &[u8]) -> bool
+    /// Takes the bytes behind those that are gathered, or none where they are many or have no room. A line is taken
+    /// without a call.
+    #[inline(always)]
+    pub(crate) fn take_short(&mut self, bytes: &[u8]) -> bool
+        ensures { self.new ≡ (if result then self.old ++ bytes.now
+            else self.old) }
+    {
+        if bytes.len() > MOST_SHORT || bytes.len() > ROOM - self.end {
+            return false;
+        }
+        let end = self.end + bytes.len();
+        copy_short(&mut self.room[self.end..end], bytes);
+        self.end = end;
+        true
+    }
+
+    // Takes the bytes behind those that are gathered, or none where they have no room.
+    fn take(&mut self, bytes: &[u8]) -> bool
         ensures { self.new ≡ (if result then self.old ++ bytes.now
             else self.old) }
     {
