@@ -1,5 +1,5 @@
 -- Lines of the forms that a first look tells.
-use Rattle.std.proofs.Common.{◌≡◌, ℕ, ◌+◌, ◌-◌, ◌<◌, ◌≤◌, Bool, true, false, not, ◌&&◌, ◌||◌, ◌==◌, nat_le, List, [], ◌∷◌, ◌++◌, length, take, drop, Ok, Err, inl, inr, refl, ap, sym, subst, ◌∙◌, arith}
+use Rattle.std.proofs.Common.{◌≡◌, ℕ, ◌+◌, ◌-◌, ◌<◌, ◌≤◌, Bool, true, false, not, ◌&&◌, ◌||◌, ◌⊎◌, ◌==◌, nat_le, List, [], ◌∷◌, ◌++◌, length, take, drop, Ok, Err, inl, inr, refl, ap, sym, subst, ◌∙◌, arith}
 use Rattle.std.specs.Borrow.{Bor}
 use Rattle.std.proofs.lemmas.Bool.{and_parts, and_from, or_cases, cond-true, cond-false, eqb-true, leb-true, le-leb, ne_eqb}
 use Rattle.std.proofs.lemmas.List.{take_at, take-append-drop, length-append, append_assoc}
@@ -8,7 +8,7 @@ use Rattle.acl_text.specs.declared.faults.Place.{Place}
 use Rattle.acl_packet.specs.declared.addresses.Prefix.{Prefix}
 use Rattle.acl_text.specs.AddressTexts.{IsPrefixText}
 use Rattle.acl_text.specs.Cuts.{has_byte}
-use Rattle.acl_text.specs.Fronts.{IsPrefixFront, is_ipv4_byte}
+use Rattle.acl_text.specs.Fronts.{IsPrefixFront, is_prefix_byte}
 use Rattle.acl_text.specs.Cursors.{begins_black, first_line, is_white, lines_of, onto_first, or_all, words_of}
 use Rattle.acl_text.specs.Steps.{◌>>=◌}
 use Rattle.acl_text.proofs.CursorLaws.{lines_step}
@@ -137,26 +137,37 @@ lone_line bytes front text word behind end tail rest line size b t h g f l w e s
     (own_line bytes own rest line size whole (omega (arith, s, length-append front (word.now ++ end), length-append word.now end)) is)
     (has-not is_plain 10 own told.plain refl) told
 
--- a byte of an IPv4 prefix's word is ink
-prefix_byte : (b : ℕ) → is_ipv4_byte b ≡ true → is_ink b ≡ true
-prefix_byte b h =
-    let p = and_parts (nat_le 46 b) (nat_le b 57) h in
-    let low : 46 ≤ b = leb-true 46 b p.0 in
-    let high : b ≤ 57 = leb-true b 57 p.1 in
+-- bytes of a range of ink
+ink_between : (low high b : ℕ) → (nat_le low b && nat_le b high) ≡ true → (low ≤ high) × (33 ≤ low) × (high ≤ 126) → (high < 35) ⊎ (35 < low)
+    → (high < 61) ⊎ (61 < low) → is_ink b ≡ true
+ink_between low high b h fits hash equals =
+    let p = and_parts (nat_le low b) (nat_le b high) h in
+    let from : low ≤ b = leb-true low b p.0 in
+    let to : b ≤ high = leb-true b high p.1 in
     rw (
-      ne_eqb b 9 (λ e. omega (arith, low, e)),
-      ne_eqb b 13 (λ e. omega (arith, low, e)),
-      ne_eqb b 32 (λ e. omega (arith, low, e)),
-      ne_eqb b 35 (λ e. omega (arith, low, e)),
-      ne_eqb b 61 (λ e. omega (arith, high, e)),
-      le-leb 33 b (omega (arith, low)),
-      le-leb b 126 (omega (arith, high)),
+      ne_eqb b 9 (λ e. omega (arith, from, fits, e)),
+      ne_eqb b 13 (λ e. omega (arith, from, fits, e)),
+      ne_eqb b 32 (λ e. omega (arith, from, fits, e)),
+      ne_eqb b 35 (λ e. omega (arith, from, to, hash, e)),
+      ne_eqb b 61 (λ e. omega (arith, from, to, equals, e)),
+      le-leb 33 b (omega (arith, from, fits)),
+      le-leb b 126 (omega (arith, to, fits)),
     ) refl
 
-prefix_bytes : (bs : List ℕ) → list_all is_ipv4_byte bs ≡ true → list_all is_ink bs ≡ true
+-- a byte of a prefix's word is ink
+prefix_byte : (b : ℕ) → is_prefix_byte b ≡ true → is_ink b ≡ true
+prefix_byte b h = elim (or_cases (nat_le 46 b && nat_le b 58) ((nat_le 65 b && nat_le b 70) || (nat_le 97 b && nat_le b 102)) h) [
+  | inl t ↦ ink_between 46 58 b t (omega arith, omega arith, omega arith) (inr (omega arith)) (inl (omega arith))
+  | inr k ↦ elim (or_cases (nat_le 65 b && nat_le b 70) (nat_le 97 b && nat_le b 102) k) [
+    | inl t ↦ ink_between 65 70 b t (omega arith, omega arith, omega arith) (inr (omega arith)) (inr (omega arith))
+    | inr t ↦ ink_between 97 102 b t (omega arith, omega arith, omega arith) (inr (omega arith)) (inr (omega arith))
+  ]
+]
+
+prefix_bytes : (bs : List ℕ) → list_all is_prefix_byte bs ≡ true → list_all is_ink bs ≡ true
 prefix_bytes [] h = refl
 prefix_bytes (b ∷ bs) h =
-    let p = and_parts (is_ipv4_byte b) (list_all is_ipv4_byte bs) h in
+    let p = and_parts (is_prefix_byte b) (list_all is_prefix_byte bs) h in
     and_from (is_ink b) (list_all is_ink bs) (prefix_byte b p.0) (prefix_bytes bs p.1)
 
 -- the first line is white space, the word of a prefix, and white space

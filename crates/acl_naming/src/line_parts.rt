@@ -5,7 +5,7 @@ ghost use Rattle.acl_text.specs.Cursors.{first_line, is_white, lines_of};
 ghost use Rattle.acl_naming.specs.NamingFiles.{bad_byte, is_bad, trimmed, without_comment, without_end};
 
 use acl_packet::Prefix;
-use acl_text::{ipv4_prefix_front, is_white, skip_white, split_at_byte};
+use acl_text::{is_white, prefix_front, skip_white, split_at_byte};
 
 /// What a line holds, where a first look tells it. A plain line has no comment, no `=` and no bad byte.
 #[derive(Clone, Copy)]
@@ -136,14 +136,14 @@ fn plain_front(text: &[u8]) -> usize
     text.len()
 }
 
-// The first line, its form, and the bytes behind it, where it is one IPv4 prefix alone. `None` says nothing.
+// The first line, its form, and the bytes behind it, where it is one prefix alone. `None` says nothing.
 //
 // Most lines of long lists are such, and each of their bytes is looked at once.
 fn prefix_line(bytes: &[u8]) -> Option<(&[u8], LineForm<'_>, &[u8])>
     ensures { IfSome result (λ p. IsSeenLine bytes.now p.0.now p.1 p.2.now) }
 {
     let (front, text) = bytes.split_at(white_front(bytes));
-    let (prefix, behind) = ipv4_prefix_front(text)?;
+    let (prefix, behind) = prefix_front(text)?;
     let (word, behind) = text.split_at(text.len() - behind.len());
     let (blank, behind) = behind.split_at(white_front(behind));
     let rest = behind_byte(behind, b'\n')?;

@@ -41,11 +41,11 @@ address-printed : (f : Family) (n : ℕ) → n < 2 ^ width_of f → IsAddressTex
 address-printed V4 n h = ipv4-printed n h
 address-printed V6 n h = ipv6-printed n h
 
-spelling-lacks : (f : Family) (c : ℕ) (bs : List ℕ) (n : ℕ) → IsAddressText f bs n → IsForeign c → has_byte c bs ≡ false
+pub spelling-lacks : (f : Family) (c : ℕ) (bs : List ℕ) (n : ℕ) → IsAddressText f bs n → IsForeign c → has_byte c bs ≡ false
 spelling-lacks V4 c bs n h w = ipv4-lacks c bs n h w.digit w.dot
 spelling-lacks V6 c bs n h w = ipv6-lacks c bs n h w
 
-spelling-nonempty : (f : Family) (bs : List ℕ) (n : ℕ) → IsAddressText f bs n → 0 < length bs
+pub spelling-nonempty : (f : Family) (bs : List ℕ) (n : ℕ) → IsAddressText f bs n → 0 < length bs
 spelling-nonempty V4 bs n h = ipv4-nonempty bs n h
 spelling-nonempty V6 bs n h = ipv6-nonempty bs n h
 

@@ -1,11 +1,9 @@
 -- Texts that begin with a digit, a number of a byte, groups of hexadecimal digits, or an address, and what stands behind.
-use Rattle.std.specs.Prelude.{◌≡◌, ℕ, ◌+◌, ◌<◌, ◌≤◌, Bool, true, ◌&&◌, nat_le, List, ◌∷◌, ◌++◌, length, Some}
+use Rattle.std.specs.Prelude.{◌≡◌, ℕ, ◌+◌, ◌<◌, ◌≤◌, Bool, true, ◌&&◌, ◌||◌, nat_le, List, ◌∷◌, ◌++◌, length, Some}
 use Rattle.std.specs.List.{list_all}
 use Rattle.std.specs.Char.{is_ascii_digit}
 use Rattle.acl_packet.specs.declared.addresses.Family.{Family}
 use Rattle.acl_packet.specs.declared.addresses.Prefix.{Prefix}
-use Rattle.acl_packet.specs.Addresses.{width_of}
-use Rattle.acl_packet.specs.Decimals.{IsNumber}
 use Rattle.acl_text.specs.AddressTexts.{IsAddressText, IsPrefixText}
 use Rattle.acl_text.specs.Ipv4.{IsByte}
 use Rattle.acl_text.specs.Ipv6.{hex_value, IsGroup, IsGroups, IsSide, grouped}
@@ -62,16 +60,9 @@ pub record IsAddressFront (family : Family) (text rest : List ℕ) (n : ℕ) : T
   pub text_is : text ≡ front ++ rest
   pub address_is : IsAddressText family front n
 
--- `/` (47) and the length of a prefix.
-pub record IsLength (family : Family) (text : List ℕ) (n : ℕ) : Type 0 where
-  pub word : List ℕ
-  pub text_is : text ≡ 47 ∷ word
-  pub number_is : IsNumber word n
-  pub small : n ≤ width_of family
-
--- `.` (46), `/` (47) or a digit (48 to 57).
-abbrev pub is_ipv4_byte : ℕ → Bool
-is_ipv4_byte b = nat_le 46 b && nat_le b 57
+-- `.` (46), `/` (47), a digit (48 to 57), `:` (58), or a letter that is a hexadecimal digit.
+abbrev pub is_prefix_byte : ℕ → Bool
+is_prefix_byte b = (nat_le 46 b && nat_le b 58) || ((nat_le 65 b && nat_le b 70) || (nat_le 97 b && nat_le b 102))
 
 -- A word of such bytes that spells a prefix, and what stands behind it.
 pub record IsPrefixFront (text rest : List ℕ) (p : Prefix) : Type 0 where
@@ -79,4 +70,4 @@ pub record IsPrefixFront (text rest : List ℕ) (p : Prefix) : Type 0 where
   pub nonempty : 0 < length word
   pub text_is : text ≡ word ++ rest
   pub prefix_is : IsPrefixText word p
-  pub bytes : list_all is_ipv4_byte word ≡ true
+  pub bytes : list_all is_prefix_byte word ≡ true

@@ -47,7 +47,7 @@ pub use notes::note;
 pub use output::{Out, PutFault};
 pub use pieces::put_pieces;
 pub use port_ranges::read_ports;
-pub use prefix_fronts::ipv4_prefix_front;
+pub use prefix_fronts::prefix_front;
 pub use prefixes::{
     put_address, put_prefix, put_wildcard, read_address, read_prefix, read_spelled_prefix,
 };

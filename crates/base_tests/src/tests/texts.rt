@@ -2,10 +2,10 @@ ghost use Rattle.std.specs.Prelude.{◌≡◌, true};
 
 use acl_packet::{Family, Prefix};
 use acl_text::{
-    Bytes, Cursor, Items, Memory, Place, PutFault, Whole, ahead, behind, contains_byte,
-    ipv4_prefix_front, next_word, put_address, put_number, put_pieces, put_prefix, put_wildcard,
-    read_address, read_number, read_ports, read_prefix, read_signed, read_spelled_prefix,
-    skip_white, split_at_byte,
+    Bytes, Cursor, Items, Memory, Place, PutFault, Whole, ahead, behind, contains_byte, next_word,
+    prefix_front, put_address, put_number, put_pieces, put_prefix, put_wildcard, read_address,
+    read_number, read_ports, read_prefix, read_signed, read_spelled_prefix, skip_white,
+    split_at_byte,
 };
 use std::alloc::Global;
 
@@ -164,7 +164,7 @@ fn refuses_other_words(rt: HostRuntime) {
 
 // Whether the text begins with the word, which spells the prefix that is told, and goes on with the rest.
 fn begins_with_prefix(text: &str, word: &str, rest: &str) -> bool {
-    match ipv4_prefix_front(text.as_bytes()) {
+    match prefix_front(text.as_bytes()) {
         Some((prefix, behind)) => {
             read_prefix(word.as_bytes()) == Some(prefix) && behind == rest.as_bytes()
         }
@@ -176,8 +176,10 @@ fn begins_with_prefix(text: &str, word: &str, rest: &str) -> bool {
 fn reads_fronts_of_texts(rt: HostRuntime) {
     assert!(rt; begins_with_prefix("10.1.2.3/8 x", "10.1.2.3/8", " x"));
     assert!(rt; begins_with_prefix("10.1.2.255", "10.1.2.255", ""));
-    assert!(rt; ipv4_prefix_front(b"10.1.2.3/33").is_none());
-    assert!(rt; ipv4_prefix_front(b"web").is_none());
+    assert!(rt; prefix_front(b"10.1.2.3/33").is_none());
+    assert!(rt; begins_with_prefix("2001:db8::1:2/64;", "2001:db8::1:2/64", ";"));
+    assert!(rt; prefix_front(b"2001:db8::/129").is_none());
+    assert!(rt; prefix_front(b"web").is_none());
 }
 
 static SPELLED: [(Family, &str, Option<u128>); 9] = [
