@@ -1,4 +1,4 @@
-ghost use Rattle.std.specs.Prelude.{◌≡◌, ℕ, List, [], ◌∷◌, ◌++◌, Option, IsTrue, flat_map};
+ghost use Rattle.std.specs.Prelude.{◌≡◌, ℕ, List, [], ◌∷◌, ◌++◌, Some, Option, IsTrue, flat_map};
 ghost use Rattle.acl_text.specs.Puts.{Puts};
 ghost use Rattle.acl_rows.specs.Rows.{Row, text_of_rows};
 ghost use Rattle.acl_packet.specs.declared.addresses.Prefix.{Prefix};
@@ -62,7 +62,8 @@ pub fn put_address_pairs<F: AddressForm, O: Out>(
         (text_of_rows (flat_map (F.rows form.now)
         (pairs (number_choices rule.now.protos) (pairs rule.now.src rule.now.dst)))) result }
 {
-    let each = OfProtocol { rule, form };
+    let only = one_prefix(&rule.dst);
+    let each = OfProtocol { rule, only, form };
     NumberChoices { set: &rule.protos }.put_each(&each, out)
 }
 
@@ -70,7 +71,10 @@ pub fn put_address_pairs<F: AddressForm, O: Out>(
 #[derive(Drop)]
 struct OfProtocol<'a, F> {
     rule: &'a Rule,
+    // The only destination, where there is one.
+    only: Option<Prefix>,
     form: &'a F,
+    ghost alone: { (dst : _) → only ≡ Some dst → rule.now.dst ≡ dst ∷ [] },
 }
 
 impl<'a, F: AddressForm> RowForm<Option<u8>> for OfProtocol<'a, F> {
@@ -78,7 +82,7 @@ impl<'a, F: AddressForm> RowForm<Option<u8>> for OfProtocol<'a, F> {
         (pairs o.rule.now.src o.rule.now.dst) };
 
     fn put_item<O: Out>(&self, item: &Option<u8>, out: &mut O) -> Result<(), PutFault> {
-        match one_prefix(&self.rule.dst) {
+        match self.only {
             Some(dst) => self.put_each_source(*item, dst, out),
             None => self.put_each_pair(*item, out),
         }
