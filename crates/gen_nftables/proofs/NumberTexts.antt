@@ -1,5 +1,5 @@
 -- Numbers behind commas, as they are put.
-use Rattle.std.proofs.Common.{◌≡◌, ℕ, zero, suc, ◌+◌, ◌-◌, ◌<◌, ◌≤◌, List, [], ◌∷◌, ◌++◌, length, take, drop, get_or, map, codes, All, Option, refl, ap, sym, ◌∙◌, arith}
+use Rattle.std.proofs.Common.{◌≡◌, ℕ, zero, suc, ◌+◌, ◌-◌, ◌<◌, ◌≤◌, List, [], ◌∷◌, ◌++◌, length, take, drop, get_or, map, codes, All, refl, ap, sym, ◌∙◌, arith}
 use Rattle.std.specs.Fmt.{decimal}
 use Rattle.std.specs.List.{range_with_len}
 use Rattle.std.proofs.Math.Seq.{take-length}
@@ -11,7 +11,7 @@ use Rattle.acl_sets.specs.Ranges.{IsRange, Numbers}
 use Rattle.acl_platform.specs.Choices.{numbers_of}
 use Rattle.acl_platform.specs.Elements.{port_elements, range_elements}
 use Rattle.acl_platform.proofs.ElementLaws.{each-range}
-use Rattle.nft_lang.specs.Texts.{port_word, ports_word, set_words, with_commas}
+use Rattle.nft_lang.specs.Texts.{ports_word, set_words, with_commas}
 use Rattle.nft_lang.proofs.SetLaws.{commas_put}
 use Rattle.gen_nftables.specs.RowSteps.{other_numbers}
 
@@ -82,9 +82,8 @@ others-are rs n h =
     let P : Range → Type 0 = λ r. IsRange 255 r in
     All-take P n (drop 1 rs) (All-drop P 1 rs h)
 
-pub port-words : (proto : Option ℕ) (key : List ℕ) (s : Numbers) {front : List ℕ} {ranges : List Range} → front ≡ port_word proto → ranges ≡ range_elements s
-    → spaced (set_words front key (map (λ r. ports_word (r.low, r.high)) ranges)) ≡ spaced (set_words (port_word proto) key (map ports_word (port_elements s)))
-port-words proto key s {front = front} {ranges = ranges} e f =
-    ap (λ w. spaced (set_words w key (map (λ r. ports_word (r.low, r.high)) ranges))) e
-    ∙ ap (λ rs. spaced (set_words (port_word proto) key (map (λ r. ports_word (r.low, r.high)) rs))) f
-    ∙ ap (λ words. spaced (set_words (port_word proto) key words)) (each-range ports_word (range_elements s))
+pub port-words : (front key : List ℕ) (s : Numbers) {ranges : List Range} → ranges ≡ range_elements s
+    → spaced (set_words front key (map (λ r. ports_word (r.low, r.high)) ranges)) ≡ spaced (set_words front key (map ports_word (port_elements s)))
+port-words front key s {ranges = ranges} f =
+    ap (λ rs. spaced (set_words front key (map (λ r. ports_word (r.low, r.high)) rs))) f
+    ∙ ap (λ words. spaced (set_words front key words)) (each-range ports_word (range_elements s))

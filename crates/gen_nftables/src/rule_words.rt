@@ -9,7 +9,7 @@ use acl_packet::Families;
 use acl_platform::{Rule, Test};
 use acl_rows::Words;
 use acl_text::{Out, PutFault};
-use nft_lang::{FlagTest, Flags, PacketFamily, Protocol, RuleEnding};
+use nft_lang::{FlagTest, Flags, PacketFamily, Protocol, RuleEnding, SetKey};
 
 /// The words of a rule of a chain: a rule of a filter, for one of its protocols or for all of them.
 #[derive(Drop)]
@@ -32,31 +32,23 @@ impl<'a> Words for RuleWords<'a> {
             families: self.families,
             family,
         };
-        let saddr: &[u8] = b"saddr";
-        let daddr: &[u8] = b"daddr";
         let addresses = (
             AddressSet {
-                family,
-                key: saddr,
+                key: SetKey::Source(family),
                 prefixes: &rule.src,
             },
             AddressSet {
-                family,
-                key: daddr,
+                key: SetKey::Destination(family),
                 prefixes: &rule.dst,
             },
         );
-        let sport: &[u8] = b"sport";
-        let dport: &[u8] = b"dport";
         let ports = (
             PortSet {
-                proto,
-                key: sport,
+                key: SetKey::SourcePort(proto),
                 set: &rule.sports,
             },
             PortSet {
-                proto,
-                key: dport,
+                key: SetKey::DestinationPort(proto),
                 set: &rule.dports,
             },
         );

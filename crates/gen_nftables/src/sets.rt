@@ -1,31 +1,29 @@
 ghost use Rattle.std.specs.Prelude.{map};
 ghost use Rattle.acl_text.specs.AddressTexts.{prefix_text};
-ghost use Rattle.nft_lang.specs.Texts.{address_word, port_word, ports_word, set_words};
+ghost use Rattle.nft_lang.specs.SetKeys.{key_front, key_word};
+ghost use Rattle.nft_lang.specs.Texts.{ports_word, set_words};
 ghost use Rattle.acl_platform.specs.Elements.{address_elements, port_elements};
 
-use acl_packet::Family;
 use acl_platform::{ListedPrefixes, range_elements};
 use acl_rows::{Piece, PortRange, WordForm, Words};
 use acl_sets::{Prefixes, Range, RangeSet};
 use acl_text::{Out, PutFault};
-use nft_lang::{ElementSet, PrefixWord, address_word, port_word};
+use nft_lang::{ElementSet, PrefixWord, SetKey};
 
-/// The addresses of a rule, unless they are all.
+/// The addresses of an end of a rule, unless they are all.
 #[derive(Drop)]
 pub(crate) struct AddressSet<'a> {
-    pub(crate) family: Family,
-    pub(crate) key: &'a [u8],
+    pub(crate) key: SetKey,
     pub(crate) prefixes: &'a Prefixes,
 }
 
 impl<'a> Words for AddressSet<'a> {
     ghost words = { λ a.
-        set_words (address_word a.family) a.key.now
+        set_words (key_front a.key) (key_word a.key)
         (map prefix_text (address_elements a.prefixes.now)) };
 
     fn put_spaced<O: Out>(&self, out: &mut O) -> Result<(), PutFault> {
         let set = ElementSet {
-            front: address_word(self.family),
             key: self.key,
             elements: ListedPrefixes::written(self.prefixes),
             form: PrefixWord,
@@ -34,21 +32,19 @@ impl<'a> Words for AddressSet<'a> {
     }
 }
 
-/// The ports of a rule for a protocol, unless they are all.
+/// The ports of an end of a rule, unless they are all.
 #[derive(Drop)]
 pub(crate) struct PortSet<'a> {
-    pub(crate) proto: Option<u8>,
-    pub(crate) key: &'a [u8],
+    pub(crate) key: SetKey,
     pub(crate) set: &'a RangeSet,
 }
 
 impl<'a> Words for PortSet<'a> {
     ghost words = { λ p.
-        set_words (port_word p.proto) p.key.now (map ports_word (port_elements p.set.now)) };
+        set_words (key_front p.key) (key_word p.key) (map ports_word (port_elements p.set.now)) };
 
     fn put_spaced<O: Out>(&self, out: &mut O) -> Result<(), PutFault> {
         let set = ElementSet {
-            front: port_word(self.proto),
             key: self.key,
             elements: range_elements(self.set),
             form: RangeWord,

@@ -3,6 +3,7 @@ pub mod PlaceSteps
 pub mod ReadingSteps
 pub mod RuleRowSteps
 pub mod ScanSteps
+pub mod SetKeys
 pub mod StartSteps
 pub mod Texts
 pub mod ValiditySteps

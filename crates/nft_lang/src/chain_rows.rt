@@ -3,14 +3,12 @@ ghost use Rattle.acl_text.specs.Puts.{Puts};
 ghost use Rattle.acl_rows.specs.Rows.{row, text_of_rows, words_in};
 ghost use Rattle.nft_lang.specs.declared.documents.Item.TheVariants.{Rule as ARule};
 ghost use Rattle.nft_lang.specs.RuleRowSteps.{rule_of_row};
-ghost use Rattle.nft_lang.specs.Texts.{address_word, end_rows, families_word, head_rows, hook_word, icmp_word, addresses_words, ports_words, table_rows, target_row, table_row, start_row, chain_rows, icmp_words, item_rows, default_word, port_word, priority_word, rule_words, section_rows, table_word};
+ghost use Rattle.nft_lang.specs.Texts.{end_rows, families_word, head_rows, hook_word, addresses_words, ports_words, table_rows, target_row, table_row, start_row, chain_rows, icmp_words, item_rows, default_word, priority_word, rule_words, section_rows, table_word};
 ghost use Rattle.nft_lang.specs.Documents.{table_name};
 
 use crate::documents::{Flags, Item, Rule, Section};
-use crate::rule_words::{
-    FlagTest, PacketFamily, Protocol, RuleEnding, address_word, icmp_word, port_word,
-};
-use crate::sets::{ElementSet, IcmpNumber, PrefixWord};
+use crate::rule_words::{FlagTest, PacketFamily, Protocol, RuleEnding};
+use crate::sets::{ElementSet, IcmpNumber, PrefixWord, SetKey};
 use acl_packet::{Families, Family, Hook, Prefix, Verdict};
 use acl_rows::{Each, FreeText, Number, OneWord, Piece, RangeWords, Row, RowForm, Rows, Words};
 use acl_text::{Out, PutFault};
@@ -383,14 +381,12 @@ impl<'a> Words for AddressSets<'a> {
     #[tactic(auto, unfolding(crate::specs::Texts::addresses_words))]
     fn put_spaced<O: Out>(&self, out: &mut O) -> Result<(), PutFault> {
         let source = ElementSet {
-            front: address_word(self.family),
-            key: b"saddr".as_slice(),
+            key: SetKey::Source(self.family),
             elements: self.src,
             form: PrefixWord,
         };
         let destination = ElementSet {
-            front: address_word(self.family),
-            key: b"daddr".as_slice(),
+            key: SetKey::Destination(self.family),
             elements: self.dst,
             form: PrefixWord,
         };
@@ -411,14 +407,12 @@ impl<'a> Words for PortSets<'a> {
     #[tactic(auto, unfolding(crate::specs::Texts::ports_words))]
     fn put_spaced<O: Out>(&self, out: &mut O) -> Result<(), PutFault> {
         let source = ElementSet {
-            front: port_word(self.proto),
-            key: b"sport".as_slice(),
+            key: SetKey::SourcePort(self.proto),
             elements: self.sports,
             form: RangeWords { separator: b'-' },
         };
         let destination = ElementSet {
-            front: port_word(self.proto),
-            key: b"dport".as_slice(),
+            key: SetKey::DestinationPort(self.proto),
             elements: self.dports,
             form: RangeWords { separator: b'-' },
         };
@@ -439,14 +433,12 @@ impl<'a> Words for IcmpSets<'a> {
     #[tactic(auto, unfolding(crate::specs::Texts::icmp_words))]
     fn put_spaced<O: Out>(&self, out: &mut O) -> Result<(), PutFault> {
         let types = ElementSet {
-            front: icmp_word(self.family),
-            key: b"type".as_slice(),
+            key: SetKey::IcmpType(self.family),
             elements: self.itypes,
             form: IcmpNumber,
         };
         let codes = ElementSet {
-            front: icmp_word(self.family),
-            key: b"code".as_slice(),
+            key: SetKey::IcmpCode(self.family),
             elements: self.icodes,
             form: IcmpNumber,
         };

@@ -19,7 +19,5 @@ pub use acl_rows::{outcome, read_document, sections};
 pub use chain_rows::{CommentRow, RuleRow, SectionEnd, TableHead};
 pub use documents::{Doc, Flags, Item, Rule, Section};
 pub use nftables::Nftables;
-pub use rule_words::{
-    FlagTest, PacketFamily, Protocol, RuleEnding, address_word, icmp_word, port_word,
-};
-pub use sets::{ElementSet, PrefixWord};
+pub use rule_words::{FlagTest, PacketFamily, Protocol, RuleEnding, icmp_word};
+pub use sets::{ElementSet, PrefixWord, SetKey};

@@ -1,5 +1,5 @@
 ghost use Rattle.std.specs.Prelude.{◌≡◌, ◌∷◌, [], codes};
-ghost use Rattle.nft_lang.specs.Texts.{address_word, ending_words, family_words, flags_words, icmp_word, port_word, proto_words, state_words, verdict_words};
+ghost use Rattle.nft_lang.specs.Texts.{ending_words, family_words, flags_words, icmp_word, proto_words, state_words, verdict_words};
 
 use crate::documents::Flags;
 use acl_packet::{Families, Family, Verdict};
@@ -64,28 +64,6 @@ impl Words for ProtocolKey {
     #[inline]
     fn put_spaced<O: Out>(&self, out: &mut O) -> Result<(), PutFault> {
         out.put(b" meta l4proto")
-    }
-}
-
-/// The word in front of a family's addresses.
-pub fn address_word(family: Family) -> &'static [u8]
-    ensures { result.now ≡ address_word family }
-{
-    match family {
-        Family::V4 => b"ip",
-        Family::V6 => b"ip6",
-    }
-}
-
-/// The word in front of ports of the protocol.
-#[tactic(auto, unfolding(crate::specs::Texts::port_word))]
-pub fn port_word(proto: Option<u8>) -> &'static [u8]
-    ensures { result.now ≡ port_word proto }
-{
-    match proto {
-        Some(17) => b"udp",
-        Some(132) => b"sctp",
-        _ => b"tcp",
     }
 }
 
