@@ -104,10 +104,22 @@ fn rule_name(alloc: Global, term: &Term, pair: SidePair, suffix: &Bytes) -> Resu
         ++ (address_suffix pair.addresses ++ (port_suffix pair.ports ++ suffix.now))) }
 {
     let mut name = Bytes::from_slice(alloc, term.name.as_slice())?;
-    name.push_all(address_suffix(pair.addresses))?;
-    name.push_all(port_suffix(pair.ports))?;
-    name.push_all(suffix.as_slice())?;
+    push_suffix(&mut name, address_suffix(pair.addresses))?;
+    push_suffix(&mut name, port_suffix(pair.ports))?;
+    push_suffix(&mut name, suffix.as_slice())?;
     Ok(name)
+}
+
+// Adds the suffix at the end. Most rules have none.
+#[inline]
+fn push_suffix(name: &mut Bytes, suffix: &[u8]) -> Result<(), Memory>
+    ensures { OnOk result (name.new ≡ name.old ++ suffix.now) }
+{
+    if suffix.is_empty() {
+        Ok(())
+    } else {
+        name.push_all(suffix)
+    }
 }
 
 // A term in one of its families on a pair of its sides, on a platform of the kind.
@@ -158,15 +170,16 @@ impl<'a> PairTerm<'a> {
         Ok((sports, itypes, self.term.icodes.share()?))
     }
 
-    // The rule of the term with the conditions.
-    fn rule(&self, alloc: Global, conditions: Conditions) -> Result<Rule, Memory>
-        ensures { IfOk result (λ r. r
-            ≡ rule_of self.now.kind self.now.family self.now.term.now self.now.pair conditions) }
+    // Adds the rule of the term with the conditions at the end.
+    fn push(&self, alloc: Global, rules: &mut Rules, conditions: Conditions) -> Result<(), Memory>
+        ensures { OnOk result (rules.new ≡ rules.old ++ rule_of self.now.kind self.now.family
+            self.now.term.now self.now.pair conditions ∷ []) }
     {
         let (name, note) = self.texts(alloc, &conditions.suffix)?;
         let (src, dst) = self.ends(alloc)?;
         let (sports, itypes, icodes) = self.sets(alloc)?;
-        Ok(Rule {
+        // The rule is large, and made where it is pushed.
+        rules.push(Rule {
             name,
             place: self.term.place,
             note,
@@ -182,14 +195,6 @@ impl<'a> PairTerm<'a> {
             verdict: verdict_on(self.kind, self.term.verdict),
             log: self.term.log,
         })
-    }
-
-    // Adds that rule at the end.
-    fn push(&self, alloc: Global, rules: &mut Rules, conditions: Conditions) -> Result<(), Memory>
-        ensures { OnOk result (rules.new ≡ rules.old ++ rule_of self.now.kind self.now.family
-            self.now.term.now self.now.pair conditions ∷ []) }
-    {
-        rules.push(self.rule(alloc, conditions)?)
     }
 
     // The same, where the conditions leave some destination port.
