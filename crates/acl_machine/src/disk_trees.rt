@@ -22,11 +22,17 @@ use std::rt::Files;
 #[derive(Drop)]
 pub struct DiskTree<'a, R: Files> {
     rt: &'a R,
-    begun: Option<Opened<R>>,
-    gathered: Gathered,
+    begun: Option<Begun<R>>,
     counts: WriteCounts,
     list_faults: u64,
     read_faults: u64,
+}
+
+// A file that is begun, and the bytes that are on their way there.
+#[derive(Drop)]
+struct Begun<R: Files> {
+    opened: Opened<R>,
+    gathered: Gathered,
 }
 
 impl<'a, R: Files> DiskTree<'a, R> {
@@ -43,7 +49,6 @@ impl<'a, R: Files> DiskTree<'a, R> {
         DiskTree {
             rt,
             begun: None,
-            gathered: Gathered::new(),
             counts: WriteCounts::new(),
             list_faults: 0,
             read_faults: 0,
@@ -55,8 +60,8 @@ impl<'a, R: Files> DiskTree<'a, R> {
     #[inline(never)]
     fn put_on(&mut self, bytes: &[u8]) -> Result<(), PutFault>
         requires { IsSome self.old.begun }
-        ensures begun { OnOk result (option_map (λ f. string_bytes f.path) self.new.begun
-            ≡ option_map (λ f. string_bytes f.path) self.old.begun) }
+        ensures begun { OnOk result (option_map (λ b. string_bytes b.opened.path) self.new.begun
+            ≡ option_map (λ b. string_bytes b.opened.path) self.old.begun) }
         ensures given_up { OnErr result (self.new.begun ≡ None) }
         ensures looks { (self.new.list_faults ≡ self.old.list_faults)
             × (self.new.read_faults ≡ self.old.read_faults) }
@@ -70,7 +75,7 @@ impl<'a, R: Files> DiskTree<'a, R> {
             → Rose self.old.counts.refusals self.new.counts.refusals }
     {
         let written = match &mut self.begun {
-            Some(opened) => self.gathered.put(&mut opened.file, bytes),
+            Some(begun) => begun.gathered.put(&mut begun.opened.file, bytes),
             None => unreachable!(),
         };
         match written {
@@ -92,8 +97,8 @@ impl<'a, R: Files> DiskTree<'a, R> {
         ensures looks { (self.new.list_faults ≡ self.old.list_faults)
             × (self.new.read_faults ≡ self.old.read_faults) }
     {
-        if let Some(opened) = &self.begun {
-            opened.give_up(self.rt);
+        if let Some(begun) = &self.begun {
+            begun.opened.give_up(self.rt);
         }
         self.begun = None;
     }
@@ -121,16 +126,20 @@ impl<R: Files + AllocGlobal + Clone + Drop> Out for DiskTree<'_, R> {
 
     ghost refusals = { λ t. t.counts.refusals };
 
-    ghost is_open = { λ t. is_some (option_map (λ f. string_bytes f.path) t.begun) };
+    ghost is_open = { λ t. is_some (option_map (λ b. string_bytes b.opened.path) t.begun) };
 
-    ghost keeps_rest = { λ s t. RestStays None None (option_map (λ f. string_bytes f.path) s.begun)
-        (option_map (λ f. string_bytes f.path) t.begun) s.list_faults t.list_faults s.read_faults
+    ghost keeps_rest = { λ s t. RestStays None None (option_map (λ b. string_bytes b.opened.path) s.begun)
+        (option_map (λ b. string_bytes b.opened.path) t.begun) s.list_faults t.list_faults s.read_faults
         t.read_faults };
 
     #[inline]
     fn put(&mut self, bytes: &[u8]) -> Result<(), PutFault> {
         // most bytes are a line, and have room
-        if self.gathered.take_short(bytes) {
+        let taken = match &mut self.begun {
+            Some(begun) => begun.gathered.take_short(bytes),
+            None => unreachable!(),
+        };
+        if taken {
             return Ok(());
         }
         self.put_on(bytes)
@@ -147,7 +156,7 @@ impl<R: Files + AllocGlobal + Clone + Drop> Tree for DiskTree<'_, R> {
 
     ghost files = { λ t. None };
 
-    ghost begun = { λ t. option_map (λ f. string_bytes f.path) t.begun };
+    ghost begun = { λ t. option_map (λ b. string_bytes b.opened.path) t.begun };
 
     ghost list_faults = { λ t. t.list_faults };
 
@@ -176,8 +185,8 @@ impl<R: Files + AllocGlobal + Clone + Drop> Tree for DiskTree<'_, R> {
     fn begin(&mut self, path: &str) -> Result<(), WriteFault> {
         match open_at(self.rt, path) {
             Ok(opened) => {
-                self.gathered.clear();
-                self.begun = Some(opened);
+                let gathered = Gathered::new(self.rt.alloc());
+                self.begun = Some(Begun { opened, gathered });
                 Ok(())
             }
             Err(error) => Err(self.counts.count(&error)),
@@ -186,7 +195,7 @@ impl<R: Files + AllocGlobal + Clone + Drop> Tree for DiskTree<'_, R> {
 
     fn finish(&mut self) -> Result<(), WriteFault> {
         let ended = match &mut self.begun {
-            Some(opened) => end(self.rt, opened, &mut self.gathered),
+            Some(begun) => end(self.rt, &mut begun.opened, &mut begun.gathered),
             None => unreachable!(),
         };
         match ended {

@@ -3,37 +3,44 @@ ghost use Rattle.std.specs.Io.KnownBytes.{Appends, append_known};
 
 use crate::copying::{MOST_SHORT, copy_short};
 use crate::whole_writes::write_whole;
+use std::alloc::Global;
 use std::io;
 use std::io::Write;
 use std::marker::Model;
 
-// So many bytes are gathered.
-const ROOM: usize = 65_536;
+// So many bytes are gathered at most.
+const MOST_ROOM: usize = 65_536;
+
+// So much room is taken at once.
+const MORE_ROOM: [u8; 4096] = [0; 4096];
 
 /// Bytes on their way to a file, gathered so that many small pieces are few writes. A contract sees the bytes.
+///
+/// The room grows with what is gathered, so a short file takes little. Where there is no memory for more room, more
+/// is written sooner.
 #[derive(Drop)]
 pub(crate) struct Gathered {
-    room: [u8; ROOM],
+    room: Vec<u8>,
     end: usize,
 }
 
 impl Model for Gathered {
-    ghost use Rattle.std.specs.Prelude.{◌≤◌, ℕ, List, take};
+    ghost use Rattle.std.specs.Prelude.{◌≤◌, ℕ, List, length, take};
 
     ghost Value = { List ℕ };
 
-    ghost view = { λ g. take g.end g.room };
+    ghost view = { λ g. take g.end g.room.items };
 
-    ghost invariant = { λ g. g.end ≤ 65536 };
+    ghost invariant = { λ g. g.end ≤ length g.room.items };
 }
 
 impl Gathered {
     /// Nothing is gathered.
-    pub(crate) fn new() -> Gathered
+    pub(crate) fn new(alloc: Global) -> Gathered
         ensures { result ≡ [] }
     {
         Gathered {
-            room: [0; ROOM],
+            room: Vec::new(alloc),
             end: 0,
         }
     }
@@ -43,6 +50,10 @@ impl Gathered {
         ensures { OnOk result (Appends (append_known (W.contents writer.old) self.old)
             (append_known (W.contents writer.new) self.new) bytes.now) }
     {
+        if self.take(bytes) {
+            return Ok(());
+        }
+        self.widen();
         if self.take(bytes) {
             return Ok(());
         }
@@ -64,6 +75,15 @@ impl Gathered {
         written
     }
 
+    // Takes more room, unless there is the most, or no memory for it.
+    fn widen(&mut self)
+        ensures { self.new ≡ self.old }
+    {
+        if self.room.len() < MOST_ROOM {
+            let _wider = self.room.extend_from_slice(&MORE_ROOM);
+        }
+    }
+
     /// Lets go what is gathered.
     pub(crate) fn clear(&mut self)
         ensures { self.new ≡ [] }
@@ -78,7 +98,7 @@ impl Gathered {
         ensures { self.new ≡ (if result then self.old ++ bytes.now
             else self.old) }
     {
-        if bytes.len() > MOST_SHORT || bytes.len() > ROOM - self.end {
+        if bytes.len() > MOST_SHORT || bytes.len() > self.room.len() - self.end {
             return false;
         }
         let end = self.end + bytes.len();
@@ -92,7 +112,7 @@ impl Gathered {
         ensures { self.new ≡ (if result then self.old ++ bytes.now
             else self.old) }
     {
-        if bytes.len() > ROOM - self.end {
+        if bytes.len() > self.room.len() - self.end {
             return false;
         }
         let end = self.end + bytes.len();
