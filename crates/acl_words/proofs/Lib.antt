@@ -1,4 +1,5 @@
 pub mod AnsweredFaults
+pub mod ByteTables
 pub mod FeedLaws
 pub mod FolderLaws
 pub mod Includes

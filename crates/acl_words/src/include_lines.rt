@@ -112,10 +112,9 @@ fn asked_word(line: &[u8]) -> Asked<'_>
     ensures view { asked_view result ≡ asked_word line.now }
     ensures path { HasGoodPath (asked_view result) }
 {
-    if line.starts_with(b"#include") {
-        asked_behind(&line[8..])
-    } else {
-        Asked::Nothing
+    match line {
+        [b'#', ..] if line.starts_with(b"#include") => asked_behind(&line[8..]),
+        _ => Asked::Nothing,
     }
 }
 

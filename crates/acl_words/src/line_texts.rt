@@ -41,6 +41,14 @@ impl Lines {
         }
     }
 
+    /// Makes room for so many bytes more. The lines stay.
+    pub(crate) fn make_room(&mut self, bytes: usize) -> Result<(), Memory>
+        ensures { self.new ≡ self.old }
+    {
+        self.text.reserve(bytes)?;
+        Ok(())
+    }
+
     /// Adds a line at the end. Where memory is wanted no line is left.
     pub fn push(&mut self, place: Place, text: &[u8]) -> Result<(), Memory>
         requires { HasNoFeed text.now }

@@ -65,7 +65,9 @@ impl LineWords {
         ensures { IfOk result (λ t. t ≡ self.now) }
     {
         let places = PlaceList::repeated(alloc, self.place, self.count)?;
-        let text = Vec::from_slice(alloc, self.text.as_slice())?;
+        let short = self.text.as_slice();
+        let mut text = Vec::with_capacity(alloc, short.len().saturating_mul(2))?;
+        text.extend_from_slice(short)?;
         Ok(WordText { text, places })
     }
 

@@ -107,6 +107,7 @@ impl PartialSplice {
     {
         let file = self.labels.len() as u32;
         let label = Bytes::from_slice(alloc, label)?;
+        self.lines.make_room(more.saturating_add(1))?;
         self.labels.push(label)?;
         self.size += more;
         Ok(file)

@@ -112,6 +112,7 @@ impl PlaceList {
         ensures { IfOk result (λ l. l ≡ replicate count place) }
     {
         let mut places = PlaceList::starting_at(alloc, place);
+        places.steps.reserve(REPEATED.len())?;
         for _ in 0..count {
             places.push(place)?;
         }

@@ -1,4 +1,4 @@
-ghost use Rattle.std.specs.Prelude.{◌≡◌, [], ◌∷◌, ◌++◌, IfOk, IfSome, IfNone, OnOk, OnErr, drop, map};
+ghost use Rattle.std.specs.Prelude.{◌≡◌, ◌≢◌, true, false, [], ◌∷◌, ◌++◌, IfOk, IfSome, IfNone, OnOk, OnErr, drop, map};
 ghost use Rattle.acl_text.specs.Cursors.{lines_of};
 ghost use Rattle.acl_words.specs.KeptWords.{words_in};
 ghost use Rattle.acl_words.specs.LineTexts.{HasNoFeed};
@@ -135,6 +135,10 @@ impl Model for WordList {
     ghost use Rattle.acl_words.specs.KeptWords.{words_in};
 
     ghost view = { λ s. option_map_or (λ k. words_in k.value) s.kept [] };
+
+    ghost use Rattle.std.specs.Prelude.{◌≢◌, IfSome};
+
+    ghost invariant = { λ s. IfSome s.kept (λ k. words_in k.value ≢ []) };
 }
 
 impl WordList {
@@ -170,6 +174,14 @@ impl WordList {
                 places: PlacesLeft::none(),
             },
         }
+    }
+
+    /// Whether there are no words.
+    pub fn is_empty(&self) -> bool
+        ensures none { result ≡ true → self.now ≡ [] }
+        ensures some { result ≡ false → self.now ≢ [] }
+    {
+        self.kept.is_none()
     }
 
     /// The words as one text, each with a line feed behind it.

@@ -2,7 +2,7 @@ ghost use Rattle.acl_words.specs.LineTexts.{HasNoFeed};
 
 use crate::tests::files::text;
 use acl_text::{Memory, Place};
-use acl_words::{Form, Lines, PolicyWords, Token, WordBytes};
+use acl_words::{Form, Lines, PolicyWords, Token, WordBytes, WordList};
 use std::alloc::Global;
 
 fn shown(alloc: Global, word: &Token<'_>) -> Result<String, Memory> {
@@ -82,4 +82,18 @@ fn bytes_of_words_are_kept(rt: HostRuntime) {
         assert!(rt; is_kept(rt.alloc(), text) == Ok(true));
     }
     assert!(rt; WordBytes::new(rt.alloc()).as_slice().is_empty());
+}
+
+fn is_filled(alloc: Global, text: &[u8]) -> Result<bool, Memory>
+    requires { HasNoFeed text.now }
+{
+    let mut words = WordList::new(alloc);
+    let was_empty = words.is_empty();
+    words.push(Place { file: 0, line: 1 }, text)?;
+    Ok(was_empty && !words.is_empty())
+}
+
+#[test]
+fn a_list_is_empty_until_a_word_comes(rt: HostRuntime) {
+    assert!(rt; is_filled(rt.alloc(), b"w") == Ok(true));
 }
