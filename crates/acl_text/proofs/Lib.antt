@@ -2,6 +2,7 @@ pub mod AddressLaws
 pub mod AnswerLaws
 pub mod AnsweredLaws
 pub mod Bounds
+pub mod ByteTables
 pub mod CursorLaws
 pub mod CutLaws
 pub mod DigitLaws
