@@ -1,8 +1,8 @@
 -- Names and prefixes: a name has no `.` (46) or `:` (58), and a prefix has one of them.
-use Rattle.std.proofs.Common.{◌≡◌, ℕ, zero, suc, Bool, true, false, ◌||◌, ◌==◌, nat_le, List, [], ◌∷◌, length, take, Option, Some, None, option_map, inl, inr, refl, ap, sym, ◌∙◌}
-use Rattle.std.specs.List.{list_all, list_any}
+use Rattle.std.proofs.Common.{◌≡◌, ℕ, true, false, ◌||◌, ◌==◌, nat_le, List, [], ◌∷◌, length, Option, Some, None, option_map, inl, inr, refl, ap, sym, ◌∙◌}
+use Rattle.std.specs.List.{list_all}
 use Rattle.std.specs.Option.{option_map_or}
-use Rattle.std.proofs.lemmas.Bool.{false≢true, and_parts, or_parts, or_from, cond-true, cond-false, cases_Bool}
+use Rattle.std.proofs.lemmas.Bool.{and_parts, or_parts, or_from, cond-true, cond-false, cases_Bool}
 use Rattle.std.proofs.lemmas.List.Folds.{list_any-append}
 use Rattle.std.proofs.lemmas.Option.{none-some}
 use Rattle.acl_packet.specs.declared.addresses.Prefix.{Prefix}
@@ -70,27 +70,6 @@ unnamed place word h = elim (cases_Bool (has_byte 46 word || has_byte 58 word)) 
       ∙ cond-false (is_name word) _ _ h
       ∙ sym (ap (option_map Network) (no_prefix word p.0 p.1))
 ]
-
--- a mark among the first bytes is a mark of the word
-pub early_mark : (n : ℕ) (word : List ℕ) → list_any (λ b. b == 46 || b == 58) (take n word) ≡ true
-    → (has_byte 46 word || has_byte 58 word) ≡ true
-early_mark zero word h = absurd (false≢true h)
-early_mark (suc n) [] h = absurd (false≢true h)
-early_mark (suc n) (b ∷ bs) h =
-    one_more (b == 46) (b == 58) (list_any (λ b. b == 46 || b == 58) (take n bs)) (has_byte 46 bs) (has_byte 58 bs) h
-    (early_mark n bs)
-  where
-    one_more : (p q r x y : Bool) → ((p || q) || r) ≡ true → (r ≡ true → (x || y) ≡ true) → ((p || x) || (q || y)) ≡ true
-    one_more true q r x y h k = refl
-    one_more false true r true y h k = refl
-    one_more false true r false y h k = refl
-    one_more false false r x y h k = k h
-
--- a network's word with a mark is added as a prefix
-pub marked_added : (place : Place) (ds : List Definition) (word : List ℕ) → (has_byte 46 word || has_byte 58 word) ≡ true
-    → item_added Networks place ds word ≡ item_put place ds word (option_map Network (prefix_in word))
-unfolding item_added item_in network_in
-marked_added place ds word h = ap (item_put place ds word) (cond-true (has_byte 46 word || has_byte 58 word) _ _ h)
 
 -- a network's word that is no name is added as a prefix
 pub prefix_added : (place : Place) (ds : List Definition) (word : List ℕ) → is_name word ≡ false

@@ -1,7 +1,6 @@
 ghost use Rattle.std.specs.Prelude.{◌≡◌, ◌<◌, ◌≤◌, ◌||◌, Bool, true, false, nat_le, is_some, if◌then◌else◌, length, Some, option_map, IfOk, IfSome, OnOk};
 ghost use Rattle.acl_text.specs.Answers.{Leaves, slip_told};
 ghost use Rattle.acl_text.specs.Cursors.{words_of};
-ghost use Rattle.acl_text.specs.Cuts.{has_byte};
 ghost use Rattle.acl_text.specs.Refusals.{IsRefusalBy, slip};
 ghost use Rattle.acl_text.specs.declared.faults.Code.TheVariants as codes;
 ghost use Rattle.acl_text.specs.AddressTexts.{IsPrefixText, prefix_in};
@@ -28,7 +27,7 @@ use crate::name_texts::NameText;
 use crate::naming_items::{Item, PrefixItem, Reference};
 use crate::tables::Table;
 use acl_packet::Prefix;
-use acl_text::{Code, Place, Refusal, next_word, split_at_byte};
+use acl_text::{Code, Place, Refusal, next_word, prefix_front, split_at_byte};
 use std::alloc::Global;
 
 const MOST: usize = 16384;
@@ -40,16 +39,12 @@ fn is_full(table: &Table) -> bool
     table.len() >= MOST
 }
 
-// So many bytes of an address have one of its marks: three digits and `.`, or four and `:`.
-const FRONT: usize = 5;
-
-// Whether the word has a mark of an address, which no name has, among its first bytes.
-#[tactic(auto, using(crate::proofs::MarkedWords::early_mark))]
-fn has_early_mark(word: &[u8]) -> bool
-    ensures { result ≡ true → (has_byte 46 word.now || has_byte 58 word.now) ≡ true }
+// The prefix that the word is, where it can be told at once. `None` says nothing.
+fn whole_prefix(word: &[u8]) -> Option<Prefix>
+    ensures { IfSome result (λ p. IsPrefixText word.now p) }
 {
-    let front = &word[..word.len().min(FRONT)];
-    front.iter().any(|byte| *byte == b'.' || *byte == b':')
+    let (prefix, rest) = prefix_front(word)?;
+    if rest.is_empty() { Some(prefix) } else { None }
 }
 
 // Reads a line of a file of the kind, which stands at the place.
@@ -84,7 +79,7 @@ impl LineReader {
         Ok(())
     }
 
-    // Adds the prefix that a word has to be. Most items are prefixes, so this is kept short.
+    // Adds the prefix that a word has to be.
     fn add_prefix(self, table: &mut Table, word: &[u8]) -> Result<(), Refusal>
         requires { 0 < length table.old }
         ensures gives { Leaves slip_told table.new result
@@ -121,24 +116,8 @@ impl LineReader {
         }
     }
 
-    #[tactic(auto, using(crate::proofs::MarkedWords::marked_added, crate::proofs::MarkedWords::name_added, crate::proofs::MarkedWords::prefix_added,))]
-    fn add_item(self, table: &mut Table, word: &[u8]) -> Result<(), Refusal>
-        requires { 0 < length table.old }
-        ensures gives { Leaves slip_told table.new result
-            (item_added self.kind self.place table.old word.now) }
-        ensures filled { OnOk result (0 < length table.new) }
-    {
-        match self.kind {
-            NamingKind::Networks if has_early_mark(word) => self.add_prefix(table, word),
-            NamingKind::Networks => match NameText::read(self.alloc, word)? {
-                Some(name) => self.add_name(table, word, name),
-                None => self.add_prefix(table, word),
-            },
-            NamingKind::Services => self.add_any(table, word),
-        }
-    }
-
-    // Adds the item that the word of a prefix is.
+    // Adds the item that the word of a prefix is. Most items are such.
+    #[inline(always)]
     #[tactic(auto, using(crate::proofs::MarkedWords::read_added, crate::proofs::MarkedWords::read_is))]
     fn add_read(self, table: &mut Table, word: &[u8], prefix: Prefix) -> Result<(), Refusal>
         requires some { 0 < length table.old }
@@ -152,6 +131,25 @@ impl LineReader {
                 let block = PrefixItem::new(prefix);
                 self.put_item(table, word, Item::Network(block))
             }
+            NamingKind::Services => self.add_any(table, word),
+        }
+    }
+
+    #[tactic(auto, using(crate::proofs::MarkedWords::name_added, crate::proofs::MarkedWords::prefix_added))]
+    fn add_item(self, table: &mut Table, word: &[u8]) -> Result<(), Refusal>
+        requires { 0 < length table.old }
+        ensures gives { Leaves slip_told table.new result
+            (item_added self.kind self.place table.old word.now) }
+        ensures filled { OnOk result (0 < length table.new) }
+    {
+        if let Some(prefix) = whole_prefix(word) {
+            return self.add_read(table, word, prefix);
+        }
+        match self.kind {
+            NamingKind::Networks => match NameText::read(self.alloc, word)? {
+                Some(name) => self.add_name(table, word, name),
+                None => self.add_prefix(table, word),
+            },
             NamingKind::Services => self.add_any(table, word),
         }
     }

@@ -4,6 +4,7 @@ ghost use Rattle.acl_packet.specs.Addresses.{width_of};
 ghost use Rattle.acl_text.specs.AddressTexts.{IsPrefixText, block_of};
 ghost use Rattle.acl_text.specs.Fronts.{IsAddressFront, IsPrefixFront};
 
+use crate::hex_digits::hex_value;
 use crate::ipv4_fronts::{behind_byte, byte_front, ipv4_front};
 use crate::ipv6_fronts::ipv6_front;
 use crate::prefixes::{IPV4_TOP, block_of};
@@ -51,16 +52,37 @@ fn prefix_behind(family: Family, address: u128, rest: &[u8]) -> Option<(Prefix, 
     Some((quick_block(family, address, len as u8), rest))
 }
 
+// Apart, since it takes many registers.
+#[inline(never)]
+fn ipv6_prefix_front(text: &[u8]) -> Option<(Prefix, &[u8])>
+    ensures { IfSome result (λ r. IsPrefixFront text.now r.1.now r.0) }
+{
+    let (address, rest) = ipv6_front(text)?;
+    prefix_behind(Family::V6, address, rest)
+}
+
+// Apart from the look at the first byte, which stands where it is asked for.
+#[inline(never)]
+fn any_prefix_front(text: &[u8]) -> Option<(Prefix, &[u8])>
+    ensures { IfSome result (λ r. IsPrefixFront text.now r.1.now r.0) }
+{
+    match ipv4_front(text) {
+        Some((address, rest)) => prefix_behind(Family::V4, u128::from(address), rest),
+        None => ipv6_prefix_front(text),
+    }
+}
+
 /// The prefix whose word the text begins with, and what stands behind the word, in one pass over its bytes. `None` says
 /// nothing.
+#[inline(always)]
 pub fn prefix_front(text: &[u8]) -> Option<(Prefix, &[u8])>
     ensures { IfSome result (λ r. IsPrefixFront text.now r.1.now r.0) }
 {
-    if let Some((address, rest)) = ipv4_front(text) {
-        return prefix_behind(Family::V4, u128::from(address), rest);
+    // most names begin with another byte
+    match text {
+        [first, ..] if *first == b':' || hex_value(*first).is_some() => any_prefix_front(text),
+        _ => None,
     }
-    let (address, rest) = ipv6_front(text)?;
-    prefix_behind(Family::V6, address, rest)
 }
 
 /// The prefix that the word spells. `None` says nothing.
