@@ -44,23 +44,29 @@ pub fn put_combinations<F: RowForm<Combination>, O: Out>(
     choices_of(rule).put_each(&InParts { form }, out)
 }
 
-/// How a combination is written as one line of two halves: what is the same for all destinations,
-/// and behind it what is the same for all sources.
+/// How a combination is written as one line of three parts: what is the same for all addresses, behind
+/// it what is said of the source, and then what is the same for all sources.
 pub trait CombinationForm: RowForm<Combination> {
-    ghost front: { Self → Option ℕ → Prefix → Option (ℕ × ℕ) → List ℕ };
+    ghost start: { Self → Option ℕ → List ℕ };
+
+    ghost source: { Self → Prefix → Option (ℕ × ℕ) → List ℕ };
 
     ghost back: { Self → Prefix → Option (ℕ × ℕ) → Option ℕ → Option ℕ → List ℕ };
 
-    /// Puts what the line begins with: protocol, source and source ports.
-    fn put_front<O: Out>(
+    /// Puts what the line begins with, up to the protocol.
+    fn put_start<O: Out>(&self, proto: Option<u8>, out: &mut O) -> Result<(), PutFault>
+        requires { IsTrue (O.is_open out.old) }
+        ensures { Puts O.Out out.old out.new (start self.now proto) result };
+
+    /// Puts what stands behind the start: the source and its ports.
+    fn put_source<O: Out>(
         &self,
-        proto: Option<u8>,
         src: &Prefix,
         sport: Option<(u16, u16)>,
         out: &mut O,
     ) -> Result<(), PutFault>
         requires { IsTrue (O.is_open out.old) }
-        ensures { Puts O.Out out.old out.new (front self.now proto src.now sport) result };
+        ensures { Puts O.Out out.old out.new (source self.now src.now sport) result };
 
     /// Puts what the line ends with: destination, destination ports, type and code.
     fn put_back<O: Out>(
@@ -74,12 +80,12 @@ pub trait CombinationForm: RowForm<Combination> {
         requires { IsTrue (O.is_open out.old) }
         ensures { Puts O.Out out.old out.new (back self.now dst.now dport itype icode) result };
 
-    ghost is_halves: { (s : Self) (c : Combination) → text_of_rows (Self.item_rows s c)
-        ≡ front s c.proto c.src c.sport ++ back s c.dst c.dport c.itype c.icode };
+    ghost is_parts: { (s : Self) (c : Combination) → text_of_rows (Self.item_rows s c)
+        ≡ (start s c.proto ++ source s c.src c.sport) ++ back s c.dst c.dport c.itype c.icode };
 }
 
 /// Puts the line of each combination of the rule, the protocol outermost. Where the combinations
-/// differ in protocols and addresses alone, each half of a line is put together once for many lines.
+/// differ in protocols and addresses alone, each part of a line is put together once for many lines.
 pub fn put_combinations_by_halves<F: CombinationForm, O: Out>(
     rule: &Rule,
     form: &F,
@@ -227,27 +233,26 @@ struct WithTail<'a, F> {
 impl<'a, F: CombinationForm> AddressForm for WithTail<'a, F> {
     ghost rows = { λ w c. F.item_rows w.form.now (combination_of (with_tail w.tail c)) };
 
-    // The action and the protocol are words of the same half as the source.
-    ghost front = { λ w proto. [] };
+    ghost front = { λ w proto. F.start w.form.now proto };
 
-    ghost source = { λ w proto src. F.front w.form.now proto src w.tail.0 };
+    ghost source = { λ w proto src. F.source w.form.now src w.tail.0 };
 
     ghost back = { λ w dst. F.back w.form.now dst w.tail.1.0 w.tail.1.1.0 w.tail.1.1.1 };
 
     #[inline]
-    fn put_front<O: Out>(&self, _proto: Option<u8>, _out: &mut O) -> Result<(), PutFault> {
-        Ok(())
+    fn put_front<O: Out>(&self, proto: Option<u8>, out: &mut O) -> Result<(), PutFault> {
+        self.form.put_start(proto, out)
     }
 
     #[inline]
     fn put_source<O: Out>(
         &self,
-        proto: Option<u8>,
+        _proto: Option<u8>,
         src: &Prefix,
         out: &mut O,
     ) -> Result<(), PutFault> {
         let (sport, _) = self.tail;
-        self.form.put_front(proto, src, sport, out)
+        self.form.put_source(src, sport, out)
     }
 
     #[inline]
@@ -257,5 +262,5 @@ impl<'a, F: CombinationForm> AddressForm for WithTail<'a, F> {
     }
 
     ghost is_parts = { λ w proto src dst.
-        F.is_halves w.form.now (combination_of (with_tail w.tail (proto, (src, dst)))) };
+        F.is_parts w.form.now (combination_of (with_tail w.tail (proto, (src, dst)))) };
 }

@@ -16,7 +16,7 @@ pub use cisco::Cisco;
 pub use documents::{AccessList, Doc, Entry, Flags, Item, Section};
 pub use entry_reading::{next_word, take_place};
 pub use list_rows::{
-    AddressWords, EntryBack, EntryFront, EntryHalves, EntryRow, ListEnd, ListHead, RemarkRow,
-    SectionHead, action_word,
+    AddressWords, EndWords, EntryBack, EntryFront, EntryHalves, EntryRow, EntryStart, ListEnd,
+    ListHead, RemarkRow, SectionHead, action_word,
 };
 pub use walking::verdict_of;

@@ -4,7 +4,7 @@ ghost use Rattle.acl_text.specs.Puts.{Puts};
 ghost use Rattle.acl_rows.specs.Rows.{row, spaced, text_of_rows, words_in};
 ghost use Rattle.acl_rows.specs.RuleParts.{log_words};
 ghost use Rattle.cisco_lang.specs.declared.documents.Item.TheVariants.{Entry as AnEntry};
-ghost use Rattle.cisco_lang.specs.EntryHalves.{back_words, entry_back, entry_front, front_words};
+ghost use Rattle.cisco_lang.specs.EntryHalves.{back_words, entry_back, entry_start, front_words};
 ghost use Rattle.cisco_lang.specs.Texts.{action_word, any_word, families_word, proto_word, masked_words, address_words, ports_words, number_words, icmp_words, flags_words, end_words, entry_words, item_rows, head_rows, end_rows, list_rows, section_row, section_rows};
 
 use crate::documents::{AccessList, Entry, Flags, Item, Section};
@@ -61,17 +61,30 @@ pub struct EntryFront<'a> {
     pub sport: Option<(u16, u16)>,
 }
 
-impl<'a> Piece for EntryFront<'a> {
-    ghost text = { λ f. entry_front f.family f.permit f.proto f.src.now f.sport };
+/// What the line of an entry begins with, up to the protocol.
+#[derive(Clone, Copy)]
+pub struct EntryStart {
+    pub family: Family,
+    pub permit: bool,
+    pub proto: Option<u8>,
+}
+
+impl Piece for EntryStart {
+    ghost text = { λ s. entry_start s.family s.permit s.proto };
 
     #[inline]
     fn put_into<O: Out>(&self, out: &mut O) -> Result<(), PutFault> {
-        let front = RowFront {
+        let start = RowFront {
             indent: 1,
             first: action_word(self.permit),
-            rest: FrontWords { front: *self },
+            rest: OneWord {
+                piece: Protocol {
+                    family: self.family,
+                    number: self.proto,
+                },
+            },
         };
-        front.put_into(out)
+        start.put_into(out)
     }
 }
 
@@ -317,7 +330,7 @@ fn any_word(family: Family) -> &'static [u8]
     }
 }
 
-#[derive(Drop)]
+#[derive(Clone, Copy)]
 struct Protocol {
     family: Family,
     number: Option<u8>,
@@ -345,11 +358,12 @@ impl Piece for Protocol {
     }
 }
 
+/// The words of an end of an entry: its address and its ports.
 #[derive(Drop)]
-struct EndWords<'a> {
-    family: Family,
-    place: &'a Prefix,
-    ports: Option<(u16, u16)>,
+pub struct EndWords<'a> {
+    pub family: Family,
+    pub place: &'a Prefix,
+    pub ports: Option<(u16, u16)>,
 }
 
 impl<'a> Words for EndWords<'a> {

@@ -5,8 +5,8 @@ ghost use Rattle.acl_packet.specs.declared.addresses.Family.TheVariants.{V6};
 ghost use Rattle.acl_platform.specs.Combinations.{IsSized, combinations};
 ghost use Rattle.cisco_lang.specs.declared.documents.Flags.{Flags};
 ghost use Rattle.cisco_lang.specs.declared.documents.Item.TheVariants.{Entry as AnEntry, Remark};
-ghost use Rattle.cisco_lang.specs.EntryHalves.{entry_back, entry_front};
-ghost use Rattle.cisco_lang.proofs.HalfLaws.{entry_halves};
+ghost use Rattle.cisco_lang.specs.EntryHalves.{entry_back, entry_source, entry_start};
+ghost use Rattle.cisco_lang.proofs.HalfLaws.{entry_parts};
 ghost use Rattle.cisco_lang.specs.Texts.{end_rows, head_rows, item_rows};
 ghost use Rattle.gen_cisco.specs.RowSteps.{items_rows};
 ghost use Rattle.gen_cisco.specs.Sections.{
@@ -26,11 +26,11 @@ use acl_platform::{
     Combination, CombinationForm, FamilyTexts, Filter, RemarkForm, RemarkRows, Rule, RuleForm,
     RuleTexts, SectionForm, Test, put_combinations_by_halves,
 };
-use acl_rows::{OneWord, Piece, Row, RowForm, Rows};
+use acl_rows::{OneWord, Piece, Row, RowForm, Rows, Words};
 use acl_text::{Out, PutFault};
 use cisco_lang::{
-    Entry, EntryBack, EntryFront, EntryHalves, EntryRow, Flags, ListEnd, ListHead, RemarkRow,
-    SectionHead,
+    EndWords, Entry, EntryBack, EntryFront, EntryHalves, EntryRow, EntryStart, Flags, ListEnd,
+    ListHead, RemarkRow, SectionHead,
 };
 
 /// The items of the rules that are of the family.
@@ -242,21 +242,37 @@ impl<'a> RowForm<Combination> for OfRule<'a> {
 }
 
 impl<'a> CombinationForm for OfRule<'a> {
-    ghost front = { λ f proto src sport.
-        entry_front f.rule.now.family (permits f.rule.now.verdict) proto src sport };
+    ghost start = { λ f proto.
+        entry_start f.rule.now.family (permits f.rule.now.verdict) proto };
+
+    ghost source = { λ f src sport. entry_source f.rule.now.family src sport };
 
     ghost back = { λ f dst dport itype icode. entry_back f.rule.now.family dst dport itype icode
         (flags_of f.rule.now.test) f.rule.now.log };
 
     #[inline]
-    fn put_front<O: Out>(
+    fn put_start<O: Out>(&self, proto: Option<u8>, out: &mut O) -> Result<(), PutFault> {
+        let start = EntryStart {
+            family: self.rule.family,
+            permit: permits(self.rule.verdict),
+            proto,
+        };
+        start.put_into(out)
+    }
+
+    #[inline]
+    fn put_source<O: Out>(
         &self,
-        proto: Option<u8>,
         src: &Prefix,
         sport: Option<(u16, u16)>,
         out: &mut O,
     ) -> Result<(), PutFault> {
-        front_of(self.rule, proto, src, sport).put_into(out)
+        let source = EndWords {
+            family: self.rule.family,
+            place: src,
+            ports: sport,
+        };
+        source.put_spaced(out)
     }
 
     #[inline]
@@ -271,7 +287,7 @@ impl<'a> CombinationForm for OfRule<'a> {
         back_of(self.rule, dst, dport, itype, icode).put_into(out)
     }
 
-    ghost is_halves = { λ f c. entry_halves f.rule.now.family (entry_of f.rule.now c) };
+    ghost is_parts = { λ f c. entry_parts f.rule.now.family (entry_of f.rule.now c) };
 }
 
 #[inline]
