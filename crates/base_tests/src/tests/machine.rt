@@ -219,6 +219,38 @@ fn a_long_file_is_written_and_read(rt: HostRuntime) -> Result<(), Fail> {
     Ok(())
 }
 
+// The bytes in pieces of none, one, two and more bytes, up to 400.
+fn in_pieces(alloc: Global, bytes: &[u8]) -> io::Result<Vec<&[u8]>> {
+    let mut pieces = Vec::new(alloc);
+    let mut rest = bytes;
+    for count in 0..401 {
+        let (piece, behind) = rest.split_at(rest.len().min(count));
+        pieces.push(piece)?;
+        rest = behind;
+    }
+    Ok(pieces)
+}
+
+fn keeps_pieces(rt: &HostRuntime, path: &str) -> io::Result<bool> {
+    let bytes = long(rt.alloc(), 80_200)?;
+    let pieces = in_pieces(rt.alloc(), bytes.as_slice())?;
+    Ok(writes_at(rt, path, pieces.as_slice()) && has_bytes(rt, path, bytes.as_slice())?)
+}
+
+fn keeps_pieces_in(rt: &HostRuntime, folder: &str) -> io::Result<bool> {
+    let is_kept = keeps_pieces(rt, path_in(rt, folder, "x")?.as_str())?;
+    fs::remove_dir_all(rt, folder)?;
+    Ok(is_kept)
+}
+
+// Short pieces are gathered, and long ones, in one file.
+#[test]
+fn pieces_of_all_lengths_are_written(rt: HostRuntime) -> Result<(), Fail> {
+    let folder = own_folder(&rt, "pieces")?;
+    assert!(rt; keeps_pieces_in(&rt, folder.as_str())?);
+    Ok(())
+}
+
 fn puts<S: Sink>(sink: &mut S, bytes: &[u8]) -> bool {
     sink.write(bytes).is_ok()
 }
