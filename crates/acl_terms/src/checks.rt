@@ -34,6 +34,9 @@ fn refuse_unless(alloc: Global, passed: bool, code: Code, word: &WordRef<'_>) ->
 fn check_first(alloc: Global, passed: bool, code: Code, words: &WordList) -> Result<(), Refusal>
     ensures { Judges result (first_unless passed code words.now) }
 {
+    if passed {
+        return Ok(());
+    }
     match words.first() {
         None => Ok(()),
         Some(first) => refuse_unless(alloc, passed, code, &first),

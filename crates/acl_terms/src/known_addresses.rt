@@ -123,7 +123,7 @@ impl<'a> KnownAddresses<'a> {
             (top_address V6) a.v6) }
         ensures same { self.new ≡ self.old }
     {
-        if excludes.first().is_none() {
+        if excludes.is_empty() {
             return self.addresses_of(alloc, words);
         }
         if let Some(known) = self.find(words.text(), excludes.text())? {

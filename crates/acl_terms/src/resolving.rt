@@ -20,6 +20,7 @@ use acl_naming::Checked;
 use acl_policy::{RawTerm, WordList};
 use acl_sets::RangeSet;
 use acl_text::{Bytes, Memory, Refusal, note};
+use acl_words::WordBytes;
 use std::alloc::Global;
 
 // The sets of a term that are none of addresses.
@@ -134,19 +135,16 @@ fn parts_of<'a>(
 fn is_written(words: &WordList) -> bool
     ensures { result ≡ is_written words.now }
 {
-    match words.first() {
-        None => false,
-        Some(_) => true,
-    }
+    !words.is_empty()
 }
 
 // Its name and its note.
-fn texts_of(alloc: Global, raw: &RawTerm) -> Result<(Bytes, Bytes), Memory>
+fn texts_of(alloc: Global, raw: &RawTerm) -> Result<(WordBytes, Bytes), Memory>
     ensures name { IfOk result (λ both. both.0 ≡ raw.now.name.text) }
     ensures note { IfOk result (λ both. both.1 ≡ note_of raw.now.comments) }
     ensures safe { IfOk result (λ both. is_note both.1 ≡ true) }
 {
-    let name = Bytes::from_slice(alloc, raw.name.text.as_slice())?;
+    let name = WordBytes::from_slice(alloc, raw.name.text.as_slice())?;
     Ok((name, note(alloc, raw.comments.as_slice())?))
 }
 

@@ -3,6 +3,7 @@ use acl_host::Day;
 use acl_packet::Verdict;
 use acl_sets::RangeSet;
 use acl_text::{Bytes, Place};
+use acl_words::WordBytes;
 
 /// Some of the four platforms.
 #[derive(Clone, Copy, PartialEq, Eq)]
@@ -25,7 +26,7 @@ ghost use Rattle.acl_terms.specs.Soundness.{IsSoundTerm, normal-prop, one-number
 /// `addr_named`, `dport_named` and `port_named` say that `address::`, `destination-port::` and `port::` are written. `only` has the
 /// platforms of `platform::`, where it is written, and `never` those of `platform-exclude::`.
 pub struct Term {
-    pub name: Bytes,
+    pub name: WordBytes,
     pub place: Place,
     pub note: Bytes,
     pub src4: RangeSet,
