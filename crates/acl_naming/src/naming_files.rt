@@ -285,8 +285,7 @@ impl LineReader {
     }
 }
 
-/// Adds the definitions of the file, or tells its first slip.
-pub fn add_file(
+fn add_lines(
     alloc: Global,
     table: &mut Table,
     kind: NamingKind,
@@ -307,4 +306,22 @@ pub fn add_file(
         rest = behind;
     }
     Ok(())
+}
+
+// An item seldom takes fewer bytes of a file.
+const ITEM: usize = 6;
+
+/// Adds the definitions of the file, or tells its first slip.
+pub fn add_file(
+    alloc: Global,
+    table: &mut Table,
+    kind: NamingKind,
+    file: u32,
+    bytes: &[u8],
+) -> Result<(), Refusal>
+    requires { length bytes.now ≤ 4194304 }
+    ensures { Leaves slip_told table.new result (file_added kind file table.old bytes.now) }
+{
+    table.make_room(alloc, MOST.min(bytes.len() / ITEM))?;
+    add_lines(alloc, table, kind, file, bytes)
 }

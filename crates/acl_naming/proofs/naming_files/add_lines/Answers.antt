@@ -8,7 +8,7 @@ use Rattle.acl_naming.specs.NamingFiles.{TableOrSlip, without_comment, opens, li
 use Rattle.acl_text.proofs.AnswerLaws.{step_stops, stops_whole}
 use Rattle.acl_text.specs.Answers.{slip_told}
 use Rattle.acl_text.specs.Steps.{◌>>=◌}
-use Rattle.acl_naming.proofs.naming_files.add_file.Goals as goal
+use Rattle.acl_naming.proofs.naming_files.add_lines.Goals as goal
 
 pub returns-in_err-is_open : goal.returns-in_err-is_open
 unfolding file_added

@@ -1,7 +1,7 @@
 use Rattle.std.proofs.Common.{◌≡◌, ◌+◌, ◌<◌, ◌≤◌, false, true, length}
 use Rattle.acl_text.specs.Cursors.{lines_of}
 use Rattle.acl_naming.specs.NamingFiles.{lines_added}
-use Rattle.acl_naming.proofs.naming_files.add_file.Given as goal
+use Rattle.acl_naming.proofs.naming_files.add_lines.Given as goal
 
 abbrev pub invariant-loop-line : goal.invariant-loop-line
 invariant-loop-line l = record {
