@@ -2,6 +2,7 @@ pub mod AnsweredSlips
 pub mod AnyLaws
 pub mod DecideLaws
 pub mod FilterLaws
+pub mod HeaderLaws
 pub mod HoldLaws
 pub mod KnownLaws
 pub mod RuleLaws

@@ -2,6 +2,7 @@ ghost use Rattle.std.specs.Prelude.{◌≡◌, ◌+◌, ◌-◌, ◌≤◌, ◌^
 ghost use Rattle.std.specs.List.{find};
 ghost use Rattle.acl_text.specs.Refusals.{IsRefusalBy, Judges};
 ghost use Rattle.acl_sets.specs.Ranges.{holds};
+ghost use Rattle.acl_expand.specs.SlipSteps.{are_below_headers};
 ghost use Rattle.acl_expand.specs.ExpansionSlips.{
   extension_headers,
   header_at,
@@ -17,7 +18,7 @@ ghost use Rattle.acl_expand.specs.ExpansionSlips.{
 use acl_host::Day;
 use acl_packet::Family;
 use acl_platform::Rule;
-use acl_sets::RangeSet;
+use acl_sets::{Range, RangeSet};
 use acl_target::Target;
 use acl_terms::{Term, is_empty_in, is_live};
 use acl_text::{Bytes, Code, Memory, Refusal};
@@ -38,13 +39,30 @@ fn first_held(protos: &RangeSet, numbers: &[u8]) -> Option<u8>
         .find(|n| protos.contains(u128::from(*n)))
 }
 
+// Whether all ranges end below the least of these numbers, as those of most terms do.
+fn are_below_headers(ranges: &[Range]) -> bool
+    ensures { result ≡ are_below_headers ranges.now }
+{
+    ranges.iter().all(|range| range.high <= 42)
+}
+
+fn header_in(protos: &RangeSet) -> Option<u8>
+    ensures { result ≡ find (λ n. holds protos.now.ranges n) extension_headers }
+{
+    if are_below_headers(protos.ranges()) {
+        None
+    } else {
+        first_held(protos, &EXTENSION_HEADERS)
+    }
+}
+
 fn header_named(term: &Term) -> Option<u8>
     ensures { result ≡ header_named term.now }
 {
     if term.protos.is_all() {
         return None;
     }
-    first_held(&term.protos, &EXTENSION_HEADERS)
+    header_in(&term.protos)
 }
 
 fn is_for_ipv6(target: &Target, today: Day, term: &Term) -> bool
