@@ -16,7 +16,7 @@ impl<P: Piece, W: Words> Piece for RowFront<P, W> {
     ghost text = { λ f. row_front f.indent (P.text f.first) (W.words f.rest) };
 
     #[tactic(auto, unfolding(crate::specs::RowHalves::row_front))]
-    #[inline]
+    #[inline(always)]
     fn put_into<O: Out>(&self, out: &mut O) -> Result<(), PutFault> {
         put_spaces(self.indent, out)?;
         self.first.put_into(out)?;
@@ -34,7 +34,7 @@ impl<W: Words> Piece for RowBack<W> {
     ghost text = { λ b. row_back (W.words b.rest) };
 
     #[tactic(auto, unfolding(crate::specs::RowHalves::row_back))]
-    #[inline]
+    #[inline(always)]
     fn put_into<O: Out>(&self, out: &mut O) -> Result<(), PutFault> {
         self.rest.put_spaced(out)?;
         out.put(b"\n")

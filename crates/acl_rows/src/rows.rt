@@ -18,7 +18,8 @@ pub struct Row<P, W> {
 impl<P: Piece, W: Words> Piece for Row<P, W> {
     ghost text = { λ r. row_text (row r.indent (P.text r.first ∷ W.words r.rest)) };
 
-    #[inline]
+    // Inlined, so that words which stand in the code have known lengths where they are put.
+    #[inline(always)]
     fn put_into<O: Out>(&self, out: &mut O) -> Result<(), PutFault> {
         let mut text = LineText::new();
         match put_parts(self, &mut text) {
@@ -38,7 +39,7 @@ fn put_long<P: Piece, W: Words, O: Out>(line: &Row<P, W>, out: &mut O) -> Result
     put_parts(line, out)
 }
 
-#[inline]
+#[inline(always)]
 fn put_parts<P: Piece, W: Words, O: Out>(line: &Row<P, W>, out: &mut O) -> Result<(), PutFault>
     requires { IsTrue (O.is_open out.old) }
     ensures { Puts O.Out out.old out.new
@@ -90,7 +91,7 @@ pub trait Rows {
 impl<P: Piece, W: Words> Rows for Row<P, W> {
     ghost rows = { λ r. row r.indent (P.text r.first ∷ W.words r.rest) ∷ [] };
 
-    #[inline]
+    #[inline(always)]
     fn put_rows<O: Out>(&self, out: &mut O) -> Result<(), PutFault> {
         self.put_into(out)
     }
