@@ -47,13 +47,58 @@ pub(crate) fn behind_byte(text: &[u8], byte: u8) -> Option<&[u8]>
     }
 }
 
+// The number of a byte that the text begins with, and what stands behind the `.` behind it.
+#[inline(always)]
+fn part_of(text: &[u8]) -> Option<(u32, &[u8])>
+    ensures { IfSome result (λ r. IsByteFront text.now (46 ∷ r.1.now) r.0) }
+{
+    let (first, rest) = digit_front(text)?;
+    if let Some(behind) = behind_byte(rest, b'.') {
+        return Some((first, behind));
+    }
+    if first == 0 {
+        return None;
+    }
+    let (second, rest) = digit_front(rest)?;
+    if let Some(behind) = behind_byte(rest, b'.') {
+        return Some((first * 10 + second, behind));
+    }
+    let (third, rest) = digit_front(rest)?;
+    let value = (first * 10 + second) * 10 + third;
+    if value > 255 {
+        return None;
+    }
+    Some((value, behind_byte(rest, b'.')?))
+}
+
+// The same of a text that may end before the `.`.
+#[cold]
+#[inline(never)]
+fn short_part(text: &[u8]) -> Option<(u32, &[u8])>
+    ensures { IfSome result (λ r. IsByteFront text.now (46 ∷ r.1.now) r.0) }
+{
+    part_of(text)
+}
+
+// The same. Where the text is known to be long enough, its end is not looked for at each byte.
+#[inline(always)]
+fn part_front(text: &[u8]) -> Option<(u32, &[u8])>
+    ensures { IfSome result (λ r. IsByteFront text.now (46 ∷ r.1.now) r.0) }
+{
+    if text.len() < 4 {
+        short_part(text)
+    } else {
+        part_of(text)
+    }
+}
+
 /// The IPv4 address that the text begins with, and what stands behind it.
 pub(crate) fn ipv4_front(text: &[u8]) -> Option<(u32, &[u8])>
     ensures { IfSome result (λ r. IsAddressFront V4 text.now r.1.now r.0) }
 {
-    let (a, rest) = byte_front(text)?;
-    let (b, rest) = byte_front(behind_byte(rest, b'.')?)?;
-    let (c, rest) = byte_front(behind_byte(rest, b'.')?)?;
-    let (d, rest) = byte_front(behind_byte(rest, b'.')?)?;
+    let (a, rest) = part_front(text)?;
+    let (b, rest) = part_front(rest)?;
+    let (c, rest) = part_front(rest)?;
+    let (d, rest) = byte_front(rest)?;
     Some((((a * 256 + b) * 256 + c) * 256 + d, rest))
 }
