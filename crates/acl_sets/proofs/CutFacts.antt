@@ -47,14 +47,14 @@ zeros_most (suc k) n (suc o) some few h = by_digit (zeros_most k (n / 2) o) (n %
   by_digit most zero e = let rest = most (omega (arith, some, e)) (omega (arith, few, two-pow-succ k)) (h.0, half) in omega (arith, rest)
   by_digit most (suc d) e = absurd (omega (arith, e, h.1, power))
 
-pub longest : (first last most free : ℕ) → first ≤ last → first < 2 ^ 128 → 2 ^ most ≤ last - first + 1
-    → last - first + 1 < 2 * 2 ^ most → most ≤ 128 → free ≡ min (count_trailing_zeros 128 first) most → IsLongest first last free
-longest first last most free l small fits more few is =
-    let zeros = count_trailing_zeros 128 first in
+pub longest : (bits first last most free : ℕ) → first ≤ last → first < 2 ^ bits → 2 ^ most ≤ last - first + 1
+    → last - first + 1 < 2 * 2 ^ most → most ≤ bits → free ≡ min (count_trailing_zeros bits first) most → IsLongest first last free
+longest bits first last most free l small fits more few is =
+    let zeros = count_trailing_zeros bits first in
     let within : free ≤ most = omega (arith, is) in
     let power = pow-le-pow_right {n = 2} (omega arith) {i = free} {j = most} within in
     record {
-      fits = (shorter_aligned free zeros first (omega (arith, is)) (zeros_divide 128 first), omega (arith, l, fits, power));
+      fits = (shorter_aligned free zeros first (omega (arith, is)) (zeros_divide bits first), omega (arith, l, fits, power));
       longest = λ other o.
           let by_size = size other (omega (arith, l, o.1)) in
           let by_place = place other o.0 by_size in
@@ -67,10 +67,10 @@ longest first last most free l small fits more few is =
       | inr s ↦ s
     ]
 
-    place : (other : ℕ) → Aligned other first → other ≤ most → other ≤ count_trailing_zeros 128 first
+    place : (other : ℕ) → Aligned other first → other ≤ most → other ≤ count_trailing_zeros bits first
     place other h below = elim (eq-zero-or-pos first) [
-      | inl z ↦ let all = ap (count_trailing_zeros 128) z ∙ trailing_of_zero 128 in omega (arith, all, below, few)
-      | inr some ↦ zeros_most 128 first other some small h
+      | inl z ↦ let all = ap (count_trailing_zeros bits) z ∙ trailing_of_zero bits in omega (arith, all, below, few)
+      | inr some ↦ zeros_most bits first other some small h
     ]
 
 -- The bits that are free in a block of a family

@@ -39,7 +39,7 @@ longest_of f first last l fits =
     let h = power_within (last - first) in
     let within : last < 2 ^ 128 = omega (arith, fits, space_small f) in
     let few : h.0 ≤ 128 = power-bound h.0 (last - first + 1) 128 (omega (arith, h.1)) (omega (arith, within)) in
-    (_, longest first last h.0 _ l (omega (arith, l, within)) (omega (arith, h.1)) (omega (arith, h.2)) few refl)
+    (_, longest 128 first last h.0 _ l (omega (arith, l, within)) (omega (arith, h.1)) (omega (arith, h.2)) few refl)
 
 -- The blocks of a range, and of ranges
 
