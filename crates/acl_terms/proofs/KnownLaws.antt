@@ -1,6 +1,5 @@
 -- Addresses depend on the texts of words alone; what is known is found again, and more of it is kept.
 use Rattle.std.proofs.Common.{◌≡◌, ℕ, Bool, true, false, ◌&&◌, List, [], ◌∷◌, Option, None, Some, length, drop, get_or, inl, inr, refl, ap, sym, subst, ◌∙◌, arith}
-use Rattle.std.specs.Borrow.{Bor}
 use Rattle.std.specs.Map.{lookup}
 use Rattle.std.specs.Option.{option_or}
 use Rattle.std.specs.Str.{bytes_eq}
@@ -20,6 +19,7 @@ use Rattle.acl_words.specs.declared.word_lists.Word.{Word}
 use Rattle.acl_naming.specs.Definitions.{Naming}
 use Rattle.acl_naming.specs.Reach.{ReachesAddress}
 use Rattle.acl_terms.specs.declared.addresses.Addresses.{Addresses}
+use Rattle.acl_terms.specs.declared.text_keys.TextKey.{TextKey}
 use Rattle.acl_terms.specs.KnownAddresses.{AreAddresses, AreKnown, AreKnownFor, texts}
 use Rattle.acl_terms.specs.Matching.{Admits, AnyOf, IsAddress, IsNamedAddress}
 use Rattle.acl_terms.specs.Sets.{IsSetOf}
@@ -129,37 +129,37 @@ as-named n words a none four six = record {
 
 -- The two texts under which addresses are known.
 abbrev pub Key : Type 0
-Key = Bor (List ℕ) × Bor (List ℕ)
+Key = TextKey × TextKey
 
 abbrev pub same_key : Key → Key → Bool
-same_key x y = bytes_eq x.0.now y.0.now && bytes_eq x.1.now y.1.now
+same_key x y = bytes_eq x.0.text.now y.0.text.now && bytes_eq x.1.text.now y.1.text.now
 
-known-under : (n : Naming) (x y : Key) (a : Addresses) → same_key x y ≡ true → AreKnownFor n x.0.now x.1.now a
-    → AreKnownFor n y.0.now y.1.now a
+known-under : (n : Naming) (x y : Key) (a : Addresses) → same_key x y ≡ true → AreKnownFor n x.0.text.now x.1.text.now a
+    → AreKnownFor n y.0.text.now y.1.text.now a
 known-under n x y a same known =
-    let p = and_parts (bytes_eq x.0.now y.0.now) (bytes_eq x.1.now y.1.now) same in
-    λ ws ds is less. known ws ds (ap lines_of (same_bytes x.0.now y.0.now p.0) ∙ is)
-    (ap lines_of (same_bytes x.1.now y.1.now p.1) ∙ less)
+    let p = and_parts (bytes_eq x.0.text.now y.0.text.now) (bytes_eq x.1.text.now y.1.text.now) same in
+    λ ws ds is less. known ws ds (ap lines_of (same_bytes x.0.text.now y.0.text.now p.0) ∙ is)
+    (ap lines_of (same_bytes x.1.text.now y.1.text.now p.1) ∙ less)
 
-known-back : (n : Naming) (x y : Key) (a : Addresses) → same_key x y ≡ true → AreKnownFor n y.0.now y.1.now a
-    → AreKnownFor n x.0.now x.1.now a
+known-back : (n : Naming) (x y : Key) (a : Addresses) → same_key x y ≡ true → AreKnownFor n y.0.text.now y.1.text.now a
+    → AreKnownFor n x.0.text.now x.1.text.now a
 known-back n x y a same known =
-    let p = and_parts (bytes_eq x.0.now y.0.now) (bytes_eq x.1.now y.1.now) same in
-    λ ws ds is less. known ws ds (ap lines_of (sym (same_bytes x.0.now y.0.now p.0)) ∙ is)
-    (ap lines_of (sym (same_bytes x.1.now y.1.now p.1)) ∙ less)
+    let p = and_parts (bytes_eq x.0.text.now y.0.text.now) (bytes_eq x.1.text.now y.1.text.now) same in
+    λ ws ds is less. known ws ds (ap lines_of (sym (same_bytes x.0.text.now y.0.text.now p.0)) ∙ is)
+    (ap lines_of (sym (same_bytes x.1.text.now y.1.text.now p.1)) ∙ less)
 
 pub found : (n : Naming) (key : Key) (known : List (Key × Addresses)) (a : Addresses) → AreKnown n known
-    → lookup (same_key key) known ≡ Some a → AreKnownFor n key.0.now key.1.now a
+    → lookup (same_key key) known ≡ Some a → AreKnownFor n key.0.text.now key.1.text.now a
 found n key [] a all is = absurd (none-some a is)
 found n key (e ∷ es) a all is =
     elim (chosen (same_key key e.0) (Some e.1) (lookup (same_key key) es) (Some a) is) [
-      | inl h ↦ subst (AreKnownFor n key.0.now key.1.now) (same_Some e.1 a h.1)
+      | inl h ↦ subst (AreKnownFor n key.0.text.now key.1.text.now) (same_Some e.1 a h.1)
           (known-back n key e.0 e.1 h.0 all.0)
       | inr h ↦ found n key es a all.1 h.1
     ]
 
 pub kept : (n : Naming) (key : Key) (known : List (Key × Addresses)) (a : Addresses) → AreKnown n known
-    → AreKnownFor n key.0.now key.1.now a → AreKnown n (insert_entry same_key known key a)
+    → AreKnownFor n key.0.text.now key.1.text.now a → AreKnown n (insert_entry same_key known key a)
 kept n key [] a all more = (more, tt)
 kept n key (e ∷ es) a all more = by (same_key key e.0) refl (kept n key es a all.1 more)
   where

@@ -1,5 +1,5 @@
 -- Sets of the numbers of words.
-use Rattle.std.proofs.Common.{◌≡◌, ◌↔◌, ℕ, true, false, List, [], ◌∷◌, map, Option, None, Some, inl, inr, refl, ap, sym, ◌∙◌, subst, arith}
+use Rattle.std.proofs.Common.{◌≡◌, ◌≢◌, ◌↔◌, ℕ, true, false, List, [], ◌∷◌, map, Option, None, Some, inl, inr, refl, ap, sym, ◌∙◌, subst, arith}
 use Rattle.std.specs.Prelude.{flat_map, option_to_list, Result, Ok, Err, IfOk, length}
 use Rattle.std.proofs.lemmas.Bool.{or_cases, or_left, or_right, both_ways}
 use Rattle.std.proofs.lemmas.Option.{none-some, same_Some}
@@ -81,3 +81,11 @@ pub words-result : {E : Type 0} (f : Word → Option ℕ) (ws : List Word) (ns :
 words-result f [] ns top (Ok s) first behind is e h = absurd (omega (arith, ap length is))
 words-result f (w ∷ ws) ns top (Ok s) first behind is e h = words-set f (w ∷ ws) ns top s e h
 words-result f ws ns top (Err d) first behind is e h = tt
+
+-- The same of words of which it is known only that there are some.
+pub written-result : {E : Type 0} (f : Word → Option ℕ) (ws : List Word) (ns : List ℕ) (top : ℕ) (r : Result Numbers E)
+    → ws ≢ [] → ns ≡ flat_map (λ w. option_to_list (f w)) ws
+    → IfOk r (λ s. IsSetOf (λ x. AnyOf (λ n. n ≡ x) ns) top s)
+    → IfOk r (λ s. IsSetOf (λ x. Admits (λ w. f w ≡ Some x) ws) top s)
+written-result f [] ns top r some e h = absurd (some refl)
+written-result f (w ∷ ws) ns top r some e h = words-result f (w ∷ ws) ns top r w ws refl e h

@@ -2,19 +2,18 @@
 use Rattle.std.proofs.Common.{◌≡◌, ◌⊎◌, ℕ, ◌+◌, ◌<◌, ◌≤◌, Bool, true, false, not, ◌==◌, ◌||◌, List, [], ◌∷◌, ◌++◌, length, drop, get_or, replicate, slice_set, Option, None, Some, MatchOption, option_to_list, inl, inr, refl, ap, sym, subst, ◌∙◌}
 use Rattle.std.specs.List.{list_any}
 use Rattle.std.specs.Str.{bytes_eq}
-use Rattle.std.specs.Borrow.{Bor}
 use Rattle.std.proofs.lemmas.Bool.{cond-false, cond-true, eq-eqb, eqb-true, or_cases, or_left, or_right, both_ways, false_from_ne_true}
 use Rattle.std.proofs.lemmas.List.{drop_all, drop_more, map-append}
 use Rattle.std.proofs.lemmas.Bool.Decides.{same_from_decides}
 use Rattle.std.proofs.lemmas.List.Folds.{list_any-append}
 use Rattle.std.proofs.lemmas.Option.{none-some}
 use Rattle.indexmap.specs.IndexSet.{insert_key}
-use Rattle.acl_text.specs.Cuts.{views}
 use Rattle.acl_naming.specs.MarkSteps.{marked}
 use Rattle.acl_naming.proofs.MarkLaws.{mark_is, mark_kept, mark_only}
 use Rattle.acl_naming.proofs.WalkLaws.{blank_unmarked}
 use Rattle.acl_words.specs.declared.word_lists.Word.{Word}
-use Rattle.acl_terms.specs.DistinctSteps.{AreMarked, has, new_words}
+use Rattle.acl_terms.specs.declared.text_keys.TextKey.{TextKey}
+use Rattle.acl_terms.specs.DistinctSteps.{AreMarked, has, new_words, texts_in}
 
 or-there : (a b : Bool) → (b ≡ true → a ≡ true) → a ≡ (a || b)
 or-there true b h = refl
@@ -93,19 +92,19 @@ marked-more m out j within had = λ n.
 
 -- ---- texts
 
--- A borrowed text, and whether another is the same.
+-- A text as a key, and whether another is the same.
 abbrev Key : Type 0
-Key = Bor (List ℕ)
+Key = TextKey
 
 abbrev same_key : Key → Key → Bool
-same_key v k = bytes_eq v.now k.now
+same_key v k = bytes_eq v.text.now k.text.now
 
-is-seen : (v : Key) (text : List ℕ) → v.now ≡ text → (keys : List Key)
-    → list_any (same_key v) keys ≡ list_any (bytes_eq text) (views keys)
+is-seen : (v : Key) (text : List ℕ) → v.text.now ≡ text → (keys : List Key)
+    → list_any (same_key v) keys ≡ list_any (bytes_eq text) (texts_in keys)
 is-seen v text is [] = refl
 is-seen v text is (k ∷ keys) =
-    ap (λ t. bytes_eq t k.now || list_any (same_key v) keys) is
-    ∙ ap (λ b. bytes_eq text k.now || b) (is-seen v text is keys)
+    ap (λ t. bytes_eq t k.text.now || list_any (same_key v) keys) is
+    ∙ ap (λ b. bytes_eq text k.text.now || b) (is-seen v text is keys)
 
 not-true : (b : Bool) → true ≡ not b → b ≡ false
 not-true false h = refl
@@ -115,16 +114,16 @@ not-false : (b : Bool) → false ≡ not b → b ≡ true
 not-false true h = refl
 not-false false h = absurd (both_ways false refl h)
 
-pub text-is-new : (keys keys' : List Key) (v : Key) (w : Word) (words old : List Word) → v.now ≡ w.text
+pub text-is-new : (keys keys' : List Key) (v : Key) (w : Word) (words old : List Word) → v.text.now ≡ w.text
     → keys' ≡ insert_key same_key keys v → true ≡ not (list_any (same_key v) keys) → old ≡ w ∷ words
-    → new_words (views keys) old ≡ w ∷ new_words (views keys') words
+    → new_words (texts_in keys) old ≡ w ∷ new_words (texts_in keys') words
 text-is-new keys keys' v w words old is put new left =
     let none : list_any (same_key v) keys ≡ false = not-true (list_any (same_key v) keys) new in
-    let unseen : list_any (bytes_eq w.text) (views keys) ≡ false = sym (is-seen v w.text is keys) ∙ none in
+    let unseen : list_any (bytes_eq w.text) (texts_in keys) ≡ false = sym (is-seen v w.text is keys) ∙ none in
     let more : keys' ≡ keys ++ v ∷ [] = put ∙ cond-false (list_any (same_key v) keys) keys (keys ++ v ∷ []) none in
-    let seen : views keys' ≡ views keys ++ w.text ∷ [] =
-    ap views more ∙ map-append (λ (k : Key). k.now) keys (v ∷ []) ∙ ap (λ t. views keys ++ t ∷ []) is in
-    ap (new_words (views keys)) left ∙ cond-false (list_any (bytes_eq w.text) (views keys)) _ _ unseen
+    let seen : texts_in keys' ≡ texts_in keys ++ w.text ∷ [] =
+    ap texts_in more ∙ map-append (λ (k : Key). k.text.now) keys (v ∷ []) ∙ ap (λ t. texts_in keys ++ t ∷ []) is in
+    ap (new_words (texts_in keys)) left ∙ cond-false (list_any (bytes_eq w.text) (texts_in keys)) _ _ unseen
     ∙ ap (λ ts. w ∷ new_words ts words) (sym seen)
 
 -- The words that were left, where the next one is taken out.
@@ -139,12 +138,12 @@ pub none-ahead : (o : Option Word) (old new : List Word) → MatchOption o ((old
 none-ahead None old new h e = h.1
 none-ahead (Some w) old new h e = absurd (none-some w (sym e))
 
-pub text-was-seen : (keys keys' : List Key) (v : Key) (w : Word) (words old : List Word) → v.now ≡ w.text
+pub text-was-seen : (keys keys' : List Key) (v : Key) (w : Word) (words old : List Word) → v.text.now ≡ w.text
     → keys' ≡ insert_key same_key keys v → false ≡ not (list_any (same_key v) keys) → old ≡ w ∷ words
-    → new_words (views keys') words ≡ new_words (views keys) old
+    → new_words (texts_in keys') words ≡ new_words (texts_in keys) old
 text-was-seen keys keys' v w words old is put known left =
     let some : list_any (same_key v) keys ≡ true = not-false (list_any (same_key v) keys) known in
-    let seen : list_any (bytes_eq w.text) (views keys) ≡ true = sym (is-seen v w.text is keys) ∙ some in
+    let seen : list_any (bytes_eq w.text) (texts_in keys) ≡ true = sym (is-seen v w.text is keys) ∙ some in
     let kept : keys' ≡ keys = put ∙ cond-true (list_any (same_key v) keys) keys (keys ++ v ∷ []) some in
-    ap (λ ks. new_words (views ks) words) kept
-    ∙ sym (ap (new_words (views keys)) left ∙ cond-true (list_any (bytes_eq w.text) (views keys)) _ _ seen)
+    ap (λ ks. new_words (texts_in ks) words) kept
+    ∙ sym (ap (new_words (texts_in keys)) left ∙ cond-true (list_any (bytes_eq w.text) (texts_in keys)) _ _ seen)

@@ -1,9 +1,14 @@
 -- Words and numbers of which each is taken once.
-use Rattle.std.specs.Prelude.{◌≡◌, ℕ, Bool, ◌==◌, if◌then◌else◌, List, [], ◌∷◌, ◌++◌}
+use Rattle.std.specs.Prelude.{◌≡◌, ℕ, Bool, ◌==◌, if◌then◌else◌, List, [], ◌∷◌, ◌++◌, map}
 use Rattle.std.specs.List.{list_any}
 use Rattle.std.specs.Str.{bytes_eq}
 use Rattle.acl_naming.specs.MarkSteps.{marked}
 use Rattle.acl_words.specs.declared.word_lists.Word.{Word}
+use Rattle.acl_terms.specs.declared.text_keys.TextKey.{TextKey}
+
+-- The texts of the keys.
+abbrev pub texts_in : List TextKey → List (List ℕ)
+texts_in keys = map (λ k. k.text.now) keys
 
 -- The words whose texts are new: not among those that were seen, nor that of a word before.
 abbrev pub new_words : List (List ℕ) → List Word → List Word

@@ -1,6 +1,5 @@
 -- The addresses that are known of lists of words, and whom they serve: each other two lists of the same texts.
 use Rattle.std.specs.Prelude.{◌≡◌, ℕ, List, None, map}
-use Rattle.std.specs.Borrow.{Bor}
 use Rattle.std.specs.List.{AllByRecursion}
 use Rattle.std.specs.Option.{option_or}
 use Rattle.acl_packet.specs.Addresses.{top_address}
@@ -10,6 +9,7 @@ use Rattle.acl_text.specs.Refusals.{first_in}
 use Rattle.acl_words.specs.declared.word_lists.Word.{Word}
 use Rattle.acl_naming.specs.Definitions.{Naming}
 use Rattle.acl_terms.specs.declared.addresses.Addresses.{Addresses}
+use Rattle.acl_terms.specs.declared.text_keys.TextKey.{TextKey}
 use Rattle.acl_terms.specs.Matching.{IsAddress}
 use Rattle.acl_terms.specs.Sets.{IsSetOf}
 use Rattle.acl_terms.specs.Slips.{network_slip}
@@ -32,5 +32,5 @@ AreKnownFor n named excluded a =
     → AreAddresses n words excludes a
 
 -- So it is with each of them, under its two texts.
-abbrev pub AreKnown : Naming → List ((Bor (List ℕ) × Bor (List ℕ)) × Addresses) → Type 0
-AreKnown n known = AllByRecursion (λ e. AreKnownFor n e.0.0.now e.0.1.now e.1) known
+abbrev pub AreKnown : Naming → List ((TextKey × TextKey) × Addresses) → Type 0
+AreKnown n known = AllByRecursion (λ e. AreKnownFor n e.0.0.text.now e.0.1.text.now e.1) known

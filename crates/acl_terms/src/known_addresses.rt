@@ -9,6 +9,7 @@ ghost use Rattle.acl_terms.specs.Sets.{IsSetOf};
 ghost use Rattle.acl_terms.specs.Slips.{network_slip};
 
 use crate::addresses::{Addresses, admitted_addresses, end_of};
+use crate::text_keys::TextKey;
 use acl_naming::Checked;
 use acl_policy::WordList;
 use acl_text::{Memory, Refusal};
@@ -23,7 +24,7 @@ use std::marker::Model;
 #[derive(Drop)]
 pub struct KnownAddresses<'a> {
     base: &'a Checked,
-    lists: IndexMap<(&'a [u8], &'a [u8]), Addresses>,
+    lists: IndexMap<(TextKey<'a>, TextKey<'a>), Addresses>,
 }
 
 impl<'a> Model for KnownAddresses<'a> {
@@ -63,7 +64,8 @@ impl<'a> KnownAddresses<'a> {
         if is_bare || self.lists.is_empty() {
             return Ok(None);
         }
-        match self.lists.get(&(named, excluded)) {
+        let sought = (TextKey { text: named }, TextKey { text: excluded });
+        match self.lists.get(&sought) {
             Some(known) => Ok(Some(known.share()?)),
             None => Ok(None),
         }
@@ -81,7 +83,8 @@ impl<'a> KnownAddresses<'a> {
     {
         if addresses.are_many() {
             let shared = addresses.share()?;
-            self.lists.insert((named, excluded), shared)?;
+            let key = (TextKey { text: named }, TextKey { text: excluded });
+            self.lists.insert(key, shared)?;
         }
         Ok(())
     }

@@ -1,6 +1,7 @@
 ghost use Rattle.std.specs.Prelude.{◌≡◌, [], ◌∷◌, IfNone, IfOk, IfSome};
 ghost use Rattle.acl_terms.specs.DistinctSteps.{new_words};
 
+use crate::text_keys::TextKey;
 use acl_policy::{WordList, WordRef, WordsLeft};
 use acl_text::Memory;
 use indexmap::IndexSet;
@@ -10,20 +11,19 @@ use std::marker::Model;
 /// The words of a list that are not yet given. Where a text stands more than once, only its first word is
 /// given. A contract sees the list of the words to come.
 pub(crate) struct NewWords<'a> {
-    seen: IndexSet<&'a [u8]>,
+    seen: IndexSet<TextKey<'a>>,
     ahead: Option<WordRef<'a>>,
     words: WordsLeft<'a>,
 }
 
 impl<'a> Model for NewWords<'a> {
     ghost use Rattle.std.specs.Prelude.{◌≡◌, List, [], ◌++◌, None, option_to_list};
-    ghost use Rattle.acl_text.specs.Cuts.{views};
     ghost use Rattle.acl_words.specs.declared.word_lists.Word.{Word};
-    ghost use Rattle.acl_terms.specs.DistinctSteps.{new_words};
+    ghost use Rattle.acl_terms.specs.DistinctSteps.{new_words, texts_in};
 
     ghost Value = { List Word };
 
-    ghost view = { λ s. new_words (views s.seen.keys) (option_to_list s.ahead ++ s.words) };
+    ghost view = { λ s. new_words (texts_in s.seen.keys) (option_to_list s.ahead ++ s.words) };
 
     ghost invariant = { λ s. s.ahead ≡ None → s.words ≡ [] };
 }
@@ -60,7 +60,7 @@ impl<'a> NewWords<'a> {
             if self.ahead.is_none() && self.seen.is_empty() {
                 return Ok(Some(word));
             }
-            if self.seen.insert(word.text())? {
+            if self.seen.insert(TextKey { text: word.text() })? {
                 return Ok(Some(word));
             }
         }

@@ -1,4 +1,4 @@
-ghost use Rattle.std.specs.Prelude.{◌≡◌, ◌++◌, OnOk, IfOk, option_to_list, map};
+ghost use Rattle.std.specs.Prelude.{◌≡◌, [], ◌∷◌, ◌++◌, OnOk, IfOk, IfSome, option_to_list, map};
 ghost use Rattle.acl_sets.specs.Ranges.{IsRange};
 ghost use Rattle.std.specs.List.{All};
 ghost use Rattle.acl_terms.specs.Matching.{AnyOf, IsProtocol, protocols_of, type_in, types_of};
@@ -34,6 +34,18 @@ pub(crate) fn protocols_of(alloc: Global, words: &WordList) -> Result<Vec<u8>, M
         push_some(&mut out, protocol_number(word.text()))?;
     }
     Ok(out)
+}
+
+/// The number of the one word of `protocol::`, where there is one alone: it takes no memory.
+pub(crate) fn only_protocol(words: &WordList) -> Option<u8>
+    ensures { IfSome result (λ n. protocols_of words.now ≡ n ∷ []) }
+{
+    let mut left = words.iter();
+    let first = left.next()?;
+    if left.next().is_some() {
+        return None;
+    }
+    protocol_number(first.text())
 }
 
 /// The numbers of the words of `icmp-type::`.
@@ -104,10 +116,10 @@ pub(crate) fn admitted_protocols(
     requires { protos.now ≡ protocols_of words.now }
     ensures { IfOk result (λ s. IsSetOf (IsProtocol words.now) TOP s) }
 {
-    match words.first() {
-        None => RangeSet::all(alloc, TOP),
-        Some(_) => numbers_in(alloc, protos),
+    if words.is_empty() {
+        return RangeSet::all(alloc, TOP);
     }
+    numbers_in(alloc, protos)
 }
 
 /// The ICMP types of a term: all where no word is written.

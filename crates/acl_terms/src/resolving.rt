@@ -14,7 +14,9 @@ use crate::ends::{Ends, ends_of};
 use crate::known_addresses::KnownAddresses;
 use crate::living::{platforms_of, some_platforms};
 use crate::ports::{TermPorts, ports_of_term};
-use crate::protocols::{admitted_codes, admitted_protocols, admitted_types, protocols_of};
+use crate::protocols::{
+    admitted_codes, admitted_protocols, admitted_types, only_protocol, protocols_of,
+};
 use crate::terms::Term;
 use acl_naming::Checked;
 use acl_policy::{RawTerm, WordList};
@@ -128,6 +130,9 @@ fn parts_of<'a>(
     ensures sets { IfOk result (λ p. AreSetsOf known.old raw.now (sets_by p)) }
     ensures same { known.new ≡ known.old }
 {
+    if let Some(number) = only_protocol(&raw.protocols) {
+        return parts_with(alloc, raw, &[number], known);
+    }
     let protos = protocols_of(alloc, &raw.protocols)?;
     parts_with(alloc, raw, &protos, known)
 }
