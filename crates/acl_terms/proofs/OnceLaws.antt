@@ -13,7 +13,7 @@ use Rattle.acl_naming.proofs.MarkLaws.{mark_is, mark_kept, mark_only}
 use Rattle.acl_naming.proofs.WalkLaws.{blank_unmarked}
 use Rattle.acl_words.specs.declared.word_lists.Word.{Word}
 use Rattle.acl_terms.specs.declared.text_keys.TextKey.{TextKey}
-use Rattle.acl_terms.specs.DistinctSteps.{AreMarked, has, new_words, texts_in}
+use Rattle.acl_terms.specs.DistinctSteps.{AreMarked, has, new_words, same_key, texts_in}
 
 or-there : (a b : Bool) → (b ≡ true → a ≡ true) → a ≡ (a || b)
 or-there true b h = refl
@@ -92,14 +92,7 @@ marked-more m out j within had = λ n.
 
 -- ---- texts
 
--- A text as a key, and whether another is the same.
-abbrev Key : Type 0
-Key = TextKey
-
-abbrev same_key : Key → Key → Bool
-same_key v k = bytes_eq v.text.now k.text.now
-
-is-seen : (v : Key) (text : List ℕ) → v.text.now ≡ text → (keys : List Key)
+is-seen : (v : TextKey) (text : List ℕ) → v.text.now ≡ text → (keys : List TextKey)
     → list_any (same_key v) keys ≡ list_any (bytes_eq text) (texts_in keys)
 is-seen v text is [] = refl
 is-seen v text is (k ∷ keys) =
@@ -114,7 +107,7 @@ not-false : (b : Bool) → false ≡ not b → b ≡ true
 not-false true h = refl
 not-false false h = absurd (both_ways false refl h)
 
-pub text-is-new : (keys keys' : List Key) (v : Key) (w : Word) (words old : List Word) → v.text.now ≡ w.text
+pub text-is-new : (keys keys' : List TextKey) (v : TextKey) (w : Word) (words old : List Word) → v.text.now ≡ w.text
     → keys' ≡ insert_key same_key keys v → true ≡ not (list_any (same_key v) keys) → old ≡ w ∷ words
     → new_words (texts_in keys) old ≡ w ∷ new_words (texts_in keys') words
 text-is-new keys keys' v w words old is put new left =
@@ -122,7 +115,7 @@ text-is-new keys keys' v w words old is put new left =
     let unseen : list_any (bytes_eq w.text) (texts_in keys) ≡ false = sym (is-seen v w.text is keys) ∙ none in
     let more : keys' ≡ keys ++ v ∷ [] = put ∙ cond-false (list_any (same_key v) keys) keys (keys ++ v ∷ []) none in
     let seen : texts_in keys' ≡ texts_in keys ++ w.text ∷ [] =
-    ap texts_in more ∙ map-append (λ (k : Key). k.text.now) keys (v ∷ []) ∙ ap (λ t. texts_in keys ++ t ∷ []) is in
+    ap texts_in more ∙ map-append (λ (k : TextKey). k.text.now) keys (v ∷ []) ∙ ap (λ t. texts_in keys ++ t ∷ []) is in
     ap (new_words (texts_in keys)) left ∙ cond-false (list_any (bytes_eq w.text) (texts_in keys)) _ _ unseen
     ∙ ap (λ ts. w ∷ new_words ts words) (sym seen)
 
@@ -138,7 +131,7 @@ pub none-ahead : (o : Option Word) (old new : List Word) → MatchOption o ((old
 none-ahead None old new h e = h.1
 none-ahead (Some w) old new h e = absurd (none-some w (sym e))
 
-pub text-was-seen : (keys keys' : List Key) (v : Key) (w : Word) (words old : List Word) → v.text.now ≡ w.text
+pub text-was-seen : (keys keys' : List TextKey) (v : TextKey) (w : Word) (words old : List Word) → v.text.now ≡ w.text
     → keys' ≡ insert_key same_key keys v → false ≡ not (list_any (same_key v) keys) → old ≡ w ∷ words
     → new_words (texts_in keys') words ≡ new_words (texts_in keys) old
 text-was-seen keys keys' v w words old is put known left =

@@ -10,6 +10,10 @@ use Rattle.acl_terms.specs.declared.text_keys.TextKey.{TextKey}
 abbrev pub texts_in : List TextKey → List (List ℕ)
 texts_in keys = map (λ k. k.text.now) keys
 
+-- The keys have the same text.
+abbrev pub same_key : TextKey → TextKey → Bool
+same_key v k = bytes_eq v.text.now k.text.now
+
 -- The words whose texts are new: not among those that were seen, nor that of a word before.
 abbrev pub new_words : List (List ℕ) → List Word → List Word
 new_words seen [] = []

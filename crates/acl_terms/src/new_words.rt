@@ -1,5 +1,7 @@
-ghost use Rattle.std.specs.Prelude.{◌≡◌, [], ◌∷◌, IfNone, IfOk, IfSome};
-ghost use Rattle.acl_terms.specs.DistinctSteps.{new_words};
+ghost use Rattle.std.specs.Prelude.{◌≡◌, [], ◌∷◌, IfNone, IfOk, IfSome, not};
+ghost use Rattle.std.specs.List.{list_any};
+ghost use Rattle.indexmap.specs.IndexSet.{insert_key};
+ghost use Rattle.acl_terms.specs.DistinctSteps.{new_words, same_key};
 
 use crate::text_keys::TextKey;
 use acl_policy::{WordList, WordRef, WordsLeft};
@@ -7,6 +9,9 @@ use acl_text::Memory;
 use indexmap::IndexSet;
 use std::alloc::Global;
 use std::marker::Model;
+
+/// Most lists have no more words.
+const MOST_OFTEN: usize = 16;
 
 /// The words of a list that are not yet given. Where a text stands more than once, only its first word is
 /// given. A contract sees the list of the words to come.
@@ -38,6 +43,17 @@ impl<'a> Drop for NewWords<'a> {
     }
 }
 
+// Takes the text, and says whether it is new. Room is made at once for as many texts as most lists have.
+fn see<'a>(seen: &mut IndexSet<TextKey<'a>>, text: &'a [u8]) -> Result<bool, Memory>
+    ensures added { IfOk result (λ r. r ≡ not (list_any (same_key (record { text = text.entry })) seen.old.keys)) }
+    ensures keys { IfOk result (λ r. seen.new.keys ≡ insert_key same_key seen.old.keys (record { text = text.entry })) }
+{
+    if seen.is_empty() {
+        seen.reserve(MOST_OFTEN)?;
+    }
+    Ok(seen.insert(TextKey { text })?)
+}
+
 impl<'a> NewWords<'a> {
     pub(crate) fn new(alloc: Global, words: &'a WordList) -> NewWords<'a>
         ensures { result ≡ new_words [] words.now }
@@ -60,7 +76,7 @@ impl<'a> NewWords<'a> {
             if self.ahead.is_none() && self.seen.is_empty() {
                 return Ok(Some(word));
             }
-            if self.seen.insert(TextKey { text: word.text() })? {
+            if see(&mut self.seen, word.text())? {
                 return Ok(Some(word));
             }
         }
