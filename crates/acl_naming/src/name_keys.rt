@@ -2,12 +2,12 @@
 ghost use Rattle.std.specs.Prelude.{[], ◌∷◌};
 ghost use Rattle.std.specs.Cmp.{partial_equiv_from_equiv};
 ghost use Rattle.std.specs.Cmp.Lexicographic.{nat_list_eq_equiv};
-ghost use Rattle.std.specs.Cmp.Rules.{comparing, hashing};
-ghost use Rattle.std.specs.Ordering.{on};
+ghost use Rattle.std.specs.Cmp.Rules.{hashing};
 ghost use Rattle.std.specs.Str.{bytes_eq};
 ghost use Rattle.std.proofs.Common.{rules};
 
 use crate::name_texts::NameText;
+use acl_text::TextKey;
 use indexmap::Equivalent;
 use std::hash::{Hash, Hasher};
 
@@ -36,44 +36,14 @@ impl Hash for NameText {
     }
 }
 
-/// The bytes of a name that is looked for.
-#[derive(Clone, Copy)]
-pub struct SoughtName<'a> {
-    pub(crate) name: &'a [u8],
-}
-
-impl PartialEq for SoughtName<'_> {
-    ghost eq = { on (λ s. s.name.now) bytes_eq };
-
-    ghost laws = { Prim.search (comparing, rules) };
-
-    fn eq(&self, other: &SoughtName<'_>) -> bool {
-        self.name == other.name
-    }
-}
-
-impl Eq for SoughtName<'_> {
-    ghost laws = { Prim.search (comparing, rules) };
-}
-
-impl Hash for SoughtName<'_> {
-    ghost hash_input = { λ s. s.name.now ∷ [] };
-
-    ghost respects_eq = { Prim.search (hashing, rules) };
-
-    fn hash<H: Hasher>(&self, state: &mut H) {
-        state.write(self.name);
-    }
-}
-
-impl Equivalent<NameText> for SoughtName<'_> {
-    ghost equivalent = { λ s. bytes_eq s.name.now };
+impl Equivalent<NameText> for TextKey<'_> {
+    ghost equivalent = { λ k. bytes_eq k.text.now };
 
     ghost respects_hash = { Prim.search (hashing, rules) };
 
-    ghost respects_eq = { λ s. nat_list_eq_equiv.congr s.name.now };
+    ghost respects_eq = { λ k. nat_list_eq_equiv.congr k.text.now };
 
     fn equivalent(&self, key: &NameText) -> bool {
-        self.name == key.as_slice()
+        self.text == key.as_slice()
     }
 }

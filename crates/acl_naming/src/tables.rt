@@ -6,11 +6,10 @@ ghost use Rattle.acl_naming.specs.Rows.{begin_at};
 ghost use Rattle.acl_naming.specs.Tables.{name_at, place_at, with_item};
 ghost use Rattle.acl_naming.specs.TableViewSteps.{begins_of};
 
-use crate::name_keys::SoughtName;
 use crate::name_texts::NameText;
 use crate::naming_items::Item;
 use crate::rows::part;
-use acl_text::{Items, Memory, Place};
+use acl_text::{Items, Memory, Place, TextKey};
 use indexmap::IndexMap;
 use indexmap::map::Entry;
 use std::alloc::Global;
@@ -143,7 +142,7 @@ impl Table {
         ensures exact { result ≡ index_of self.now name.now }
         ensures within { IfSome result (λ i. i < length self.now) }
     {
-        self.kept.get_index_of(SoughtName { name })
+        self.kept.get_index_of(TextKey { text: name })
     }
 
     /// The same, where the definition at `near`, if there is one, is the first to be looked at.

@@ -19,7 +19,7 @@ use Rattle.acl_words.specs.declared.word_lists.Word.{Word}
 use Rattle.acl_naming.specs.Definitions.{Naming}
 use Rattle.acl_naming.specs.Reach.{ReachesAddress}
 use Rattle.acl_terms.specs.declared.addresses.Addresses.{Addresses}
-use Rattle.acl_terms.specs.declared.text_keys.TextKey.{TextKey}
+use Rattle.acl_text.specs.declared.text_keys.TextKey.{TextKey}
 use Rattle.acl_terms.specs.KnownAddresses.{AreAddresses, AreKnown, AreKnownFor, texts}
 use Rattle.acl_terms.specs.Matching.{Admits, AnyOf, IsAddress, IsNamedAddress}
 use Rattle.acl_terms.specs.Sets.{IsSetOf}

@@ -12,7 +12,7 @@ use Rattle.acl_naming.specs.MarkSteps.{marked}
 use Rattle.acl_naming.proofs.MarkLaws.{mark_is, mark_kept, mark_only}
 use Rattle.acl_naming.proofs.WalkLaws.{blank_unmarked}
 use Rattle.acl_words.specs.declared.word_lists.Word.{Word}
-use Rattle.acl_terms.specs.declared.text_keys.TextKey.{TextKey}
+use Rattle.acl_text.specs.declared.text_keys.TextKey.{TextKey}
 use Rattle.acl_terms.specs.DistinctSteps.{AreMarked, has, new_words, same_key, texts_in}
 
 or-there : (a b : Bool) → (b ≡ true → a ≡ true) → a ≡ (a || b)

@@ -4,7 +4,7 @@ use Rattle.std.specs.List.{list_any}
 use Rattle.std.specs.Str.{bytes_eq}
 use Rattle.acl_naming.specs.MarkSteps.{marked}
 use Rattle.acl_words.specs.declared.word_lists.Word.{Word}
-use Rattle.acl_terms.specs.declared.text_keys.TextKey.{TextKey}
+use Rattle.acl_text.specs.declared.text_keys.TextKey.{TextKey}
 
 -- The texts of the keys.
 abbrev pub texts_in : List TextKey → List (List ℕ)

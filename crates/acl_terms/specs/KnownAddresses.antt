@@ -9,7 +9,7 @@ use Rattle.acl_text.specs.Refusals.{first_in}
 use Rattle.acl_words.specs.declared.word_lists.Word.{Word}
 use Rattle.acl_naming.specs.Definitions.{Naming}
 use Rattle.acl_terms.specs.declared.addresses.Addresses.{Addresses}
-use Rattle.acl_terms.specs.declared.text_keys.TextKey.{TextKey}
+use Rattle.acl_text.specs.declared.text_keys.TextKey.{TextKey}
 use Rattle.acl_terms.specs.Matching.{IsAddress}
 use Rattle.acl_terms.specs.Sets.{IsSetOf}
 use Rattle.acl_terms.specs.Slips.{network_slip}

@@ -9,10 +9,9 @@ ghost use Rattle.acl_terms.specs.Sets.{IsSetOf};
 ghost use Rattle.acl_terms.specs.Slips.{network_slip};
 
 use crate::addresses::{Addresses, admitted_addresses, end_of};
-use crate::text_keys::TextKey;
 use acl_naming::Checked;
 use acl_policy::WordList;
-use acl_text::{Memory, Refusal};
+use acl_text::{Memory, Refusal, TextKey};
 use indexmap::IndexMap;
 use std::alloc::Global;
 use std::marker::Model;

@@ -18,7 +18,6 @@ mod resolving;
 mod side_sets;
 mod sides;
 mod terms;
-mod text_keys;
 
 pub use emptiness::{is_empty_in, is_pair_empty};
 pub use known_addresses::KnownAddresses;

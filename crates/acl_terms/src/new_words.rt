@@ -3,9 +3,8 @@ ghost use Rattle.std.specs.List.{list_any};
 ghost use Rattle.indexmap.specs.IndexSet.{insert_key};
 ghost use Rattle.acl_terms.specs.DistinctSteps.{new_words, same_key};
 
-use crate::text_keys::TextKey;
 use acl_policy::{WordList, WordRef, WordsLeft};
-use acl_text::Memory;
+use acl_text::{Memory, TextKey};
 use indexmap::IndexSet;
 use std::alloc::Global;
 use std::marker::Model;

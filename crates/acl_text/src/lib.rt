@@ -27,6 +27,7 @@ mod refusals;
 mod seen_names;
 mod short;
 mod signed_numbers;
+mod text_keys;
 mod texts;
 mod wholes;
 mod words;
@@ -53,6 +54,7 @@ pub use prefixes::{
 };
 pub use seen_names::SeenNames;
 pub use signed_numbers::read_signed;
+pub use text_keys::TextKey;
 pub use texts::{Bytes, Memory};
 pub use wholes::Whole;
 pub use words::{is_white, next_word, skip_white};

@@ -9,8 +9,8 @@ use std::hash::{Hash, Hasher};
 
 /// A text by which something is found. It is hashed at once, and not byte by byte.
 #[derive(Clone, Copy)]
-pub(crate) struct TextKey<'a> {
-    pub(crate) text: &'a [u8],
+pub struct TextKey<'a> {
+    pub text: &'a [u8],
 }
 
 impl PartialEq for TextKey<'_> {
@@ -32,6 +32,7 @@ impl Hash for TextKey<'_> {
 
     ghost respects_eq = { Prim.search (hashing, rules) };
 
+    // A text is a key by itself, so that its end needs no mark.
     fn hash<H: Hasher>(&self, state: &mut H) {
         state.write(self.text);
     }
