@@ -123,7 +123,8 @@ fn behind_byte(text: &[u8], byte: u8) -> Option<&[u8]>
     }
 }
 
-// How many bytes it begins with that are plain.
+// How many bytes it begins with that are plain. Apart for the same reason.
+#[inline(never)]
 fn plain_front(text: &[u8]) -> usize
     ensures fits { result ≤ length text.now }
     ensures plain { list_all is_plain (take result text.now) ≡ true }

@@ -86,7 +86,23 @@ impl Model for NameText {
 }
 
 impl NameText {
-    /// The name that the word is, if it is one.
+    // The name that the word is, if it is one, in memory of its own.
+    #[inline(never)]
+    fn read_long(alloc: Global, word: &[u8]) -> Result<Option<NameText>, Memory>
+        ensures some { IfOk result (λ o. IfSome o (λ n. (n ≡ word.now) × (is_name word.now ≡ true))) }
+        ensures none { IfOk result (λ o. IfNone o (is_name word.now ≡ false)) }
+    {
+        if !is_name(word) {
+            return Ok(None);
+        }
+        let name = Bytes::from_slice(alloc, word)?;
+        Ok(Some(NameText {
+            kept: KeptName::Long(name),
+        }))
+    }
+
+    /// The name that the word is, if it is one. Names are many and small, so this stands where it is asked for.
+    #[inline(always)]
     pub fn read(alloc: Global, word: &[u8]) -> Result<Option<NameText>, Memory>
         ensures some { IfOk result (λ o. IfSome o (λ n. (n ≡ word.now) × (is_name word.now ≡ true))) }
         ensures none { IfOk result (λ o. IfNone o (is_name word.now ≡ false)) }
@@ -96,13 +112,7 @@ impl NameText {
                 kept: KeptName::Short(name),
             }));
         }
-        if !is_name(word) {
-            return Ok(None);
-        }
-        let name = Bytes::from_slice(alloc, word)?;
-        Ok(Some(NameText {
-            kept: KeptName::Long(name),
-        }))
+        NameText::read_long(alloc, word)
     }
 
     pub fn as_slice(&self) -> &[u8]
