@@ -92,6 +92,7 @@ impl LineReader {
         }
     }
 
+    #[inline(always)]
     fn add_name(self, table: &mut Table, word: &[u8], name: NameText) -> Result<(), Refusal>
         requires some { 0 < length table.old }
         requires own { name ≡ word.now }
@@ -135,6 +136,8 @@ impl LineReader {
         }
     }
 
+    // Within its caller the answer, which has the size of a refusal, is not copied. So with the two beside it.
+    #[inline(always)]
     #[tactic(auto, using(crate::proofs::MarkedWords::name_added, crate::proofs::MarkedWords::prefix_added))]
     fn add_item(self, table: &mut Table, word: &[u8]) -> Result<(), Refusal>
         requires { 0 < length table.old }
@@ -154,6 +157,7 @@ impl LineReader {
         }
     }
 
+    #[inline(always)]
     fn add_items(self, table: &mut Table, text: &[u8]) -> Result<(), Refusal>
         requires { 0 < length table.old }
         ensures gives { Leaves slip_told table.new result
