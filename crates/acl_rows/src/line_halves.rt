@@ -139,7 +139,7 @@ fn put_lines_of<A: Copy, B: Listed, F: LineHalves<A, B::Item>, O: Out>(
     if !line.is_open() {
         return put_behind(first, &mut line, seconds, form, out);
     }
-    put_kept(&mut line, kept, out)?;
+    put_kept(&line, kept, out)?;
     put_behind(first, &mut line, left, form, out)
 }
 
@@ -167,19 +167,26 @@ fn back_text<A, B, F: LineHalves<A, B>>(second: &B, form: &F) -> LineText
     }
 }
 
-// Puts a line for each kept back, behind the front that stands in it.
-fn put_kept<O: Out>(line: &mut LineText, kept: &[LineText], out: &mut O) -> Result<(), PutFault>
-    requires open { IsTrue (O.is_open out.old) }
-    requires front { line.old.is_open ≡ true }
-    ensures put { Puts O.Out out.old out.new
-        (flat_map (λ back. text_of line.old ++ text_of back) kept.now) result }
-    ensures same { OnOk result (text_of line.new ≡ text_of line.old) }
-    ensures front { OnOk result (line.new.is_open ≡ true) }
+// Puts a line for each kept back, behind the front.
+fn put_kept<O: Out>(front: &LineText, kept: &[LineText], out: &mut O) -> Result<(), PutFault>
+    requires { IsTrue (O.is_open out.old) }
+    ensures { Puts O.Out out.old out.new
+        (flat_map (λ back. text_of front.now ++ text_of back) kept.now) result }
 {
     for back in kept {
-        put_line(line, &back.as_slice(), out)?;
+        put_halves(front, back, out)?;
     }
     Ok(())
+}
+
+// Puts the line of two halves, one by one: to read a line that was just put together takes longer than a second put.
+#[inline]
+fn put_halves<O: Out>(front: &LineText, back: &LineText, out: &mut O) -> Result<(), PutFault>
+    requires { IsTrue (O.is_open out.old) }
+    ensures { Puts O.Out out.old out.new (text_of front.now ++ text_of back.now) result }
+{
+    out.put(front.as_slice())?;
+    out.put(back.as_slice())
 }
 
 // Puts a line for each second, behind the front of the first, which stands in it where it has room.

@@ -119,25 +119,38 @@ fn copy_bytes(target: &mut [u8], bytes: &[u8])
     requires { length target.old ≡ length bytes.now }
     ensures { target.new ≡ bytes.now }
 {
-    match bytes.len() {
-        17..=32 => copy_ends(target, bytes, 16),
-        8..=16 => copy_ends(target, bytes, 8),
-        4..=7 => copy_ends(target, bytes, 4),
-        2..=3 => copy_ends(target, bytes, 2),
-        1 => copy_ends(target, bytes, 1),
-        _ => target.copy_from_slice(bytes),
+    let count = bytes.len();
+    if count > 32 {
+        target.copy_from_slice(bytes);
+    } else if count > 16 {
+        copy_ends::<16>(target, bytes);
+    } else if count > 8 {
+        copy_ends::<8>(target, bytes);
+    } else if count > 3 {
+        copy_ends::<4>(target, bytes);
+    } else if count > 1 {
+        copy_ends::<2>(target, bytes);
+    } else if count > 0 {
+        copy_ends::<1>(target, bytes);
     }
 }
 
 // Writes the first bytes, so many, and as many of the last, which may overlap.
 #[inline(always)]
-fn copy_ends(target: &mut [u8], bytes: &[u8], part: usize)
+fn copy_ends<const PART: usize>(target: &mut [u8], bytes: &[u8])
     requires same { length target.old ≡ length bytes.now }
-    requires within { part ≤ length bytes.now }
-    requires covers { length bytes.now ≤ part + part }
+    requires within { PART ≤ length bytes.now }
+    requires covers { length bytes.now ≤ PART + PART }
     ensures { target.new ≡ bytes.now }
 {
-    let back = bytes.len() - part;
-    target[..part].copy_from_slice(&bytes[..part]);
-    target[back..].copy_from_slice(&bytes[back..]);
+    if let Some(first) = bytes.first_chunk::<PART>()
+        && let Some(last) = bytes.last_chunk::<PART>()
+    {
+        if let Some(place) = target.first_chunk_mut::<PART>() {
+            *place = *first;
+        }
+        if let Some(place) = target.last_chunk_mut::<PART>() {
+            *place = *last;
+        }
+    }
 }

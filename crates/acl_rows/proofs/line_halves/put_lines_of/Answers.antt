@@ -15,7 +15,7 @@ returns-in_err-put_kept g c =
     let whole = ap (λ t. flat_map (λ k. t ++ text_of k) c.args.kept.now ++ lines) held
     ∙ lines_in_two front back (g.B.Listed.items c.args.seconds.now) (g.B.Listed.items c.args.left.now) c.args.kept.now c.requires.halves in
     let p = err_from_is_err_and c.from_residual.result c.from_residual.ensures.1 in
-    rw (p.1, p.2) (retold whole (stops lines c.in_err-put_kept.ensures.put refl))
+    rw (p.1, p.2) (retold whole (stops lines c.in_err-put_kept.ensures refl))
 
 pub returns : goal.returns
 returns g c =
@@ -25,4 +25,4 @@ returns g c =
     let held = c.begin_line.ensures (sym c.is_open.ensures ∙ c.if-not-is_open.false) in
     let whole = ap (λ t. flat_map (λ k. t ++ text_of k) c.args.kept.now ++ lines) held
     ∙ lines_in_two front back (g.B.Listed.items c.args.seconds.now) (g.B.Listed.items c.args.left.now) c.args.kept.now c.requires.halves in
-    retold whole (goes_on g.met.O.Out.rest_goes_on c.in_ok-put_kept.ensures.put c.put_behind-2.ensures)
+    retold whole (goes_on g.met.O.Out.rest_goes_on c.in_ok-put_kept.ensures c.put_behind-2.ensures)
