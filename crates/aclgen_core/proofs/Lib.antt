@@ -19,6 +19,7 @@ mod PolicyStands
 mod RangeLaws
 mod ReachedItems
 mod ResolvedTerms
+mod TermPieces
 mod TermRules
 mod TextLengths
 pub mod WorkloadLaws

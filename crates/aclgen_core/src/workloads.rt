@@ -1,7 +1,7 @@
 ghost use Rattle.std.specs.Prelude.{◌≡◌, ◌≤◌, IfOk};
 ghost use Rattle.aclgen_core.specs.WorkloadTexts.{networks_text, policy_text, services_text};
 
-use crate::workload_lines::{HEADER, network_line, service_line, term_text};
+use crate::workload_lines::{HEADER, push_network_line, push_service_line, push_term};
 use crate::workload_texts::Workload;
 use acl_text::{Bytes, Memory};
 use std::alloc::Global;
@@ -12,7 +12,7 @@ fn networks(alloc: Global, count: u32) -> Result<Bytes, Memory>
 {
     let mut text = Bytes::new(alloc);
     for i in 0..count {
-        text.push_all(network_line(alloc, i)?.as_bytes())?;
+        push_network_line(alloc, &mut text, i)?;
     }
     Ok(text)
 }
@@ -24,7 +24,7 @@ fn services(alloc: Global, count: u32) -> Result<Bytes, Memory>
 {
     let mut text = Bytes::new(alloc);
     for i in 0..count {
-        text.push_all(service_line(alloc, i)?.as_bytes())?;
+        push_service_line(&mut text, i)?;
     }
     Ok(text)
 }
@@ -35,7 +35,7 @@ fn policy(alloc: Global, count: u32) -> Result<Bytes, Memory>
 {
     let mut text = Bytes::from_slice(alloc, HEADER)?;
     for i in 0..count {
-        text.push_all(term_text(alloc, i)?.as_bytes())?;
+        push_term(&mut text, i)?;
     }
     Ok(text)
 }

@@ -5,8 +5,6 @@ use Rattle.aclgen_core.proofs.workloads.policy.Goals as goal
 
 pub loop-i-preserved : goal.loop-i-preserved
 loop-i-preserved c =
-    let term = c.as_bytes.ensures.value ∙ c.in_ok-term_text.ensures in
-    c.in_ok-push_all.ensures.ok
-    ∙ ap (λ t. c.loop-i.text ++ t) term
+    c.in_ok-push_term.ensures
     ∙ ap (λ t. t ++ term_text c.loop-i.i) c.loop-i.invariant
     ∙ one_more term_text header_text c.loop-i.i
