@@ -136,7 +136,7 @@ impl<R: Files + AllocGlobal + Clone + Drop> Out for DiskTree<'_, R> {
     fn put(&mut self, bytes: &[u8]) -> Result<(), PutFault> {
         // most bytes are a line, and have room
         let taken = match &mut self.begun {
-            Some(begun) => begun.gathered.take_short(bytes),
+            Some(begun) => begun.gathered.take(bytes),
             None => unreachable!(),
         };
         if taken {

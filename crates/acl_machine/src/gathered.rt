@@ -1,8 +1,8 @@
 ghost use Rattle.std.specs.Prelude.{◌≡◌, ◌++◌, [], OnOk, if◌then◌else◌};
 ghost use Rattle.std.specs.Io.KnownBytes.{Appends, append_known};
 
-use crate::copying::{MOST_SHORT, copy_short};
 use crate::whole_writes::write_whole;
+use acl_text::copy_bytes;
 use std::alloc::Global;
 use std::io;
 use std::io::Write;
@@ -91,24 +91,9 @@ impl Gathered {
         self.end = 0;
     }
 
-    /// Takes the bytes behind those that are gathered, or none where they are many or have no room. A line is taken
-    /// without a call.
+    /// Takes the bytes behind those that are gathered, or none where they have no room.
     #[inline(always)]
-    pub(crate) fn take_short(&mut self, bytes: &[u8]) -> bool
-        ensures { self.new ≡ (if result then self.old ++ bytes.now
-            else self.old) }
-    {
-        if bytes.len() > MOST_SHORT || bytes.len() > self.room.len() - self.end {
-            return false;
-        }
-        let end = self.end + bytes.len();
-        copy_short(&mut self.room[self.end..end], bytes);
-        self.end = end;
-        true
-    }
-
-    // Takes the bytes behind those that are gathered, or none where they have no room.
-    fn take(&mut self, bytes: &[u8]) -> bool
+    pub(crate) fn take(&mut self, bytes: &[u8]) -> bool
         ensures { self.new ≡ (if result then self.old ++ bytes.now
             else self.old) }
     {
@@ -116,7 +101,7 @@ impl Gathered {
             return false;
         }
         let end = self.end + bytes.len();
-        self.room[self.end..end].copy_from_slice(bytes);
+        copy_bytes(&mut self.room[self.end..end], bytes);
         self.end = end;
         true
     }

@@ -1,7 +1,6 @@
 //! The files, the streams and the clock of the machine.
 #![tactic(auto)]
 
-mod copying;
 mod disk;
 mod disk_trees;
 mod gathered;

@@ -1,6 +1,6 @@
 ghost use Rattle.std.specs.Prelude.{◌≡◌, ◌+◌, ◌≤◌, [], true, false, Some, IsTrue, take, length, if◌then◌else◌};
 
-use acl_text::{Out, PutFault};
+use acl_text::{Out, PutFault, copy_bytes};
 
 // So many bytes have room: more than a row of a device has, and few enough to be cleared in no time.
 const ROOM: usize = 192;
@@ -111,46 +111,4 @@ impl Out for LineText {
     ghost rest_same = { λ x. tt };
 
     ghost rest_goes_on = { λ x y z p q. tt };
-}
-
-// Writes the bytes over as many. As few as a word, an address or an indent has are written without a call.
-#[inline(always)]
-fn copy_bytes(target: &mut [u8], bytes: &[u8])
-    requires { length target.old ≡ length bytes.now }
-    ensures { target.new ≡ bytes.now }
-{
-    let count = bytes.len();
-    if count > 32 {
-        target.copy_from_slice(bytes);
-    } else if count > 16 {
-        copy_ends::<16>(target, bytes);
-    } else if count > 8 {
-        copy_ends::<8>(target, bytes);
-    } else if count > 3 {
-        copy_ends::<4>(target, bytes);
-    } else if count > 1 {
-        copy_ends::<2>(target, bytes);
-    } else if count > 0 {
-        copy_ends::<1>(target, bytes);
-    }
-}
-
-// Writes the first bytes, so many, and as many of the last, which may overlap.
-#[inline(always)]
-fn copy_ends<const PART: usize>(target: &mut [u8], bytes: &[u8])
-    requires same { length target.old ≡ length bytes.now }
-    requires within { PART ≤ length bytes.now }
-    requires covers { length bytes.now ≤ PART + PART }
-    ensures { target.new ≡ bytes.now }
-{
-    if let Some(first) = bytes.first_chunk::<PART>()
-        && let Some(last) = bytes.last_chunk::<PART>()
-    {
-        if let Some(place) = target.first_chunk_mut::<PART>() {
-            *place = *first;
-        }
-        if let Some(place) = target.last_chunk_mut::<PART>() {
-            *place = *last;
-        }
-    }
 }

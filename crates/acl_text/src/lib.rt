@@ -1,6 +1,7 @@
 //! Bytes, faults, numbers and addresses as text, and the trait of what takes text.
 #![tactic(auto)]
 
+mod copying;
 mod cursors;
 mod cuts;
 mod decimals;
@@ -33,6 +34,7 @@ mod wholes;
 mod words;
 
 pub use acl_packet::{read_number, read_u8, read_u16};
+pub use copying::copy_bytes;
 pub use cursors::Cursor;
 pub use cuts::{ahead, behind, contains_byte, split_at_byte};
 pub use decimals::put_number;

@@ -1,22 +1,18 @@
 ghost use Rattle.std.specs.Prelude.{◌≡◌, ◌≤◌, ◌+◌, length};
 
-/// So many bytes are few.
-pub(crate) const MOST_SHORT: usize = 128;
-
-/// Writes few bytes over as many, without a call.
+/// Writes the bytes over as many others. Few bytes, as words and lines have, are written without a call.
 #[inline(always)]
-pub(crate) fn copy_short(target: &mut [u8], bytes: &[u8])
-    requires same { length target.old ≡ length bytes.now }
-    requires few { length bytes.now ≤ 128 }
+pub fn copy_bytes(target: &mut [u8], bytes: &[u8])
+    requires { length target.old ≡ length bytes.now }
     ensures { target.new ≡ bytes.now }
 {
     let count = bytes.len();
-    if count > 32 {
-        if count > 64 {
-            copy_ends::<64>(target, bytes);
-        } else {
-            copy_ends::<32>(target, bytes);
-        }
+    if count > 128 {
+        target.copy_from_slice(bytes);
+    } else if count > 64 {
+        copy_ends::<64>(target, bytes);
+    } else if count > 32 {
+        copy_ends::<32>(target, bytes);
     } else if count > 16 {
         copy_ends::<16>(target, bytes);
     } else if count > 8 {
