@@ -107,7 +107,7 @@ pub(crate) fn front_of<F: Read>(
         if room == 0 {
             return Ok(bytes);
         }
-        match file.read(&mut piece[..room]) {
+        match read_once(file, &mut piece[..room]) {
             Ok(0) => return Ok(bytes),
             Ok(taken) => bytes.push_all(&piece[..taken])?,
             Err(error) if error.kind() == ErrorKind::Interrupted => {}
@@ -115,6 +115,15 @@ pub(crate) fn front_of<F: Read>(
         }
     }
     Err(TreeFault::Failed)
+}
+
+// Reads the next bytes into the piece. Where that was part of the loop above, clang 22 took it that a reading gives at
+// least one byte, and the end of a file was never found.
+#[inline(never)]
+fn read_once<F: Read>(file: &mut F, piece: &mut [u8]) -> io::Result<usize>
+    ensures { IfOk result (λ n. n ≤ length piece.old) }
+{
+    file.read(piece)
 }
 
 // What an error says of what was looked for: that it is not there, or that the call failed.

@@ -22,7 +22,8 @@ pub(crate) fn write_whole<W: Write>(writer: &mut W, bytes: &[u8]) -> io::Result<
     Ok(())
 }
 
-// One write, tried again where it is interrupted.
+// One write, tried again where it is interrupted. Apart from the loop above for the reason that `read_once` is.
+#[inline(never)]
 fn write_some<W: Write>(writer: &mut W, bytes: &[u8]) -> io::Result<usize>
     ensures bound { WritesAtMost result bytes.now }
     ensures ok { IfOk result (λ n. Appends (W.contents writer.old) (W.contents writer.new)
