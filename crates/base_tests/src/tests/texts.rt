@@ -2,10 +2,10 @@ ghost use Rattle.std.specs.Prelude.{◌≡◌, true};
 
 use acl_packet::{Family, Prefix};
 use acl_text::{
-    Bytes, Cursor, Items, Memory, Place, PutFault, Whole, ahead, behind, contains_byte, next_word,
-    prefix_front, put_address, put_number, put_pieces, put_prefix, put_wildcard, read_address,
-    read_number, read_ports, read_prefix, read_signed, read_spelled_prefix, skip_white,
-    split_at_byte,
+    Bytes, Cursor, Items, Memory, Place, PutFault, Whole, ahead, behind, contains_byte, copy_bytes,
+    next_word, prefix_front, put_address, put_number, put_pieces, put_prefix, put_wildcard,
+    read_address, read_number, read_ports, read_prefix, read_signed, read_spelled_prefix,
+    skip_white, split_at_byte,
 };
 use std::alloc::Global;
 
@@ -180,6 +180,27 @@ fn reads_fronts_of_texts(rt: HostRuntime) {
     assert!(rt; begins_with_prefix("2001:db8::1:2/64;", "2001:db8::1:2/64", ";"));
     assert!(rt; prefix_front(b"2001:db8::/129").is_none());
     assert!(rt; prefix_front(b"web").is_none());
+}
+
+// Whether the bytes are copied into room for as many, and nothing else.
+fn is_copied(bytes: &[u8]) -> bool {
+    let mut room = [b'-'; 200];
+    let count = bytes.len();
+    if count > room.len() {
+        return false;
+    }
+    copy_bytes(&mut room[..count], bytes);
+    &room[..count] == bytes && room[count..].iter().all(|byte| *byte == b'-')
+}
+
+static LETTERS: [u8; 160] =
+    *b"abcdefghijklmnopqrstuvwxyzabcdefghijklmnopqrstuvwxyzabcdefghijklmnopqrstuvwxyzabcdefghijklmnopqrstuvwxyzabcdefghijklmnopqrstuvwxyzabcdefghijklmnopqrstuvwxyzabcd";
+
+#[test]
+fn copies_few_bytes_and_many(rt: HostRuntime) {
+    for count in 0..LETTERS.len() {
+        assert!(rt; is_copied(&LETTERS[..count]), "{count}");
+    }
 }
 
 static SPELLED: [(Family, &str, Option<u128>); 9] = [
