@@ -11,7 +11,7 @@ ghost use Rattle.acl_load.specs.LoadedPolicies.{policy_at, policy_in};
 
 use acl_host::{ReadFault, Tree};
 use acl_policy::{Policy, parse};
-use acl_text::{Fault, Memory, Refusal, Rejection, Slip};
+use acl_text::{BoxedSlip, Fault, Memory, Refusal, Rejection};
 use acl_words::{Sources, gather, label};
 use std::alloc::Global;
 
@@ -34,9 +34,10 @@ pub fn label_at(sources: &Sources, file: u32) -> &[u8]
 
 /// The fault of a slip in the policy: its label is that of the file in which it stands, empty where no file has
 /// that number. It fails only where memory is wanted.
-pub fn policy_fault(alloc: Global, sources: &Sources, slip: Slip) -> Result<Fault, Memory>
+pub fn policy_fault(alloc: Global, sources: &Sources, slip: BoxedSlip) -> Result<Fault, Memory>
     ensures { IfOk result (λ fault. fault ≡ slip_fault sources.now.labels slip) }
 {
+    let slip = slip.into_inner();
     Fault::of_slip(alloc, label_at(sources, slip.place.file), slip)
 }
 

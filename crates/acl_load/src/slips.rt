@@ -2,13 +2,14 @@ ghost use Rattle.std.specs.Prelude.{◌≡◌, [], map, slice_index_or, IfOk};
 ghost use Rattle.std.specs.String.{string_bytes};
 ghost use Rattle.acl_text.specs.Refusals.{slip_fault};
 
-use acl_text::{Fault, Memory, Slip};
+use acl_text::{BoxedSlip, Fault, Memory};
 use std::alloc::Global;
 
 /// The fault of a slip: its label is the path of the file in which it stands.
-pub(crate) fn slip_fault(alloc: Global, paths: &[String], slip: Slip) -> Result<Fault, Memory>
+pub(crate) fn slip_fault(alloc: Global, paths: &[String], slip: BoxedSlip) -> Result<Fault, Memory>
     ensures { IfOk result (λ fault. fault ≡ slip_fault (map string_bytes paths.now) slip) }
 {
+    let slip = slip.into_inner();
     Fault::of_slip(alloc, path_at(paths, slip.place.file), slip)
 }
 

@@ -1,7 +1,7 @@
 ghost use Rattle.std.specs.Prelude.{◌≡◌, true, false, IfNone, IfOk, IfSome};
-ghost use Rattle.acl_text.specs.Names.{is_name, is_name_byte};
+ghost use Rattle.acl_text.specs.Names.{is_name};
 
-use acl_text::{Bytes, Memory, is_name};
+use acl_text::{Bytes, Memory, is_name, is_name_byte};
 use std::alloc::Global;
 use std::marker::Model;
 
@@ -20,16 +20,6 @@ impl Model for ShortName {
     ghost view = { λ t. take t.end t.bytes };
 
     ghost invariant = { λ t. t.end ≤ 30 };
-}
-
-// For each byte whether it may stand in a name.
-static NAME_BYTES: [u8; 256] =
-    *b"nnnnnnnnnnnnnnnnnnnnnnnnnnnnnnnnnnnnnnnnnnnnnynnyyyyyyyyyynnnnnnnyyyyyyyyyyyyyyyyyyyyyyyyyynnnnynyyyyyyyyyyyyyyyyyyyyyyyyyynnnnnnnnnnnnnnnnnnnnnnnnnnnnnnnnnnnnnnnnnnnnnnnnnnnnnnnnnnnnnnnnnnnnnnnnnnnnnnnnnnnnnnnnnnnnnnnnnnnnnnnnnnnnnnnnnnnnnnnnnnnnnnnnnnnnn";
-
-fn is_name_byte(byte: u8) -> bool
-    ensures { result ≡ is_name_byte byte }
-{
-    NAME_BYTES[usize::from(byte)] == b'y'
 }
 
 impl ShortName {

@@ -118,7 +118,7 @@ impl Table {
 
     /// Makes room for so many items, where there are none yet.
     pub fn make_room(&mut self, alloc: Global, items: usize) -> Result<(), Memory>
-        ensures { OnOk result (self.new ≡ self.old) }
+        ensures { self.new ≡ self.old }
     {
         if self.items.as_slice().is_empty() {
             self.items = Items::with_capacity(alloc, items)?;

@@ -1,7 +1,8 @@
 -- The walks over two lists side by side give the union, the intersection and the difference, and
 -- tell a subset.
 use Rattle.std.proofs.Common.{◌≡◌, ℕ, zero, suc, ◌+◌, ◌-◌, ◌<◌, ◌≤◌, min, max, Bool, true, false, not, ◌&&◌, ◌||◌, nat_le, nat_lt, List, [], ◌∷◌, ◌++◌, length, take, drop, slice_index_or, inl, inr, refl, ap, sym, ◌∙◌, arith}
-use Rattle.std.proofs.lemmas.Bool.{cases_lt, lt-ltb, le-ltb, lt-leb, le-leb, or_from}
+use Rattle.std.proofs.lemmas.Bool.{cases_lt, lt-ltb, le-ltb, lt-leb, le-leb, and_left, or_from}
+use Rattle.std.proofs.Math.Bool.{or-false}
 use Rattle.std.proofs.lemmas.Bool.Decides.{nat_tests}
 use Rattle.std.proofs.lemmas.List.Folds.{list_any-append}
 use Rattle.std.proofs.Math.Seq.{take-length}
@@ -395,3 +396,20 @@ found-holds top x rs i found n l point e =
     e ∙ ap (λ z. begins_by x z) (rest ∙ sym (passed-drop x rs i l
     (λ k z m. point.0 k z (omega arith) m) (λ k z m o. point.1 k z m o)))
     ∙ begins_covers 0 top rs x x n (omega arith)
+
+-- All numbers up to one
+
+none_later : (floor top high : ℕ) (rs : List Range) → 0 < floor → IsNormal floor top rs → covers rs 0 high ≡ false
+none_later floor top high [] above n = refl
+none_later floor top high (r ∷ rs) above n =
+    or_from (nat_le r.low 0 && nat_le high r.high) (covers rs 0 high)
+    (and_left (nat_le r.low 0) (nat_le high r.high) (lt-leb r.low 0 (omega arith)))
+    (none_later (r.high + 2) top high rs (omega arith) n.3)
+
+pub first_tells : (top high : ℕ) (rs : List Range) (d : Range) → 0 < length rs → IsNormal 0 top rs
+    → (nat_le (slice_index_or rs 0 d).low 0 && nat_le high (slice_index_or rs 0 d).high) ≡ covers rs 0 high
+first_tells top high [] d some n = absurd (omega arith)
+first_tells top high (r ∷ rs) d some n =
+    sym (or-false (nat_le r.low 0 && nat_le high r.high))
+    ∙ ap (λ b. (nat_le r.low 0 && nat_le high r.high) || b)
+    (sym (none_later (r.high + 2) top high rs (omega arith) n.3))

@@ -231,7 +231,7 @@ impl RangeSet {
             ↔ ((x : ℕ) → x ≤ self.now.top → IsTrue (holds self.now.ranges x)) }
         ensures computed { result ≡ is_all self.now }
     {
-        sweeps::covers(self.list.as_slice(), 0, self.limit)
+        sweeps::has_all_to(self.list.as_slice(), self.limit)
     }
 
     /// The ranges of the set, in rising order, disjoint and not touching.

@@ -185,9 +185,12 @@ pub fn all_covered(ranges: &[Range], others: &[Range]) -> bool
     true
 }
 
-/// Whether one range has all numbers from `low` to `high`.
-pub fn covers(ranges: &[Range], low: u128, high: u128) -> bool
-    ensures { result ≡ covers ranges.now low high }
+/// Whether a list in normal form has all numbers up to this one. Its first range then has them.
+pub fn has_all_to(ranges: &[Range], high: u128) -> bool
+    ensures { (top : ℕ) → IsNormal 0 top ranges.now → result ≡ covers ranges.now 0 high }
 {
-    ranges.iter().any(|r| r.low <= low && high <= r.high)
+    match ranges {
+        [first, ..] => first.low == 0 && high <= first.high,
+        [] => false,
+    }
 }

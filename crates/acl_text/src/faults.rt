@@ -1,9 +1,10 @@
-ghost use Rattle.std.specs.Prelude.{◌≡◌};
+ghost use Rattle.std.specs.Prelude.{◌≡◌, IfOk};
 ghost use Rattle.acl_text.specs.declared.faults.Refusal.TheVariants as refusals;
 ghost use Rattle.acl_text.specs.declared.faults.Rejection.TheVariants as rejections;
 
 use crate::texts::{Bytes, Memory};
-use std::alloc::{AllocError, AllocFailed};
+use std::alloc::{AllocError, AllocFailed, Global};
+use std::marker::Model;
 
 /// A line of a file of the run: the file by its number, the line from 1. Line 0 is no line.
 #[derive(Clone, Copy, PartialEq, Eq)]
@@ -107,10 +108,51 @@ pub struct Slip {
     pub word: Bytes,
 }
 
+/// A slip in memory of its own. A contract sees the slip.
+///
+/// What a reader answers goes through many calls, mostly without a slip, so that it has to be small.
+#[derive(Drop)]
+pub struct BoxedSlip {
+    kept: Box<Slip>,
+}
+
+impl Model for BoxedSlip {
+    ghost use Rattle.acl_text.specs.declared.faults.Slip.{Slip};
+
+    ghost Value = { Slip };
+
+    ghost view = { λ b. b.kept.value };
+}
+
+impl BoxedSlip {
+    /// The slip, put into memory of its own.
+    pub fn new(alloc: Global, slip: Slip) -> Result<BoxedSlip, Memory>
+        ensures { IfOk result (λ b. b ≡ slip) }
+    {
+        Ok(BoxedSlip {
+            kept: Box::new(alloc, slip)?,
+        })
+    }
+
+    pub fn as_slip(&self) -> &Slip
+        ensures { result.now ≡ self.now }
+    {
+        self.kept.as_ref()
+    }
+
+    /// The slip out of its memory.
+    pub fn into_inner(self) -> Slip
+        ensures { result ≡ self }
+    {
+        let BoxedSlip { kept } = self;
+        Box::into_inner(kept)
+    }
+}
+
 /// Why a reader gave no value: the input has a slip, or memory was wanted.
 #[derive(Drop)]
 pub enum Refusal {
-    Slip(Slip),
+    Slip(BoxedSlip),
     Memory,
 }
 

@@ -38,14 +38,14 @@ pub use copying::copy_bytes;
 pub use cursors::Cursor;
 pub use cuts::{ahead, behind, contains_byte, split_at_byte};
 pub use decimals::put_number;
-pub use faults::{Code, Fault, Place, Refusal, Rejection, Slip};
+pub use faults::{BoxedSlip, Code, Fault, Place, Refusal, Rejection, Slip};
 pub use file_lines::Line;
 pub use items::Items;
 pub use laws::{
     addresses_are_read_again, longest_runs_are_found, numbers_are_read_again,
     prefixes_are_read_again, texts_have_one_number, texts_have_one_prefix,
 };
-pub use names::{is_digit, is_filter_name, is_letter, is_name, is_safe_text};
+pub use names::{is_digit, is_filter_name, is_letter, is_name, is_name_byte, is_safe_text};
 pub use notes::note;
 pub use output::{Out, PutFault};
 pub use pieces::put_pieces;

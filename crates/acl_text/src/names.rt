@@ -44,10 +44,15 @@ pub fn is_digit(byte: u8) -> bool
     48 <= byte && byte <= 57
 }
 
-fn is_name_byte(byte: u8) -> bool
+// For each byte whether it may stand in a name.
+static NAME_BYTES: [u8; 256] =
+    *b"nnnnnnnnnnnnnnnnnnnnnnnnnnnnnnnnnnnnnnnnnnnnnynnyyyyyyyyyynnnnnnnyyyyyyyyyyyyyyyyyyyyyyyyyynnnnynyyyyyyyyyyyyyyyyyyyyyyyyyynnnnnnnnnnnnnnnnnnnnnnnnnnnnnnnnnnnnnnnnnnnnnnnnnnnnnnnnnnnnnnnnnnnnnnnnnnnnnnnnnnnnnnnnnnnnnnnnnnnnnnnnnnnnnnnnnnnnnnnnnnnnnnnnnnnnn";
+
+/// Whether the byte may stand in a name: a letter of ASCII, a digit, `-` or `_`.
+pub fn is_name_byte(byte: u8) -> bool
     ensures { result ≡ is_name_byte byte }
 {
-    is_letter(byte) || is_digit(byte) || byte == b'-' || byte == b'_'
+    NAME_BYTES[usize::from(byte)] == b'y'
 }
 
 pub(crate) fn is_safe_byte(byte: u8) -> bool

@@ -1,7 +1,7 @@
 ghost use Rattle.std.specs.Prelude.{◌≡◌, IfOk};
 ghost use Rattle.acl_text.specs.Refusals.{IsRefusalBy, fault, file_fault, slip};
 
-use crate::faults::{Code, Fault, Place, Refusal, Slip};
+use crate::faults::{BoxedSlip, Code, Fault, Place, Refusal, Slip};
 use crate::texts::{Bytes, Memory};
 use std::alloc::Global;
 
@@ -19,12 +19,20 @@ impl Slip {
 }
 
 impl Refusal {
-    /// The refusal by the slip of the code at the place, or for memory where there is none for its word.
+    // The refusal by this slip.
+    fn by(alloc: Global, code: Code, place: Place, word: &[u8]) -> Result<Refusal, Memory>
+        ensures { IfOk result (IsRefusalBy (slip code place word.now)) }
+    {
+        let slip = Slip::new(alloc, code, place, word)?;
+        Ok(Refusal::Slip(BoxedSlip::new(alloc, slip)?))
+    }
+
+    /// The refusal by the slip of the code at the place, or for memory where there is none for the slip.
     pub fn at(alloc: Global, code: Code, place: Place, word: &[u8]) -> Refusal
         ensures { IsRefusalBy (slip code place word.now) result }
     {
-        match Slip::new(alloc, code, place, word) {
-            Ok(slip) => Refusal::Slip(slip),
+        match Refusal::by(alloc, code, place, word) {
+            Ok(refusal) => refusal,
             Err(Memory) => Refusal::Memory,
         }
     }

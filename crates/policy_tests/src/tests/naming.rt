@@ -199,6 +199,7 @@ static NAMES: [Case; 8] = [
 fn is_slip<T>(answer: &Result<T, Refusal>, file: u32, code: Code, line: u32, word: &[u8]) -> bool {
     match answer {
         Err(Refusal::Slip(slip)) => {
+            let slip = slip.as_slip();
             slip.code == code && slip.place == Place { file, line } && slip.word.as_slice() == word
         }
         _ => false,

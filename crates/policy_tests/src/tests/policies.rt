@@ -2,7 +2,7 @@ use crate::tests::files::{text, tree_of};
 use crate::tests::reading::parsed;
 use acl_host::Day;
 use acl_policy::{Policy, RawTerm, Target, WordList, put_target};
-use acl_text::{Memory, Refusal, Slip, Whole};
+use acl_text::{BoxedSlip, Memory, Refusal, Whole};
 use std::alloc::Global;
 
 fn add_words(all: &mut String, words: &WordList) -> Result<(), Memory> {
@@ -96,7 +96,8 @@ fn shown_policy(alloc: Global, policy: &Policy) -> Result<String, Memory> {
 }
 
 // A slip by its file, line, code and word.
-fn shown_slip(alloc: Global, slip: &Slip) -> Result<String, Memory> {
+fn shown_slip(alloc: Global, slip: &BoxedSlip) -> Result<String, Memory> {
+    let slip = slip.as_slip();
     let word = text(slip.word.as_slice());
     let place = slip.place;
     Ok(format!(in alloc; "{}:{} {:?} {word}", place.file, place.line, slip.code)?)

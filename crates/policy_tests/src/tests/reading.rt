@@ -7,7 +7,7 @@ use acl_host::{Day, Tree};
 use acl_naming::{Base, Checked, check_base, read_networks, read_services};
 use acl_policy::{Policy, RawTerm, gather, parse};
 use acl_terms::{Term, resolve};
-use acl_text::{Items, Memory, Refusal, Slip};
+use acl_text::{BoxedSlip, Items, Memory, Refusal};
 use std::alloc::Global;
 
 const NETWORKS: &[u8] = b"WEB = 192.0.2.10
@@ -75,7 +75,8 @@ pub(crate) fn terms_of(
 pub(crate) const TODAY: Day = Day { number: 20468 };
 
 // The slip by its line, code and word.
-pub(crate) fn shown_slip(alloc: Global, slip: &Slip) -> Result<String, Memory> {
+pub(crate) fn shown_slip(alloc: Global, slip: &BoxedSlip) -> Result<String, Memory> {
+    let slip = slip.as_slip();
     let word = text(slip.word.as_slice());
     Ok(format!(in alloc; "{} {:?} {word}", slip.place.line, slip.code)?)
 }

@@ -1,6 +1,6 @@
-use Rattle.std.proofs.Common.{◌≡◌, List, ap, sym, ◌∙◌, arith}
+use Rattle.std.proofs.Common.{◌≡◌, List, ap, sym, subst, ◌∙◌, arith}
 use Rattle.acl_sets.specs.declared.sets.Range.{Range}
-use Rattle.acl_sets.specs.Ranges.{holds, Numbers}
+use Rattle.acl_sets.specs.Ranges.{holds, IsNormal, Numbers}
 use Rattle.acl_sets.specs.ComputableSets.{covers}
 use Rattle.acl_sets.proofs.ComputableSetLaws.{covers-holds, holds-covers}
 use Rattle.acl_sets.proofs.sets.RangeSet.is_all.Goals as goal
@@ -11,9 +11,9 @@ returns c =
     (λ (s : Numbers). s.ranges) c.self.view_is in
     let top : c.self.inside.limit ≡ c.args.self.now.top = ap
     (λ (s : Numbers). s.top) c.self.view_is in
-    let e : c.covers.result ≡ covers c.self.inside.list 0 c.self.inside.limit =
-    c.covers.ensures ∙ ap (λ
-    (z : List Range). covers z 0 c.self.inside.limit) c.as_slice.ensures in
+    let e : c.has_all_to.result ≡ covers c.self.inside.list 0 c.self.inside.limit =
+    c.has_all_to.ensures c.self.inside.limit (subst (λ (z : List Range). IsNormal 0 c.self.inside.limit z) (sym c.as_slice.ensures) c.self.invariant)
+    ∙ ap (λ (z : List Range). covers z 0 c.self.inside.limit) c.as_slice.ensures in
     record {
       exact = (
         λ h x l. sym (ap (λ (z : List Range). holds z x) list)
