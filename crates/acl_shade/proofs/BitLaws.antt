@@ -56,13 +56,17 @@ set-sets words start bit within =
 -- ---- bits are kept
 
 pub both-kept : (start other width : ℕ) (old new others : List ℕ)
-    → ((k : ℕ) → k < width → get_or new (start + k) 0 ≡ bit_and (get_or old (start + k) 0) (get_or others (other + k) 0))
+    → ((k : ℕ) → k < width → (get_or new (start + k) 0 ≡ bit_and (get_or old (start + k) 0) (get_or others (other + k) 0))
+    ⊎ (get_or new (start + k) 0 ≡ get_or old (start + k) 0))
     → (e : ℕ) → e < 64 * width → Has old (64 * start + e) → Has others (64 * other + e) → Has new (64 * start + e)
 both-kept start other width old new others each e within h i =
     let a : bit_at (get_or old (start + e / 64) 0) (e % 64) ≡ 1 = from-row old start e h in
     let b : bit_at (get_or others (other + e / 64) 0) (e % 64) ≡ 1 = from-row others other e i in
-    to-row new start e (ap (λ x. bit_at x (e % 64)) (each (e / 64) (omega arith))
-    ∙ bit_at_and (get_or old (start + e / 64) 0) (get_or others (other + e / 64) 0) (e % 64) ∙ rw (a, b) refl)
+    to-row new start e (elim (each (e / 64) (omega arith)) [
+      | inl both ↦ ap (λ x. bit_at x (e % 64)) both
+          ∙ bit_at_and (get_or old (start + e / 64) 0) (get_or others (other + e / 64) 0) (e % 64) ∙ rw (a, b) refl
+      | inr same ↦ ap (λ x. bit_at x (e % 64)) same ∙ a
+    ])
 
 pub beside-kept : (start width : ℕ) (old new : List ℕ)
     → ((k : ℕ) → (k < start) ⊎ (start + width ≤ k) → get_or new k 0 ≡ get_or old k 0)

@@ -13,16 +13,19 @@ pub(crate) fn insert(words: &mut [u64], width: usize, row: usize, bit: usize)
     words[row * width + bit / 64] |= 1 << (bit % 64);
 }
 
-/// Keeps of the row the bits that a row of others has too, and says whether a bit is left.
+/// Keeps of the first words of the row, so many as `count`, the bits that a row of others has too, and says whether one
+/// is left there.
 pub(crate) fn keep(
     words: &mut [u64],
     width: usize,
     row: usize,
+    count: usize,
     others: &[u64],
     other: usize,
 ) -> bool
     requires words { row * width + width ≤ length words.old }
     requires others { other * width + width ≤ length others.now }
+    requires count { count ≤ width }
     ensures beside { KeepsBeside row width words.old words.new }
     ensures keeps { (e : ℕ) → e < 64 * width → RowHas width words.old row e
         → RowHas width others.now other e → RowHas width words.new row e }
@@ -30,7 +33,7 @@ pub(crate) fn keep(
     let start = row * width;
     let other_start = other * width;
     let mut left = 0;
-    for k in 0..width {
+    for k in 0..count {
         let both = words[start + k] & others[other_start + k];
         words[start + k] = both;
         left |= both;

@@ -57,10 +57,11 @@ impl Marks {
         at
     }
 
-    // Keeps of what is left for the term the terms that have the number at the place, and says whether any is left. A
-    // number that all terms before this one have tells nothing.
+    // Keeps of what is left for the term the earlier terms that have the number at the place, and says whether any is
+    // left. A number that all of them have tells nothing. Their bits stand before the term's own.
     fn keep_at(&self, at: usize, term: usize, left: &mut [u64]) -> bool
         requires are { AreMarks self.now }
+        requires fits { term < 64 * self.now.width }
         requires at { at < length self.now.points.items }
         requires row { term * self.now.width + self.now.width ≤ length left.old }
         ensures beside { KeepsBeside term self.now.width left.old left.new }
@@ -71,13 +72,14 @@ impl Marks {
         if self.counts[at] == term {
             return true;
         }
-        keep(left, self.width, term, &self.rows, at)
+        keep(left, self.width, term, term / 64 + 1, &self.rows, at)
     }
 
     // Where it is asked, keeps of what is left for the term the terms that have the numbers from this place on, up to
     // the high one. It says whether to go on asking.
     fn keep(&self, asks: bool, from: usize, high: u128, term: usize, left: &mut [u64]) -> bool
         requires are { AreMarks self.now }
+        requires fits { term < 64 * self.now.width }
         requires row { term * self.now.width + self.now.width ≤ length left.old }
         ensures beside { KeepsBeside term self.now.width left.old left.new }
         ensures asked { result ≡ true → asks ≡ true }

@@ -54,9 +54,21 @@ fn sift(
     Ok(())
 }
 
+// Whether no bit of an earlier term is left in the row of the term at the place.
+fn is_row_empty(row: &[u64], place: usize) -> bool {
+    row.iter().take(place / 64 + 1).all(|word| *word == 0)
+}
+
 // The first term has no earlier one, so its row tells nothing.
-fn is_none_left(left: &[u64], width: usize) -> bool {
-    left.iter().skip(width).all(|word| *word == 0)
+fn is_none_left(left: &[u64], width: usize) -> bool
+    requires { 0 < width }
+{
+    for (place, row) in left.chunks(width).enumerate() {
+        if place > 0 && !is_row_empty(row, place) {
+            return false;
+        }
+    }
+    true
 }
 
 // Takes from what is left for each term earlier ones that do not shade it. A few terms are not sifted.
