@@ -86,7 +86,7 @@ pub trait CombinationForm: RowForm<Combination> {
 
 /// Puts the line of each combination of the rule, the protocol outermost. Where the combinations
 /// differ in protocols and addresses alone, each part of a line is put together once for many lines.
-pub fn put_combinations_by_halves<F: CombinationForm, O: Out>(
+pub fn put_combinations_by_parts<F: CombinationForm, O: Out>(
     rule: &Rule,
     form: &F,
     out: &mut O,

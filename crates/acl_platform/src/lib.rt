@@ -28,7 +28,7 @@ mod writing;
 pub use address_pairs::{AddressForm, put_address_pairs};
 pub use choices::{Choices, NumberChoices, RangeChoices};
 pub use combinations::{
-    Combination, CombinationForm, count_combinations, put_combinations, put_combinations_by_halves,
+    Combination, CombinationForm, count_combinations, put_combinations, put_combinations_by_parts,
 };
 pub use elements::range_elements;
 pub use family_texts::FamilyTexts;

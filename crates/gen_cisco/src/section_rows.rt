@@ -24,7 +24,7 @@ use crate::counts::{has_rule, is_of};
 use acl_packet::{Families, Family, Prefix, Verdict};
 use acl_platform::{
     Combination, CombinationForm, FamilyTexts, Filter, RemarkForm, RemarkRows, Rule, RuleForm,
-    RuleTexts, SectionForm, Test, put_combinations_by_halves,
+    RuleTexts, SectionForm, Test, put_combinations_by_parts,
 };
 use acl_rows::{OneWord, Piece, Row, RowForm, Rows, Words};
 use acl_text::{Out, PutFault};
@@ -217,7 +217,7 @@ impl<'a> Rows for Entries<'a> {
         (combinations e.rule.now) };
 
     fn put_rows<O: Out>(&self, out: &mut O) -> Result<(), PutFault> {
-        put_combinations_by_halves(self.rule, &OfRule { rule: self.rule }, out)
+        put_combinations_by_parts(self.rule, &OfRule { rule: self.rule }, out)
     }
 }
 
