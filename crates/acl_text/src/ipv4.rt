@@ -2,7 +2,6 @@ ghost use Rattle.std.specs.Prelude.{◌≡◌, ◌+◌, ◌^◌, ◌<◌, ◌≤
 ghost use Rattle.acl_text.specs.Ipv4.{ipv4_in, ipv4_text};
 
 use crate::cuts::split_at_byte;
-use crate::ipv4_text::DottedText;
 use crate::short::ShortText;
 use acl_packet::read_number;
 use itoa::Buffer;
@@ -41,7 +40,7 @@ pub(crate) fn push_ipv4(text: &mut ShortText, address: u128)
     ensures len { length text.new ≤ length text.old + 44 }
 {
     if address < 4_294_967_296 {
-        text.push_all(DottedText::new(address as u32).as_slice());
+        text.push_dotted(address as u32);
     } else {
         push_wide(text, address);
     }

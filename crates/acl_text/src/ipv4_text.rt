@@ -1,80 +1,56 @@
-ghost use Rattle.std.specs.Prelude.{◌≡◌, List, ℕ, [], ◌∷◌, ◌++◌, ◌+◌, ◌<◌, ◌≤◌, take, length, decimal};
+ghost use Rattle.std.specs.Prelude.{◌≡◌, [], ◌∷◌, ◌++◌, ◌+◌, ◌≤◌, take, length, decimal};
 ghost use Rattle.acl_text.specs.Ipv4.{ipv4_text};
 
+use crate::copying::copy_bytes;
 use crate::octets::{octet_bytes, octet_digits};
-use std::marker::Model;
 
-/// The text of an IPv4 address and of what may stand behind it, at most 32 bytes that take no memory.
-/// A contract sees the list of its bytes.
-#[derive(Drop)]
-pub(crate) struct DottedText {
-    bytes: [u8; 32],
-    end: usize,
+// A text of at most 64 bytes is written into an array from a place on, and each call gives the place behind it. The
+// place is no field of a struct, so that it stays in a register while the bytes before it are written.
+
+/// Writes the text of the address.
+#[inline]
+#[tactic(auto, unfolding(crate::specs::Ipv4::ipv4_text))]
+pub(crate) fn write_ipv4(text: &mut [u8; 64], at: usize, address: u32) -> usize
+    requires { at + 16 ≤ 64 }
+    ensures items { take result text.new ≡ take at text.old ++ ipv4_text address }
+    ensures len { result ≤ at + 15 }
+{
+    let second = write_pointed(text, at, (address >> 24) as u8);
+    let third = write_pointed(text, second, ((address >> 16) % 256) as u8);
+    let fourth = write_pointed(text, third, ((address >> 8) % 256) as u8);
+    write_octet(text, fourth, (address % 256) as u8)
 }
 
-impl Model for DottedText {
-    ghost Value = { List ℕ };
-
-    ghost view = { λ t. take t.end t.bytes };
-
-    ghost invariant = { λ t. t.end ≤ 32 };
+/// Writes the number in decimal.
+#[inline]
+pub(crate) fn write_octet(text: &mut [u8; 64], at: usize, n: u8) -> usize
+    requires { at + 4 ≤ 64 }
+    ensures items { take result text.new ≡ take at text.old ++ decimal n }
+    ensures len { result ≤ at + 3 }
+{
+    text[at..at + 4].copy_from_slice(octet_bytes(n));
+    at + octet_digits(n)
 }
 
-impl DottedText {
-    /// The text of the address.
-    #[inline]
-    #[tactic(auto, unfolding(crate::specs::Ipv4::ipv4_text))]
-    pub(crate) fn new(address: u32) -> DottedText
-        ensures items { result ≡ ipv4_text address }
-        ensures len { length result ≤ 15 }
-    {
-        let mut text = DottedText {
-            bytes: [0; 32],
-            end: 0,
-        };
-        text.push_pointed((address >> 24) as u8);
-        text.push_pointed(((address >> 16) % 256) as u8);
-        text.push_pointed(((address >> 8) % 256) as u8);
-        text.push_octet((address % 256) as u8);
-        text
-    }
+// Writes the number in decimal, and a point.
+#[inline]
+fn write_pointed(text: &mut [u8; 64], at: usize, n: u8) -> usize
+    requires { at + 4 ≤ 64 }
+    ensures items { take result text.new ≡ take at text.old ++ (decimal n ++ 46 ∷ []) }
+    ensures len { result ≤ at + 4 }
+{
+    text[at..at + 4].copy_from_slice(octet_bytes(n));
+    at + (octet_digits(n) + 1)
+}
 
-    #[inline]
-    pub(crate) fn as_slice(&self) -> &[u8]
-        ensures { result.now ≡ self.now }
-    {
-        &self.bytes[..self.end]
-    }
-
-    #[inline]
-    pub(crate) fn push(&mut self, byte: u8)
-        requires { length self.old < 32 }
-        ensures items { self.new ≡ self.old ++ byte ∷ [] }
-        ensures len { length self.new ≡ length self.old + 1 }
-    {
-        self.bytes[self.end] = byte;
-        self.end += 1;
-    }
-
-    /// Adds the number in decimal.
-    #[inline]
-    pub(crate) fn push_octet(&mut self, n: u8)
-        requires { length self.old + 4 ≤ 32 }
-        ensures items { self.new ≡ self.old ++ decimal n }
-        ensures len { length self.new ≤ length self.old + 3 }
-    {
-        self.bytes[self.end..self.end + 4].copy_from_slice(octet_bytes(n));
-        self.end += octet_digits(n);
-    }
-
-    /// Adds the number in decimal, and a point.
-    #[inline]
-    fn push_pointed(&mut self, n: u8)
-        requires { length self.old + 4 ≤ 32 }
-        ensures items { self.new ≡ self.old ++ (decimal n ++ 46 ∷ []) }
-        ensures len { length self.new ≤ length self.old + 4 }
-    {
-        self.bytes[self.end..self.end + 4].copy_from_slice(octet_bytes(n));
-        self.end += octet_digits(n) + 1;
-    }
+/// Writes the bytes.
+#[inline]
+pub(crate) fn write_bytes(text: &mut [u8; 64], at: usize, bytes: &[u8]) -> usize
+    requires { at + length bytes.now ≤ 64 }
+    ensures items { take result text.new ≡ take at text.old ++ bytes.now }
+    ensures len { result ≡ at + length bytes.now }
+{
+    let end = at + bytes.len();
+    copy_bytes(&mut text[at..end], bytes);
+    end
 }

@@ -52,7 +52,8 @@ pub use pieces::put_pieces;
 pub use port_ranges::read_ports;
 pub use prefix_fronts::prefix_front;
 pub use prefixes::{
-    put_address, put_prefix, put_wildcard, read_address, read_prefix, read_spelled_prefix,
+    put_address, put_prefix, put_prefix_between, put_wildcard, read_address, read_prefix,
+    read_spelled_prefix,
 };
 pub use seen_names::SeenNames;
 pub use signed_numbers::read_signed;

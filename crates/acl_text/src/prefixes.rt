@@ -1,4 +1,4 @@
-ghost use Rattle.std.specs.Prelude.{◌≡◌, ℕ, ◌+◌, ◌-◌, ◌^◌, ◌<◌, ◌≤◌, ◌∷◌, ◌++◌, decimal, length, IsTrue, IfSome, IfNone, bytes_eq};
+ghost use Rattle.std.specs.Prelude.{◌≡◌, ℕ, ◌+◌, ◌-◌, ◌^◌, ◌<◌, ◌≤◌, ◌∷◌, ◌++◌, decimal, length, take, IsTrue, IfSome, IfNone, bytes_eq};
 ghost use Rattle.acl_packet.specs.declared.addresses.Prefix.{Prefix as PrefixData};
 ghost use Rattle.acl_packet.specs.Addresses.{width_of, IsPrefix};
 ghost use Rattle.acl_text.specs.Puts.{Puts};
@@ -7,10 +7,11 @@ ghost use Rattle.acl_text.specs.Ipv4.{ipv4_text};
 
 use crate::cuts::{contains_byte, split_at_byte};
 use crate::ipv4::{push_ipv4, read_ipv4};
-use crate::ipv4_text::DottedText;
+use crate::ipv4_text::{write_bytes, write_ipv4, write_octet};
 use crate::ipv6::read_ipv6;
 use crate::ipv6_text::push_ipv6;
 use crate::output::{Out, PutFault};
+use crate::pieces::put_pieces;
 use crate::prefix_fronts::read_at_once;
 use crate::short::ShortText;
 use acl_packet::{Family, Prefix, read_number};
@@ -202,8 +203,9 @@ fn put_dotted<O: Out>(out: &mut O, address: u32) -> Result<(), PutFault>
     requires { IsTrue (O.is_open out.old) }
     ensures { Puts O.Out out.old out.new (ipv4_text address) result }
 {
-    let text = DottedText::new(address);
-    out.put(text.as_slice())
+    let mut text = [0; 64];
+    let end = write_ipv4(&mut text, 0, address);
+    out.put(&text[..end])
 }
 
 fn put_long_address<O: Out>(out: &mut O, family: Family, address: u128) -> Result<(), PutFault>
@@ -216,36 +218,87 @@ fn put_long_address<O: Out>(out: &mut O, family: Family, address: u128) -> Resul
 }
 
 /// Puts the text of the prefix: its first address, `/` and its length.
-#[tactic(auto, unfolding(crate::specs::AddressTexts::prefix_text))]
 pub fn put_prefix<O: Out>(out: &mut O, prefix: &Prefix) -> Result<(), PutFault>
     requires { IsTrue (O.is_open out.old) }
     ensures { Puts O.Out out.old out.new (prefix_text prefix.now) result }
 {
-    if prefix.family == Family::V4 && prefix.first <= IPV4_TOP {
-        put_dotted_prefix(out, prefix.first as u32, prefix.len)
+    put_prefix_between(out, &[], prefix, &[])
+}
+
+/// Puts the text of the prefix between bytes in front of it and behind it, by one put where it is of IPv4, and these
+/// are few.
+#[inline]
+#[tactic(auto, unfolding(crate::specs::AddressTexts::prefix_text))]
+pub fn put_prefix_between<O: Out>(
+    out: &mut O,
+    front: &[u8],
+    prefix: &Prefix,
+    back: &[u8],
+) -> Result<(), PutFault>
+    requires { IsTrue (O.is_open out.old) }
+    ensures { Puts O.Out out.old out.new (front.now ++ (prefix_text prefix.now ++ back.now)) result }
+{
+    let is_short = front.len() <= 32 && back.len() <= 8;
+    if is_short && prefix.family == Family::V4 && prefix.first <= IPV4_TOP {
+        let first = prefix.first as u32;
+        put_dotted_between(out, front, first, prefix.len, back)
     } else {
-        put_long_prefix(out, prefix)
+        put_long_between(out, front, prefix, back)
     }
 }
 
 #[inline]
-fn put_dotted_prefix<O: Out>(out: &mut O, first: u32, len: u8) -> Result<(), PutFault>
-    requires { IsTrue (O.is_open out.old) }
-    ensures { Puts O.Out out.old out.new (ipv4_text first ++ 47 ∷ decimal len) result }
+fn put_dotted_between<O: Out>(
+    out: &mut O,
+    front: &[u8],
+    first: u32,
+    len: u8,
+    back: &[u8],
+) -> Result<(), PutFault>
+    requires open { IsTrue (O.is_open out.old) }
+    requires front_fits { length front.now ≤ 32 }
+    requires back_fits { length back.now ≤ 8 }
+    ensures { Puts O.Out out.old out.new
+        (front.now ++ ((ipv4_text first ++ 47 ∷ decimal len) ++ back.now)) result }
 {
-    let mut text = DottedText::new(first);
-    text.push(b'/');
-    text.push_octet(len);
-    out.put(text.as_slice())
+    let mut text = [0; 64];
+    let end = write_dotted_between(&mut text, front, first, len, back);
+    out.put(&text[..end])
 }
 
-fn put_long_prefix<O: Out>(out: &mut O, prefix: &Prefix) -> Result<(), PutFault>
+#[inline]
+fn write_dotted_between(
+    text: &mut [u8; 64],
+    front: &[u8],
+    first: u32,
+    len: u8,
+    back: &[u8],
+) -> usize
+    requires front_fits { length front.now ≤ 32 }
+    requires back_fits { length back.now ≤ 8 }
+    ensures items { take result text.new
+        ≡ front.now ++ ((ipv4_text first ++ 47 ∷ decimal len) ++ back.now) }
+    ensures len { result ≤ 64 }
+{
+    let start = write_bytes(text, 0, front);
+    let end = write_ipv4(text, start, first);
+    let slash = write_bytes(text, end, b"/");
+    let length = write_octet(text, slash, len);
+    write_bytes(text, length, back)
+}
+
+fn put_long_between<O: Out>(
+    out: &mut O,
+    front: &[u8],
+    prefix: &Prefix,
+    back: &[u8],
+) -> Result<(), PutFault>
     requires { IsTrue (O.is_open out.old) }
-    ensures { Puts O.Out out.old out.new (prefix_text prefix.now) result }
+    ensures { Puts O.Out out.old out.new (front.now ++ (prefix_text prefix.now ++ back.now)) result }
 {
     let mut text = ShortText::new();
     push_prefix(&mut text, prefix);
-    out.put(text.as_slice())
+    put_pieces(out, &[front, text.as_slice(), back])
 }
 
 /// Puts the bits behind the length of an IPv4 prefix as an address: 255.255.255.255 for length 0, and 0.0.0.0

@@ -1,6 +1,7 @@
 ghost use Rattle.std.specs.Prelude.{◌≡◌, List, ℕ, [], ◌∷◌, ◌++◌, ◌+◌, ◌<◌, ◌≤◌, take, length, decimal};
+ghost use Rattle.acl_text.specs.Ipv4.{ipv4_text};
 
-use crate::octets::{octet_bytes, octet_digits};
+use crate::ipv4_text::{write_ipv4, write_octet};
 use std::marker::Model;
 
 /// A text of at most 64 bytes that takes no memory. A contract sees the list of its bytes.
@@ -59,7 +60,15 @@ impl ShortText {
         ensures items { self.new ≡ self.old ++ decimal n }
         ensures len { length self.new ≤ length self.old + 3 }
     {
-        self.bytes[self.end..self.end + 4].copy_from_slice(octet_bytes(n));
-        self.end += octet_digits(n);
+        self.end = write_octet(&mut self.bytes, self.end, n);
+    }
+
+    /// Adds the text of the IPv4 address.
+    pub(crate) fn push_dotted(&mut self, address: u32)
+        requires { length self.old + 16 ≤ 64 }
+        ensures items { self.new ≡ self.old ++ ipv4_text address }
+        ensures len { length self.new ≤ length self.old + 15 }
+    {
+        self.end = write_ipv4(&mut self.bytes, self.end, address);
     }
 }
