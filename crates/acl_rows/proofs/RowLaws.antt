@@ -37,20 +37,10 @@ pub row_parts : (n : ℕ) (w : List ℕ) (ws : List (List ℕ)) → ((replicate 
 unfolding row_text
 row_parts n w ws = ap (λ t. t ++ 10 ∷ []) (append_assoc (replicate n 32) w (spaced ws) ∙ ap (λ t. replicate n 32 ++ t) (join_spaced w ws))
 
--- lines of an indent and a word are rows of one word each
-pub word_rows : {A : Type 0} (f : A → List ℕ) (n : ℕ) (xs : List A)
-    → flat_map (λ i. flat_map (λ x. replicate i 32 ++ (f x ++ 10 ∷ [])) xs) (n ∷ []) ≡ text_of_rows (map (λ x. row n (f x ∷ [])) xs)
+-- the line of an indent and a word is a row of one word
+pub word_row : (n : ℕ) (w : List ℕ) → replicate n 32 ++ (w ++ 10 ∷ []) ≡ text_of_rows (row n (w ∷ []) ∷ [])
 unfolding row_text
-word_rows {A = A} f n xs = append-nil (flat_map line xs) ∙ each xs
-  where
-    line : A → List ℕ
-    line x = replicate n 32 ++ (f x ++ 10 ∷ [])
-
-    each : (xs : List A) → flat_map line xs ≡ text_of_rows (map (λ x. row n (f x ∷ [])) xs)
-    each [] = refl
-    each (x ∷ xs) =
-        ap (λ t. t ++ flat_map line xs) (sym (append_assoc (replicate n 32) (f x) (10 ∷ [])))
-        ∙ ap (λ t. row_text (row n (f x ∷ [])) ++ t) (each xs)
+word_row n w = sym (append_assoc (replicate n 32) w (10 ∷ [])) ∙ sym (append-nil (row_text (row n (w ∷ []))))
 
 -- the text of a row whose words stand apart
 pub row_halves : (n : ℕ) (w : List ℕ) (ws vs : List (List ℕ)) → row_text (row n (w ∷ (ws ++ vs))) ≡ row_front n w ws ++ row_back vs

@@ -1,4 +1,4 @@
-ghost use Rattle.std.specs.Prelude.{◌∷◌, List, ℕ, IsTrue, map};
+ghost use Rattle.std.specs.Prelude.{◌∷◌, ◌++◌, [], List, ℕ, IsTrue, map};
 ghost use Rattle.acl_text.specs.Puts.{Puts};
 ghost use Rattle.acl_rows.specs.Rows.{spaced};
 
@@ -13,6 +13,27 @@ pub trait WordForm<T> {
     fn put_item_into<O: Out>(&self, item: &T, out: &mut O) -> Result<(), PutFault>
         requires { IsTrue (O.is_open out.old) }
         ensures { Puts O.Out out.old out.new (item_text self.now item.now) result };
+
+    /// Puts the item's word behind the bytes.
+    #[inline]
+    fn put_item_behind<O: Out>(&self, front: &[u8], item: &T, out: &mut O) -> Result<(), PutFault>
+        requires { IsTrue (O.is_open out.old) }
+        ensures { Puts O.Out out.old out.new (front.now ++ item_text self.now item.now) result }
+    {
+        out.put(front)?;
+        self.put_item_into(item, out)
+    }
+
+    /// Puts the item's word behind the bytes, and a line feed behind the word.
+    #[inline]
+    fn put_item_line<O: Out>(&self, front: &[u8], item: &T, out: &mut O) -> Result<(), PutFault>
+        requires { IsTrue (O.is_open out.old) }
+        ensures { Puts O.Out out.old out.new
+            (front.now ++ (item_text self.now item.now ++ 10 ∷ [])) result }
+    {
+        self.put_item_behind(front, item, out)?;
+        out.put(b"\n")
+    }
 }
 
 /// The words of items in a form.

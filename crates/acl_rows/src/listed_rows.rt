@@ -1,12 +1,10 @@
-ghost use Rattle.std.specs.Prelude.{[], ◌∷◌, ◌++◌, map, replicate};
+ghost use Rattle.std.specs.Prelude.{[], ◌∷◌, ◌++◌, IsTrue, map, replicate};
+ghost use Rattle.acl_text.specs.Puts.{Puts};
 ghost use Rattle.acl_rows.specs.Rows.{row};
 
 use crate::each_word::WordForm;
-use crate::item_lists::OneItem;
-use crate::line_halves::{LineHalves, put_pairs};
-use crate::listed::Listed;
-use crate::pieces::Piece;
-use crate::rows::{Rows, put_spaces};
+use crate::listed::{Listed, put_listed};
+use crate::rows::{RowForm, Rows, few_spaces, put_spaces};
 use acl_text::{Out, PutFault};
 
 /// The items of a list, each as a row of one word.
@@ -22,34 +20,45 @@ impl<L: Listed, F: WordForm<L::Item>> Rows for ListedRows<L, F> {
 
     #[inline]
     fn put_rows<O: Out>(&self, out: &mut O) -> Result<(), PutFault> {
-        let indents: &[usize] = &[self.indent];
-        let words = BehindIndent { form: &self.form };
-        put_pairs(&indents, &self.items, false, &words, out)
+        let form = AsRow {
+            indent: self.indent,
+            form: &self.form,
+        };
+        put_listed(&self.items, &form, out)
     }
 }
 
-// An indent, and behind it a word and the line feed.
+// An item, as a row of its word.
 #[derive(Drop)]
-struct BehindIndent<'a, F> {
+struct AsRow<'a, F> {
+    indent: usize,
     form: &'a F,
 }
 
-impl<'a, T, F: WordForm<T>> LineHalves<usize, T> for BehindIndent<'a, F> {
-    ghost front = { λ b indent. replicate indent 32 };
-
-    ghost back = { λ b item. F.item_text b.form.now item ++ 10 ∷ [] };
+impl<'a, T, F: WordForm<T>> RowForm<T> for AsRow<'a, F> {
+    ghost item_rows = { λ r x. row r.indent (F.item_text r.form.now x ∷ []) ∷ [] };
 
     #[inline]
-    fn put_front<O: Out>(&self, first: &usize, out: &mut O) -> Result<(), PutFault> {
-        put_spaces(*first, out)
+    fn put_item<O: Out>(&self, item: &T, out: &mut O) -> Result<(), PutFault> {
+        match few_spaces(self.indent) {
+            Some(indent) => self.form.put_item_line(indent, item, out),
+            None => put_far(self.indent, item, self.form, out),
+        }
     }
+}
 
-    #[inline]
-    fn put_back<O: Out>(&self, second: &T, out: &mut O) -> Result<(), PutFault> {
-        let word = OneItem {
-            item: second,
-            form: self.form,
-        };
-        (word, b"\n".as_slice()).put_into(out)
-    }
+// Puts the line of an item behind more spaces than rows of a device have.
+#[cold]
+fn put_far<T, F: WordForm<T>, O: Out>(
+    indent: usize,
+    item: &T,
+    form: &F,
+    out: &mut O,
+) -> Result<(), PutFault>
+    requires { IsTrue (O.is_open out.old) }
+    ensures { Puts O.Out out.old out.new
+        (replicate indent 32 ++ (F.item_text form.now item.now ++ 10 ∷ [])) result }
+{
+    put_spaces(indent, out)?;
+    form.put_item_line(&[], item, out)
 }

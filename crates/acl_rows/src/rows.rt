@@ -1,4 +1,4 @@
-ghost use Rattle.std.specs.Prelude.{◌≡◌, [], ◌∷◌, ◌++◌, List, IsTrue, replicate, flat_map};
+ghost use Rattle.std.specs.Prelude.{◌≡◌, [], ◌∷◌, ◌++◌, List, IfSome, IsTrue, replicate, flat_map};
 ghost use Rattle.acl_text.specs.Puts.{Puts};
 ghost use Rattle.acl_rows.specs.Rows.{Row as LineRow, row, row_text, text_of_rows};
 
@@ -53,16 +53,27 @@ fn put_parts<P: Piece, W: Words, O: Out>(line: &Row<P, W>, out: &mut O) -> Resul
 
 const SPACES: [u8; 32] = [b' '; 32];
 
-// Puts so many spaces, by one put where they are as few as rows of a device have.
+// So many spaces, where they are as few as rows of a device have.
+#[inline(always)]
+pub(crate) fn few_spaces(count: usize) -> Option<&'static [u8]>
+    ensures { IfSome result (λ spaces. spaces.now ≡ replicate count 32) }
+{
+    if count <= 32 {
+        Some(&SPACES[..count])
+    } else {
+        None
+    }
+}
+
+// Puts so many spaces, by one put where they are few.
 #[inline(always)]
 pub(crate) fn put_spaces<O: Out>(count: usize, out: &mut O) -> Result<(), PutFault>
     requires { IsTrue (O.is_open out.old) }
     ensures { Puts O.Out out.old out.new (replicate count 32) result }
 {
-    if count <= 32 {
-        out.put(&SPACES[..count])
-    } else {
-        put_each_space(count, out)
+    match few_spaces(count) {
+        Some(spaces) => out.put(spaces),
+        None => put_each_space(count, out),
     }
 }
 

@@ -1,4 +1,4 @@
-use Rattle.std.proofs.Common.{◌≡◌, ℕ, List, true, ◌++◌, flat_map, length, take}
+use Rattle.std.proofs.Common.{◌≡◌, ℕ, List, ◌++◌, flat_map, length}
 use Rattle.acl_text.specs.Puts.{Puts}
 use Rattle.acl_text.proofs.Putting.{done}
 use Rattle.acl_rows.proofs.item_lists.put_items.Given as goal
@@ -7,10 +7,8 @@ abbrev pub invariant-loop-item : goal.invariant-loop-item
 invariant-loop-item g l = record {
   text : List ℕ;
   put : Puts g.O.Out l.initial.out l.out text done;
-  whole : (text ++ take l.line.end l.line.bytes)
-      ++ flat_map (λ x. l.separator ++ g.F.WordForm.item_text l.form x) (g.L.Listed.items l.rest)
+  whole : text ++ flat_map (λ x. l.separator ++ g.F.WordForm.item_text l.form x) (g.L.Listed.items l.rest)
       ≡ flat_map (λ x. l.separator ++ g.F.WordForm.item_text l.form x) (g.L.Listed.items l.items);
-  takes : l.line.is_open ≡ true;
 }
 
 abbrev pub decreases-loop-item : goal.decreases-loop-item
