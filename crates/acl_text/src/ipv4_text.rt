@@ -8,7 +8,7 @@ use crate::octets::{octet_bytes, octet_digits};
 // place is no field of a struct, so that it stays in a register while the bytes before it are written.
 
 /// Writes the text of the address.
-#[inline]
+#[inline(always)]
 #[tactic(auto, unfolding(crate::specs::Ipv4::ipv4_text))]
 pub(crate) fn write_ipv4(text: &mut [u8; 64], at: usize, address: u32) -> usize
     requires { at + 16 ≤ 64 }
@@ -22,7 +22,7 @@ pub(crate) fn write_ipv4(text: &mut [u8; 64], at: usize, address: u32) -> usize
 }
 
 /// Writes the number in decimal.
-#[inline]
+#[inline(always)]
 pub(crate) fn write_octet(text: &mut [u8; 64], at: usize, n: u8) -> usize
     requires { at + 4 ≤ 64 }
     ensures items { take result text.new ≡ take at text.old ++ decimal n }
@@ -33,7 +33,7 @@ pub(crate) fn write_octet(text: &mut [u8; 64], at: usize, n: u8) -> usize
 }
 
 // Writes the number in decimal, and a point.
-#[inline]
+#[inline(always)]
 fn write_pointed(text: &mut [u8; 64], at: usize, n: u8) -> usize
     requires { at + 4 ≤ 64 }
     ensures items { take result text.new ≡ take at text.old ++ (decimal n ++ 46 ∷ []) }
@@ -44,7 +44,7 @@ fn write_pointed(text: &mut [u8; 64], at: usize, n: u8) -> usize
 }
 
 /// Writes the bytes.
-#[inline]
+#[inline(always)]
 pub(crate) fn write_bytes(text: &mut [u8; 64], at: usize, bytes: &[u8]) -> usize
     requires { at + length bytes.now ≤ 64 }
     ensures items { take result text.new ≡ take at text.old ++ bytes.now }

@@ -174,8 +174,9 @@ fn is_prefix_text(prefix: &Prefix, word: &[u8]) -> bool
 
 #[tactic(auto, unfolding(crate::specs::AddressTexts::prefix_text))]
 fn push_prefix(text: &mut ShortText, prefix: &Prefix)
-    requires { length text.old ≡ 0 }
-    ensures { text.new ≡ text.old ++ prefix_text prefix.now }
+    requires { length text.old ≤ 8 }
+    ensures items { text.new ≡ text.old ++ prefix_text prefix.now }
+    ensures len { length text.new ≤ length text.old + 48 }
 {
     push_address(text, prefix.family, prefix.first);
     text.push(b'/');
@@ -227,7 +228,9 @@ pub fn put_prefix<O: Out>(out: &mut O, prefix: &Prefix) -> Result<(), PutFault>
 
 /// Puts the text of the prefix between bytes in front of it and behind it, by one put where it is of IPv4, and these
 /// are few.
-#[inline]
+///
+/// Inlined, so that bytes which stand in the code have known lengths where they are put.
+#[inline(always)]
 #[tactic(auto, unfolding(crate::specs::AddressTexts::prefix_text))]
 pub fn put_prefix_between<O: Out>(
     out: &mut O,
@@ -247,7 +250,7 @@ pub fn put_prefix_between<O: Out>(
     }
 }
 
-#[inline]
+#[inline(always)]
 fn put_dotted_between<O: Out>(
     out: &mut O,
     front: &[u8],
@@ -266,7 +269,7 @@ fn put_dotted_between<O: Out>(
     out.put(&text[..end])
 }
 
-#[inline]
+#[inline(always)]
 fn write_dotted_between(
     text: &mut [u8; 64],
     front: &[u8],
@@ -287,6 +290,8 @@ fn write_dotted_between(
     write_bytes(text, length, back)
 }
 
+// A call for itself, so that the text of an IPv4 prefix is put together in registers.
+#[inline(never)]
 fn put_long_between<O: Out>(
     out: &mut O,
     front: &[u8],
@@ -297,8 +302,15 @@ fn put_long_between<O: Out>(
     ensures { Puts O.Out out.old out.new (front.now ++ (prefix_text prefix.now ++ back.now)) result }
 {
     let mut text = ShortText::new();
-    push_prefix(&mut text, prefix);
-    put_pieces(out, &[front, text.as_slice(), back])
+    if front.len() <= 8 && back.len() <= 8 {
+        text.push_all(front);
+        push_prefix(&mut text, prefix);
+        text.push_all(back);
+        out.put(text.as_slice())
+    } else {
+        push_prefix(&mut text, prefix);
+        put_pieces(out, &[front, text.as_slice(), back])
+    }
 }
 
 /// Puts the bits behind the length of an IPv4 prefix as an address: 255.255.255.255 for length 0, and 0.0.0.0
