@@ -1,7 +1,7 @@
 ghost use Rattle.std.specs.Prelude.{◌≡◌, ◌<◌, length, IfOk};
 ghost use Rattle.std.specs.List.{All};
 ghost use Rattle.acl_naming.specs.Definitions.{items_at};
-ghost use Rattle.acl_naming.specs.GraphSteps.{graph_of, targets};
+ghost use Rattle.acl_naming.specs.GraphSteps.{targets};
 
 use crate::links::Links;
 use crate::tables::Table;
@@ -39,23 +39,12 @@ impl Drop for LinkedTable {
     }
 }
 
-// Each name is looked for at the definition just before first, where many have theirs.
-fn links_of(alloc: Global, table: &Table) -> Result<Links, Memory>
-    ensures { IfOk result (λ l. l ≡ graph_of table.now) }
-{
-    let mut links = Links::with_capacity(alloc, table.len())?;
-    for i in 0..table.len() {
-        links = links.with_row(table, i.saturating_sub(1), table.items_at(i))?;
-    }
-    Ok(links)
-}
-
 impl LinkedTable {
     /// The same definitions. A name that is defined nowhere leads nowhere.
     pub fn new(alloc: Global, table: Table) -> Result<LinkedTable, Memory>
         ensures { IfOk result (λ t. t ≡ table) }
     {
-        let links = links_of(alloc, &table)?;
+        let links = Links::of_table(alloc, &table)?;
         Ok(LinkedTable { table, links })
     }
 

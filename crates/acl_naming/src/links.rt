@@ -1,5 +1,5 @@
 ghost use Rattle.std.specs.Prelude.{◌≡◌, ◌+◌, ◌<◌, ◌++◌, [], ◌∷◌, length, get_or, IfOk, OnOk};
-ghost use Rattle.acl_naming.specs.GraphSteps.{targets};
+ghost use Rattle.acl_naming.specs.GraphSteps.{graph_of, targets};
 ghost use Rattle.acl_naming.specs.Rows.{begin_at};
 
 use crate::naming_items::Item;
@@ -84,26 +84,17 @@ fn end_at(begins: &[usize], index: usize, end: usize) -> usize
 }
 
 impl Links {
-    /// Of no definitions, with room for so many.
-    pub fn with_capacity(alloc: Global, room: usize) -> Result<Links, Memory>
-        ensures { IfOk result (λ l. l ≡ []) }
+    /// Those of all definitions of the table. Each name is looked for at the definition just before first, where many
+    /// have theirs.
+    pub fn of_table(alloc: Global, table: &Table) -> Result<Links, Memory>
+        ensures { IfOk result (λ l. l ≡ graph_of table.now) }
     {
-        Ok(Links {
-            begins: Items::with_capacity(alloc, room)?,
-            places: Items::new(alloc),
-        })
-    }
-
-    /// The same, and one definition more, which has the items. Their names are looked for at `near` first.
-    pub fn with_row(self, table: &Table, near: usize, items: &[Item]) -> Result<Links, Memory>
-        ensures { IfOk result (λ l. l ≡ self ++ targets table.now items.now ∷ []) }
-    {
-        let Links {
-            mut begins,
-            mut places,
-        } = self;
-        begins.push(places.as_slice().len())?;
-        push_links(table, near, items, &mut places)?;
+        let mut begins = Items::with_capacity(alloc, table.len())?;
+        let mut places = Items::with_capacity(alloc, table.items_count())?;
+        for i in 0..table.len() {
+            begins.push(places.as_slice().len())?;
+            push_links(table, i.saturating_sub(1), table.items_at(i), &mut places)?;
+        }
         Ok(Links { begins, places })
     }
 
