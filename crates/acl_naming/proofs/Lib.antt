@@ -2,6 +2,7 @@ pub mod AnsweredSlips
 pub mod CheckLaws
 pub mod ComputedReachLaws
 pub mod GraphLaws
+pub mod LaneLaws
 pub mod LineLaws
 pub mod MarkLaws
 pub mod MarkedWords

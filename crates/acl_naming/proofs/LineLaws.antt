@@ -19,6 +19,7 @@ use Rattle.acl_naming.specs.declared.line_parts.LineForm.{LineForm}
 use Rattle.acl_naming.specs.declared.line_parts.LineForm.TheVariants.{Lone, LonePrefix, Named, Plain}
 use Rattle.acl_naming.specs.LineSteps.{IsLoneWord, IsNamed, IsOfForm, IsSeenLine, is_ink, is_plain}
 use Rattle.acl_naming.specs.NamingFiles.{TableOrSlip, in_front_of, item_added, line_added, opens, trimmed, with_items, without_comment, without_end}
+use Rattle.acl_naming.proofs.LaneLaws.{joined_all}
 use Rattle.acl_naming.proofs.ReadLaws.{plain_added, plain_opens}
 
 -- ---- bytes
@@ -52,12 +53,6 @@ ink_all [] h = refl
 ink_all (b ∷ bs) h =
     let p = and_parts (is_ink b) (list_all is_ink bs) h in
     and_from (is_plain b) (list_all is_plain bs) (and_parts (is_plain b) (not (is_white b)) p.0).0 (ink_all bs p.1)
-
-joined_all : (test : ℕ → Bool) (xs ys : List ℕ) → list_all test xs ≡ true → list_all test ys ≡ true → list_all test (xs ++ ys) ≡ true
-joined_all test [] ys h k = k
-joined_all test (x ∷ xs) ys h k =
-    let p = and_parts (test x) (list_all test xs) h in
-    and_from (test x) (list_all test (xs ++ ys)) p.0 (joined_all test xs ys p.1 k)
 
 -- ---- words
 

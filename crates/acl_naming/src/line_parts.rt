@@ -1,4 +1,5 @@
-ghost use Rattle.std.specs.Prelude.{◌≡◌, ◌≤◌, ◌<◌, ◌∷◌, [], true, length, take, option_map, IfNone, IfSome};
+ghost use Rattle.std.specs.Prelude.{◌≡◌, ◌≤◌, ◌<◌, ◌==◌, ◌∷◌, [], true, if◌then◌else◌, length, take, option_map, IfNone, IfSome};
+ghost use Rattle.std.specs.Int.{w64, trailing_zeros};
 ghost use Rattle.std.specs.List.{list_all};
 ghost use Rattle.acl_naming.specs.LineSteps.{IsOfForm, IsSeenLine, is_ink, is_plain};
 ghost use Rattle.acl_text.specs.Cursors.{first_line, is_white, lines_of};
@@ -6,6 +7,7 @@ ghost use Rattle.acl_naming.specs.NamingFiles.{bad_byte, is_bad, trimmed, withou
 
 use acl_packet::Prefix;
 use acl_text::{is_white, prefix_front, skip_white, split_at_byte};
+use std::simd::prelude::*;
 
 /// What a line holds, where a first look tells it. A plain line has no comment, no `=` and no bad byte.
 #[derive(Clone, Copy)]
@@ -99,9 +101,51 @@ fn white_front(text: &[u8]) -> usize
     text.len()
 }
 
-// How many bytes it begins with that are ink. Within its caller the compiler counts six things a byte.
+/// So many bytes are looked at in one step.
+pub const LANES: usize = 16;
+
+// Where the first lane stands that is set; behind all where none is.
+#[inline(always)]
+fn first_set(mask: u64) -> usize
+    ensures { result ≡ (if mask == 0 then 16 else trailing_zeros w64 mask) }
+{
+    if mask == 0 {
+        LANES
+    } else {
+        mask.trailing_zeros() as usize
+    }
+}
+
+// How many of the first bytes are ink, as one look tells it.
+#[inline(always)]
+fn ink_run(text: &[u8]) -> usize
+    requires { 16 ≤ length text.now }
+    ensures { (result ≤ 16) × (list_all is_ink (take result text.now) ≡ true) }
+{
+    let bytes = u8x16::from_slice(text);
+    let stops = (bytes - u8x16::splat(b'!')).simd_ge(u8x16::splat(94))
+        | bytes.simd_eq(u8x16::splat(b'#'))
+        | bytes.simd_eq(u8x16::splat(b'='));
+    first_set(stops.to_bitmask())
+}
+
+// How many of the first bytes are plain.
+#[inline(always)]
+fn plain_run(text: &[u8]) -> usize
+    requires { 16 ≤ length text.now }
+    ensures { (result ≤ 16) × (list_all is_plain (take result text.now) ≡ true) }
+{
+    let bytes = u8x16::from_slice(text);
+    let odd = (bytes - u8x16::splat(b' ')).simd_ge(u8x16::splat(95))
+        & bytes.simd_ne(u8x16::splat(b'\t'))
+        & bytes.simd_ne(u8x16::splat(b'\r'));
+    let stops = odd | bytes.simd_eq(u8x16::splat(b'#')) | bytes.simd_eq(u8x16::splat(b'='));
+    first_set(stops.to_bitmask())
+}
+
+// How many bytes the text begins with that are ink, looked at one by one. Apart, since few texts are that short.
 #[inline(never)]
-fn ink_front(text: &[u8]) -> usize
+fn short_ink_front(text: &[u8]) -> usize
     ensures fits { result ≤ length text.now }
     ensures ink { list_all is_ink (take result text.now) ≡ true }
 {
@@ -111,6 +155,21 @@ fn ink_front(text: &[u8]) -> usize
         }
     }
     text.len()
+}
+
+// How many bytes the text begins with that are ink.
+#[inline(always)]
+fn ink_front(text: &[u8]) -> usize
+    ensures fits { result ≤ length text.now }
+    ensures ink { list_all is_ink (take result text.now) ≡ true }
+{
+    if text.len() >= LANES {
+        let run = ink_run(text);
+        if run < LANES {
+            return run;
+        }
+    }
+    short_ink_front(text)
 }
 
 // What stands behind the byte, where the text begins with it.
@@ -123,9 +182,9 @@ fn behind_byte(text: &[u8], byte: u8) -> Option<&[u8]>
     }
 }
 
-// How many bytes it begins with that are plain. Apart for the same reason.
+// How many bytes it begins with that are plain, looked at one by one.
 #[inline(never)]
-fn plain_front(text: &[u8]) -> usize
+fn short_plain_front(text: &[u8]) -> usize
     ensures fits { result ≤ length text.now }
     ensures plain { list_all is_plain (take result text.now) ≡ true }
 {
@@ -135,6 +194,22 @@ fn plain_front(text: &[u8]) -> usize
         }
     }
     text.len()
+}
+
+// How many bytes it begins with that are plain.
+fn plain_front(text: &[u8]) -> usize
+    ensures fits { result ≤ length text.now }
+    ensures plain { list_all is_plain (take result text.now) ≡ true }
+{
+    let mut from = 0;
+    while text.len() - from >= LANES {
+        let run = plain_run(&text[from..]);
+        from += run;
+        if run < LANES {
+            return from;
+        }
+    }
+    from + short_plain_front(&text[from..])
 }
 
 // The first line, its form, and the bytes behind it, where it is one prefix alone. `None` says nothing.
