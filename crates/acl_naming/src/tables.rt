@@ -116,10 +116,19 @@ impl Table {
         }
     }
 
-    /// Makes room for so many items, where there are none yet.
-    pub fn make_room(&mut self, alloc: Global, items: usize) -> Result<(), Memory>
+    /// Makes room for so many more definitions, where they are most of all, and for so many items, where there are
+    /// none yet. Then nothing is moved while they are added.
+    pub fn make_room(
+        &mut self,
+        alloc: Global,
+        definitions: usize,
+        items: usize,
+    ) -> Result<(), Memory>
         ensures { self.new ≡ self.old }
     {
+        if self.kept.len() < definitions {
+            self.kept.reserve(definitions)?;
+        }
         if self.items.as_slice().is_empty() {
             self.items = Items::with_capacity(alloc, items)?;
         }
