@@ -1,8 +1,9 @@
 -- Ranges of what the definitions at places hold.
-use Rattle.std.proofs.Common.{◌≡◌, ℕ, ◌↔◌, ◌⊎◌, ◌<◌, ◌+◌, Bool, true, false, ◌||◌, ◌==◌, nat_lt, take, get_or, List, [], ◌∷◌, length, Some, inl, inr, ap, sym, subst, ◌∙◌, refl}
+use Rattle.std.proofs.Common.{◌≡◌, ℕ, ◌↔◌, ◌⊎◌, ◌<◌, ◌+◌, Bool, true, false, ◌||◌, ◌==◌, nat_lt, take, get_or, replicate, slice_set, List, [], ◌∷◌, length, Some, inl, inr, ap, sym, subst, ◌∙◌, refl}
 use Rattle.std.specs.List.{list_any}
 use Rattle.std.proofs.Math.Bool.{or_assoc, or-false}
 use Rattle.std.proofs.lemmas.Bool.{both_ways, eq-eqb, eqb-true, or_cases, or_left, or_right}
+use Rattle.std.proofs.lemmas.List.{length-replicate}
 use Rattle.std.proofs.lemmas.List.Elements.{All-nil}
 use Rattle.std.proofs.lemmas.List.Folds.{list_any_more}
 use Rattle.acl_sets.specs.declared.sets.Range.{Range}
@@ -11,10 +12,13 @@ use Rattle.acl_naming.specs.declared.naming_items.Item.{Item}
 use Rattle.acl_naming.specs.declared.reaching.Wanted.{Wanted}
 use Rattle.acl_naming.specs.Definitions.{Definition, index_of, items_at}
 use Rattle.acl_naming.specs.GraphSteps.{AreBehind}
-use Rattle.acl_naming.specs.MarkSteps.{among}
+use Rattle.acl_naming.specs.MarkSteps.{among, marked}
 use Rattle.acl_naming.specs.Reach.{Reaches}
-use Rattle.acl_naming.specs.LookupSteps.{top_of, has_number, is_wanted, AddsReach, Collects, IsReach, any_at, any_item}
-use Rattle.acl_naming.proofs.WalkLaws.{AreReached, places_reach, reached_too}
+use Rattle.acl_naming.specs.LookupSteps.{top_of, has_number, is_wanted, AddsAt, AddsReach, AreAdded, Collects, IsReach, NoneAreAdded, any_at, any_item}
+use Rattle.acl_naming.specs.declared.reaching.Wanted.TheVariants.{Addresses}
+use Rattle.acl_packet.specs.declared.addresses.Family.TheVariants.{V4, V6}
+use Rattle.acl_naming.proofs.MarkLaws.{length_mark, mark_only}
+use Rattle.acl_naming.proofs.WalkLaws.{AreReached, blank_unmarked, places_reach, reached_too}
 
 -- first one collection, then another
 pub collects_on : (w : Wanted) (t u v : (Item → Bool) → Bool) (a b c : List Range) → ((p : Item → Bool) → v p ≡ t p || u p)
@@ -127,3 +131,63 @@ gather_more base i k places w old mid new within h g =
     ap (λ b. first || b) (list_any_more (λ j. list_any test (items_at base j)) places k 0 within)
     ∙ sym (or_assoc first (any_at base (take k places) test) (list_any test (items_at base there))))
     h g
+
+-- ---- names whose ranges lie among others
+
+-- What a name has put among the ranges stays there, so it adds nothing later.
+adds_later : (base : List Definition) (a b : List ℕ) (w : Wanted) (old new : List Range) → AddsReach base a w old old
+    → AddsReach base b w old new → AddsReach base a w new new
+adds_later base a b w old new had more = record {
+  fits = λ f. f;
+  exact = λ x. (
+    λ h. inl h,
+    λ e. elim e [
+      | inl h ↦ h
+      | inr r ↦ (more.exact x).1 (inl ((had.exact x).1 (inr r)))
+    ],
+  );
+  some = (
+    λ h. inl h,
+    λ e. elim e [
+      | inl h ↦ h
+      | inr r ↦ more.some.1 (inl (had.some.1 (inr r)))
+    ],
+  );
+}
+
+adds_again : (base : List Definition) (a : List ℕ) (w : Wanted) (old new : List Range) → AddsReach base a w old new
+    → AddsReach base a w new new
+adds_again base a w old new more = record {
+  fits = λ f. f;
+  exact = λ x. (λ h. inl h, λ e. elim e [ inl h ↦ h | inr r ↦ (more.exact x).1 (inr r) ]);
+  some = (λ h. inl h, λ e. elim e [ inl h ↦ h | inr r ↦ more.some.1 (inr r) ]);
+}
+
+-- One more definition has a mark.
+added_more : (base : List Definition) (name : List ℕ) (i : ℕ) (marks : List Bool) (w : Wanted) (old new : List Range)
+    → index_of base name ≡ Some i → ((j : ℕ) → marked marks j ≡ true → AddsAt base j w old old) → AddsAt base i w old new
+    → (j : ℕ) → marked (slice_set marks i true) j ≡ true → AddsAt base j w new new
+added_more base name i marks w old new e had more j h = λ other f. elim (mark_only marks j i h) [
+  | inl m ↦ adds_later base other name w old new (had j m other f) (more name e)
+  | inr same ↦ adds_again base other w old new (more other (f ∙ ap Some same))
+]
+
+pub next_added : (base : List Definition) (name : List ℕ) (i : ℕ) (marks after : List Bool) (v4 v6 new4 new6 : List Range)
+    → index_of base name ≡ Some i → after ≡ slice_set marks i true → AreAdded base marks v4 v6
+    → AddsAt base i (Addresses V4) v4 new4 → AddsAt base i (Addresses V6) v6 new6 → AreAdded base after new4 new6
+next_added base name i marks after v4 v6 new4 new6 e is had four six =
+    subst (λ (m : List Bool). AreAdded base m new4 new6) (sym is) (record {
+      fits = length_mark marks i ∙ had.fits;
+      ipv4 = added_more base name i marks (Addresses V4) v4 new4 e had.ipv4 four;
+      ipv6 = added_more base name i marks (Addresses V6) v6 new6 e had.ipv6 six;
+    })
+
+-- Where none has a mark, nothing is said.
+pub none_added : (base : List Definition) (marks : List Bool) (n : ℕ) → n ≡ length base → marks ≡ replicate n false
+    → NoneAreAdded base marks
+none_added base marks n e is = λ v4 v6.
+    subst (λ (m : List Bool). AreAdded base m v4 v6) (sym is) (record {
+      fits = length-replicate n false ∙ e;
+      ipv4 = λ i h. absurd (blank_unmarked n i h);
+      ipv6 = λ i h. absurd (blank_unmarked n i h);
+    })

@@ -7,8 +7,10 @@ use Rattle.acl_naming.specs.declared.naming_items.Item.{Item}
 use Rattle.acl_naming.specs.declared.naming_items.Item.TheVariants.{Name, Network, Service}
 use Rattle.acl_naming.specs.declared.reaching.Wanted.{Wanted}
 use Rattle.acl_naming.specs.declared.reaching.Wanted.TheVariants.{Addresses, Ports}
-use Rattle.acl_naming.specs.Definitions.{Definition, items_at}
+use Rattle.acl_naming.specs.Definitions.{Definition, index_of, items_at}
 use Rattle.acl_packet.specs.Addresses.{top_address, same_family}
+use Rattle.acl_packet.specs.declared.addresses.Family.TheVariants.{V4, V6}
+use Rattle.acl_naming.specs.MarkSteps.{marked}
 use Rattle.acl_naming.specs.Ports.{top_port}
 use Rattle.acl_naming.specs.Reach.{holds_address, holds_port, is_service_of, Reaches}
 
@@ -60,3 +62,17 @@ pub record AddsReach (base : List Definition) (name : List ℕ) (w : Wanted) (ol
   pub fits : All (λ r. IsRange (top_of w) r) old → All (λ r. IsRange (top_of w) r) new
   pub exact : (x : ℕ) → (holds new x ≡ true) ↔ ((holds old x ≡ true) ⊎ Reaches base name (has_number w x))
   pub some : (nat_lt 0 (length new) ≡ true) ↔ ((nat_lt 0 (length old) ≡ true) ⊎ Reaches base name (is_wanted w))
+
+-- The same of the name that is defined at a place.
+abbrev pub AddsAt : List Definition → ℕ → Wanted → List Range → List Range → Type 0
+AddsAt base i w old new = (name : List ℕ) → index_of base name ≡ Some i → AddsReach base name w old new
+
+-- What a name reaches whose definition has a mark lies among the ranges of each family.
+pub record AreAdded (base : List Definition) (marks : List Bool) (v4 v6 : List Range) : Type 0 where
+  pub fits : length marks ≡ length base
+  pub ipv4 : (i : ℕ) → marked marks i ≡ true → AddsAt base i (Addresses V4) v4 v4
+  pub ipv6 : (i : ℕ) → marked marks i ≡ true → AddsAt base i (Addresses V6) v6 v6
+
+-- So it is whatever the ranges are, since none has a mark.
+abbrev pub NoneAreAdded : List Definition → List Bool → Type 0
+NoneAreAdded base marks = (v4 v6 : List Range) → AreAdded base marks v4 v6

@@ -3,7 +3,7 @@ ghost use Rattle.acl_sets.specs.Ranges.{IsNormal, holds};
 ghost use Rattle.acl_naming.specs.Checking.{IsChecked};
 ghost use Rattle.acl_naming.specs.ComputableReach.{addresses_reached, ports_reached};
 ghost use Rattle.acl_naming.specs.Definitions.{index_of};
-ghost use Rattle.acl_naming.specs.LookupSteps.{AddsReach};
+ghost use Rattle.acl_naming.specs.LookupSteps.{AddsReach, AreAdded, NoneAreAdded};
 ghost use Rattle.acl_packet.specs.Addresses.{top_address};
 ghost use Rattle.acl_naming.specs.Ports.{top_port};
 ghost use Rattle.acl_naming.specs.NamingFiles.{AddsNetworks, AddsServices};
@@ -15,11 +15,11 @@ use crate::linking::LinkedTable;
 use crate::lookups::Lookup;
 use crate::marks::Marks;
 use crate::naming_files::add_file;
-use crate::reaching::{Wanted, add_addresses, ranges_of, top_of};
+use crate::reaching::{Wanted, add_addresses, add_addresses_once, ranges_of, top_of};
 use crate::tables::Table;
 use acl_packet::Family;
 use acl_sets::{Range, RangeSet};
-use acl_text::Refusal;
+use acl_text::{Memory, Refusal};
 use std::alloc::Global;
 use std::marker::Model;
 
@@ -203,4 +203,34 @@ pub fn add_networks(
     ensures no_port { result ≡ Err Lookup.NoPort → ⊥ }
 {
     add_addresses(alloc, &base.networks, name, marks, v4, v6)
+}
+
+/// No network has a mark: of none the addresses lie among others.
+pub fn begin_networks(base: &Checked, added: &mut Marks) -> Result<(), Memory>
+    ensures { OnOk result (NoneAreAdded base.now.networks added.new) }
+{
+    added.clear(base.networks.len())
+}
+
+/// Puts the addresses of both families that the name reaches behind others, as `add_networks` does. Where a mark tells that
+/// those of its network lie there, they are not put there again.
+pub fn add_networks_once(
+    alloc: Global,
+    base: &Checked,
+    name: &[u8],
+    marks: &mut Marks,
+    added: &mut Marks,
+    v4: &mut Vec<Range>,
+    v6: &mut Vec<Range>,
+) -> Result<(), Lookup>
+    requires { AreAdded base.now.networks added.old v4.old.items v6.old.items }
+    ensures v4 { OnOk result (AddsReach base.now.networks name.now (Wanted.Addresses Family.V4)
+        v4.old.items v4.new.items) }
+    ensures v6 { OnOk result (AddsReach base.now.networks name.now (Wanted.Addresses Family.V6)
+        v6.old.items v6.new.items) }
+    ensures added { OnOk result (AreAdded base.now.networks added.new v4.new.items v6.new.items) }
+    ensures unknown { (result ≡ Err Lookup.Unknown) ↔ (index_of base.now.networks name.now ≡ None) }
+    ensures no_port { result ≡ Err Lookup.NoPort → ⊥ }
+{
+    add_addresses_once(alloc, &base.networks, name, marks, added, v4, v6)
 }

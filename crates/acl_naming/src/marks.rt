@@ -8,12 +8,14 @@ use std::marker::Model;
 /// Marks at the definitions of a table, for one walk after the other. A contract sees for each definition whether it has
 /// a mark.
 ///
-/// A mark is the number of the walk that set it, so that nothing has to be cleared before the next walk.
+/// A mark is the number of the walk that set it, so that nothing has to be cleared before the next walk. Beside the marks
+/// it is kept where the next name is looked for first.
 #[derive(Drop)]
 pub struct Marks {
     alloc: Global,
     walk: u32,
     walks: Vec<u32>,
+    near: usize,
 }
 
 impl Model for Marks {
@@ -44,7 +46,20 @@ impl Marks {
             alloc,
             walk: 0,
             walks: Vec::new(alloc),
+            near: 0,
         }
+    }
+
+    /// Where the next name is looked for first.
+    pub(crate) fn near(&self) -> usize {
+        self.near
+    }
+
+    /// The next name is looked for behind the index first, since names mostly stand in the order of their definitions.
+    pub(crate) fn look_behind(&mut self, index: usize)
+        ensures { self.new ≡ self.old }
+    {
+        self.near = index.saturating_add(1);
     }
 
     /// From now on so many definitions, and no mark at any.

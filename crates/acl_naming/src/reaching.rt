@@ -3,7 +3,7 @@ ghost use Rattle.std.specs.List.{All, list_any};
 ghost use Rattle.acl_sets.specs.Ranges.{IsNormal, holds};
 ghost use Rattle.acl_naming.specs.Definitions.{index_of};
 ghost use Rattle.acl_naming.specs.Reach.{Reaches};
-ghost use Rattle.acl_naming.specs.LookupSteps.{AddsReach, Collects, IsRangeOf, IsReach, any_at, any_item, has_number, is_wanted, top_of};
+ghost use Rattle.acl_naming.specs.LookupSteps.{AddsAt, AddsReach, AreAdded, Collects, IsRangeOf, IsReach, any_at, any_item, has_number, is_wanted, top_of};
 
 use crate::linking::LinkedTable;
 use crate::lookups::Lookup;
@@ -135,7 +135,34 @@ fn push_networks(
     Ok(())
 }
 
-/// Puts the addresses of both families that the name reaches behind others, in one walk.
+// Where the definition of the name stands. It is looked for behind the one that was looked up before.
+fn find(table: &Table, name: &[u8], marks: &mut Marks) -> Option<usize>
+    ensures exact { result ≡ index_of table.now name.now }
+    ensures same { marks.new ≡ marks.old }
+{
+    let index = table.index_near(marks.near(), name)?;
+    marks.look_behind(index);
+    Some(index)
+}
+
+// Puts the addresses of both families that the name of the definition reaches behind others, in one walk.
+fn add_addresses_at(
+    alloc: Global,
+    linked: &LinkedTable,
+    index: usize,
+    marks: &mut Marks,
+    v4: &mut Vec<Range>,
+    v6: &mut Vec<Range>,
+) -> Result<(), Memory>
+    requires { index < length linked.now }
+    ensures v4 { OnOk result (AddsAt linked.now index (Wanted.Addresses Family.V4) v4.old.items v4.new.items) }
+    ensures v6 { OnOk result (AddsAt linked.now index (Wanted.Addresses Family.V6) v6.old.items v6.new.items) }
+{
+    let places = places_behind(alloc, linked, index, marks)?;
+    push_networks(v4, v6, linked.table(), index, &places)
+}
+
+/// Puts the addresses of both families that the name reaches behind others.
 pub fn add_addresses(
     alloc: Global,
     linked: &LinkedTable,
@@ -151,12 +178,41 @@ pub fn add_addresses(
     ensures unknown { (result ≡ Err Lookup.Unknown) ↔ (index_of linked.now name.now ≡ None) }
     ensures no_port { result ≡ Err Lookup.NoPort → ⊥ }
 {
-    let table = linked.table();
-    let Some(index) = table.index_of(name) else {
+    let Some(index) = find(linked.table(), name, marks) else {
         return Err(Lookup::Unknown);
     };
-    let places = places_behind(alloc, linked, index, marks)?;
-    push_networks(v4, v6, table, index, &places)?;
+    add_addresses_at(alloc, linked, index, marks, v4, v6)?;
+    Ok(())
+}
+
+/// The same, where the marks tell the definitions whose addresses lie among the others already: those are not put there
+/// again.
+pub fn add_addresses_once(
+    alloc: Global,
+    linked: &LinkedTable,
+    name: &[u8],
+    marks: &mut Marks,
+    added: &mut Marks,
+    v4: &mut Vec<Range>,
+    v6: &mut Vec<Range>,
+) -> Result<(), Lookup>
+    requires { AreAdded linked.now added.old v4.old.items v6.old.items }
+    ensures v4 { OnOk result (AddsReach linked.now name.now (Wanted.Addresses Family.V4)
+        v4.old.items v4.new.items) }
+    ensures v6 { OnOk result (AddsReach linked.now name.now (Wanted.Addresses Family.V6)
+        v6.old.items v6.new.items) }
+    ensures added { OnOk result (AreAdded linked.now added.new v4.new.items v6.new.items) }
+    ensures unknown { (result ≡ Err Lookup.Unknown) ↔ (index_of linked.now name.now ≡ None) }
+    ensures no_port { result ≡ Err Lookup.NoPort → ⊥ }
+{
+    let Some(index) = find(linked.table(), name, marks) else {
+        return Err(Lookup::Unknown);
+    };
+    if added.has(index) {
+        return Ok(());
+    }
+    add_addresses_at(alloc, linked, index, marks, v4, v6)?;
+    added.set(index);
     Ok(())
 }
 
