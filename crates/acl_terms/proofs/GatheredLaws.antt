@@ -1,16 +1,17 @@
 -- Ranges that are gathered word by word: what they hold, and what is left.
-use Rattle.std.proofs.Common.{◌≡◌, ◌↔◌, ◌⊎◌, ℕ, ◌≤◌, true, false, List, [], ◌∷◌, inl, inr, refl, sym, subst, ◌∙◌}
+use Rattle.std.proofs.Common.{◌≡◌, ◌↔◌, ◌⊎◌, ℕ, ◌≤◌, true, false, List, [], ◌∷◌, Option, None, Some, inl, inr, refl, ap, sym, subst, ◌∙◌}
 use Rattle.std.specs.List.{All}
+use Rattle.std.specs.Option.{option_or}
 use Rattle.std.proofs.lemmas.Bool.{both_ways}
 use Rattle.std.proofs.lemmas.List.Elements.{All-nil}
 use Rattle.acl_sets.specs.declared.sets.Range.{Range}
 use Rattle.acl_sets.specs.Ranges.{IsRange, Numbers, holds}
+use Rattle.acl_text.specs.Refusals.{first_in}
+use Rattle.acl_text.specs.declared.faults.Slip.{Slip}
 use Rattle.acl_words.specs.declared.word_lists.Word.{Word}
-use Rattle.acl_terms.specs.DistinctSteps.{new_words}
 use Rattle.acl_terms.specs.Matching.{AnyOf}
 use Rattle.acl_terms.specs.RangeSteps.{AreRangesOf, HoldsSame, IsLess}
 use Rattle.acl_terms.specs.Sets.{IsSetOf}
-use Rattle.acl_terms.proofs.DistinctLaws.{new-any}
 use Rattle.acl_terms.proofs.SetLaws.{less-set}
 
 -- What the ranges hold and what is left make up, up to the top, the numbers of which the fact holds.
@@ -18,19 +19,16 @@ pub record IsGathered (P left : ℕ → Type 0) (top : ℕ) (rs : List Range) : 
   pub fits : All (λ r. IsRange top r) rs
   pub exact : (x : ℕ) → x ≤ top → ((holds rs x ≡ true) ⊎ left x) ↔ P x
 
--- Before the first of the words of new texts, all is left.
-pub begun-names : (Q : ℕ → List ℕ → Type 0) (words left : List Word) (top : ℕ) (rs : List Range)
-    → left ≡ new_words [] words → rs ≡ []
-    → IsGathered (λ x. AnyOf (λ w. Q x w.text) words) (λ x. AnyOf (λ w. Q x w.text) left) top rs
-begun-names Q words left top rs is none =
-    subst (λ (l : List Word). IsGathered (λ x. AnyOf (λ w. Q x w.text) words) (λ x. AnyOf (λ w. Q x w.text) l) top rs) (sym is)
-    (subst (λ (qs : List Range). IsGathered (λ x. AnyOf (λ w. Q x w.text) words) (λ x. AnyOf (λ w. Q x w.text) (new_words [] words)) top qs)
+-- Before the first of the words, all is left.
+pub begun-words : (N : ℕ → Word → Type 0) (words left : List Word) (top : ℕ) (rs : List Range)
+    → left ≡ words → rs ≡ []
+    → IsGathered (λ x. AnyOf (N x) words) (λ x. AnyOf (N x) left) top rs
+begun-words N words left top rs is none =
+    subst (λ (l : List Word). IsGathered (λ x. AnyOf (N x) words) (λ x. AnyOf (N x) l) top rs) (sym is)
+    (subst (λ (qs : List Range). IsGathered (λ x. AnyOf (N x) words) (λ x. AnyOf (N x) words) top qs)
     (sym none) (record {
       fits = All-nil (λ r. IsRange top r);
-      exact = λ x le. let same = new-any (Q x) words in (
-        λ a. elim a [ inl h ↦ absurd (both_ways false refl h) | inr l ↦ same.0 l ],
-        λ p. inr (same.1 p),
-      );
+      exact = λ x le. (λ a. elim a [ inl h ↦ absurd (both_ways false refl h) | inr l ↦ l ], λ p. inr p);
     }))
 
 -- Behind the next word.
@@ -67,6 +65,25 @@ ended-names N P left top rs none had =
         λ p. elim (e.1 p) [ inl h ↦ h | inr l ↦ absurd l ],
       );
     }
+
+-- Behind the one word of a list.
+pub only-name : (N : ℕ → Word → Type 0) (words : List Word) (w : Word) (top : ℕ) (old new : List Range)
+    → words ≡ w ∷ [] → old ≡ []
+    → (All (λ r. IsRange top r) old → All (λ r. IsRange top r) new)
+    → ((x : ℕ) → (holds new x ≡ true) ↔ ((holds old x ≡ true) ⊎ N x w))
+    → AreRangesOf (λ x. AnyOf (N x) words) top new
+only-name N words w top old new is none fits adds =
+    ended-names N (λ x. AnyOf (N x) words) [] top new refl
+    (next-names N (λ x. AnyOf (N x) words) words [] w top old new is (begun-words N words words top old refl none) fits adds)
+
+-- The one question on the one word of a list.
+pub only-asked : {A : Type 0} (question : A → Option Slip) (xs : List A) (x : A) → xs ≡ x ∷ []
+    → question x ≡ first_in question xs
+only-asked question xs x is = last (question x) ∙ sym (ap (first_in question) is)
+  where
+    last : (o : Option Slip) → o ≡ option_or o None
+    last None = refl
+    last (Some s) = refl
 
 -- The set of the ranges is that of the numbers.
 pub set-of-ranges : (P : ℕ → Type 0) (top : ℕ) (rs : List Range) (s : Numbers) → AreRangesOf P top rs

@@ -1,11 +1,11 @@
-ghost use Rattle.std.specs.Prelude.{◌≡◌, List, [], IfOk, OnOk};
+ghost use Rattle.std.specs.Prelude.{◌≡◌, List, [], ◌∷◌, IfOk, IfSome, OnOk};
 ghost use Rattle.std.specs.List.{All};
 ghost use Rattle.acl_packet.specs.declared.addresses.Family.TheVariants.{V4, V6};
 ghost use Rattle.acl_packet.specs.Addresses.{top_address};
 ghost use Rattle.acl_sets.specs.Ranges.{IsRange};
 ghost use Rattle.acl_text.specs.Refusals.{Judges, first_in};
 ghost use Rattle.acl_naming.specs.declared.reaching.Wanted.TheVariants as wanted;
-ghost use Rattle.acl_naming.specs.LookupSteps.{AddsReach};
+ghost use Rattle.acl_naming.specs.LookupSteps.{AddsReach, AreAdded};
 ghost use Rattle.acl_words.specs.declared.word_lists.Word.{Word};
 ghost use Rattle.acl_terms.specs.Matching.{Admits, AnyOf, IsAddress, IsNamedAddress, NamesAddress};
 ghost use Rattle.acl_terms.specs.Sets.{IsSetOf};
@@ -13,8 +13,7 @@ ghost use Rattle.acl_terms.specs.RangeSteps.{AreRangesOf, HoldsSame, IsLess};
 ghost use Rattle.acl_terms.specs.Slips.{network_slip};
 
 use crate::checks::refusal_at;
-use crate::new_words::NewWords;
-use acl_naming::{Checked, Lookup, Marks, add_networks};
+use acl_naming::{Checked, Lookup, Marks, add_networks, add_networks_once, begin_networks};
 use acl_packet::Family;
 use acl_policy::{WordList, WordRef};
 use acl_sets::{Range, RangeSet};
@@ -65,6 +64,35 @@ impl Addresses {
     }
 }
 
+/// What look-ups of names leave to those that follow.
+#[derive(Drop)]
+pub(crate) struct Lookups {
+    marks: Marks,
+    added: Marks,
+}
+
+impl Lookups {
+    /// Nothing was looked up.
+    pub(crate) fn new(alloc: Global) -> Lookups {
+        Lookups {
+            marks: Marks::new(alloc),
+            added: Marks::new(alloc),
+        }
+    }
+}
+
+// The one word of a list.
+fn only_word(words: &WordList) -> Option<WordRef<'_>>
+    ensures { IfSome result (λ w. words.now ≡ w ∷ []) }
+{
+    let mut left = words.iter();
+    let first = left.next()?;
+    if left.next().is_some() {
+        return None;
+    }
+    Some(first)
+}
+
 // Puts the addresses that the word's name reaches behind those of each family.
 fn add_word(
     alloc: Global,
@@ -88,12 +116,38 @@ fn add_word(
     }
 }
 
-// Puts the addresses that some of the words reach into the ranges of each family. A text that came before is not looked
-// up again.
-fn add_words(
+// The same. Those of a name that came before are not put there again.
+fn add_word_once(
+    alloc: Global,
+    base: &Checked,
+    word: &WordRef<'_>,
+    lookups: &mut Lookups,
+    v4: &mut Vec<Range>,
+    v6: &mut Vec<Range>,
+) -> Result<(), Refusal>
+    requires { AreAdded base.now.networks lookups.old.added v4.old.items v6.old.items }
+    ensures judged { Judges result (network_slip base.now.networks word.now) }
+    ensures v4 { OnOk result (AddsReach base.now.networks word.now.text (wanted.Addresses V4)
+        v4.old.items v4.new.items) }
+    ensures v6 { OnOk result (AddsReach base.now.networks word.now.text (wanted.Addresses V6)
+        v6.old.items v6.new.items) }
+    ensures added { OnOk result (AreAdded base.now.networks lookups.new.added v4.new.items v6.new.items) }
+{
+    let Lookups { marks, added } = lookups;
+    match add_networks_once(alloc, base, word.text(), marks, added, v4, v6) {
+        Ok(()) => Ok(()),
+        Err(Lookup::Unknown) => Err(refusal_at(alloc, Code::UnknownName, word)),
+        Err(Lookup::Memory) => Err(Refusal::Memory),
+        Err(Lookup::NoPort) => unreachable!(),
+    }
+}
+
+// Puts the addresses that some of the words reach into the ranges of each family.
+fn add_each_word(
     alloc: Global,
     base: &Checked,
     words: &WordList,
+    lookups: &mut Lookups,
     v4: &mut Vec<Range>,
     v6: &mut Vec<Range>,
 ) -> Result<(), Refusal>
@@ -105,12 +159,34 @@ fn add_words(
     ensures v6 { OnOk result (AreRangesOf (λ x. AnyOf (NamesAddress base.now V6 x) words.now)
         (top_address V6) v6.new.items) }
 {
-    let mut marks = Marks::new(alloc);
-    let mut left = NewWords::new(alloc, words);
-    while let Some(word) = left.next()? {
-        add_word(alloc, base, &word, &mut marks, v4, v6)?;
+    begin_networks(base, &mut lookups.added)?;
+    for word in words.iter() {
+        add_word_once(alloc, base, &word, lookups, v4, v6)?;
     }
     Ok(())
+}
+
+// The same. Of one word alone, as most lists have, nothing is marked.
+fn add_words(
+    alloc: Global,
+    base: &Checked,
+    words: &WordList,
+    lookups: &mut Lookups,
+    v4: &mut Vec<Range>,
+    v6: &mut Vec<Range>,
+) -> Result<(), Refusal>
+    requires v4 { v4.old.items ≡ [] }
+    requires v6 { v6.old.items ≡ [] }
+    ensures judged { Judges result (first_in (network_slip base.now.networks) words.now) }
+    ensures v4 { OnOk result (AreRangesOf (λ x. AnyOf (NamesAddress base.now V4 x) words.now)
+        (top_address V4) v4.new.items) }
+    ensures v6 { OnOk result (AreRangesOf (λ x. AnyOf (NamesAddress base.now V6 x) words.now)
+        (top_address V6) v6.new.items) }
+{
+    match only_word(words) {
+        Some(word) => add_word(alloc, base, &word, &mut lookups.marks, v4, v6),
+        None => add_each_word(alloc, base, words, lookups, v4, v6),
+    }
 }
 
 // The addresses in the ranges of each family.
@@ -127,7 +203,12 @@ fn addresses_in(alloc: Global, v4: Vec<Range>, v6: Vec<Range>) -> Result<Address
 }
 
 // The addresses that some of the words reach.
-fn addresses_of_words(alloc: Global, base: &Checked, words: &WordList) -> Result<Addresses, Refusal>
+fn addresses_of_words(
+    alloc: Global,
+    base: &Checked,
+    words: &WordList,
+    lookups: &mut Lookups,
+) -> Result<Addresses, Refusal>
     ensures judged { Judges result (first_in (network_slip base.now.networks) words.now) }
     ensures v4 { IfOk result (λ a. IsSetOf (λ x. AnyOf (NamesAddress base.now V4 x) words.now)
         (top_address V4) a.v4) }
@@ -136,7 +217,7 @@ fn addresses_of_words(alloc: Global, base: &Checked, words: &WordList) -> Result
 {
     let mut v4 = Vec::new(alloc);
     let mut v6 = Vec::new(alloc);
-    add_words(alloc, base, words, &mut v4, &mut v6)?;
+    add_words(alloc, base, words, lookups, &mut v4, &mut v6)?;
     Ok(addresses_in(alloc, v4, v6)?)
 }
 
@@ -145,6 +226,7 @@ pub(crate) fn admitted_addresses(
     alloc: Global,
     base: &Checked,
     words: &WordList,
+    lookups: &mut Lookups,
 ) -> Result<Addresses, Refusal>
     ensures judged { Judges result (first_in (network_slip base.now.networks) words.now) }
     ensures v4 { IfOk result (λ a. IsSetOf (λ x. Admits (NamesAddress base.now V4 x) words.now)
@@ -152,14 +234,14 @@ pub(crate) fn admitted_addresses(
     ensures v6 { IfOk result (λ a. IsSetOf (λ x. Admits (NamesAddress base.now V6 x) words.now)
         (top_address V6) a.v6) }
 {
-    match words.first() {
-        None => Ok(Addresses {
+    if words.is_empty() {
+        return Ok(Addresses {
             v4: RangeSet::all(alloc, Family::V4.top_address())?,
             v6: RangeSet::all(alloc, Family::V6.top_address())?,
             gathered: 0,
-        }),
-        Some(_) => addresses_of_words(alloc, base, words),
+        });
     }
+    addresses_of_words(alloc, base, words, lookups)
 }
 
 /// The addresses of an end: those that some words name, less those of the excluded words. Where none is excluded nothing
@@ -169,6 +251,7 @@ pub(crate) fn end_of(
     base: &Checked,
     named: Addresses,
     excludes: &WordList,
+    lookups: &mut Lookups,
 ) -> Result<Addresses, Refusal>
     requires v4 { named.v4.top ≡ top_address V4 }
     requires v6 { named.v6.top ≡ top_address V6 }
@@ -180,11 +263,9 @@ pub(crate) fn end_of(
         → IsSetOf (IsNamedAddress base.now V6 words) (top_address V6) named.v6
         → IsSetOf (IsAddress base.now V6 words excludes.now) (top_address V6) a.v6) }
 {
-    match excludes.first() {
-        None => Ok(named),
-        Some(_) => {
-            let excluded = addresses_of_words(alloc, base, excludes)?;
-            Ok(named.without(alloc, &excluded)?)
-        }
+    if excludes.is_empty() {
+        return Ok(named);
     }
+    let excluded = addresses_of_words(alloc, base, excludes, lookups)?;
+    Ok(named.without(alloc, &excluded)?)
 }

@@ -8,7 +8,7 @@ ghost use Rattle.acl_terms.specs.Matching.{IsAddress, IsNamedAddress};
 ghost use Rattle.acl_terms.specs.Sets.{IsSetOf};
 ghost use Rattle.acl_terms.specs.Slips.{network_slip};
 
-use crate::addresses::{Addresses, admitted_addresses, end_of};
+use crate::addresses::{Addresses, Lookups, admitted_addresses, end_of};
 use acl_naming::Checked;
 use acl_policy::WordList;
 use acl_text::{Memory, Refusal, TextKey};
@@ -24,6 +24,7 @@ use std::marker::Model;
 pub struct KnownAddresses<'a> {
     base: &'a Checked,
     lists: IndexMap<(TextKey<'a>, TextKey<'a>), Addresses>,
+    lookups: Lookups,
 }
 
 impl<'a> Model for KnownAddresses<'a> {
@@ -45,6 +46,7 @@ impl<'a> KnownAddresses<'a> {
         KnownAddresses {
             base,
             lists: IndexMap::new(alloc),
+            lookups: Lookups::new(alloc),
         }
     }
 
@@ -104,7 +106,7 @@ impl<'a> KnownAddresses<'a> {
         if let Some(known) = self.find(words.text(), &[])? {
             return Ok(known);
         }
-        let addresses = admitted_addresses(alloc, self.base(), words)?;
+        let addresses = admitted_addresses(alloc, self.base, words, &mut self.lookups)?;
         self.keep(words.text(), &[], &addresses)?;
         Ok(addresses)
     }
@@ -132,7 +134,7 @@ impl<'a> KnownAddresses<'a> {
             return Ok(known);
         }
         let named = self.addresses_of(alloc, words)?;
-        let addresses = end_of(alloc, self.base(), named, excludes)?;
+        let addresses = end_of(alloc, self.base, named, excludes, &mut self.lookups)?;
         self.keep(words.text(), excludes.text(), &addresses)?;
         Ok(addresses)
     }

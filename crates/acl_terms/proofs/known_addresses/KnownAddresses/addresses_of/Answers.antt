@@ -24,8 +24,8 @@ returns-in-Some-clause-v6 c =
 
 pub keep-requires : goal.keep-requires
 keep-requires c =
-    let gathered = rw c.base.ensures at c.in_ok-addresses.ensures in
+    let gathered = rw c.self.view_is at c.in_ok-addresses.ensures in
     let these : AreAddresses c.args.self.now c.args.words.now [] c.in_ok-addresses.addresses =
     as-named c.args.self.now c.args.words.now c.in_ok-addresses.addresses gathered.judged gathered.v4 gathered.v6 in
-    known-for c.args.self.now c.text-2.result.now [] c.args.words.now [] c.in_ok-addresses.addresses
-    c.text-2.ensures refl these
+    rw c.self.view_is (known-for c.args.self.now c.text-2.result.now [] c.args.words.now [] c.in_ok-addresses.addresses
+    c.text-2.ensures refl these)

@@ -18,22 +18,22 @@ returns-in-Some-clause-v6 c =
 
 pub keep-requires : goal.keep-requires
 keep-requires c =
-    let base = c.base.ensures ∙ c.in_ok-named.ensures.same in
+    let base = c.self.view_is ∙ c.in_ok-named.ensures.same in
     let less = rw base at c.in_ok-addresses.ensures in
     let these : AreAddresses c.args.self.now c.args.words.now c.args.excludes.now c.in_ok-addresses.addresses = record {
       are_defined = none-both _ _ c.in_ok-named.ensures.judged less.judged;
       ipv4 = less.v4 c.args.words.now c.in_ok-named.ensures.v4;
       ipv6 = less.v6 c.args.words.now c.in_ok-named.ensures.v6;
     } in
-    rw c.in_ok-named.ensures.same (known-for c.args.self.now c.text-3.result.now c.text-4.result.now c.args.words.now
+    rw base (known-for c.args.self.now c.text-3.result.now c.text-4.result.now c.args.words.now
     c.args.excludes.now c.in_ok-addresses.addresses c.text-3.ensures c.text-4.ensures these)
 
 pub returns-clause-v4 : goal.returns-clause-v4
 returns-clause-v4 c =
-    let less = rw (c.base.ensures ∙ c.in_ok-named.ensures.same) at c.in_ok-addresses.ensures in
+    let less = rw (c.self.view_is ∙ c.in_ok-named.ensures.same) at c.in_ok-addresses.ensures in
     less.v4 c.args.words.now c.in_ok-named.ensures.v4
 
 pub returns-clause-v6 : goal.returns-clause-v6
 returns-clause-v6 c =
-    let less = rw (c.base.ensures ∙ c.in_ok-named.ensures.same) at c.in_ok-addresses.ensures in
+    let less = rw (c.self.view_is ∙ c.in_ok-named.ensures.same) at c.in_ok-addresses.ensures in
     less.v6 c.args.words.now c.in_ok-named.ensures.v6
