@@ -101,6 +101,8 @@ fn push_block(v4: &mut Vec<Range>, v6: &mut Vec<Range>, item: &Item) -> Result<(
     Ok(())
 }
 
+// Most definitions have few items, so this stands where their places are gone through.
+#[inline(always)]
 fn push_blocks(v4: &mut Vec<Range>, v6: &mut Vec<Range>, items: &[Item]) -> Result<(), Memory>
     ensures v4 { OnOk result (Collects (Wanted.Addresses Family.V4) (any_item items.now)
         v4.old.items v4.new.items) }
