@@ -112,9 +112,9 @@ fn first_word(alloc: Global, place: Place, text: &[u8]) -> Result<Box<KeptWords>
     requires { HasNoFeed text.now }
     ensures { IfOk result (λ k. words_in k.value ≡ record { place = place; text = text.now } ∷ []) }
 {
-    let mut words = KeptWords::Line(LineWords::starting_at(place));
+    let mut words = Box::new(alloc, KeptWords::Line(LineWords::starting_at(place)))?;
     words.push(alloc, place, text)?;
-    Ok(Box::new(alloc, words)?)
+    Ok(words)
 }
 
 /// A list of words without line feeds. One without words, as most lists of a term are, takes no memory. A
