@@ -19,10 +19,10 @@ use crate::choices::is_word;
 use crate::clashes::{clashes, count_of};
 use crate::clauses::Clause;
 use crate::copies::copy_target;
+use crate::open_terms::OpenTerm;
 use crate::states::{Part, PolicyState};
 use crate::target_lines::{NamedTarget, read_target_line};
-use crate::term_drafts::{TermDraft, draft_of, no_draft};
-use crate::terms::judge_term_keyword;
+use crate::term_drafts::{TermDraft, draft_of};
 use crate::values::{Takes, check_values, is_text, is_value, word_of};
 use crate::word_slips::{refusal_at, refusal_for};
 use acl_text::{Code, Items, Memory, Refusal};
@@ -86,7 +86,7 @@ fn begin_term(state: &mut PolicyState, draft: TermDraft)
       part = Part.Named;
     } }
 {
-    state.draft = draft;
+    state.draft = OpenTerm::begun(draft);
     state.term_count += 1;
     state.part = Part::Named;
 }
@@ -120,8 +120,8 @@ pub(crate) fn end_block(alloc: Global, state: &mut PolicyState) -> Result<(), Me
 fn end_term(alloc: Global, state: &mut PolicyState) -> Result<(), Memory>
     ensures { OnOk result (state.new ≡ with_term state.old) }
 {
-    let draft = mem::replace(&mut state.draft, no_draft(alloc));
-    state.terms.push(draft.term)?;
+    let term = state.draft.end(alloc);
+    state.terms.push(term)?;
     state.part = Part::TermEnd;
     Ok(())
 }
@@ -221,7 +221,7 @@ fn judge_keyword(
     match part {
         Part::InHeader => judge_header_keyword(alloc, state, clause),
         Part::InTerm => {
-            judge_term_keyword(alloc, &mut state.draft, clause)?;
+            state.draft.judge_keyword(alloc, clause)?;
             Ok(())
         }
         _ => Err(refusal_at(alloc, Code::Syntax, clause.keyword)),
@@ -269,7 +269,7 @@ fn judge_header_end(
 fn judge_term_end(alloc: Global, state: &mut PolicyState, brace: &Token<'_>) -> Result<(), Refusal>
     ensures { Leaves slip_told state.new result (behind_end Part.InTerm state.old brace.now) }
 {
-    if !state.draft.has_action {
+    if !state.draft.has_action() {
         return Err(Refusal::at(alloc, Code::Missing, brace.place(), b"action::"));
     }
     end_term(alloc, state)?;

@@ -9,6 +9,7 @@ mod copies;
 mod judging;
 mod keywords;
 mod named_terms;
+mod open_terms;
 mod policy_parsing;
 mod raw_terms;
 mod states;

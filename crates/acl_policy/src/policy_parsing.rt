@@ -14,8 +14,8 @@ ghost use Rattle.acl_policy.specs.Slips.{start_place};
 use crate::blocks::Policy;
 use crate::judging::end_block;
 use crate::named_terms::NamedTerms;
+use crate::open_terms::OpenTerm;
 use crate::states::{Part, PolicyState};
-use crate::term_drafts::no_draft;
 use crate::word_judges::Judge;
 use acl_text::{Code, Items, Place, Refusal};
 use acl_words::{PolicyWords, Sources};
@@ -32,7 +32,7 @@ fn start(alloc: Global) -> PolicyState
         terms: NamedTerms::new(alloc),
         term_count: 0,
         part: Part::Start,
-        draft: no_draft(alloc),
+        draft: OpenTerm::none(),
     }
 }
 

@@ -1,6 +1,6 @@
 use crate::blocks::Blocks;
 use crate::named_terms::NamedTerms;
-use crate::term_drafts::TermDraft;
+use crate::open_terms::OpenTerm;
 use acl_target::Targets;
 
 /// Where in the structure of a policy the reading stands.
@@ -35,5 +35,6 @@ pub(crate) struct PolicyState {
     /// How many terms of the policy have begun.
     pub(crate) term_count: usize,
     pub(crate) part: Part,
-    pub(crate) draft: TermDraft,
+    /// The term whose braces are open.
+    pub(crate) draft: OpenTerm,
 }
