@@ -1,6 +1,7 @@
 pub mod AnsweredFaults
 pub mod ByteTables
 pub mod FeedLaws
+pub mod FileTextLaws
 pub mod FolderLaws
 pub mod Includes
 pub mod InnerLaws
@@ -11,4 +12,5 @@ pub mod PlaceLaws
 pub mod ReadingLaws
 pub mod RunLaws
 pub mod StepLaws
+pub mod WholeFileLaws
 pub mod WordTextLaws

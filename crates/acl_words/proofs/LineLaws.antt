@@ -1,16 +1,19 @@
 -- One more line, in the text and in the places.
-use Rattle.std.proofs.Common.{◌≡◌, ℕ, zero, suc, ◌+◌, ◌==◌, List, [], ◌∷◌, ◌++◌, map, refl, ap, sym, subst, ◌∙◌, arith, add-zero, append_assoc, append-nil}
+use Rattle.std.proofs.Common.{◌≡◌, ℕ, zero, suc, ◌+◌, ◌==◌, List, [], ◌∷◌, ◌++◌, length, map, refl, ap, sym, subst, ◌∙◌, arith, add-zero, append_assoc, append-nil}
 use Rattle.std.specs.List.{AllByRecursion}
 use Rattle.std.proofs.lemmas.Bool.{cond-false, or_parts}
 use Rattle.std.proofs.lemmas.List.{map-append}
 use Rattle.std.proofs.lemmas.List.Concat.{flat_map-append}
-use Rattle.std.proofs.lemmas.List.Elements.{All-nil, All-cons, All-append, recursion_from_All}
+use Rattle.std.proofs.lemmas.List.Elements.{All-nil, All-cons, All-append, All-from_recursion, recursion_from_All}
 use Rattle.acl_text.specs.declared.faults.Place.{Place}
 use Rattle.acl_text.specs.declared.file_lines.Line.{Line}
 use Rattle.acl_text.specs.Cursors.{onto_first, lines_of}
 use Rattle.acl_text.specs.Cuts.{has_byte}
 use Rattle.acl_words.specs.LineTexts.{AreKept, HasNoFeed, lines_at, placed, text_of}
+use Rattle.acl_words.specs.FileLines.{lines_from, with_end}
 use Rattle.acl_words.specs.Stretches.{places_from}
+use Rattle.acl_words.proofs.FeedLaws.{lines_have_none}
+use Rattle.acl_words.proofs.FileTextLaws.{joined, joined_again}
 
 -- ---- places
 
@@ -72,4 +75,47 @@ lines_with lines l places places' text text' h e p t =
     subst (λ (ps : List Place). AreKept (lines ++ l ∷ []) ps text') (sym p)
     (subst (λ (x : List ℕ). AreKept (lines ++ l ∷ []) (places ++ l.place ∷ []) x) (sym t) (kept_with lines l places text h e)) in
     let w : lines_at places' text' ≡ lines ++ l ∷ [] = lines_are (lines ++ l ∷ []) places' text' k in
+    (w, subst (λ (ls : List Line). AreKept ls places' text') (sym w) k)
+
+-- ---- the lines of a file
+
+lines_text : (file n : ℕ) (texts : List (List ℕ)) → text_of (lines_from file n texts) ≡ joined texts
+lines_text file n [] = refl
+lines_text file n (t ∷ ts) = ap (λ (more : List ℕ). (t ++ 10 ∷ []) ++ more) (lines_text file (n + 1) ts)
+
+lines_places : (file n : ℕ) (texts : List (List ℕ)) → map (λ l. l.place) (lines_from file n texts) ≡ places_from file n (length texts)
+lines_places file n [] = refl
+lines_places file n (t ∷ ts) = ap (λ ps. record { file = file; line = n } ∷ ps) (lines_places file (n + 1) ts)
+
+lines_clean : (file n : ℕ) (texts : List (List ℕ)) → AllByRecursion HasNoFeed texts
+    → AllByRecursion (λ (l : Line). HasNoFeed l.text) (lines_from file n texts)
+lines_clean file n [] h = tt
+lines_clean file n (t ∷ ts) h = (h.0, lines_clean file (n + 1) ts h.1)
+
+kept_file : (lines : List Line) (file : ℕ) (bytes : List ℕ) (places : List Place) (text : List ℕ) → AreKept lines places text
+    → AreKept (lines ++ lines_from file 1 (lines_of bytes)) (places ++ places_from file 1 (length (lines_of bytes))) (text ++ with_end bytes)
+kept_file lines file bytes places text h =
+    let more : List Line = lines_from file 1 (lines_of bytes) in
+    record {
+      text_is = ap (λ (t : List ℕ). t ++ with_end bytes) h.text_is
+          ∙ ap (λ (t : List ℕ). text_of lines ++ t) (sym (lines_text file 1 (lines_of bytes) ∙ joined_again bytes))
+          ∙ sym (flat_map-append (λ (l : Line). l.text ++ 10 ∷ []) lines more);
+      places_are = ap (λ (ps : List Place). ps ++ places_from file 1 (length (lines_of bytes))) h.places_are
+          ∙ ap (λ (ps : List Place). map (λ (l : Line). l.place) lines ++ ps) (sym (lines_places file 1 (lines_of bytes)))
+          ∙ sym (map-append (λ (l : Line). l.place) lines more);
+      no_feeds = All-append (λ (l : Line). HasNoFeed l.text) lines more h.no_feeds
+          (All-from_recursion (λ (l : Line). HasNoFeed l.text) more (lines_clean file 1 (lines_of bytes) (lines_have_none bytes)));
+    }
+
+-- Behind the lines of a file.
+pub lines_with_file : (lines : List Line) (file : ℕ) (bytes : List ℕ) (places places' : List Place) (text text' : List ℕ)
+    → AreKept lines places text
+    → places' ≡ places ++ places_from file 1 (length (lines_of bytes)) → text' ≡ text ++ with_end bytes
+    → (lines_at places' text' ≡ lines ++ lines_from file 1 (lines_of bytes)) × AreKept (lines_at places' text') places' text'
+lines_with_file lines file bytes places places' text text' h p t =
+    let all : List Line = lines ++ lines_from file 1 (lines_of bytes) in
+    let k : AreKept all places' text' =
+    subst (λ (ps : List Place). AreKept all ps text') (sym p)
+    (subst (λ (x : List ℕ). AreKept all (places ++ places_from file 1 (length (lines_of bytes))) x) (sym t) (kept_file lines file bytes places text h)) in
+    let w : lines_at places' text' ≡ all = lines_are all places' text' k in
     (w, subst (λ (ls : List Line). AreKept ls places' text') (sym w) k)

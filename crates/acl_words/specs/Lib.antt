@@ -1,4 +1,5 @@
 pub mod Bytes
+pub mod FileLines
 pub mod Folders
 pub mod IncludeLineSteps
 pub mod IncludeLines

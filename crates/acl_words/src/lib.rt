@@ -2,6 +2,7 @@
 //! words, read one at a time from them, each with its place and how it is meant.
 #![tactic(auto)]
 
+mod file_texts;
 mod folders;
 mod forms;
 mod gathering;

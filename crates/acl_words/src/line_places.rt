@@ -1,8 +1,28 @@
-ghost use Rattle.std.specs.Prelude.{◌≡◌, ◌∷◌, [], ◌++◌, OnOk, IfSome};
-ghost use Rattle.acl_words.specs.Stretches.{places_in, places_of};
+ghost use Rattle.std.specs.Prelude.{◌≡◌, ◌<◌, ◌+◌, ◌^◌, ◌∷◌, [], ◌++◌, OnOk, IfSome};
+ghost use Rattle.acl_words.specs.Stretches.{places_from, places_in, places_of};
 
 use crate::stretches::Stretch;
 use acl_text::{Memory, Place};
+
+/// Adds the places of so many lines of a file, from its first one on.
+pub(crate) fn push_file_places(
+    stretches: &mut Vec<Stretch>,
+    file: u32,
+    count: u32,
+) -> Result<(), Memory>
+    requires { count + 1 < 2 ^ 32 }
+    ensures { OnOk result (places_of stretches.new.items
+        ≡ places_of stretches.old.items ++ places_from file 1 count) }
+{
+    if count > 0 {
+        stretches.push(Stretch {
+            file,
+            first: 1,
+            count,
+        })?;
+    }
+    Ok(())
+}
 
 fn one_line(place: Place) -> Stretch
     ensures { places_in result ≡ place ∷ [] }

@@ -1,8 +1,11 @@
-ghost use Rattle.std.specs.Prelude.{◌≡◌, List, [], ◌∷◌, ◌++◌, map, OnOk, OnErr};
+ghost use Rattle.std.specs.Prelude.{◌≡◌, ◌<◌, ◌+◌, ◌^◌, List, [], ◌∷◌, ◌++◌, length, map, OnOk, OnErr};
+ghost use Rattle.acl_text.specs.Cursors.{lines_of};
+ghost use Rattle.acl_words.specs.FileLines.{lines_from, with_end};
 ghost use Rattle.acl_words.specs.LineTexts.{HasNoFeed, HaveNoFeeds, text_of};
-ghost use Rattle.acl_words.specs.Stretches.{places_of};
+ghost use Rattle.acl_words.specs.Stretches.{places_from, places_of};
 
-use crate::line_places::push_place;
+use crate::file_texts::{is_ended, line_count};
+use crate::line_places::{push_file_places, push_place};
 use crate::stretches::Stretch;
 use acl_text::{Memory, Place};
 use std::alloc::Global;
@@ -66,6 +69,23 @@ impl Lines {
         }
     }
 
+    /// Adds all lines of a file at the end. Where memory is wanted no line is left.
+    pub(crate) fn push_file(&mut self, file: u32, bytes: &[u8]) -> Result<(), Memory>
+        requires { length bytes.now + 2 < 2 ^ 32 }
+        ensures ok { OnOk result (self.new
+            ≡ self.old ++ lines_from file 1 (lines_of bytes.now)) }
+        ensures err { OnErr result (self.new ≡ []) }
+    {
+        match push_file(&mut self.text, &mut self.stretches, file, bytes) {
+            Ok(()) => Ok(()),
+            Err(memory) => {
+                self.text.clear();
+                self.stretches.clear();
+                Err(memory)
+            }
+        }
+    }
+
     /// The lines as one text: each with a line feed behind it.
     pub fn text(&self) -> &[u8]
         ensures text { result.now ≡ text_of self.now }
@@ -95,4 +115,22 @@ fn push_line(
     all.extend_from_slice(text)?;
     all.push(b'\n')?;
     push_place(stretches, place)
+}
+
+fn push_file(
+    all: &mut Vec<u8>,
+    stretches: &mut Vec<Stretch>,
+    file: u32,
+    bytes: &[u8],
+) -> Result<(), Memory>
+    requires { length bytes.now + 2 < 2 ^ 32 }
+    ensures text { OnOk result (all.new.items ≡ all.old.items ++ with_end bytes.now) }
+    ensures places { OnOk result (places_of stretches.new.items
+        ≡ places_of stretches.old.items ++ places_from file 1 (length (lines_of bytes.now))) }
+{
+    all.extend_from_slice(bytes)?;
+    if !is_ended(bytes) {
+        all.push(b'\n')?;
+    }
+    push_file_places(stretches, file, line_count(bytes))
 }

@@ -1,4 +1,6 @@
-ghost use Rattle.std.specs.Prelude.{◌≡◌, ◌<◌, ◌≤◌, false, option_map, slice_get, length, OnOk, IfOk};
+ghost use Rattle.std.specs.Prelude.{◌≡◌, ◌<◌, ◌≤◌, ◌+◌, ◌^◌, false, option_map, slice_get, length, OnOk, IfOk};
+ghost use Rattle.acl_text.specs.Cursors.{lines_of};
+ghost use Rattle.acl_words.specs.FileLines.{with_lines};
 ghost use Rattle.acl_words.specs.LineTexts.{HasNoFeed};
 ghost use Rattle.acl_words.specs.Labels.{AreOfFiles};
 ghost use Rattle.acl_words.specs.Splices.{nothing_read, with_line, with_file, with_include, is_long};
@@ -121,5 +123,16 @@ impl PartialSplice {
         ensures files { OnOk result (AreOfFiles self.new) }
     {
         self.lines.push(place, text)
+    }
+
+    /// All lines of a file that has a label.
+    #[tactic(auto, using(crate::proofs::WholeFileLaws::of_files))]
+    pub(crate) fn add_lines(&mut self, file: u32, bytes: &[u8]) -> Result<(), Memory>
+        requires file { file < length self.old.labels }
+        requires short { length bytes.now + 2 < 2 ^ 32 }
+        ensures lines { OnOk result (self.new ≡ with_lines file 1 (lines_of bytes.now) self.old) }
+        ensures files { OnOk result (AreOfFiles self.new) }
+    {
+        self.lines.push_file(file, bytes)
     }
 }

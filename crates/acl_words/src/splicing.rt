@@ -10,6 +10,7 @@ ghost use Rattle.acl_text.specs.Refusals.{fault};
 ghost use Rattle.acl_text.specs.declared.faults.Code.TheVariants.{NoFile};
 ghost use Rattle.acl_host.specs.WholeFiles.{ReadsFiles, is_no_reading, read_told};
 
+use crate::file_texts::has_hash;
 use crate::include_lines::{Asked, asked_in};
 use crate::partial_splices::{MOST_OF_FILE, PartialSplice};
 use acl_host::{ReadFault, Tree, TreeFault};
@@ -172,6 +173,10 @@ impl<'a> SplicedFile<'a> {
             return Err(self.refusal(alloc, Code::TooLong, 0, b""));
         }
         let file = sources.add_file(alloc, self.label, bytes.len())?;
+        if !has_hash(bytes) {
+            sources.add_lines(file, bytes)?;
+            return Ok(());
+        }
         let mut cursor = Cursor::new(file, bytes);
         while let Some(text) = cursor.line() {
             let place = cursor.place();
