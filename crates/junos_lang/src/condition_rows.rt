@@ -13,7 +13,7 @@ use acl_packet::{Family, Prefix};
 use acl_rows::{
     EachWord, End, Listed, ListedRows, OneWord, Piece, Row, Rows, WordForm, Words, has_none,
 };
-use acl_text::{Out, PutFault};
+use acl_text::{Out, PutFault, put_prefix_between};
 
 /// The values of a condition, each of which is a word.
 pub trait Values: Words {
@@ -205,7 +205,17 @@ impl WordForm<Prefix> for InBlock {
 
     #[inline]
     fn put_item_into<O: Out>(&self, prefix: &Prefix, out: &mut O) -> Result<(), PutFault> {
-        (*prefix, b";".as_slice()).put_into(out)
+        put_prefix_between(out, &[], prefix, b";")
+    }
+
+    #[inline]
+    fn put_item_line<O: Out>(
+        &self,
+        front: &[u8],
+        prefix: &Prefix,
+        out: &mut O,
+    ) -> Result<(), PutFault> {
+        put_prefix_between(out, front, prefix, b";\n")
     }
 }
 
