@@ -6,7 +6,7 @@ ghost use Rattle.nft_lang.specs.Texts.{set_words};
 
 use acl_packet::{Family, Prefix};
 use acl_rows::{ItemsBehind, Listed, Number, OneItem, Piece, WordForm, Words};
-use acl_text::{Out, PutFault, put_prefix};
+use acl_text::{Out, PutFault, put_prefix, put_prefix_between};
 
 /// A prefix as an element of a set.
 #[derive(Clone, Copy)]
@@ -17,6 +17,16 @@ impl WordForm<Prefix> for PrefixWord {
 
     fn put_item_into<O: Out>(&self, prefix: &Prefix, out: &mut O) -> Result<(), PutFault> {
         put_prefix(out, prefix)
+    }
+
+    #[inline]
+    fn put_item_behind<O: Out>(
+        &self,
+        front: &[u8],
+        prefix: &Prefix,
+        out: &mut O,
+    ) -> Result<(), PutFault> {
+        put_prefix_between(out, front, prefix, &[])
     }
 }
 
