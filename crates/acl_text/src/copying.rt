@@ -1,9 +1,22 @@
-ghost use Rattle.std.specs.Prelude.{◌≡◌, ◌≤◌, ◌+◌, length};
+ghost use Rattle.std.specs.Prelude.{◌≡◌, ◌≤◌, ◌<◌, ◌+◌, length};
 
 /// Writes the bytes over as many others. Few bytes, as words and lines have, are written without a call.
 #[inline(always)]
 pub fn copy_bytes(target: &mut [u8], bytes: &[u8])
     requires { length target.old ≡ length bytes.now }
+    ensures { target.new ≡ bytes.now }
+{
+    if bytes.len() > 16 {
+        copy_many(target, bytes);
+    } else {
+        copy_few(target, bytes);
+    }
+}
+
+#[inline(always)]
+fn copy_many(target: &mut [u8], bytes: &[u8])
+    requires same { length target.old ≡ length bytes.now }
+    requires many { 16 < length bytes.now }
     ensures { target.new ≡ bytes.now }
 {
     let count = bytes.len();
@@ -13,9 +26,19 @@ pub fn copy_bytes(target: &mut [u8], bytes: &[u8])
         copy_ends::<64>(target, bytes);
     } else if count > 32 {
         copy_ends::<32>(target, bytes);
-    } else if count > 16 {
+    } else {
         copy_ends::<16>(target, bytes);
-    } else if count > 8 {
+    }
+}
+
+#[inline(always)]
+fn copy_few(target: &mut [u8], bytes: &[u8])
+    requires same { length target.old ≡ length bytes.now }
+    requires few { length bytes.now ≤ 16 }
+    ensures { target.new ≡ bytes.now }
+{
+    let count = bytes.len();
+    if count > 8 {
         copy_ends::<8>(target, bytes);
     } else if count > 3 {
         copy_ends::<4>(target, bytes);
