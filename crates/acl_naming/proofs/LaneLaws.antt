@@ -1,11 +1,12 @@
 -- From one look at 16 bytes to those that pass a test.
-use Rattle.std.proofs.Common.{◌≡◌, ℕ, ◌+◌, ◌-◌, ◌%◌, ◌^◌, ◌<◌, ◌≤◌, eqb, Bool, true, not, cond, ◌||◌, List, [], ◌∷◌, ◌++◌, map, length, take, drop, get_or, Fits, w8, sym, ap, ◌∙◌, subst, arith}
+use Rattle.std.proofs.Common.{◌≡◌, ℕ, ◌+◌, ◌-◌, ◌%◌, ◌^◌, ◌<◌, ◌≤◌, eqb, Bool, true, not, cond, ◌||◌, List, [], ◌∷◌, ◌++◌, map, length, take, drop, get_or, Fits, w8, zero, suc, nat_le, refl, sym, ap, ◌∙◌, subst, arith}
 use Rattle.std.proofs.Math.Seq.{take-add}
-use Rattle.std.proofs.lemmas.Bool.{agree_below, agree_below_at, and_from, and_parts}
-use Rattle.std.proofs.lemmas.List.{get_or-take, length-map, length-take, take_rest}
+use Rattle.std.proofs.lemmas.Bool.{agree_below, agree_below_at, and_from, and_parts, le-leb}
+use Rattle.std.proofs.lemmas.List.{get_or-take, length-map, length-take, take_rest, take-take}
 use Rattle.std.proofs.lemmas.List.Elements.{All-from_get_or}
 use Rattle.std.proofs.lemmas.List.Sums.{list_all-from_AllPass}
 use Rattle.std.proofs.lemmas.Simd.{first_set_mask_l, length-chunk, map-map, mask_l-mod, run_in_chunk_fails, run_in_chunk_le}
+use Rattle.acl_text.specs.Names.{is_name, is_name_byte}
 use Rattle.std.specs.Int.Count.{count_trailing_zeros}
 use Rattle.std.specs.List.{list_all, prefix_len}
 use lib.Lanes.{chunk, mask_l, top}
@@ -29,6 +30,26 @@ front_passes q d r h each =
     list_all-from_AllPass q (take r d) (All-from_get_or (λ x. q x ≡ true) (take r d) 0 (λ k inside.
     let low : k < r = omega (arith, inside, length-take r d) in
     subst (λ x. q x ≡ true) (sym (get_or-take r d k 0 low)) (each k low)))
+
+pub front_all : (test : ℕ → Bool) (bs : List ℕ) (n : ℕ) → list_all test bs ≡ true → list_all test (take n bs) ≡ true
+front_all test [] zero h = refl
+front_all test [] (suc n) h = refl
+front_all test (b ∷ bs) zero h = refl
+front_all test (b ∷ bs) (suc n) h =
+    let p = and_parts (test b) (list_all test bs) h in
+    and_from (test b) (list_all test (take n bs)) p.0 (front_all test bs n p.1)
+
+name_of : (word : List ℕ) → 0 < length word → length word ≤ 128 → list_all is_name_byte word ≡ true → is_name word ≡ true
+name_of [] h l a = absurd (omega arith)
+name_of (b ∷ bs) h l a = and_from (nat_le (length (b ∷ bs)) 128) (list_all is_name_byte (b ∷ bs)) (le-leb (length (b ∷ bs)) 128 l) a
+
+-- the first bytes of a text, no more than a run of such as may stand in a name, are a name
+pub named_front : (text word : List ℕ) (size run : ℕ) → size ≡ length word → take (length word) text ≡ word → 0 < size → size ≤ run → run ≤ 16
+    → list_all is_name_byte (take run text) ≡ true → is_name word ≡ true
+named_front text word size run long is some few top h =
+    let own : take size (take run text) ≡ word = take-take size run text few ∙ ap (λ (n : ℕ). take n text) long ∙ is in
+    name_of word (omega (arith, some, long)) (omega (arith, few, top, long))
+    (ap (λ (t : List ℕ). list_all is_name_byte t) (sym own) ∙ front_all is_name_byte (take run text) size h)
 
 -- where no lane stops, the byte passes
 module _ (q : ℕ → Bool) (d : List ℕ) (r : ℕ) (z : List ℕ) (room : 16 ≤ length d) (fits : (k : ℕ) → Fits w8 (get_or d k 0))

@@ -1,9 +1,9 @@
 -- Lines of the forms that a first look tells.
-use Rattle.std.proofs.Common.{◌≡◌, ℕ, ◌+◌, ◌-◌, ◌<◌, ◌≤◌, Bool, true, false, not, ◌&&◌, ◌||◌, ◌⊎◌, ◌==◌, nat_le, List, [], ◌∷◌, ◌++◌, length, take, drop, Ok, Err, inl, inr, refl, ap, sym, subst, ◌∙◌, arith}
+use Rattle.std.proofs.Common.{◌≡◌, ℕ, ◌+◌, ◌-◌, ◌<◌, ◌≤◌, Bool, true, false, not, ◌&&◌, ◌||◌, ◌⊎◌, ◌==◌, nat_le, zero, suc, get_or, List, [], ◌∷◌, ◌++◌, length, take, drop, Ok, Err, inl, inr, refl, ap, sym, subst, ◌∙◌, arith}
 use Rattle.std.specs.Borrow.{Bor}
 use Rattle.std.proofs.lemmas.Bool.{and_parts, and_from, or_cases, cond-true, cond-false, eqb-true, leb-true, le-leb, ne_eqb}
-use Rattle.std.proofs.lemmas.List.{take_at, take-append-drop, length-append, append_assoc}
-use Rattle.std.specs.List.{list_all}
+use Rattle.std.proofs.lemmas.List.{drop-take, take_at, take-append-drop, take-take, get_or-take, length-append, length-take, append_assoc}
+use Rattle.std.specs.List.{list_all, slice_range}
 use Rattle.acl_text.specs.declared.faults.Place.{Place}
 use Rattle.acl_packet.specs.declared.addresses.Prefix.{Prefix}
 use Rattle.acl_text.specs.AddressTexts.{IsPrefixText}
@@ -16,7 +16,7 @@ use Rattle.acl_text.proofs.CutLaws.{cut-again, has-append, has-not}
 use Rattle.acl_naming.specs.declared.item_words.NamingKind.{NamingKind}
 use Rattle.acl_naming.specs.Definitions.{Definition}
 use Rattle.acl_naming.specs.declared.line_parts.LineForm.{LineForm}
-use Rattle.acl_naming.specs.declared.line_parts.LineForm.TheVariants.{Lone, LonePrefix, Named, Plain}
+use Rattle.acl_naming.specs.declared.line_parts.LineForm.TheVariants.{LonePrefix, Plain}
 use Rattle.acl_naming.specs.LineSteps.{IsLoneWord, IsNamed, IsOfForm, IsSeenLine, is_ink, is_plain}
 use Rattle.acl_naming.specs.NamingFiles.{TableOrSlip, in_front_of, item_added, line_added, opens, trimmed, with_items, without_comment, without_end}
 use Rattle.acl_naming.proofs.LaneLaws.{joined_all}
@@ -86,6 +86,56 @@ one_word b (c ∷ word) end h k =
     let next = and_parts (is_plain c) (not (is_white c)) (and_parts (is_ink c) (list_all is_ink word) p.1).0 in
     cond-false (is_white b) _ _ (not_true (is_white b) ink.1) ∙ cond-true (not (is_white c)) _ _ next.1 ∙ ap (onto_first b) (one_word c word end p.1 k)
 
+-- a word, and what stands behind it
+word_ahead : (b : ℕ) (word tail : List ℕ) → list_all is_ink (b ∷ word) ≡ true → begins_black tail ≡ false → words_of (b ∷ (word ++ tail)) ≡ (b ∷ word) ∷ words_of tail
+word_ahead b [] tail h k =
+    let ink = and_parts (is_plain b) (not (is_white b)) (and_parts (is_ink b) true h).0 in
+    cond-false (is_white b) _ _ (not_true (is_white b) ink.1) ∙ cond-false (begins_black tail) _ _ k
+word_ahead b (c ∷ word) tail h k =
+    let p = and_parts (is_ink b) (list_all is_ink (c ∷ word)) h in
+    let ink = and_parts (is_plain b) (not (is_white b)) p.0 in
+    let next = and_parts (is_plain c) (not (is_white c)) (and_parts (is_ink c) (list_all is_ink word) p.1).0 in
+    cond-false (is_white b) _ _ (not_true (is_white b) ink.1) ∙ cond-true (not (is_white c)) _ _ next.1 ∙ ap (onto_first b) (word_ahead c word tail p.1 k)
+
+words_ahead : (word tail : List ℕ) → 0 < length word → list_all is_ink word ≡ true → begins_black tail ≡ false → words_of (word ++ tail) ≡ word ∷ words_of tail
+words_ahead [] tail l h k = absurd (omega arith)
+words_ahead (b ∷ word) tail l h k = word_ahead b word tail h k
+
+white_there : (bs : List ℕ) (n : ℕ) → (n < length bs → is_white (get_or bs n 0) ≡ true) → begins_black (drop n bs) ≡ false
+white_there [] zero h = refl
+white_there [] (suc n) h = refl
+white_there (b ∷ bs) zero h = ap not (h (omega arith))
+white_there (b ∷ bs) (suc n) h = white_there bs n (λ l. h (omega (arith, l)))
+
+-- the first bytes of a text begin with a word, behind which there is white space or their end
+pub word_first : (text shown : List ℕ) (size n : ℕ) → size ≤ length text → take size text ≡ shown → 0 < n → n ≤ size → list_all is_ink (take n text) ≡ true
+    → (n < size → is_white (get_or text n 0) ≡ true) → words_of shown ≡ take n shown ∷ words_of (drop n shown)
+word_first text shown size n fits is some within ink white =
+    let long : length shown ≡ size = omega (arith, ap (λ (t : List ℕ). length t) (sym is), length-take size text, fits) in
+    let own : take n shown ≡ take n text = ap (λ (t : List ℕ). take n t) (sym is) ∙ take-take n size text within in
+    let there : n < length shown → is_white (get_or shown n 0) ≡ true = λ l.
+    ap (λ (t : List ℕ). is_white (get_or t n 0)) (sym is) ∙ ap is_white (get_or-take size text n 0 (omega (arith, l, long))) ∙ white (omega (arith, l, long)) in
+    ap words_of (sym (take-append-drop n shown))
+    ∙ words_ahead (take n shown) (drop n shown) (omega (arith, length-take n shown, long, some, within))
+    (ap (λ (t : List ℕ). list_all is_ink t) own ∙ ink) (white_there shown n there)
+
+sliced : (line : List ℕ) (start end : ℕ) → start ≤ end → slice_range line start end ≡ drop start (take end line)
+sliced line start end h =
+    let back : end ≡ start + (end - start) = omega arith in
+    sym (ap (λ (n : ℕ). drop start (take n line)) back ∙ drop-take start (end - start) line)
+
+-- the next word of a line, and what stands behind it
+pub next_shown : (line whole word rest : List ℕ) (start end : ℕ) → line ≡ whole → words_of line ≡ slice_range line start end ∷ words_of (drop end line) → start ≤ end
+    → word ≡ drop start (take end whole) → rest ≡ drop end whole → words_of whole ≡ word ∷ words_of rest
+next_shown line whole word rest start end same h l w r =
+    let all : words_of whole ≡ slice_range whole start end ∷ words_of (drop end whole) =
+    subst (λ (t : List ℕ). words_of t ≡ slice_range t start end ∷ words_of (drop end t)) same h in
+    all ∙ ap (λ (t : List ℕ). t ∷ words_of (drop end whole)) (sliced whole start end l ∙ sym w) ∙ ap (λ (t : List ℕ). word ∷ words_of t) (sym r)
+
+-- white space in front is passed over
+pub white_first : (bs : List ℕ) (n : ℕ) → list_all is_white (take n bs) ≡ true → words_of bs ≡ words_of (drop n bs)
+white_first bs n h = ap words_of (sym (take-append-drop n bs)) ∙ front_words (take n bs) (drop n bs) h
+
 some_word : (word end : List ℕ) → 0 < length word → list_all is_ink word ≡ true → list_all is_white end ≡ true → words_of (word ++ end) ≡ word ∷ []
 some_word [] end l h k = absurd (omega arith)
 some_word (b ∷ word) end l h k = one_word b word end h k
@@ -110,26 +160,37 @@ split_whole bs xs ys n x y = sym (take-append-drop n bs) ∙ ap (λ t. t ++ drop
 own_line : (bytes own rest line : List ℕ) (size : ℕ) → bytes ≡ own ++ 10 ∷ rest → length own ≡ size → line ≡ take size bytes → own ≡ line
 own_line bytes own rest line size whole long is = sym (is ∙ ap (take size) whole ∙ take_at own (10 ∷ rest) size long)
 
-seen : (bytes own rest line : List ℕ) (form : LineForm) → bytes ≡ own ++ 10 ∷ rest → own ≡ line → has_byte 10 own ≡ false → IsOfForm own form → IsSeenLine bytes line form rest
-seen bytes own rest line form whole same ended told = record {
+-- a line feed stands behind the line, of which something is told
+pub record SeenBy (bytes line rest : List ℕ) (Told : Type 0) : Type 0 where
+  pub joined : bytes ≡ line ++ 10 ∷ rest
+  pub ended : has_byte 10 line ≡ false
+  pub told : Told
+
+seen : (bytes own rest line : List ℕ) (Told : List ℕ → Type 0) → bytes ≡ own ++ 10 ∷ rest → own ≡ line → has_byte 10 own ≡ false → Told own
+    → SeenBy bytes line rest (Told line)
+seen bytes own rest line Told whole same ended told = record {
   joined = whole ∙ ap (λ x. x ++ 10 ∷ rest) same;
   ended = ap (has_byte 10) (sym same) ∙ ended;
-  told = subst (λ x. IsOfForm x form) same told;
+  told = subst Told same told;
 }
 
+-- which is its form
+pub of_form : (bytes line rest : List ℕ) (form : LineForm) (Told : Type 0) → (Told → IsOfForm line form) → SeenBy bytes line rest Told → IsSeenLine bytes line form rest
+of_form bytes line rest form Told is h = record { joined = h.joined; ended = h.ended; told = is h.told }
+
 -- the first line is white space, a word, and white space
-pub lone_line : (bytes front text : List ℕ) (word : Bor (List ℕ)) (behind end tail rest line : List ℕ) (size : ℕ)
-    → bytes ≡ front ++ text → text ≡ word.now ++ behind → behind ≡ end ++ tail → tail ≡ 10 ∷ rest
-    → list_all is_white front ≡ true → 0 < length word.now → list_all is_ink word.now ≡ true → list_all is_white end ≡ true
-    → size ≡ length front + length word.now + length end → line ≡ take size bytes → IsSeenLine bytes line (Lone word) rest
+pub lone_line : (bytes front text word behind end tail rest line : List ℕ) (size : ℕ)
+    → bytes ≡ front ++ text → text ≡ word ++ behind → behind ≡ end ++ tail → tail ≡ 10 ∷ rest
+    → list_all is_white front ≡ true → 0 < length word → list_all is_ink word ≡ true → list_all is_white end ≡ true
+    → size ≡ length front + length word + length end → line ≡ take size bytes → SeenBy bytes line rest (IsLoneWord line word)
 lone_line bytes front text word behind end tail rest line size b t h g f l w e s is =
-    let own = front ++ (word.now ++ end) in
+    let own = front ++ (word ++ end) in
     let whole : bytes ≡ own ++ 10 ∷ rest =
-    b ∙ ap (λ x. front ++ x) (t ∙ ap (λ x. word.now ++ x) (h ∙ ap (λ x. end ++ x) g))
-    ∙ ap (λ x. front ++ x) (sym (append_assoc word.now end (10 ∷ rest))) ∙ sym (append_assoc front (word.now ++ end) (10 ∷ rest)) in
-    let told = lone_of front word.now end f l w e in
-    seen bytes own rest line (Lone word) whole
-    (own_line bytes own rest line size whole (omega (arith, s, length-append front (word.now ++ end), length-append word.now end)) is)
+    b ∙ ap (λ x. front ++ x) (t ∙ ap (λ x. word ++ x) (h ∙ ap (λ x. end ++ x) g))
+    ∙ ap (λ x. front ++ x) (sym (append_assoc word end (10 ∷ rest))) ∙ sym (append_assoc front (word ++ end) (10 ∷ rest)) in
+    let told = lone_of front word end f l w e in
+    seen bytes own rest line (λ x. IsLoneWord x word) whole
+    (own_line bytes own rest line size whole (omega (arith, s, length-append front (word ++ end), length-append word end)) is)
     (has-not is_plain 10 own told.plain refl) told
 
 -- bytes of a range of ink
@@ -173,7 +234,7 @@ pub prefix_line : (bytes front text : List ℕ) (word : Bor (List ℕ)) (rest1 b
 prefix_line bytes front text word rest1 behind end tail rest line p size b d t k h g f e s is =
     let long : length d.word ≡ length text - length rest1 = omega (arith, ap (λ (x : List ℕ). length x) d.text_is, length-append d.word rest1) in
     let own : word.now ≡ d.word = t ∙ ap (take (length text - length rest1)) d.text_is ∙ take_at d.word rest1 (length text - length rest1) long in
-    let lone = lone_line bytes front text word behind end tail rest line size b (split_whole text word.now behind (length text - length rest1) t k) h g f
+    let lone = lone_line bytes front text word.now behind end tail rest line size b (split_whole text word.now behind (length text - length rest1) t k) h g f
     (subst (λ (x : List ℕ). 0 < length x) (sym own) (d.nonempty))
     (ap (λ (x : List ℕ). list_all is_ink x) own ∙ prefix_bytes d.word d.bytes) e s is in
     record {
@@ -240,24 +301,24 @@ named_of front name blank items f l n w i =
       own = white_trimmed front (name ++ blank) f ∙ name_trimmed name blank l n w;
     }
 
-pub named_line : (bytes front text : List ℕ) (word : Bor (List ℕ)) (behind blank tail text2 : List ℕ) (items : Bor (List ℕ)) (end rest line : List ℕ) (size : ℕ)
-    → bytes ≡ front ++ text → text ≡ word.now ++ behind → behind ≡ blank ++ tail → tail ≡ 61 ∷ text2 → text2 ≡ items.now ++ end → end ≡ 10 ∷ rest
-    → list_all is_white front ≡ true → 0 < length word.now → list_all is_ink word.now ≡ true → list_all is_white blank ≡ true → list_all is_plain items.now ≡ true
-    → size ≡ length front + length word.now + length blank + 1 + length items.now → line ≡ take size bytes → IsSeenLine bytes line (Named word items) rest
+pub named_line : (bytes front text word behind blank tail text2 items end rest line : List ℕ) (size : ℕ)
+    → bytes ≡ front ++ text → text ≡ word ++ behind → behind ≡ blank ++ tail → tail ≡ 61 ∷ text2 → text2 ≡ items ++ end → end ≡ 10 ∷ rest
+    → list_all is_white front ≡ true → 0 < length word → list_all is_ink word ≡ true → list_all is_white blank ≡ true → list_all is_plain items ≡ true
+    → size ≡ length front + length word + length blank + 1 + length items → line ≡ take size bytes → SeenBy bytes line rest (IsNamed line word items)
 named_line bytes front text word behind blank tail text2 items end rest line size b t h g k m f l w e i s is =
-    let ahead = front ++ (word.now ++ blank) in
-    let own = ahead ++ 61 ∷ items.now in
+    let ahead = front ++ (word ++ blank) in
+    let own = ahead ++ 61 ∷ items in
     let whole : bytes ≡ own ++ 10 ∷ rest =
-    b ∙ ap (λ x. front ++ x) (t ∙ ap (λ x. word.now ++ x) (h ∙ ap (λ x. blank ++ x) (g ∙ ap (λ x. 61 ∷ x) (k ∙ ap (λ x. items.now ++ x) m))))
-    ∙ ap (λ x. front ++ x) (sym (append_assoc word.now blank (61 ∷ (items.now ++ 10 ∷ rest)))) ∙ sym (append_assoc front (word.now ++ blank) (61 ∷ (items.now ++ 10 ∷ rest)))
-    ∙ sym (append_assoc ahead (61 ∷ items.now) (10 ∷ rest)) in
-    let told = named_of front word.now blank items.now f l w e i in
-    let ended : has_byte 10 own ≡ false = has-append 10 ahead (61 ∷ items.now)
-    (has-not is_plain 10 ahead (joined_all is_plain front (word.now ++ blank) (white_all front f) (joined_all is_plain word.now blank (ink_all word.now w) (white_all blank e))) refl)
-    (has-not is_plain 10 items.now i refl) in
-    seen bytes own rest line (Named word items) whole
+    b ∙ ap (λ x. front ++ x) (t ∙ ap (λ x. word ++ x) (h ∙ ap (λ x. blank ++ x) (g ∙ ap (λ x. 61 ∷ x) (k ∙ ap (λ x. items ++ x) m))))
+    ∙ ap (λ x. front ++ x) (sym (append_assoc word blank (61 ∷ (items ++ 10 ∷ rest)))) ∙ sym (append_assoc front (word ++ blank) (61 ∷ (items ++ 10 ∷ rest)))
+    ∙ sym (append_assoc ahead (61 ∷ items) (10 ∷ rest)) in
+    let told = named_of front word blank items f l w e i in
+    let ended : has_byte 10 own ≡ false = has-append 10 ahead (61 ∷ items)
+    (has-not is_plain 10 ahead (joined_all is_plain front (word ++ blank) (white_all front f) (joined_all is_plain word blank (ink_all word w) (white_all blank e))) refl)
+    (has-not is_plain 10 items i refl) in
+    seen bytes own rest line (λ x. IsNamed x word items) whole
     (own_line bytes own rest line size whole
-    (omega (arith, s, length-append ahead (61 ∷ items.now), length-append front (word.now ++ blank), length-append word.now blank)) is)
+    (omega (arith, s, length-append ahead (61 ∷ items), length-append front (word ++ blank), length-append word blank)) is)
     ended told
 
 -- ---- what a line of one word adds

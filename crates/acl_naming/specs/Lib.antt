@@ -1,6 +1,7 @@
 pub mod Checking
 pub mod ComputableReach
 pub mod Definitions
+pub mod Fronts
 pub mod GraphSteps
 pub mod ItemWords
 pub mod LineSteps

@@ -4,6 +4,7 @@ use Rattle.std.specs.List.{list_all}
 use Rattle.acl_text.specs.Cursors.{is_white, words_of}
 use Rattle.acl_text.specs.AddressTexts.{IsPrefixText}
 use Rattle.acl_text.specs.Cuts.{cut_at, has_byte}
+use Rattle.acl_naming.specs.Fronts.{shown}
 use Rattle.acl_naming.specs.declared.line_parts.LineForm.{LineForm}
 use Rattle.acl_naming.specs.declared.line_parts.LineForm.TheVariants.{Lone, LonePrefix, Named, Plain, Other}
 use Rattle.acl_naming.specs.NamingFiles.{is_bad, trimmed}
@@ -34,9 +35,9 @@ pub record IsNamed (line name items : List ℕ) : Type 0 where
 
 -- What is told of a line.
 abbrev pub IsOfForm : List ℕ → LineForm → Type 0
-IsOfForm line (Lone word) = IsLoneWord line word.now
+IsOfForm line (Lone word) = IsLoneWord line (shown word)
 IsOfForm line (LonePrefix word prefix) = IsLoneWord line word.now × IsPrefixText word.now prefix
-IsOfForm line (Named name items) = IsNamed line name.now items.now
+IsOfForm line (Named name items) = IsNamed line (shown name) (shown items)
 IsOfForm line Plain = list_all is_plain line ≡ true
 IsOfForm line Other = Unit {0}
 

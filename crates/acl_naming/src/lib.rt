@@ -2,7 +2,10 @@
 #![tactic(auto)]
 
 mod bases;
+mod byte_runs;
 mod checking;
+mod front_words;
+mod fronts;
 mod item_words;
 mod laws;
 mod line_parts;

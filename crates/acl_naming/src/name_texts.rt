@@ -1,6 +1,9 @@
 ghost use Rattle.std.specs.Prelude.{◌≡◌, true, false, IfNone, IfOk, IfSome};
 ghost use Rattle.acl_text.specs.Names.{is_name};
+ghost use Rattle.acl_naming.specs.Fronts.{shown};
 
+use crate::byte_runs::name_run;
+use crate::fronts::Front;
 use acl_text::{Bytes, Memory, is_name, is_name_byte};
 use std::alloc::Global;
 use std::marker::Model;
@@ -40,6 +43,23 @@ impl ShortName {
         Some(ShortName {
             end: word.len() as u8,
             bytes,
+        })
+    }
+
+    // The same, where one look tells it: it is short, and the text goes on behind it.
+    #[inline(always)]
+    fn read_front(word: Front<'_>) -> Option<ShortName>
+        ensures { IfSome result (λ n. (n ≡ shown word.entry) × (is_name (shown word.entry) ≡ true)) }
+    {
+        let text = word.text();
+        let bytes = text.first_chunk::<30>()?;
+        let size = word.len();
+        if size == 0 || size > name_run(text) {
+            return None;
+        }
+        Some(ShortName {
+            end: size as u8,
+            bytes: *bytes,
         })
     }
 
@@ -91,8 +111,8 @@ impl NameText {
         }))
     }
 
-    /// The name that the word is, if it is one. Names are many and small, so this stands where it is asked for.
-    #[inline(always)]
+    /// The name that the word is, if it is one.
+    #[inline(never)]
     pub fn read(alloc: Global, word: &[u8]) -> Result<Option<NameText>, Memory>
         ensures some { IfOk result (λ o. IfSome o (λ n. (n ≡ word.now) × (is_name word.now ≡ true))) }
         ensures none { IfOk result (λ o. IfNone o (is_name word.now ≡ false)) }
@@ -103,6 +123,31 @@ impl NameText {
             }));
         }
         NameText::read_long(alloc, word)
+    }
+
+    /// The name that the word is, where one look tells it. `None` says nothing.
+    #[inline(always)]
+    pub fn short(word: Front<'_>) -> Option<NameText>
+        ensures { IfSome result (λ n. (n ≡ shown word.entry) × (is_name (shown word.entry) ≡ true)) }
+    {
+        match ShortName::read_front(word) {
+            Some(name) => Some(NameText {
+                kept: KeptName::Short(name),
+            }),
+            None => None,
+        }
+    }
+
+    /// The name that the word is, if it is one. Names are many and small, so this stands where it is asked for.
+    #[inline(always)]
+    pub fn read_front(alloc: Global, word: Front<'_>) -> Result<Option<NameText>, Memory>
+        ensures some { IfOk result (λ o. IfSome o (λ n. (n ≡ shown word.entry) × (is_name (shown word.entry) ≡ true))) }
+        ensures none { IfOk result (λ o. IfNone o (is_name (shown word.entry) ≡ false)) }
+    {
+        match NameText::short(word) {
+            Some(name) => Ok(Some(name)),
+            None => NameText::read(alloc, word.as_slice()),
+        }
     }
 
     pub fn as_slice(&self) -> &[u8]

@@ -6,6 +6,7 @@ ghost use Rattle.acl_text.specs.declared.faults.Code.TheVariants as codes;
 ghost use Rattle.acl_text.specs.AddressTexts.{IsPrefixText, prefix_in};
 ghost use Rattle.acl_naming.specs.declared.naming_items.Item.TheVariants.{Name, Network};
 ghost use Rattle.acl_naming.specs.Definitions.{index_of};
+ghost use Rattle.acl_naming.specs.Fronts.{shown};
 ghost use Rattle.acl_naming.specs.LineSteps.{IsOfForm};
 ghost use Rattle.acl_naming.specs.NamingFiles.{
   with_items,
@@ -21,13 +22,15 @@ ghost use Rattle.acl_naming.specs.NamingFiles.{
   without_comment,
 };
 
+use crate::byte_runs::LANES;
+use crate::fronts::Front;
 use crate::item_words::{NamingKind, read_block, read_item};
-use crate::line_parts::{LANES, LineForm, bad_byte, next_line, trimmed, without_comment};
+use crate::line_parts::{LineForm, bad_byte, next_line, trimmed, without_comment};
 use crate::name_texts::NameText;
 use crate::naming_items::{Item, PrefixItem, Reference};
 use crate::tables::Table;
 use acl_packet::Prefix;
-use acl_text::{Code, Place, Refusal, next_word, prefix_front, split_at_byte};
+use acl_text::{Code, Place, Refusal, next_word, split_at_byte};
 use std::alloc::Global;
 use std::simd::prelude::*;
 
@@ -38,14 +41,6 @@ fn is_full(table: &Table) -> bool
     ensures { result ≡ nat_le most (length table.now) }
 {
     table.len() >= MOST
-}
-
-// The prefix that the word is, where it can be told at once. `None` says nothing.
-fn whole_prefix(word: &[u8]) -> Option<Prefix>
-    ensures { IfSome result (λ p. IsPrefixText word.now p) }
-{
-    let (prefix, rest) = prefix_front(word)?;
-    if rest.is_empty() { Some(prefix) } else { None }
 }
 
 // Reads a line of a file of the kind, which stands at the place.
@@ -67,38 +62,38 @@ impl LineReader {
 
     // Adds an item that was read, if any.
     #[inline(always)]
-    fn put_item(self, table: &mut Table, word: &[u8], item: Item) -> Result<(), Refusal>
+    fn put_item(self, table: &mut Table, word: Front<'_>, item: Item) -> Result<(), Refusal>
         requires { 0 < length table.old }
         ensures gives { Leaves slip_told table.new result
-            (item_put self.place table.old word.now (Some item)) }
+            (item_put self.place table.old (shown word.entry) (Some item)) }
         ensures filled { OnOk result (0 < length table.new) }
     {
         if table.items_count() >= MOST {
-            return Err(self.refusal(Code::TooMany, word));
+            return Err(self.refusal(Code::TooMany, word.as_slice()));
         }
         table.push_item(item)?;
         Ok(())
     }
 
     // Adds the prefix that a word has to be.
-    fn add_prefix(self, table: &mut Table, word: &[u8]) -> Result<(), Refusal>
+    fn add_prefix(self, table: &mut Table, word: Front<'_>) -> Result<(), Refusal>
         requires { 0 < length table.old }
         ensures gives { Leaves slip_told table.new result
-            (item_put self.place table.old word.now (option_map Network (prefix_in word.now))) }
+            (item_put self.place table.old (shown word.entry) (option_map Network (prefix_in (shown word.entry)))) }
         ensures filled { OnOk result (0 < length table.new) }
     {
-        match read_block(word) {
+        match read_block(word.as_slice()) {
             Some(block) => self.put_item(table, word, Item::Network(block)),
-            None => Err(self.refusal(Code::BadValue, word)),
+            None => Err(self.refusal(Code::BadValue, word.as_slice())),
         }
     }
 
     #[inline(always)]
-    fn add_name(self, table: &mut Table, word: &[u8], name: NameText) -> Result<(), Refusal>
+    fn add_name(self, table: &mut Table, word: Front<'_>, name: NameText) -> Result<(), Refusal>
         requires some { 0 < length table.old }
-        requires own { name ≡ word.now }
-        ensures gives { Leaves slip_told table.new result (item_put self.place table.old word.now
-            (Some (Name (record { place = self.place; name = word.now })))) }
+        requires own { name ≡ shown word }
+        ensures gives { Leaves slip_told table.new result (item_put self.place table.old (shown word.entry)
+            (Some (Name (record { place = self.place; name = shown word.entry })))) }
         ensures filled { OnOk result (0 < length table.new) }
     {
         let place = self.place;
@@ -106,26 +101,26 @@ impl LineReader {
     }
 
     #[tactic(auto, unfolding(crate::specs::NamingFiles::item_added))]
-    fn add_any(self, table: &mut Table, word: &[u8]) -> Result<(), Refusal>
+    fn add_any(self, table: &mut Table, word: Front<'_>) -> Result<(), Refusal>
         requires { 0 < length table.old }
         ensures gives { Leaves slip_told table.new result
-            (item_added self.kind self.place table.old word.now) }
+            (item_added self.kind self.place table.old (shown word.entry)) }
         ensures filled { OnOk result (0 < length table.new) }
     {
-        match read_item(self.alloc, self.kind, self.place, word)? {
+        match read_item(self.alloc, self.kind, self.place, word.as_slice())? {
             Some(item) => self.put_item(table, word, item),
-            None => Err(self.refusal(Code::BadValue, word)),
+            None => Err(self.refusal(Code::BadValue, word.as_slice())),
         }
     }
 
     // Adds the item that the word of a prefix is. Most items are such.
     #[inline(always)]
     #[tactic(auto, using(crate::proofs::MarkedWords::read_added, crate::proofs::MarkedWords::read_is))]
-    fn add_read(self, table: &mut Table, word: &[u8], prefix: Prefix) -> Result<(), Refusal>
+    fn add_read(self, table: &mut Table, word: Front<'_>, prefix: Prefix) -> Result<(), Refusal>
         requires some { 0 < length table.old }
-        requires own { IsPrefixText word.now prefix }
+        requires own { IsPrefixText (shown word) prefix }
         ensures gives { Leaves slip_told table.new result
-            (item_added self.kind self.place table.old word.now) }
+            (item_added self.kind self.place table.old (shown word.entry)) }
         ensures filled { OnOk result (0 < length table.new) }
     {
         match self.kind {
@@ -137,20 +132,20 @@ impl LineReader {
         }
     }
 
-    // Within its caller the answer, which has the size of a refusal, is not copied. So with the two beside it.
-    #[inline(always)]
+    // Apart, since it takes much room beside what most names take.
+    #[inline(never)]
     #[tactic(auto, using(crate::proofs::MarkedWords::name_added, crate::proofs::MarkedWords::prefix_added))]
-    fn add_item(self, table: &mut Table, word: &[u8]) -> Result<(), Refusal>
+    fn add_other(self, table: &mut Table, word: Front<'_>) -> Result<(), Refusal>
         requires { 0 < length table.old }
         ensures gives { Leaves slip_told table.new result
-            (item_added self.kind self.place table.old word.now) }
+            (item_added self.kind self.place table.old (shown word.entry)) }
         ensures filled { OnOk result (0 < length table.new) }
     {
-        if let Some(prefix) = whole_prefix(word) {
+        if let Some(prefix) = word.prefix() {
             return self.add_read(table, word, prefix);
         }
         match self.kind {
-            NamingKind::Networks => match NameText::read(self.alloc, word)? {
+            NamingKind::Networks => match NameText::read_front(self.alloc, word)? {
                 Some(name) => self.add_name(table, word, name),
                 None => self.add_prefix(table, word),
             },
@@ -158,19 +153,56 @@ impl LineReader {
         }
     }
 
+    // Names are most, and do not begin as most prefixes do.
     #[inline(always)]
-    fn add_items(self, table: &mut Table, text: &[u8]) -> Result<(), Refusal>
+    #[tactic(auto, using(crate::proofs::MarkedWords::name_added))]
+    fn add_item(self, table: &mut Table, word: Front<'_>) -> Result<(), Refusal>
         requires { 0 < length table.old }
         ensures gives { Leaves slip_told table.new result
-            (items_added self.kind self.place table.old (words_of text.now)) }
+            (item_added self.kind self.place table.old (shown word.entry)) }
         ensures filled { OnOk result (0 < length table.new) }
     {
-        let mut from = 0;
-        while let Some((start, end)) = next_word(text, from) {
-            self.add_item(table, &text[start..end])?;
-            from = end;
+        if let NamingKind::Networks = self.kind
+            && !word.begins_with_number()
+            && let Some(name) = NameText::short(word)
+        {
+            return self.add_name(table, word, name);
+        }
+        self.add_other(table, word)
+    }
+
+    // Each word is looked for byte by byte.
+    #[inline(never)]
+    fn add_words(self, table: &mut Table, text: Front<'_>) -> Result<(), Refusal>
+        requires { 0 < length table.old }
+        ensures gives { Leaves slip_told table.new result
+            (items_added self.kind self.place table.old (words_of (shown text.entry))) }
+        ensures filled { OnOk result (0 < length table.new) }
+    {
+        let mut rest = text;
+        while let Some((word, behind)) = rest.next_word() {
+            self.add_item(table, word)?;
+            rest = behind;
         }
         Ok(())
+    }
+
+    #[inline(always)]
+    fn add_items(self, table: &mut Table, text: Front<'_>) -> Result<(), Refusal>
+        requires { 0 < length table.old }
+        ensures gives { Leaves slip_told table.new result
+            (items_added self.kind self.place table.old (words_of (shown text.entry))) }
+        ensures filled { OnOk result (0 < length table.new) }
+    {
+        let mut rest = text;
+        while let Some((word, behind)) = rest.quick_word() {
+            self.add_item(table, word)?;
+            rest = behind;
+        }
+        if rest.len() == 0 {
+            return Ok(());
+        }
+        self.add_words(table, rest)
     }
 
     // What is wrong with a name where there is no room for a definition more.
@@ -185,19 +217,19 @@ impl LineReader {
         }
     }
 
-    fn define(self, table: &mut Table, name: &[u8], rest: &[u8]) -> Result<(), Refusal>
+    fn define(self, table: &mut Table, name: Front<'_>, rest: Front<'_>) -> Result<(), Refusal>
         ensures gives { Leaves slip_told table.new result
-            (with_definition self.kind self.place table.old name.now rest.now) }
+            (with_definition self.kind self.place table.old (shown name.entry) (shown rest.entry)) }
         ensures filled { OnOk result (0 < length table.new) }
     {
-        let Some(text) = NameText::read(self.alloc, name)? else {
-            return Err(self.refusal(Code::BadName, name));
+        let Some(text) = NameText::read_front(self.alloc, name)? else {
+            return Err(self.refusal(Code::BadName, name.as_slice()));
         };
         if is_full(table) {
-            return Err(self.no_room(table, name));
+            return Err(self.no_room(table, name.as_slice()));
         }
         if !table.add(text, self.place)? {
-            return Err(self.refusal(Code::Twice, name));
+            return Err(self.refusal(Code::Twice, name.as_slice()));
         }
         self.add_items(table, rest)
     }
@@ -210,7 +242,7 @@ impl LineReader {
         ensures filled { is_open ≡ true → OnOk result (0 < length table.new) }
     {
         if is_open {
-            return self.add_items(table, text);
+            return self.add_items(table, Front::whole(text));
         }
         match next_word(text, 0) {
             Some((start, end)) => Err(self.refusal(Code::NoDefinition, &text[start..end])),
@@ -228,7 +260,7 @@ impl LineReader {
     {
         match split_at_byte(text, b'=') {
             Some((name, rest)) => {
-                self.define(table, trimmed(name), rest)?;
+                self.define(table, Front::whole(trimmed(name)), Front::whole(rest))?;
                 Ok(true)
             }
             None => {
@@ -274,7 +306,7 @@ impl LineReader {
                 Ok(true)
             }
             LineForm::LonePrefix(word, prefix) if is_open => {
-                self.add_read(table, word, prefix)?;
+                self.add_read(table, Front::whole(word), prefix)?;
                 Ok(true)
             }
             LineForm::Named(name, items) => {

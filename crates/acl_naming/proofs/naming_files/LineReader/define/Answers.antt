@@ -5,9 +5,10 @@ use Rattle.acl_text.specs.declared.faults.Place.{Place}
 use Rattle.acl_text.specs.Answers.{Leaves, slip_told}
 use Rattle.acl_text.specs.Cursors.{words_of}
 use Rattle.acl_text.specs.Names.{is_name}
-use Rattle.acl_text.specs.Refusals.{slip}
+use Rattle.acl_text.specs.Refusals.{IsRefusalBy, slip}
 use Rattle.acl_naming.specs.declared.item_words.NamingKind.{NamingKind}
 use Rattle.acl_naming.specs.Definitions.{Definition, index_of}
+use Rattle.acl_naming.specs.Fronts.{shown}
 use Rattle.acl_naming.specs.NamingFiles.{TableOrSlip, items_added, most, with_definition}
 use Rattle.acl_naming.proofs.ReadLaws.{refuses_slip}
 use Rattle.acl_naming.proofs.naming_files.LineReader.define.Goals as goal
@@ -54,32 +55,37 @@ told_of ds text name added new same told e =
 pub returns-in_default-clause-gives : goal.returns-in_default-clause-gives
 returns-in_default-clause-gives c =
     let a = c.args in
-    refuses_slip (slip codes.BadName a.self.place a.name.now) c.refusal.result _ c.refusal.ensures
-    (unnamed a.self.kind a.self.place a.table.now a.name.now a.rest.now (subst (λ o. IfNone o (is_name a.name.now ≡ false)) c.in_default.is c.in_ok-text.ensures.none))
+    refuses_slip (slip codes.BadName a.self.place (shown a.name)) c.refusal.result _
+    (subst (λ (n : List ℕ). IsRefusalBy (slip codes.BadName a.self.place n) c.refusal.result) c.as_slice.ensures c.refusal.ensures)
+    (unnamed a.self.kind a.self.place a.table.now (shown a.name) (shown a.rest) (subst (λ o. IfNone o (is_name (shown a.name) ≡ false)) c.in_default.is c.in_ok-text.ensures.none))
 
 pub returns-then-is_full-clause-gives : goal.returns-then-is_full-clause-gives
 returns-then-is_full-clause-gives c =
     let a = c.args in
-    let read = subst (λ o. IfSome o (λ n. (n ≡ a.name.now) × (is_name a.name.now ≡ true))) c.in-Some.is c.in_ok-text.ensures.some in
-    refuses_slip _ c.no_room.result _ c.no_room.ensures
-    (full a.self.kind a.self.place a.table.now a.name.now a.rest.now read.1 (sym c.is_full.ensures ∙ c.if-is_full.true))
+    let read = subst (λ o. IfSome o (λ n. (n ≡ (shown a.name)) × (is_name (shown a.name) ≡ true))) c.in-Some.is c.in_ok-text.ensures.some in
+    refuses_slip _ c.no_room.result _
+    (subst (λ (n : List ℕ). IsRefusalBy (slip (if is_some (index_of a.table.now n) then codes.Twice else codes.TooMany) a.self.place n) c.no_room.result)
+    c.as_slice-then-is_full.ensures c.no_room.ensures)
+    (full a.self.kind a.self.place a.table.now (shown a.name) (shown a.rest) read.1 (sym c.is_full.ensures ∙ c.if-is_full.true))
 
 pub returns-then-not-branch-clause-gives : goal.returns-then-not-branch-clause-gives
 returns-then-not-branch-clause-gives c =
     let a = c.args in
-    let read = subst (λ o. IfSome o (λ n. (n ≡ a.name.now) × (is_name a.name.now ≡ true))) c.in-Some.is c.in_ok-text.ensures.some in
-    refuses_slip (slip codes.Twice a.self.place a.name.now) c.refusal-then-not-branch.result _ c.refusal-then-not-branch.ensures
-    (twice a.self.kind a.self.place a.table.now a.name.now a.rest.now read.1
-    (told_of a.table.now c.in-Some.text a.name.now _ false read.0 c.in_ok-add.ensures.told c.if-not-branch.true))
+    let read = subst (λ o. IfSome o (λ n. (n ≡ (shown a.name)) × (is_name (shown a.name) ≡ true))) c.in-Some.is c.in_ok-text.ensures.some in
+    refuses_slip (slip codes.Twice a.self.place (shown a.name)) c.refusal-then-not-branch.result _
+    (subst (λ (n : List ℕ). IsRefusalBy (slip codes.Twice a.self.place n) c.refusal-then-not-branch.result) c.as_slice-then-not-branch.ensures
+    c.refusal-then-not-branch.ensures)
+    (twice a.self.kind a.self.place a.table.now (shown a.name) (shown a.rest) read.1
+    (told_of a.table.now c.in-Some.text (shown a.name) _ false read.0 c.in_ok-add.ensures.told c.if-not-branch.true))
 
 pub returns-clause-gives : goal.returns-clause-gives
 returns-clause-gives c =
     let a = c.args in
-    let read = subst (λ o. IfSome o (λ n. (n ≡ a.name.now) × (is_name a.name.now ≡ true))) c.in-Some.is c.in_ok-text.ensures.some in
+    let read = subst (λ o. IfSome o (λ n. (n ≡ (shown a.name)) × (is_name (shown a.name) ≡ true))) c.in-Some.is c.in_ok-text.ensures.some in
     subst (λ o. Leaves slip_told c.add_items.new.table c.add_items.result o)
-    (ap (λ ds. items_added a.self.kind a.self.place ds (words_of a.rest.now)) (c.in_ok-add.ensures.added c.if-not-branch.false
+    (ap (λ ds. items_added a.self.kind a.self.place ds (words_of (shown a.rest))) (c.in_ok-add.ensures.added c.if-not-branch.false
     ∙ ap (λ (n : List ℕ). a.table.now ++ record { name = n; place = a.self.place; items = [] } ∷ []) read.0)
-    ∙ sym (defined a.self.kind a.self.place a.table.now a.name.now a.rest.now read.1
-    (told_of a.table.now c.in-Some.text a.name.now _ true read.0 c.in_ok-add.ensures.told c.if-not-branch.false)
+    ∙ sym (defined a.self.kind a.self.place a.table.now (shown a.name) (shown a.rest) read.1
+    (told_of a.table.now c.in-Some.text (shown a.name) _ true read.0 c.in_ok-add.ensures.told c.if-not-branch.false)
     (sym c.is_full.ensures ∙ c.if-is_full.false)))
     c.add_items.ensures.gives

@@ -1,7 +1,7 @@
 use Rattle.std.proofs.Common.{arith}
 use Rattle.acl_naming.specs.LineSteps.{is_plain}
 use Rattle.acl_naming.proofs.LaneLaws.{more_pass}
-use Rattle.acl_naming.proofs.line_parts.plain_front.Goals as goal
+use Rattle.acl_naming.proofs.byte_runs.plain_front.Goals as goal
 
 pub returns-then-run-lt-LANES-clause-plain : goal.returns-then-run-lt-LANES-clause-plain
 returns-then-run-lt-LANES-clause-plain c =

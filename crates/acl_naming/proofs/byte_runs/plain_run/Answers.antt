@@ -3,7 +3,7 @@ use Rattle.std.proofs.lemmas.Simd.{length-chunk, splat_is_map, zip2_of_maps, zip
 use lib.Lanes.{chunk}
 use Rattle.acl_naming.specs.LineSteps.{is_plain}
 use Rattle.acl_naming.proofs.LaneLaws.{lanes_pass}
-use Rattle.acl_naming.proofs.line_parts.plain_run.Goals as goal
+use Rattle.acl_naming.proofs.byte_runs.plain_run.Goals as goal
 
 pub returns : goal.returns
 returns c =

@@ -1,7 +1,7 @@
 use Rattle.std.proofs.Common.{◌≡◌, ◌-◌, ◌≤◌, true, length, take}
 use Rattle.std.specs.List.{list_all}
 use Rattle.acl_naming.specs.LineSteps.{is_plain}
-use Rattle.acl_naming.proofs.line_parts.plain_front.Given as goal
+use Rattle.acl_naming.proofs.byte_runs.plain_front.Given as goal
 
 abbrev pub invariant-loop-from : goal.invariant-loop-from
 invariant-loop-from l = record {

@@ -1,7 +1,7 @@
 use Rattle.std.proofs.Common.{ℕ, ◌<◌, ◌==◌, get_or, ap, ◌∙◌, arith}
-use Rattle.acl_naming.specs.declared.line_parts.TheConstants.{INK}
+use Rattle.acl_naming.specs.declared.byte_runs.TheConstants.{INK}
 use Rattle.acl_naming.proofs.ByteTables.{ink_at}
-use Rattle.acl_naming.proofs.line_parts.is_ink.Goals as goal
+use Rattle.acl_naming.proofs.byte_runs.is_ink.Goals as goal
 
 pub returns : goal.returns
 returns c =

@@ -1,0 +1,18 @@
+use Rattle.std.proofs.Common.{ℕ, leb, cond, refl}
+use Rattle.std.proofs.lemmas.Simd.{length-chunk, splat_is_map, zip2_of_maps, zip2_splat}
+use lib.Lanes.{chunk}
+use Rattle.acl_text.specs.Names.{is_name_byte}
+use Rattle.acl_naming.proofs.LaneLaws.{lanes_pass}
+use Rattle.acl_naming.proofs.byte_runs.name_run.Goals as goal
+
+pub returns : goal.returns
+returns c =
+    let text = c.args.text.now in
+    let v = chunk 0 16 text in
+    let long = length-chunk 0 16 text c.requires in
+    let raised = zip2_of_maps _ _ _ v (zip2_splat {Y = ℕ} _ v 16 32 long) (splat_is_map v 16 97 long) in
+    let letter = zip2_of_maps (λ (a b : ℕ). cond (leb a b) 255 0) _ _ v (splat_is_map v 16 26 long) raised in
+    let digit = zip2_of_maps (λ (a b : ℕ). cond (leb a b) 255 0) _ _ v (splat_is_map v 16 10 long) (zip2_splat {Y = ℕ} _ v 16 48 long) in
+    let either = zip2_of_maps _ _ _ v letter digit in
+    lanes_pass is_name_byte text _ _ c.requires c.type_inv.text c.first_set.ensures _
+    (zip2_of_maps _ _ _ v (zip2_of_maps _ _ _ v either (zip2_splat {Y = ℕ} _ v 16 45 long)) (zip2_splat {Y = ℕ} _ v 16 95 long)) refl
