@@ -1,5 +1,6 @@
 -- Sets of the numbers of words.
-use Rattle.std.proofs.Common.{◌≡◌, ◌≢◌, ◌↔◌, ℕ, true, false, List, [], ◌∷◌, map, Option, None, Some, inl, inr, refl, ap, sym, ◌∙◌, subst, arith}
+use Rattle.std.proofs.Common.{◌≡◌, ◌≢◌, ◌≤◌, ◌↔◌, ℕ, true, false, List, [], ◌∷◌, map, Option, None, Some, inl, inr, refl, ap, sym, ◌∙◌, subst, arith}
+use Rattle.std.proofs.lemmas.Bool.Decides.{same_from_decides}
 use Rattle.std.specs.Prelude.{flat_map, option_to_list, Result, Ok, Err, IfOk, length}
 use Rattle.std.proofs.lemmas.Bool.{or_cases, or_left, or_right, both_ways}
 use Rattle.std.proofs.lemmas.Option.{none-some, same_Some}
@@ -64,6 +65,20 @@ pub words-set : (f : Word → Option ℕ) (ws : List Word) (ns : List ℕ) (top 
 words-set f ws ns top s e h =
     same-set (λ x. AnyOf (λ n. n ≡ x) ns) (λ x. AnyOf (λ w. f w ≡ Some x) ws) top s
     (λ x. subst (λ ms. AnyOf (λ n. n ≡ x) ms ↔ AnyOf (λ w. f w ≡ Some x) ws) (sym e) (any-flat f ws x)) h
+
+-- The set of the numbers, as it is kept.
+pub kept-set : (ns : List ℕ) (s : Numbers) → s.top ≡ 255 → IsNormal 0 s.top s.ranges
+    → ((x : ℕ) → x ≤ 255 → holds s.ranges x ≡ holds (map single ns) x) → IsSetOf (λ x. AnyOf (λ n. n ≡ x) ns) 255 s
+kept-set ns s t n e = record {
+  top_is = t;
+  normal = n;
+  exact = λ x le. let q = single-held ns x in (λ h. q.0 (sym (e x le) ∙ h), λ a. e x le ∙ q.1 a);
+}
+
+pub set-kept : (ns : List ℕ) (s : Numbers) → IsSetOf (λ x. AnyOf (λ n. n ≡ x) ns) 255 s → (x : ℕ) → x ≤ 255
+    → holds s.ranges x ≡ holds (map single ns) x
+set-kept ns s is x le =
+    same_from_decides {P = AnyOf (λ n. n ≡ x) ns} (holds s.ranges x) (holds (map single ns) x) (is.exact x le) (single-held ns x)
 
 -- ---- what calls give
 

@@ -4,13 +4,16 @@ ghost use Rattle.acl_packet.specs.declared.addresses.Family.TheVariants.{V4, V6}
 ghost use Rattle.acl_packet.specs.Addresses.{top_address};
 ghost use Rattle.acl_text.specs.Refusals.{Judges, first_in};
 ghost use Rattle.acl_terms.specs.KnownAddresses.{AreKnownFor};
-ghost use Rattle.acl_terms.specs.Matching.{IsAddress, IsNamedAddress};
+ghost use Rattle.acl_terms.specs.Matching.{IsAddress, IsNamedAddress, IsProtocol, protocols_of};
 ghost use Rattle.acl_terms.specs.Sets.{IsSetOf};
 ghost use Rattle.acl_terms.specs.Slips.{network_slip};
 
 use crate::addresses::{Addresses, Lookups, admitted_addresses, end_of};
+use crate::known_protocols::KnownProtocols;
+use crate::protocols::admitted_protocols;
 use acl_naming::Checked;
 use acl_policy::WordList;
+use acl_sets::RangeSet;
 use acl_text::{Memory, Refusal, TextKey};
 use indexmap::IndexMap;
 use std::alloc::Global;
@@ -19,12 +22,14 @@ use std::marker::Model;
 /// The addresses of lists of words that terms of a policy had so far, over the definitions of its names.
 ///
 /// Many terms name the same networks. Where the words are the same, in the same order and with the same excluded ones, their
-/// addresses are gathered once, and terms share the sets. A contract sees the definitions.
+/// addresses are gathered once, and terms share the sets. So it is with the sets of their protocols. A contract sees the
+/// definitions.
 #[derive(Drop)]
 pub struct KnownAddresses<'a> {
     base: &'a Checked,
     lists: IndexMap<(TextKey<'a>, TextKey<'a>), Addresses>,
     lookups: Lookups,
+    protocols: KnownProtocols,
 }
 
 impl<'a> Model for KnownAddresses<'a> {
@@ -47,6 +52,7 @@ impl<'a> KnownAddresses<'a> {
             base,
             lists: IndexMap::new(alloc),
             lookups: Lookups::new(alloc),
+            protocols: KnownProtocols::new(alloc),
         }
     }
 
@@ -137,5 +143,19 @@ impl<'a> KnownAddresses<'a> {
         let addresses = end_of(alloc, self.base, named, excludes, &mut self.lookups)?;
         self.keep(words.text(), excludes.text(), &addresses)?;
         Ok(addresses)
+    }
+
+    /// The set of the protocols of a term, of which these are the numbers. It is known from now on.
+    pub(crate) fn protocols_of(
+        &mut self,
+        alloc: Global,
+        words: &WordList,
+        protos: &[u8],
+    ) -> Result<RangeSet, Memory>
+        requires { protos.now ≡ protocols_of words.now }
+        ensures set { IfOk result (λ s. IsSetOf (IsProtocol words.now) 255 s) }
+        ensures same { self.new ≡ self.old }
+    {
+        admitted_protocols(alloc, words, protos, &mut self.protocols)
     }
 }

@@ -7,6 +7,7 @@ mod distinct;
 mod emptiness;
 mod ends;
 mod known_addresses;
+mod known_protocols;
 mod laws;
 mod living;
 mod matching;

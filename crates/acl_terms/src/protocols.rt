@@ -7,6 +7,7 @@ ghost use Rattle.acl_terms.specs.SetSteps.{IsCode, IsType, codes_of, single};
 
 use crate::checks::type_in;
 use crate::distinct::{distinct, may_repeat};
+use crate::known_protocols::KnownProtocols;
 use acl_packet::{Family, protocol_number, read_u8};
 use acl_policy::WordList;
 use acl_sets::{Range, RangeSet};
@@ -46,6 +47,22 @@ pub(crate) fn only_protocol(words: &WordList) -> Option<u8>
         return None;
     }
     protocol_number(first.text())
+}
+
+/// The numbers of the two words of `protocol::`, where there are just two. They take no memory.
+pub(crate) fn two_protocols(words: &WordList) -> Option<[u8; 2]>
+    ensures { IfSome result (λ ns. protocols_of words.now ≡ ns) }
+{
+    let mut left = words.iter();
+    let first = left.next()?;
+    let second = left.next()?;
+    if left.next().is_some() {
+        return None;
+    }
+    Some([
+        protocol_number(first.text())?,
+        protocol_number(second.text())?,
+    ])
 }
 
 /// The numbers of the words of `icmp-type::`.
@@ -96,8 +113,8 @@ fn set_of(alloc: Global, numbers: &[u8]) -> Result<RangeSet, Memory>
     RangeSet::from_vec(alloc, TOP, ranges)
 }
 
-// The set of the numbers.
-fn numbers_in(alloc: Global, numbers: &[u8]) -> Result<RangeSet, Memory>
+/// The set of the numbers.
+pub(crate) fn numbers_in(alloc: Global, numbers: &[u8]) -> Result<RangeSet, Memory>
     ensures { IfOk result (λ s. IsSetOf (λ x. AnyOf (λ n. n ≡ x) numbers.now) TOP s) }
 {
     if !may_repeat(numbers) {
@@ -112,6 +129,7 @@ pub(crate) fn admitted_protocols(
     alloc: Global,
     words: &WordList,
     protos: &[u8],
+    known: &mut KnownProtocols,
 ) -> Result<RangeSet, Memory>
     requires { protos.now ≡ protocols_of words.now }
     ensures { IfOk result (λ s. IsSetOf (IsProtocol words.now) TOP s) }
@@ -119,7 +137,7 @@ pub(crate) fn admitted_protocols(
     if words.is_empty() {
         return RangeSet::all(alloc, TOP);
     }
-    numbers_in(alloc, protos)
+    known.set_of(protos)
 }
 
 /// The ICMP types of a term: all where no word is written.

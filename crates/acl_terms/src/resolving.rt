@@ -15,7 +15,7 @@ use crate::known_addresses::KnownAddresses;
 use crate::living::{platforms_of, some_platforms};
 use crate::ports::{TermPorts, ports_of_term};
 use crate::protocols::{
-    admitted_codes, admitted_protocols, admitted_types, only_protocol, protocols_of,
+    admitted_codes, admitted_types, only_protocol, protocols_of, two_protocols,
 };
 use crate::terms::Term;
 use acl_naming::Checked;
@@ -62,14 +62,16 @@ fn number_sets(
     alloc: Global,
     protos: &[u8],
     raw: &RawTerm,
+    known: &mut KnownAddresses<'_>,
 ) -> Result<(RangeSet, RangeSet, RangeSet), Memory>
     requires { protos.now ≡ protocols_of raw.now.protocols }
     ensures protos { IfOk result (λ s. IsSetOf (IsProtocol raw.now.protocols) 255 s.0) }
     ensures types { IfOk result (λ s.
         IsSetOf (IsType (icmp_family protos.now) raw.now.icmp_types) 255 s.1) }
     ensures codes { IfOk result (λ s. IsSetOf (IsCode raw.now.icmp_codes) 255 s.2) }
+    ensures same { known.new ≡ known.old }
 {
-    let admitted = admitted_protocols(alloc, &raw.protocols, protos)?;
+    let admitted = known.protocols_of(alloc, &raw.protocols, protos)?;
     let itypes = admitted_types(alloc, icmp_family(protos), &raw.icmp_types)?;
     Ok((admitted, itypes, admitted_codes(alloc, &raw.icmp_codes)?))
 }
@@ -77,22 +79,23 @@ fn number_sets(
 // All of these.
 fn numbers_of(
     alloc: Global,
-    base: &Checked,
     protos: &[u8],
     raw: &RawTerm,
+    known: &mut KnownAddresses<'_>,
 ) -> Result<NumberSets, Refusal>
     requires { protos.now ≡ protocols_of raw.now.protocols }
     ensures judged { Judges result (first_some (port_protocol_slip protos.now raw.now
-        ∷ services_slip base.now.services protos.now raw.now ∷ words_slips protos.now raw.now)) }
+        ∷ services_slip known.old.services protos.now raw.now ∷ words_slips protos.now raw.now)) }
     ensures ports { IfOk result (λ s.
-        IsPortSet base.now protos.now raw.now s.ports.sports s.ports.dports s.ports.ports) }
+        IsPortSet known.old protos.now raw.now s.ports.sports s.ports.dports s.ports.ports) }
     ensures protos { IfOk result (λ s. IsSetOf (IsProtocol raw.now.protocols) 255 s.protos) }
     ensures types { IfOk result (λ s.
         IsSetOf (IsType (icmp_family protos.now) raw.now.icmp_types) 255 s.itypes) }
     ensures codes { IfOk result (λ s. IsSetOf (IsCode raw.now.icmp_codes) 255 s.icodes) }
+    ensures same { known.new ≡ known.old }
 {
-    let ports = checked_ports(alloc, base, protos, raw)?;
-    let (protos, itypes, icodes) = number_sets(alloc, protos, raw)?;
+    let ports = checked_ports(alloc, known.base(), protos, raw)?;
+    let (protos, itypes, icodes) = number_sets(alloc, protos, raw, known)?;
     Ok(NumberSets {
         protos,
         ports,
@@ -114,9 +117,8 @@ fn parts_with<'a>(
     ensures sets { IfOk result (λ p. AreSetsOf known.old raw.now (sets_by p)) }
     ensures same { known.new ≡ known.old }
 {
-    let base = known.base();
     let ends = ends_of(alloc, raw, known)?;
-    let numbers = numbers_of(alloc, base, protos, raw)?;
+    let numbers = numbers_of(alloc, protos, raw, known)?;
     Ok(TermParts { ends, numbers })
 }
 
@@ -132,6 +134,9 @@ fn parts_of<'a>(
 {
     if let Some(number) = only_protocol(&raw.protocols) {
         return parts_with(alloc, raw, &[number], known);
+    }
+    if let Some(numbers) = two_protocols(&raw.protocols) {
+        return parts_with(alloc, raw, &numbers, known);
     }
     let protos = protocols_of(alloc, &raw.protocols)?;
     parts_with(alloc, raw, &protos, known)

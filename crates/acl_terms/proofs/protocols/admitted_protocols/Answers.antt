@@ -4,5 +4,5 @@ use Rattle.acl_terms.proofs.protocols.admitted_protocols.Goals as goal
 
 pub returns : goal.returns
 returns c =
-    written-result (λ w. protocol_in w.text) c.args.words.now c.args.protos.now 255 c.numbers_in.result
-    (c.is_empty.ensures.some c.if-is_empty.false) c.requires c.numbers_in.ensures
+    written-result (λ w. protocol_in w.text) c.args.words.now c.args.protos.now 255 c.set_of.result
+    (c.is_empty.ensures.some c.if-is_empty.false) c.requires c.set_of.ensures

@@ -13,7 +13,7 @@ returns-clause-sets c =
     let raw = c.args.raw.now in
     let s = c.in_ok-numbers.numbers in
     let p : TermParts = record { ends = c.in_ok-ends.ends; numbers = s } in
-    let reached = rw c.base-base.ensures at c.in_ok-numbers.ensures.ports in
+    let reached = rw c.in_ok-ends.ensures.same at c.in_ok-numbers.ensures.ports in
     let ports = subst (λ (qs : List ℕ). IsPortSet n qs raw s.ports.sports s.ports.dports s.ports.ports) c.requires reached in
     let types = subst (λ (f : Option Family). IsSetOf (IsType f raw.icmp_types) 255 s.itypes) (ap icmp_family c.requires)
     c.in_ok-numbers.ensures.types in
