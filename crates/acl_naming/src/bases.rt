@@ -153,7 +153,7 @@ pub fn networks_of(
     ensures no_port { result ≡ Err Lookup.NoPort → ⊥ }
 {
     let wanted = Wanted::Addresses(family);
-    let ranges = ranges_of(alloc, &base.networks, wanted, name)?;
+    let ranges = ranges_of(alloc, &base.networks, wanted, name, &mut 0)?;
     Ok(RangeSet::from_vec(alloc, top_of(wanted), ranges)?)
 }
 
@@ -175,8 +175,31 @@ pub fn ports_of(alloc: Global, base: &Checked, proto: u8, name: &[u8]) -> Result
         → ReachesProtocol base.now.services name.now proto → ⊥ }
     ensures reached { IfOk result (λ s. ReachesProtocol base.now.services name.now proto) }
 {
+    ports_near(alloc, base, proto, name, &mut 0)
+}
+
+/// The same. The name's definition is looked for at `near` first, which then tells where it stands.
+pub fn ports_near(
+    alloc: Global,
+    base: &Checked,
+    proto: u8,
+    name: &[u8],
+    near: &mut usize,
+) -> Result<RangeSet, Lookup>
+    ensures top { IfOk result (λ s. s.top ≡ top_port) }
+    ensures normal { IfOk result (λ s. IsNormal 0 s.top s.ranges) }
+    ensures exact { IfOk result (λ s. (n : ℕ) → (holds s.ranges n ≡ true)
+        ↔ ReachesPort base.now.services name.now proto n) }
+    ensures computed { IfOk result (λ s.
+        s.ranges ≡ ports_reached base.now.services proto name.now) }
+    ensures some { IfOk result (λ s. s.ranges ≢ []) }
+    ensures unknown { (result ≡ Err Lookup.Unknown) ↔ (index_of base.now.services name.now ≡ None) }
+    ensures no_port { result ≡ Err Lookup.NoPort
+        → ReachesProtocol base.now.services name.now proto → ⊥ }
+    ensures reached { IfOk result (λ s. ReachesProtocol base.now.services name.now proto) }
+{
     let wanted = Wanted::Ports(proto);
-    let ranges = ranges_of(alloc, &base.services, wanted, name)?;
+    let ranges = ranges_of(alloc, &base.services, wanted, name, near)?;
     if ranges.is_empty() {
         return Err(Lookup::NoPort);
     }

@@ -25,7 +25,7 @@ mod tables;
 
 pub use bases::{
     Base, Checked, add_networks, add_networks_once, begin_networks, check_base, networks_of,
-    ports_of, read_networks, read_services,
+    ports_near, ports_of, read_networks, read_services,
 };
 pub use item_words::NamingKind;
 pub use laws::{

@@ -218,21 +218,23 @@ pub fn add_addresses_once(
     Ok(())
 }
 
-/// The ranges of what the name reaches.
+/// The ranges of what the name reaches. Its definition is looked for at `near` first, which then tells where it stands.
 pub fn ranges_of(
     alloc: Global,
     linked: &LinkedTable,
     wanted: Wanted,
     name: &[u8],
+    near: &mut usize,
 ) -> Result<Vec<Range>, Lookup>
     ensures reached { IfOk result (λ v. IsReach linked.now name.now wanted v.items) }
     ensures unknown { (result ≡ Err Lookup.Unknown) ↔ (index_of linked.now name.now ≡ None) }
     ensures no_port { result ≡ Err Lookup.NoPort → ⊥ }
 {
     let table = linked.table();
-    let Some(index) = table.index_of(name) else {
+    let Some(index) = table.index_near(*near, name) else {
         return Err(Lookup::Unknown);
     };
+    *near = index;
     let places = places_behind(alloc, linked, index, &mut Marks::new(alloc))?;
     let mut out = Vec::new(alloc);
     push_reached(&mut out, table, index, &places, wanted)?;

@@ -12,5 +12,5 @@ returns-clause-reached c =
     let new = c.push_reached.new.out.items in
     adds_reach base name w new
     (subst (λ (old : List Range). AddsReach base name w old new) c.new-out.ensures.items
-    (adds_all _ _ _ _ _ _ _ _ _ c.table-table.ensures c.in-Some.ensures.exact c.in_ok-places.ensures c.deref.ensures.value
+    (adds_all _ _ _ _ _ _ _ _ _ c.table-table.ensures c.in-Some.ensures c.in_ok-places.ensures c.deref.ensures.value
     c.in_ok-push_reached.ensures))

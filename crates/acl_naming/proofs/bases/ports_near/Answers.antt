@@ -1,7 +1,7 @@
 use Rattle.std.proofs.Common.{◌∙◌, ap, rules}
 use Rattle.acl_naming.specs.ComputableReach.{ports_reached}
 use Rattle.acl_naming.proofs.ComputedReachLaws.{ports_from, some_held}
-use Rattle.acl_naming.proofs.bases.ports_of.Goals as goal
+use Rattle.acl_naming.proofs.bases.ports_near.Goals as goal
 
 pub returns-clause-computed : goal.returns-clause-computed
 returns-clause-computed c =
