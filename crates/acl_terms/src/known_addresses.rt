@@ -1,4 +1,4 @@
-ghost use Rattle.std.specs.Prelude.{◌≡◌, [], IfOk, IfSome};
+ghost use Rattle.std.specs.Prelude.{◌≡◌, ◌≢◌, [], IfOk, IfSome};
 ghost use Rattle.std.specs.Option.{option_or};
 ghost use Rattle.acl_packet.specs.declared.addresses.Family.TheVariants.{V4, V6};
 ghost use Rattle.acl_packet.specs.Addresses.{top_address};
@@ -6,13 +6,15 @@ ghost use Rattle.acl_text.specs.Refusals.{Judges, first_in};
 ghost use Rattle.acl_terms.specs.KnownAddresses.{AreKnownFor};
 ghost use Rattle.acl_terms.specs.Matching.{IsAddress, IsNamedAddress, IsProtocol, protocols_of};
 ghost use Rattle.acl_terms.specs.Sets.{IsSetOf};
-ghost use Rattle.acl_terms.specs.Slips.{network_slip};
+ghost use Rattle.acl_terms.specs.SetSteps.{IsPortSet};
+ghost use Rattle.acl_terms.specs.Slips.{network_slip, port_words, services_slip};
 
 use crate::addresses::{Addresses, Lookups, admitted_addresses, end_of};
 use crate::known_protocols::KnownProtocols;
+use crate::ports::{TermPorts, ports_of_term};
 use crate::protocols::admitted_protocols;
 use acl_naming::Checked;
-use acl_policy::WordList;
+use acl_policy::{RawTerm, WordList};
 use acl_sets::RangeSet;
 use acl_text::{Memory, Refusal, TextKey};
 use indexmap::IndexMap;
@@ -30,6 +32,7 @@ pub struct KnownAddresses<'a> {
     lists: IndexMap<(TextKey<'a>, TextKey<'a>), Addresses>,
     lookups: Lookups,
     protocols: KnownProtocols,
+    service: usize,
 }
 
 impl<'a> Model for KnownAddresses<'a> {
@@ -53,6 +56,7 @@ impl<'a> KnownAddresses<'a> {
             lists: IndexMap::new(alloc),
             lookups: Lookups::new(alloc),
             protocols: KnownProtocols::new(alloc),
+            service: 0,
         }
     }
 
@@ -157,5 +161,22 @@ impl<'a> KnownAddresses<'a> {
         ensures same { self.new ≡ self.old }
     {
         admitted_protocols(alloc, words, protos, &mut self.protocols)
+    }
+
+    /// The ports of a term with its protocols, or the first slip at names of ports. Names are looked for behind the last one
+    /// first.
+    pub(crate) fn ports_of(
+        &mut self,
+        alloc: Global,
+        protos: &[u8],
+        raw: &RawTerm,
+    ) -> Result<TermPorts, Refusal>
+        requires { port_words raw.now ≢ [] → protos.now ≢ [] }
+        ensures judged { Judges result (services_slip self.old.services protos.now raw.now) }
+        ensures ports { IfOk result (λ p.
+            IsPortSet self.old protos.now raw.now p.sports p.dports p.ports) }
+        ensures same { self.new ≡ self.old }
+    {
+        ports_of_term(alloc, self.base, protos, raw, &mut self.service)
     }
 }

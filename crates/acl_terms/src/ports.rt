@@ -11,7 +11,7 @@ ghost use Rattle.acl_terms.specs.Slips.{port_words, service_slip, services_slip}
 use crate::checks::refusal_at;
 use crate::distinct::{distinct, may_repeat};
 use crate::new_words::NewWords;
-use acl_naming::{Checked, Lookup, ports_of};
+use acl_naming::{Checked, Lookup, ports_near};
 use acl_policy::{RawTerm, WordList, WordRef};
 use acl_sets::RangeSet;
 use acl_text::{Code, Memory, Refusal};
@@ -28,19 +28,21 @@ pub(crate) struct TermPorts {
     pub(crate) ports: RangeSet,
 }
 
-// The ports that the word's name reaches with the protocol.
+// The ports that the word's name reaches with the protocol. Its definition is looked for at `near` first, and stands there
+// then.
 fn ports_at(
     alloc: Global,
     base: &Checked,
     proto: u8,
     word: &WordRef<'_>,
+    near: &mut usize,
 ) -> Result<RangeSet, Refusal>
     ensures judged { Judges result (protocol_slip base.now.services proto word.now) }
     ensures set { IfOk result (λ s.
         IsSetOf (ReachesPort base.now.services word.now.text proto) top_port s) }
     ensures some { IfOk result (λ s. s.ranges ≢ []) }
 {
-    match ports_of(alloc, base, proto, word.text()) {
+    match ports_near(alloc, base, proto, word.text(), near) {
         Ok(set) => Ok(set),
         Err(Lookup::Unknown) => Err(refusal_at(alloc, Code::UnknownName, word)),
         Err(Lookup::NoPort) => Err(refusal_at(alloc, Code::NoPortForProtocol, word)),
@@ -66,12 +68,13 @@ fn joined(alloc: Global, set: RangeSet, more: RangeSet) -> Result<RangeSet, Memo
     set.union(alloc, &more)
 }
 
-// The ports that it reaches with some of the protocols.
+// The ports that it reaches with some of the protocols. The next name is looked for behind it first.
 fn ports_by(
     alloc: Global,
     base: &Checked,
     protos: &[u8],
     word: &WordRef<'_>,
+    near: &mut usize,
 ) -> Result<RangeSet, Refusal>
     requires { protos.now ≢ [] }
     ensures judged { Judges result (service_slip base.now.services protos.now word.now) }
@@ -81,9 +84,10 @@ fn ports_by(
 {
     let mut out = RangeSet::empty(alloc, TOP);
     for proto in protos {
-        let more = ports_at(alloc, base, *proto, word)?;
+        let more = ports_at(alloc, base, *proto, word, near)?;
         out = joined(alloc, out, more)?;
     }
+    *near = near.saturating_add(1);
     Ok(out)
 }
 
@@ -93,6 +97,7 @@ fn ports_of_words(
     base: &Checked,
     protos: &[u8],
     words: &WordList,
+    near: &mut usize,
 ) -> Result<RangeSet, Refusal>
     requires { protos.now ≢ [] }
     ensures judged { Judges result
@@ -104,7 +109,7 @@ fn ports_of_words(
     let mut out = RangeSet::empty(alloc, TOP);
     let mut left = NewWords::new(alloc, words);
     while let Some(word) = left.next()? {
-        let more = ports_by(alloc, base, protos, &word)?;
+        let more = ports_by(alloc, base, protos, &word, near)?;
         out = joined(alloc, out, more)?;
     }
     Ok(out)
@@ -116,6 +121,7 @@ fn admitted_ports(
     base: &Checked,
     protos: &[u8],
     words: &WordList,
+    near: &mut usize,
 ) -> Result<RangeSet, Refusal>
     requires { words.now ≢ [] → protos.now ≢ [] }
     ensures judged { Judges result
@@ -127,30 +133,31 @@ fn admitted_ports(
         None => Ok(RangeSet::all(alloc, TOP)?),
         Some(_) => {
             if !may_repeat(protos) {
-                return ports_of_words(alloc, base, protos, words);
+                return ports_of_words(alloc, base, protos, words, near);
             }
             let protos = distinct(alloc, protos)?;
-            ports_of_words(alloc, base, &protos, words)
+            ports_of_words(alloc, base, &protos, words, near)
         }
     }
 }
 
 /// The ports of a term with its protocols, or the first slip at names of ports. Some protocol is named where
-/// ports are.
+/// ports are. The first name is looked for at `near` first.
 pub(crate) fn ports_of_term(
     alloc: Global,
     base: &Checked,
     protos: &[u8],
     raw: &RawTerm,
+    near: &mut usize,
 ) -> Result<TermPorts, Refusal>
     requires { port_words raw.now ≢ [] → protos.now ≢ [] }
     ensures judged { Judges result (services_slip base.now.services protos.now raw.now) }
     ensures ports { IfOk result (λ p.
         IsPortSet base.now protos.now raw.now p.sports p.dports p.ports) }
 {
-    let sports = admitted_ports(alloc, base, protos, &raw.source_ports)?;
-    let dports = admitted_ports(alloc, base, protos, &raw.destination_ports)?;
-    let ports = admitted_ports(alloc, base, protos, &raw.ports)?;
+    let sports = admitted_ports(alloc, base, protos, &raw.source_ports, near)?;
+    let dports = admitted_ports(alloc, base, protos, &raw.destination_ports, near)?;
+    let ports = admitted_ports(alloc, base, protos, &raw.ports, near)?;
     Ok(TermPorts {
         sports,
         dports,

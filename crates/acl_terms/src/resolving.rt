@@ -13,7 +13,7 @@ use crate::checks::{check_port_protocol, check_words, icmp_family, option_of, ve
 use crate::ends::{Ends, ends_of};
 use crate::known_addresses::KnownAddresses;
 use crate::living::{platforms_of, some_platforms};
-use crate::ports::{TermPorts, ports_of_term};
+use crate::ports::TermPorts;
 use crate::protocols::{
     admitted_codes, admitted_types, only_protocol, protocols_of, two_protocols,
 };
@@ -42,17 +42,18 @@ struct TermParts {
 // The ports of the term, or the first slip that it has at words that are no names of addresses.
 fn checked_ports(
     alloc: Global,
-    base: &Checked,
     protos: &[u8],
     raw: &RawTerm,
+    known: &mut KnownAddresses<'_>,
 ) -> Result<TermPorts, Refusal>
     ensures judged { Judges result (first_some (port_protocol_slip protos.now raw.now
-        ∷ services_slip base.now.services protos.now raw.now ∷ words_slips protos.now raw.now)) }
+        ∷ services_slip known.old.services protos.now raw.now ∷ words_slips protos.now raw.now)) }
     ensures ports { IfOk result (λ p.
-        IsPortSet base.now protos.now raw.now p.sports p.dports p.ports) }
+        IsPortSet known.old protos.now raw.now p.sports p.dports p.ports) }
+    ensures same { known.new ≡ known.old }
 {
     check_port_protocol(alloc, protos, raw)?;
-    let ports = ports_of_term(alloc, base, protos, raw)?;
+    let ports = known.ports_of(alloc, protos, raw)?;
     check_words(alloc, protos, raw)?;
     Ok(ports)
 }
@@ -94,7 +95,7 @@ fn numbers_of(
     ensures codes { IfOk result (λ s. IsSetOf (IsCode raw.now.icmp_codes) 255 s.icodes) }
     ensures same { known.new ≡ known.old }
 {
-    let ports = checked_ports(alloc, known.base(), protos, raw)?;
+    let ports = checked_ports(alloc, protos, raw, known)?;
     let (protos, itypes, icodes) = number_sets(alloc, protos, raw, known)?;
     Ok(NumberSets {
         protos,
