@@ -1,5 +1,5 @@
-ghost use Rattle.std.specs.Prelude.{◌≡◌, IfSome, map};
-ghost use Rattle.acl_policy.specs.Keywords.{row_of, row_in, row_named};
+ghost use Rattle.std.specs.Prelude.{◌≡◌, ◌≤◌, IfSome, drop, map};
+ghost use Rattle.acl_policy.specs.Keywords.{all_keywords, line, row_of, row_in, row_named};
 
 use crate::values::Takes;
 
@@ -70,6 +70,11 @@ const TABLE: [(&[u8], Keyword, Values); 19] = [
     (b"platform-exclude::", Keyword::PlatformExclude, NAMES),
 ];
 
+/// For each length of a text, the first row of the table whose keyword is so long, or how many rows there are.
+const FIRST_ROWS: [u8; 22] = [
+    19, 19, 19, 19, 19, 19, 11, 1, 2, 0, 8, 12, 16, 9, 19, 19, 3, 19, 10, 19, 19, 5,
+];
+
 fn row_in(table: &[(&[u8], Keyword, Values)], text: &[u8]) -> Option<KeywordRow>
     ensures { result ≡ row_in (map (λ r. (r.0.now, record { keyword = r.1; takes = r.2.0; once = r.2.1 }))
         table.now) text.now }
@@ -86,11 +91,22 @@ fn row_in(table: &[(&[u8], Keyword, Values)], text: &[u8]) -> Option<KeywordRow>
     None
 }
 
+/// The first row of the table whose keyword is as long as the text.
+fn first_row(text: &[u8]) -> usize
+    ensures within { result ≤ 19 }
+    ensures rows { row_in (drop result (map line all_keywords)) text.now ≡ row_named text.now }
+{
+    if text.len() < FIRST_ROWS.len() {
+        usize::from(FIRST_ROWS[text.len()])
+    } else {
+        0
+    }
+}
+
 /// The row of the keyword that is written so.
-#[tactic(auto, unfolding(crate::specs::Keywords::row_named))]
 pub(crate) fn row_named(text: &[u8]) -> Option<KeywordRow>
     ensures named { result ≡ row_named text.now }
     ensures of_table { IfSome result (λ r. r ≡ row_of r.keyword) }
 {
-    row_in(&TABLE, text)
+    row_in(&TABLE[first_row(text)..], text)
 }
