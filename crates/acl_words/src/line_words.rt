@@ -1,9 +1,9 @@
-ghost use Rattle.std.specs.Prelude.{◌≡◌, true, false, [], ◌∷◌, ◌++◌, IfOk, map};
+ghost use Rattle.std.specs.Prelude.{◌≡◌, ◌≤◌, true, false, [], ◌∷◌, ◌++◌, IfOk, map};
 ghost use Rattle.acl_text.specs.Cursors.{lines_of};
 ghost use Rattle.acl_words.specs.LineTexts.{HasNoFeed};
 
 use crate::place_lists::{MOST_REPEATED, PlaceList, PlacesLeft};
-use crate::short_texts::ShortText;
+use crate::short_texts::{self, FEW, MANY, ShortText};
 use crate::word_lists::WordsLeft;
 use crate::word_texts::WordText;
 use acl_text::{Memory, Place};
@@ -11,15 +11,16 @@ use std::alloc::Global;
 use std::marker::Model;
 
 /// A few words without line feeds, all of one line: most lists of a term have no others. They stand in their
-/// place, as one short text with a line feed behind each word. A contract sees the list of the words.
+/// place, as one short text with a line feed behind each word, of at most so many bytes. A contract sees the
+/// list of the words.
 #[derive(Drop)]
-pub(crate) struct LineWords {
+pub(crate) struct LineWords<const ROOM: usize> {
     place: Place,
     count: u8,
-    text: ShortText,
+    text: ShortText<ROOM>,
 }
 
-impl Model for LineWords {
+impl<const ROOM: usize> Model for LineWords<ROOM> {
     ghost use Rattle.std.specs.Prelude.{List, ◌≤◌};
     ghost use Rattle.std.proofs.Math.ListN.{replicate};
     ghost use Rattle.acl_words.specs.declared.word_lists.Word.{Word};
@@ -33,9 +34,9 @@ impl Model for LineWords {
         (replicate s.count s.place) s.text };
 }
 
-impl LineWords {
+impl<const ROOM: usize> LineWords<ROOM> {
     /// No words so far. All are to stand at the place.
-    pub(crate) fn starting_at(place: Place) -> LineWords
+    pub(crate) fn starting_at(place: Place) -> LineWords<ROOM>
         ensures { result ≡ [] }
     {
         LineWords {
@@ -47,7 +48,8 @@ impl LineWords {
 
     /// Adds the word at the end, where it stands at the place of the others and there is room for it.
     pub(crate) fn push(&mut self, place: Place, text: &[u8]) -> bool
-        requires { HasNoFeed text.now }
+        requires line { HasNoFeed text.now }
+        requires small { ROOM ≤ 255 }
         ensures added { result ≡ true → self.new
             ≡ self.old ++ record { place = place; text = text.now } ∷ [] }
         ensures same { result ≡ false → self.new ≡ self.old }
@@ -85,5 +87,16 @@ impl LineWords {
         ensures { lines_of result.now ≡ map (λ w. w.text) self.now }
     {
         self.text.as_slice()
+    }
+}
+
+/// The same words, with room for more of them.
+pub(crate) fn widened(words: &LineWords<FEW>) -> LineWords<MANY>
+    ensures { result ≡ words.now }
+{
+    LineWords {
+        place: words.place,
+        count: words.count,
+        text: short_texts::widened(&words.text),
     }
 }

@@ -1,10 +1,11 @@
 ghost use Rattle.std.specs.Prelude.{◌≡◌, ◌≢◌, true, false, [], ◌∷◌, ◌++◌, IfOk, IfSome, IfNone, OnOk, OnErr, drop, map};
 ghost use Rattle.acl_text.specs.Cursors.{lines_of};
-ghost use Rattle.acl_words.specs.KeptWords.{words_in};
+ghost use Rattle.acl_words.specs.KeptWords.{IsFull, words_in};
 ghost use Rattle.acl_words.specs.LineTexts.{HasNoFeed};
 
-use crate::line_words::LineWords;
+use crate::line_words::{LineWords, widened};
 use crate::place_lists::PlacesLeft;
+use crate::short_texts::{FEW, MANY};
 use crate::word_bytes::WordBytes;
 use crate::word_texts::WordText;
 use acl_text::{Memory, Place, split_at_byte};
@@ -63,8 +64,11 @@ impl<'a> WordRef<'a> {
 /// Where the words of a list are kept.
 #[derive(Drop)]
 pub(crate) enum KeptWords {
-    Line(LineWords),
-    Text(WordText),
+    /// There are none.
+    Nowhere,
+    Here(LineWords<FEW>),
+    Line(Box<LineWords<MANY>>),
+    Text(Box<WordText>),
 }
 
 impl KeptWords {
@@ -72,6 +76,11 @@ impl KeptWords {
         ensures { result ≡ words_in self.now }
     {
         match self {
+            KeptWords::Nowhere => WordsLeft {
+                rest: &[],
+                places: PlacesLeft::none(),
+            },
+            KeptWords::Here(words) => words.iter(),
             KeptWords::Line(words) => words.iter(),
             KeptWords::Text(words) => words.iter(),
         }
@@ -81,6 +90,8 @@ impl KeptWords {
         ensures { lines_of result.now ≡ map (λ w. w.text) (words_in self.now) }
     {
         match self {
+            KeptWords::Nowhere => &[],
+            KeptWords::Here(words) => words.text(),
             KeptWords::Line(words) => words.text(),
             KeptWords::Text(words) => words.text(),
         }
@@ -92,53 +103,93 @@ impl KeptWords {
         ensures ok { OnOk result (words_in self.new
             ≡ words_in self.old ++ record { place = place; text = text.now } ∷ []) }
         ensures err { OnErr result (words_in self.new ≡ words_in self.old) }
+        ensures full { IsFull self.old → IsFull self.new }
     {
         match self {
+            KeptWords::Nowhere => *self = first_word(alloc, place, text)?,
+            KeptWords::Here(words) => {
+                if !words.push(place, text) {
+                    *self = in_line(alloc, words, place, text)?;
+                }
+            }
             KeptWords::Line(words) => {
                 if !words.push(place, text) {
-                    let mut all = words.to_text(alloc)?;
-                    all.push(place, text)?;
-                    *self = KeptWords::Text(all);
+                    *self = in_text(alloc, words, place, text)?;
                 }
-                Ok(())
             }
-            KeptWords::Text(words) => words.push(place, text),
+            KeptWords::Text(words) => words.push(place, text)?,
         }
+        Ok(())
     }
 }
 
 // The one word of a list.
-fn first_word(alloc: Global, place: Place, text: &[u8]) -> Result<Box<KeptWords>, Memory>
+fn first_word(alloc: Global, place: Place, text: &[u8]) -> Result<KeptWords, Memory>
     requires { HasNoFeed text.now }
-    ensures { IfOk result (λ k. words_in k.value ≡ record { place = place; text = text.now } ∷ []) }
+    ensures { IfOk result (λ k. words_in k ≡ record { place = place; text = text.now } ∷ []) }
 {
-    let mut words = Box::new(alloc, KeptWords::Line(LineWords::starting_at(place)))?;
-    words.push(alloc, place, text)?;
-    Ok(words)
+    let mut words = LineWords::starting_at(place);
+    if words.push(place, text) {
+        Ok(KeptWords::Here(words))
+    } else {
+        in_line(alloc, &words, place, text)
+    }
 }
 
-/// A list of words without line feeds. One without words, as most lists of a term are, takes no memory. A
-/// contract sees the list of the words.
+// The words and one more, which have memory.
+fn in_line(
+    alloc: Global,
+    words: &LineWords<FEW>,
+    place: Place,
+    text: &[u8],
+) -> Result<KeptWords, Memory>
+    requires { HasNoFeed text.now }
+    ensures { IfOk result (λ k. words_in k
+        ≡ words.now ++ record { place = place; text = text.now } ∷ []) }
+{
+    let mut line = Box::new(alloc, widened(words))?;
+    if line.push(place, text) {
+        Ok(KeptWords::Line(line))
+    } else {
+        in_text(alloc, &line, place, text)
+    }
+}
+
+// The words and one more, with memory for any words.
+fn in_text(
+    alloc: Global,
+    words: &LineWords<MANY>,
+    place: Place,
+    text: &[u8],
+) -> Result<KeptWords, Memory>
+    requires { HasNoFeed text.now }
+    ensures { IfOk result (λ k. words_in k
+        ≡ words.now ++ record { place = place; text = text.now } ∷ []) }
+{
+    let mut all = words.to_text(alloc)?;
+    all.push(place, text)?;
+    Ok(KeptWords::Text(Box::new(alloc, all)?))
+}
+
+/// A list of words without line feeds. One without words, as most lists of a term are, takes no memory, and
+/// neither does one of a few short words. A contract sees the list of the words.
 #[derive(Drop)]
 pub struct WordList {
     alloc: Global,
-    kept: Option<Box<KeptWords>>,
+    kept: KeptWords,
 }
 
 impl Model for WordList {
-    ghost use Rattle.std.specs.Prelude.{List, []};
-    ghost use Rattle.std.specs.Option.{option_map_or};
+    ghost use Rattle.std.specs.Prelude.{List};
     ghost use Rattle.acl_words.specs.declared.word_lists.Word.{Word};
 
     ghost Value = { List Word };
 
-    ghost use Rattle.acl_words.specs.KeptWords.{words_in};
+    ghost use Rattle.acl_words.specs.KeptWords.{IsFull, words_in};
 
-    ghost view = { λ s. option_map_or (λ k. words_in k.value) s.kept [] };
+    ghost view = { λ s. words_in s.kept };
 
-    ghost use Rattle.std.specs.Prelude.{◌≢◌, IfSome};
-
-    ghost invariant = { λ s. IfSome s.kept (λ k. words_in k.value ≢ []) };
+    ghost invariant = { λ s. IsFull s.kept };
 }
 
 impl WordList {
@@ -146,7 +197,10 @@ impl WordList {
     pub fn new(alloc: Global) -> WordList
         ensures { result ≡ [] }
     {
-        WordList { alloc, kept: None }
+        WordList {
+            alloc,
+            kept: KeptWords::Nowhere,
+        }
     }
 
     /// Adds a word at the end. Where memory is wanted the list is as it was.
@@ -156,24 +210,14 @@ impl WordList {
             ≡ self.old ++ record { place = place; text = text.now } ∷ []) }
         ensures err { OnErr result (self.new ≡ self.old) }
     {
-        if let Some(kept) = &mut self.kept {
-            return kept.push(self.alloc, place, text);
-        }
-        self.kept = Some(first_word(self.alloc, place, text)?);
-        Ok(())
+        self.kept.push(self.alloc, place, text)
     }
 
     /// The words in order.
     pub fn iter(&self) -> WordsLeft<'_>
         ensures { result ≡ self.now }
     {
-        match &self.kept {
-            Some(kept) => kept.iter(),
-            None => WordsLeft {
-                rest: &[],
-                places: PlacesLeft::none(),
-            },
-        }
+        self.kept.iter()
     }
 
     /// Whether there are no words.
@@ -181,7 +225,7 @@ impl WordList {
         ensures none { result ≡ true → self.now ≡ [] }
         ensures some { result ≡ false → self.now ≢ [] }
     {
-        self.kept.is_none()
+        matches!(&self.kept, KeptWords::Nowhere)
     }
 
     /// The words as one text, each with a line feed behind it.
@@ -191,10 +235,7 @@ impl WordList {
     pub fn text(&self) -> &[u8]
         ensures { lines_of result.now ≡ map (λ w. w.text) self.now }
     {
-        match &self.kept {
-            Some(kept) => kept.text(),
-            None => &[],
-        }
+        self.kept.text()
     }
 
     /// The first word. `None` exactly where there is none.
