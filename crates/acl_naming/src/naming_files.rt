@@ -153,20 +153,24 @@ impl LineReader {
         }
     }
 
-    // Names are most, and do not begin as most prefixes do.
+    // Most words are names or prefixes, which are told apart by the first byte.
     #[inline(always)]
-    #[tactic(auto, using(crate::proofs::MarkedWords::name_added))]
+    #[tactic(auto, using(crate::proofs::MarkedWords::name_added, crate::proofs::MarkedWords::read_added, crate::proofs::MarkedWords::read_is))]
     fn add_item(self, table: &mut Table, word: Front<'_>) -> Result<(), Refusal>
         requires { 0 < length table.old }
         ensures gives { Leaves slip_told table.new result
             (item_added self.kind self.place table.old (shown word.entry)) }
         ensures filled { OnOk result (0 < length table.new) }
     {
-        if let NamingKind::Networks = self.kind
-            && !word.begins_with_number()
-            && let Some(name) = NameText::short(word)
-        {
-            return self.add_name(table, word, name);
+        if let NamingKind::Networks = self.kind {
+            if word.begins_with_number() {
+                if let Some(prefix) = word.prefix() {
+                    let block = PrefixItem::new(prefix);
+                    return self.put_item(table, word, Item::Network(block));
+                }
+            } else if let Some(name) = NameText::short(word) {
+                return self.add_name(table, word, name);
+            }
         }
         self.add_other(table, word)
     }
