@@ -96,7 +96,8 @@ impl<'a> Front<'a> {
     /// The next word, and what stands behind it.
     #[inline(never)]
     pub fn next_word(self) -> Option<(Front<'a>, Front<'a>)>
-        ensures some { IfSome result (λ p. words_of (shown self.entry) ≡ shown p.0 ∷ words_of (shown p.1)) }
+        ensures some { IfSome result
+            (λ p. words_of (shown self.entry) ≡ shown p.0 ∷ words_of (shown p.1)) }
         ensures shorter { IfSome result (λ p. length (shown p.1) < length (shown self.entry)) }
         ensures none { IfNone result (words_of (shown self.entry) ≡ []) }
     {
@@ -109,7 +110,8 @@ impl<'a> Front<'a> {
     /// The next word and what stands behind it, where one look tells it. `None` says nothing.
     #[inline(always)]
     pub fn quick_word(self) -> Option<(Front<'a>, Front<'a>)>
-        ensures some { IfSome result (λ p. words_of (shown self.entry) ≡ shown p.0 ∷ words_of (shown p.1)) }
+        ensures some { IfSome result
+            (λ p. words_of (shown self.entry) ≡ shown p.0 ∷ words_of (shown p.1)) }
         ensures shorter { IfSome result (λ p. length (shown p.1) < length (shown self.entry)) }
     {
         let rest = self.behind(white_front(self.as_slice()));

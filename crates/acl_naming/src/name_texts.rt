@@ -141,7 +141,8 @@ impl NameText {
     /// The name that the word is, if it is one. Names are many and small, so this stands where it is asked for.
     #[inline(always)]
     pub fn read_front(alloc: Global, word: Front<'_>) -> Result<Option<NameText>, Memory>
-        ensures some { IfOk result (λ o. IfSome o (λ n. (n ≡ shown word.entry) × (is_name (shown word.entry) ≡ true))) }
+        ensures some { IfOk result (λ o. IfSome o
+            (λ n. (n ≡ shown word.entry) × (is_name (shown word.entry) ≡ true))) }
         ensures none { IfOk result (λ o. IfNone o (is_name (shown word.entry) ≡ false)) }
     {
         match NameText::short(word) {

@@ -79,7 +79,8 @@ impl LineReader {
     fn add_prefix(self, table: &mut Table, word: Front<'_>) -> Result<(), Refusal>
         requires { 0 < length table.old }
         ensures gives { Leaves slip_told table.new result
-            (item_put self.place table.old (shown word.entry) (option_map Network (prefix_in (shown word.entry)))) }
+            (item_put self.place table.old (shown word.entry)
+            (option_map Network (prefix_in (shown word.entry)))) }
         ensures filled { OnOk result (0 < length table.new) }
     {
         match read_block(word.as_slice()) {
