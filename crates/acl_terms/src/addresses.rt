@@ -23,6 +23,9 @@ use std::alloc::Global;
 // Of more ranges than these it is worth to keep what was gathered.
 const MANY: usize = 8;
 
+// Most lists of several words have no more ranges.
+const MOST_OFTEN: usize = 16;
+
 /// Addresses of both families, and of how many ranges they were gathered.
 #[derive(Drop)]
 pub(crate) struct Addresses {
@@ -160,6 +163,7 @@ fn add_each_word(
         (top_address V6) v6.new.items) }
 {
     begin_networks(base, &mut lookups.added)?;
+    v4.reserve(MOST_OFTEN)?;
     for word in words.iter() {
         add_word_once(alloc, base, &word, lookups, v4, v6)?;
     }

@@ -1,4 +1,4 @@
-use Rattle.std.proofs.Common.{◌≡◌, ◌∷◌, ap, rules}
+use Rattle.std.proofs.Common.{◌≡◌, ◌∷◌, ap, rules, ◌∙◌}
 use Rattle.acl_packet.specs.declared.addresses.Family.TheVariants.{V4, V6}
 use Rattle.acl_packet.specs.Addresses.{top_address}
 use Rattle.acl_text.specs.Refusals.{first_in}
@@ -14,8 +14,8 @@ loop-word-init c =
     let words = c.args.words.now in
     let all : c.into_iter-word-iterator.result ≡ words = search rules in
     record {
-      added = c.in_ok-begin_networks.ensures c.args.v4.now.items c.args.v6.now.items;
-      v4 = begun-words (NamesAddress base V4) words c.into_iter-word-iterator.result (top_address V4) _ all c.requires.v4;
+      added = c.in_ok-begin_networks.ensures c.reserve.new.self.items c.args.v6.now.items;
+      v4 = begun-words (NamesAddress base V4) words c.into_iter-word-iterator.result (top_address V4) _ all (c.in_ok-reserve.ensures.items ∙ c.requires.v4);
       v6 = begun-words (NamesAddress base V6) words c.into_iter-word-iterator.result (top_address V6) _ all c.requires.v6;
       judged = ap (first_in (network_slip base.networks)) all;
     }
