@@ -32,6 +32,7 @@ pub struct KnownAddresses<'a> {
     lists: IndexMap<(TextKey<'a>, TextKey<'a>), Addresses>,
     lookups: Lookups,
     protocols: KnownProtocols,
+    // where the next service is looked for first
     service: usize,
 }
 
@@ -58,13 +59,6 @@ impl<'a> KnownAddresses<'a> {
             protocols: KnownProtocols::new(alloc),
             service: 0,
         }
-    }
-
-    /// The definitions.
-    pub(crate) fn base(&self) -> &'a Checked
-        ensures { result.now ≡ self.now }
-    {
-        self.base
     }
 
     // The addresses that are known of words of these texts. Nothing is kept of no words.

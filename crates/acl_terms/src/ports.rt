@@ -129,16 +129,14 @@ fn admitted_ports(
     ensures set { IfOk result (λ s. IsSetOf (IsPort base.now protos.now words.now) top_port s) }
     ensures some { IfOk result (λ s. s.ranges ≢ []) }
 {
-    match words.first() {
-        None => Ok(RangeSet::all(alloc, TOP)?),
-        Some(_) => {
-            if !may_repeat(protos) {
-                return ports_of_words(alloc, base, protos, words, near);
-            }
-            let protos = distinct(alloc, protos)?;
-            ports_of_words(alloc, base, &protos, words, near)
-        }
+    if words.is_empty() {
+        return Ok(RangeSet::all(alloc, TOP)?);
     }
+    if !may_repeat(protos) {
+        return ports_of_words(alloc, base, protos, words, near);
+    }
+    let protos = distinct(alloc, protos)?;
+    ports_of_words(alloc, base, &protos, words, near)
 }
 
 /// The ports of a term with its protocols, or the first slip at names of ports. Some protocol is named where

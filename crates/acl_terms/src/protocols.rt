@@ -148,24 +148,20 @@ pub(crate) fn admitted_types(
 ) -> Result<RangeSet, Memory>
     ensures { IfOk result (λ s. IsSetOf (IsType family words.now) TOP s) }
 {
-    match words.first() {
-        None => RangeSet::all(alloc, TOP),
-        Some(_) => {
-            let numbers = types_of(alloc, family, words)?;
-            numbers_in(alloc, &numbers)
-        }
+    if words.is_empty() {
+        return RangeSet::all(alloc, TOP);
     }
+    let numbers = types_of(alloc, family, words)?;
+    numbers_in(alloc, &numbers)
 }
 
 /// The ICMP codes of a term: all where no word is written.
 pub(crate) fn admitted_codes(alloc: Global, words: &WordList) -> Result<RangeSet, Memory>
     ensures { IfOk result (λ s. IsSetOf (IsCode words.now) TOP s) }
 {
-    match words.first() {
-        None => RangeSet::all(alloc, TOP),
-        Some(_) => {
-            let numbers = codes_of(alloc, words)?;
-            numbers_in(alloc, &numbers)
-        }
+    if words.is_empty() {
+        return RangeSet::all(alloc, TOP);
     }
+    let numbers = codes_of(alloc, words)?;
+    numbers_in(alloc, &numbers)
 }
