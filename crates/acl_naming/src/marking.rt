@@ -22,6 +22,8 @@ fn mark(marks: &mut Marks, places: &mut Vec<usize>, index: usize) -> Result<(), 
     Ok(())
 }
 
+// A definition has few links, so this stands where its place is looked at.
+#[inline(always)]
 fn mark_links(links: &[usize], marks: &mut Marks, places: &mut Vec<usize>) -> Result<(), Memory>
     requires { All (λ j. j < length marks.old) links.now }
     ensures marked { OnOk result (marks.new ≡ mark_all links.now marks.old) }
