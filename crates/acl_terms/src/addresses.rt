@@ -67,7 +67,8 @@ impl Addresses {
     }
 }
 
-/// What look-ups of names leave to those that follow.
+/// What look-ups of names leave to those that follow: marks of walks, and where the last name was found; and marks at the
+/// networks whose addresses a list of names has so far, which are begun anew for each list.
 #[derive(Drop)]
 pub(crate) struct Lookups {
     marks: Marks,
@@ -145,7 +146,7 @@ fn add_word_once(
     }
 }
 
-// Puts the addresses that some of the words reach into the ranges of each family.
+// Puts the addresses that some of the words reach into the ranges of each family, those of each name once.
 fn add_each_word(
     alloc: Global,
     base: &Checked,
