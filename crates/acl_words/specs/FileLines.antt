@@ -1,5 +1,5 @@
 -- All lines of a file at once.
-use Rattle.std.specs.Prelude.{ℕ, ◌+◌, Bool, true, ◌==◌, if◌then◌else◌, List, [], ◌∷◌, ◌++◌}
+use Rattle.std.specs.Prelude.{ℕ, ◌+◌, Bool, true, false, ◌==◌, ◌&&◌, ◌||◌, if◌then◌else◌, List, [], ◌∷◌, ◌++◌}
 use Rattle.std.specs.List.{count_by}
 use Rattle.acl_text.specs.declared.file_lines.Line.{Line}
 use Rattle.acl_words.specs.Splices.{Splice}
@@ -13,6 +13,11 @@ lines_from file n (text ∷ texts) =
 -- so many lines more, of the file of this number
 abbrev pub with_lines : ℕ → ℕ → List (List ℕ) → Splice → Splice
 with_lines file n texts s = record s { lines = s.lines ++ lines_from file n texts }
+
+-- Whether `#i` stands in the text, where this byte is before it. Where it does not, no include line does.
+abbrev pub may_include : ℕ → List ℕ → Bool
+may_include before [] = false
+may_include before (b ∷ bs) = (before == 35 && b == 105) || may_include b bs
 
 -- How many line feeds stand in the text.
 abbrev pub feeds_in : List ℕ → ℕ

@@ -1,17 +1,18 @@
 ghost use Rattle.std.specs.Prelude.{◌≡◌, ◌<◌, ◌≤◌, ◌+◌, ◌^◌, length};
 ghost use Rattle.acl_text.specs.Cursors.{lines_of};
-ghost use Rattle.acl_text.specs.Cuts.{has_byte};
-ghost use Rattle.acl_words.specs.FileLines.{feeds_in, is_ended};
+ghost use Rattle.acl_words.specs.FileLines.{feeds_in, is_ended, may_include};
 
-/// Whether a `#` stands in the text. Without one it has no include line.
+/// Whether `#i` stands in the text. Where it does not, no line of it is an include line.
 ///
 /// Each byte is looked at, so that the machine can look at many of them in one step.
-pub(crate) fn has_hash(text: &[u8]) -> bool
-    ensures { result ≡ has_byte 35 text.now }
+pub(crate) fn may_include(text: &[u8]) -> bool
+    ensures { result ≡ may_include 0 text.now }
 {
     let mut found = false;
+    let mut before = 0;
     for byte in text {
-        found |= *byte == b'#';
+        found |= before == b'#' && *byte == b'i';
+        before = *byte;
     }
     found
 }

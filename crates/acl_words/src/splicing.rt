@@ -10,7 +10,7 @@ ghost use Rattle.acl_text.specs.Refusals.{fault};
 ghost use Rattle.acl_text.specs.declared.faults.Code.TheVariants.{NoFile};
 ghost use Rattle.acl_host.specs.WholeFiles.{ReadsFiles, is_no_reading, read_told};
 
-use crate::file_texts::has_hash;
+use crate::file_texts::may_include;
 use crate::include_lines::{Asked, asked_in};
 use crate::partial_splices::{MOST_OF_FILE, PartialSplice};
 use acl_host::{ReadFault, Tree, TreeFault};
@@ -173,7 +173,7 @@ impl<'a> SplicedFile<'a> {
             return Err(self.refusal(alloc, Code::TooLong, 0, b""));
         }
         let file = sources.add_file(alloc, self.label, bytes.len())?;
-        if !has_hash(bytes) {
+        if !may_include(bytes) {
             sources.add_lines(file, bytes)?;
             return Ok(());
         }

@@ -1,6 +1,6 @@
 use Rattle.std.proofs.Common.{rules, ◌≡◌, ◌≤◌, ◌<◌, false, length, arith}
 use Rattle.std.proofs.lemmas.Result.{err_from_is_err_and}
-use Rattle.acl_text.specs.Cuts.{has_byte}
+use Rattle.acl_words.specs.FileLines.{may_include}
 use Rattle.acl_words.specs.Splices.{is_long}
 use Rattle.acl_words.proofs.Includes.{count_told, include_ends, include_told}
 use Rattle.acl_words.proofs.WholeFileLaws.{whole_told}
@@ -26,9 +26,9 @@ include-returns-clause-gives g t c =
     c.in_ok-inner.ensures c.as_str.ensures.value c.as_bytes.ensures.value c.as_slice.ensures c.count_include.ensures.counted
     c.in_ok-bytes.ensures.gives c.add.ensures.gives
 
-pub add-returns-then-not-has_hash-clause-gives : goal.add-returns-then-not-has_hash-clause-gives
-add-returns-then-not-has_hash-clause-gives g t c =
+pub add-returns-then-not-may_include-clause-gives : goal.add-returns-then-not-may_include-clause-gives
+add-returns-then-not-may_include-clause-gives g t c =
     let short : is_long c.args.sources.now.size (length c.args.bytes.now) ≡ false = search rules in
-    let none : has_byte 35 c.args.bytes.now ≡ false = search rules in
+    let none : may_include 0 c.args.bytes.now ≡ false = search rules in
     whole_told (g.T.Tree.files c.args.tree.now) _ _ _ _ _ _ _ _ _ short none c.in_ok-file.ensures.number c.in_ok-file.ensures.file
     c.in_ok-add_lines.ensures.lines
