@@ -1,7 +1,8 @@
 -- The text of a file and its lines: how many there are, and the text that they make.
-use Rattle.std.proofs.Common.{◌≡◌, ℕ, zero, suc, ◌+◌, ◌-◌, ◌≤◌, ◌==◌, nat_eq, slice_index_or, Bool, true, false, cond, List, [], ◌∷◌, ◌++◌, length, flat_map, refl, ap, sym, ◌∙◌, arith}
+use Rattle.std.proofs.Common.{◌≡◌, ℕ, zero, suc, ◌+◌, ◌-◌, ◌≤◌, ◌==◌, nat_eq, slice_index_or, Bool, true, false, cond, List, [], ◌∷◌, ◌++◌, length, take, drop, flat_map, refl, ap, sym, ◌∙◌, arith}
 use Rattle.std.proofs.lemmas.Bool.{eqb-true}
-use Rattle.std.proofs.lemmas.List.Sums.{sum_by-append}
+use Rattle.std.proofs.lemmas.List.{take-append-drop}
+use Rattle.std.proofs.lemmas.List.Sums.{count_by-le-length, sum_by-append}
 use Rattle.acl_text.specs.Cursors.{onto_first, lines_of}
 use Rattle.acl_words.specs.FileLines.{feeds_in, is_ended, with_end}
 
@@ -58,6 +59,12 @@ counted (b ∷ c ∷ bs) =
 pub line_count : (bs : List ℕ) (feeds : ℕ) (ended : Bool) → feeds ≡ feeds_in bs → ended ≡ is_ended bs
     → length (lines_of bs) ≡ feeds + rest ended
 line_count bs feeds ended f e = counted bs ∙ ap (λ n. n + rest (is_ended bs)) (sym f) ∙ ap (λ t. feeds + rest t) (sym e)
+
+pub feeds_parted : (n : ℕ) (text : List ℕ) → feeds_in text ≡ feeds_in (take n text) + feeds_in (drop n text)
+feeds_parted n text = ap feeds_in (sym (take-append-drop n text)) ∙ sum_by-append (λ x. cond (x == 10) 1 0) (take n text) (drop n text)
+
+pub feeds_within : (text : List ℕ) → feeds_in text ≤ length text
+feeds_within text = count_by-le-length (λ b. b == 10) text
 
 -- ---- the text of the lines
 

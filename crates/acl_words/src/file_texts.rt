@@ -17,15 +17,36 @@ pub(crate) fn may_include(text: &[u8]) -> bool
     found
 }
 
+/// The most bytes whose line feeds are counted in one byte.
+const PART: usize = 255;
+
+/// How many line feeds stand in a short text.
+fn few_feeds(text: &[u8]) -> u8
+    requires { length text.now ≤ 255 }
+    ensures { result ≡ feeds_in text.now }
+{
+    let mut count = 0;
+    for byte in text {
+        count += u8::from(*byte == b'\n');
+    }
+    count
+}
+
 /// How many line feeds stand in the text.
+///
+/// They are counted part by part, since the machine adds many numbers of one byte in one step.
+#[tactic(auto, using(crate::proofs::FileTextLaws::feeds_parted, crate::proofs::FileTextLaws::feeds_within))]
 fn feeds_in(text: &[u8]) -> u32
     requires { length text.now < 2 ^ 32 }
     ensures exact { result ≡ feeds_in text.now }
     ensures within { result ≤ length text.now }
 {
     let mut count = 0;
-    for byte in text {
-        count += u32::from(*byte == b'\n');
+    let mut rest = text;
+    while !rest.is_empty() {
+        let (part, behind) = rest.split_at(rest.len().min(PART));
+        count += u32::from(few_feeds(part));
+        rest = behind;
     }
     count
 }
