@@ -10,6 +10,9 @@ use acl_sets::RangeSet;
 use acl_text::Memory;
 use std::alloc::Global;
 
+// So many words are looked at in a step of the machine.
+const STEP: usize = 4;
+
 /// Which terms have some numbers in a set of theirs: a row of bits for each number, and in it a bit for each term.
 #[derive(Drop)]
 pub(crate) struct Marks {
@@ -58,10 +61,9 @@ impl Marks {
     }
 
     // Keeps of what is left for the term the earlier terms that have the number at the place, and says whether any is
-    // left. A number that all of them have tells nothing. Their bits stand before the term's own.
+    // left. A number that all of them have tells nothing. Their bits stand in the first words.
     fn keep_at(&self, at: usize, term: usize, left: &mut [u64]) -> bool
         requires are { AreMarks self.now }
-        requires fits { term < 64 * self.now.width }
         requires at { at < length self.now.points.items }
         requires row { term * self.now.width + self.now.width ≤ length left.old }
         ensures beside { KeepsBeside term self.now.width left.old left.new }
@@ -72,14 +74,14 @@ impl Marks {
         if self.counts[at] == term {
             return true;
         }
-        keep(left, self.width, term, term / 64 + 1, &self.rows, at)
+        let count = self.width.min((term / (64 * STEP) + 1) * STEP);
+        keep(left, self.width, term, count, &self.rows, at)
     }
 
     // Where it is asked, keeps of what is left for the term the terms that have the numbers from this place on, up to
     // the high one. It says whether to go on asking.
     fn keep(&self, asks: bool, from: usize, high: u128, term: usize, left: &mut [u64]) -> bool
         requires are { AreMarks self.now }
-        requires fits { term < 64 * self.now.width }
         requires row { term * self.now.width + self.now.width ≤ length left.old }
         ensures beside { KeepsBeside term self.now.width left.old left.new }
         ensures asked { result ≡ true → asks ≡ true }

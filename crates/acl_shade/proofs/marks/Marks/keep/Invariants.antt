@@ -1,5 +1,5 @@
 -- Who has the numbers so far is left.
-use Rattle.std.proofs.Common.{◌≡◌, ℕ, ◌+◌, ◌*◌, ◌-◌, ◌<◌, ◌≤◌, true, length, slice_index}
+use Rattle.std.proofs.Common.{◌≡◌, ℕ, ◌*◌, ◌-◌, ◌<◌, ◌≤◌, true, length, slice_index}
 use Rattle.acl_shade.specs.Sifting.{RowHas}
 use Rattle.acl_shade.specs.Marking.{KeepsBeside}
 use Rattle.acl_shade.proofs.marks.Marks.keep.Given as goal
