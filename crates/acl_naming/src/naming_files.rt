@@ -22,7 +22,6 @@ ghost use Rattle.acl_naming.specs.NamingFiles.{
   without_comment,
 };
 
-use crate::byte_runs::LANES;
 use crate::fronts::Front;
 use crate::item_words::{NamingKind, read_block, read_item};
 use crate::line_parts::{LineForm, bad_byte, next_line, trimmed, without_comment};
@@ -354,10 +353,10 @@ fn add_lines(
 fn begins_in(bytes: &[u8]) -> usize {
     let mut count = 0;
     let mut from = 0;
-    while count < MOST && bytes.len() - from >= LANES {
-        let equals = u8x16::from_slice(&bytes[from..]).simd_eq(u8x16::splat(b'='));
+    while count < MOST && bytes.len() - from >= 64 {
+        let equals = u8x64::from_slice(&bytes[from..]).simd_eq(u8x64::splat(b'='));
         count += equals.to_bitmask().count_ones() as usize;
-        from += LANES;
+        from += 64;
     }
     let rest = bytes[from..].iter().filter(|byte| **byte == b'=').count();
     MOST.min(count + rest)
