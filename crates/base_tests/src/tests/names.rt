@@ -1,4 +1,4 @@
-use acl_text::{Memory, SeenNames, is_filter_name, is_name, is_safe_text, note};
+use acl_text::{Memory, SeenNames, is_filter_name, is_name, is_name_byte, is_safe_text, note};
 use std::alloc::Global;
 
 // A text, and whether it is a name, a name of a filter, and safe.
@@ -21,6 +21,7 @@ fn tells_names_and_texts(rt: HostRuntime) {
         assert!(rt; is_filter_name(bytes) == *filter, "at {text}");
         assert!(rt; is_safe_text(bytes) == *safe, "at {text}");
     }
+    assert!(rt; is_name_byte(b'_') && !is_name_byte(b' '));
 }
 
 static NOTES: [(&str, &str); 7] = [

@@ -3,9 +3,9 @@ ghost use Rattle.std.specs.Prelude.{◌≡◌, true};
 use acl_packet::{Family, Prefix};
 use acl_text::{
     Bytes, Cursor, Items, Memory, Place, PutFault, Whole, ahead, behind, contains_byte, copy_bytes,
-    next_word, prefix_front, put_address, put_number, put_pieces, put_prefix, put_wildcard,
-    read_address, read_number, read_ports, read_prefix, read_signed, read_spelled_prefix,
-    skip_white, split_at_byte,
+    next_word, prefix_front, put_address, put_number, put_pieces, put_prefix, put_prefix_between,
+    put_wildcard, read_address, read_number, read_ports, read_prefix, read_signed,
+    read_spelled_prefix, skip_white, split_at_byte,
 };
 use std::alloc::Global;
 
@@ -124,6 +124,22 @@ fn prints_examples(rt: HostRuntime) {
     for (word, text) in &PRINTED {
         assert!(rt; is_printed_as(rt.alloc(), word, text) == Ok(true), "{word}");
     }
+}
+
+// Whether the prefix of the word is put so between a comma and the end of a row.
+fn is_put_between(alloc: Global, word: &str, text: &str) -> Result<bool, Memory> {
+    let Some(prefix) = read_prefix(word.as_bytes()) else {
+        return Ok(false);
+    };
+    let mut out = Whole::new(alloc);
+    put_prefix_between(&mut out, b", ", &prefix, b";\n")?;
+    Ok(out.as_slice() == text.as_bytes())
+}
+
+#[test]
+fn puts_prefixes_between_bytes(rt: HostRuntime) {
+    assert!(rt; is_put_between(rt.alloc(), "10.20.0.0/16", ", 10.20.0.0/16;\n") == Ok(true));
+    assert!(rt; is_put_between(rt.alloc(), "2001:db8::/32", ", 2001:db8::/32;\n") == Ok(true));
 }
 
 static REFUSED: [&str; 26] = [
