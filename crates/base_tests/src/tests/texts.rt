@@ -127,7 +127,7 @@ fn prints_examples(rt: HostRuntime) {
 }
 
 // Whether the prefix of the word is put so between a comma and the end of a row.
-fn is_put_between(alloc: Global, word: &str, text: &str) -> Result<bool, Memory> {
+fn is_put_between(alloc: Global, word: &str, text: &str) -> Result<bool, PutFault> {
     let Some(prefix) = read_prefix(word.as_bytes()) else {
         return Ok(false);
     };
