@@ -6,3 +6,4 @@ pub mod DeletionLaws
 pub mod BitLaws
 pub mod MarkLaws
 pub mod SiftLaws
+pub mod SeenLaws

@@ -4,3 +4,4 @@ pub mod Deletions
 pub mod ShadedPlaces
 pub mod Sifting
 pub mod Marking
+pub mod SeenNumbers

@@ -65,3 +65,12 @@ LeavesShading width terms left = (targets : List Target) (today : Day) (i j : �
 -- So it stays.
 abbrev pub KeepsShading : ℕ → List Term → List ℕ → List ℕ → Type 0
 KeepsShading width terms old new = LeavesShading width terms old → LeavesShading width terms new
+
+-- None of the terms before this place is shaded, on any targets on any day.
+abbrev pub NoneShadesTo : ℕ → List Term → Type 0
+NoneShadesTo place terms = (targets : List Target) (today : Day) (i j : ℕ) (d : Term) → i < j → j < place
+    → shades targets today (slice_index_or terms i d) (slice_index_or terms j d) ≡ true → ⊥
+
+-- None of the terms is.
+abbrev pub NoneShades : List Term → Type 0
+NoneShades terms = NoneShadesTo (length terms) terms

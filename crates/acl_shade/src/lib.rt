@@ -1,12 +1,14 @@
 //! Shaded terms: those of a block that decide no packet, since an earlier term decides each of theirs.
 #![tactic(auto)]
 
+mod apart;
 mod bits;
 mod laws;
 mod marks;
 mod parts;
 mod places;
 mod points;
+mod seen_numbers;
 mod shading;
 mod sifting;
 

@@ -1,4 +1,4 @@
-ghost use Rattle.std.specs.Prelude.{◌≡◌, ℕ, ◌+◌, ◌*◌, ◌%◌, ◌<◌, ◌≤◌, ◌==◌, ◌&&◌, List, length, slice_index_or, true, IfOk, option_map};
+ghost use Rattle.std.specs.Prelude.{◌≡◌, ℕ, ◌+◌, ◌*◌, ◌%◌, ◌<◌, ◌≤◌, ◌==◌, ◌&&◌, List, length, slice_index_or, true, None, IfOk, option_map};
 ghost use Rattle.acl_host.specs.declared.days.Day.{Day};
 ghost use Rattle.acl_target.specs.declared.targets.Target.{Target};
 ghost use Rattle.acl_terms.specs.declared.terms.Term.{Term};
@@ -6,6 +6,7 @@ ghost use Rattle.acl_shade.specs.ComputableShading.{shaded_by, shades, shading_t
 ghost use Rattle.acl_shade.specs.ShadedPlaces.{AreShadedPlaces};
 ghost use Rattle.acl_shade.specs.Sifting.{RowHas};
 
+use crate::apart::are_apart;
 use crate::shading::{is_live_on_some, is_live_where, shades};
 use crate::sifting::candidates;
 use acl_host::Day;
@@ -63,9 +64,20 @@ fn first_left(
     None
 }
 
-/// For each term of a block, in order, the place of the first one that shades it, as `shaded_by` has it. It fails only
-/// where memory is wanted.
-pub fn shaded_places(
+// That none of so many terms is shaded.
+fn none_shaded(alloc: Global, count: usize) -> Result<Items<Option<usize>>, Memory>
+    ensures size { IfOk result (λ places. length places ≡ count) }
+    ensures none { IfOk result (λ places. (k : ℕ) → k < count → slice_index_or places k None ≡ None) }
+{
+    let mut places = Items::with_capacity(alloc, count)?;
+    for _ in 0..count {
+        places.push(None)?;
+    }
+    Ok(places)
+}
+
+// The places, where the terms that can shade each one are sifted.
+fn sifted_places(
     alloc: Global,
     terms: &[Term],
     targets: &[Target],
@@ -80,6 +92,23 @@ pub fn shaded_places(
         places.push(first_left(terms, targets, today, place, &left, width))?;
     }
     Ok(places)
+}
+
+/// For each term of a block, in order, the place of the first one that shades it, as `shaded_by` has it. It fails only
+/// where memory is wanted.
+pub fn shaded_places(
+    alloc: Global,
+    terms: &[Term],
+    targets: &[Target],
+    today: Day,
+) -> Result<Items<Option<usize>>, Memory>
+    ensures { IfOk result (AreShadedPlaces targets.now today terms.now) }
+{
+    if are_apart(alloc, terms)? {
+        let places = none_shaded(alloc, terms.len())?;
+        return Ok(places);
+    }
+    sifted_places(alloc, terms, targets, today)
 }
 
 /// The term that shades the one at this place, where the list is that of the block's shaded places.

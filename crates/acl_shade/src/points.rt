@@ -62,8 +62,20 @@ impl Points {
         }
     }
 
+    // Whether the number is above all that are gathered, as it is where terms come in rising order.
+    fn is_above(&self, number: u128) -> bool {
+        match self.known.last() {
+            Some(last) => *last < number && self.fresh.is_empty(),
+            None => self.fresh.is_empty(),
+        }
+    }
+
     // Adds the number, unless it is known. It gives the place where the next one is looked for, and there it mostly stands.
     fn note(&mut self, number: u128, near: usize) -> Result<usize, Memory> {
+        if self.is_above(number) {
+            self.known.push(number)?;
+            return Ok(self.known.len());
+        }
         if let Some(behind) = self.place_behind(number, near) {
             return Ok(behind);
         }

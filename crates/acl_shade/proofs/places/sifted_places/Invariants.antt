@@ -1,7 +1,7 @@
 -- The places so far are told.
 use Rattle.std.proofs.Common.{◌≡◌, ℕ, ◌<◌, length, slice_index_or, None}
 use Rattle.acl_shade.specs.ComputableShading.{shaded_by}
-use Rattle.acl_shade.proofs.places.shaded_places.Given as goal
+use Rattle.acl_shade.proofs.places.sifted_places.Given as goal
 
 abbrev pub invariant-loop-place : goal.invariant-loop-place
 invariant-loop-place l = record {
