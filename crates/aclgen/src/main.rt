@@ -1,7 +1,7 @@
 //! aclgen: makes the real files, streams and clock, and runs the whole job on them.
 #![tactic(auto)]
 
-use acl_machine::{DiskTree, StdSink, SystemClock};
+use acl_machine::{DiskTree, StdSink, SystemClock, keep_large_blocks};
 use aclgen_core::{run_status, status_without_words};
 use std::io::ErrorKind;
 use std::process::ExitCode;
@@ -13,6 +13,7 @@ fn words_of(rt: &HostRuntime) -> io::Result<Vec<String>> {
 }
 
 fn main(rt: HostRuntime) -> ExitCode {
+    keep_large_blocks(rt.alloc());
     let mut out = StdSink::new(rt.stdout());
     let mut err = StdSink::new(rt.stderr());
     let status = match words_of(&rt) {
