@@ -6,7 +6,7 @@ use Rattle.std.proofs.lemmas.Bool.{cond-true, cond-false, and_parts}
 use Rattle.acl_words.specs.Bytes.{in_run, is_printed, first_bad, ends_in_colon}
 use Rattle.acl_words.specs.ReadingSteps.{first_part, is_inner}
 
-inner_runs : (b : ℕ) → is_inner b ≡ true → in_run b ≡ true
+pub inner_runs : (b : ℕ) → is_inner b ≡ true → in_run b ≡ true
 inner_runs b h = grind arith
 
 inner_printed : (b : ℕ) → is_inner b ≡ true → is_printed b ≡ true
@@ -16,7 +16,7 @@ no_colon : (part : List ℕ) (b : ℕ) → is_inner b ≡ true → (ends_in_colo
 no_colon part b h = grind arith
 
 -- The part goes on with such bytes.
-inner_goes_on : (xs part ys : List ℕ) → list_all is_inner xs ≡ true
+pub inner_goes_on : (xs part ys : List ℕ) → list_all is_inner xs ≡ true
     → first_part part (xs ++ ys) ≡ first_part (part ++ xs) ys
 inner_goes_on [] part ys h = ap (λ t. first_part t ys) (sym (append-nil part))
 inner_goes_on (x ∷ xs) part ys h =
@@ -26,7 +26,7 @@ inner_goes_on (x ∷ xs) part ys h =
     ∙ inner_goes_on xs (part ++ x ∷ []) ys p.1
     ∙ ap (λ t. first_part t ys) (append_assoc part (x ∷ []) xs)
 
-clean : (xs ys : List ℕ) → list_all is_inner xs ≡ true → first_bad (xs ++ ys) ≡ first_bad ys
+pub clean : (xs ys : List ℕ) → list_all is_inner xs ≡ true → first_bad (xs ++ ys) ≡ first_bad ys
 clean [] ys h = refl
 clean (x ∷ xs) ys h =
     let p = and_parts (is_inner x) (list_all is_inner xs) h in

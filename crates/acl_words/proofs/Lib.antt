@@ -5,7 +5,9 @@ pub mod FileTextLaws
 pub mod FolderLaws
 pub mod Includes
 pub mod InnerLaws
+pub mod InnerParts
 pub mod LabelLaws
+pub mod LaneLaws
 pub mod LineLaws
 pub mod Paths
 pub mod PlaceLaws

@@ -174,7 +174,7 @@ whole_run : (x : ℕ) (xs : List ℕ) (place : Place) → IsFront place (x ∷ x
 whole_run x xs place f = ap (λ (t : List ℕ). split_run place [] t) (sym (append-nil (x ∷ xs))) ∙ f []
 
 -- The words of a text that begins with the part, from what is found of it.
-abbrev part_and_rest : Reached → Form × List ℕ × List ℕ → List Token
+abbrev pub part_and_rest : Reached → Form × List ℕ × List ℕ → List Token
 part_and_rest r f = part_word r.place f.0 f.1 ∷ words_on Between r f.2
 
 -- The part goes on with a byte of the run: it ends there as a keyword, or goes on as a front.

@@ -1,5 +1,5 @@
 -- The words of a text of many lines, read byte by byte with the places of its lines.
-use Rattle.std.specs.Prelude.{ℕ, not, nat_le, ◌==◌, ◌&&◌, ◌||◌, if◌then◌else◌, Bool, List, [], ◌∷◌, ◌++◌}
+use Rattle.std.specs.Prelude.{ℕ, not, nat_le, ◌==◌, ◌&&◌, ◌||◌, if◌then◌else◌, Bool, false, List, [], ◌∷◌, ◌++◌}
 use Rattle.acl_text.specs.declared.faults.Place.{Place}
 use Rattle.acl_text.specs.Cursors.{is_white}
 use Rattle.acl_words.specs.declared.forms.Form.{Form}
@@ -42,6 +42,11 @@ is_blank b = is_white b || b == 10
 -- A byte from `$` to `z`, and no colon: a word may have it.
 abbrev pub is_inner : ℕ → Bool
 is_inner b = nat_le 36 b && nat_le b 122 && not (b == 58)
+
+-- Whether the text begins with a byte of a word.
+abbrev pub begins_run : List ℕ → Bool
+begins_run [] = false
+begins_run (b ∷ bs) = in_run b
 
 -- The first part of a run, its form, and the bytes behind it: it ends behind the first `::`, or with the run.
 -- What of it stands before the bytes is given.

@@ -7,6 +7,7 @@ mod folders;
 mod forms;
 mod gathering;
 mod include_lines;
+mod inner_runs;
 mod line_places;
 mod line_texts;
 mod line_words;

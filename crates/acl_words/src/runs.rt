@@ -1,7 +1,7 @@
-ghost use Rattle.std.specs.Prelude.{◌≡◌, ◌≤◌, [], ◌∷◌, true, length, take, option_map};
+ghost use Rattle.std.specs.Prelude.{◌≡◌, ◌≤◌, [], ◌∷◌, true, false, length, take, option_map};
 ghost use Rattle.std.specs.List.{list_all};
 ghost use Rattle.acl_words.specs.Bytes.{is_mark, in_run, is_printed, first_bad, ends_in_colon};
-ghost use Rattle.acl_words.specs.ReadingSteps.{first_part, is_inner};
+ghost use Rattle.acl_words.specs.ReadingSteps.{begins_run, first_part, is_inner};
 ghost use Rattle.acl_words.specs.Words.{part_word};
 
 use crate::forms::Form;
@@ -19,6 +19,16 @@ fn in_run(byte: u8) -> bool
     ensures { result ≡ in_run byte }
 {
     !(is_white(byte) || byte == b'\n') && !is_mark(byte)
+}
+
+/// Whether the text is seen at once to begin with no byte of a word.
+pub(crate) fn begins_blank(text: &[u8]) -> bool
+    ensures { result ≡ true → begins_run text.now ≡ false }
+{
+    match text {
+        [byte, ..] => *byte == b' ' || *byte == b'\n',
+        [] => true,
+    }
 }
 
 fn is_printed(byte: u8) -> bool
@@ -40,30 +50,6 @@ fn first_bad(text: &[u8]) -> Option<&[u8]>
     None
 }
 
-// For each byte whether it is an inner one: from `$` to `z`, and no colon.
-static INNER_BYTES: [u8; 256] =
-    *b"nnnnnnnnnnnnnnnnnnnnnnnnnnnnnnnnnnnnyyyyyyyyyyyyyyyyyyyyyynyyyyyyyyyyyyyyyyyyyyyyyyyyyyyyyyyyyyyyyyyyyyyyyyyyyyyyyyyyyyyyyynnnnnnnnnnnnnnnnnnnnnnnnnnnnnnnnnnnnnnnnnnnnnnnnnnnnnnnnnnnnnnnnnnnnnnnnnnnnnnnnnnnnnnnnnnnnnnnnnnnnnnnnnnnnnnnnnnnnnnnnnnnnnnnnnnnnn";
-
-/// Whether the byte is an inner one. Such a byte stands in a word, which may have it, and ends no keyword.
-fn is_inner(byte: u8) -> bool
-    ensures { result ≡ is_inner byte }
-{
-    INNER_BYTES[usize::from(byte)] == b'y'
-}
-
-/// How many inner bytes the text begins with.
-pub(crate) fn inner_count(text: &[u8]) -> usize
-    ensures within { result ≤ length text.now }
-    ensures inner { list_all is_inner (take result text.now) ≡ true }
-{
-    for (i, byte) in text.iter().enumerate() {
-        if !is_inner(*byte) {
-            return i;
-        }
-    }
-    text.len()
-}
-
 /// The first byte that no word may have. The text begins with so many inner bytes, which are not looked at again.
 fn first_bad_behind(inner: usize, text: &[u8]) -> Option<&[u8]>
     requires within { inner ≤ length text.now }
@@ -82,7 +68,7 @@ fn ends_in_colon(text: &[u8]) -> bool
 
 /// The word of a part of a run, which begins with so many inner bytes.
 #[tactic(auto, using(crate::proofs::RunLaws::printed_is_run))]
-pub(crate) fn part_word<'a>(place: Place, form: Form, text: &'a [u8], inner: usize) -> Token<'a>
+fn part_word<'a>(place: Place, form: Form, text: &'a [u8], inner: usize) -> Token<'a>
     requires within { inner ≤ length text.now }
     requires inner { list_all is_inner (take inner text.now) ≡ true }
     ensures { result ≡ part_word place form text.now }
@@ -97,7 +83,7 @@ pub(crate) fn part_word<'a>(place: Place, form: Form, text: &'a [u8], inner: usi
 ///
 /// The text begins with so many inner bytes, which are not looked at again.
 #[tactic(auto, using(crate::proofs::InnerLaws::behind_inner))]
-pub(crate) fn first_part(text: &[u8], inner: usize) -> (Form, &[u8], &[u8])
+fn first_part(text: &[u8], inner: usize) -> (Form, &[u8], &[u8])
     requires within { inner ≤ length text.now }
     requires inner { list_all is_inner (take inner text.now) ≡ true }
     ensures parts { (result.0, result.1.now, result.2.now) ≡ first_part [] text.now }
@@ -114,4 +100,18 @@ pub(crate) fn first_part(text: &[u8], inner: usize) -> (Form, &[u8], &[u8])
         }
     }
     (Form::Plain, text, &[])
+}
+
+/// The word of the first part of the run that the text begins with, and the text behind it.
+///
+/// The text begins with so many inner bytes. It is apart, since most words are seen at once.
+#[inline(never)]
+pub(crate) fn first_word<'a>(place: Place, text: &'a [u8], inner: usize) -> (Token<'a>, &'a [u8])
+    requires within { inner ≤ length text.now }
+    requires inner { list_all is_inner (take inner text.now) ≡ true }
+    ensures word { result.0 ≡ part_word place (first_part [] text.now).0 (first_part [] text.now).1 }
+    ensures rest { result.1.now ≡ (first_part [] text.now).2 }
+{
+    let (form, part, behind) = first_part(text, inner);
+    (part_word(place, form, part, inner), behind)
 }

@@ -1,14 +1,16 @@
-ghost use Rattle.std.specs.Prelude.{◌≡◌, ◌≢◌, ◌∷◌, ◌<◌, [], true, false, length, take, IfSome, IfNone};
+ghost use Rattle.std.specs.Prelude.{◌≡◌, ◌≢◌, ◌∷◌, ◌++◌, ◌<◌, ◌≤◌, [], true, false, length, take, IfSome, IfNone};
+ghost use Rattle.std.specs.List.{list_all};
 ghost use Rattle.acl_words.specs.Stretches.{places_of};
 ghost use Rattle.acl_words.specs.Bytes.{in_run};
-ghost use Rattle.acl_words.specs.ReadingSteps.{is_blank, reached, words_on};
+ghost use Rattle.acl_words.specs.ReadingSteps.{begins_run, is_blank, is_inner, reached, words_on};
 ghost use Rattle.acl_words.specs.ScanSteps.{words_left};
 ghost use Rattle.acl_words.specs.Tokens.{IsRun};
 ghost use Rattle.acl_words.specs.Words.{Between, word};
 
 use crate::forms::Form;
+use crate::inner_runs::{inner_count, is_inner};
 use crate::places::Places;
-use crate::runs::{first_part, inner_count, part_word};
+use crate::runs::{begins_blank, first_word};
 use crate::stretches::Stretch;
 use crate::tokens::Token;
 use acl_text::{is_white, split_at_byte};
@@ -94,17 +96,62 @@ impl<'a> Scan<'a> {
         }
     }
 
-    /// The first part of a run.
+    /// The word of the inner bytes, behind which their run ends.
+    #[inline(always)]
+    #[tactic(auto, using(crate::proofs::InnerParts::plain_read, crate::proofs::InnerParts::inner_has_no_feed))]
+    fn plain_word(&mut self, inner: &'a [u8], next: &'a [u8]) -> Token<'a>
+        requires begins { begins_run self.old.rest.now ≡ true }
+        requires text { self.old.rest.now ≡ inner.now ++ next.now }
+        requires inner { list_all is_inner inner.now ≡ true }
+        requires ends { begins_run next.now ≡ false }
+        ensures { words_left self.old ≡ result ∷ words_left self.new }
+    {
+        self.rest = next;
+        Token::new(self.places.here(), Form::Plain, inner)
+    }
+
+    /// The keyword of the inner bytes and the two colons behind them.
+    #[inline(always)]
+    #[tactic(auto, using(crate::proofs::InnerParts::keyword_read))]
+    fn keyword(&mut self, inner: &'a [u8], next: &'a [u8]) -> Token<'a>
+        requires text { self.old.rest.now ≡ inner.now ++ 58 ∷ 58 ∷ next.now }
+        requires inner { list_all is_inner inner.now ≡ true }
+        ensures { words_left self.old ≡ result ∷ words_left self.new }
+    {
+        let text = &self.rest[..inner.len() + 2];
+        self.rest = next;
+        Token::new(self.places.here(), Form::Keyword, text)
+    }
+
+    /// The first part of a run that begins with so many inner bytes.
     #[tactic(auto, using(crate::proofs::ReadingLaws::part_read))]
+    fn any_part(&mut self, byte: u8, behind: &'a [u8], inner: usize) -> Token<'a>
+        requires text { self.old.rest.now ≡ byte ∷ behind.now }
+        requires run { in_run byte ≡ true }
+        requires within { inner ≤ length self.old.rest.now }
+        requires inner { list_all is_inner (take inner self.old.rest.now) ≡ true }
+        ensures { words_left self.old ≡ result ∷ words_left self.new }
+    {
+        let (word, next) = first_word(self.places.here(), self.rest, inner);
+        self.rest = next;
+        word
+    }
+
+    /// The first part of a run. In most of them all bytes are inner ones, or all but a keyword's colons.
+    #[inline(always)]
     fn part(&mut self, byte: u8, behind: &'a [u8]) -> Token<'a>
         requires text { self.old.rest.now ≡ byte ∷ behind.now }
         requires run { in_run byte ≡ true }
         ensures { words_left self.old ≡ result ∷ words_left self.new }
     {
-        let inner = inner_count(self.rest);
-        let (form, text, next) = first_part(self.rest, inner);
-        self.rest = next;
-        part_word(self.places.here(), form, text, inner)
+        let (inner, next) = self.rest.split_at(inner_count(self.rest));
+        if begins_blank(next) {
+            return self.plain_word(inner, next);
+        }
+        match next {
+            [b':', b':', next @ ..] => self.keyword(inner, next),
+            _ => self.any_part(byte, behind, inner.len()),
+        }
     }
 
     /// The word that begins with the byte.
@@ -119,17 +166,22 @@ impl<'a> Scan<'a> {
             b'{' => self.byte_word(Form::Begin, behind),
             b'}' => self.byte_word(Form::End, behind),
             b'"' => self.string(behind),
-            _ => self.part(byte, behind),
+            _ => self.any_part(byte, behind, 0),
         }
     }
 
     /// The next word.
+    #[tactic(auto, using(crate::proofs::InnerLaws::inner_runs))]
     pub(crate) fn next(&mut self) -> Option<Token<'a>>
         ensures some { IfSome result (λ t. words_left self.old ≡ t ∷ words_left self.new) }
         ensures none { IfNone result ((words_left self.old ≡ []) × (words_left self.new ≡ [])) }
     {
         while let Some((byte, behind)) = self.rest.split_first() {
-            if is_blank(*byte) {
+            if *byte == b' ' {
+                self.pass_blank(*byte, behind);
+            } else if is_inner(*byte) {
+                return Some(self.part(*byte, behind));
+            } else if is_blank(*byte) {
                 self.pass_blank(*byte, behind);
             } else if *byte == b'#' {
                 self.pass_comment(behind);

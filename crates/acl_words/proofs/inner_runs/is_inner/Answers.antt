@@ -1,7 +1,7 @@
 use Rattle.std.proofs.Common.{ℕ, ◌<◌, ◌==◌, get_or, ap, ◌∙◌, arith}
-use Rattle.acl_words.specs.declared.runs.TheConstants.{INNER_BYTES}
+use Rattle.acl_words.specs.declared.inner_runs.TheConstants.{INNER_BYTES}
 use Rattle.acl_words.proofs.ByteTables.{inner_at}
-use Rattle.acl_words.proofs.runs.is_inner.Goals as goal
+use Rattle.acl_words.proofs.inner_runs.is_inner.Goals as goal
 
 pub returns : goal.returns
 returns c =
