@@ -1,71 +1,95 @@
--- A keyword is looked for among the rows from the first one on whose keyword is so long.
-use Rattle.std.proofs.Common.{◌≡◌, ℕ, zero, suc, ◌<◌, ◌≤◌, ◌==◌, ◌&&◌, Bool, true, false, not, nat_le, List, [], ◌∷◌, length, map, take, drop, get_or, refl, ap, sym, ◌∙◌, subst, arith, inl, inr, eq-zero-or-pos, ◌-◌}
+-- A keyword is looked for among those of its length.
+use Rattle.std.proofs.Common.{◌≡◌, ℕ, zero, suc, ◌<◌, ◌≤◌, ◌==◌, Bool, true, false, not, if◌then◌else◌, List, [], ◌∷◌, length, map, Option, None, Some, option_map, refl, ap, sym, ◌∙◌, inl, inr}
 use Rattle.std.specs.Str.{bytes_eq}
 use Rattle.std.specs.List.{list_all}
-use Rattle.std.proofs.lemmas.Bool.{and_parts, cond-false, eq-eqb, false_from_ne_true}
-use Rattle.std.proofs.lemmas.Bool.Decides.{nat_tests}
-use Rattle.std.proofs.lemmas.List.{drop-map, length-drop, take_all}
+use Rattle.std.specs.Option.{option_or}
+use Rattle.std.proofs.lemmas.Bool.{and_parts, cases_Bool, cond-true, cond-false, eq-eqb, false_from_ne_true}
 use Rattle.std.proofs.lemmas.Slice.Eq.{bytes_eq-Decides}
+use Rattle.acl_policy.specs.declared.keywords.Keyword.{Keyword}
 use Rattle.acl_policy.specs.declared.keywords.KeywordRow.{KeywordRow}
-use Rattle.acl_policy.specs.declared.keywords.TheConstants.{FIRST_ROWS}
-use Rattle.acl_policy.specs.Keywords.{all_keywords, line, row_in, row_named}
+use Rattle.acl_policy.specs.Keywords.{all_keywords, line, row_in, row_named, row_of}
 
--- The text of the row has another length.
-abbrev other_length : ℕ → List ℕ × KeywordRow → Bool
-other_length n r = not (length r.0 == n)
+-- The rows whose texts have the length.
+abbrev pub of_length : ℕ → List (List ℕ × KeywordRow) → List (List ℕ × KeywordRow)
+of_length n [] = []
+of_length n (r ∷ rs) = if length r.0 == n then r ∷ of_length n rs else of_length n rs
 
-not_true : (b : Bool) → not b ≡ true → b ≡ true → ⊥
-not_true true h e = cc
-not_true false h e = cc
-
-differs : (text written : List ℕ) → not (length written == length text) ≡ true → bytes_eq text written ≡ false
+differs : (text written : List ℕ) → (length written == length text) ≡ false → bytes_eq text written ≡ false
 differs text written h = false_from_ne_true (bytes_eq text written)
-    (λ e. not_true (length written == length text) h
-    (eq-eqb (length written) (length text) (ap length (sym ((bytes_eq-Decides text written).0 e)))))
+    (λ e. unequal (eq-eqb (length written) (length text) (ap length (sym ((bytes_eq-Decides text written).0 e)))))
+  where
+    unequal : (length written == length text) ≡ true → ⊥
+    unequal e = absurd (cc)
 
-skipped : (k : ℕ) (rows : List (List ℕ × KeywordRow)) (text : List ℕ) → list_all (other_length (length text)) (take k rows) ≡ true
-    → row_in (drop k rows) text ≡ row_in rows text
-skipped zero rows text h = refl
-skipped (suc k) [] text h = refl
-skipped (suc k) (r ∷ rows) text h =
-    let p = and_parts (other_length (length text) r) (list_all (other_length (length text)) (take k rows)) h in
-    skipped k rows text p.1 ∙ sym (cond-false (bytes_eq text r.0) _ _ (differs text r.0 p.0))
+same_length : (rows : List (List ℕ × KeywordRow)) (text : List ℕ) → row_in rows text ≡ row_in (of_length (length text) rows) text
+same_length [] text = refl
+same_length (r ∷ rs) text = elim (cases_Bool (length r.0 == length text)) [
+  | inl h ↦ ap (λ o. if bytes_eq text r.0 then Some r.1 else o) (same_length rs text)
+      ∙ ap (λ rows. row_in rows text) (sym (cond-true (length r.0 == length text) _ _ h))
+  | inr h ↦ cond-false (bytes_eq text r.0) _ _ (differs text r.0 h) ∙ same_length rs text
+      ∙ ap (λ rows. row_in rows text) (sym (cond-false (length r.0 == length text) _ _ h))
+]
 
--- No row before the first one is of the length.
-abbrev is_first : ℕ → Bool
-is_first n = nat_le (get_or FIRST_ROWS n 0) 19 && list_all (other_length n) (take (get_or FIRST_ROWS n 0) (map line all_keywords))
-
-abbrev are_first : ℕ → Bool
-are_first zero = true
-are_first (suc n) = is_first n && are_first n
-
-each_first : (m n : ℕ) → are_first m ≡ true → n < m → is_first n ≡ true
-each_first zero n h l = absurd (omega arith)
-each_first (suc m) n h l =
-    let both = and_parts (is_first m) (are_first m) h in
-    elim (eq-zero-or-pos (m - n)) [
-      | inl z ↦ let here : m ≡ n = omega (arith, z, l) in
-          subst (λ (i : ℕ). is_first i ≡ true) here both.0
-      | inr g ↦ each_first m n both.1 (omega (arith, g))
-    ]
-
-pub first_within : (n first : ℕ) → n < 22 → first ≡ get_or FIRST_ROWS n 0 → first ≤ 19
-first_within n first l e =
-    let p = and_parts (nat_le (get_or FIRST_ROWS n 0) 19) _ (each_first 22 n refl l) in
-    let within : get_or FIRST_ROWS n 0 ≤ 19 = grind (arith, nat_tests) in
-    omega (arith, e, within)
-
-pub rows_behind : (text : List ℕ) (first : ℕ) → length text < 22 → first ≡ get_or FIRST_ROWS (length text) 0
-    → row_in (drop first (map line all_keywords)) text ≡ row_named text
+pub named_in : (n : ℕ) (text : List ℕ) → length text ≡ n → row_named text ≡ row_in (of_length n (map line all_keywords)) text
 unfolding row_named
-rows_behind text first l e =
-    let p = and_parts (nat_le (get_or FIRST_ROWS (length text) 0) 19) _ (each_first 22 (length text) refl l) in
-    ap (λ (k : ℕ). row_in (drop k (map line all_keywords)) text) e
-    ∙ skipped (get_or FIRST_ROWS (length text) 0) (map line all_keywords) text p.1
+named_in n text e =
+    same_length (map line all_keywords) text ∙ ap (λ m. row_in (of_length m (map line all_keywords)) text) e
 
--- The rows of a table from a place on.
-pub rows_from : {T : Type 0} (row : T → List ℕ × KeywordRow) (table : List T) (first count : ℕ) → first ≤ count → length table ≡ count
-    → map row table ≡ map line all_keywords → map row (take (count - first) (drop first table)) ≡ drop first (map line all_keywords)
-rows_from row table first count h all same =
-    ap (map row) (take_all (count - first) (drop first table) (omega (arith, all, length-drop first table)))
-    ∙ sym (drop-map row first table) ∙ ap (drop first) same
+none_left : (n : ℕ) (rows : List (List ℕ × KeywordRow)) → list_all (λ r. not (length r.0 == n)) rows ≡ true → of_length n rows ≡ []
+none_left n [] h = refl
+none_left n (r ∷ rs) h =
+    let p = and_parts (not (length r.0 == n)) (list_all (λ r. not (length r.0 == n)) rs) h in
+    cond-false (length r.0 == n) _ _ (not_false (length r.0 == n) p.0) ∙ none_left n rs p.1
+  where
+    not_false : (b : Bool) → not b ≡ true → b ≡ false
+    not_false false h = refl
+    not_false true h = absurd (cc)
+
+-- No keyword has the length.
+pub not_named : (text : List ℕ) → list_all (λ r. not (length r.0 == length text)) (map line all_keywords) ≡ true → row_named text ≡ None
+not_named text h =
+    named_in (length text) text refl ∙ ap (λ rows. row_in rows text) (none_left (length text) (map line all_keywords) h)
+
+-- The row of the one of a few keywords that is written so.
+abbrev pub where_is : List ℕ → List ℕ → Keyword → Option Keyword
+where_is text written k = if bytes_eq text written then Some k else None
+
+pub of_one : (n : ℕ) (text v : List ℕ) (k : Keyword) (o : Option Keyword) → length text ≡ n
+    → of_length n (map line all_keywords) ≡ (v, row_of k) ∷ [] → o ≡ where_is text v k → option_map row_of o ≡ row_named text
+of_one n text v k o len rows e =
+    ap (option_map row_of) e ∙ alone (bytes_eq text v) ∙ sym (named_in n text len ∙ ap (λ rs. row_in rs text) rows)
+  where
+    alone : (a : Bool) → option_map row_of (if a then Some k else None) ≡ (if a then Some (row_of k) else None)
+    alone true = refl
+    alone false = refl
+
+two_ways : (a b : Bool) (k l : Keyword)
+    → option_map row_of (option_or (if a then Some k else None) (if b then Some l else None))
+    ≡ (if a then Some (row_of k) else if b then Some (row_of l) else None)
+two_ways true b k l = refl
+two_ways false true k l = refl
+two_ways false false k l = refl
+
+pub of_two : (n : ℕ) (text v w : List ℕ) (k l : Keyword) (o p q : Option Keyword) → length text ≡ n
+    → of_length n (map line all_keywords) ≡ (v, row_of k) ∷ (w, row_of l) ∷ []
+    → o ≡ where_is text v k → p ≡ where_is text w l → q ≡ option_or o p → option_map row_of q ≡ row_named text
+of_two n text v w k l o p q len rows e f g =
+    ap (option_map row_of) (g ∙ ap (λ o. option_or o p) e ∙ ap (option_or (where_is text v k)) f)
+    ∙ two_ways (bytes_eq text v) (bytes_eq text w) k l
+    ∙ sym (named_in n text len ∙ ap (λ rs. row_in rs text) rows)
+
+three_ways : (a b c : Bool) (k l m : Keyword)
+    → option_map row_of (option_or (option_or (if a then Some k else None) (if b then Some l else None)) (if c then Some m else None))
+    ≡ (if a then Some (row_of k) else if b then Some (row_of l) else if c then Some (row_of m) else None)
+three_ways true b c k l m = refl
+three_ways false b c k l m = two_ways b c l m
+
+pub of_three : (n : ℕ) (text u v w : List ℕ) (k l m : Keyword) (o p q r s : Option Keyword) → length text ≡ n
+    → of_length n (map line all_keywords) ≡ (u, row_of k) ∷ (v, row_of l) ∷ (w, row_of m) ∷ []
+    → o ≡ where_is text u k → p ≡ where_is text v l → q ≡ option_or o p → r ≡ where_is text w m → s ≡ option_or q r
+    → option_map row_of s ≡ row_named text
+of_three n text u v w k l m o p q r s len rows e f g h i =
+    ap (option_map row_of) (i ∙ ap (λ q. option_or q r) (g ∙ ap (λ o. option_or o p) e ∙ ap (option_or (where_is text u k)) f)
+    ∙ ap (option_or (option_or (where_is text u k) (where_is text v l))) h)
+    ∙ three_ways (bytes_eq text u) (bytes_eq text v) (bytes_eq text w) k l m
+    ∙ sym (named_in n text len ∙ ap (λ rs. row_in rs text) rows)

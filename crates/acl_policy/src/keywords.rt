@@ -1,5 +1,6 @@
-ghost use Rattle.std.specs.Prelude.{◌≡◌, ◌≤◌, IfSome, drop, map};
-ghost use Rattle.acl_policy.specs.Keywords.{all_keywords, line, row_of, row_in, row_named};
+ghost use Rattle.std.specs.Prelude.{◌≡◌, ◌≤◌, ◌<◌, if◌then◌else◌, length, None, Some, IfSome, option_map};
+ghost use Rattle.std.specs.Str.{bytes_eq};
+ghost use Rattle.acl_policy.specs.Keywords.{entry, row_of, row_named};
 
 use crate::values::Takes;
 
@@ -38,68 +39,113 @@ pub(crate) struct KeywordRow {
     pub(crate) once: bool,
 }
 
-/// What the values of a keyword are, and whether it stands once.
-type Values = (Takes, bool);
-
 const ONCE: bool = true;
 
 const AGAIN: bool = false;
 
-const NAMES: Values = (Takes::Name, AGAIN);
-
-/// The keywords: how each is written, what its values are, and whether it may stand again.
-const TABLE: [(&[u8], Keyword, Values); 19] = [
-    (b"comment::", Keyword::Comment, (Takes::String, AGAIN)),
-    (b"owner::", Keyword::Owner, (Takes::Any, ONCE)),
-    (b"action::", Keyword::Action, (Takes::Action, ONCE)),
-    (b"source-address::", Keyword::SourceAddress, NAMES),
-    (b"source-exclude::", Keyword::SourceExclude, NAMES),
-    (b"destination-address::", Keyword::DestinationAddress, NAMES),
-    (b"destination-exclude::", Keyword::DestinationExclude, NAMES),
-    (b"address::", Keyword::Address, NAMES),
-    (b"protocol::", Keyword::Protocol, (Takes::Protocol, AGAIN)),
-    (b"source-port::", Keyword::SourcePort, NAMES),
-    (b"destination-port::", Keyword::DestinationPort, NAMES),
-    (b"port::", Keyword::Port, NAMES),
-    (b"icmp-type::", Keyword::IcmpType, (Takes::IcmpType, AGAIN)),
-    (b"icmp-code::", Keyword::IcmpCode, (Takes::IcmpCode, AGAIN)),
-    (b"option::", Keyword::Opt, (Takes::Opt, AGAIN)),
-    (b"logging::", Keyword::Logging, (Takes::Logging, ONCE)),
-    (b"expiration::", Keyword::Expiration, (Takes::Day, ONCE)),
-    (b"platform::", Keyword::Platform, NAMES),
-    (b"platform-exclude::", Keyword::PlatformExclude, NAMES),
-];
-
-/// For each length of a text, the first row of the table whose keyword is so long, or how many rows there are.
-const FIRST_ROWS: [u8; 22] = [
-    19, 19, 19, 19, 19, 19, 11, 1, 2, 0, 8, 12, 16, 9, 19, 19, 3, 19, 10, 19, 19, 5,
-];
-
-fn row_in(table: &[(&[u8], Keyword, Values)], text: &[u8]) -> Option<KeywordRow>
-    ensures { result ≡ row_in (map (λ r. (r.0.now, record { keyword = r.1; takes = r.2.0; once = r.2.1 }))
-        table.now) text.now }
+/// What the values of the keyword are, and whether it stands once.
+fn values_of(keyword: Keyword) -> (Takes, bool)
+    ensures { result ≡ ((entry keyword).takes, (entry keyword).once) }
 {
-    for (written, keyword, (takes, once)) in table {
-        if text == *written {
-            return Some(KeywordRow {
-                keyword: *keyword,
-                takes: *takes,
-                once: *once,
-            });
-        }
+    match keyword {
+        Keyword::Comment => (Takes::String, AGAIN),
+        Keyword::Owner => (Takes::Any, ONCE),
+        Keyword::Action => (Takes::Action, ONCE),
+        Keyword::Protocol => (Takes::Protocol, AGAIN),
+        Keyword::IcmpType => (Takes::IcmpType, AGAIN),
+        Keyword::IcmpCode => (Takes::IcmpCode, AGAIN),
+        Keyword::Opt => (Takes::Opt, AGAIN),
+        Keyword::Logging => (Takes::Logging, ONCE),
+        Keyword::Expiration => (Takes::Day, ONCE),
+        _ => (Takes::Name, AGAIN),
     }
-    None
 }
 
-/// The first row of the table whose keyword is as long as the text.
-fn first_row(text: &[u8]) -> usize
-    ensures within { result ≤ 19 }
-    ensures rows { row_in (drop result (map line all_keywords)) text.now ≡ row_named text.now }
+/// The keyword's row of the table.
+fn row_of(keyword: Keyword) -> KeywordRow
+    ensures { result ≡ row_of keyword }
 {
-    if text.len() < FIRST_ROWS.len() {
-        usize::from(FIRST_ROWS[text.len()])
+    let (takes, once) = values_of(keyword);
+    KeywordRow {
+        keyword,
+        takes,
+        once,
+    }
+}
+
+/// The keyword, where the text is the one that it is written by.
+#[inline(always)]
+fn where_is(text: &[u8], written: &[u8], keyword: Keyword) -> Option<Keyword>
+    ensures { result ≡ (if bytes_eq text.now written.now then Some keyword else None) }
+{
+    if text == written { Some(keyword) } else { None }
+}
+
+/// The keyword that is written so, of those that are shorter than ten bytes.
+fn short_keyword(text: &[u8]) -> Option<Keyword>
+    requires { length text.now < 10 }
+    ensures { option_map row_of result ≡ row_named text.now }
+{
+    match text.len() {
+        6 => where_is(text, b"port::", Keyword::Port),
+        7 => where_is(text, b"owner::", Keyword::Owner),
+        8 => where_is(text, b"action::", Keyword::Action).or(where_is(
+            text,
+            b"option::",
+            Keyword::Opt,
+        )),
+        9 => where_is(text, b"comment::", Keyword::Comment)
+            .or(where_is(text, b"address::", Keyword::Address))
+            .or(where_is(text, b"logging::", Keyword::Logging)),
+        _ => None,
+    }
+}
+
+/// The keyword that is written so, of the longer ones.
+fn long_keyword(text: &[u8]) -> Option<Keyword>
+    requires { 10 ≤ length text.now }
+    ensures { option_map row_of result ≡ row_named text.now }
+{
+    match text.len() {
+        10 => where_is(text, b"protocol::", Keyword::Protocol).or(where_is(
+            text,
+            b"platform::",
+            Keyword::Platform,
+        )),
+        11 => where_is(text, b"icmp-type::", Keyword::IcmpType).or(where_is(
+            text,
+            b"icmp-code::",
+            Keyword::IcmpCode,
+        )),
+        12 => where_is(text, b"expiration::", Keyword::Expiration),
+        13 => where_is(text, b"source-port::", Keyword::SourcePort),
+        16 => where_is(text, b"source-address::", Keyword::SourceAddress).or(where_is(
+            text,
+            b"source-exclude::",
+            Keyword::SourceExclude,
+        )),
+        18 => where_is(text, b"destination-port::", Keyword::DestinationPort).or(where_is(
+            text,
+            b"platform-exclude::",
+            Keyword::PlatformExclude,
+        )),
+        21 => where_is(text, b"destination-address::", Keyword::DestinationAddress).or(where_is(
+            text,
+            b"destination-exclude::",
+            Keyword::DestinationExclude,
+        )),
+        _ => None,
+    }
+}
+
+/// The keyword that is written so. Those of its length alone are looked at.
+fn keyword_of(text: &[u8]) -> Option<Keyword>
+    ensures { option_map row_of result ≡ row_named text.now }
+{
+    if text.len() < 10 {
+        short_keyword(text)
     } else {
-        0
+        long_keyword(text)
     }
 }
 
@@ -108,5 +154,8 @@ pub(crate) fn row_named(text: &[u8]) -> Option<KeywordRow>
     ensures named { result ≡ row_named text.now }
     ensures of_table { IfSome result (λ r. r ≡ row_of r.keyword) }
 {
-    row_in(&TABLE[first_row(text)..], text)
+    match keyword_of(text) {
+        Some(keyword) => Some(row_of(keyword)),
+        None => None,
+    }
 }
