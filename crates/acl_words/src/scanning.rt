@@ -50,6 +50,19 @@ impl<'a> Scan<'a> {
         self.rest = behind;
     }
 
+    /// Passes the byte behind a word, where it is a space or a line feed, as most are.
+    #[inline(always)]
+    fn pass_end(&mut self)
+        ensures { words_left self.new ≡ words_left self.old }
+    {
+        let rest = self.rest;
+        match rest {
+            [b' ', behind @ ..] => self.pass_blank(b' ', behind),
+            [b'\n', behind @ ..] => self.pass_blank(b'\n', behind),
+            _ => {}
+        }
+    }
+
     /// Passes a comment with the end of its line.
     #[tactic(auto, using(crate::proofs::ReadingLaws::comment_read, crate::proofs::ReadingLaws::last_comment_read, acl_text::proofs::CursorLaws::cut_shorter))]
     fn pass_comment(&mut self, behind: &'a [u8])
@@ -180,13 +193,17 @@ impl<'a> Scan<'a> {
             if *byte == b' ' {
                 self.pass_blank(*byte, behind);
             } else if is_inner(*byte) {
-                return Some(self.part(*byte, behind));
+                let word = self.part(*byte, behind);
+                self.pass_end();
+                return Some(word);
             } else if is_blank(*byte) {
                 self.pass_blank(*byte, behind);
             } else if *byte == b'#' {
                 self.pass_comment(behind);
             } else {
-                return Some(self.word(*byte, behind));
+                let word = self.word(*byte, behind);
+                self.pass_end();
+                return Some(word);
             }
         }
         None
