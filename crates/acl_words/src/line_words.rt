@@ -36,6 +36,7 @@ impl<const ROOM: usize> Model for LineWords<ROOM> {
 
 impl<const ROOM: usize> LineWords<ROOM> {
     /// No words so far. All are to stand at the place.
+    #[inline(always)]
     pub(crate) fn starting_at(place: Place) -> LineWords<ROOM>
         ensures { result ≡ [] }
     {
@@ -47,6 +48,7 @@ impl<const ROOM: usize> LineWords<ROOM> {
     }
 
     /// Adds the word at the end, where it stands at the place of the others and there is room for it.
+    #[inline(always)]
     pub(crate) fn push(&mut self, place: Place, text: &[u8]) -> bool
         requires line { HasNoFeed text.now }
         requires small { ROOM ≤ 255 }

@@ -41,6 +41,7 @@ impl<'a> PolicyWords<'a> {
     }
 
     /// The next word. `None` exactly where none is left.
+    #[inline(always)]
     pub fn next(&mut self) -> Option<Token<'a>>
         ensures some { IfSome result (λ t. self.old ≡ t ∷ self.new) }
         ensures none { IfNone result ((self.old ≡ []) × (self.new ≡ [])) }

@@ -39,6 +39,7 @@ impl<'a> Scan<'a> {
     }
 
     /// Passes a byte between words.
+    #[inline(always)]
     #[tactic(auto, using(crate::proofs::ReadingLaws::blank_read))]
     fn pass_blank(&mut self, byte: u8, behind: &'a [u8])
         requires text { self.old.rest.now ≡ byte ∷ behind.now }
@@ -80,6 +81,7 @@ impl<'a> Scan<'a> {
     }
 
     /// The word of one byte.
+    #[inline(always)]
     fn byte_word(&mut self, form: Form, behind: &'a [u8]) -> Token<'a>
         requires some { 0 < length self.old.rest.now }
         requires run { IsRun form (take 1 self.old.rest.now) }
@@ -168,6 +170,7 @@ impl<'a> Scan<'a> {
     }
 
     /// The word that begins with the byte.
+    #[inline(always)]
     #[tactic(auto, using(crate::proofs::ReadingLaws::in_run_is))]
     fn word(&mut self, byte: u8, behind: &'a [u8]) -> Token<'a>
         requires text { self.old.rest.now ≡ byte ∷ behind.now }
@@ -184,6 +187,7 @@ impl<'a> Scan<'a> {
     }
 
     /// The next word.
+    #[inline(always)]
     #[tactic(auto, using(crate::proofs::InnerLaws::inner_runs))]
     pub(crate) fn next(&mut self) -> Option<Token<'a>>
         ensures some { IfSome result (λ t. words_left self.old ≡ t ∷ words_left self.new) }

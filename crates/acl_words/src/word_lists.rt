@@ -124,19 +124,20 @@ impl KeptWords {
 }
 
 // The one word of a list.
+#[inline(always)]
 fn first_word(alloc: Global, place: Place, text: &[u8]) -> Result<KeptWords, Memory>
     requires { HasNoFeed text.now }
     ensures { IfOk result (λ k. words_in k ≡ record { place = place; text = text.now } ∷ []) }
 {
     let mut words = LineWords::starting_at(place);
     if words.push(place, text) {
-        Ok(KeptWords::Here(words))
-    } else {
-        in_line(alloc, &words, place, text)
+        return Ok(KeptWords::Here(words));
     }
+    in_line(alloc, &LineWords::starting_at(place), place, text)
 }
 
-// The words and one more, which have memory.
+// The words and one more, which have memory. Apart, since most words stand in their place.
+#[inline(never)]
 fn in_line(
     alloc: Global,
     words: &LineWords<FEW>,
@@ -155,7 +156,8 @@ fn in_line(
     }
 }
 
-// The words and one more, with memory for any words.
+// The words and one more, with memory for any words. Apart for the same reason.
+#[inline(never)]
 fn in_text(
     alloc: Global,
     words: &LineWords<MANY>,
