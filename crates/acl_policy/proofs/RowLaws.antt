@@ -1,5 +1,5 @@
 -- A keyword is looked for among those of its length.
-use Rattle.std.proofs.Common.{◌≡◌, ℕ, zero, suc, ◌<◌, ◌≤◌, ◌==◌, Bool, true, false, not, if◌then◌else◌, List, [], ◌∷◌, length, map, Option, None, Some, option_map, refl, ap, sym, ◌∙◌, inl, inr}
+use Rattle.std.proofs.Common.{◌≡◌, ℕ, ◌==◌, Bool, true, false, not, if◌then◌else◌, List, [], ◌∷◌, length, map, Option, None, Some, option_map, refl, ap, sym, ◌∙◌, inl, inr}
 use Rattle.std.specs.Str.{bytes_eq}
 use Rattle.std.specs.List.{list_all}
 use Rattle.std.specs.Option.{option_or}
@@ -51,45 +51,44 @@ not_named text h =
     named_in (length text) text refl ∙ ap (λ rows. row_in rows text) (none_left (length text) (map line all_keywords) h)
 
 -- The row of the one of a few keywords that is written so.
-abbrev pub where_is : List ℕ → List ℕ → Keyword → Option Keyword
-where_is text written k = if bytes_eq text written then Some k else None
+abbrev pub only : List ℕ → List ℕ → Keyword → Option Keyword
+only text written k = if bytes_eq text written then Some k else None
 
-pub of_one : (n : ℕ) (text v : List ℕ) (k : Keyword) (o : Option Keyword) → length text ≡ n
-    → of_length n (map line all_keywords) ≡ (v, row_of k) ∷ [] → o ≡ where_is text v k → option_map row_of o ≡ row_named text
-of_one n text v k o len rows e =
-    ap (option_map row_of) e ∙ alone (bytes_eq text v) ∙ sym (named_in n text len ∙ ap (λ rs. row_in rs text) rows)
-  where
-    alone : (a : Bool) → option_map row_of (if a then Some k else None) ≡ (if a then Some (row_of k) else None)
-    alone true = refl
-    alone false = refl
+abbrev pub either : List ℕ → List ℕ → Keyword → List ℕ → Keyword → Option Keyword
+either text written k other l = if bytes_eq text written then Some k else only text other l
 
-two_ways : (a b : Bool) (k l : Keyword)
-    → option_map row_of (option_or (if a then Some k else None) (if b then Some l else None))
+one_way : (a : Bool) (k : Keyword) → option_map row_of (if a then Some k else None) ≡ (if a then Some (row_of k) else None)
+one_way true k = refl
+one_way false k = refl
+
+two_ways : (a b : Bool) (k l : Keyword) → option_map row_of (if a then Some k else if b then Some l else None)
     ≡ (if a then Some (row_of k) else if b then Some (row_of l) else None)
 two_ways true b k l = refl
-two_ways false true k l = refl
-two_ways false false k l = refl
-
-pub of_two : (n : ℕ) (text v w : List ℕ) (k l : Keyword) (o p q : Option Keyword) → length text ≡ n
-    → of_length n (map line all_keywords) ≡ (v, row_of k) ∷ (w, row_of l) ∷ []
-    → o ≡ where_is text v k → p ≡ where_is text w l → q ≡ option_or o p → option_map row_of q ≡ row_named text
-of_two n text v w k l o p q len rows e f g =
-    ap (option_map row_of) (g ∙ ap (λ o. option_or o p) e ∙ ap (option_or (where_is text v k)) f)
-    ∙ two_ways (bytes_eq text v) (bytes_eq text w) k l
-    ∙ sym (named_in n text len ∙ ap (λ rs. row_in rs text) rows)
+two_ways false b k l = one_way b l
 
 three_ways : (a b c : Bool) (k l m : Keyword)
-    → option_map row_of (option_or (option_or (if a then Some k else None) (if b then Some l else None)) (if c then Some m else None))
+    → option_map row_of (option_or (if a then Some k else None) (if b then Some l else if c then Some m else None))
     ≡ (if a then Some (row_of k) else if b then Some (row_of l) else if c then Some (row_of m) else None)
 three_ways true b c k l m = refl
 three_ways false b c k l m = two_ways b c l m
 
-pub of_three : (n : ℕ) (text u v w : List ℕ) (k l m : Keyword) (o p q r s : Option Keyword) → length text ≡ n
+pub of_one : (n : ℕ) (text v : List ℕ) (k : Keyword) (o : Option Keyword) → length text ≡ n
+    → of_length n (map line all_keywords) ≡ (v, row_of k) ∷ [] → o ≡ only text v k → option_map row_of o ≡ row_named text
+of_one n text v k o len rows e =
+    ap (option_map row_of) e ∙ one_way (bytes_eq text v) k
+    ∙ sym (named_in n text len ∙ ap (λ rs. row_in rs text) rows)
+
+pub of_two : (n : ℕ) (text v w : List ℕ) (k l : Keyword) (o : Option Keyword) → length text ≡ n
+    → of_length n (map line all_keywords) ≡ (v, row_of k) ∷ (w, row_of l) ∷ []
+    → o ≡ either text v k w l → option_map row_of o ≡ row_named text
+of_two n text v w k l o len rows e =
+    ap (option_map row_of) e ∙ two_ways (bytes_eq text v) (bytes_eq text w) k l
+    ∙ sym (named_in n text len ∙ ap (λ rs. row_in rs text) rows)
+
+pub of_three : (n : ℕ) (text u v w : List ℕ) (k l m : Keyword) (o p q : Option Keyword) → length text ≡ n
     → of_length n (map line all_keywords) ≡ (u, row_of k) ∷ (v, row_of l) ∷ (w, row_of m) ∷ []
-    → o ≡ where_is text u k → p ≡ where_is text v l → q ≡ option_or o p → r ≡ where_is text w m → s ≡ option_or q r
-    → option_map row_of s ≡ row_named text
-of_three n text u v w k l m o p q r s len rows e f g h i =
-    ap (option_map row_of) (i ∙ ap (λ q. option_or q r) (g ∙ ap (λ o. option_or o p) e ∙ ap (option_or (where_is text u k)) f)
-    ∙ ap (option_or (option_or (where_is text u k) (where_is text v l))) h)
+    → o ≡ only text u k → p ≡ either text v l w m → q ≡ option_or o p → option_map row_of q ≡ row_named text
+of_three n text u v w k l m o p q len rows e f g =
+    ap (option_map row_of) (g ∙ ap (λ o. option_or o p) e ∙ ap (option_or (only text u k)) f)
     ∙ three_ways (bytes_eq text u) (bytes_eq text v) (bytes_eq text w) k l m
     ∙ sym (named_in n text len ∙ ap (λ rs. row_in rs text) rows)

@@ -73,12 +73,32 @@ fn row_of(keyword: Keyword) -> KeywordRow
     }
 }
 
+/// How a keyword is written.
+type Written<'a> = (&'a [u8], Keyword);
+
 /// The keyword, where the text is the one that it is written by.
 #[inline(always)]
-fn where_is(text: &[u8], written: &[u8], keyword: Keyword) -> Option<Keyword>
-    ensures { result ≡ (if bytes_eq text.now written.now then Some keyword else None) }
+fn only(text: &[u8], written: Written<'_>) -> Option<Keyword>
+    ensures { result ≡ (if bytes_eq text.now written.entry.0.now then Some written.entry.1 else None) }
 {
-    if text == written { Some(keyword) } else { None }
+    if text == written.0 {
+        Some(written.1)
+    } else {
+        None
+    }
+}
+
+/// The one of two keywords that is written so.
+#[inline(always)]
+fn either(text: &[u8], first: Written<'_>, second: Written<'_>) -> Option<Keyword>
+    ensures { result ≡ (if bytes_eq text.now first.entry.0.now then Some first.entry.1
+        else if bytes_eq text.now second.entry.0.now then Some second.entry.1 else None) }
+{
+    if text == first.0 {
+        Some(first.1)
+    } else {
+        only(text, second)
+    }
 }
 
 /// The keyword that is written so, of those that are shorter than ten bytes.
@@ -87,16 +107,18 @@ fn short_keyword(text: &[u8]) -> Option<Keyword>
     ensures { option_map row_of result ≡ row_named text.now }
 {
     match text.len() {
-        6 => where_is(text, b"port::", Keyword::Port),
-        7 => where_is(text, b"owner::", Keyword::Owner),
-        8 => where_is(text, b"action::", Keyword::Action).or(where_is(
+        6 => only(text, (b"port::", Keyword::Port)),
+        7 => only(text, (b"owner::", Keyword::Owner)),
+        8 => either(
             text,
-            b"option::",
-            Keyword::Opt,
+            (b"action::", Keyword::Action),
+            (b"option::", Keyword::Opt),
+        ),
+        9 => only(text, (b"comment::", Keyword::Comment)).or(either(
+            text,
+            (b"address::", Keyword::Address),
+            (b"logging::", Keyword::Logging),
         )),
-        9 => where_is(text, b"comment::", Keyword::Comment)
-            .or(where_is(text, b"address::", Keyword::Address))
-            .or(where_is(text, b"logging::", Keyword::Logging)),
         _ => None,
     }
 }
@@ -107,33 +129,33 @@ fn long_keyword(text: &[u8]) -> Option<Keyword>
     ensures { option_map row_of result ≡ row_named text.now }
 {
     match text.len() {
-        10 => where_is(text, b"protocol::", Keyword::Protocol).or(where_is(
+        10 => either(
             text,
-            b"platform::",
-            Keyword::Platform,
-        )),
-        11 => where_is(text, b"icmp-type::", Keyword::IcmpType).or(where_is(
+            (b"protocol::", Keyword::Protocol),
+            (b"platform::", Keyword::Platform),
+        ),
+        11 => either(
             text,
-            b"icmp-code::",
-            Keyword::IcmpCode,
-        )),
-        12 => where_is(text, b"expiration::", Keyword::Expiration),
-        13 => where_is(text, b"source-port::", Keyword::SourcePort),
-        16 => where_is(text, b"source-address::", Keyword::SourceAddress).or(where_is(
+            (b"icmp-type::", Keyword::IcmpType),
+            (b"icmp-code::", Keyword::IcmpCode),
+        ),
+        12 => only(text, (b"expiration::", Keyword::Expiration)),
+        13 => only(text, (b"source-port::", Keyword::SourcePort)),
+        16 => either(
             text,
-            b"source-exclude::",
-            Keyword::SourceExclude,
-        )),
-        18 => where_is(text, b"destination-port::", Keyword::DestinationPort).or(where_is(
+            (b"source-address::", Keyword::SourceAddress),
+            (b"source-exclude::", Keyword::SourceExclude),
+        ),
+        18 => either(
             text,
-            b"platform-exclude::",
-            Keyword::PlatformExclude,
-        )),
-        21 => where_is(text, b"destination-address::", Keyword::DestinationAddress).or(where_is(
+            (b"destination-port::", Keyword::DestinationPort),
+            (b"platform-exclude::", Keyword::PlatformExclude),
+        ),
+        21 => either(
             text,
-            b"destination-exclude::",
-            Keyword::DestinationExclude,
-        )),
+            (b"destination-address::", Keyword::DestinationAddress),
+            (b"destination-exclude::", Keyword::DestinationExclude),
+        ),
         _ => None,
     }
 }
