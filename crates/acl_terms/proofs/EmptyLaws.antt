@@ -1,8 +1,8 @@
 -- When a resolved term is empty in a family.
-use Rattle.std.proofs.Common.{◌≡◌, ◌↔◌, ℕ, ◌+◌, Bool, true, false, not, ◌&&◌, ◌||◌, ◌==◌, List, [], ◌∷◌, get_or, inl, inr, refl, arith}
+use Rattle.std.proofs.Common.{◌≡◌, ◌≢◌, ◌↔◌, ℕ, ◌+◌, Bool, true, false, not, ◌&&◌, ◌||◌, ◌==◌, List, [], ◌∷◌, length, get_or, inl, inr, refl, arith}
 use Rattle.std.specs.Prelude.{Contains}
 use Rattle.std.specs.List.{list_all, list_any}
-use Rattle.std.proofs.lemmas.Bool.{and_from, and_parts, or_cases, or_left, or_right, both_ways, false_from_ne_true, eqb-true, eq-eqb}
+use Rattle.std.proofs.lemmas.Bool.{and_from, and_parts, or_cases, or_from, or_left, or_right, both_ways, false_from_ne_true, eqb-true, eq-eqb}
 use Rattle.std.proofs.lemmas.List.Elements.{All-contains, Contains-get_or}
 use Rattle.std.proofs.lemmas.List.Sums.{AllPass-from_list_all, list_all-from_AllPass}
 use Rattle.acl_packet.specs.declared.addresses.Family.{Family}
@@ -134,9 +134,29 @@ pair-empty-law f t pair =
       ],
     )
 
+some-held : (s : Numbers) → s.ranges ≢ [] → has_none s ≡ false
+some-held s some = counted s.ranges some
+  where
+    counted : (rs : List Range) → rs ≢ [] → (length rs == 0) ≡ false
+    counted [] h = absurd (h refl)
+    counted (r ∷ rs) h =
+        false_from_ne_true (length (r ∷ rs) == 0) (λ e. absurd (omega (arith, eqb-true (length (r ∷ rs)) 0 e)))
+
+-- A term has some source ports and some destination ports.
+pub some-ports : (t : Term) → (has_none t.sports || has_none t.dports) ≡ false
+some-ports t = or_from (has_none t.sports) (has_none t.dports) (some-held t.sports (t.sound.some SourcePort refl))
+    (some-held t.dports (t.sound.some DestinationPort refl))
+
 pub empty-law : (f : Family) (t : Term) → (is_empty_in f t ≡ true) ↔ IsEmptyIn f t
 unfolding is_empty_in
 empty-law f t = all-law (is_pair_empty f t) (IsPairEmpty f t) (pairs_of t) (pair-empty-law f t)
+
+-- The tests of its protocols.
+pub protocol_tests : (a b : Bool) → (a && b) ≡ (b && a)
+protocol_tests true true = refl
+protocol_tests true false = refl
+protocol_tests false true = refl
+protocol_tests false false = refl
 
 -- The tests of a pair's sets, addresses and ports apart.
 pub pair_tests : (a b c d e : Bool) → (((a || b) || (c || d)) || e) ≡ ((a || (b || (c || (d || false)))) || e)

@@ -40,10 +40,12 @@ fn are_just(number: u8, ranges: &[Range]) -> bool
     ranges.iter().all(|r| is_just(number, r))
 }
 
+// Of most terms the first range tells it.
+#[tactic(auto, using(crate::proofs::EmptyLaws::protocol_tests))]
 fn has_no_protocol(family: Family, term: &Term) -> bool
     ensures { result ≡ has_no_protocol family term.now }
 {
-    !term.protos.is_all() && are_just(family.foreign_number(), term.protos.ranges())
+    are_just(family.foreign_number(), term.protos.ranges()) && !term.protos.is_all()
 }
 
 // ---- what two sets share
@@ -97,11 +99,17 @@ fn lacks_addresses(term: &Term, family: Family, side: Side) -> bool
         || has_no_destination(side, destination_in(family, term), either)
 }
 
+// Where nothing is asked of either port, a term has some of both.
 fn lacks_ports(term: &Term, side: Side) -> bool
     ensures { result ≡ (has_none (sports_on side term.now) || has_none (dports_on side term.now)) }
 {
-    has_no_source(side, &term.sports, &term.ports)
-        || has_no_destination(side, &term.dports, &term.ports)
+    match side {
+        Side::Whole => false,
+        Side::Source | Side::Destination => {
+            has_no_source(side, &term.sports, &term.ports)
+                || has_no_destination(side, &term.dports, &term.ports)
+        }
+    }
 }
 
 #[tactic(auto, using(crate::proofs::EmptyLaws::pair_tests))]
