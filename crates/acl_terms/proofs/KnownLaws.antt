@@ -1,9 +1,9 @@
 -- Addresses depend on the texts of words alone; what is known is found again, and more of it is kept.
-use Rattle.std.proofs.Common.{◌≡◌, ℕ, Bool, true, false, ◌&&◌, List, [], ◌∷◌, Option, None, Some, length, drop, get_or, inl, inr, refl, ap, sym, subst, ◌∙◌, arith}
+use Rattle.std.proofs.Common.{◌≡◌, ◌≢◌, ℕ, Bool, true, false, ◌&&◌, List, [], ◌∷◌, Option, None, Some, length, drop, get_or, inl, inr, refl, ap, sym, subst, ◌∙◌, arith}
 use Rattle.std.specs.Map.{lookup}
 use Rattle.std.specs.Option.{option_or}
 use Rattle.std.specs.Str.{bytes_eq}
-use Rattle.std.proofs.lemmas.Bool.{and_parts, cond-false, cond-true}
+use Rattle.std.proofs.lemmas.Bool.{and_parts, cond-false, cond-true, le-leb}
 use Rattle.std.proofs.lemmas.Option.{none-some, same_Some}
 use Rattle.indexmap.specs.IndexMap.{insert_entry}
 use Rattle.acl_packet.specs.Addresses.{top_address}
@@ -21,7 +21,8 @@ use Rattle.acl_naming.specs.Reach.{ReachesAddress}
 use Rattle.acl_terms.specs.declared.addresses.Addresses.{Addresses}
 use Rattle.acl_text.specs.declared.text_keys.TextKey.{TextKey}
 use Rattle.acl_terms.specs.KnownAddresses.{AreAddresses, AreKnown, AreKnownFor, texts}
-use Rattle.acl_terms.specs.Matching.{Admits, AnyOf, IsAddress, IsNamedAddress}
+use Rattle.acl_terms.specs.Matching.{Admits, AnyOf, IsAddress, IsNamedAddress, NamesAddress}
+use Rattle.acl_terms.specs.RangeSteps.{HoldsAll}
 use Rattle.acl_terms.specs.Sets.{IsSetOf}
 use Rattle.acl_terms.specs.Slips.{network_slip}
 use Rattle.acl_terms.proofs.DistinctLaws.{AsksText, asks-network}
@@ -124,6 +125,21 @@ as-named n words a none four six = record {
   ipv4 = only-named n V4 words a.v4 four;
   ipv6 = only-named n V6 words a.v6 six;
 }
+
+-- The addresses of some words, where any are written, and all where none are.
+pub written-named : (n : Naming) (f : Family) (words : List Word) (s : Numbers) → words ≢ []
+    → IsSetOf (λ x. AnyOf (NamesAddress n f x) words) (top_address f) s → IsSetOf (IsNamedAddress n f words) (top_address f) s
+written-named n f [] s some h = absurd (some refl)
+written-named n f (w ∷ ws) s some h = h
+
+pub all-named : (n : Naming) (f : Family) (words : List Word) (s : Numbers) → words ≡ [] → HoldsAll (top_address f) s
+    → IsSetOf (IsNamedAddress n f words) (top_address f) s
+all-named n f [] s none h = record {
+  top_is = h.top_is;
+  normal = h.normal;
+  exact = λ x le. (λ _. tt, λ _. h.all x ∙ le-leb x (top_address f) le);
+}
+all-named n f (w ∷ ws) s none h = absurd (omega (arith, ap length none))
 
 -- ---- what is found and kept
 

@@ -1,5 +1,5 @@
 -- What private functions give on the way to a set of addresses.
-use Rattle.std.specs.Prelude.{◌≡◌, ◌↔◌, ℕ, ◌≤◌, true, not, ◌&&◌, List}
+use Rattle.std.specs.Prelude.{◌≡◌, ◌↔◌, ℕ, ◌≤◌, true, not, ◌&&◌, nat_le, List}
 use Rattle.std.specs.List.{All}
 use Rattle.acl_sets.specs.declared.sets.Range.{Range}
 use Rattle.acl_sets.specs.Ranges.{Numbers, IsNormal, IsRange, holds}
@@ -14,6 +14,12 @@ pub record HoldsSame (top : ℕ) (rs : List Range) (s : Numbers) : Type 0 where
   pub top_is : s.top ≡ top
   pub normal : IsNormal 0 s.top s.ranges
   pub same : (x : ℕ) → holds s.ranges x ≡ holds rs x
+
+-- The set holds all numbers up to the top.
+pub record HoldsAll (top : ℕ) (s : Numbers) : Type 0 where
+  pub top_is : s.top ≡ top
+  pub normal : IsNormal 0 s.top s.ranges
+  pub all : (x : ℕ) → holds s.ranges x ≡ nat_le x top
 
 -- The last set holds the numbers of the first one that are not in the second one.
 pub record IsLess (s m u : Numbers) : Type 0 where

@@ -7,12 +7,13 @@ ghost use Rattle.acl_text.specs.Refusals.{Judges, first_in};
 ghost use Rattle.acl_naming.specs.declared.reaching.Wanted.TheVariants as wanted;
 ghost use Rattle.acl_naming.specs.LookupSteps.{AddsReach, AreAdded};
 ghost use Rattle.acl_words.specs.declared.word_lists.Word.{Word};
-ghost use Rattle.acl_terms.specs.Matching.{Admits, AnyOf, IsAddress, IsNamedAddress, NamesAddress};
+ghost use Rattle.acl_terms.specs.Matching.{AnyOf, IsAddress, IsNamedAddress, NamesAddress};
 ghost use Rattle.acl_terms.specs.Sets.{IsSetOf};
-ghost use Rattle.acl_terms.specs.RangeSteps.{AreRangesOf, HoldsSame, IsLess};
+ghost use Rattle.acl_terms.specs.RangeSteps.{AreRangesOf, HoldsAll, HoldsSame, IsLess};
 ghost use Rattle.acl_terms.specs.Slips.{network_slip};
 
 use crate::checks::refusal_at;
+use crate::new_words::only_word;
 use acl_naming::{Checked, Lookup, Marks, add_networks, add_networks_once, begin_networks};
 use acl_packet::Family;
 use acl_policy::{WordList, WordRef};
@@ -83,18 +84,6 @@ impl Lookups {
             added: Marks::new(alloc),
         }
     }
-}
-
-// The one word of a list.
-fn only_word(words: &WordList) -> Option<WordRef<'_>>
-    ensures { IfSome result (λ w. words.now ≡ w ∷ []) }
-{
-    let mut left = words.iter();
-    let first = left.next()?;
-    if left.next().is_some() {
-        return None;
-    }
-    Some(first)
 }
 
 // Puts the addresses that the word's name reaches behind those of each family.
@@ -207,8 +196,8 @@ fn addresses_in(alloc: Global, v4: Vec<Range>, v6: Vec<Range>) -> Result<Address
     Ok(Addresses { v4, v6, gathered })
 }
 
-// The addresses that some of the words reach.
-fn addresses_of_words(
+/// The addresses that some of the words reach.
+pub(crate) fn addresses_of_words(
     alloc: Global,
     base: &Checked,
     words: &WordList,
@@ -226,27 +215,17 @@ fn addresses_of_words(
     Ok(addresses_in(alloc, v4, v6)?)
 }
 
-/// The same, or all where no word is written.
-pub(crate) fn admitted_addresses(
-    alloc: Global,
-    base: &Checked,
-    words: &WordList,
-    lookups: &mut Lookups,
-) -> Result<Addresses, Refusal>
-    ensures judged { Judges result (first_in (network_slip base.now.networks) words.now) }
-    ensures v4 { IfOk result (λ a. IsSetOf (λ x. Admits (NamesAddress base.now V4 x) words.now)
-        (top_address V4) a.v4) }
-    ensures v6 { IfOk result (λ a. IsSetOf (λ x. Admits (NamesAddress base.now V6 x) words.now)
-        (top_address V6) a.v6) }
+/// All addresses.
+#[inline(always)]
+pub(crate) fn all_addresses(alloc: Global) -> Result<Addresses, Memory>
+    ensures v4 { IfOk result (λ a. HoldsAll (top_address V4) a.v4) }
+    ensures v6 { IfOk result (λ a. HoldsAll (top_address V6) a.v6) }
 {
-    if words.is_empty() {
-        return Ok(Addresses {
-            v4: RangeSet::all(alloc, Family::V4.top_address())?,
-            v6: RangeSet::all(alloc, Family::V6.top_address())?,
-            gathered: 0,
-        });
-    }
-    addresses_of_words(alloc, base, words, lookups)
+    Ok(Addresses {
+        v4: RangeSet::all(alloc, Family::V4.top_address())?,
+        v6: RangeSet::all(alloc, Family::V6.top_address())?,
+        gathered: 0,
+    })
 }
 
 /// The addresses of an end: those that some words name, less those of the excluded words. Where none is excluded nothing

@@ -9,7 +9,7 @@ ghost use Rattle.acl_terms.specs.Sets.{IsSetOf};
 ghost use Rattle.acl_terms.specs.SetSteps.{IsPortSet};
 ghost use Rattle.acl_terms.specs.Slips.{network_slip, port_words, services_slip};
 
-use crate::addresses::{Addresses, Lookups, admitted_addresses, end_of};
+use crate::addresses::{Addresses, Lookups, addresses_of_words, all_addresses, end_of};
 use crate::known_protocols::KnownProtocols;
 use crate::ports::{TermPorts, ports_of_term};
 use crate::protocols::admitted_protocols;
@@ -61,12 +61,11 @@ impl<'a> KnownAddresses<'a> {
         }
     }
 
-    // The addresses that are known of words of these texts. Nothing is kept of no words.
+    // The addresses that are known of words of these texts.
     fn find(&self, named: &'a [u8], excluded: &'a [u8]) -> Result<Option<Addresses>, Memory>
         ensures { IfOk result (λ o. IfSome o (AreKnownFor self.now named.now excluded.now)) }
     {
-        let is_bare = named.is_empty() && excluded.is_empty();
-        if is_bare || self.lists.is_empty() {
+        if self.lists.is_empty() {
             return Ok(None);
         }
         let sought = (TextKey { text: named }, TextKey { text: excluded });
@@ -94,7 +93,26 @@ impl<'a> KnownAddresses<'a> {
         Ok(())
     }
 
-    /// The addresses of the words, or all where no word is written. They are known from now on.
+    // The addresses of the words. They are known from now on.
+    fn named_addresses(&mut self, alloc: Global, words: &'a WordList) -> Result<Addresses, Refusal>
+        requires { words.now ≢ [] }
+        ensures judged { Judges result (first_in (network_slip self.old.networks) words.now) }
+        ensures v4 { IfOk result (λ a. IsSetOf (IsNamedAddress self.old V4 words.now)
+            (top_address V4) a.v4) }
+        ensures v6 { IfOk result (λ a. IsSetOf (IsNamedAddress self.old V6 words.now)
+            (top_address V6) a.v6) }
+        ensures same { self.new ≡ self.old }
+    {
+        if let Some(known) = self.find(words.text(), &[])? {
+            return Ok(known);
+        }
+        let addresses = addresses_of_words(alloc, self.base, words, &mut self.lookups)?;
+        self.keep(words.text(), &[], &addresses)?;
+        Ok(addresses)
+    }
+
+    /// The same, or all where no word is written, as for most ends: nothing is looked for then.
+    #[inline(always)]
     pub(crate) fn addresses_of(
         &mut self,
         alloc: Global,
@@ -107,15 +125,39 @@ impl<'a> KnownAddresses<'a> {
             (top_address V6) a.v6) }
         ensures same { self.new ≡ self.old }
     {
-        if let Some(known) = self.find(words.text(), &[])? {
+        if words.is_empty() {
+            return Ok(all_addresses(alloc)?);
+        }
+        self.named_addresses(alloc, words)
+    }
+
+    // The addresses of the words, less those of the excluded ones. They are known from now on.
+    fn cut_addresses(
+        &mut self,
+        alloc: Global,
+        words: &'a WordList,
+        excludes: &'a WordList,
+    ) -> Result<Addresses, Refusal>
+        ensures judged { Judges result (option_or
+            (first_in (network_slip self.old.networks) words.now)
+            (first_in (network_slip self.old.networks) excludes.now)) }
+        ensures v4 { IfOk result (λ a. IsSetOf (IsAddress self.old V4 words.now excludes.now)
+            (top_address V4) a.v4) }
+        ensures v6 { IfOk result (λ a. IsSetOf (IsAddress self.old V6 words.now excludes.now)
+            (top_address V6) a.v6) }
+        ensures same { self.new ≡ self.old }
+    {
+        if let Some(known) = self.find(words.text(), excludes.text())? {
             return Ok(known);
         }
-        let addresses = admitted_addresses(alloc, self.base, words, &mut self.lookups)?;
-        self.keep(words.text(), &[], &addresses)?;
+        let named = self.addresses_of(alloc, words)?;
+        let addresses = end_of(alloc, self.base, named, excludes, &mut self.lookups)?;
+        self.keep(words.text(), excludes.text(), &addresses)?;
         Ok(addresses)
     }
 
     /// The addresses of an end: those of the words, less those of the excluded ones. They are known from now on.
+    #[inline(always)]
     pub(crate) fn end_of(
         &mut self,
         alloc: Global,
@@ -134,13 +176,7 @@ impl<'a> KnownAddresses<'a> {
         if excludes.is_empty() {
             return self.addresses_of(alloc, words);
         }
-        if let Some(known) = self.find(words.text(), excludes.text())? {
-            return Ok(known);
-        }
-        let named = self.addresses_of(alloc, words)?;
-        let addresses = end_of(alloc, self.base, named, excludes, &mut self.lookups)?;
-        self.keep(words.text(), excludes.text(), &addresses)?;
-        Ok(addresses)
+        self.cut_addresses(alloc, words, excludes)
     }
 
     /// The set of the protocols of a term, of which these are the numbers. It is known from now on.

@@ -12,6 +12,18 @@ use std::marker::Model;
 /// Most lists have no more words.
 const MOST_OFTEN: usize = 16;
 
+/// The one word of a list.
+pub(crate) fn only_word(words: &WordList) -> Option<WordRef<'_>>
+    ensures { IfSome result (λ w. words.now ≡ w ∷ []) }
+{
+    let mut left = words.iter();
+    let first = left.next()?;
+    if left.next().is_some() {
+        return None;
+    }
+    Some(first)
+}
+
 /// The words of a list that are not yet given. Where a text stands more than once, only its first word is
 /// given. A contract sees the list of the words to come.
 pub(crate) struct NewWords<'a> {

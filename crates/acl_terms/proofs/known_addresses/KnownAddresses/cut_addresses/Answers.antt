@@ -2,7 +2,7 @@ use Rattle.std.proofs.Common.{◌∙◌}
 use Rattle.acl_terms.specs.KnownAddresses.{AreAddresses, AreKnownFor}
 use Rattle.acl_terms.proofs.DistinctLaws.{given}
 use Rattle.acl_terms.proofs.KnownLaws.{known-for, none-both}
-use Rattle.acl_terms.proofs.known_addresses.KnownAddresses.end_of.Goals as goal
+use Rattle.acl_terms.proofs.known_addresses.KnownAddresses.cut_addresses.Goals as goal
 
 pub returns-in-Some-clause-v4 : goal.returns-in-Some-clause-v4
 returns-in-Some-clause-v4 c =
