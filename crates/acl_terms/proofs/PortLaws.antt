@@ -1,6 +1,8 @@
 -- Words of ports with one protocol after another.
-use Rattle.std.proofs.Common.{◌≡◌, ◌↔◌, ℕ, ◌+◌, ◌<◌, Bool, true, ◌&&◌, List, length, drop, get_or, None, Some, ap, sym, ◌∙◌, subst}
+use Rattle.std.proofs.Common.{◌≡◌, ◌↔◌, ℕ, ◌+◌, ◌<◌, Bool, true, ◌&&◌, List, [], ◌∷◌, length, drop, get_or, None, Some, ap, sym, ◌∙◌, subst}
 use Rattle.std.specs.List.{list_all}
+use Rattle.std.specs.Option.{option_or}
+use Rattle.std.proofs.Math.Bool.{and-true}
 use Rattle.std.proofs.lemmas.List.{drop_more}
 use Rattle.std.proofs.lemmas.Bool.{false_from_ne_true}
 use Rattle.acl_text.specs.declared.faults.Code.TheVariants as codes
@@ -12,7 +14,7 @@ use Rattle.acl_naming.specs.Reach.{ReachesPort, ReachesProtocol, is_service_of}
 use Rattle.acl_sets.specs.Ranges.{Numbers, IsNormal, holds}
 use Rattle.acl_terms.specs.Sets.{IsSetOf}
 use Rattle.acl_terms.specs.SetSteps.{protocol_slip}
-use Rattle.acl_terms.specs.Slips.{is_defined, reaches_protocol, slip_at, unless}
+use Rattle.acl_terms.specs.Slips.{is_defined, reaches_protocol, service_slip, slip_at, unless}
 use Rattle.acl_naming.proofs.ComputedReachLaws.{reach_computed}
 use Rattle.acl_terms.proofs.SlipLaws.{some-is, both-passed, second-failed}
 use Rattle.acl_terms.proofs.WordLaws.{parts, passed}
@@ -30,6 +32,14 @@ word-passed services q w h =
       passed (is_defined services w.text) codes.UnknownName w p.0,
       passed (reaches_protocol services w.text q) codes.NoPortForProtocol w p.1,
     )
+
+-- The question with all protocols is that with the one there is.
+pub one-protocol : (services : List Definition) (protos : List ℕ) (q : ℕ) (w : Word) → protos ≡ q ∷ []
+    → protocol_slip services q w ≡ service_slip services protos w
+one-protocol services protos q w is =
+    ap (λ b. option_or (unless (is_defined services w.text) codes.UnknownName w) (unless b codes.NoPortForProtocol w))
+    (sym (and-true (reaches_protocol services w.text q)))
+    ∙ ap (λ (qs : List ℕ). service_slip services qs w) (sym is)
 
 pub reached-more : (services : List Definition) (text : List ℕ) (qs : List ℕ) (i : ℕ) → i < length qs
     → reaches_protocol services text (get_or qs i 0) ≡ true

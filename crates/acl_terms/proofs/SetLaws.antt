@@ -1,5 +1,5 @@
 -- Sets that hold exactly the numbers of which a fact holds: union, difference, nothing and all.
-use Rattle.std.proofs.Common.{◌≡◌, ◌≢◌, ◌↔◌, ◌⊎◌, ℕ, ◌+◌, ◌<◌, ◌≤◌, true, false, not, ◌&&◌, ◌||◌, List, [], ◌∷◌, ◌++◌, length, take, get_or, inl, inr, refl, ap, sym, ◌∙◌, arith}
+use Rattle.std.proofs.Common.{◌≡◌, ◌≢◌, ◌↔◌, ◌⊎◌, ℕ, ◌+◌, ◌<◌, ◌≤◌, true, false, not, ◌&&◌, ◌||◌, List, [], ◌∷◌, ◌++◌, length, take, get_or, inl, inr, refl, ap, sym, subst, ◌∙◌, arith}
 use Rattle.std.proofs.lemmas.Bool.{and_from, and_parts, or_cases, or_left, or_right, both_ways, false_from_ne_true}
 use Rattle.std.proofs.lemmas.List.{take_more}
 use Rattle.acl_sets.specs.declared.sets.Range.{Range}
@@ -89,6 +89,14 @@ pub none-less : {A : Type 0} (P : ℕ → Type 0) (Q : ℕ → A → Type 0) (to
 none-less P Q top [] s e h =
     same-set P (λ x. P x × (AnyOf (Q x) [] → ⊥)) top s (λ x. (λ p. (p, λ a. a), λ q. q.0)) h
 none-less P Q top (x ∷ xs) s e h = absurd (none-more x xs e)
+
+-- The set of the one item of a list.
+pub only-set : {A : Type 0} (P : ℕ → A → Type 0) (top : ℕ) (xs : List A) (x : A) (s : Numbers) → xs ≡ x ∷ []
+    → IsSetOf (λ n. P n x) top s → IsSetOf (λ n. AnyOf (P n) xs) top s
+only-set P top xs x s is h =
+    subst (λ ys. IsSetOf (λ n. AnyOf (P n) ys) top s) (sym is)
+    (same-set (λ n. P n x) (λ n. AnyOf (P n) (x ∷ [])) top s
+    (λ n. (λ p. inl p, λ a. elim a [ inl p ↦ p | inr b ↦ absurd b ])) h)
 
 -- The union with the set of the next item of a list.
 pub more-set : {A : Type 0} (P : ℕ → A → Type 0) (top : ℕ) (xs : List A) (i : ℕ) (a d : A)

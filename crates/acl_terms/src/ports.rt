@@ -10,7 +10,7 @@ ghost use Rattle.acl_terms.specs.Slips.{port_words, service_slip, services_slip}
 
 use crate::checks::refusal_at;
 use crate::distinct::{distinct, may_repeat};
-use crate::new_words::NewWords;
+use crate::new_words::{NewWords, only_word};
 use acl_naming::{Checked, Lookup, ports_near};
 use acl_policy::{RawTerm, WordList, WordRef};
 use acl_sets::RangeSet;
@@ -68,8 +68,8 @@ fn joined(alloc: Global, set: RangeSet, more: RangeSet) -> Result<RangeSet, Memo
     set.union(alloc, &more)
 }
 
-// The ports that it reaches with some of the protocols. The next name is looked for behind it first.
-fn ports_by(
+// The ports that it reaches with some of the protocols.
+fn ports_by_each(
     alloc: Global,
     base: &Checked,
     protos: &[u8],
@@ -87,12 +87,33 @@ fn ports_by(
         let more = ports_at(alloc, base, *proto, word, near)?;
         out = joined(alloc, out, more)?;
     }
-    *near = near.saturating_add(1);
     Ok(out)
 }
 
+// The same. The next name is looked for behind it first. Most terms with ports have one protocol: its ports are the set.
+fn ports_by(
+    alloc: Global,
+    base: &Checked,
+    protos: &[u8],
+    word: &WordRef<'_>,
+    near: &mut usize,
+) -> Result<RangeSet, Refusal>
+    requires { protos.now ≢ [] }
+    ensures judged { Judges result (service_slip base.now.services protos.now word.now) }
+    ensures set { IfOk result (λ s.
+        IsSetOf (λ x. NamesPort base.now protos.now x word.now) top_port s) }
+    ensures some { IfOk result (λ s. s.ranges ≢ []) }
+{
+    let ports = match protos {
+        [proto] => ports_at(alloc, base, *proto, word, near),
+        _ => ports_by_each(alloc, base, protos, word, near),
+    };
+    *near = near.saturating_add(1);
+    ports
+}
+
 // The ports that some of the words reach. A text that came before is not looked up again.
-fn ports_of_words(
+fn ports_of_each_word(
     alloc: Global,
     base: &Checked,
     protos: &[u8],
@@ -113,6 +134,28 @@ fn ports_of_words(
         out = joined(alloc, out, more)?;
     }
     Ok(out)
+}
+
+// The same. Of one word alone, as most lists have, the ports are the set.
+fn ports_of_words(
+    alloc: Global,
+    base: &Checked,
+    protos: &[u8],
+    words: &WordList,
+    near: &mut usize,
+) -> Result<RangeSet, Refusal>
+    requires some { words.now ≢ [] }
+    requires protos { protos.now ≢ [] }
+    ensures judged { Judges result
+        (first_in (service_slip base.now.services protos.now) words.now) }
+    ensures set { IfOk result (λ s.
+        IsSetOf (λ x. AnyOf (NamesPort base.now protos.now x) words.now) top_port s) }
+    ensures some { IfOk result (λ s. s.ranges ≢ []) }
+{
+    match only_word(words) {
+        Some(word) => ports_by(alloc, base, protos, &word, near),
+        None => ports_of_each_word(alloc, base, protos, words, near),
+    }
 }
 
 // The same, or all where no word is written. A protocol that stands twice is not looked up again.

@@ -4,8 +4,8 @@ use Rattle.acl_terms.specs.DistinctSteps.{AreSame}
 use Rattle.acl_terms.proofs.DistinctLaws.{if-ok, same-ports, same-services, same-some}
 use Rattle.acl_terms.proofs.ports.admitted_ports.Goals as goal
 
-pub ports_of_words-requires-2 : goal.ports_of_words-requires-2
-ports_of_words-requires-2 c =
+pub ports_of_words-requires-2-clause-protos : goal.ports_of_words-requires-2-clause-protos
+ports_of_words-requires-2-clause-protos c =
     let some : c.args.words.now ≢ [] = c.is_empty.ensures.some c.if-is_empty.false in
     same-some c.deref.result.now c.args.protos.now
     (subst (λ ns. AreSame ns c.args.protos.now) (sym c.deref.ensures.value) c.in_ok-protos.ensures)

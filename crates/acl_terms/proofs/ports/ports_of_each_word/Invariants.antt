@@ -4,7 +4,7 @@ use Rattle.acl_naming.specs.Ports.{top_port}
 use Rattle.acl_terms.specs.Matching.{AnyOf, NamesPort}
 use Rattle.acl_terms.specs.Slips.{service_slip}
 use Rattle.acl_terms.proofs.SetLaws.{IsSetSoFar}
-use Rattle.acl_terms.proofs.ports.ports_of_words.Given as goal
+use Rattle.acl_terms.proofs.ports.ports_of_each_word.Given as goal
 
 abbrev pub invariant-loop-left : goal.invariant-loop-left
 invariant-loop-left l = record {

@@ -3,7 +3,7 @@ use Rattle.acl_naming.specs.Ports.{top_port}
 use Rattle.acl_naming.specs.Reach.{ReachesPort}
 use Rattle.acl_terms.proofs.SetLaws.{more-set, more-some}
 use Rattle.acl_terms.proofs.PortLaws.{reached-more, word-passed}
-use Rattle.acl_terms.proofs.ports.ports_by.Goals as goal
+use Rattle.acl_terms.proofs.ports.ports_by_each.Goals as goal
 
 pub loop-proto-preserved : goal.loop-proto-preserved
 loop-proto-preserved c =

@@ -5,7 +5,7 @@ use Rattle.acl_naming.specs.Reach.{ReachesPort}
 use Rattle.acl_terms.specs.Matching.{AnyOf}
 use Rattle.acl_terms.specs.Sets.{IsSetOf}
 use Rattle.acl_terms.specs.Slips.{is_defined, reaches_protocol}
-use Rattle.acl_terms.proofs.ports.ports_by.Given as goal
+use Rattle.acl_terms.proofs.ports.ports_by_each.Given as goal
 
 abbrev pub invariant-loop-proto : goal.invariant-loop-proto
 invariant-loop-proto l = record {

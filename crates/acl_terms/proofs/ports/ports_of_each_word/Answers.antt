@@ -6,7 +6,7 @@ use Rattle.acl_terms.specs.Matching.{AnyOf, NamesPort}
 use Rattle.acl_terms.specs.Slips.{service_slip}
 use Rattle.acl_terms.proofs.DistinctLaws.{asks-service, begun-names, given, new-first, new-some, next-names, slip-next}
 use Rattle.acl_terms.proofs.SetLaws.{more-some}
-use Rattle.acl_terms.proofs.ports.ports_of_words.Goals as goal
+use Rattle.acl_terms.proofs.ports.ports_of_each_word.Goals as goal
 
 pub loop-left-init : goal.loop-left-init
 loop-left-init c =
