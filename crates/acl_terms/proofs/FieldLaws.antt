@@ -1,5 +1,5 @@
 -- The fields of a term: its sets, and a match by its parts.
-use Rattle.std.proofs.Common.{◌≡◌, ◌↔◌, ℕ, Bool, true, false, ◌&&◌, [], ◌∷◌, refl}
+use Rattle.std.proofs.Common.{◌≡◌, ◌↔◌, ℕ, Bool, true, false, ◌&&◌, List, [], ◌∷◌, Option, refl, ap, subst}
 use Rattle.std.specs.List.{list_all}
 use Rattle.std.proofs.lemmas.Bool.{and_from, and_parts, both_ways}
 use Rattle.acl_packet.specs.declared.addresses.Family.{Family}
@@ -12,8 +12,9 @@ use Rattle.acl_packet.proofs.FieldLaws.{by-field}
 use Rattle.acl_sets.specs.Ranges.{Numbers, holds}
 use Rattle.acl_policy.specs.declared.raw_terms.RawTerm.{RawTerm}
 use Rattle.acl_naming.specs.Definitions.{Naming}
+use Rattle.acl_terms.specs.declared.ends.Ends.{Ends}
 use Rattle.acl_terms.specs.declared.options.Mode.{Mode}
-use Rattle.acl_terms.specs.declared.resolving.TermParts.{TermParts}
+use Rattle.acl_terms.specs.declared.resolving.NumberSets.{NumberSets}
 use Rattle.acl_terms.specs.declared.terms.Term.{Term}
 use Rattle.acl_terms.specs.Matching.{IsNumber, IsProtocol, icmp_family, protocols_of}
 use Rattle.acl_terms.specs.Options.{passes}
@@ -30,25 +31,29 @@ told numbers = by_field (numbers Protocol) (numbers SourcePort) (numbers Destina
 pub told-same : (numbers : Field → Numbers) → told numbers ≡ numbers
 told-same numbers = λ j field. by-field (λ f. told numbers f ≡ numbers f) refl refl refl refl refl field j
 
--- The sets of a term's parts, where each is what its words name.
-pub sets_are : (n : Naming) (raw : RawTerm) (p : TermParts)
-    → IsAddressSet n V4 raw p.ends.src.v4 p.ends.dst.v4 p.ends.either.v4
-    → IsAddressSet n V6 raw p.ends.src.v6 p.ends.dst.v6 p.ends.either.v6
-    → IsSetOf (IsProtocol raw.protocols) 255 p.numbers.protos
-    → IsPortSet n (protocols_of raw.protocols) raw p.numbers.ports.sports p.numbers.ports.dports p.numbers.ports.ports
-    → IsSetOf (IsType (icmp_family (protocols_of raw.protocols)) raw.icmp_types) 255 p.numbers.itypes
-    → IsSetOf (IsCode raw.icmp_codes) 255 p.numbers.icodes
-    → AreSetsOf n raw (sets_by p)
-sets_are n raw p four six protos ports itypes icodes = record {
-  ipv4 = four;
-  ipv6 = six;
-  numbers_are = by-field (λ field. IsSetOf (IsNumber n raw field) (top_of field) ((sets_by p).numbers field)) protos ports.0
-      ports.1 itypes icodes;
-  either_ports = ports.2;
-  some_from = ports.3;
-  some_to = ports.4;
-  some_of_either = ports.5;
-}
+-- The sets of a term, where each is what its words name.
+pub sets_are : (n : Naming) (raw : RawTerm) (protos : List ℕ) (e : Ends) (p : NumberSets)
+    → protos ≡ protocols_of raw.protocols
+    → IsAddressSet n V4 raw e.src.v4 e.dst.v4 e.either.v4
+    → IsAddressSet n V6 raw e.src.v6 e.dst.v6 e.either.v6
+    → IsSetOf (IsProtocol raw.protocols) 255 p.protos
+    → IsPortSet n protos raw p.ports.sports p.ports.dports p.ports.ports
+    → IsSetOf (IsType (icmp_family protos) raw.icmp_types) 255 p.itypes
+    → IsSetOf (IsCode raw.icmp_codes) 255 p.icodes
+    → AreSetsOf n raw (sets_by e p)
+sets_are n raw protos e p are four six named ports types icodes =
+    let reached = subst (λ (qs : List ℕ). IsPortSet n qs raw p.ports.sports p.ports.dports p.ports.ports) are ports in
+    let itypes = subst (λ (f : Option Family). IsSetOf (IsType f raw.icmp_types) 255 p.itypes) (ap icmp_family are) types in
+    record {
+      ipv4 = four;
+      ipv6 = six;
+      numbers_are = by-field (λ field. IsSetOf (IsNumber n raw field) (top_of field) ((sets_by e p).numbers field)) named
+          reached.0 reached.1 itypes icodes;
+      either_ports = reached.2;
+      some_from = reached.3;
+      some_to = reached.4;
+      some_of_either = reached.5;
+    }
 
 -- The protocol with the addresses, the ports with those of either side, and the fields of ICMP.
 abbrev pub ends_match : Family → Term → Packet → Bool

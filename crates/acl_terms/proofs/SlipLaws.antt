@@ -8,14 +8,14 @@ use Rattle.acl_text.specs.declared.faults.Code.{Code}
 use Rattle.acl_text.specs.declared.faults.Code.TheVariants as codes
 use Rattle.acl_text.specs.declared.faults.Slip.{Slip}
 use Rattle.acl_text.specs.declared.faults.Refusal.{Refusal}
-use Rattle.acl_text.specs.Refusals.{IsRefusalBy, Judges, first_in}
+use Rattle.acl_text.specs.Refusals.{IsRefusalBy, Judges, first_in, first_some}
 use Rattle.acl_text.specs.declared.faults.Refusal.TheVariants as refusals
 use Rattle.acl_words.specs.declared.word_lists.Word.{Word}
 use Rattle.acl_policy.specs.declared.raw_terms.RawTerm.{RawTerm}
-use Rattle.acl_naming.specs.Definitions.{Definition}
-use Rattle.acl_terms.specs.Matching.{only}
+use Rattle.acl_naming.specs.Definitions.{Definition, Naming}
+use Rattle.acl_terms.specs.Matching.{only, protocols_of}
 use Rattle.acl_terms.specs.SetSteps.{ends_slip, ports_by_ends_slip}
-use Rattle.acl_terms.specs.Slips.{first_unless, network_slip, networks_slip, port_protocol_slip, service_slip, services_slip, slip_at, unless}
+use Rattle.acl_terms.specs.Slips.{first_unless, network_slip, networks_slip, port_protocol_slip, questions, service_slip, services_slip, slip_at, slip_of, unless, words_slips}
 use Rattle.acl_terms.proofs.WordLaws.{first-passed, some-only}
 
 pub first-of-assoc : {X : Type 0} (a b c : Option X) → option_or (option_or a b) c ≡ option_or a (option_or b c)
@@ -56,6 +56,16 @@ first-unless-append passed code [] ys = refl
 first-unless-append false code (x ∷ xs) ys = refl
 first-unless-append true code (x ∷ xs) [] = refl
 first-unless-append true code (x ∷ xs) (y ∷ ys) = refl
+
+-- A term has no slip where no question on its ends and none behind them has one.
+pub none-asked : (n : Naming) (t : RawTerm) (protos : List ℕ) → protos ≡ protocols_of t.protocols
+    → networks_slip n.networks t ≡ None
+    → first_some (port_protocol_slip protos t ∷ services_slip n.services protos t ∷ words_slips protos t) ≡ None
+    → slip_of n t ≡ None
+unfolding slip_of
+none-asked n t protos are ends others =
+    let behind = first_some (port_protocol_slip protos t ∷ services_slip n.services protos t ∷ words_slips protos t) in
+    ap (λ (qs : List ℕ). first_some (questions n qs t)) (sym are) ∙ (ap (λ o. option_or o behind) ends ∙ others)
 
 pub port_protocol_by_ends : (protos : List ℕ) (t : RawTerm)
     → port_protocol_slip protos t ≡ ports_by_ends_slip (only has_ports protos) t

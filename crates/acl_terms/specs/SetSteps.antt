@@ -12,7 +12,8 @@ use Rattle.acl_policy.specs.declared.raw_terms.RawTerm.{RawTerm}
 use Rattle.acl_words.specs.declared.word_lists.Word.{Word}
 use Rattle.acl_naming.specs.Definitions.{Definition, Naming}
 use Rattle.acl_naming.specs.Ports.{top_port}
-use Rattle.acl_terms.specs.declared.resolving.TermParts.{TermParts}
+use Rattle.acl_terms.specs.declared.ends.Ends.{Ends}
+use Rattle.acl_terms.specs.declared.resolving.NumberSets.{NumberSets}
 use Rattle.acl_terms.specs.Matching.{Admits, IsPort, code_in, type_in}
 use Rattle.acl_terms.specs.Sets.{IsSetOf, Sets, by_field}
 use Rattle.acl_terms.specs.Slips.{first_unless, is_defined, network_slip, reaches_protocol, unless}
@@ -67,15 +68,15 @@ ends_slip networks t =
 abbrev pub meet : Numbers → Numbers → Bool
 meet s other = list_any (λ r. holds s.ranges r.low) other.ranges || list_any (λ r. holds other.ranges r.low) s.ranges
 
--- The sets of a term from its parts.
-abbrev pub sets_by : TermParts → Sets
-sets_by p = record {
-  src4 = p.ends.src.v4;
-  src6 = p.ends.src.v6;
-  dst4 = p.ends.dst.v4;
-  dst6 = p.ends.dst.v6;
-  addr4 = p.ends.either.v4;
-  addr6 = p.ends.either.v6;
-  numbers = by_field p.numbers.protos p.numbers.ports.sports p.numbers.ports.dports p.numbers.itypes p.numbers.icodes;
-  ports = p.numbers.ports.ports;
+-- The sets of a term: those of its ends, and the others.
+abbrev pub sets_by : Ends → NumberSets → Sets
+sets_by e p = record {
+  src4 = e.src.v4;
+  src6 = e.src.v6;
+  dst4 = e.dst.v4;
+  dst6 = e.dst.v6;
+  addr4 = e.either.v4;
+  addr6 = e.either.v6;
+  numbers = by_field p.protos p.ports.sports p.ports.dports p.itypes p.icodes;
+  ports = p.ports.ports;
 }

@@ -6,7 +6,7 @@ ghost use Rattle.acl_terms.specs.ComputableTerms.{sets_of};
 ghost use Rattle.acl_terms.specs.Matching.{IsProtocol, icmp_family, is_written, protocols_of};
 ghost use Rattle.acl_terms.specs.Resolved.{AreFieldsOf, GivesValue, IsResolved, sets_in};
 ghost use Rattle.acl_terms.specs.Sets.{AreSetsOf, IsSetOf};
-ghost use Rattle.acl_terms.specs.SetSteps.{IsCode, IsPortSet, IsType, sets_by};
+ghost use Rattle.acl_terms.specs.SetSteps.{IsCode, IsPortSet, IsType};
 ghost use Rattle.acl_terms.specs.Slips.{port_protocol_slip, services_slip, slip_of, words_slips};
 
 use crate::checks::{check_port_protocol, check_words, icmp_family, option_of, verdict_of};
@@ -26,17 +26,12 @@ use acl_words::WordBytes;
 use std::alloc::Global;
 
 // The sets of a term that are none of addresses.
+#[derive(Drop)]
 struct NumberSets {
     protos: RangeSet,
     ports: TermPorts,
     itypes: RangeSet,
     icodes: RangeSet,
-}
-
-// The sets of a term.
-struct TermParts {
-    ends: Ends,
-    numbers: NumberSets,
 }
 
 // The ports of the term, or the first slip that it has at words that are no names of addresses.
@@ -105,44 +100,6 @@ fn numbers_of(
     })
 }
 
-// The sets of the term with its protocols, or its first slip.
-#[tactic(auto, unfolding(crate::specs::Slips::slip_of))]
-fn parts_with<'a>(
-    alloc: Global,
-    raw: &'a RawTerm,
-    protos: &[u8],
-    known: &mut KnownAddresses<'a>,
-) -> Result<TermParts, Refusal>
-    requires { protos.now ≡ protocols_of raw.now.protocols }
-    ensures judged { Judges result (slip_of known.old raw.now) }
-    ensures sets { IfOk result (λ p. AreSetsOf known.old raw.now (sets_by p)) }
-    ensures same { known.new ≡ known.old }
-{
-    let ends = ends_of(alloc, raw, known)?;
-    let numbers = numbers_of(alloc, protos, raw, known)?;
-    Ok(TermParts { ends, numbers })
-}
-
-// The sets of the term, or its first slip.
-fn parts_of<'a>(
-    alloc: Global,
-    raw: &'a RawTerm,
-    known: &mut KnownAddresses<'a>,
-) -> Result<TermParts, Refusal>
-    ensures judged { Judges result (slip_of known.old raw.now) }
-    ensures sets { IfOk result (λ p. AreSetsOf known.old raw.now (sets_by p)) }
-    ensures same { known.new ≡ known.old }
-{
-    if let Some(number) = only_protocol(&raw.protocols) {
-        return parts_with(alloc, raw, &[number], known);
-    }
-    if let Some(numbers) = two_protocols(&raw.protocols) {
-        return parts_with(alloc, raw, &numbers, known);
-    }
-    let protos = protocols_of(alloc, &raw.protocols)?;
-    parts_with(alloc, raw, &protos, known)
-}
-
 fn is_written(words: &WordList) -> bool
     ensures { result ≡ is_written words.now }
 {
@@ -157,6 +114,81 @@ fn texts_of(alloc: Global, raw: &RawTerm) -> Result<(WordBytes, Bytes), Memory>
 {
     let name = WordBytes::from_slice(alloc, raw.name.text.as_slice())?;
     Ok((name, note(alloc, raw.comments.as_slice())?))
+}
+
+// The term with its protocols, or its first slip. It is large, so it is made where its sets are gathered.
+#[tactic(auto, unfolding(crate::specs::Slips::slip_of))]
+fn term_with<'a>(
+    alloc: Global,
+    raw: &'a RawTerm,
+    protos: &[u8],
+    known: &mut KnownAddresses<'a>,
+) -> Result<Term, Refusal>
+    requires fits { IsRawTerm raw.now }
+    requires protos { protos.now ≡ protocols_of raw.now.protocols }
+    ensures judged { Judges result (slip_of known.old raw.now) }
+    ensures sets { IfOk result (λ t. AreSetsOf known.old raw.now (sets_in t)) }
+    ensures fields { IfOk result (AreFieldsOf raw.now) }
+    ensures same { known.new ≡ known.old }
+{
+    let ends = ends_of(alloc, raw, known)?;
+    let numbers = numbers_of(alloc, protos, raw, known)?;
+    let (name, note) = texts_of(alloc, raw)?;
+    let Ends { src, dst, either } = ends;
+    let NumberSets {
+        protos,
+        ports,
+        itypes,
+        icodes,
+    } = numbers;
+    Ok(Term {
+        name,
+        place: raw.name.place,
+        note,
+        src4: src.v4,
+        src6: src.v6,
+        dst4: dst.v4,
+        dst6: dst.v6,
+        addr4: either.v4,
+        addr6: either.v6,
+        addr_named: is_written(&raw.addresses),
+        protos,
+        sports: ports.sports,
+        dports: ports.dports,
+        dport_named: is_written(&raw.destination_ports),
+        ports: ports.ports,
+        port_named: is_written(&raw.ports),
+        itypes,
+        icodes,
+        option: option_of(&raw.options),
+        verdict: verdict_of(raw.action.text.as_slice()),
+        log: raw.logging,
+        expires: raw.expires,
+        only: some_platforms(&raw.platforms),
+        never: platforms_of(&raw.not_platforms),
+    })
+}
+
+// The term, or its first slip.
+fn term_of<'a>(
+    alloc: Global,
+    raw: &'a RawTerm,
+    known: &mut KnownAddresses<'a>,
+) -> Result<Term, Refusal>
+    requires { IsRawTerm raw.now }
+    ensures judged { Judges result (slip_of known.old raw.now) }
+    ensures sets { IfOk result (λ t. AreSetsOf known.old raw.now (sets_in t)) }
+    ensures fields { IfOk result (AreFieldsOf raw.now) }
+    ensures same { known.new ≡ known.old }
+{
+    if let Some(number) = only_protocol(&raw.protocols) {
+        return term_with(alloc, raw, &[number], known);
+    }
+    if let Some(numbers) = two_protocols(&raw.protocols) {
+        return term_with(alloc, raw, &numbers, known);
+    }
+    let protos = protocols_of(alloc, &raw.protocols)?;
+    term_with(alloc, raw, &protos, known)
 }
 
 /// The term with its words read as numbers, or its first slip.
@@ -192,45 +224,5 @@ pub fn resolve_with<'a>(
     ensures resolved { IfOk result (IsResolved known.old raw.now) }
     ensures same { known.new ≡ known.old }
 {
-    let (name, note) = texts_of(alloc, raw)?;
-    let parts = parts_of(alloc, raw, known)?;
-    let TermParts {
-        ends: Ends { src, dst, either },
-        numbers: NumberSets {
-            protos,
-            ports: TermPorts {
-                sports,
-                dports,
-                ports,
-            },
-            itypes,
-            icodes,
-        },
-    } = parts;
-    Ok(Term {
-        name,
-        place: raw.name.place,
-        note,
-        src4: src.v4,
-        src6: src.v6,
-        dst4: dst.v4,
-        dst6: dst.v6,
-        addr4: either.v4,
-        addr6: either.v6,
-        addr_named: is_written(&raw.addresses),
-        protos,
-        sports,
-        dports,
-        dport_named: is_written(&raw.destination_ports),
-        ports,
-        port_named: is_written(&raw.ports),
-        itypes,
-        icodes,
-        option: option_of(&raw.options),
-        verdict: verdict_of(raw.action.text.as_slice()),
-        log: raw.logging,
-        expires: raw.expires,
-        only: some_platforms(&raw.platforms),
-        never: platforms_of(&raw.not_platforms),
-    })
+    term_of(alloc, raw, known)
 }
