@@ -4,7 +4,7 @@ use Rattle.std.specs.List.{list_any}
 use Rattle.std.specs.Str.{bytes_eq}
 use Rattle.std.proofs.lemmas.Bool.{cond-false}
 use Rattle.acl_words.specs.Tokens.{Token}
-use Rattle.acl_policy.specs.declared.raw_terms.RawTerm.{RawTerm}
+use Rattle.acl_policy.specs.RawTerms.{RawTerm}
 use Rattle.acl_policy.specs.declared.states.Part.TheVariants.{Named}
 use Rattle.acl_policy.specs.declared.states.PolicyState.{PolicyState}
 use Rattle.acl_policy.specs.declared.term_drafts.TermDraft.{TermDraft}

@@ -4,7 +4,7 @@ use Rattle.std.specs.List.{list_any}
 use Rattle.std.specs.Str.{bytes_eq}
 use Rattle.std.proofs.lemmas.List.Elements.{All-append, All-cons, All-head, All-tail}
 use Rattle.acl_text.specs.declared.texts.Memory.{Memory}
-use Rattle.acl_policy.specs.declared.raw_terms.RawTerm.{RawTerm}
+use Rattle.acl_policy.specs.RawTerms.{RawTerm}
 use Rattle.acl_text.specs.NameSlots.{has_slot}
 use Rattle.acl_text.proofs.NameSlotLaws.{other_name}
 use Rattle.acl_policy.specs.NameSlotSteps.{IsSeen}

@@ -10,7 +10,7 @@ use Rattle.acl_host.specs.declared.days.Day.{Day}
 use Rattle.acl_policy.specs.declared.keywords.Keyword.{Keyword}
 use Rattle.acl_policy.specs.declared.keywords.Keyword.TheVariants as keywords
 use Rattle.acl_policy.specs.declared.keywords.KeywordRow.{KeywordRow}
-use Rattle.acl_policy.specs.declared.raw_terms.RawTerm.{RawTerm}
+use Rattle.acl_policy.specs.RawTerms.{RawTerm}
 use Rattle.acl_policy.specs.declared.term_drafts.TermDraft.{TermDraft}
 use Rattle.acl_policy.specs.declared.values.Takes.{Takes}
 use Rattle.acl_policy.specs.declared.values.Takes.TheVariants as takes

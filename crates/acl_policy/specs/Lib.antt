@@ -4,6 +4,8 @@ pub mod Keywords
 pub mod NameSlotSteps
 pub mod Policies
 pub mod PolicyPlaces
+pub mod RareLists
+pub mod RawTerms
 pub mod ReadingParts
 pub mod Slips
 pub mod TargetSteps

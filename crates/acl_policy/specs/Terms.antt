@@ -5,7 +5,7 @@ use Rattle.acl_text.specs.declared.faults.Slip.{Slip}
 use Rattle.acl_words.specs.Tokens.{Token}
 use Rattle.acl_policy.specs.declared.term_drafts.TermDraft.{TermDraft}
 use Rattle.acl_words.specs.declared.word_lists.Word.{Word}
-use Rattle.acl_policy.specs.declared.raw_terms.RawTerm.{RawTerm}
+use Rattle.acl_policy.specs.RawTerms.{RawTerm}
 use Rattle.acl_policy.specs.declared.keywords.Keyword.{Keyword}
 use Rattle.acl_policy.specs.declared.keywords.Keyword.TheVariants as keywords
 use Rattle.acl_policy.specs.declared.keywords.KeywordRow.{KeywordRow}

@@ -11,6 +11,7 @@ mod keywords;
 mod named_terms;
 mod open_terms;
 mod policy_parsing;
+mod rare_lists;
 mod raw_terms;
 mod states;
 mod target_lines;

@@ -18,7 +18,7 @@ pub(crate) struct NamedTerms {
 impl Model for NamedTerms {
     ghost use Rattle.std.specs.Prelude.{List};
     ghost use Rattle.std.specs.List.{All};
-    ghost use Rattle.acl_policy.specs.declared.raw_terms.RawTerm.{RawTerm};
+    ghost use Rattle.acl_policy.specs.RawTerms.{RawTerm};
     ghost use Rattle.acl_policy.specs.NameSlotSteps.{IsSeen};
 
     ghost Value = { List RawTerm };
@@ -51,7 +51,7 @@ impl NamedTerms {
         ensures ok { OnOk result (self.new ≡ self.old ++ term ∷ []) }
         ensures err { OnErr result (self.new ≡ self.old) }
     {
-        self.seen.add(term.name.text.as_slice());
+        self.seen.add(term.name().text.as_slice());
         self.terms.push(term)
     }
 
@@ -74,5 +74,5 @@ fn is_term_name(terms: &[RawTerm], name: &[u8]) -> bool
 fn is_name_of(term: &RawTerm, name: &[u8]) -> bool
     ensures { result ≡ bytes_eq term.now.name.text name.now }
 {
-    term.name.text.as_slice() == name
+    term.name().text.as_slice() == name
 }

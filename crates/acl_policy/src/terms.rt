@@ -14,8 +14,9 @@ ghost use Rattle.acl_policy.specs.Values.{ArePlain, takes_words};
 
 use crate::clauses::Clause;
 use crate::keywords::{Keyword, KeywordRow, row_named};
-use crate::term_drafts::{TermDraft, add_comments, no_word};
-use crate::values::{check_one, check_values, push_all, word_of};
+use crate::raw_terms::no_word;
+use crate::term_drafts::{TermDraft, add_comments};
+use crate::values::{check_one, check_values, word_of};
 use crate::word_slips::refusal_at;
 use acl_host::{Day, read_day};
 use acl_text::{Code, Memory, Refusal};
@@ -43,7 +44,7 @@ fn first_day(values: &[Token<'_>]) -> Option<Day>
 fn put_action(alloc: Global, draft: &mut TermDraft, values: &[Token<'_>]) -> Result<(), Memory>
     ensures { OnOk result (draft.new ≡ with_values draft.old Keyword.Action values.now) }
 {
-    draft.term.action = first_word(alloc, values)?;
+    draft.term.set_action(first_word(alloc, values)?);
     draft.has_action = true;
     Ok(())
 }
@@ -65,28 +66,15 @@ fn put_values(
             Ok(())
         }
         Keyword::Action => put_action(alloc, draft, values),
-        Keyword::SourceAddress => push_all(&mut draft.term.sources, values),
-        Keyword::SourceExclude => push_all(&mut draft.term.source_excludes, values),
-        Keyword::DestinationAddress => push_all(&mut draft.term.destinations, values),
-        Keyword::DestinationExclude => push_all(&mut draft.term.destination_excludes, values),
-        Keyword::Address => push_all(&mut draft.term.addresses, values),
-        Keyword::Protocol => push_all(&mut draft.term.protocols, values),
-        Keyword::SourcePort => push_all(&mut draft.term.source_ports, values),
-        Keyword::DestinationPort => push_all(&mut draft.term.destination_ports, values),
-        Keyword::Port => push_all(&mut draft.term.ports, values),
-        Keyword::IcmpType => push_all(&mut draft.term.icmp_types, values),
-        Keyword::IcmpCode => push_all(&mut draft.term.icmp_codes, values),
-        Keyword::Opt => push_all(&mut draft.term.options, values),
         Keyword::Logging => {
-            draft.term.logging = true;
+            draft.term.set_logging();
             Ok(())
         }
         Keyword::Expiration => {
-            draft.term.expires = first_day(values);
+            draft.term.set_expires(first_day(values));
             Ok(())
         }
-        Keyword::Platform => push_all(&mut draft.term.platforms, values),
-        Keyword::PlatformExclude => push_all(&mut draft.term.not_platforms, values),
+        _ => draft.term.push_all(alloc, keyword, values),
     }
 }
 
@@ -97,8 +85,8 @@ fn has_stood(draft: &TermDraft, keyword: Keyword) -> bool
     match keyword {
         Keyword::Owner => draft.has_owner,
         Keyword::Action => draft.has_action,
-        Keyword::Logging => draft.term.logging,
-        Keyword::Expiration => draft.term.expires.is_some(),
+        Keyword::Logging => draft.term.logging(),
+        Keyword::Expiration => draft.term.expires().is_some(),
         _ => false,
     }
 }
