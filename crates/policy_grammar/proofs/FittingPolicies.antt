@@ -7,7 +7,7 @@ use Rattle.acl_target.specs.declared.targets.Target.{Target}
 use Rattle.acl_target.specs.TargetData.{IsTarget}
 use Rattle.acl_policy.specs.declared.blocks.Block.{Block}
 use Rattle.acl_policy.specs.declared.blocks.Policy.{Policy}
-use Rattle.acl_policy.specs.declared.raw_terms.RawTerm.{RawTerm}
+use Rattle.acl_policy.specs.RawTerms.{RawTerm}
 use Rattle.acl_policy.specs.Conditions.{Each, StandsBehind, NameIsNew, IsRawTerm, IsBlock, targets_of, terms_of, IsPolicy}
 use Rattle.acl_policy.specs.Slips.{start_place}
 use Rattle.policy_grammar.specs.TermTexts.{term_meant, TermStands}

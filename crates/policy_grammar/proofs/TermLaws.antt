@@ -14,7 +14,7 @@ use Rattle.acl_words.specs.Words.{word}
 use Rattle.acl_host.specs.NamedDays.{day_named}
 use Rattle.acl_policy.specs.declared.keywords.Keyword.{Keyword}
 use Rattle.acl_policy.specs.declared.keywords.Keyword.TheVariants as keywords
-use Rattle.acl_policy.specs.declared.raw_terms.RawTerm.{RawTerm}
+use Rattle.acl_policy.specs.RawTerms.{RawTerm}
 use Rattle.acl_words.specs.declared.word_lists.Word.{Word}
 use Rattle.acl_policy.specs.ReadingParts.{Term, Named, InTerm, TermEnd}
 use Rattle.acl_policy.specs.ReadingParts.{PolicyState}

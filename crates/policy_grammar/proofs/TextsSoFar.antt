@@ -9,7 +9,7 @@ use Rattle.acl_text.specs.Names.{is_name}
 use Rattle.acl_words.specs.declared.forms.Form.TheVariants as forms
 use Rattle.acl_words.specs.Tokens.{Token}
 use Rattle.acl_words.specs.Words.{word}
-use Rattle.acl_policy.specs.declared.raw_terms.RawTerm.{RawTerm}
+use Rattle.acl_policy.specs.RawTerms.{RawTerm}
 use Rattle.acl_words.specs.declared.word_lists.Word.{Word}
 use Rattle.acl_policy.specs.ReadingParts.{Part}
 use Rattle.acl_policy.specs.ReadingParts.{Start, Header, InHeader, HeaderEnd, Term, Named, InTerm, TermEnd}
