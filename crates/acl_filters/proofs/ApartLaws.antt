@@ -14,7 +14,7 @@ use Rattle.acl_target.specs.declared.targets.Target.{Target}
 use Rattle.acl_target.specs.Clashes.{clash, clash_on, same_kind, share_lists}
 use Rattle.acl_policy.specs.declared.blocks.Block.{Block}
 use Rattle.acl_policy.specs.declared.blocks.Policy.{Policy}
-use Rattle.acl_policy.specs.declared.raw_terms.RawTerm.{RawTerm}
+use Rattle.acl_policy.specs.RawTerms.{RawTerm}
 use Rattle.acl_policy.specs.Conditions.{Each, IsPolicy, NumbersDiffer, StandsBehind, targets_of}
 use Rattle.acl_terms.specs.declared.terms.Term.{Term}
 use Rattle.acl_platform.specs.declared.filters.Filter.{Filter}

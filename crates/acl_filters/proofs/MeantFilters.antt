@@ -10,7 +10,7 @@ use Rattle.acl_host.specs.declared.days.Day.{Day}
 use Rattle.acl_naming.specs.Definitions.{Naming}
 use Rattle.acl_target.specs.declared.targets.Target.{Target}
 use Rattle.acl_policy.specs.declared.blocks.Block.{Block}
-use Rattle.acl_policy.specs.declared.raw_terms.RawTerm.{RawTerm}
+use Rattle.acl_policy.specs.RawTerms.{RawTerm}
 use Rattle.acl_terms.specs.declared.terms.Term.{Term}
 use Rattle.acl_platform.specs.Platforms.{DecidesAs}
 use Rattle.acl_expand.proofs.DecideLaws.{decides-as-written}

@@ -10,7 +10,7 @@ use Rattle.acl_target.specs.declared.targets.Kind.{Kind}
 use Rattle.acl_target.specs.declared.targets.Target.{Target}
 use Rattle.acl_target.specs.Clashes.{same_kind}
 use Rattle.acl_policy.specs.declared.blocks.Block.{Block}
-use Rattle.acl_policy.specs.declared.raw_terms.RawTerm.{RawTerm}
+use Rattle.acl_policy.specs.RawTerms.{RawTerm}
 use Rattle.acl_terms.specs.declared.terms.Term.{Term}
 use Rattle.acl_platform.specs.declared.filters.Filter.{Filter}
 use Rattle.acl_platform.specs.declared.filters.Limit.{Limit}

@@ -4,7 +4,7 @@ ghost use Rattle.acl_text.specs.declared.faults.Slip.{Slip};
 ghost use Rattle.acl_host.specs.declared.days.Day.{Day as OneDay};
 ghost use Rattle.acl_target.specs.TargetData.{IsTarget};
 ghost use Rattle.acl_policy.specs.Conditions.{IsBlock, IsPolicy};
-ghost use Rattle.acl_policy.specs.declared.raw_terms.RawTerm.{RawTerm};
+ghost use Rattle.acl_policy.specs.RawTerms.{RawTerm};
 ghost use Rattle.acl_terms.specs.declared.terms.Term.{Term};
 ghost use Rattle.acl_expand.specs.KnownRules.{AreKnown};
 ghost use Rattle.acl_filters.specs.AskedFilters.{FilterRequest};

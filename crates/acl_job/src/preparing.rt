@@ -1,7 +1,7 @@
 ghost use Rattle.std.specs.Prelude.{◌≡◌, ◌++◌, ◌∷◌, [], None, true, List, map, IfOk, OnOk};
 ghost use Rattle.std.specs.List.{All};
 ghost use Rattle.acl_target.specs.TargetData.{IsTarget};
-ghost use Rattle.acl_policy.specs.declared.raw_terms.RawTerm.{RawTerm};
+ghost use Rattle.acl_policy.specs.RawTerms.{RawTerm};
 ghost use Rattle.acl_policy.specs.declared.blocks.Block.{Block};
 ghost use Rattle.acl_load.specs.declared.policy_loading.Loaded.{Loaded};
 ghost use Rattle.acl_load.specs.ResolvedPolicies.{resolved_of, targets_in};

@@ -20,7 +20,7 @@ use Rattle.acl_words.specs.Tokens.{Token}
 use Rattle.acl_words.specs.Words.{words_of}
 use Rattle.acl_policy.specs.declared.blocks.Block.{Block}
 use Rattle.acl_policy.specs.declared.blocks.Policy.{Policy}
-use Rattle.acl_policy.specs.declared.raw_terms.RawTerm.{RawTerm}
+use Rattle.acl_policy.specs.RawTerms.{RawTerm}
 use Rattle.acl_policy.specs.Conditions.{IsBlock, IsPolicy, IsRawTerm}
 use Rattle.acl_policy.specs.Policies.{policy_of}
 use Rattle.acl_policy.proofs.PolicyFit.{read_fits}

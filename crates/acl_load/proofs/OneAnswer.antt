@@ -13,7 +13,7 @@ use Rattle.acl_naming.specs.Checking.{undefined_of, HasNoCycle, IsFirstCycle, Is
 use Rattle.acl_naming.specs.Definitions.{Definition, Naming}
 use Rattle.acl_naming.specs.Tables.{name_at, place_at}
 use Rattle.acl_policy.specs.declared.blocks.Block.{Block}
-use Rattle.acl_policy.specs.declared.raw_terms.RawTerm.{RawTerm}
+use Rattle.acl_policy.specs.RawTerms.{RawTerm}
 use Rattle.acl_terms.specs.declared.terms.Term.{Term}
 use Rattle.acl_terms.specs.Resolved.{IsResolved}
 use Rattle.acl_terms.proofs.TermLaws.{one-term}

@@ -12,7 +12,7 @@ use Rattle.acl_words.specs.Splicing.{splice_of}
 use Rattle.acl_words.specs.Words.{words_of}
 use Rattle.acl_policy.specs.declared.blocks.Block.{Block}
 use Rattle.acl_policy.specs.declared.blocks.Policy.{Policy}
-use Rattle.acl_policy.specs.declared.raw_terms.RawTerm.{RawTerm}
+use Rattle.acl_policy.specs.RawTerms.{RawTerm}
 use Rattle.acl_policy.specs.Conditions.{IsPolicy}
 use Rattle.acl_policy.specs.Policies.{policy_of}
 use Rattle.acl_terms.specs.declared.terms.Term.{Term}

@@ -8,7 +8,7 @@ use Rattle.acl_text.specs.declared.faults.Code.{Code}
 use Rattle.acl_text.specs.declared.faults.Code.TheVariants as codes
 use Rattle.acl_text.proofs.AnsweredLaws.{either_answered, first_answered}
 use Rattle.acl_words.specs.declared.word_lists.Word.{Word}
-use Rattle.acl_policy.specs.declared.raw_terms.RawTerm.{RawTerm}
+use Rattle.acl_policy.specs.RawTerms.{RawTerm}
 use Rattle.acl_naming.specs.Definitions.{Definition, Naming}
 use Rattle.acl_terms.specs.Matching.{icmp_family, only, protocols_of, type_in, types_of}
 use Rattle.acl_terms.specs.Options.{option_of, verdict_of}

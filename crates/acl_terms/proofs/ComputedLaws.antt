@@ -17,7 +17,7 @@ use Rattle.acl_sets.specs.Ranges.{Numbers, IsNormal, IsRange, holds, inside}
 use Rattle.acl_sets.proofs.ComputableSetLaws.{put_all-normal, put_all-holds, cut_all-normal, cut_all-holds}
 use Rattle.acl_sets.proofs.RangeLaws.{are_ranges, in_range, one_list, past_top}
 use Rattle.acl_text.proofs.ListLaws.{all_append}
-use Rattle.acl_policy.specs.declared.raw_terms.RawTerm.{RawTerm}
+use Rattle.acl_policy.specs.RawTerms.{RawTerm}
 use Rattle.acl_words.specs.declared.word_lists.Word.{Word}
 use Rattle.acl_naming.specs.Definitions.{Naming}
 use Rattle.acl_naming.specs.Ports.{top_port}

@@ -10,7 +10,7 @@ use Rattle.acl_packet.specs.declared.packets.Packet.{Packet}
 use Rattle.acl_packet.specs.Packets.{icmp_fields, number_of, top_of}
 use Rattle.acl_packet.proofs.FieldLaws.{by-field}
 use Rattle.acl_sets.specs.Ranges.{Numbers, holds}
-use Rattle.acl_policy.specs.declared.raw_terms.RawTerm.{RawTerm}
+use Rattle.acl_policy.specs.RawTerms.{RawTerm}
 use Rattle.acl_naming.specs.Definitions.{Naming}
 use Rattle.acl_terms.specs.declared.ends.Ends.{Ends}
 use Rattle.acl_terms.specs.declared.options.Mode.{Mode}

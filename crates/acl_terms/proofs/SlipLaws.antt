@@ -11,7 +11,7 @@ use Rattle.acl_text.specs.declared.faults.Refusal.{Refusal}
 use Rattle.acl_text.specs.Refusals.{IsRefusalBy, Judges, first_in, first_some}
 use Rattle.acl_text.specs.declared.faults.Refusal.TheVariants as refusals
 use Rattle.acl_words.specs.declared.word_lists.Word.{Word}
-use Rattle.acl_policy.specs.declared.raw_terms.RawTerm.{RawTerm}
+use Rattle.acl_policy.specs.RawTerms.{RawTerm}
 use Rattle.acl_naming.specs.Definitions.{Definition, Naming}
 use Rattle.acl_terms.specs.Matching.{only, protocols_of}
 use Rattle.acl_terms.specs.SetSteps.{ends_slip, ports_by_ends_slip}

@@ -14,7 +14,7 @@ use Rattle.acl_text.specs.Notes.{note_of}
 use Rattle.acl_text.specs.Refusals.{first_in}
 use Rattle.acl_host.specs.declared.days.Day.{Day}
 use Rattle.acl_policy.specs.declared.keywords.Keyword.TheVariants as keywords
-use Rattle.acl_policy.specs.declared.raw_terms.RawTerm.{RawTerm}
+use Rattle.acl_policy.specs.RawTerms.{RawTerm}
 use Rattle.acl_words.specs.declared.word_lists.Word.{Word}
 use Rattle.acl_policy.specs.Conditions.{IsRawTerm}
 use Rattle.acl_sets.specs.Ranges.{Numbers}

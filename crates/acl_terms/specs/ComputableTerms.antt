@@ -11,7 +11,7 @@ use Rattle.acl_packet.specs.Packets.{top_of}
 use Rattle.acl_sets.specs.declared.sets.Range.{Range}
 use Rattle.acl_sets.specs.Ranges.{Numbers}
 use Rattle.acl_sets.specs.ComputableSets.{cut_all, put_all}
-use Rattle.acl_policy.specs.declared.raw_terms.RawTerm.{RawTerm}
+use Rattle.acl_policy.specs.RawTerms.{RawTerm}
 use Rattle.acl_words.specs.declared.word_lists.Word.{Word}
 use Rattle.acl_policy.specs.Conditions.{IsRawTerm}
 use Rattle.acl_naming.specs.ComputableReach.{addresses_reached, ports_reached}

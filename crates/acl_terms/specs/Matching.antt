@@ -11,7 +11,7 @@ use Rattle.acl_packet.specs.declared.packet_fields.Field.TheVariants.{Protocol, 
 use Rattle.acl_packet.specs.declared.packets.Packet.{Packet}
 use Rattle.acl_packet.specs.NumberWords.{protocol_in, icmp_in}
 use Rattle.acl_words.specs.declared.word_lists.Word.{Word}
-use Rattle.acl_policy.specs.declared.raw_terms.RawTerm.{RawTerm}
+use Rattle.acl_policy.specs.RawTerms.{RawTerm}
 use Rattle.acl_naming.specs.Definitions.{Naming}
 use Rattle.acl_naming.specs.Reach.{ReachesAddress, ReachesPort}
 use Rattle.acl_terms.specs.declared.options.Mode.{Mode}

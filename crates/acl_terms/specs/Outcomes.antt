@@ -10,7 +10,7 @@ use Rattle.acl_host.specs.declared.days.Day.{Day}
 use Rattle.acl_target.specs.declared.targets.Kind.{Kind}
 use Rattle.acl_target.specs.declared.targets.Kind.TheVariants.{Cisco, Juniper, Iptables, Nftables}
 use Rattle.acl_target.specs.declared.targets.Target.{Target}
-use Rattle.acl_policy.specs.declared.raw_terms.RawTerm.{RawTerm}
+use Rattle.acl_policy.specs.RawTerms.{RawTerm}
 use Rattle.acl_target.specs.FilterEndings.{ending_outcome}
 use Rattle.acl_naming.specs.Definitions.{Naming}
 use Rattle.acl_terms.specs.declared.options.Mode.{Mode}

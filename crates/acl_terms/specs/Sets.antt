@@ -7,7 +7,7 @@ use Rattle.acl_packet.specs.declared.packet_fields.Field.TheVariants.{Protocol, 
 use Rattle.acl_packet.specs.Addresses.{top_address}
 use Rattle.acl_packet.specs.Packets.{top_of}
 use Rattle.acl_sets.specs.Ranges.{Numbers, IsNormal, holds}
-use Rattle.acl_policy.specs.declared.raw_terms.RawTerm.{RawTerm}
+use Rattle.acl_policy.specs.RawTerms.{RawTerm}
 use Rattle.acl_naming.specs.Definitions.{Naming}
 use Rattle.acl_naming.specs.Ports.{top_port}
 use Rattle.acl_terms.specs.Matching.{IsAddress, IsNamedAddress, IsNumber, IsPort, protocols_of}

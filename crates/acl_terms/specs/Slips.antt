@@ -12,7 +12,7 @@ use Rattle.acl_text.specs.declared.faults.Code.TheVariants as codes
 use Rattle.acl_text.specs.declared.faults.Slip.{Slip}
 use Rattle.acl_text.specs.Refusals.{first_in, first_some, slip}
 use Rattle.acl_words.specs.declared.word_lists.Word.{Word}
-use Rattle.acl_policy.specs.declared.raw_terms.RawTerm.{RawTerm}
+use Rattle.acl_policy.specs.RawTerms.{RawTerm}
 use Rattle.acl_naming.specs.Definitions.{Definition, Naming, index_of}
 use Rattle.acl_naming.specs.Reach.{is_service_of}
 use Rattle.acl_terms.specs.declared.options.Opt.{Opt}

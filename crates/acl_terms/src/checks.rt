@@ -208,10 +208,10 @@ fn check_codes(alloc: Global, family: Option<Family>, raw: &RawTerm) -> Result<(
     ensures { Judges result (first_unless (are_one (types_of family raw.now.icmp_types))
         Code.IcmpCode raw.now.icmp_codes) }
 {
-    match raw.icmp_codes.first() {
+    match raw.icmp_codes().first() {
         None => Ok(()),
         Some(first) => {
-            let types = types_of(alloc, family, &raw.icmp_types)?;
+            let types = types_of(alloc, family, raw.icmp_types())?;
             refuse_unless(alloc, are_one(&types), Code::IcmpCode, &first)
         }
     }
@@ -263,9 +263,9 @@ fn check_reset(alloc: Global, protos: &[u8], word: &WordRef<'_>) -> Result<(), R
 fn check_ports_by_ends(alloc: Global, passed: bool, raw: &RawTerm) -> Result<(), Refusal>
     ensures { Judges result (ports_by_ends_slip passed raw.now) }
 {
-    check_first(alloc, passed, Code::PortProtocol, &raw.source_ports)?;
-    check_first(alloc, passed, Code::PortProtocol, &raw.destination_ports)?;
-    check_first(alloc, passed, Code::PortProtocol, &raw.ports)
+    check_first(alloc, passed, Code::PortProtocol, raw.source_ports())?;
+    check_first(alloc, passed, Code::PortProtocol, raw.destination_ports())?;
+    check_first(alloc, passed, Code::PortProtocol, raw.ports())
 }
 
 /// Whether ports stand only with TCP, UDP and SCTP. The slip is at the first word of ports.
@@ -284,9 +284,9 @@ pub(crate) fn check_port_protocol(
 pub(crate) fn check_words(alloc: Global, protos: &[u8], raw: &RawTerm) -> Result<(), Refusal>
     ensures { Judges result (first_some (words_slips protos.now raw.now)) }
 {
-    check_types(alloc, icmp_family(protos), &raw.icmp_types)?;
+    check_types(alloc, icmp_family(protos), raw.icmp_types())?;
     check_codes(alloc, icmp_family(protos), raw)?;
-    check_clash(alloc, &raw.options)?;
-    check_option(alloc, protos, &raw.options)?;
-    check_reset(alloc, protos, &raw.action.borrowed())
+    check_clash(alloc, raw.options())?;
+    check_option(alloc, protos, raw.options())?;
+    check_reset(alloc, protos, &raw.action().borrowed())
 }

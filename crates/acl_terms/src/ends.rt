@@ -31,8 +31,8 @@ pub(crate) fn ends_of<'a>(
         IsAddressSet known.old V6 raw.now e.src.v6 e.dst.v6 e.either.v6) }
     ensures same { known.new ≡ known.old }
 {
-    let src = known.end_of(alloc, &raw.sources, &raw.source_excludes)?;
-    let dst = known.end_of(alloc, &raw.destinations, &raw.destination_excludes)?;
-    let either = known.addresses_of(alloc, &raw.addresses)?;
+    let src = known.end_of(alloc, raw.sources(), raw.source_excludes())?;
+    let dst = known.end_of(alloc, raw.destinations(), raw.destination_excludes())?;
+    let either = known.addresses_of(alloc, raw.addresses())?;
     Ok(Ends { src, dst, either })
 }

@@ -196,9 +196,9 @@ pub(crate) fn ports_of_term(
     ensures ports { IfOk result (λ p.
         IsPortSet base.now protos.now raw.now p.sports p.dports p.ports) }
 {
-    let sports = admitted_ports(alloc, base, protos, &raw.source_ports, near)?;
-    let dports = admitted_ports(alloc, base, protos, &raw.destination_ports, near)?;
-    let ports = admitted_ports(alloc, base, protos, &raw.ports, near)?;
+    let sports = admitted_ports(alloc, base, protos, raw.source_ports(), near)?;
+    let dports = admitted_ports(alloc, base, protos, raw.destination_ports(), near)?;
+    let ports = admitted_ports(alloc, base, protos, raw.ports(), near)?;
     Ok(TermPorts {
         sports,
         dports,

@@ -67,9 +67,9 @@ fn number_sets(
     ensures codes { IfOk result (λ s. IsSetOf (IsCode raw.now.icmp_codes) 255 s.2) }
     ensures same { known.new ≡ known.old }
 {
-    let admitted = known.protocols_of(alloc, &raw.protocols, protos)?;
-    let itypes = admitted_types(alloc, icmp_family(protos), &raw.icmp_types)?;
-    Ok((admitted, itypes, admitted_codes(alloc, &raw.icmp_codes)?))
+    let admitted = known.protocols_of(alloc, raw.protocols(), protos)?;
+    let itypes = admitted_types(alloc, icmp_family(protos), raw.icmp_types())?;
+    Ok((admitted, itypes, admitted_codes(alloc, raw.icmp_codes())?))
 }
 
 // All of these.
@@ -112,8 +112,8 @@ fn texts_of(alloc: Global, raw: &RawTerm) -> Result<(WordBytes, Bytes), Memory>
     ensures note { IfOk result (λ both. both.1 ≡ note_of raw.now.comments) }
     ensures safe { IfOk result (λ both. is_note both.1 ≡ true) }
 {
-    let name = WordBytes::from_slice(alloc, raw.name.text.as_slice())?;
-    Ok((name, note(alloc, raw.comments.as_slice())?))
+    let name = WordBytes::from_slice(alloc, raw.name().text.as_slice())?;
+    Ok((name, note(alloc, raw.comments().as_slice())?))
 }
 
 // The term with its protocols, or its first slip. It is large, so it is made where its sets are gathered.
@@ -143,7 +143,7 @@ fn term_with<'a>(
     } = numbers;
     Ok(Term {
         name,
-        place: raw.name.place,
+        place: raw.name().place,
         note,
         src4: src.v4,
         src6: src.v6,
@@ -151,21 +151,21 @@ fn term_with<'a>(
         dst6: dst.v6,
         addr4: either.v4,
         addr6: either.v6,
-        addr_named: is_written(&raw.addresses),
+        addr_named: is_written(raw.addresses()),
         protos,
         sports: ports.sports,
         dports: ports.dports,
-        dport_named: is_written(&raw.destination_ports),
+        dport_named: is_written(raw.destination_ports()),
         ports: ports.ports,
-        port_named: is_written(&raw.ports),
+        port_named: is_written(raw.ports()),
         itypes,
         icodes,
-        option: option_of(&raw.options),
-        verdict: verdict_of(raw.action.text.as_slice()),
-        log: raw.logging,
-        expires: raw.expires,
-        only: some_platforms(&raw.platforms),
-        never: platforms_of(&raw.not_platforms),
+        option: option_of(raw.options()),
+        verdict: verdict_of(raw.action().text.as_slice()),
+        log: raw.logging(),
+        expires: raw.expires(),
+        only: some_platforms(raw.platforms()),
+        never: platforms_of(raw.not_platforms()),
     })
 }
 
@@ -181,13 +181,13 @@ fn term_of<'a>(
     ensures fields { IfOk result (AreFieldsOf raw.now) }
     ensures same { known.new ≡ known.old }
 {
-    if let Some(number) = only_protocol(&raw.protocols) {
+    if let Some(number) = only_protocol(raw.protocols()) {
         return term_with(alloc, raw, &[number], known);
     }
-    if let Some(numbers) = two_protocols(&raw.protocols) {
+    if let Some(numbers) = two_protocols(raw.protocols()) {
         return term_with(alloc, raw, &numbers, known);
     }
-    let protos = protocols_of(alloc, &raw.protocols)?;
+    let protos = protocols_of(alloc, raw.protocols())?;
     term_with(alloc, raw, &protos, known)
 }
 

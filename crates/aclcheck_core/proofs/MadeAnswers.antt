@@ -29,7 +29,7 @@ use Rattle.acl_naming.specs.Definitions.{Naming}
 use Rattle.acl_options.specs.CheckCommands.{FileSection}
 use Rattle.acl_options.specs.Commands.{Inputs}
 use Rattle.acl_policy.specs.declared.blocks.Block.{Block}
-use Rattle.acl_policy.specs.declared.raw_terms.RawTerm.{RawTerm}
+use Rattle.acl_policy.specs.RawTerms.{RawTerm}
 use Rattle.acl_target.specs.declared.targets.Kind.{Kind}
 use Rattle.acl_target.specs.declared.targets.Target.{Target}
 use Rattle.acl_terms.specs.declared.terms.Term.{Term}

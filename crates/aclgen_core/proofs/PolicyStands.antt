@@ -8,7 +8,7 @@ use Rattle.std.proofs.lemmas.List.FromFn.{length-map-range_with_len}
 use Rattle.acl_packet.specs.NumberWords.{protocol_in, row_or_number}
 use Rattle.acl_target.specs.Clashes.{clash}
 use Rattle.acl_text.proofs.ListLaws.{all_append}
-use Rattle.acl_policy.specs.declared.raw_terms.RawTerm.{RawTerm}
+use Rattle.acl_policy.specs.RawTerms.{RawTerm}
 use Rattle.acl_policy.specs.Conditions.{Each, NameIsNew, StandsBehind, targets_of}
 use Rattle.policy_grammar.specs.TermTexts.{TermStands, term_meant}
 use Rattle.policy_grammar.specs.PolicyTexts.{BlockStands, HeaderItemStands, TextStands, blocks_meant}

@@ -8,7 +8,7 @@ use Rattle.acl_host.specs.declared.days.Day.{Day}
 use Rattle.acl_host.specs.Files.{File}
 use Rattle.acl_host.proofs.NamedDayLaws.{same-day}
 use Rattle.acl_policy.specs.declared.blocks.Policy.{Policy}
-use Rattle.acl_policy.specs.declared.raw_terms.RawTerm.{RawTerm}
+use Rattle.acl_policy.specs.RawTerms.{RawTerm}
 use Rattle.acl_target.specs.declared.targets.Target.{Target}
 use Rattle.acl_terms.specs.declared.terms.Term.{Term}
 use Rattle.acl_load.specs.declared.load_faults.LoadFault.{LoadFault}

@@ -1,6 +1,6 @@
 ghost use Rattle.std.specs.Prelude.{◌≡◌, ◌≤◌, List, nat_lt};
 ghost use Rattle.acl_target.specs.TargetData.{IsTarget};
-ghost use Rattle.acl_policy.specs.declared.raw_terms.RawTerm.{RawTerm};
+ghost use Rattle.acl_policy.specs.RawTerms.{RawTerm};
 ghost use Rattle.acl_terms.specs.declared.terms.Term.{Term};
 ghost use Rattle.acl_filters.specs.FilterRequests.{request_of};
 ghost use Rattle.acltool_core.specs.ListMeanings.{number_from};

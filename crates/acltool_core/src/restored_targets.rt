@@ -1,5 +1,5 @@
 ghost use Rattle.std.specs.Prelude.{◌≡◌, List};
-ghost use Rattle.acl_policy.specs.declared.raw_terms.RawTerm.{RawTerm};
+ghost use Rattle.acl_policy.specs.RawTerms.{RawTerm};
 ghost use Rattle.acl_terms.specs.declared.terms.Term.{Term};
 ghost use Rattle.acl_filters.specs.FilterRequests.{request_of};
 ghost use Rattle.gen_acltool.specs.RestoredFilters.{leaves_packets};

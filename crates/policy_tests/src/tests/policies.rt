@@ -15,29 +15,29 @@ fn add_words(all: &mut String, words: &WordList) -> Result<(), Memory> {
 }
 
 fn add_addresses(all: &mut String, term: &RawTerm) -> Result<(), Memory> {
-    add_words(all, &term.sources)?;
-    add_words(all, &term.source_excludes)?;
-    add_words(all, &term.destinations)?;
-    add_words(all, &term.destination_excludes)?;
-    add_words(all, &term.addresses)
+    add_words(all, term.sources())?;
+    add_words(all, term.source_excludes())?;
+    add_words(all, term.destinations())?;
+    add_words(all, term.destination_excludes())?;
+    add_words(all, term.addresses())
 }
 
 fn add_ports(all: &mut String, term: &RawTerm) -> Result<(), Memory> {
-    add_words(all, &term.protocols)?;
-    add_words(all, &term.source_ports)?;
-    add_words(all, &term.destination_ports)?;
-    add_words(all, &term.ports)
+    add_words(all, term.protocols())?;
+    add_words(all, term.source_ports())?;
+    add_words(all, term.destination_ports())?;
+    add_words(all, term.ports())
 }
 
 // The words of each keyword that takes a list, in the order of the fields.
 fn add_lists(all: &mut String, term: &RawTerm) -> Result<(), Memory> {
     add_addresses(all, term)?;
     add_ports(all, term)?;
-    add_words(all, &term.icmp_types)?;
-    add_words(all, &term.icmp_codes)?;
-    add_words(all, &term.options)?;
-    add_words(all, &term.platforms)?;
-    add_words(all, &term.not_platforms)
+    add_words(all, term.icmp_types())?;
+    add_words(all, term.icmp_codes())?;
+    add_words(all, term.options())?;
+    add_words(all, term.platforms())?;
+    add_words(all, term.not_platforms())
 }
 
 fn add_day(alloc: Global, all: &mut String, day: Option<Day>) -> Result<(), Memory> {
@@ -52,14 +52,14 @@ fn add_day(alloc: Global, all: &mut String, day: Option<Day>) -> Result<(), Memo
 }
 
 fn add_term(alloc: Global, all: &mut String, term: &RawTerm) -> Result<(), Memory> {
-    all.push_str(text(term.name.text.as_slice()))?;
+    all.push_str(text(term.name().text.as_slice()))?;
     all.push_str("|")?;
-    all.push_str(text(term.comments.as_slice()))?;
+    all.push_str(text(term.comments().as_slice()))?;
     all.push_str("|")?;
     add_lists(all, term)?;
-    all.push_str(text(term.action.text.as_slice()))?;
-    all.push_str(if term.logging { " true " } else { " false " })?;
-    add_day(alloc, all, term.expires)
+    all.push_str(text(term.action().text.as_slice()))?;
+    all.push_str(if term.logging() { " true " } else { " false " })?;
+    add_day(alloc, all, term.expires())
 }
 
 // The target as a report names it.

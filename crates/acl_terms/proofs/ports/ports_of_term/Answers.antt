@@ -6,14 +6,14 @@ use Rattle.acl_terms.proofs.ports.ports_of_term.Goals as goal
 pub admitted_ports-requires : goal.admitted_ports-requires
 admitted_ports-requires c =
     let raw = c.args.raw.now in
-    λ some. c.requires
-    (left-some (raw.source_ports ++ raw.destination_ports) raw.ports (left-some raw.source_ports raw.destination_ports some))
+    rw c.source_ports.ensures (λ some. c.requires
+    (left-some (raw.source_ports ++ raw.destination_ports) raw.ports (left-some raw.source_ports raw.destination_ports some)))
 
 pub admitted_ports-requires-2 : goal.admitted_ports-requires-2
 admitted_ports-requires-2 c =
     let raw = c.args.raw.now in
-    λ some. c.requires
-    (left-some (raw.source_ports ++ raw.destination_ports) raw.ports (right-some raw.source_ports raw.destination_ports some))
+    rw c.destination_ports.ensures (λ some. c.requires
+    (left-some (raw.source_ports ++ raw.destination_ports) raw.ports (right-some raw.source_ports raw.destination_ports some)))
 
 pub returns-in_err-sports-clause-judged : goal.returns-in_err-sports-clause-judged
 returns-in_err-sports-clause-judged c =

@@ -1,6 +1,8 @@
 use Rattle.std.proofs.Common.{ap, ◌∙◌}
 use Rattle.acl_policy.specs.declared.keywords.Keyword.TheVariants as keywords
-use Rattle.acl_terms.specs.Options.{verdict_of}
+use Rattle.acl_words.specs.declared.word_lists.Word.{Word}
+use Rattle.acl_terms.specs.Matching.{is_written}
+use Rattle.acl_terms.specs.Options.{option_of, verdict_of}
 use Rattle.acl_terms.specs.SetSteps.{sets_by}
 use Rattle.acl_terms.proofs.FieldLaws.{sets_are}
 use Rattle.acl_terms.proofs.SlipLaws.{none-asked}
@@ -22,8 +24,11 @@ invariant_of-result c =
       sound = sound-fields n raw (sets_by e s) c.in_ok-name.name c.in_ok-name.note
           c.is_written.result c.is_written-2.result c.is_written-3.result c.option_of.result c.verdict_of.result
           c.in_ok-name.ensures.name c.in_ok-name.ensures.note
-          c.is_written.ensures c.is_written-2.ensures c.is_written-3.ensures
-          c.option_of.ensures (c.verdict_of.ensures ∙ ap verdict_of c.as_slice.ensures)
+          (c.is_written.ensures ∙ ap is_written c.addresses.ensures)
+          (c.is_written-2.ensures ∙ ap is_written c.destination_ports.ensures)
+          (c.is_written-3.ensures ∙ ap is_written c.ports.ensures)
+          (c.option_of.ensures ∙ ap option_of c.options.ensures)
+          (c.verdict_of.ensures ∙ ap verdict_of (c.as_slice.ensures ∙ ap (λ (w : Word). w.text) c.action.ensures))
           c.requires.fits.name_is c.in_ok-name.ensures.safe (c.requires.fits.words_fit keywords.IcmpCode) clean are;
     }
 
