@@ -1,4 +1,4 @@
-ghost use Rattle.std.specs.Prelude.{◌≡◌, ◌+◌, ◌-◌, ◌≤◌, ◌^◌, min, IfOk, decimal};
+ghost use Rattle.std.specs.Prelude.{◌≡◌, ◌+◌, ◌-◌, ◌≤◌, ◌^◌, min, IfOk, None, Some, decimal, if◌then◌else◌};
 ghost use Rattle.std.specs.List.{find};
 ghost use Rattle.acl_text.specs.Refusals.{IsRefusalBy, Judges};
 ghost use Rattle.acl_sets.specs.Ranges.{holds};
@@ -80,20 +80,26 @@ fn decimal(alloc: Global, number: u8) -> Result<Bytes, Memory>
     Bytes::from_slice(alloc, buffer.format(number).as_bytes())
 }
 
-fn check_no_header(alloc: Global, term: &Term) -> Result<(), Refusal>
-    ensures { Judges result (header_at term.now (header_named term.now)) }
+// The slip at the number of an extension header, where the term has rules for IPv6 on the target.
+fn check_number(
+    alloc: Global,
+    target: &Target,
+    today: Day,
+    term: &Term,
+    number: u8,
+) -> Result<(), Refusal>
+    ensures { Judges result (if is_for_ipv6 target.now today term.now then header_at term.now (Some number) else None) }
 {
-    match header_named(term) {
-        None => Ok(()),
-        Some(number) => {
-            let word = decimal(alloc, number)?;
-            Err(Refusal::at(alloc, Code::ExtensionHeader, term.place, word.as_slice()))
-        }
+    if !is_for_ipv6(target, today, term) {
+        return Ok(());
     }
+    let word = decimal(alloc, number)?;
+    Err(Refusal::at(alloc, Code::ExtensionHeader, term.place, word.as_slice()))
 }
 
-/// Whether the term has rules for IPv6 on the target and names no extension header, else the slip at the least one.
-#[tactic(auto, unfolding(crate::specs::ExpansionSlips::header_slip))]
+/// Whether the term has rules for IPv6 on the target and names no extension header, else the slip at the least one. Few
+/// terms name one, so that is asked first.
+#[tactic(auto, using(crate::proofs::HeaderLaws::none_asked, crate::proofs::HeaderLaws::one_asked))]
 pub(crate) fn check_header(
     alloc: Global,
     target: &Target,
@@ -102,10 +108,9 @@ pub(crate) fn check_header(
 ) -> Result<(), Refusal>
     ensures { Judges result (header_slip target.now today term.now) }
 {
-    if is_for_ipv6(target, today, term) {
-        check_no_header(alloc, term)
-    } else {
-        Ok(())
+    match header_named(term) {
+        None => Ok(()),
+        Some(number) => check_number(alloc, target, today, term, number),
     }
 }
 
