@@ -106,6 +106,18 @@ fn is_written(words: &WordList) -> bool
     !words.is_empty()
 }
 
+// The note of a term with these comments. Most have none.
+#[tactic(auto, unfolding(acl_text::specs::Notes::note_of, acl_text::specs::Notes::safe_words))]
+fn note_with(alloc: Global, comments: &[u8]) -> Result<Bytes, Memory>
+    ensures exact { IfOk result (λ n. n ≡ note_of comments.now) }
+    ensures safe { IfOk result (λ n. is_note n ≡ true) }
+{
+    if comments.is_empty() {
+        return Ok(Bytes::new(alloc));
+    }
+    note(alloc, comments)
+}
+
 // Its name and its note.
 fn texts_of(alloc: Global, raw: &RawTerm) -> Result<(WordBytes, Bytes), Memory>
     ensures name { IfOk result (λ both. both.0 ≡ raw.now.name.text) }
@@ -113,7 +125,7 @@ fn texts_of(alloc: Global, raw: &RawTerm) -> Result<(WordBytes, Bytes), Memory>
     ensures safe { IfOk result (λ both. is_note both.1 ≡ true) }
 {
     let name = WordBytes::from_slice(alloc, raw.name().text.as_slice())?;
-    Ok((name, note(alloc, raw.comments().as_slice())?))
+    Ok((name, note_with(alloc, raw.comments().as_slice())?))
 }
 
 // The term with its protocols, or its first slip. It is large, so it is made where its sets are gathered.
