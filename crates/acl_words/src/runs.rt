@@ -1,7 +1,7 @@
-ghost use Rattle.std.specs.Prelude.{◌≡◌, ◌≤◌, [], ◌∷◌, true, false, length, take, option_map};
+ghost use Rattle.std.specs.Prelude.{◌≡◌, ◌≤◌, [], ◌∷◌, true, length, take, option_map};
 ghost use Rattle.std.specs.List.{list_all};
 ghost use Rattle.acl_words.specs.Bytes.{is_mark, in_run, is_printed, first_bad, ends_in_colon};
-ghost use Rattle.acl_words.specs.ReadingSteps.{begins_run, first_part, is_inner};
+ghost use Rattle.acl_words.specs.ReadingSteps.{first_part, is_inner};
 ghost use Rattle.acl_words.specs.Words.{part_word};
 
 use crate::forms::Form;
@@ -19,16 +19,6 @@ fn in_run(byte: u8) -> bool
     ensures { result ≡ in_run byte }
 {
     !(is_white(byte) || byte == b'\n') && !is_mark(byte)
-}
-
-/// Whether the text is seen at once to begin with no byte of a word.
-pub(crate) fn begins_blank(text: &[u8]) -> bool
-    ensures { result ≡ true → begins_run text.now ≡ false }
-{
-    match text {
-        [byte, ..] => *byte == b' ' || *byte == b'\n',
-        [] => true,
-    }
 }
 
 fn is_printed(byte: u8) -> bool

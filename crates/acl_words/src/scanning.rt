@@ -10,7 +10,7 @@ ghost use Rattle.acl_words.specs.Words.{Between, word};
 use crate::forms::Form;
 use crate::inner_runs::{inner_count, is_inner};
 use crate::places::Places;
-use crate::runs::{begins_blank, first_word};
+use crate::runs::first_word;
 use crate::stretches::Stretch;
 use crate::tokens::Token;
 use acl_text::{is_white, split_at_byte};
@@ -119,7 +119,8 @@ impl<'a> Scan<'a> {
         requires text { self.old.rest.now ≡ inner.now ++ next.now }
         requires inner { list_all is_inner inner.now ≡ true }
         requires ends { begins_run next.now ≡ false }
-        ensures { words_left self.old ≡ result ∷ words_left self.new }
+        ensures words { words_left self.old ≡ result ∷ words_left self.new }
+        ensures rest { self.new.rest.now ≡ next.now }
     {
         self.rest = next;
         Token::new(self.places.here(), Form::Plain, inner)
@@ -131,7 +132,8 @@ impl<'a> Scan<'a> {
     fn keyword(&mut self, inner: &'a [u8], next: &'a [u8]) -> Token<'a>
         requires text { self.old.rest.now ≡ inner.now ++ 58 ∷ 58 ∷ next.now }
         requires inner { list_all is_inner inner.now ≡ true }
-        ensures { words_left self.old ≡ result ∷ words_left self.new }
+        ensures words { words_left self.old ≡ result ∷ words_left self.new }
+        ensures rest { self.new.rest.now ≡ next.now }
     {
         let text = &self.rest[..inner.len() + 2];
         self.rest = next;
@@ -152,7 +154,9 @@ impl<'a> Scan<'a> {
         word
     }
 
-    /// The first part of a run. In most of them all bytes are inner ones, or all but a keyword's colons.
+    /// The first part of a run, and the blank behind it, where there is one.
+    ///
+    /// Of most all bytes are inner ones, or all but a keyword's colons.
     #[inline(always)]
     fn part(&mut self, byte: u8, behind: &'a [u8]) -> Token<'a>
         requires text { self.old.rest.now ≡ byte ∷ behind.now }
@@ -160,11 +164,22 @@ impl<'a> Scan<'a> {
         ensures { words_left self.old ≡ result ∷ words_left self.new }
     {
         let (inner, next) = self.rest.split_at(inner_count(self.rest));
-        if begins_blank(next) {
-            return self.plain_word(inner, next);
-        }
         match next {
-            [b':', b':', next @ ..] => self.keyword(inner, next),
+            [b' ', line @ ..] => {
+                let word = self.plain_word(inner, next);
+                self.pass_blank(b' ', line);
+                word
+            }
+            [b'\n', next_line @ ..] => {
+                let word = self.plain_word(inner, next);
+                self.pass_blank(b'\n', next_line);
+                word
+            }
+            [b':', b':', b' ', line @ ..] => {
+                let word = self.keyword(inner, &next[2..]);
+                self.pass_blank(b' ', line);
+                word
+            }
             _ => self.any_part(byte, behind, inner.len()),
         }
     }
@@ -197,9 +212,7 @@ impl<'a> Scan<'a> {
             if *byte == b' ' {
                 self.pass_blank(*byte, behind);
             } else if is_inner(*byte) {
-                let word = self.part(*byte, behind);
-                self.pass_end();
-                return Some(word);
+                return Some(self.part(*byte, behind));
             } else if is_blank(*byte) {
                 self.pass_blank(*byte, behind);
             } else if *byte == b'#' {
