@@ -59,13 +59,15 @@ fn short_inner_count(text: &[u8]) -> usize
     text.len()
 }
 
-/// How many inner bytes the text begins with.
-#[inline(always)]
-pub(crate) fn inner_count(text: &[u8]) -> usize
+// How many inner bytes the text begins with, of which so many are seen already. Apart, since most words are short.
+#[inline(never)]
+fn long_inner_count(text: &[u8], seen: usize) -> usize
+    requires within { seen ≤ length text.now }
+    requires inner { list_all is_inner (take seen text.now) ≡ true }
     ensures within { result ≤ length text.now }
     ensures inner { list_all is_inner (take result text.now) ≡ true }
 {
-    let mut from = 0;
+    let mut from = seen;
     while text.len() - from >= LANES {
         let run = inner_run(&text[from..]);
         from += run;
@@ -74,4 +76,21 @@ pub(crate) fn inner_count(text: &[u8]) -> usize
         }
     }
     from + short_inner_count(&text[from..])
+}
+
+/// How many inner bytes the text begins with.
+#[inline(always)]
+pub(crate) fn inner_count(text: &[u8]) -> usize
+    ensures within { result ≤ length text.now }
+    ensures inner { list_all is_inner (take result text.now) ≡ true }
+{
+    if text.len() < LANES {
+        return short_inner_count(text);
+    }
+    let run = inner_run(text);
+    if run < LANES {
+        run
+    } else {
+        long_inner_count(text, run)
+    }
 }

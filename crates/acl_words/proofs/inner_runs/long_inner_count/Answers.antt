@@ -1,7 +1,7 @@
 use Rattle.std.proofs.Common.{arith}
 use Rattle.acl_words.specs.ReadingSteps.{is_inner}
 use Rattle.acl_words.proofs.LaneLaws.{more_pass}
-use Rattle.acl_words.proofs.inner_runs.inner_count.Goals as goal
+use Rattle.acl_words.proofs.inner_runs.long_inner_count.Goals as goal
 
 pub returns-then-run-lt-LANES-clause-inner : goal.returns-then-run-lt-LANES-clause-inner
 returns-then-run-lt-LANES-clause-inner c =

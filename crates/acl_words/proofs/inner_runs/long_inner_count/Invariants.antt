@@ -1,7 +1,7 @@
 use Rattle.std.proofs.Common.{◌≡◌, ◌-◌, ◌≤◌, true, length, take}
 use Rattle.std.specs.List.{list_all}
 use Rattle.acl_words.specs.ReadingSteps.{is_inner}
-use Rattle.acl_words.proofs.inner_runs.inner_count.Given as goal
+use Rattle.acl_words.proofs.inner_runs.long_inner_count.Given as goal
 
 abbrev pub invariant-loop-from : goal.invariant-loop-from
 invariant-loop-from l = record {
