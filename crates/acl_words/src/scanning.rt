@@ -51,7 +51,7 @@ impl<'a> Scan<'a> {
         self.rest = behind;
     }
 
-    /// Passes the byte behind a word, where it is a space or a line feed, as most are.
+    /// Passes the byte behind a brace or a string, where it is a space or a line feed, as most are.
     #[inline(always)]
     fn pass_end(&mut self)
         ensures { words_left self.new ≡ words_left self.old }
@@ -154,9 +154,9 @@ impl<'a> Scan<'a> {
         word
     }
 
-    /// The first part of a run, and the blank behind it, where there is one.
+    /// The first part of a run. Where it is a usual word with a usual blank behind it, that is passed with it.
     ///
-    /// Of most all bytes are inner ones, or all but a keyword's colons.
+    /// Of most words all bytes are inner ones, or all but a keyword's colons.
     #[inline(always)]
     fn part(&mut self, byte: u8, behind: &'a [u8]) -> Token<'a>
         requires text { self.old.rest.now ≡ byte ∷ behind.now }
