@@ -1,4 +1,4 @@
-ghost use Rattle.std.specs.Prelude.{◌≡◌, ◌≤◌, true, false, [], ◌∷◌, ◌++◌, IfOk, map};
+ghost use Rattle.std.specs.Prelude.{◌≡◌, ◌≤◌, ◌<◌, true, false, [], ◌∷◌, ◌++◌, IfOk, length, map};
 ghost use Rattle.acl_text.specs.Cursors.{lines_of};
 ghost use Rattle.acl_words.specs.LineTexts.{HasNoFeed};
 
@@ -36,7 +36,6 @@ impl<const ROOM: usize> Model for LineWords<ROOM> {
 
 impl<const ROOM: usize> LineWords<ROOM> {
     /// No words so far. All are to stand at the place.
-    #[inline(always)]
     pub(crate) fn starting_at(place: Place) -> LineWords<ROOM>
         ensures { result ≡ [] }
     {
@@ -47,8 +46,24 @@ impl<const ROOM: usize> LineWords<ROOM> {
         }
     }
 
-    /// Adds the word at the end, where it stands at the place of the others and there is room for it.
+    /// The one word, for which there is room.
     #[inline(always)]
+    pub(crate) fn of_one(place: Place, text: &[u8]) -> LineWords<ROOM>
+        requires line { HasNoFeed text.now }
+        requires fits { length text.now < ROOM }
+        requires small { ROOM ≤ 255 }
+        ensures { result ≡ record { place = place; text = text.now } ∷ [] }
+    {
+        let mut short = ShortText::new();
+        short.push_line(text);
+        LineWords {
+            place,
+            count: 1,
+            text: short,
+        }
+    }
+
+    /// Adds the word at the end, where it stands at the place of the others and there is room for it.
     pub(crate) fn push(&mut self, place: Place, text: &[u8]) -> bool
         requires line { HasNoFeed text.now }
         requires small { ROOM ≤ 255 }

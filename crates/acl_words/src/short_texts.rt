@@ -26,7 +26,6 @@ impl<const ROOM: usize> Model for ShortText<ROOM> {
 }
 
 impl<const ROOM: usize> ShortText<ROOM> {
-    #[inline(always)]
     pub(crate) fn new() -> ShortText<ROOM>
         ensures { result ≡ [] }
     {
@@ -44,7 +43,6 @@ impl<const ROOM: usize> ShortText<ROOM> {
     }
 
     /// How many more bytes it may have.
-    #[inline(always)]
     pub(crate) fn room(&self) -> usize
         ensures { length self.now + result ≡ ROOM }
     {
@@ -52,7 +50,6 @@ impl<const ROOM: usize> ShortText<ROOM> {
     }
 
     /// Adds the bytes and a line feed behind them.
-    #[inline(always)]
     pub(crate) fn push_line(&mut self, line: &[u8])
         requires fits { length self.old + length line.now + 1 ≤ ROOM }
         requires small { ROOM ≤ 255 }

@@ -124,20 +124,17 @@ impl KeptWords {
 }
 
 // The one word of a list.
-#[inline(always)]
 fn first_word(alloc: Global, place: Place, text: &[u8]) -> Result<KeptWords, Memory>
     requires { HasNoFeed text.now }
     ensures { IfOk result (λ k. words_in k ≡ record { place = place; text = text.now } ∷ []) }
 {
-    let mut words = LineWords::starting_at(place);
-    if words.push(place, text) {
-        return Ok(KeptWords::Here(words));
+    if text.len() < FEW {
+        return Ok(KeptWords::Here(LineWords::of_one(place, text)));
     }
     in_line(alloc, &LineWords::starting_at(place), place, text)
 }
 
-// The words and one more, which have memory. Apart, since most words stand in their place.
-#[inline(never)]
+// The words and one more, which have memory.
 fn in_line(
     alloc: Global,
     words: &LineWords<FEW>,
@@ -156,8 +153,7 @@ fn in_line(
     }
 }
 
-// The words and one more, with memory for any words. Apart for the same reason.
-#[inline(never)]
+// The words and one more, with memory for any words.
 fn in_text(
     alloc: Global,
     words: &LineWords<MANY>,
