@@ -13,6 +13,8 @@ use Rattle.acl_words.specs.declared.word_lists.Word.{Word}
 use Rattle.acl_naming.specs.Definitions.{Definition, Naming}
 use Rattle.acl_naming.specs.Ports.{top_port}
 use Rattle.acl_terms.specs.declared.ends.Ends.{Ends}
+use Rattle.acl_terms.specs.declared.protocols.FewProtocols.{FewProtocols}
+use Rattle.acl_terms.specs.declared.protocols.FewProtocols.TheVariants.{One, Two}
 use Rattle.acl_terms.specs.declared.resolving.NumberSets.{NumberSets}
 use Rattle.acl_terms.specs.Matching.{Admits, IsPort, code_in, type_in}
 use Rattle.acl_terms.specs.Sets.{IsSetOf, Sets, by_field}
@@ -38,6 +40,11 @@ IsPortSet n protos t sports dports ports =
     × IsSetOf (IsPort n protos t.destination_ports) top_port dports
     × IsSetOf (IsPort n protos t.ports) top_port ports
     × (sports.ranges ≢ []) × (dports.ranges ≢ []) × (ports.ranges ≢ [])
+
+-- The numbers of a few protocols.
+abbrev pub few_numbers : FewProtocols → List ℕ
+few_numbers (One numbers) = numbers
+few_numbers (Two numbers) = numbers
 
 abbrev pub single : ℕ → Range
 single n = record { low = n; high = n }

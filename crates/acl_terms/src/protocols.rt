@@ -3,7 +3,7 @@ ghost use Rattle.acl_sets.specs.Ranges.{IsRange};
 ghost use Rattle.std.specs.List.{All};
 ghost use Rattle.acl_terms.specs.Matching.{AnyOf, IsProtocol, protocols_of, type_in, types_of};
 ghost use Rattle.acl_terms.specs.Sets.{IsSetOf};
-ghost use Rattle.acl_terms.specs.SetSteps.{IsCode, IsType, codes_of, single};
+ghost use Rattle.acl_terms.specs.SetSteps.{IsCode, IsType, codes_of, few_numbers, single};
 
 use crate::checks::type_in;
 use crate::distinct::{distinct, may_repeat};
@@ -37,32 +37,39 @@ pub(crate) fn protocols_of(alloc: Global, words: &WordList) -> Result<Vec<u8>, M
     Ok(out)
 }
 
-/// The number of the one word of `protocol::`, where there is one alone: it takes no memory.
-pub(crate) fn only_protocol(words: &WordList) -> Option<u8>
-    ensures { IfSome result (λ n. protocols_of words.now ≡ n ∷ []) }
-{
-    let mut left = words.iter();
-    let first = left.next()?;
-    if left.next().is_some() {
-        return None;
-    }
-    protocol_number(first.text())
+/// The number of one word of `protocol::`, or those of two.
+#[derive(Clone, Copy)]
+pub(crate) enum FewProtocols {
+    One([u8; 1]),
+    Two([u8; 2]),
 }
 
-/// The numbers of the two words of `protocol::`, where there are just two. They take no memory.
-pub(crate) fn two_protocols(words: &WordList) -> Option<[u8; 2]>
-    ensures { IfSome result (λ ns. protocols_of words.now ≡ ns) }
+impl FewProtocols {
+    pub(crate) fn as_slice(&self) -> &[u8]
+        ensures { result.now ≡ few_numbers self.now }
+    {
+        match self {
+            FewProtocols::One(numbers) => numbers,
+            FewProtocols::Two(numbers) => numbers,
+        }
+    }
+}
+
+/// The numbers of the words of `protocol::`, where there are one or two. They take no memory.
+pub(crate) fn few_protocols(words: &WordList) -> Option<FewProtocols>
+    ensures { IfSome result (λ few. protocols_of words.now ≡ few_numbers few) }
 {
     let mut left = words.iter();
     let first = left.next()?;
-    let second = left.next()?;
+    let number = protocol_number(first.text())?;
+    let Some(second) = left.next() else {
+        return Some(FewProtocols::One([number]));
+    };
     if left.next().is_some() {
         return None;
     }
-    Some([
-        protocol_number(first.text())?,
-        protocol_number(second.text())?,
-    ])
+    let other = protocol_number(second.text())?;
+    Some(FewProtocols::Two([number, other]))
 }
 
 /// The numbers of the words of `icmp-type::`.

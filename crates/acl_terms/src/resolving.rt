@@ -14,9 +14,7 @@ use crate::ends::{Ends, ends_of};
 use crate::known_addresses::KnownAddresses;
 use crate::living::{platforms_of, some_platforms};
 use crate::ports::TermPorts;
-use crate::protocols::{
-    admitted_codes, admitted_types, only_protocol, protocols_of, two_protocols,
-};
+use crate::protocols::{admitted_codes, admitted_types, few_protocols, protocols_of};
 use crate::terms::Term;
 use acl_naming::Checked;
 use acl_policy::{RawTerm, WordList};
@@ -193,11 +191,8 @@ fn term_of<'a>(
     ensures fields { IfOk result (AreFieldsOf raw.now) }
     ensures same { known.new ≡ known.old }
 {
-    if let Some(number) = only_protocol(raw.protocols()) {
-        return term_with(alloc, raw, &[number], known);
-    }
-    if let Some(numbers) = two_protocols(raw.protocols()) {
-        return term_with(alloc, raw, &numbers, known);
+    if let Some(few) = few_protocols(raw.protocols()) {
+        return term_with(alloc, raw, few.as_slice(), known);
     }
     let protos = protocols_of(alloc, raw.protocols())?;
     term_with(alloc, raw, &protos, known)
