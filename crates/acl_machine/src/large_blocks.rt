@@ -1,7 +1,7 @@
 use std::alloc::Global;
 
-// As much is taken and let go. What a run takes at once is mostly less.
-const LARGE: usize = 16 << 20;
+// As much is taken and let go: the terms of a policy with the most terms stand in less.
+const LARGE: usize = 512 << 10;
 
 /// Has the allocator keep the memory of large blocks that are let go, for those that come later.
 ///
