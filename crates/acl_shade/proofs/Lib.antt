@@ -7,3 +7,4 @@ pub mod BitLaws
 pub mod MarkLaws
 pub mod SiftLaws
 pub mod SeenLaws
+pub mod SizeLaws

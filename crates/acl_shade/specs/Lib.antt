@@ -5,3 +5,4 @@ pub mod ShadedPlaces
 pub mod Sifting
 pub mod Marking
 pub mod SeenNumbers
+pub mod Sizes

@@ -1,9 +1,10 @@
 ghost use Rattle.std.specs.Prelude.{◌≡◌, true, IfOk};
 ghost use Rattle.acl_shade.specs.Sifting.{NoneShades};
 
-use crate::parts::{Part, is_asked, part_of};
+use crate::parts::{PARTS, Part, is_asked, part_of};
 use crate::points::points_of;
 use crate::seen_numbers::SeenNumbers;
+use crate::sizes::none_lies_within;
 use acl_packet::Field;
 use acl_terms::Term;
 use acl_text::Memory;
@@ -24,10 +25,18 @@ fn each_has_new(alloc: Global, part: Part, terms: &[Term]) -> Result<bool, Memor
     Ok(true)
 }
 
-/// Whether the terms are told apart at once by their destination ports: each has one that no term before it has. Then none is
-/// shaded.
+/// Whether the terms are told apart at once: each has a destination port that no term before it has, or some part of no
+/// term lies within that of one before it. Then none is shaded.
 pub(crate) fn are_apart(alloc: Global, terms: &[Term]) -> Result<bool, Memory>
     ensures { IfOk result (λ apart. apart ≡ true → NoneShades terms.now) }
 {
-    each_has_new(alloc, Part::Numbered(Field::DestinationPort), terms)
+    if each_has_new(alloc, Part::Numbered(Field::DestinationPort), terms)? {
+        return Ok(true);
+    }
+    for part in PARTS {
+        if none_lies_within(alloc, part, terms)? {
+            return Ok(true);
+        }
+    }
+    Ok(false)
 }

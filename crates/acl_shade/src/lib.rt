@@ -11,6 +11,7 @@ mod points;
 mod seen_numbers;
 mod shading;
 mod sifting;
+mod sizes;
 
 pub use laws::{shaded_terms_can_go, shading_is_computed, shading_terms_stay};
 pub use places::{shaded_places, shading_term};

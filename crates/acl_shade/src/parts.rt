@@ -14,6 +14,20 @@ pub(crate) enum Part {
     Either(Family),
 }
 
+/// The parts by which terms are told apart: first those in which most differ.
+pub(crate) const PARTS: [Part; 10] = [
+    Part::Numbered(Field::DestinationPort),
+    Part::Source(Family::V4),
+    Part::Destination(Family::V4),
+    Part::Source(Family::V6),
+    Part::Destination(Family::V6),
+    Part::Either(Family::V4),
+    Part::Either(Family::V6),
+    Part::Numbered(Field::SourcePort),
+    Part::Numbered(Field::IcmpType),
+    Part::Numbered(Field::IcmpCode),
+];
+
 /// The part of the term.
 pub(crate) fn part_of(part: Part, term: &Term) -> &RangeSet
     ensures { result.now ≡ part_of part term.now }

@@ -4,10 +4,9 @@ ghost use Rattle.acl_shade.specs.ComputableShading.{shades};
 ghost use Rattle.acl_shade.specs.Sifting.{KeepsShading, KeepsWithin, LeavesShading};
 
 use crate::marks::Marks;
-use crate::parts::{Part, is_asked, part_of};
+use crate::parts::{PARTS, Part, is_asked, part_of};
 use crate::points::points_of;
 use acl_host::Day;
-use acl_packet::{Family, Field};
 use acl_target::Target;
 use acl_terms::Term;
 use acl_text::Memory;
@@ -15,20 +14,6 @@ use std::alloc::Global;
 
 // Fewer terms are compared pair by pair as quickly.
 const FEW: usize = 64;
-
-// The parts by which terms are told apart: first those in which most differ.
-const PARTS: [Part; 10] = [
-    Part::Numbered(Field::DestinationPort),
-    Part::Source(Family::V4),
-    Part::Destination(Family::V4),
-    Part::Source(Family::V6),
-    Part::Destination(Family::V6),
-    Part::Either(Family::V4),
-    Part::Either(Family::V6),
-    Part::Numbered(Field::SourcePort),
-    Part::Numbered(Field::IcmpType),
-    Part::Numbered(Field::IcmpCode),
-];
 
 // Takes from what is left for each term the earlier terms that lack a number of the part.
 fn sift(
