@@ -3,6 +3,7 @@ pub mod SetFacts
 pub mod ComputableSetLaws
 pub mod SweepFacts
 pub mod WalkFacts
+pub mod CutRuns
 pub mod TwoSets
 pub mod Powers
 pub mod AlongFacts

@@ -32,7 +32,7 @@ list_of : {a : Numbers} {l : ℕ} {xs : List Range} → record { top = l; ranges
     → xs ≡ a.ranges
 list_of e = ap (λ (s : Numbers). s.ranges) e
 
-normal_as : (l : ℕ) (v w : List Range) → v ≡ w → IsNormal 0 l w → IsNormal 0 l v
+pub normal_as : (l : ℕ) (v w : List Range) → v ≡ w → IsNormal 0 l w → IsNormal 0 l v
 normal_as l v w e n = let P : List Range → Type 0 = λ k. IsNormal 0 l k in subst P (sym e) n
 
 -- the slices that a call passes on are the lists of the two structs

@@ -94,7 +94,7 @@ united-computed top rs qs n m =
 
 -- The ranges that do not end below a number
 
-passed-normal : (g top high : ℕ) (qs : List Range) → IsNormal g top qs
+pub passed-normal : (g top high : ℕ) (qs : List Range) → IsNormal g top qs
     → IsNormal g top (passed high qs)
 passed-normal g top high [] n = tt
 passed-normal g top high (q ∷ qs) n = elim (cases_lt q.high high) [
@@ -375,7 +375,7 @@ pub number-parts : (top x : ℕ) (rs : List Range) → IsNormal 0 top rs
 number-parts top x rs n =
     IsPartitionedBy-ltb (λ (r : Range). r.high) rs x (high-rises 0 top rs n)
 
-passed-drop : (x : ℕ) (qs : List Range) (i : ℕ) → i ≤ length qs
+pub passed-drop : (x : ℕ) (qs : List Range) (i : ℕ) → i ≤ length qs
     → ((k : ℕ) (d : Range) → k < i → nat_lt (slice_index_or qs k d).high x ≡ true)
     → ((k : ℕ) (d : Range) → i ≤ k → k < length qs → nat_lt (slice_index_or qs k d).high x ≡ false)
     → passed x qs ≡ drop i qs

@@ -33,6 +33,11 @@ abbrev pub passed : ℕ → List Range → List Range
 passed high [] = []
 passed high (q ∷ qs) = if nat_lt q.high high then passed high qs else q ∷ qs
 
+-- The ranges before those: up to the first that does not end below the number.
+abbrev pub ending_below : ℕ → List Range → List Range
+ending_below low [] = []
+ending_below low (q ∷ qs) = if nat_lt q.high low then q ∷ ending_below low qs else []
+
 -- Two lists side by side: what is made of each range of the first, with the ranges of the second
 -- that do not end below it.
 abbrev pub walk : (Range → List Range → List Range) → List Range → List Range → List Range

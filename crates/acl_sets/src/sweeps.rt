@@ -1,8 +1,8 @@
-ghost use Rattle.std.specs.Prelude.{◌≡◌, ℕ, ◌++◌, IfOk, OnOk};
+ghost use Rattle.std.specs.Prelude.{◌≡◌, ℕ, ◌≤◌, ◌++◌, IfOk, OnOk, length};
 ghost use Rattle.std.specs.List.Sorted.{IsNonDecreasingBy, IsPermutation};
 ghost use Rattle.acl_sets.specs.ComputableSets.{covers};
 ghost use Rattle.acl_sets.specs.Ranges.{IsNormal, holds};
-ghost use Rattle.acl_sets.specs.SweepSteps.{merged, lower, not_lower, woven, passed, walk, shared_along, cut_along, begins_by, covered_walk};
+ghost use Rattle.acl_sets.specs.SweepSteps.{merged, lower, not_lower, woven, passed, ending_below, walk, shared_along, cut_along, begins_by, covered_walk};
 
 use crate::range_pieces::{is_before, joined, push_below, push_shared};
 use crate::sets::Range;
@@ -131,15 +131,45 @@ fn push_cut_along<'a>(
     Ok(&[])
 }
 
-/// What a list in normal form has that another has not.
+// Puts the ranges that end below the number, and gives those behind them. Most often these are many or none.
+fn push_ending_below<'a>(
+    out: &mut Vec<Range>,
+    low: u128,
+    ranges: &'a [Range],
+) -> Result<&'a [Range], Memory>
+    ensures put { OnOk result ((top : ℕ) → IsNormal 0 top ranges.now
+        → out.new.items ≡ out.old.items ++ ending_below low ranges.now) }
+    ensures rest { IfOk result (λ rest. (top : ℕ) → IsNormal 0 top ranges.now
+        → rest.now ≡ passed low ranges.now) }
+    ensures fewer { IfOk result (λ rest. length rest.now ≤ length ranges.now) }
+{
+    match ranges {
+        [first, ..] if first.high < low => {
+            let count = ranges.partition_point(|range| range.high < low);
+            out.extend_from_slice(&ranges[..count])?;
+            Ok(&ranges[count..])
+        }
+        _ => Ok(ranges),
+    }
+}
+
+/// What a list in normal form has that another has not. Where the other is short, most ranges stay as they are.
 pub fn cut(alloc: Global, ranges: &[Range], others: &[Range]) -> Result<Vec<Range>, Memory>
-    ensures { IfOk result (λ v. v.items ≡ walk (λ r qs. cut_along r qs) ranges.now others.now) }
+    ensures { IfOk result (λ v. (top most : ℕ) → IsNormal 0 top ranges.now → IsNormal 0 most others.now
+        → v.items ≡ walk (λ r qs. cut_along r qs) ranges.now others.now) }
 {
     let mut out = Vec::with_capacity(alloc, ranges.len())?;
+    let mut left = ranges;
     let mut rest = others;
-    for range in ranges {
+    while let [other, ..] = rest {
+        left = push_ending_below(&mut out, other.low, left)?;
+        let [range, behind @ ..] = left else {
+            return Ok(out);
+        };
         rest = push_cut_along(&mut out, *range, rest)?;
+        left = behind;
     }
+    out.extend_from_slice(left)?;
     Ok(out)
 }
 
