@@ -8,7 +8,7 @@ ghost use Rattle.acl_dead.specs.CutSteps.{EndsFrom, Gathers, held, held_cuts};
 ghost use Rattle.acl_dead.specs.Runs.{cuts};
 
 use crate::rows::{begins_by, passed};
-use acl_sets::{Range, RangeSet};
+use acl_sets::{RangeSet, Ranges};
 use acl_text::Memory;
 use std::alloc::Global;
 
@@ -16,56 +16,58 @@ use std::alloc::Global;
 const FEW: usize = 4096;
 
 /// Puts the number, where the ranges have it, and goes on to the ranges that do not end below it.
-fn push_held<'a>(out: &mut Vec<u128>, x: u128, own: &'a [Range]) -> Result<&'a [Range], Memory>
-    ensures put { OnOk result (out.new.items ≡ out.old.items ++ held x own.now) }
-    ensures rest { IfOk result (λ rest. rest.now ≡ passed x own.now) }
+fn push_held<'a>(out: &mut Vec<u128>, x: u128, own: Ranges<'a>) -> Result<Ranges<'a>, Memory>
+    ensures put { OnOk result (out.new.items ≡ out.old.items ++ held x own.entry) }
+    ensures rest { IfOk result (λ rest. rest ≡ passed x own.entry) }
 {
     let rest = passed(x, own);
-    if begins_by(x, rest) {
+    if begins_by(x, &rest) {
         out.push(x)?;
     }
     Ok(rest)
 }
 
-fn passed_over(high: u128, ranges: &[Range]) -> &[Range]
-    ensures { result.now ≡ passed (high + 1) ranges.now }
+fn passed_over<'a>(high: u128, ranges: Ranges<'a>) -> Ranges<'a>
+    ensures { result ≡ passed (high + 1) ranges.entry }
 {
-    for (i, range) in ranges.iter().enumerate() {
+    let mut rest = ranges;
+    while let Some((range, behind)) = rest.split_first() {
         if range.high > high {
-            return &ranges[i..];
+            return rest;
         }
+        rest = behind;
     }
-    &[]
+    rest
 }
 
 // The number behind may be past the greatest of all, and then no range ends there.
-fn begins_behind(high: u128, ranges: &[Range]) -> bool
+fn begins_behind(high: u128, ranges: &Ranges<'_>) -> bool
     requires { EndsFrom (high + 1) ranges.now }
     ensures exact { result ≡ begins_by (high + 1) ranges.now }
     ensures fits { result ≡ true → high + 1 < 2 ^ 128 }
 {
-    match ranges {
-        [first, ..] => high < first.high && first.low.saturating_sub(1) <= high,
-        [] => false,
+    match ranges.split_first() {
+        Some((first, _)) => high < first.high && first.low.saturating_sub(1) <= high,
+        None => false,
     }
 }
 
 /// The same for the number behind another one.
 #[tactic(auto, using(crate::proofs::CutFacts::passed_first))]
-fn push_next<'a>(out: &mut Vec<u128>, high: u128, own: &'a [Range]) -> Result<&'a [Range], Memory>
-    ensures put { OnOk result (out.new.items ≡ out.old.items ++ held (high + 1) own.now) }
-    ensures rest { IfOk result (λ rest. rest.now ≡ passed (high + 1) own.now) }
+fn push_next<'a>(out: &mut Vec<u128>, high: u128, own: Ranges<'a>) -> Result<Ranges<'a>, Memory>
+    ensures put { OnOk result (out.new.items ≡ out.old.items ++ held (high + 1) own.entry) }
+    ensures rest { IfOk result (λ rest. rest ≡ passed (high + 1) own.entry) }
 {
     let rest = passed_over(high, own);
-    if begins_behind(high, rest) {
+    if begins_behind(high, &rest) {
         out.push(high + 1)?;
     }
     Ok(rest)
 }
 
 /// Puts the cuts of the ranges that lie in the first ones.
-fn push_cuts(out: &mut Vec<u128>, own: &[Range], ranges: &[Range]) -> Result<(), Memory>
-    ensures { OnOk result (out.new.items ≡ out.old.items ++ held_cuts own.now ranges.now) }
+fn push_cuts(out: &mut Vec<u128>, own: Ranges<'_>, ranges: Ranges<'_>) -> Result<(), Memory>
+    ensures { OnOk result (out.new.items ≡ out.old.items ++ held_cuts own.entry ranges.entry) }
 {
     let mut rest = own;
     for range in ranges {
@@ -75,10 +77,14 @@ fn push_cuts(out: &mut Vec<u128>, own: &[Range], ranges: &[Range]) -> Result<(),
     Ok(())
 }
 
-fn low_ends(alloc: Global, ranges: &[Range]) -> Result<Vec<u128>, Memory>
-    ensures { IfOk result (λ v. v.items ≡ map (λ r. r.low) ranges.now) }
+fn low_ends(alloc: Global, ranges: Ranges<'_>) -> Result<Vec<u128>, Memory>
+    ensures { IfOk result (λ v. v.items ≡ map (λ r. r.low) ranges.entry) }
 {
-    Ok(ranges.iter().map(|range| range.low).collect(alloc)?)
+    let mut out = Vec::with_capacity(alloc, ranges.len())?;
+    for range in ranges {
+        out.push(range.low)?;
+    }
+    Ok(out)
 }
 
 fn numbers_in(alloc: Global, set: &RangeSet, numbers: &[u128]) -> Result<Vec<u128>, Memory>

@@ -7,27 +7,29 @@ ghost use Rattle.acl_dead.specs.PlaceSteps.{has, words_for};
 ghost use Rattle.acl_dead.specs.RowSteps.{PutsAlong, PutsAt};
 
 use crate::places::Places;
-use acl_sets::{Range, RangeSet};
+use acl_sets::{RangeSet, Ranges};
 use acl_text::Memory;
 use std::alloc::Global;
 
-pub(crate) fn passed(high: u128, ranges: &[Range]) -> &[Range]
-    ensures { result.now ≡ passed high ranges.now }
+pub(crate) fn passed<'a>(high: u128, ranges: Ranges<'a>) -> Ranges<'a>
+    ensures { result ≡ passed high ranges.entry }
 {
-    for (i, range) in ranges.iter().enumerate() {
+    let mut rest = ranges;
+    while let Some((range, behind)) = rest.split_first() {
         if range.high >= high {
-            return &ranges[i..];
+            return rest;
         }
+        rest = behind;
     }
-    &[]
+    rest
 }
 
-pub(crate) fn begins_by(low: u128, ranges: &[Range]) -> bool
+pub(crate) fn begins_by(low: u128, ranges: &Ranges<'_>) -> bool
     ensures { result ≡ begins_by low ranges.now }
 {
-    match ranges {
-        [first, ..] => first.low <= low,
-        [] => false,
+    match ranges.split_first() {
+        Some((first, _)) => first.low <= low,
+        None => false,
     }
 }
 
@@ -45,18 +47,18 @@ fn put_at(rows: &mut Vec<Places>, at: usize, place: usize, is_there: bool)
 }
 
 // Puts a place into the row of each value that the ranges hold.
-fn put_along(rows: &mut Vec<Places>, values: &[u128], ranges: &[Range], place: usize)
+fn put_along(rows: &mut Vec<Places>, values: &[u128], ranges: Ranges<'_>, place: usize)
     requires rising { IsStrictlyIncreasing values.now }
     requires count { length rows.old.items ≡ length values.now }
     requires room { (i : ℕ) → i < length values.now
         → place < 64 * length (slice_index_or rows.old.items i []) }
-    ensures { PutsAlong (λ x. begins_by x (passed x ranges.now)) place values.now
+    ensures { PutsAlong (λ x. begins_by x (passed x ranges.entry)) place values.now
         rows.old.items rows.new.items }
 {
     let mut rest = ranges;
     for (i, x) in values.iter().enumerate() {
         rest = passed(*x, rest);
-        put_at(rows, i, place, begins_by(*x, rest));
+        put_at(rows, i, place, begins_by(*x, &rest));
     }
 }
 

@@ -47,9 +47,10 @@ fn are_below_headers(ranges: &[Range]) -> bool
 }
 
 fn header_in(protos: &RangeSet) -> Option<u8>
+    requires { protos.now.top ≤ 65535 }
     ensures { result ≡ find (λ n. holds protos.now.ranges n) extension_headers }
 {
-    if are_below_headers(protos.ranges()) {
+    if are_below_headers(protos.range_slice()) {
         None
     } else {
         first_held(protos, &EXTENSION_HEADERS)

@@ -1,14 +1,11 @@
 -- Ranges that end below the first of those to be cut away stay as they are.
-use Rattle.std.proofs.Common.{◌≡◌, ℕ, zero, suc, ◌+◌, ◌-◌, ◌<◌, ◌≤◌, true, false, nat_lt, List, [], ◌∷◌, ◌++◌, append-nil, append_assoc, length, take, drop, slice_index_or, inl, inr, refl, ap, sym, subst, ◌∙◌, arith}
+use Rattle.std.proofs.Common.{◌≡◌, ℕ, zero, suc, ◌+◌, ◌<◌, ◌≤◌, true, false, nat_lt, List, [], ◌∷◌, ◌++◌, append-nil, append_assoc, length, take, slice_index_or, inl, inr, refl, ap, sym, subst, ◌∙◌, arith}
 use Rattle.std.proofs.lemmas.Bool.{cases_lt, lt-ltb, le-ltb}
-use Rattle.std.proofs.lemmas.List.{length-drop}
-use Rattle.std.proofs.Math.Seq.{take-length}
-use Rattle.std.specs.List.Sorted.{IsPartitionPoint}
 use Rattle.acl_sets.specs.declared.sets.Range.{Range}
 use Rattle.acl_sets.specs.Ranges.{IsNormal}
 use Rattle.acl_sets.specs.SweepSteps.{cut_along, ending_below, passed, walk}
 use Rattle.acl_sets.proofs.RangeLaws.{lower_floor}
-use Rattle.acl_sets.proofs.WalkFacts.{passed-drop, passed-normal}
+use Rattle.acl_sets.proofs.WalkFacts.{passed-normal}
 
 -- the walk of the difference
 abbrev pub cuts : List Range → List Range → List Range
@@ -53,65 +50,47 @@ cut_none (r ∷ rs) = ap (λ t. r ∷ t) (cut_none rs)
 
 -- One round of the code: the ranges that stay, then one that may not.
 
-nothing_behind : (rs : List Range) → length rs ≡ 0 → rs ≡ []
-nothing_behind [] e = refl
-nothing_behind (r ∷ rs) e = absurd (omega (arith, e))
+runs : (top end : ℕ) (left rest : List Range) (q : Range) (qs : List Range) → IsNormal 0 top left → IsNormal 0 end rest → rest ≡ q ∷ qs
+    → cuts left rest ≡ ending_below q.low left ++ cuts (passed q.low left) rest
+runs top end left rest q qs n m e =
+    let P : List Range → Type 0 = λ z. cuts left z ≡ ending_below q.low left ++ cuts (passed q.low left) z in
+    let N : List Range → Type 0 = λ z. IsNormal 0 end z in
+    subst P (sym e) (cut_runs 0 top left q qs n (subst N e m).1)
 
-pub cut_round : (out more most left passed-left rest passed-rest whole : List Range) (top end : ℕ) (d e : Range)
-    → IsNormal 0 top left → IsNormal 0 end rest → 1 ≤ length rest → 1 ≤ length passed-left
-    → more ≡ out ++ ending_below (slice_index_or rest 0 d).low left → passed-left ≡ passed (slice_index_or rest 0 d).low left
-    → most ≡ more ++ cut_along (slice_index_or passed-left 0 e) rest → passed-rest ≡ passed (slice_index_or passed-left 0 e).high rest
-    → out ++ cuts left rest ≡ whole → most ++ cuts (drop 1 passed-left) passed-rest ≡ whole
-cut_round out more most left ps [] rest whole top end d e n m some left-some a b f g w = absurd (omega (arith, some))
-cut_round out more most left [] (q ∷ qs) rest whole top end d e n m some left-some a b f g w = absurd (omega (arith, left-some))
-cut_round out more most left (p ∷ ps) (q ∷ qs) rest whole top end d e n m some left-some a b f g w =
-    ap (λ t. t ++ cuts ps rest) f ∙ ap (λ t. (more ++ cut_along p (q ∷ qs)) ++ cuts ps t) g
-    ∙ append_assoc more (cut_along p (q ∷ qs)) (cuts ps (passed p.high (q ∷ qs)))
-    ∙ ap (λ t. t ++ cuts (p ∷ ps) (q ∷ qs)) a
-    ∙ append_assoc out (ending_below q.low left) (cuts (p ∷ ps) (q ∷ qs))
-    ∙ ap (λ t. out ++ (ending_below q.low left ++ cuts t (q ∷ qs))) b
-    ∙ ap (λ t. out ++ t) (sym (cut_runs 0 top left q qs n m.1)) ∙ w
+pub cut_round : (out more most left passed-left rest behind passed-rest whole : List Range) (p q : Range) (qs : List Range) (top end : ℕ)
+    → IsNormal 0 top left → IsNormal 0 end rest → rest ≡ q ∷ qs → passed-left ≡ p ∷ behind
+    → more ≡ out ++ ending_below q.low left → passed-left ≡ passed q.low left
+    → most ≡ more ++ cut_along p rest → passed-rest ≡ passed p.high rest
+    → out ++ cuts left rest ≡ whole → most ++ cuts behind passed-rest ≡ whole
+cut_round out more most left ps rest behind passed-rest whole p q qs top end n m e d a b f g w =
+    ap (λ t. t ++ cuts behind passed-rest) f ∙ ap (λ t. (more ++ cut_along p rest) ++ cuts behind t) g
+    ∙ append_assoc more (cut_along p rest) (cuts behind (passed p.high rest))
+    ∙ ap (λ t. t ++ cuts (p ∷ behind) rest) a
+    ∙ append_assoc out (ending_below q.low left) (cuts (p ∷ behind) rest)
+    ∙ ap (λ t. out ++ (ending_below q.low left ++ cuts t rest)) (sym d ∙ b)
+    ∙ ap (λ t. out ++ t) (sym (runs top end left rest q qs n m e)) ∙ w
 
-pub cut_ended : (out more left passed-left rest whole : List Range) (top end : ℕ) (d : Range)
-    → IsNormal 0 top left → IsNormal 0 end rest → 1 ≤ length rest → length passed-left ≡ 0
-    → more ≡ out ++ ending_below (slice_index_or rest 0 d).low left → passed-left ≡ passed (slice_index_or rest 0 d).low left
+pub cut_ended : (out more left passed-left rest whole : List Range) (q : Range) (qs : List Range) (top end : ℕ)
+    → IsNormal 0 top left → IsNormal 0 end rest → rest ≡ q ∷ qs → passed-left ≡ []
+    → more ≡ out ++ ending_below q.low left → passed-left ≡ passed q.low left
     → out ++ cuts left rest ≡ whole → more ≡ whole
-cut_ended out more left ps [] whole top end d n m some none a b w = absurd (omega (arith, some))
-cut_ended out more left ps (q ∷ qs) whole top end d n m some none a b w =
+cut_ended out more left ps rest whole q qs top end n m e d a b w =
     a ∙ ap (λ t. out ++ t) (sym (append-nil (ending_below q.low left))
-    ∙ ap (λ t. ending_below q.low left ++ cuts t (q ∷ qs)) (sym (nothing_behind ps none) ∙ b)
-    ∙ sym (cut_runs 0 top left q qs n m.1)) ∙ w
+    ∙ ap (λ t. ending_below q.low left ++ cuts t rest) (sym d ∙ b)
+    ∙ sym (runs top end left rest q qs n m e)) ∙ w
 
-pub cut_rest : (out most left rest whole : List Range) → length rest ≡ 0 → most ≡ out ++ left
+pub cut_rest : (out most left rest whole : List Range) → rest ≡ [] → most ≡ out ++ left
     → out ++ cuts left rest ≡ whole → most ≡ whole
 cut_rest out most left rest whole none a w =
-    a ∙ ap (λ t. out ++ t) (sym (cut_none left) ∙ ap (λ t. cuts left t) (sym (nothing_behind rest none))) ∙ w
+    a ∙ ap (λ t. out ++ t) (sym (cut_none left) ∙ ap (λ t. cuts left t) (sym none)) ∙ w
 
-pub left_normal : (top low : ℕ) (left ps : List Range) → IsNormal 0 top left → ps ≡ passed low left → IsNormal 0 top (drop 1 ps)
-left_normal top low left ps n e =
+pub left_normal : (top low : ℕ) (left ps behind : List Range) (p : Range) → IsNormal 0 top left → ps ≡ passed low left → ps ≡ p ∷ behind
+    → IsNormal 0 top behind
+left_normal top low left ps behind p n e d =
     let P : List Range → Type 0 = λ z. IsNormal 0 top z in
-    tail ps (subst P (sym e) (passed-normal 0 top low left n))
-  where
-    tail : (ps : List Range) → IsNormal 0 top ps → IsNormal 0 top (drop 1 ps)
-    tail [] n = tt
-    tail (p ∷ ps) n = lower_floor 0 (p.high + 2) top ps (omega arith) n.3
+    lower_floor 0 (p.high + 2) top behind (omega arith) (subst P (sym e ∙ d) (passed-normal 0 top low left n)).3
 
 pub rest_normal : (top high : ℕ) (rest rs : List Range) → IsNormal 0 top rest → rs ≡ passed high rest → IsNormal 0 top rs
 rest_normal top high rest rs n e =
     let P : List Range → Type 0 = λ z. IsNormal 0 top z in
     subst P (sym e) (passed-normal 0 top high rest n)
-
--- Halving finds the ranges that end below a number, and those behind them.
-pub found_parts : (top low : ℕ) (rs : List Range) (i : ℕ) → i ≤ length rs
-    → IsPartitionPoint (λ r. nat_lt r.high low ≡ true) (λ r. nat_lt r.high low ≡ false) rs i
-    → (ending_below low rs ≡ take i rs) × (passed low rs ≡ take (length rs - i) (drop i rs))
-found_parts top low rs i l point =
-    let rest : take (length rs - i) (drop i rs) ≡ drop i rs =
-    ap (λ z. take z (drop i rs)) (sym (length-drop i rs)) ∙ take-length (drop i rs) in (
-      ending_take low rs i l (λ k z m. point.0 k z (omega arith) m) (λ k z m o. point.1 k z m o),
-      passed-drop low rs i l (λ k z m. point.0 k z (omega arith) m) (λ k z m o. point.1 k z m o) ∙ sym rest,
-    )
-
--- all but the first, as the code has them
-pub but_first : (rs : List Range) → take (length rs - 1) (drop 1 rs) ≡ drop 1 rs
-but_first rs = ap (λ z. take z (drop 1 rs)) (sym (length-drop 1 rs)) ∙ take-length (drop 1 rs)

@@ -72,9 +72,9 @@ cuts_are f rs ps n c = least_list-computed f (top_address f) rs ps n (cuts-least
 pub none_left : (f : Family) → halved_space f [] ≡ []
 none_left f = sym (cuts_are f [] [] tt refl)
 
-pub nothing_left : (f : Family) (first : ℕ) (rs : List Range) → length rs ≡ 0 → halved_space f (ranges_from first rs) ≡ []
+pub nothing_left : (f : Family) (first : ℕ) (rs : List Range) → rs ≡ [] → halved_space f (ranges_from first rs) ≡ []
 nothing_left f first [] e = none_left f
-nothing_left f first (r ∷ rs) e = absurd (omega (arith, e))
+nothing_left f first (r ∷ rs) e = absurd (omega (arith, ap (λ (z : List Range). length z) e))
 
 -- The ranges behind the first block of them.
 

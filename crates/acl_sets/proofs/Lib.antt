@@ -18,4 +18,4 @@ pub mod LeastCuts
 pub mod CutWalks
 pub mod ListedLaws
 pub mod GroupLaws
-pub mod ShortLists
+pub mod SpanLists

@@ -1,8 +1,9 @@
 -- What the calls on two sets give, from what the list functions give.
-use Rattle.std.proofs.Common.{◌≡◌, ℕ, ◌≤◌, Bool, not, true, ◌&&◌, ◌||◌, List, ap, sym, subst, ◌∙◌}
+use Rattle.std.proofs.Common.{◌≡◌, ℕ, ◌≤◌, ◌==◌, Bool, not, true, ◌&&◌, ◌||◌, List, ap, sym, subst, ◌∙◌}
 use Rattle.acl_sets.specs.declared.sets.Range.{Range}
 use Rattle.acl_sets.specs.Ranges.{holds, IsNormal, Numbers}
 use Rattle.acl_sets.specs.ComputableSets.{put_all, cut_all, shared_all, all_covered}
+use Rattle.acl_sets.specs.Spans.{short_top}
 use Rattle.acl_sets.specs.SweepSteps.{merged, woven, walk, shared_along, cut_along, covered_walk}
 use Rattle.acl_sets.proofs.WalkFacts.{united-computed, shared-computed, cut-computed, covered_walk-covered}
 use Rattle.acl_sets.proofs.RangeLaws.{are_ranges}
@@ -32,13 +33,13 @@ list_of : {a : Numbers} {l : ℕ} {xs : List Range} → record { top = l; ranges
     → xs ≡ a.ranges
 list_of e = ap (λ (s : Numbers). s.ranges) e
 
-pub normal_as : (l : ℕ) (v w : List Range) → v ≡ w → IsNormal 0 l w → IsNormal 0 l v
+normal_as : (l : ℕ) (v w : List Range) → v ≡ w → IsNormal 0 l w → IsNormal 0 l v
 normal_as l v w e n = let P : List Range → Type 0 = λ k. IsNormal 0 l k in subst P (sym e) n
 
--- the slices that a call passes on are the lists of the two structs
-pub at_lists : {X : Type 0} (f : List Range → List Range → X) → {d e xs ys : List Range} {v : X}
-    → d ≡ xs → e ≡ ys → v ≡ f e d → v ≡ f ys xs
-at_lists f {d = d} {ys = ys} p q h = h ∙ ap (λ z. f z d) q ∙ ap (λ z. f ys z) p
+-- both are held in one kind
+pub one_kind : {a b : Numbers} {l m : ℕ} {xs ys : List Range} {short also : Bool} → Two a b l m xs ys
+    → short ≡ (l == short_top) → also ≡ (m == short_top) → short ≡ also
+one_kind t k h = k ∙ ap (λ n. n == short_top) (sym (limits t)) ∙ sym h
 
 -- the lists of the two structs are those that contracts see
 pub at_sets : {X : Type 0} (f : List Range → List Range → X)

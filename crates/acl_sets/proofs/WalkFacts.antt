@@ -1,18 +1,16 @@
 -- The walks over two lists side by side give the union, the intersection and the difference, and
 -- tell a subset.
-use Rattle.std.proofs.Common.{◌≡◌, ℕ, zero, suc, ◌+◌, ◌-◌, ◌<◌, ◌≤◌, min, max, Bool, true, false, not, ◌&&◌, ◌||◌, nat_le, nat_lt, List, [], ◌∷◌, ◌++◌, length, take, drop, slice_index_or, inl, inr, refl, ap, sym, ◌∙◌, arith}
-use Rattle.std.proofs.lemmas.Bool.{cases_lt, lt-ltb, le-ltb, lt-leb, le-leb, and_left, or_from}
+use Rattle.std.proofs.Common.{◌≡◌, ℕ, zero, suc, ◌+◌, ◌-◌, ◌<◌, ◌≤◌, min, max, Bool, true, false, not, ◌&&◌, ◌||◌, nat_le, nat_lt, ◌==◌, List, [], ◌∷◌, ◌++◌, length, drop, slice_index_or, inl, inr, refl, ap, sym, ◌∙◌, arith}
+use Rattle.std.proofs.lemmas.Bool.{cases_lt, lt-ltb, le-ltb, lt-leb, le-leb, and_left, ne_eqb, or_from}
 use Rattle.std.proofs.Math.Bool.{or-false}
 use Rattle.std.proofs.lemmas.Bool.Decides.{nat_tests}
 use Rattle.std.proofs.lemmas.List.Folds.{list_any-append}
-use Rattle.std.proofs.Math.Seq.{take-length}
-use Rattle.std.proofs.lemmas.List.{length-drop}
 use Rattle.std.proofs.lemmas.List.Sorted.{IsPartitionedBy-ltb}
-use Rattle.std.specs.List.Sorted.{IsNonDecreasingBy, IsPartitionedBy, IsPartitionPoint}
+use Rattle.std.specs.List.Sorted.{IsNonDecreasingBy, IsPartitionedBy}
 use Rattle.acl_sets.specs.declared.sets.Range.{Range}
 use Rattle.acl_sets.specs.Ranges.{inside, holds, IsNormal}
 use Rattle.acl_sets.specs.ComputableSets.{below, shared, put_all, cut_all, shared_all, covers, all_covered}
-use Rattle.acl_sets.specs.SweepSteps.{merged, lower, not_lower, woven, passed, walk, shared_along, behind, cut_along, begins_by, covered_walk}
+use Rattle.acl_sets.specs.SweepSteps.{merged, lower, not_lower, woven, passed, walk, shared_along, behind, cut_along, begins_by, covers_first, covered_walk}
 use Rattle.acl_sets.proofs.RangeLaws.{ends_of, out_high, lower_floor, below_floor, at_floor}
 use Rattle.acl_sets.proofs.SetFacts.{or_group, and_out, and_in, never, normal_append, shared-inside}
 use Rattle.acl_sets.proofs.ComputableSetLaws.{union-computed, difference-computed, intersection-computed}
@@ -316,7 +314,7 @@ covers_passed from (q ∷ qs) low high l = elim (cases_lt q.high from) [
   | inr h ↦ rw (le-ltb q.high from h) refl
 ]
 
-begins_covers : (g top : ℕ) (qs : List Range) (low high : ℕ) → IsNormal g top qs → low ≤ high
+pub begins_covers : (g top : ℕ) (qs : List Range) (low high : ℕ) → IsNormal g top qs → low ≤ high
     → begins_by low (passed high qs) ≡ covers qs low high
 begins_covers g top [] low high n l = refl
 begins_covers g top (q ∷ qs) low high n l = elim (cases_lt q.high high) [
@@ -386,17 +384,6 @@ passed-drop x (q ∷ qs) (suc i) l h k =
     rw (h 0 q (omega arith)) (passed-drop x qs i (omega arith)
     (λ j d m. h (suc j) d (omega arith)) (λ j d m o. k (suc j) d (omega arith) (omega arith)))
 
-pub found-holds : (top x : ℕ) (rs : List Range) (i : ℕ) (found : Bool) → IsNormal 0 top rs
-    → i ≤ length rs
-    → IsPartitionPoint (λ r. nat_lt r.high x ≡ true) (λ r. nat_lt r.high x ≡ false) rs i
-    → found ≡ begins_by x (take (length rs - i) (drop i rs)) → found ≡ holds rs x
-found-holds top x rs i found n l point e =
-    let rest : take (length rs - i) (drop i rs) ≡ drop i rs =
-    ap (λ z. take z (drop i rs)) (sym (length-drop i rs)) ∙ take-length (drop i rs) in
-    e ∙ ap (λ z. begins_by x z) (rest ∙ sym (passed-drop x rs i l
-    (λ k z m. point.0 k z (omega arith) m) (λ k z m o. point.1 k z m o)))
-    ∙ begins_covers 0 top rs x x n (omega arith)
-
 -- All numbers up to one
 
 none_later : (floor top high : ℕ) (rs : List Range) → 0 < floor → IsNormal floor top rs → covers rs 0 high ≡ false
@@ -406,10 +393,13 @@ none_later floor top high (r ∷ rs) above n =
     (and_left (nat_le r.low 0) (nat_le high r.high) (lt-leb r.low 0 (omega arith)))
     (none_later (r.high + 2) top high rs (omega arith) n.3)
 
-pub first_tells : (top high : ℕ) (rs : List Range) (d : Range) → 0 < length rs → IsNormal 0 top rs
-    → (nat_le (slice_index_or rs 0 d).low 0 && nat_le high (slice_index_or rs 0 d).high) ≡ covers rs 0 high
-first_tells top high [] d some n = absurd (omega arith)
-first_tells top high (r ∷ rs) d some n =
-    sym (or-false (nat_le r.low 0 && nat_le high r.high))
+pub first_tells : (top high : ℕ) (rs : List Range) → IsNormal 0 top rs → covers_first high rs ≡ covers rs 0 high
+first_tells top high [] n = refl
+first_tells top high (r ∷ rs) n =
+    ap (λ b. b && nat_le high r.high) (zero_test r.low) ∙ sym (or-false (nat_le r.low 0 && nat_le high r.high))
     ∙ ap (λ b. (nat_le r.low 0 && nat_le high r.high) || b)
     (sym (none_later (r.high + 2) top high rs (omega arith) n.3))
+  where
+    zero_test : (m : ℕ) → (m == 0) ≡ nat_le m 0
+    zero_test zero = refl
+    zero_test (suc m) = ne_eqb (suc m) 0 (λ e. omega (arith, e)) ∙ sym (lt-leb (suc m) 0 (omega arith))

@@ -7,4 +7,4 @@ pub mod SweepSteps
 pub mod CutSteps
 pub mod Groups
 pub mod HeldRanges
-pub mod ShortRanges
+pub mod Spans

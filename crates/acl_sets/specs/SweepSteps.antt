@@ -1,5 +1,5 @@
 -- What the walks over lists of ranges give, step by step: for private functions alone.
-use Rattle.std.specs.Prelude.{ℕ, ◌+◌, max, Bool, true, false, ◌&&◌, nat_le, nat_lt, if◌then◌else◌, List, [], ◌∷◌, ◌++◌}
+use Rattle.std.specs.Prelude.{ℕ, ◌+◌, max, Bool, true, false, ◌&&◌, ◌==◌, nat_le, nat_lt, if◌then◌else◌, List, [], ◌∷◌, ◌++◌}
 use Rattle.acl_sets.specs.declared.sets.Range.{Range}
 use Rattle.acl_sets.specs.ComputableSets.{is_before, joined, below, shared}
 
@@ -64,6 +64,11 @@ cut_along r (q ∷ qs) =
 abbrev pub begins_by : ℕ → List Range → Bool
 begins_by low [] = false
 begins_by low (q ∷ qs) = nat_le q.low low
+
+-- The first range has all numbers up to one.
+abbrev pub covers_first : ℕ → List Range → Bool
+covers_first high [] = false
+covers_first high (q ∷ qs) = q.low == 0 && nat_le high q.high
 
 -- Each range lies in one of the others, both lists side by side.
 abbrev pub covered_walk : List Range → List Range → Bool

@@ -1,6 +1,6 @@
 ghost use Rattle.std.specs.Prelude.{◌≡◌, ◌+◌, ◌*◌, ◌^◌, ◌<◌, ◌≤◌};
 ghost use Rattle.acl_sets.specs.CutSteps.{IsLongest};
-ghost use Rattle.acl_sets.specs.ShortRanges.{short_top};
+ghost use Rattle.acl_sets.specs.Spans.{short_top};
 
 use crate::short_ranges::SHORT_TOP;
 

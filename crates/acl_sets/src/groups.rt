@@ -3,18 +3,19 @@ ghost use Rattle.acl_sets.specs.Groups.{weight_of, IsGroupEnd, group_length};
 
 use crate::sets::{Range, RangeSet};
 
-/// The end of the longest group of ranges that starts at a position and weighs at most so much.
+/// The end of the longest group of ranges of ports that starts at a position and weighs at most so much.
 ///
 /// A single number weighs 1, a longer range 2. The ranges of the group are those from the start up
 /// to, not with, the end. A group has a range, unless it starts at the end of the list.
 pub fn group_end(set: &RangeSet, from: usize, most: u8) -> usize
+    requires top { set.now.top ≤ 65535 }
     requires from { from ≤ length set.now.ranges }
     requires most { 2 ≤ most }
     ensures greatest { IsGroupEnd set.now.ranges from most result }
     ensures some { from < length set.now.ranges → from < result }
     ensures computed { result ≡ from + group_length most (drop from set.now.ranges) }
 {
-    let ranges = &set.ranges()[from..];
+    let ranges = &set.range_slice()[from..];
     from + group_length(ranges, most)
 }
 

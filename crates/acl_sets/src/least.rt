@@ -7,11 +7,13 @@ ghost use Rattle.acl_sets.specs.Ranges.{IsNormal, holds};
 ghost use Rattle.acl_sets.specs.LeastLists.{IsLeastList, IsFewest, LeastListHolds, LeastListIsFewest, OneLeastList};
 ghost use Rattle.acl_sets.specs.ComputableLeastLists.{halved_space};
 ghost use Rattle.acl_sets.specs.CutSteps.{is_whole};
+ghost use Rattle.acl_sets.specs.HeldRanges.{slice_ranges};
 
 use crate::prefixes_left::PrefixesLeft;
 use crate::range_lists::RangeList;
-use crate::sets::{Range, RangeSet, are_same};
-use crate::sweeps::has_number;
+use crate::ranges::Ranges;
+use crate::sets::RangeSet;
+use crate::slices::Slices;
 use acl_packet::Family;
 use acl_text::Memory;
 use std::marker::Model;
@@ -25,7 +27,7 @@ use std::marker::Model;
 pub struct Prefixes {
     family: Family,
     count: u64,
-    ranges: RangeList,
+    list: RangeList,
 }
 
 impl Model for Prefixes {
@@ -36,9 +38,9 @@ impl Model for Prefixes {
 
     ghost Value = { List Prefix };
 
-    ghost view = { λ l. halved_space l.family l.ranges };
+    ghost view = { λ l. halved_space l.family l.list.ranges };
 
-    ghost invariant = { λ l. IsCut l.family l.ranges l.count };
+    ghost invariant = { λ l. IsCut l.family l.list.ranges l.count };
 }
 
 /// The least list of a set of addresses of the family.
@@ -50,28 +52,28 @@ pub fn least_prefixes(set: &RangeSet, family: Family) -> Result<Prefixes, Memory
     ensures fewest { IfOk result (λ ps. IsFewest family (holds set.now.ranges) ps) }
     ensures computed { IfOk result (λ ps. ps ≡ halved_space family set.now.ranges) }
 {
-    let ranges = set.share_ranges()?;
-    let list = cut(family, ranges);
-    Ok(list)
+    let list = set.share_ranges()?;
+    let prefixes = cut(family, list);
+    Ok(prefixes)
 }
 
 // The list of the ranges.
-fn cut(family: Family, ranges: RangeList) -> Prefixes
-    requires { IsNormal 0 (top_address family) ranges }
-    ensures { result ≡ halved_space family ranges }
+fn cut(family: Family, list: RangeList) -> Prefixes
+    requires { IsNormal 0 (top_address family) list.ranges }
+    ensures { result ≡ halved_space family list.ranges }
 {
-    let count = count_of(family, ranges.as_slice());
+    let count = count_of(family, Ranges::of(list.slices()));
     Prefixes {
         family,
         count,
-        ranges,
+        list,
     }
 }
 
 // How many prefixes there are; a number that does not fit stands at the greatest one that does.
-fn count_of(family: Family, ranges: &[Range]) -> u64
-    requires { IsNormal 0 (top_address family) ranges.now }
-    ensures { result ≡ min (length (halved_space family ranges.now)) COUNT_END }
+fn count_of(family: Family, ranges: Ranges<'_>) -> u64
+    requires { IsNormal 0 (top_address family) ranges }
+    ensures { result ≡ min (length (halved_space family ranges.entry)) COUNT_END }
 {
     let mut count: u64 = 0;
     for _prefix in PrefixesLeft::of(family, ranges) {
@@ -81,20 +83,21 @@ fn count_of(family: Family, ranges: &[Range]) -> u64
 }
 
 // Whether the first of the ranges has all addresses of the family.
-fn is_whole(family: Family, ranges: &[Range]) -> bool
+fn is_whole(family: Family, ranges: &Ranges<'_>) -> bool
     ensures { result ≡ is_whole family ranges.now }
 {
-    match ranges {
-        [] => false,
-        [first, ..] => first.low == 0 && first.high == family.top_address(),
+    match ranges.split_first() {
+        None => false,
+        Some((first, _)) => first.low == 0 && first.high == family.top_address(),
     }
 }
 
 // Whether lists of these families and ranges are the same: where there are no ranges, the family does not matter.
-fn are_alike(family: Family, ranges: &[Range], other: Family, others: &[Range]) -> bool
-    ensures { IsTrue result ↔ ((ranges.now ≡ others.now) × ((family ≡ other) ⊎ (ranges.now ≡ []))) }
+fn are_alike(family: Family, ranges: Slices<'_>, other: Family, others: Slices<'_>) -> bool
+    ensures { IsTrue result ↔ ((slice_ranges ranges.entry ≡ slice_ranges others.entry)
+        × ((family ≡ other) ⊎ (slice_ranges ranges.entry ≡ []))) }
 {
-    are_same(ranges, others) && (family == other || ranges.is_empty())
+    ranges.are_same(others) && (family == other || ranges.len() == 0)
 }
 
 impl Prefixes {
@@ -105,7 +108,7 @@ impl Prefixes {
         Ok(Prefixes {
             family: self.family,
             count: self.count,
-            ranges: self.ranges.share()?,
+            list: self.list.share()?,
         })
     }
 
@@ -113,7 +116,7 @@ impl Prefixes {
     pub fn iter(&self) -> PrefixesLeft<'_>
         ensures { result ≡ self.now }
     {
-        PrefixesLeft::of(self.family, self.ranges.as_slice())
+        PrefixesLeft::of(self.family, Ranges::of(self.list.slices()))
     }
 
     /// How many prefixes there are; a number that does not fit stands at the greatest one that does.
@@ -128,7 +131,7 @@ impl Prefixes {
     pub fn has(&self, address: u128) -> bool
         ensures { result ≡ any_has self.now address }
     {
-        has_number(self.ranges.as_slice(), address)
+        self.list.slices().have_number(address)
     }
 
     /// Whether one of the prefixes is all addresses.
@@ -136,7 +139,7 @@ impl Prefixes {
     pub fn is_all(&self) -> bool
         ensures { result ≡ list_any (λ p. p.len == 0) self.now }
     {
-        is_whole(self.family, self.ranges.as_slice())
+        is_whole(self.family, &Ranges::of(self.list.slices()))
     }
 
     /// Whether both lists are the same.
@@ -145,9 +148,9 @@ impl Prefixes {
     {
         are_alike(
             self.family,
-            self.ranges.as_slice(),
+            self.list.slices(),
             other.family,
-            other.ranges.as_slice(),
+            other.list.slices(),
         )
     }
 }

@@ -5,7 +5,7 @@ ghost use Rattle.acl_sets.specs.ComputableLeastLists.{halved_space};
 ghost use Rattle.acl_sets.specs.CutSteps.{low_end, ranges_from};
 
 use crate::cuts::longest_block;
-use crate::sets::Range;
+use crate::ranges::Ranges;
 use acl_packet::{Family, Prefix};
 use std::marker::Model;
 
@@ -15,7 +15,7 @@ pub struct PrefixesLeft<'a> {
     family: Family,
     // What is left of the first range begins here.
     first: u128,
-    rest: &'a [Range],
+    rest: Ranges<'a>,
 }
 
 impl<'a> Model for PrefixesLeft<'a> {
@@ -28,9 +28,9 @@ impl<'a> Model for PrefixesLeft<'a> {
 
     ghost Value = { List Prefix };
 
-    ghost view = { λ l. halved_space l.family (ranges_from l.first l.rest.now) };
+    ghost view = { λ l. halved_space l.family (ranges_from l.first l.rest) };
 
-    ghost invariant = { λ l. IsNormal 0 (top_address l.family) (ranges_from l.first l.rest.now) };
+    ghost invariant = { λ l. IsNormal 0 (top_address l.family) (ranges_from l.first l.rest) };
 }
 
 impl<'a> PrefixesLeft<'a> {
@@ -41,7 +41,7 @@ impl<'a> PrefixesLeft<'a> {
         PrefixesLeft {
             family: self.family,
             first: self.first,
-            rest: self.rest,
+            rest: self.rest.copy(),
         }
     }
 
@@ -50,16 +50,16 @@ impl<'a> PrefixesLeft<'a> {
     pub fn none() -> PrefixesLeft<'a>
         ensures { result ≡ [] }
     {
-        PrefixesLeft::of(Family::V4, &[])
+        PrefixesLeft::of(Family::V4, Ranges::none())
     }
 
     // All prefixes of the ranges.
     #[tactic(auto, using(crate::proofs::CutWalks::from_low_end))]
-    pub(crate) fn of(family: Family, rest: &'a [Range]) -> PrefixesLeft<'a>
-        requires { IsNormal 0 (top_address family) rest.now }
-        ensures { result ≡ halved_space family rest.now }
+    pub(crate) fn of(family: Family, rest: Ranges<'a>) -> PrefixesLeft<'a>
+        requires { IsNormal 0 (top_address family) rest }
+        ensures { result ≡ halved_space family rest.entry }
     {
-        let first = low_end(rest);
+        let first = low_end(&rest);
         PrefixesLeft {
             family,
             first,
@@ -70,12 +70,12 @@ impl<'a> PrefixesLeft<'a> {
 
 // The low end of the first of the ranges.
 #[inline]
-fn low_end(ranges: &[Range]) -> u128
+fn low_end(ranges: &Ranges<'_>) -> u128
     ensures { result ≡ low_end ranges.now }
 {
-    match ranges {
-        [] => 0,
-        [range, ..] => range.low,
+    match ranges.split_first() {
+        None => 0,
+        Some((range, _)) => range.low,
     }
 }
 
@@ -98,9 +98,9 @@ impl<'a> Iterator for PrefixesLeft<'a> {
             len: self.family.width() - block.free,
         };
         let (first, rest) = if block.last == range.high {
-            (low_end(behind), behind)
+            (low_end(&behind), behind)
         } else {
-            (block.last + 1, self.rest)
+            (block.last + 1, self.rest.copy())
         };
         *self = PrefixesLeft {
             family: self.family,

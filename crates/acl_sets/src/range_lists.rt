@@ -1,8 +1,15 @@
-ghost use Rattle.std.specs.Prelude.{◌≡◌, [], ◌∷◌, IfOk, IfSome};
-ghost use Rattle.acl_sets.specs.HeldRanges.{ranges_in};
+ghost use Rattle.std.specs.Prelude.{◌≡◌, ℕ, ◌==◌, [], ◌∷◌, false, true, IfOk, IfSome, map};
+ghost use Rattle.acl_sets.specs.HeldRanges.{is_held_short, is_short_slice, ranges_in, slice_ranges};
+ghost use Rattle.acl_sets.specs.Ranges.{IsNormal, IsRange};
+ghost use Rattle.acl_sets.specs.Spans.{same, short_top, wide};
+ghost use Rattle.acl_sets.specs.SweepSteps.{merged, woven, walk, shared_along, cut_along};
 
 use crate::sets::Range;
 use crate::shared_lists::SharedList;
+use crate::short_ranges::{SHORT_TOP, short};
+use crate::slices::Slices;
+use crate::spans::ShortRange;
+use crate::sweeps;
 use acl_text::Memory;
 use std::alloc::Global;
 use std::marker::Model;
@@ -15,31 +22,30 @@ static PORTS: [Range; 1] = [Range {
     high: 65_535,
 }];
 
-static IPV4: [Range; 1] = [Range {
-    low: 0,
-    high: 0xffff_ffff,
-}];
-
 static IPV6: [Range; 1] = [Range {
     low: 0,
     high: u128::MAX,
 }];
 
 // Most sets have one range, and most of these are all numbers of a kind, which take no memory. What takes memory is shared.
+// The ranges of IPv4 addresses are held in numbers of 32 bits.
 #[derive(Drop)]
 enum Held {
     None,
     Octets,
     Ports,
-    Ipv4,
     Ipv6,
     One(Rc<[Range; 1]>),
-    Others(SharedList<Range>),
+    Many(SharedList<Range>),
+    NoShort,
+    OneShort([ShortRange; 1]),
+    ManyShort(SharedList<ShortRange>),
 }
 
 // The range, where it is all numbers of a kind.
 fn all_of_a_kind(range: Range) -> Option<Held>
-    ensures { IfSome result (λ held. ranges_in held ≡ range ∷ []) }
+    ensures list { IfSome result (λ held. ranges_in held ≡ range ∷ []) }
+    ensures kind { IfSome result (λ held. is_held_short held ≡ false) }
 {
     if range.low != 0 {
         return None;
@@ -47,25 +53,22 @@ fn all_of_a_kind(range: Range) -> Option<Held>
     match range.high {
         255 => Some(Held::Octets),
         65_535 => Some(Held::Ports),
-        0xffff_ffff => Some(Held::Ipv4),
         u128::MAX => Some(Held::Ipv6),
         _ => None,
     }
 }
 
-/// The ranges of a set. A contract sees the list.
+/// The ranges of a set. A contract sees the list, and whether they are held in numbers of 32 bits.
 pub(crate) struct RangeList {
     held: Held,
 }
 
 impl Model for RangeList {
-    ghost use Rattle.std.specs.Prelude.{List};
-    ghost use Rattle.acl_sets.specs.HeldRanges.{ranges_in};
-    ghost use Rattle.acl_sets.specs.declared.sets.Range.{Range};
+    ghost use Rattle.acl_sets.specs.HeldRanges.{Listed, is_held_short, ranges_in};
 
-    ghost Value = { List Range };
+    ghost Value = { Listed };
 
-    ghost view = { λ l. ranges_in l.held };
+    ghost view = { λ l. record { ranges = ranges_in l.held; is_short = is_held_short l.held } };
 }
 
 // Where a set is let go, that is one step, whatever it holds.
@@ -77,34 +80,61 @@ impl Drop for RangeList {
 }
 
 impl RangeList {
-    pub(crate) fn of_none() -> RangeList
-        ensures { result ≡ [] }
+    /// No ranges of a set up to the top.
+    pub(crate) fn of_none(top: u128) -> RangeList
+        ensures list { result.ranges ≡ [] }
+        ensures kind { result.is_short ≡ (top == short_top) }
     {
-        RangeList { held: Held::None }
+        let held = if top == SHORT_TOP {
+            Held::NoShort
+        } else {
+            Held::None
+        };
+        RangeList { held }
     }
 
-    pub(crate) fn of_one(alloc: Global, range: Range) -> Result<RangeList, Memory>
-        ensures { IfOk result (λ l. l ≡ range ∷ []) }
+    /// The one range of a set up to the top.
+    pub(crate) fn of_one(alloc: Global, top: u128, range: Range) -> Result<RangeList, Memory>
+        requires { IsRange top range }
+        ensures list { IfOk result (λ l. l.ranges ≡ range ∷ []) }
+        ensures kind { IfOk result (λ l. l.is_short ≡ (top == short_top)) }
     {
-        if let Some(held) = all_of_a_kind(range) {
-            return Ok(RangeList { held });
+        if top == SHORT_TOP {
+            return Ok(RangeList {
+                held: Held::OneShort([short(range)]),
+            });
         }
-        match Rc::new(alloc, [range]) {
-            Ok(one) => Ok(RangeList {
-                held: Held::One(one),
-            }),
-            Err(_) => Err(Memory),
-        }
+        one_long(alloc, range)
     }
 
-    pub(crate) fn new(alloc: Global, ranges: Vec<Range>) -> Result<RangeList, Memory>
-        ensures { IfOk result (λ l. l ≡ ranges.items) }
+    /// The ranges.
+    pub(crate) fn long(alloc: Global, ranges: Vec<Range>) -> Result<RangeList, Memory>
+        ensures list { IfOk result (λ l. l.ranges ≡ map same ranges.items) }
+        ensures kind { IfOk result (λ l. l.is_short ≡ false) }
     {
         match ranges.as_slice() {
-            [] => Ok(RangeList::of_none()),
-            [one] => RangeList::of_one(alloc, *one),
+            [] => Ok(RangeList { held: Held::None }),
+            [one] => one_long(alloc, *one),
             [..] => Ok(RangeList {
-                held: Held::Others(SharedList::new(alloc, ranges)?),
+                held: Held::Many(SharedList::new(alloc, ranges)?),
+            }),
+        }
+    }
+
+    /// The ranges, held in numbers of 32 bits.
+    pub(crate) fn short(alloc: Global, ranges: Vec<ShortRange>) -> Result<RangeList, Memory>
+        ensures list { IfOk result (λ l. l.ranges ≡ map wide ranges.items) }
+        ensures kind { IfOk result (λ l. l.is_short ≡ true) }
+    {
+        match ranges.as_slice() {
+            [] => Ok(RangeList {
+                held: Held::NoShort,
+            }),
+            [one] => Ok(RangeList {
+                held: Held::OneShort([*one]),
+            }),
+            [..] => Ok(RangeList {
+                held: Held::ManyShort(SharedList::new(alloc, ranges)?),
             }),
         }
     }
@@ -117,25 +147,99 @@ impl RangeList {
             Held::None => Held::None,
             Held::Octets => Held::Octets,
             Held::Ports => Held::Ports,
-            Held::Ipv4 => Held::Ipv4,
             Held::Ipv6 => Held::Ipv6,
             Held::One(one) => Held::One(one.clone()?),
-            Held::Others(list) => Held::Others(list.share()?),
+            Held::Many(list) => Held::Many(list.share()?),
+            Held::NoShort => Held::NoShort,
+            Held::OneShort(one) => Held::OneShort(*one),
+            Held::ManyShort(list) => Held::ManyShort(list.share()?),
         };
         Ok(RangeList { held })
     }
 
-    pub(crate) fn as_slice(&self) -> &[Range]
-        ensures { result.now ≡ self.now }
+    pub(crate) fn slices(&self) -> Slices<'_>
+        ensures list { slice_ranges result ≡ self.now.ranges }
+        ensures kind { is_short_slice result ≡ self.now.is_short }
     {
         match &self.held {
-            Held::None => &[],
-            Held::Octets => &OCTETS,
-            Held::Ports => &PORTS,
-            Held::Ipv4 => &IPV4,
-            Held::Ipv6 => &IPV6,
-            Held::One(one) => one.as_ref(),
-            Held::Others(list) => list.as_slice(),
+            Held::None => Slices::Long(&[]),
+            Held::Octets => Slices::Long(&OCTETS),
+            Held::Ports => Slices::Long(&PORTS),
+            Held::Ipv6 => Slices::Long(&IPV6),
+            Held::One(one) => Slices::Long(one.as_ref()),
+            Held::Many(list) => Slices::Long(list.as_slice()),
+            Held::NoShort => Slices::Short(&[]),
+            Held::OneShort(one) => Slices::Short(one),
+            Held::ManyShort(list) => Slices::Short(list.as_slice()),
         }
+    }
+
+    /// Those of both lists.
+    pub(crate) fn united(&self, alloc: Global, other: &RangeList) -> Result<RangeList, Memory>
+        requires { self.now.is_short ≡ other.now.is_short }
+        ensures list { IfOk result (λ l. l.ranges ≡ merged (woven self.now.ranges other.now.ranges)) }
+        ensures kind { IfOk result (λ l. l.is_short ≡ self.now.is_short) }
+    {
+        match (self.slices(), other.slices()) {
+            (Slices::Long(ranges), Slices::Long(others)) => {
+                RangeList::long(alloc, sweeps::united(alloc, ranges, others)?)
+            }
+            (Slices::Short(ranges), Slices::Short(others)) => {
+                RangeList::short(alloc, sweeps::united(alloc, ranges, others)?)
+            }
+            (_, _) => unreachable!(),
+        }
+    }
+
+    /// What both lists have in common.
+    pub(crate) fn shared(&self, alloc: Global, other: &RangeList) -> Result<RangeList, Memory>
+        requires { self.now.is_short ≡ other.now.is_short }
+        ensures list { IfOk result (λ l. l.ranges
+            ≡ walk (λ r qs. shared_along r qs) self.now.ranges other.now.ranges) }
+        ensures kind { IfOk result (λ l. l.is_short ≡ self.now.is_short) }
+    {
+        match (self.slices(), other.slices()) {
+            (Slices::Long(ranges), Slices::Long(others)) => {
+                RangeList::long(alloc, sweeps::shared(alloc, ranges, others)?)
+            }
+            (Slices::Short(ranges), Slices::Short(others)) => {
+                RangeList::short(alloc, sweeps::shared(alloc, ranges, others)?)
+            }
+            (_, _) => unreachable!(),
+        }
+    }
+
+    /// What this list has that the other has not.
+    pub(crate) fn cut(&self, alloc: Global, other: &RangeList) -> Result<RangeList, Memory>
+        requires { self.now.is_short ≡ other.now.is_short }
+        ensures list { IfOk result (λ l. (top most : ℕ) → IsNormal 0 top self.now.ranges
+            → IsNormal 0 most other.now.ranges
+            → l.ranges ≡ walk (λ r qs. cut_along r qs) self.now.ranges other.now.ranges) }
+        ensures kind { IfOk result (λ l. l.is_short ≡ self.now.is_short) }
+    {
+        match (self.slices(), other.slices()) {
+            (Slices::Long(ranges), Slices::Long(others)) => {
+                RangeList::long(alloc, sweeps::cut(alloc, ranges, others)?)
+            }
+            (Slices::Short(ranges), Slices::Short(others)) => {
+                RangeList::short(alloc, sweeps::cut(alloc, ranges, others)?)
+            }
+            (_, _) => unreachable!(),
+        }
+    }
+}
+
+fn one_long(alloc: Global, range: Range) -> Result<RangeList, Memory>
+    ensures list { IfOk result (λ l. l.ranges ≡ range ∷ []) }
+    ensures kind { IfOk result (λ l. l.is_short ≡ false) }
+{
+    if let Some(held) = all_of_a_kind(range) {
+        return Ok(RangeList { held });
+    }
+    match Rc::new(alloc, [range]) {
+        Ok(one) => Ok(RangeList {
+            held: Held::One(one),
+        }),
+        Err(_) => Err(Memory),
     }
 }

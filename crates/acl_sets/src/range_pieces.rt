@@ -1,47 +1,96 @@
-ghost use Rattle.std.specs.Prelude.{◌≡◌, ◌++◌, OnOk};
+ghost use Rattle.std.specs.Prelude.{◌≡◌, ◌++◌, min, max, OnOk, map};
 ghost use Rattle.acl_sets.specs.ComputableSets.{is_before, joined, below, shared};
 
-use crate::sets::Range;
+use crate::spans::Span;
 use acl_text::Memory;
 
 /// Whether the range ends before the other begins, with a number between them.
-pub fn is_before(range: Range, other: Range) -> bool
-    ensures { result ≡ is_before range other }
+#[inline]
+pub(crate) fn is_before<T: Span>(range: &T, other: &T) -> bool
+    ensures { result ≡ is_before (T.range range.now) (T.range other.now) }
 {
-    range.high < other.low && other.low - range.high > 1
+    range.high() < other.low() && other.low() - range.high() > 1
 }
 
-/// Two ranges that meet or touch, as one.
-pub fn joined(range: Range, other: Range) -> Range
-    ensures { result ≡ joined range other }
+// The range that begins first.
+#[inline]
+fn first_begun<T: Span>(range: &T, other: &T) -> T
+    ensures { (T.range result).low ≡ min (T.range range.now).low (T.range other.now).low }
 {
-    Range {
-        low: range.low.min(other.low),
-        high: range.high.max(other.high),
+    if range.low() <= other.low() {
+        *range
+    } else {
+        *other
     }
 }
 
-/// Puts what two ranges share.
-pub fn push_shared(out: &mut Vec<Range>, range: Range, of: Range) -> Result<(), Memory>
-    ensures { OnOk result (out.new.items ≡ out.old.items ++ shared range of) }
+// The range that begins last.
+#[inline]
+fn last_begun<T: Span>(range: &T, other: &T) -> T
+    ensures { (T.range result).low ≡ max (T.range range.now).low (T.range other.now).low }
 {
-    let low = range.low.max(of.low);
-    let high = range.high.min(of.high);
-    if low <= high {
-        out.push(Range { low, high })?;
+    if range.low() <= other.low() {
+        *other
+    } else {
+        *range
+    }
+}
+
+// The range that ends first.
+#[inline]
+fn first_ended<T: Span>(range: &T, other: &T) -> T
+    ensures { (T.range result).high ≡ min (T.range range.now).high (T.range other.now).high }
+{
+    if range.high() <= other.high() {
+        *range
+    } else {
+        *other
+    }
+}
+
+// The range that ends last.
+#[inline]
+fn last_ended<T: Span>(range: &T, other: &T) -> T
+    ensures { (T.range result).high ≡ max (T.range range.now).high (T.range other.now).high }
+{
+    if range.high() <= other.high() {
+        *other
+    } else {
+        *range
+    }
+}
+
+/// Two ranges that meet or touch, as one.
+#[inline]
+pub(crate) fn joined<T: Span>(range: &T, other: &T) -> T
+    ensures { T.range result ≡ joined (T.range range.now) (T.range other.now) }
+{
+    first_begun(range, other).to_end_of(&last_ended(range, other))
+}
+
+/// Puts what two ranges share.
+#[inline]
+pub(crate) fn push_shared<T: Span>(out: &mut Vec<T>, range: &T, of: &T) -> Result<(), Memory>
+    ensures { OnOk result (map T.range out.new.items
+        ≡ map T.range out.old.items ++ shared (T.range range.now) (T.range of.now)) }
+{
+    let begun = last_begun(range, of);
+    let ended = first_ended(range, of);
+    if begun.low() <= ended.high() {
+        out.push(begun.to_end_of(&ended))?;
     }
     Ok(())
 }
 
 /// Puts what the second range has below the first.
-pub fn push_below(out: &mut Vec<Range>, range: Range, of: Range) -> Result<(), Memory>
-    ensures { OnOk result (out.new.items ≡ out.old.items ++ below range of) }
+#[inline]
+pub(crate) fn push_below<T: Span>(out: &mut Vec<T>, range: &T, of: &T) -> Result<(), Memory>
+    ensures { OnOk result (map T.range out.new.items
+        ≡ map T.range out.old.items ++ below (T.range range.now) (T.range of.now)) }
 {
-    if of.low < range.low {
-        out.push(Range {
-            low: of.low,
-            high: of.high.min(range.low - 1),
-        })?;
+    if of.low() < range.low() {
+        let ended = first_ended(of, &of.up_to(range));
+        out.push(of.to_end_of(&ended))?;
     }
     Ok(())
 }

@@ -1,10 +1,13 @@
-ghost use Rattle.std.specs.Prelude.{◌≡◌, ℕ, ◌≤◌, ◌==◌, ◌||◌, ◌&&◌, not, nat_le, false, IsTrue, ◌↔◌, IfOk, [], ◌∷◌, length};
+ghost use Rattle.std.specs.Prelude.{◌≡◌, ℕ, ◌≤◌, ◌==◌, ◌||◌, ◌&&◌, not, nat_le, false, true, IsTrue, ◌↔◌, IfOk, [], ◌∷◌, length};
 ghost use Rattle.std.specs.List.{All};
 ghost use Rattle.acl_sets.specs.Ranges.{holds, IsRange, IsNormal, OneNormalList};
 ghost use Rattle.acl_sets.specs.ComputableSets.{put_all, cut_all, shared_all, is_all, all_covered};
+ghost use Rattle.acl_sets.specs.Spans.{short_top};
 
 use crate::range_lists::RangeList;
-use crate::short_ranges::{SHORT_TOP, short_normal};
+use crate::ranges::Ranges;
+use crate::short_ranges::{SHORT_TOP, all_short};
+use crate::slices::Slices;
 use crate::sweeps;
 use acl_text::Memory;
 use std::alloc::Global;
@@ -29,35 +32,38 @@ pub struct RangeSet {
 }
 
 impl Model for RangeSet {
-    ghost use Rattle.acl_sets.specs.Ranges.{Numbers, IsNormal};
+    ghost use Rattle.acl_sets.specs.HeldRanges.{IsKept};
+    ghost use Rattle.acl_sets.specs.Ranges.{Numbers};
 
     ghost Value = { Numbers };
 
-    ghost view = { λ s. record { top = s.limit; ranges = s.list } };
+    ghost view = { λ s. record { top = s.limit; ranges = s.list.ranges } };
 
-    ghost invariant = { λ s. IsNormal 0 s.limit s.list };
+    ghost invariant = { λ s. IsKept s.limit s.list };
 }
 
-// Whether both are the same ranges.
-pub(crate) fn are_same(ranges: &[Range], others: &[Range]) -> bool
-    ensures { IsTrue result ↔ (ranges.now ≡ others.now) }
+// The ranges in normal form, held in numbers of 32 bits. What those that came take is given back before as much is taken
+// for these.
+fn short_normal(alloc: Global, ranges: Vec<Range>) -> Result<RangeList, Memory>
+    requires { All (λ r. IsRange short_top r) ranges.items }
+    ensures list { IfOk result (λ l. l.ranges ≡ put_all ranges.items []) }
+    ensures kind { IfOk result (λ l. l.is_short ≡ true) }
 {
-    ranges == others
+    let shorts = all_short(alloc, &ranges)?;
+    drop(ranges);
+    RangeList::short(alloc, sweeps::normal(alloc, shorts)?)
 }
 
-// So few ranges are sorted by insertion, where a smaller size does not pay for its own list.
-const FEW: usize = 20;
-
-// The ranges in normal form.
-fn normal(alloc: Global, top: u128, ranges: Vec<Range>) -> Result<Vec<Range>, Memory>
+// The ranges in normal form, held as those of a set up to the top are.
+fn normal(alloc: Global, top: u128, ranges: Vec<Range>) -> Result<RangeList, Memory>
     requires { All (λ r. IsRange top r) ranges.items }
-    ensures { IfOk result (λ v. v.items ≡ put_all ranges.items []) }
+    ensures list { IfOk result (λ l. l.ranges ≡ put_all ranges.items []) }
+    ensures kind { IfOk result (λ l. l.is_short ≡ (top == short_top)) }
 {
-    if top <= SHORT_TOP && ranges.len() > FEW {
+    if top == SHORT_TOP {
         return short_normal(alloc, ranges);
     }
-    let rising = sweeps::sorted(ranges);
-    sweeps::merged(alloc, &rising)
+    RangeList::long(alloc, sweeps::normal(alloc, ranges)?)
 }
 
 impl RangeSet {
@@ -70,7 +76,7 @@ impl RangeSet {
     {
         RangeSet {
             limit: top,
-            list: RangeList::of_none(),
+            list: RangeList::of_none(top),
         }
     }
 
@@ -84,7 +90,7 @@ impl RangeSet {
         let whole = Range { low: 0, high: top };
         Ok(RangeSet {
             limit: top,
-            list: RangeList::of_one(alloc, whole)?,
+            list: RangeList::of_one(alloc, top, whole)?,
         })
     }
 
@@ -110,13 +116,12 @@ impl RangeSet {
         if let [range] = ranges.as_slice() {
             return Ok(RangeSet {
                 limit: top,
-                list: RangeList::of_one(alloc, *range)?,
+                list: RangeList::of_one(alloc, top, *range)?,
             });
         }
-        let merged = normal(alloc, top, ranges)?;
         Ok(RangeSet {
             limit: top,
-            list: RangeList::new(alloc, merged)?,
+            list: normal(alloc, top, ranges)?,
         })
     }
 
@@ -129,10 +134,9 @@ impl RangeSet {
             holds s.ranges x ≡ holds self.now.ranges x || holds other.now.ranges x) }
         ensures computed { IfOk result (λ s. s.ranges ≡ put_all other.now.ranges self.now.ranges) }
     {
-        let united = sweeps::united(alloc, self.list.as_slice(), other.list.as_slice())?;
         Ok(RangeSet {
             limit: self.limit,
-            list: RangeList::new(alloc, united)?,
+            list: self.list.united(alloc, &other.list)?,
         })
     }
 
@@ -148,10 +152,9 @@ impl RangeSet {
         if other.is_empty() {
             return self.share();
         }
-        let cut = sweeps::cut(alloc, self.list.as_slice(), other.list.as_slice())?;
         Ok(RangeSet {
             limit: self.limit,
-            list: RangeList::new(alloc, cut)?,
+            list: self.list.cut(alloc, &other.list)?,
         })
     }
 
@@ -165,10 +168,9 @@ impl RangeSet {
         ensures computed { IfOk result (λ s.
             s.ranges ≡ shared_all other.now.ranges self.now.ranges) }
     {
-        let shared = sweeps::shared(alloc, self.list.as_slice(), other.list.as_slice())?;
         Ok(RangeSet {
             limit: self.limit,
-            list: RangeList::new(alloc, shared)?,
+            list: self.list.shared(alloc, &other.list)?,
         })
     }
 
@@ -185,8 +187,8 @@ impl RangeSet {
 
     // The ranges, for one place more.
     pub(crate) fn share_ranges(&self) -> Result<RangeList, Memory>
-        ensures list { IfOk result (λ l. l ≡ self.now.ranges) }
-        ensures normal { IfOk result (λ l. IsNormal 0 self.now.top l) }
+        ensures list { IfOk result (λ l. l.ranges ≡ self.now.ranges) }
+        ensures normal { IfOk result (λ l. IsNormal 0 self.now.top l.ranges) }
     {
         self.list.share()
     }
@@ -195,7 +197,7 @@ impl RangeSet {
     pub fn contains(&self, x: u128) -> bool
         ensures { result ≡ holds self.now.ranges x }
     {
-        sweeps::has_number(self.list.as_slice(), x)
+        self.list.slices().have_number(x)
     }
 
     /// Whether each number of this set is in the other.
@@ -206,14 +208,14 @@ impl RangeSet {
             → IsTrue (holds self.now.ranges x) → IsTrue (holds other.now.ranges x)) }
         ensures computed { result ≡ all_covered self.now.ranges other.now.ranges }
     {
-        sweeps::all_covered(self.list.as_slice(), other.list.as_slice())
+        self.list.slices().are_covered(other.list.slices())
     }
 
     /// Whether both have the same ranges, and so the same numbers.
     pub fn is_same(&self, other: &RangeSet) -> bool
         ensures { IsTrue result ↔ (self.now.ranges ≡ other.now.ranges) }
     {
-        are_same(self.list.as_slice(), other.list.as_slice())
+        self.list.slices().are_same(other.list.slices())
     }
 
     /// Whether no number is in the set.
@@ -231,15 +233,27 @@ impl RangeSet {
             ↔ ((x : ℕ) → x ≤ self.now.top → IsTrue (holds self.now.ranges x)) }
         ensures computed { result ≡ is_all self.now }
     {
-        sweeps::has_all_to(self.list.as_slice(), self.limit)
+        self.list.slices().first_covers(self.limit)
     }
 
     /// The ranges of the set, in rising order, disjoint and not touching.
-    pub fn ranges(&self) -> &[Range]
+    pub fn ranges(&self) -> Ranges<'_>
+        ensures list { result ≡ self.now.ranges }
+        ensures normal { IsNormal 0 self.now.top self.now.ranges }
+    {
+        Ranges::of(self.list.slices())
+    }
+
+    /// The same ranges of a set of ports or of smaller numbers, which are held as they are.
+    pub fn range_slice(&self) -> &[Range]
+        requires { self.now.top ≤ 65535 }
         ensures list { result.now ≡ self.now.ranges }
         ensures normal { IsNormal 0 self.now.top self.now.ranges }
     {
-        self.list.as_slice()
+        match self.list.slices() {
+            Slices::Long(ranges) => ranges,
+            Slices::Short(_) => unreachable!(),
+        }
     }
 
     /// The greatest number that the set may hold.

@@ -143,19 +143,6 @@ smaller-or-same top s other normal others within =
           ]))
     ]
 
--- Each range of a list in normal form has its ends in order, up to the top.
-pub ordered-at : (f top : ℕ) (rs : List Range) (k : ℕ) (d : Range) → k < length rs → IsNormal f top rs
-    → ((get_or rs k d).low ≤ (get_or rs k d).high) × ((get_or rs k d).high ≤ top)
-ordered-at f top [] k d within normal = absurd (omega arith)
-ordered-at f top (r ∷ rs) zero d within normal = (normal.1, normal.2)
-ordered-at f top (r ∷ rs) (suc k) d within normal = ordered-at (r.high + 2) top rs k d (omega arith) normal.3
-
--- So it is for the range at a place of a set's list.
-pub ends-at : (s : Numbers) (list : List Range) (k : ℕ) → list ≡ s.ranges → IsNormal 0 s.top s.ranges → k < length list
-    → let r : Range = get_or list k (record { low = 0; high = 0 }) in (r.low ≤ r.high) × (r.high ≤ s.top)
-ends-at s list k same normal within =
-    ordered-at 0 s.top list k (record { low = 0; high = 0 }) within (subst (IsNormal 0 s.top) (sym same) normal)
-
 -- ---- terms
 
 part_top : Part → ℕ

@@ -115,7 +115,8 @@ impl Marks {
         let mut asks = is_asked;
         let mut at = 0;
         let ranges = set.ranges();
-        for range in ranges {
+        for i in 0..ranges.len() {
+            let range = ranges.at(i);
             at = start_of(&self.points, at, range.low);
             asks = self.keep(asks, at, range.high, term, left);
             at = self.mark(at, range.high, term);

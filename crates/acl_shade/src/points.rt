@@ -2,7 +2,7 @@ ghost use Rattle.std.specs.Prelude.{◌≡◌, ℕ, ◌<◌, ◌≤◌, true, If
 ghost use Rattle.std.specs.List.Sorted.{IsNonDecreasing};
 
 use crate::parts::{Part, part_of};
-use acl_sets::{Range, RangeSet};
+use acl_sets::{RangeSet, Ranges};
 use acl_terms::Term;
 use acl_text::Memory;
 use std::alloc::Global;
@@ -120,8 +120,13 @@ fn room_for(part: Part, terms: &[Term]) -> usize {
     longest.saturating_mul(2).min(all / 8)
 }
 
-fn are_single(ranges: &[Range]) -> bool {
-    ranges.iter().all(|range| range.low == range.high)
+fn are_single(ranges: Ranges<'_>) -> bool {
+    for range in ranges {
+        if range.low != range.high {
+            return false;
+        }
+    }
+    true
 }
 
 // Whether the terms' parts have single numbers alone: no number behind a range is then inside another one.

@@ -57,7 +57,8 @@ impl SeenNumbers {
         let mut has_new = false;
         let mut at = self.near;
         let ranges = set.ranges();
-        for range in ranges {
+        for i in 0..ranges.len() {
+            let range = ranges.at(i);
             at = start_of(&self.points, at, range.low);
             let (behind, is_new) = self.see(at, range.high);
             has_new |= is_new;

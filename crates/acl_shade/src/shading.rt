@@ -111,10 +111,7 @@ fn has_middle_of(other: &RangeSet, set: &RangeSet) -> bool
     if ranges.len() < LONG {
         return true;
     }
-    match ranges.get(ranges.len() / 2) {
-        None => true,
-        Some(range) => other.contains(range.low),
-    }
+    other.contains(ranges.at(ranges.len() / 2).low)
 }
 
 // Most long sets that do not lie within another have a number in their middle that the other has not.
@@ -201,8 +198,8 @@ fn protocols_within(family: Family, earlier: &Term, term: &Term) -> bool
         || !term.protos.is_all()
             && all_have_others(
                 family.foreign_number(),
-                earlier.protos.ranges(),
-                term.protos.ranges(),
+                earlier.protos.range_slice(),
+                term.protos.range_slice(),
             )
 }
 

@@ -29,8 +29,7 @@ fn measure_of(set: &RangeSet) -> Option<Measure>
     }
     let mut size: u64 = 0;
     let mut sum: u64 = 0;
-    let ranges = set.ranges();
-    for range in ranges {
+    for range in set.ranges() {
         let low = range.low as u64;
         let high = range.high as u64;
         size = size.checked_add(high - low + 1)?;

@@ -4,7 +4,7 @@ use Rattle.std.specs.List.{list_any}
 use Rattle.std.proofs.lemmas.Bool.{and_from, and_parts, or_cases, or_left, or_right, both_ways, false_from_ne_true, cases_lt}
 use Rattle.acl_packet.specs.declared.addresses.Family.{Family}
 use Rattle.acl_packet.specs.declared.addresses.Family.TheVariants.{V4, V6}
-use Rattle.acl_packet.specs.declared.packet_fields.Field.TheVariants.{SourcePort, DestinationPort}
+use Rattle.acl_packet.specs.declared.packet_fields.Field.TheVariants.{Protocol, SourcePort, DestinationPort}
 use Rattle.acl_sets.specs.declared.sets.Range.{Range}
 use Rattle.acl_sets.specs.Ranges.{Numbers, IsNormal, holds, inside}
 use Rattle.acl_sets.specs.ComputableSets.{shared_all}
@@ -143,3 +143,7 @@ sport_tops t = t.sound.tops SourcePort ∙ sym t.sound.ports_top
 
 pub dport_tops : (t : Term) → t.dports.top ≡ t.ports.top
 dport_tops t = t.sound.tops DestinationPort ∙ sym t.sound.ports_top
+
+-- protocols are small numbers
+pub protocols_small : (t : Term) → t.protos.top ≤ 65535
+protocols_small t = omega (arith, t.sound.tops Protocol)

@@ -24,7 +24,7 @@ use crate::side_sets::pairs_of;
 use crate::sides::{Side, SidePair};
 use crate::terms::Term;
 use acl_packet::Family;
-use acl_sets::{Range, RangeSet};
+use acl_sets::{Range, RangeSet, Ranges};
 
 // ---- protocols
 
@@ -45,15 +45,20 @@ fn are_just(number: u8, ranges: &[Range]) -> bool
 fn has_no_protocol(family: Family, term: &Term) -> bool
     ensures { result ≡ has_no_protocol family term.now }
 {
-    are_just(family.foreign_number(), term.protos.ranges()) && !term.protos.is_all()
+    are_just(family.foreign_number(), term.protos.range_slice()) && !term.protos.is_all()
 }
 
 // ---- what two sets share
 
-fn begins_in(set: &RangeSet, ranges: &[Range]) -> bool
-    ensures { result ≡ list_any (λ r. holds set.now.ranges r.low) ranges.now }
+fn begins_in(set: &RangeSet, ranges: Ranges<'_>) -> bool
+    ensures { result ≡ list_any (λ r. holds set.now.ranges r.low) ranges.entry }
 {
-    ranges.iter().any(|r| set.contains(r.low))
+    for range in ranges {
+        if set.contains(range.low) {
+            return true;
+        }
+    }
+    false
 }
 
 // Whether no number is in both sets. Where one is, a range of the one begins in the other; so no memory is needed.

@@ -23,6 +23,7 @@ impl RuleCount for Iptables {
     }
 }
 
+#[tactic(auto, using(acl_platform::proofs::SoundRules::source_ports_small, acl_platform::proofs::SoundRules::destination_ports_small))]
 fn combination_count(rule: &Rule) -> u64
     requires { IsSized rule.now }
     ensures { result ≡ min (combination_count rule.now) COUNT_END }

@@ -1,4 +1,4 @@
-ghost use Rattle.std.specs.Prelude.{◌≡◌, List, [], ◌∷◌, IfSome, IsTrue, flat_map, length, min};
+ghost use Rattle.std.specs.Prelude.{◌≡◌, ◌≤◌, List, [], ◌∷◌, IfSome, IsTrue, flat_map, length, min};
 ghost use Rattle.acl_text.specs.Output.{COUNT_END};
 ghost use Rattle.acl_text.specs.Puts.{Puts};
 ghost use Rattle.acl_rows.specs.Rows.{Row, text_of_rows};
@@ -28,14 +28,15 @@ pub(crate) fn put_groups<F: GroupForm, O: Out>(
     form: &F,
     out: &mut O,
 ) -> Result<(), PutFault>
-    requires { IsTrue (O.is_open out.old) }
+    requires top { set.now.top ≤ 65535 }
+    requires open { IsTrue (O.is_open out.old) }
     ensures { Puts O.Out out.old out.new
         (text_of_rows (flat_map (F.group_rows form.now) (group_choices set.now))) result }
 {
     if set.is_all() {
         return form.put_group(&[], out);
     }
-    let ranges = set.ranges();
+    let ranges = set.range_slice();
     let mut from = 0;
     while from < ranges.len() {
         let end = group_end(set, from, MOST_WEIGHT);
@@ -47,6 +48,7 @@ pub(crate) fn put_groups<F: GroupForm, O: Out>(
 
 /// The one group of ports of the set, where it has one.
 pub(crate) fn one_group(set: &RangeSet) -> Option<&[Range]>
+    requires { set.now.top ≤ 65535 }
     ensures { IfSome result (λ group. group_choices set.now ≡ group.now ∷ []) }
 {
     if set.is_all() {
@@ -58,9 +60,10 @@ pub(crate) fn one_group(set: &RangeSet) -> Option<&[Range]>
 
 // The ranges of the set, where they are one group.
 fn whole_group(set: &RangeSet) -> Option<&[Range]>
+    requires { set.now.top ≤ 65535 }
     ensures { IfSome result (λ group. groups set.now.ranges ≡ group.now ∷ []) }
 {
-    let ranges = set.ranges();
+    let ranges = set.range_slice();
     if ranges.is_empty() || group_end(set, 0, MOST_WEIGHT) < ranges.len() {
         return None;
     }
@@ -69,6 +72,7 @@ fn whole_group(set: &RangeSet) -> Option<&[Range]>
 
 /// The number of groups of ports of the set.
 pub(crate) fn count_groups(set: &RangeSet) -> u64
+    requires { set.now.top ≤ 65535 }
     ensures { result ≡ min (length (group_choices set.now)) COUNT_END }
 {
     if set.is_all() {
@@ -79,9 +83,10 @@ pub(crate) fn count_groups(set: &RangeSet) -> u64
 }
 
 fn count_each_group(set: &RangeSet) -> u64
+    requires { set.now.top ≤ 65535 }
     ensures { result ≡ min (length (groups set.now.ranges)) COUNT_END }
 {
-    let most = set.ranges().len();
+    let most = set.range_slice().len();
     let mut count: u64 = 0;
     let mut from = 0;
     while from < most {

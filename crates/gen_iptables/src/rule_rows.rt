@@ -190,6 +190,7 @@ struct Tail<'a> {
 }
 
 // The tail of all rules of the chain, where they have the same and none of them logs.
+#[tactic(auto, using(acl_platform::proofs::SoundRules::source_ports_small, acl_platform::proofs::SoundRules::destination_ports_small))]
 fn one_tail(rule: &Rule) -> Option<Tail<'_>>
     requires { IsSized rule.now }
     ensures { IfSome result (λ tail. IsOnlyTail tail rule.now) }

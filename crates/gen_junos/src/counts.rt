@@ -45,7 +45,9 @@ fn number_count(rule: &Rule) -> u64
     protocols.saturating_add(types).saturating_add(codes)
 }
 
+#[tactic(auto, using(acl_platform::proofs::SoundRules::source_ports_small, acl_platform::proofs::SoundRules::destination_ports_small))]
 fn port_count(rule: &Rule) -> u64
+    requires { IsSized rule.now }
     ensures { result ≡ min (length (port_elements rule.now.sports)
         + length (port_elements rule.now.dports)) COUNT_END }
 {

@@ -20,7 +20,7 @@ impl RuleCount for Nftables {
 }
 
 // The rule is as great for each of its protocols.
-#[tactic(auto, using(acl_platform::proofs::SoundRules::types_small, acl_platform::proofs::SoundRules::codes_small))]
+#[tactic(auto, using(acl_platform::proofs::SoundRules::source_ports_small, acl_platform::proofs::SoundRules::destination_ports_small, acl_platform::proofs::SoundRules::types_small, acl_platform::proofs::SoundRules::codes_small))]
 fn rule_size(rule: &Rule) -> u64
     requires { IsSized rule.now }
     ensures { result ≡ min (rule_size (chain_rule rule.now None)) COUNT_END }

@@ -1,4 +1,4 @@
-ghost use Rattle.std.specs.Prelude.{map};
+ghost use Rattle.std.specs.Prelude.{◌≤◌, map};
 ghost use Rattle.acl_text.specs.AddressTexts.{prefix_text};
 ghost use Rattle.nft_lang.specs.SetKeys.{key_front, key_word};
 ghost use Rattle.nft_lang.specs.Texts.{ports_word, set_words};
@@ -37,6 +37,7 @@ impl<'a> Words for AddressSet<'a> {
 pub(crate) struct PortSet<'a> {
     pub(crate) key: SetKey,
     pub(crate) set: &'a RangeSet,
+    pub(crate) ghost small: { set.now.top ≤ 65535 },
 }
 
 impl<'a> Words for PortSet<'a> {

@@ -5,6 +5,7 @@ mod lines;
 mod loads;
 mod naming;
 mod policies;
+mod range_lists;
 mod reading;
 mod reports;
 mod shades;

@@ -10,7 +10,13 @@ use std::alloc::Global;
 
 /// Whether the set has just these ranges.
 fn is(set: &RangeSet, ranges: &[Range]) -> bool {
-    set.ranges() == ranges
+    let mut left = set.ranges();
+    for range in ranges {
+        if left.next() != Some(*range) {
+            return false;
+        }
+    }
+    left.next().is_none()
 }
 
 /// The ports from one to another.
@@ -43,7 +49,9 @@ static SIXTEEN: [Range; 16] = [
 ];
 
 /// Whether the set of sixteen ranges has a group of fourteen and one of two.
-fn is_grouped(set: &RangeSet) -> bool {
+fn is_grouped(set: &RangeSet) -> bool
+    requires { set.now.top ≤ 65535 }
+{
     let from = set.ranges().len().min(14);
     set.ranges().len() == 16 && group_end(set, 0, 15) == 14 && group_end(set, from, 15) == 16
 }

@@ -1,4 +1,5 @@
 use crate::tests::loads::loaded_of;
+use crate::tests::range_lists::has_just;
 use acl_load::Loaded;
 use acl_sets::Range;
 use acl_terms::Term;
@@ -113,15 +114,15 @@ static SIX: [Range; 1] = [Range {
 }];
 
 fn comes_from(term: &Term, v4: &[Range]) -> bool {
-    term.src4.ranges() == v4 && term.src6.ranges() == SIX.as_slice() && term.dst4.is_all()
+    has_just(&term.src4, v4) && has_just(&term.src6, &SIX) && term.dst4.is_all()
 }
 
 fn goes_to(term: &Term, v4: &[Range]) -> bool {
-    term.dst4.ranges() == v4 && term.dst6.ranges() == SIX.as_slice() && term.src4.is_all()
+    has_just(&term.dst4, v4) && has_just(&term.dst6, &SIX) && term.src4.is_all()
 }
 
 fn has_either(term: &Term, v4: &[Range]) -> bool {
-    term.addr4.ranges() == v4 && term.addr6.ranges() == SIX.as_slice() && term.src4.is_all()
+    has_just(&term.addr4, v4) && has_just(&term.addr6, &SIX) && term.src4.is_all()
 }
 
 fn are_first(terms: &[Term]) -> bool {

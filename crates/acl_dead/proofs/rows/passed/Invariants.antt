@@ -1,6 +1,9 @@
-use Rattle.std.proofs.Common.{◌≡◌, drop}
+use Rattle.std.proofs.Common.{◌≡◌, length}
 use Rattle.acl_sets.specs.SweepSteps.{passed}
 use Rattle.acl_dead.proofs.rows.passed.Given as goal
 
-abbrev pub invariant-loop-i : goal.invariant-loop-i
-invariant-loop-i l = passed l.high (drop l.i l.ranges) ≡ passed l.high l.ranges
+abbrev pub invariant-loop-range : goal.invariant-loop-range
+invariant-loop-range l = passed l.high l.rest ≡ passed l.high l.fn.ranges
+
+abbrev pub decreases-loop-range : goal.decreases-loop-range
+decreases-loop-range l = length l.rest

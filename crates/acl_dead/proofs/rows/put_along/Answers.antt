@@ -15,7 +15,7 @@ pub loop-i-preserved : goal.loop-i-preserved
 loop-i-preserved c =
     let i = c.loop-i.i in
     let xs = c.args.values.now in
-    let rs = c.args.ranges.now in
+    let rs = c.args.ranges in
     let place = c.args.place in
     let old = c.args.rows.now.items in
     let x = get_or xs i 0 in
@@ -33,13 +33,13 @@ loop-i-preserved c =
           ∙ ap (λ t. t || has (get_or old k []) b)
           (test_more test (eqb b place && c.begins_by.result) k i (ap (λ t. eqb b place && t) yes));
       passed_by = λ k le lt. ap (λ q. passed (get_or xs k 0) q) rest
-          ∙ sweep_more rs c.loop-i.rest.now xs i c.requires.rising c.loop-i-test.true c.loop-i.invariant.passed_by k le lt;
+          ∙ sweep_more rs c.loop-i.rest xs i c.requires.rising c.loop-i-test.true c.loop-i.invariant.passed_by k le lt;
     }
 
 pub returns : goal.returns
 returns c =
     let xs = c.args.values.now in
-    let rs = c.args.ranges.now in
+    let rs = c.args.ranges in
     record {
       count = c.loop-i.invariant.count;
       lengths = c.loop-i.invariant.lengths;

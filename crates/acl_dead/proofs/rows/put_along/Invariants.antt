@@ -8,8 +8,8 @@ invariant-loop-i l = record {
   count : length l.rows.items ≡ length l.fn.rows.items;
   lengths : (k : ℕ) → length (get_or l.rows.items k []) ≡ length (get_or l.fn.rows.items k []);
   places : (k b : ℕ) → k < length l.values → has (get_or l.rows.items k []) b
-      ≡ ((nat_lt k l.i && (eqb b l.place && begins_by (get_or l.values k 0) (passed (get_or l.values k 0) l.ranges)))
+      ≡ ((nat_lt k l.i && (eqb b l.place && begins_by (get_or l.values k 0) (passed (get_or l.values k 0) l.fn.ranges)))
       || has (get_or l.fn.rows.items k []) b);
   passed_by : (k : ℕ) → l.i ≤ k → k < length l.values
-      → passed (get_or l.values k 0) l.rest ≡ passed (get_or l.values k 0) l.ranges;
+      → passed (get_or l.values k 0) l.rest ≡ passed (get_or l.values k 0) l.fn.ranges;
 }

@@ -7,5 +7,5 @@ abbrev pub invariant-loop-prefix : goal.invariant-loop-prefix
 invariant-loop-prefix l = record {
   fits : l.count ≤ COUNT_END;
   counted : min (l.count + length l._prefix-iterator) COUNT_END
-      ≡ min (length (halved_space l.fn.family l.ranges)) COUNT_END;
+      ≡ min (length (halved_space l.fn.family l.fn.ranges)) COUNT_END;
 }

@@ -12,11 +12,11 @@ pub returns : goal.returns
 returns c =
     let f = c.args.family in
     let set = c.args.set.now in
-    let ps = c.cut-list.result in
+    let ps = c.cut-prefixes.result in
     let is : ps ≡ halved_space f set.ranges =
-    c.cut-list.ensures ∙ ap (halved_space f) c.in_ok-ranges.ensures.list in
+    c.cut-prefixes.ensures ∙ ap (halved_space f) c.in_ok-list.ensures.list in
     let N : List Range → Type 0 = λ z. IsNormal 0 set.top z in
-    let normal = subst N c.in_ok-ranges.ensures.list c.in_ok-ranges.ensures.normal in
+    let normal = subst N c.in_ok-list.ensures.list c.in_ok-list.ensures.normal in
     let P : List Prefix → Type 0 = λ z. IsLeastList f (λ a. holds set.ranges a) z in
     let least = subst P (sym is) (halved_space-least f set.top set.ranges normal) in
     let addresses = normal-addresses f set.top set.ranges normal c.requires in

@@ -1,19 +1,16 @@
-use Rattle.std.proofs.Common.{arith}
-use Rattle.std.proofs.lemmas.List.Elements.{All-weaker}
+use Rattle.std.proofs.Common.{List, [], ap, sym, subst, ◌∙◌}
 use Rattle.std.proofs.lemmas.Result.{IfOk-weaker}
+use Rattle.std.specs.List.{All}
 use Rattle.acl_sets.specs.declared.sets.Range.{Range}
+use Rattle.acl_sets.specs.ComputableSets.{put_all}
 use Rattle.acl_sets.specs.Ranges.{IsRange}
-use Rattle.acl_sets.specs.ShortRanges.{short_top}
-use Rattle.acl_sets.proofs.SweepFacts.{merged-computed}
+use Rattle.acl_sets.proofs.SpanLists.{map_same}
 use Rattle.acl_sets.proofs.sets.normal.Goals as goal
 
-pub short_normal-requires : goal.short_normal-requires
-short_normal-requires c =
-    All-weaker (λ (r : Range). IsRange c.args.top r) (λ (r : Range). IsRange short_top r) (λ r h. omega (arith, h)) c.args.ranges.items c.requires
-
-pub returns : goal.returns
-returns c =
-    IfOk-weaker c.merged.result _ _
-    (λ v merged. merged-computed c.args.top c.args.ranges.items _ _ v.items c.requires c.sorted-rising.ensures.same
-    c.sorted-rising.ensures.rising c.deref.ensures.value merged)
-    c.merged.ensures
+pub returns-clause-list : goal.returns-clause-list
+returns-clause-list c =
+    let rs = c.args.ranges.items in
+    let A : List Range → Type 0 = λ z. All (λ r. IsRange c.args.top r) z in
+    IfOk-weaker c.long.result _ _
+    (λ l h. h ∙ c.in_ok-normal.ensures c.args.top (subst A (sym (map_same rs)) c.requires) ∙ ap (λ z. put_all z []) (map_same rs))
+    c.long.ensures.list

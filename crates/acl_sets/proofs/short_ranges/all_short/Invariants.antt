@@ -1,5 +1,5 @@
 use Rattle.std.proofs.Common.{◌≡◌, ◌++◌, drop, map}
-use Rattle.acl_sets.specs.ShortRanges.{wide}
+use Rattle.acl_sets.specs.Spans.{wide}
 use Rattle.acl_sets.proofs.short_ranges.all_short.Given as goal
 
 abbrev pub invariant-loop-range : goal.invariant-loop-range

@@ -7,7 +7,7 @@ pub loop-from-preserved : goal.loop-from-preserved
 loop-from-preserved c =
     let from = c.loop-from.from in
     let P : List Range → Type 0 = λ rs. from < length rs in
-    let inside = subst P c.ranges-most.ensures.list c.loop-from-test.true in
+    let inside = subst P c.range_slice-most.ensures.list c.loop-from-test.true in
     let plus = c.saturating_add-count.ensures in
     record {
       within = c.group_end-from.ensures.greatest.within;
@@ -20,7 +20,7 @@ pub returns : goal.returns
 returns c =
     let from = c.loop-from.from in
     let P : List Range → Type 0 = λ rs. length rs ≤ from in
-    let none = none-left c.args.set.now.ranges from (subst P c.ranges-most.ensures.list c.loop-from-test.false) in
+    let none = none-left c.args.set.now.ranges from (subst P c.range_slice-most.ensures.list c.loop-from-test.false) in
     let fits = c.loop-from.invariant.fits in
     let whole = c.loop-from.invariant.whole in
     omega (arith, none, fits, whole)

@@ -9,7 +9,7 @@ use Rattle.gen_iptables.proofs.GroupSteps.{group-text, listed, more-text, no-gro
 use Rattle.gen_iptables.proofs.groups.put_groups.Goals as goal
 
 pub loop-from-init : goal.loop-from-init
-loop-from-init g c = (omega arith, ([], (refl, puts-nothing c.args.out.now g.met.O.Out.rest_same c.requires)))
+loop-from-init g c = (omega arith, ([], (refl, puts-nothing c.args.out.now g.met.O.Out.rest_same c.requires.open)))
 
 pub returns-in_err-put_group : goal.returns-in_err-put_group
 returns-in_err-put_group g c =
@@ -19,9 +19,9 @@ returns-in_err-put_group g c =
     let end = c.group_end-end.result in
     let front = c.loop-from.invariant.1.0 in
     let later = groups (drop end rs) in
-    let here = retold (group-text f c.ranges-ranges.result.now rs from end c.ranges-ranges.ensures.list c.group_end-end.ensures.computed) c.in_err-put_group.ensures in
+    let here = retold (group-text f c.range_slice-ranges.result.now rs from end c.range_slice-ranges.ensures.list c.group_end-end.ensures.computed) c.in_err-put_group.ensures in
     let whole = whole-text f front (first_group (drop from rs)) later
-    (one-further front c.ranges-ranges.result.now rs from end c.ranges-ranges.ensures.list c.loop-from-test.true c.group_end-end.ensures.computed c.loop-from.invariant.1.1.0
+    (one-further front c.range_slice-ranges.result.now rs from end c.range_slice-ranges.ensures.list c.loop-from-test.true c.group_end-end.ensures.computed c.loop-from.invariant.1.1.0
     ∙ listed c.args.set.now c.is_all.ensures.computed c.if-is_all.false) in
     refused (text_of_rows (flat_map f later)) c.from_residual.result whole g.met.O.Out.rest_goes_on c.loop-from.invariant.1.1.1 here
     c.from_residual.ensures.1
@@ -32,7 +32,7 @@ loop-from-preserved g c =
     let rs = c.args.set.now.ranges in
     let at = c.loop-from in
     let group = first_group (drop at.from rs) in
-    let ranges = c.ranges-ranges in
+    let ranges = c.range_slice-ranges in
     let end = c.group_end-end in
     let here = retold (group-text f ranges.result.now rs at.from end.result ranges.ensures.list end.ensures.computed) c.in_ok-put_group.ensures in (
       end.ensures.greatest.within,
@@ -52,7 +52,7 @@ returns g c =
     let from = c.loop-from.from in
     let front = c.loop-from.invariant.1.0 in
     let P : List Range → Type 0 = λ l. length l ≤ from in
-    let none = no-groups rs from (subst P c.ranges-ranges.ensures.list c.loop-from-test.false) in
+    let none = no-groups rs from (subst P c.range_slice-ranges.ensures.list c.loop-from-test.false) in
     let all = sym (append-nil front) ∙ ap (λ t. front ++ t) (sym none) ∙ c.loop-from.invariant.1.1.0
     ∙ listed c.args.set.now c.is_all.ensures.computed c.if-is_all.false in
     retold (ap (λ gs. text_of_rows (flat_map f gs)) all) c.loop-from.invariant.1.1.1

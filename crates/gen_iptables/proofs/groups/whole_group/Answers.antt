@@ -5,7 +5,7 @@ use Rattle.gen_iptables.proofs.groups.whole_group.Goals as goal
 
 pub returns : goal.returns
 returns c =
-    let own = c.ranges-ranges.ensures.list in
+    let own = c.range_slice-ranges.ensures.list in
     let rs = c.args.set.now.ranges in
     let Some : List Range → Type 0 = λ l. (length l == 0) ≡ false in
     let some = subst Some own (sym c.is_empty.ensures ∙ c.if-is_empty.false) in

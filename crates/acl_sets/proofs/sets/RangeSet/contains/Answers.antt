@@ -6,6 +6,6 @@ use Rattle.acl_sets.proofs.sets.RangeSet.contains.Goals as goal
 pub returns : goal.returns
 returns c =
     let N : List Range → Type 0 = λ z. IsNormal 0 c.self.inside.limit z in
-    c.has_number.ensures c.self.inside.limit (subst N (sym c.as_slice.ensures) c.self.invariant)
+    c.have_number.ensures c.self.inside.limit (subst N (sym c.slices.ensures.list) c.self.invariant.normal)
     ∙ ap (λ (z : List Range). holds z c.args.x)
-    (c.as_slice.ensures ∙ ap (λ (s : Numbers). s.ranges) c.self.view_is)
+    (c.slices.ensures.list ∙ ap (λ (s : Numbers). s.ranges) c.self.view_is)

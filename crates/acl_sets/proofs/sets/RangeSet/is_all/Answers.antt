@@ -1,25 +1,27 @@
-use Rattle.std.proofs.Common.{◌≡◌, List, ap, sym, subst, ◌∙◌, arith}
+use Rattle.std.proofs.Common.{◌≡◌, List, ap, sym, ◌∙◌, arith}
 use Rattle.acl_sets.specs.declared.sets.Range.{Range}
-use Rattle.acl_sets.specs.Ranges.{holds, IsNormal, Numbers}
+use Rattle.acl_sets.specs.Ranges.{holds, Numbers}
 use Rattle.acl_sets.specs.ComputableSets.{covers}
+use Rattle.acl_sets.specs.SweepSteps.{covers_first}
+use Rattle.acl_sets.proofs.WalkFacts.{first_tells}
 use Rattle.acl_sets.proofs.ComputableSetLaws.{covers-holds, holds-covers}
 use Rattle.acl_sets.proofs.sets.RangeSet.is_all.Goals as goal
 
 pub returns : goal.returns
 returns c =
-    let list : c.self.inside.list ≡ c.args.self.now.ranges = ap
+    let list : c.self.inside.list.ranges ≡ c.args.self.now.ranges = ap
     (λ (s : Numbers). s.ranges) c.self.view_is in
     let top : c.self.inside.limit ≡ c.args.self.now.top = ap
     (λ (s : Numbers). s.top) c.self.view_is in
-    let e : c.has_all_to.result ≡ covers c.self.inside.list 0 c.self.inside.limit =
-    c.has_all_to.ensures c.self.inside.limit (subst (λ (z : List Range). IsNormal 0 c.self.inside.limit z) (sym c.as_slice.ensures) c.self.invariant)
-    ∙ ap (λ (z : List Range). covers z 0 c.self.inside.limit) c.as_slice.ensures in
+    let e : c.first_covers.result ≡ covers c.self.inside.list.ranges 0 c.self.inside.limit =
+    c.first_covers.ensures ∙ ap (covers_first c.self.inside.limit) c.slices.ensures.list
+    ∙ first_tells c.self.inside.limit c.self.inside.limit c.self.inside.list.ranges c.self.invariant.normal in
     record {
       exact = (
         λ h x l. sym (ap (λ (z : List Range). holds z x) list)
-            ∙ covers-holds c.self.inside.list 0 c.self.inside.limit x (sym e ∙ h) (omega arith)
+            ∙ covers-holds c.self.inside.list.ranges 0 c.self.inside.limit x (sym e ∙ h) (omega arith)
             (omega (arith, l, top)),
-        λ h. e ∙ holds-covers 0 c.self.inside.limit c.self.inside.list 0 c.self.inside.limit c.self.invariant (omega arith)
+        λ h. e ∙ holds-covers 0 c.self.inside.limit c.self.inside.list.ranges 0 c.self.inside.limit c.self.invariant.normal (omega arith)
             (λ x p q. ap (λ (z : List Range). holds z x) list ∙ h x (omega (arith, q, top))),
       );
       computed = e ∙ ap (λ (z : List Range). covers z 0 c.self.inside.limit) list ∙ ap

@@ -6,10 +6,10 @@ use Rattle.acl_shade.specs.Sifting.{AreMarked, RowHas}
 use Rattle.acl_shade.specs.Marking.{KeepsBeside, MarksMore}
 use Rattle.acl_shade.proofs.marks.Marks.pass.Given as goal
 
-abbrev pub invariant-loop-range : goal.invariant-loop-range
-invariant-loop-range l = record {
+abbrev pub invariant-loop-i : goal.invariant-loop-i
+invariant-loop-i l = record {
   more : MarksMore l.fn.self l.self;
-  marked : (r k : ℕ) (d : Range) → r < l.range-index → k < length l.self.points.items
+  marked : (r k : ℕ) (d : Range) → r < l.i → k < length l.self.points.items
       → inside (slice_index_or l.ranges r d) (slice_index l.self.points.items k) ≡ true
       → RowHas l.self.width l.self.rows.items k l.term;
   beside : KeepsBeside l.term l.fn.self.width l.fn.left l.left;
