@@ -1,8 +1,8 @@
-ghost use Rattle.std.specs.Prelude.{◌≡◌, ℕ, ◌==◌, [], ◌∷◌, false, true, IfOk, IfSome, map};
+ghost use Rattle.std.specs.Prelude.{◌≡◌, ℕ, ◌==◌, [], ◌∷◌, false, true, IfOk, IfSome, length, map};
 ghost use Rattle.acl_sets.specs.HeldRanges.{is_held_short, is_short_slice, ranges_in, slice_ranges};
 ghost use Rattle.acl_sets.specs.Ranges.{IsNormal, IsRange};
 ghost use Rattle.acl_sets.specs.Spans.{same, short_top, wide};
-ghost use Rattle.acl_sets.specs.SweepSteps.{merged, woven, walk, shared_along, cut_along};
+ghost use Rattle.acl_sets.specs.SweepSteps.{merged, woven, walk, shared_along, cut_along, covers_first};
 
 use crate::sets::Range;
 use crate::shared_lists::SharedList;
@@ -171,6 +171,38 @@ impl RangeList {
             Held::NoShort => Slices::Short(&[]),
             Held::OneShort(one) => Slices::Short(one),
             Held::ManyShort(list) => Slices::Short(list.as_slice()),
+        }
+    }
+
+    /// Whether there is none.
+    #[inline]
+    pub(crate) fn is_none(&self) -> bool
+        ensures { result ≡ (length self.now.ranges == 0) }
+    {
+        match &self.held {
+            Held::None | Held::NoShort => true,
+            Held::Octets | Held::Ports | Held::Ipv6 => false,
+            Held::One(one) => one.as_ref().is_empty(),
+            Held::OneShort(one) => one.is_empty(),
+            Held::Many(list) => list.as_slice().is_empty(),
+            Held::ManyShort(list) => list.as_slice().is_empty(),
+        }
+    }
+
+    /// Whether the first range has all numbers up to this one.
+    #[inline]
+    pub(crate) fn first_covers(&self, high: u128) -> bool
+        ensures { result ≡ covers_first high self.now.ranges }
+    {
+        match &self.held {
+            Held::None | Held::NoShort => false,
+            Held::Octets => high <= 255,
+            Held::Ports => high <= 65_535,
+            Held::Ipv6 => true,
+            Held::One(one) => sweeps::covers_first(high, one.as_ref()),
+            Held::OneShort(one) => sweeps::covers_first(high, one),
+            Held::Many(list) => sweeps::covers_first(high, list.as_slice()),
+            Held::ManyShort(list) => sweeps::covers_first(high, list.as_slice()),
         }
     }
 

@@ -98,6 +98,7 @@ impl<'a> Ranges<'a> {
     }
 }
 
+// The item at a place, of either kind of list.
 #[inline]
 fn item_at<T: Copy>(items: &[T], place: usize) -> T
     requires { place < length items.now }

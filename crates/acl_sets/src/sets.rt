@@ -224,7 +224,7 @@ impl RangeSet {
             ↔ ((x : ℕ) → x ≤ self.now.top → holds self.now.ranges x ≡ false) }
         ensures computed { result ≡ (length self.now.ranges == 0) }
     {
-        self.ranges().is_empty()
+        self.list.is_none()
     }
 
     /// Whether all numbers up to the top are in the set.
@@ -233,7 +233,7 @@ impl RangeSet {
             ↔ ((x : ℕ) → x ≤ self.now.top → IsTrue (holds self.now.ranges x)) }
         ensures computed { result ≡ is_all self.now }
     {
-        self.list.slices().first_covers(self.limit)
+        self.list.first_covers(self.limit)
     }
 
     /// The ranges of the set, in rising order, disjoint and not touching.

@@ -1,7 +1,7 @@
 ghost use Rattle.std.specs.Prelude.{◌≡◌, ℕ, ◌↔◌, IsTrue, length};
 ghost use Rattle.acl_sets.specs.HeldRanges.{slice_ranges};
 ghost use Rattle.acl_sets.specs.Ranges.{IsNormal, holds};
-ghost use Rattle.acl_sets.specs.SweepSteps.{covered_walk, covers_first};
+ghost use Rattle.acl_sets.specs.SweepSteps.{covered_walk};
 
 use crate::sets::Range;
 use crate::spans::ShortRange;
@@ -44,16 +44,6 @@ impl<'a> Slices<'a> {
         match self {
             Slices::Long(ranges) => sweeps::has_number(ranges, x),
             Slices::Short(ranges) => sweeps::has_number(ranges, x),
-        }
-    }
-
-    /// Whether the first range has all numbers up to this one.
-    pub(crate) fn first_covers(self, high: u128) -> bool
-        ensures { result ≡ covers_first high (slice_ranges self.entry) }
-    {
-        match self {
-            Slices::Long(ranges) => sweeps::covers_first(high, ranges),
-            Slices::Short(ranges) => sweeps::covers_first(high, ranges),
         }
     }
 

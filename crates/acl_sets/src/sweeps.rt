@@ -41,12 +41,32 @@ fn merged<T: Span>(alloc: Global, ranges: &[T]) -> Result<Vec<T>, Memory>
     Ok(out)
 }
 
-/// The ranges in normal form.
+// Whether no range meets or touches the one before it, so that ranges in rising order are in normal form.
+fn are_apart<T: Span>(ranges: &[T]) -> bool
+    ensures { IsTrue result → merged (map T.range ranges.now) ≡ map T.range ranges.now }
+{
+    let [first, rest @ ..] = ranges else {
+        return true;
+    };
+    let mut last = first;
+    for range in rest {
+        if !is_before(last, range) {
+            return false;
+        }
+        last = range;
+    }
+    true
+}
+
+/// The ranges in normal form. Most often they are so once they are sorted.
 pub(crate) fn normal<T: Span>(alloc: Global, ranges: Vec<T>) -> Result<Vec<T>, Memory>
     ensures { IfOk result (λ v. (top : ℕ) → All (λ r. IsRange top r) (map T.range ranges.items)
         → map T.range v.items ≡ put_all (map T.range ranges.items) []) }
 {
     let rising = sorted(ranges);
+    if are_apart(&rising) {
+        return Ok(rising);
+    }
     merged(alloc, &rising)
 }
 

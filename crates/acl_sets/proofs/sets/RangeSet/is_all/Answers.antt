@@ -2,7 +2,6 @@ use Rattle.std.proofs.Common.{◌≡◌, List, ap, sym, ◌∙◌, arith}
 use Rattle.acl_sets.specs.declared.sets.Range.{Range}
 use Rattle.acl_sets.specs.Ranges.{holds, Numbers}
 use Rattle.acl_sets.specs.ComputableSets.{covers}
-use Rattle.acl_sets.specs.SweepSteps.{covers_first}
 use Rattle.acl_sets.proofs.WalkFacts.{first_tells}
 use Rattle.acl_sets.proofs.ComputableSetLaws.{covers-holds, holds-covers}
 use Rattle.acl_sets.proofs.sets.RangeSet.is_all.Goals as goal
@@ -14,7 +13,7 @@ returns c =
     let top : c.self.inside.limit ≡ c.args.self.now.top = ap
     (λ (s : Numbers). s.top) c.self.view_is in
     let e : c.first_covers.result ≡ covers c.self.inside.list.ranges 0 c.self.inside.limit =
-    c.first_covers.ensures ∙ ap (covers_first c.self.inside.limit) c.slices.ensures.list
+    c.first_covers.ensures
     ∙ first_tells c.self.inside.limit c.self.inside.limit c.self.inside.list.ranges c.self.invariant.normal in
     record {
       exact = (
