@@ -13,7 +13,7 @@ use std::{fs, io};
 const MOST_NAMES: usize = 1_048_576;
 
 // A file is read in pieces of this many bytes at most.
-const PIECE: usize = 4096;
+const PIECE: usize = 16_384;
 
 // The names of the files directly under the folder, in byte order.
 pub(crate) fn names_in<R: Files + AllocGlobal + Clone + Drop>(

@@ -1,8 +1,7 @@
 -- The group that is computed is the longest within the weight.
-use Rattle.std.proofs.Common.{◌≡◌, ℕ, zero, suc, ◌+◌, ◌-◌, ◌≤◌, List, [], ◌∷◌, length, take, drop, inl, inr, ap, sym, subst, ◌∙◌, arith}
+use Rattle.std.proofs.Common.{◌≡◌, ◌==◌, Bool, true, false, if◌then◌else◌, ℕ, zero, suc, ◌+◌, ◌-◌, ◌<◌, ◌≤◌, List, [], ◌∷◌, length, take, drop, slice_index_or, refl, inl, inr, ap, sym, subst, ◌∙◌, arith}
 use Rattle.std.proofs.lemmas.Bool.{cases_lt, lt-leb, le-leb}
-use Rattle.std.proofs.Math.Seq.{take-length}
-use Rattle.std.proofs.lemmas.List.{length-drop}
+use Rattle.std.proofs.lemmas.List.{length-drop, at_drop_more}
 use Rattle.acl_sets.specs.declared.sets.Range.{Range}
 use Rattle.acl_sets.specs.Groups.{weight_of, weight, IsGroupEnd, group_length}
 
@@ -32,7 +31,7 @@ group-greatest most (r ∷ rs) (suc n) l h = elim (cases_lt most (weight_of r)) 
       (let i = group-greatest (most - weight_of r) rs n (omega arith) (omega (arith, h)) in omega (arith, i))
 ]
 
-group_end-is : (rs : List Range) (from most end : ℕ) → from ≤ length rs
+pub group_end-is : (rs : List Range) (from most end : ℕ) → from ≤ length rs
     → end ≡ from + group_length most (drop from rs) → IsGroupEnd rs from most end
 group_end-is rs from most end l e =
     let rest : List Range = drop from rs in
@@ -47,13 +46,32 @@ group_end-is rs from most end l e =
           omega (arith, k, e, b);
     }
 
--- as the code has it: the list is a slice, and what is behind its start another
-pub group_end-of : (rs slice : List Range) (from most n : ℕ) → slice ≡ rs → from ≤ length rs
-    → n ≡ group_length most (take (length slice - from) (drop from slice))
-    → IsGroupEnd rs from most (from + n)
-group_end-of rs slice from most n d l e =
-    let rest : take (length rs - from) (drop from rs) ≡ drop from rs =
-    ap (λ z. take z (drop from rs)) (sym (length-drop from rs)) ∙ take-length (drop from rs) in
-    group_end-is rs from most (from + n) l (ap (λ z. from + z)
-    (e ∙ ap (λ (z : List Range). group_length most (take (length z - from) (drop from z))) d
-    ∙ ap (λ z. group_length most z) rest))
+-- The ranges from a position on, as the range there weighs more than is left, or not.
+from_here : (rs : List Range) (left end : ℕ) (r : Range) → end < length rs
+    → ((d : Range) → r ≡ slice_index_or rs end d)
+    → group_length left (drop end rs) ≡ group_length left (r ∷ drop (end + 1) rs)
+from_here rs left end r l is =
+    at_drop_more (λ z. group_length left z) rs end r l
+    ∙ ap (λ q. group_length left (q ∷ drop (end + 1) rs)) (sym (is r))
+
+pub heavy : (rs : List Range) (left end : ℕ) (r : Range) → end < length rs
+    → ((d : Range) → r ≡ slice_index_or rs end d) → left < weight_of r
+    → group_length left (drop end rs) ≡ 0
+heavy rs left end r l is h =
+    from_here rs left end r l is ∙ (rw (lt-leb (weight_of r) left h) refl)
+
+pub light : (rs : List Range) (left end : ℕ) (r : Range) → end < length rs
+    → ((d : Range) → r ≡ slice_index_or rs end d) → weight_of r ≤ left
+    → group_length left (drop end rs) ≡ suc (group_length (left - weight_of r) (drop (end + 1) rs))
+light rs left end r l is h =
+    from_here rs left end r l is ∙ (rw (le-leb (weight_of r) left h) refl)
+
+light_weight : (b : Bool) → (if b then 1 else 2) ≤ 2
+light_weight true = omega arith
+light_weight false = omega arith
+
+-- A list with a range has a group of one at least, as none weighs more than two.
+pub group-some : (rs : List Range) (most : ℕ) → 2 ≤ most → 0 < length rs → 0 < group_length most rs
+group-some [] most two some = absurd (omega (arith, some))
+group-some (r ∷ rs) most two some = rw (le-leb (weight_of r) most
+    (omega (arith, two, light_weight (r.low == r.high)))) (omega arith)
