@@ -3,7 +3,6 @@ use Rattle.std.proofs.Common.{◌≡◌, ℕ, zero, suc, ◌+◌, ◌-◌, ◌�
 use Rattle.std.specs.List.{AllByRecursion, list_any}
 use Rattle.std.proofs.lemmas.Bool.{true≢false}
 use Rattle.std.proofs.lemmas.List.{length-drop, take-append-drop}
-use Rattle.std.proofs.Math.Seq.{take-length}
 use Rattle.std.proofs.lemmas.List.Folds.{list_any-append}
 use Rattle.std.proofs.lemmas.List.Sums.{sum_by-cons}
 use Rattle.acl_rows.specs.PortRanges.{IsPortRange}
@@ -12,7 +11,7 @@ use Rattle.acl_sets.specs.ComputableSets.{is_all}
 use Rattle.acl_sets.specs.Groups.{IsGroupEnd, group_length, weight, weight_of}
 use Rattle.acl_sets.specs.Ranges.{holds, inside, Numbers}
 use Rattle.acl_sets.proofs.ComputableSetLaws.{covers-holds}
-use Rattle.acl_sets.proofs.GroupLaws.{group_end-of}
+use Rattle.acl_sets.proofs.GroupLaws.{group_end-is}
 use Rattle.acl_platform.specs.SoundFilters.{IsFull}
 use Rattle.acl_platform.proofs.ChoiceLaws.{fit}
 use Rattle.acl_platform.proofs.CombinationFacts.{all-weaker, all-map}
@@ -123,10 +122,8 @@ all-left P (suc n) (x ∷ xs) h = all-left P n xs h.1
 pub first-end : (rs : List Range) → IsGroupEnd rs 0 15 (group_length 15 rs)
 first-end rs =
     let k = group_length 15 rs in
-    let size : length rs - 0 ≡ length rs = omega arith in
-    let whole : take (length rs - 0) rs ≡ rs = ap (λ n. take n rs) size ∙ take-length rs in
-    let same : 0 + k ≡ k = omega arith in
-    subst (IsGroupEnd rs 0 15) same (group_end-of rs rs 0 15 k refl (omega arith) (ap (group_length 15) (sym whole)))
+    let same : k ≡ 0 + k = omega arith in
+    group_end-is rs 0 15 k (omega arith) same
 
 first-light : (rs : List Range) → weight (first_group rs) ≤ 15
 first-light rs =
