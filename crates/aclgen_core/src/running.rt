@@ -11,13 +11,15 @@ use acl_host::{Clock, Sink, Tree};
 use acl_options::read_workload;
 use acl_run::{Decision, Ended, refuse, tell_outside};
 use std::alloc::Global;
+use std::mem::forget;
 
 /// The whole job: compiles what the words ask for, or the workload.
 ///
 /// The words are those behind the program's name. Where they are `--workload N`, as `acl_options::read_workload` reads
 /// them, the workload of N terms is compiled in memory, and the tree and the clock are not called (`EndsWorkload`). Else
 /// they are read as `acl_options::read_options` reads them: naming files and policy are read, the clock is asked where the
-/// words name no day, and the filters and the report are written. `Keeps` has what each ending means.
+/// words name no day, and the filters and the report are written. `Keeps` has what each ending means. The filters are not let
+/// go: a program is to end with it.
 pub fn aclgen<T: Tree, O: Sink, E: Sink, C: Clock>(
     alloc: Global,
     words: &[String],
@@ -37,7 +39,12 @@ pub fn aclgen<T: Tree, O: Sink, E: Sink, C: Clock>(
     match decide(alloc, words, tree, clock) {
         Decision::Usage => refuse(err, usage_line().as_bytes(), Ended::Usage),
         Decision::Refused(fault, line) => refuse(err, line.as_slice(), Ended::Rejected(fault)),
-        Decision::Planned(work) => carry_out(alloc, &work, tree, out, err),
+        Decision::Planned(work) => {
+            let ended = carry_out(alloc, &work, tree, out, err);
+            // The process ends next, and the system takes all of its memory at once.
+            forget(work);
+            ended
+        }
         Decision::Outside(which) => tell_outside(err, outside_line(which), which),
         Decision::Memory => Ended::Memory,
     }

@@ -19,7 +19,7 @@ pub returns-in-Planned : goal.returns-in-Planned
 returns-in-Planned g c =
     compiled _ _ _ _ (sym c.read_workload.ensures.exact ∙ c.in_default.is)
     (planned-keeps _ _ _ _ _ _ _ _ _ _ _ _ c.in-Planned.ensures.decides.seen c.in-Planned.ensures.decides.asked c.in-Planned.ensures.alone c.in-Planned.ensures.decides.so
-    c.carry_out.ensures.acts c.carry_out.ensures.alone)
+    c.carry_out-ended.ensures.acts c.carry_out-ended.ensures.alone)
 
 pub returns-in-Outside : goal.returns-in-Outside
 returns-in-Outside g c =
