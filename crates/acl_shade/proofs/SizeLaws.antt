@@ -195,9 +195,10 @@ module _ (part : Part) (terms : List Term) (place : ℕ) (t : Term) (within : pl
 
   -- One term more is no smaller.
   pub grown-more : (g new : Growing) (sum : ℕ) → new.sums.items ≡ g.sums.items ++ sum ∷ [] → new.size ≡ g.size
-      → new.from ≡ g.from → length g.sums.items ≡ place → sum ≡ sum_of (part_of part t).ranges
-      → g.size ≡ size_of (part_of part t).ranges → AreGrown part terms g → AreGrown part terms new
-  grown-more g new sum same size from counted sum-is size-is grown =
+      → new.from ≡ g.from → (g.most ≤ new.most) × (sum ≤ new.most) → length g.sums.items ≡ place
+      → sum ≡ sum_of (part_of part t).ranges → g.size ≡ size_of (part_of part t).ranges → AreGrown part terms g
+      → AreGrown part terms new
+  grown-more g new sum same size from most counted sum-is size-is grown =
       let old = g.sums.items in
       let long : length new.sums.items ≡ length old + 1 = ap length same ∙ length-append old (sum ∷ []) in
       record {
@@ -218,4 +219,15 @@ module _ (part : Part) (terms : List Term) (place : ℕ) (t : Term) (within : pl
         ];
         fewer = λ i d early. subst (λ n. size_of (ranges_at part terms i d) < n) (sym size)
             (grown.fewer i d (omega (arith, early, from)));
+        above = λ i n late before. elim (cases_lt i place) [
+          | inl past ↦
+              let held = ap (λ ns. get_or ns i n) same ∙ get_or-append old (sum ∷ []) n i (omega (arith, past, counted)) in
+              let no-greater = grown.above i n (omega (arith, late, from)) (omega (arith, past, counted)) in
+              omega (arith, held, no-greater, most.0)
+          | inr behind ↦
+              let last : i ≡ length old = omega (arith, behind, before, long, counted) in
+              let held = ap (λ ns. get_or ns i n) same ∙ ap (λ k. get_or (old ++ sum ∷ []) k n) last
+              ∙ get_or-append_seam old sum [] n in
+              omega (arith, held, most.1)
+        ];
       }

@@ -25,11 +25,13 @@ IsMeasure m s = (m.size ≡ size_of s.ranges) × (m.sum ≡ sum_of s.ranges)
 abbrev pub ranges_at : Part → List Term → ℕ → Term → List Range
 ranges_at part terms i d = (part_of part (slice_index_or terms i d)).ranges
 
--- As many terms as have a sum have no more numbers than is said, and those before the place that is said have fewer.
+-- As many terms as have a sum have no more numbers than is said, and those before the place that is said have fewer. Behind
+-- it no sum is greater than the one that is said.
 pub record AreGrown (part : Part) (terms : List Term) (g : Growing) : Type 0 where
   pub sums : (i n : ℕ) (d : Term) → i < length g.sums.items → slice_index_or g.sums.items i n ≡ sum_of (ranges_at part terms i d)
   pub most : (i : ℕ) (d : Term) → i < length g.sums.items → size_of (ranges_at part terms i d) ≤ g.size
   pub fewer : (i : ℕ) (d : Term) → i < g.from → size_of (ranges_at part terms i d) < g.size
+  pub above : (i n : ℕ) → g.from ≤ i → i < length g.sums.items → slice_index_or g.sums.items i n ≤ g.most
 
 -- The numbers lie within the part of none of so many first terms.
 abbrev pub NoneHolds : Part → Numbers → ℕ → List Term → Type 0

@@ -1,4 +1,4 @@
-ghost use Rattle.std.specs.Prelude.{◌≡◌, ℕ, ◌<◌, ◌≤◌, true, List, IfOk, IfSome, length, slice_index_or};
+ghost use Rattle.std.specs.Prelude.{◌≡◌, ℕ, ◌<◌, ◌≤◌, ◌++◌, [], ◌∷◌, true, List, IfOk, IfSome, OnOk, length, slice_index_or};
 ghost use Rattle.acl_terms.specs.declared.terms.Term.{Term};
 ghost use Rattle.acl_shade.specs.declared.parts.Part.{Part};
 ghost use Rattle.acl_shade.specs.Sifting.{NoneShades, part_of};
@@ -47,6 +47,8 @@ struct Growing {
     from: usize,
     /// The sums of all.
     sums: Vec<u64>,
+    /// Of those that have as many, no sum is greater.
+    most: u64,
 }
 
 impl Growing {
@@ -58,6 +60,7 @@ impl Growing {
             size: 0,
             from: 0,
             sums: Vec::new(alloc),
+            most: 0,
         }
     }
 
@@ -73,6 +76,7 @@ impl Growing {
         if size > self.size {
             self.size = size;
             self.from = self.sums.len();
+            self.most = 0;
         }
         true
     }
@@ -85,6 +89,10 @@ impl Growing {
         ensures { result ≡ true → (i : ℕ) (d : Term) → self.now.from ≤ i → i < length self.now.sums.items
             → (part_of part term.now).ranges ≡ (part_of part (slice_index_or terms.now i d)).ranges → ⊥ }
     {
+        // So it mostly is: terms are written with their addresses in order.
+        if sum > self.most {
+            return true;
+        }
         let set = part_of(part, term);
         let mut at = self.from;
         while at < self.sums.len() {
@@ -94,6 +102,18 @@ impl Growing {
             at += 1;
         }
         true
+    }
+
+    // One term more, as large as the last one.
+    fn add(&mut self, sum: u64) -> Result<(), Memory>
+        ensures sums { OnOk result (self.new.sums.items ≡ self.old.sums.items ++ sum ∷ []) }
+        ensures size { self.new.size ≡ self.old.size }
+        ensures from { self.new.from ≡ self.old.from }
+        ensures most { OnOk result (self.old.most ≤ self.new.most × sum ≤ self.new.most) }
+    {
+        self.sums.push(sum)?;
+        self.most = self.most.max(sum);
+        Ok(())
     }
 }
 
@@ -113,7 +133,7 @@ pub(crate) fn none_lies_within(alloc: Global, part: Part, terms: &[Term]) -> Res
         {
             return Ok(false);
         }
-        growing.sums.push(measure.sum)?;
+        growing.add(measure.sum)?;
     }
     Ok(true)
 }

@@ -20,10 +20,10 @@ loop-term-preserved c =
     let size : growing.size ≡ size_of (part_of a.part t).ranges = c.goes_on.ensures.size c.if-not-goes_on.false ∙ own.0 in
     let grown = c.goes_on.ensures.grown a.part a.terms.now before.grown in
     record {
-      count = ap length c.in_ok-push.ensures.items ∙ length-append growing.sums.items (c.in-Some.measure.sum ∷ [])
+      count = ap length c.in_ok-add.ensures.sums ∙ length-append growing.sums.items (c.in-Some.measure.sum ∷ [])
           ∙ ap (λ n. n + 1) count;
       grown = grown-more a.part a.terms.now place t c.loop-term-test.true c.term-item.is growing _ c.in-Some.measure.sum
-          c.in_ok-push.ensures.items refl refl count own.1 size grown;
+          c.in_ok-add.ensures.sums c.in_ok-add.ensures.size c.in_ok-add.ensures.from c.in_ok-add.ensures.most count own.1 size grown;
       none = none-shades-more a.part a.terms.now place t c.loop-term-test.true c.term-item.is asked
           (subst (λ n. NoneHolds a.part (part_of a.part t) n a.terms.now) count
           (held-by-none a.part a.terms.now growing t grown size (c.is_new.ensures c.if-not-is_new.false)))

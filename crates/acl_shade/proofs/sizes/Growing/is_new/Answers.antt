@@ -8,6 +8,14 @@ use Rattle.acl_shade.specs.Sizes.{sum_of}
 use Rattle.acl_shade.proofs.sizes.Growing.is_new.Goals as goal
 use Rattle.acl_shade.proofs.sizes.Growing.is_new.Goals.{else-index-sum-via-then-index-sum+else-is_same, else-index-sum-via-else-index-sum}
 
+pub returns-then-sum-self : goal.returns-then-sum-self
+returns-then-sum-self c = λ done i d from before same.
+    let grown = c.requires.grown in
+    let held = grown.sums i 0 d before in
+    let sums = c.requires.sum ∙ ap sum_of same in
+    let no-greater = grown.above i 0 from before in
+    omega (arith, held, sums, no-greater, c.if-sum-self.true)
+
 pub loop-at-preserved : goal.loop-at-preserved
 loop-at-preserved c = λ i d from before same. elim (cases_lt i c.loop-at.at) [
   | inl past ↦ c.loop-at.invariant i d from past same
